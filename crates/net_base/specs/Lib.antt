@@ -1,0 +1,11 @@
+pub mod Frame
+pub mod Isolated
+pub mod Label
+pub mod Mac
+pub mod MemShelf
+pub mod MemSink
+pub mod Name
+pub mod Outside
+pub mod Padded
+pub mod Places
+pub mod Split
