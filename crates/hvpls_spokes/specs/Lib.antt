@@ -1,0 +1,3 @@
+pub mod Flood
+pub mod Port
+pub mod PortSet

@@ -1,0 +1,38 @@
+//! The flood set.
+ghost use Rattle.std.specs.Prelude.{◌≡◌, ◌<◌, ◌≤◌, ◌&&◌, not, ℕ, length};
+ghost use Rattle.hvpls_spokes.specs.PortSet.{has};
+ghost use Rattle.hvpls_spokes.specs.Port.{is_mesh_port};
+ghost use Rattle.hvpls_spokes.specs.Flood.{is_flooded};
+
+use crate::{PortSet, Ports};
+
+/// Where a frame is flooded that came by the port `arrival`: to the forwarding ports other than the arrival,
+/// and to no mesh wire where it came by one (RFC 4762 sections 4.1 and 4.4).
+pub fn flood_set(ports: &Ports, forwarding: &PortSet, arrival: u16) -> PortSet
+    requires { arrival < length ports.now }
+    ensures { (p : ℕ) → has result p ≡ is_flooded ports.now (has forwarding.now) arrival p }
+{
+    let len = ports.len();
+    let mut others = *forwarding;
+    others.remove(arrival);
+    if ports.is_mesh(arrival) {
+        without_mesh(ports, others, len)
+    } else {
+        others
+    }
+}
+
+// The set without the mesh wires.
+fn without_mesh(ports: &Ports, set: PortSet, len: u16) -> PortSet
+    requires len { len ≡ length ports.now }
+    requires within { len ≤ 512 }
+    ensures { (p : ℕ) → has result p ≡ (has set p && not (is_mesh_port ports.now p)) }
+{
+    let mut rest = set;
+    for port in 0..len {
+        if ports.is_mesh(port) {
+            rest.remove(port);
+        }
+    }
+    rest
+}

@@ -1,0 +1,2 @@
+pub mod BridgeState
+pub mod Targets
