@@ -1,1 +1,2 @@
 pub mod PortSetLemmas
+pub mod PortsLemmas

@@ -1,0 +1,2 @@
+pub mod IsolatedLemmas
+pub mod SplitLemmas

@@ -1,0 +1,10 @@
+pub mod Calm
+pub mod Enter
+pub mod Laws
+pub mod OnceEach
+pub mod Reach
+pub mod Roles
+pub mod Run
+pub mod State
+pub mod Step
+pub mod Window

@@ -1,0 +1,40 @@
+-- Exactly once: a flooded frame that enters a calm service and loses or repeats no copy reaches every other site of the
+-- service exactly once, within twelve segments.
+use Rattle.std.specs.Prelude.{◌≡◌, ◌≤◌, ◌+◌, ◌++◌, ◌==◌, ◌&&◌, not, ℕ, List, [], ◌∷◌, if◌then◌else◌}
+use Rattle.net_base.specs.declared.plan.Plan.{Plan}
+use Rattle.net_base.specs.declared.event.Event.{Event}
+use Rattle.net_base.specs.declared.event.Event.TheVariants.{Frame}
+use Rattle.net_base.specs.declared.entry.Entry.{Entry}
+use Rattle.net_base.specs.declared.entry.Entry.TheVariants.{Left}
+use Rattle.net_base.specs.declared.places.CircuitId.{CircuitId}
+use Rattle.net_base.specs.declared.places.ServiceId.{ServiceId}
+use Rattle.network_model.specs.State.{empty_network}
+use Rattle.network_model.specs.Run.{run, state_after}
+use Rattle.network_model.specs.Reach.{is_site}
+use Rattle.network_model.specs.Window.{Window, next_origin}
+
+-- how often a copy of the frame left at the circuit
+abbrev pub times_left : ℕ → CircuitId → List Entry → ℕ
+times_left origin circuit [] = 0
+times_left origin circuit (Left at from hops octets ∷ es) = (if from == origin && at.0 == circuit.0 then 1 else 0) + times_left origin circuit es
+times_left origin circuit (e ∷ es) = times_left origin circuit es
+
+-- each copy of the frame that left had passed at most twelve segments
+abbrev pub LeftWithin : ℕ → List Entry → Type 0
+LeftWithin origin [] = Unit {0}
+LeftWithin origin (Left at from hops octets ∷ es) = (from ≡ origin → hops ≤ 12) × LeftWithin origin es
+LeftWithin origin (e ∷ es) = LeftWithin origin es
+
+-- once at each site of the service but the sender, and nowhere else
+pub record ServedOnce (plan : Plan) (before : List Event) (sender : CircuitId) (service : ServiceId) (entries : List Entry) : Type 0 where
+  pub once : (circuit : CircuitId)
+      → times_left (next_origin (state_after plan empty_network before)) circuit entries
+      ≡ (if is_site plan (state_after plan empty_network before) service circuit && not (circuit.0 == sender.0) then 1 else 0)
+  pub within : LeftWithin (next_origin (state_after plan empty_network before)) entries
+
+-- every window of the run: the events are those before the frame, the frame, those of the window and those after it
+abbrev pub OnceEach : Plan → List Event → Type 0
+OnceEach plan events = (before : List Event) (circuit : CircuitId) (octets : List ℕ) (during after : List Event) (service : ServiceId)
+    → events ≡ before ++ Frame circuit octets ∷ (during ++ after)
+    → Window plan before circuit octets during service
+    → ServedOnce plan before circuit service (run plan events).entries

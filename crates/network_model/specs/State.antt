@@ -1,0 +1,78 @@
+-- The network at one moment: maps from places in the plan, and what is under way between them.
+use Rattle.std.specs.Prelude.{ℕ, Bool, true, false, List, []}
+use Rattle.net_base.specs.declared.places.EdgeId.{EdgeId}
+use Rattle.net_base.specs.declared.places.ServiceId.{ServiceId}
+use Rattle.net_base.specs.declared.places.CircuitId.{CircuitId}
+use Rattle.net_base.specs.declared.places.WireId.{WireId}
+
+-- an address that a bridge has learned: its octets, the port that it was heard by, and the tick (RFC 4762 section 4.2)
+pub record LearnedAddress : Type 0 where
+  pub address : List ℕ
+  pub port : ℕ
+  pub tick : ℕ
+
+-- what an edge holds
+pub record EdgeState : Type 0 where
+  -- the circuits that are on, by their places
+  pub circuit_on : ℕ → Bool
+  -- what the bridge of each service has learned
+  pub learned : ℕ → List LearnedAddress
+
+-- one direction of the connection between two joined edges
+pub record Direction : Type 0 where
+  -- the end of the edge that hears stands
+  pub stands : Bool
+  -- the octets that it has heard and that are no whole PDU yet
+  pub held : List ℕ
+  -- the octets that were put and are not delivered yet
+  pub pipe : List ℕ
+
+-- a packet under way
+pub record Packet : Type 0 where
+  pub number : ℕ
+  pub wire : WireId
+  pub from : EdgeId
+  pub to : EdgeId
+  -- the number of the frame that it carries a copy of, and the segments that the copy will have passed
+  pub origin : ℕ
+  pub hops : ℕ
+  pub octets : List ℕ
+
+-- the network
+pub record NetworkState : Type 0 where
+  -- the edges, by their places
+  pub edges : ℕ → EdgeState
+  -- what each edge put towards each other one
+  pub directions : ℕ → ℕ → Direction
+  -- the packets under way, by rising number
+  pub under_way : List Packet
+  -- how many frames have entered
+  pub entered : ℕ
+
+-- before the first event: every circuit is on, no bridge has learned, no connection stands, and nothing is under way
+abbrev pub empty_edge : EdgeState
+empty_edge = record { circuit_on = λ circuit. true; learned = λ service. [] }
+
+abbrev pub no_direction : Direction
+no_direction = record { stands = false; held = []; pipe = [] }
+
+abbrev pub empty_network : NetworkState
+empty_network = record { edges = λ edge. empty_edge; directions = λ from to. no_direction; under_way = []; entered = 0 }
+
+-- the state of an edge
+abbrev pub at_edge : NetworkState → EdgeId → EdgeState
+at_edge network edge = network.edges edge.0
+
+abbrev pub is_on : EdgeState → CircuitId → Bool
+is_on edge circuit = edge.circuit_on circuit.0
+
+abbrev pub addresses_of : EdgeState → ServiceId → List LearnedAddress
+addresses_of edge service = edge.learned service.0
+
+-- the edge's end of a wire forwards: no pseudowire end is set up yet, so none does
+abbrev pub end_forwards : EdgeState → WireId → Bool
+end_forwards edge wire = false
+
+-- the edge, a switching point of the wire, has both sides advertised and bound (RFC 6073)
+abbrev pub is_stitched : EdgeState → WireId → Bool
+is_stitched edge wire = false

@@ -1,0 +1,22 @@
+-- One event of the network.
+use Rattle.std.specs.Prelude.{List, [], ◌∷◌}
+use Rattle.net_base.specs.declared.plan.Plan.{Plan}
+use Rattle.net_base.specs.declared.event.Event.{Event}
+use Rattle.net_base.specs.declared.event.Event.TheVariants.{Frame}
+use Rattle.net_base.specs.declared.entry.Entry.{Entry}
+use Rattle.net_base.specs.declared.entry.Entry.TheVariants.{Did}
+use Rattle.net_base.specs.Places.{circuit_row}
+use Rattle.network_model.specs.State.{NetworkState}
+use Rattle.network_model.specs.Enter.{Stepped, frame_row}
+
+-- the row of an event. Those of the other events are to come; no accepted scenario makes them yet
+abbrev pub event_row : Plan → NetworkState → Event → Stepped
+event_row plan network (Frame circuit octets) = frame_row plan network circuit octets (circuit_row plan circuit)
+event_row plan network event = record { state = network; entries = [] }
+
+-- an event is told first, and then what it brings about
+abbrev pub step : Plan → NetworkState → Event → Stepped
+step plan network event = record {
+  state = (event_row plan network event).state;
+  entries = Did event ∷ (event_row plan network event).entries;
+}

@@ -1,0 +1,95 @@
+-- The window of a flooded frame: from its entry to its last arrival, while no copy of it is lost or repeated.
+use Rattle.std.specs.Prelude.{◌≡◌, ◌+◌, ◌==◌, ◌&&◌, ◌||◌, not, ℕ, Bool, true, false, List, [], ◌∷◌, Option, Some, None, Result, Ok, Err, length}
+use Rattle.std.specs.List.{list_any}
+use Rattle.std.specs.Str.{bytes_eq}
+use Rattle.net_base.specs.declared.plan.Plan.{Plan}
+use Rattle.net_base.specs.declared.drop_cause.DropCause.{DropCause}
+use Rattle.net_base.specs.declared.wire_plan.WirePlan.{WirePlan}
+use Rattle.net_base.specs.declared.event.Event.{Event}
+use Rattle.net_base.specs.declared.event.Event.TheVariants.{Frame, Arrive, Discard, Again}
+use Rattle.net_base.specs.declared.places.CircuitId.{CircuitId}
+use Rattle.net_base.specs.declared.places.ServiceId.{ServiceId}
+use Rattle.net_base.specs.Frame.{destination_of, source_of, goes_to_group}
+use Rattle.net_base.specs.Isolated.{inner_at}
+use Rattle.net_base.specs.Places.{service_of, wire_row}
+use Rattle.network_model.specs.State.{NetworkState, LearnedAddress, Packet, empty_network}
+use Rattle.network_model.specs.Step.{step}
+use Rattle.network_model.specs.Run.{state_after}
+use Rattle.network_model.specs.Roles.{all_below, is_wire_of}
+use Rattle.network_model.specs.Calm.{is_calm}
+use Rattle.network_model.specs.Reach.{is_circuit_of, is_circuit_on}
+
+-- a packet under way has this number, and carries a copy of the frame that entered as `origin`
+abbrev pub is_copy : ℕ → ℕ → Packet → Bool
+is_copy origin number packet = packet.origin == origin && packet.number == number
+
+abbrev pub names_copy : NetworkState → ℕ → ℕ → Bool
+names_copy network origin number = list_any (is_copy origin number) network.under_way
+
+-- some copy of the frame is under way
+abbrev pub has_copies : NetworkState → ℕ → Bool
+has_copies network origin = list_any (λ packet. packet.origin == origin) network.under_way
+
+-- an event of a window: frames enter, packets arrive, and no copy of the frame is lost or repeated
+abbrev pub spares : NetworkState → ℕ → Event → Bool
+spares network origin (Frame circuit octets) = true
+spares network origin (Arrive number) = true
+spares network origin (Discard number) = not (names_copy network origin number)
+spares network origin (Again number) = not (names_copy network origin number)
+spares network origin event = false
+
+abbrev pub all_spare : Plan → ℕ → NetworkState → List Event → Bool
+all_spare plan origin network [] = true
+all_spare plan origin network (e ∷ es) = spares network origin e && all_spare plan origin (step plan network e).state es
+
+-- no bridge of the service has learned the address
+abbrev pub holds_address : List ℕ → List LearnedAddress → Bool
+holds_address address entries = list_any (λ entry. bytes_eq entry.address address) entries
+
+abbrev pub is_unlearned : Plan → NetworkState → ServiceId → List ℕ → Bool
+is_unlearned plan network service address =
+    all_below (length plan.edges) (λ edge. not (holds_address address ((network.edges edge).learned service.0)))
+
+-- the address is the source of the inner frame
+abbrev pub is_sourced : List ℕ → Result (List ℕ) DropCause → Bool
+is_sourced address (Ok frame) = bytes_eq (source_of frame) address
+is_sourced address (Err cause) = false
+
+-- a frame that enters the service has the address as its source
+abbrev pub teaches : Plan → ServiceId → List ℕ → Event → Bool
+teaches plan service address (Frame circuit octets) = is_circuit_of plan service circuit && is_sourced address (inner_at plan circuit octets)
+teaches plan service address event = false
+
+-- the inner frame of a packet of the service; what packets carry is to come, since none is sent yet
+abbrev pub carried : Packet → Result (List ℕ) DropCause
+carried packet = Ok packet.octets
+
+abbrev pub is_row_of_service : ServiceId → Option WirePlan → Bool
+is_row_of_service service None = false
+is_row_of_service service (Some row) = is_wire_of service row
+
+abbrev pub packet_teaches : Plan → ServiceId → List ℕ → Packet → Bool
+packet_teaches plan service address packet = is_row_of_service service (wire_row plan packet.wire) && is_sourced address (carried packet)
+
+-- the frame is flooded: it goes to a group, or to an address that no bridge of the service has learned and nothing
+-- teaches in the window
+abbrev pub is_flooded : Plan → NetworkState → ServiceId → List ℕ → List Event → Bool
+is_flooded plan network service frame events =
+    goes_to_group frame
+    || ((is_unlearned plan network service (destination_of frame) && not (list_any (packet_teaches plan service (destination_of frame)) network.under_way))
+    && not (list_any (teaches plan service (destination_of frame)) events))
+
+-- the number of the next frame that enters
+abbrev pub next_origin : NetworkState → ℕ
+next_origin network = network.entered + 1
+
+-- the window of a frame that enters after the events `before`, up to the last event of `during`
+pub record Window (plan : Plan) (before : List Event) (circuit : CircuitId) (octets : List ℕ) (during : List Event) (service : ServiceId) : Type 0 where
+  pub sender : service_of plan circuit ≡ Some service
+  pub on : is_circuit_on plan (state_after plan empty_network before) circuit ≡ true
+  pub frame : List ℕ
+  pub formed : inner_at plan circuit octets ≡ Ok frame
+  pub calm : is_calm plan (state_after plan empty_network before) service ≡ true
+  pub flooded : is_flooded plan (state_after plan empty_network before) service frame (Frame circuit octets ∷ during) ≡ true
+  pub spared : all_spare plan (next_origin (state_after plan empty_network before)) (step plan (state_after plan empty_network before) (Frame circuit octets)).state during ≡ true
+  pub over : has_copies (state_after plan (step plan (state_after plan empty_network before) (Frame circuit octets)).state during) (next_origin (state_after plan empty_network before)) ≡ false
