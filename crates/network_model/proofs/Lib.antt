@@ -1,2 +1,4 @@
+pub mod CalmLemmas
 pub mod IsolatedLemmas
+pub mod OnceLemmas
 pub mod SplitLemmas
