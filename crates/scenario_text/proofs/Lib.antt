@@ -1,0 +1,6 @@
+pub mod DocumentLemmas
+pub mod HexLemmas
+pub mod KeyLemmas
+pub mod NameLemmas
+pub mod QuadLemmas
+pub mod RowLemmas

@@ -1,0 +1,6 @@
+-- What the map of a table finds at a key.
+use Rattle.toml.proofs.Views.{table_get}
+use Rattle.scenario_text.proofs.members.member.Goals as goal
+
+pub returns : goal.returns
+returns c = table_get c.get.result c.args.key.now c.args.table.now.entries c.get.ensures.value

@@ -1,0 +1,10 @@
+pub mod Circuits
+pub mod Document
+pub mod Events
+pub mod Hex
+pub mod Keys
+pub mod Names
+pub mod Reading
+pub mod Rows
+pub mod Runnable
+pub mod Values

@@ -1,0 +1,11 @@
+//! Rows of the table `circuit`.
+
+use net_base::Name;
+
+/// A row of `circuit`, whose edge and service are not looked up yet.
+#[derive(Clone, Copy, Debug)]
+pub struct CircuitRow {
+    pub name: Name,
+    pub edge: Name,
+    pub service: Name,
+}

@@ -1,0 +1,80 @@
+-- Reading and writing in pieces.
+use Rattle.std.proofs.Common.{◌≡◌, ◌≤◌, ◌<◌, ◌+◌, ◌-◌, ◌++◌, ℕ, List, [], Option, Some, None, IfSome, length, take, drop, refl, sym, ap, ◌∙◌, subst, arith, append_assoc, length-append, length-take, length-drop}
+use Rattle.std.proofs.Math.Seq.{take-add}
+use Rattle.std.proofs.lemmas.List.{take_all, take-append-le}
+use Rattle.net_base.specs.Outside.{Appends, ReadsFrom}
+use Rattle.vplsnet.specs.Files.{IsFrontOf}
+
+-- what was taken goes on, piece by piece
+pub appends_more : (old between new : Option (List ℕ)) (first second both : List ℕ) → first ++ second ≡ both → Appends old between first → Appends between new second → Appends old new both
+appends_more None between new first second both joins p q = tt
+appends_more (Some before) between new first second both joins p q =
+    let next : new ≡ Some ((before ++ first) ++ second) = subst (λ (k : Option (List ℕ)). Appends k new second) p q in
+    next ∙ ap Some (append_assoc before first second ∙ ap (λ (l : List ℕ). before ++ l) joins)
+
+-- a front of the rest goes on a front
+pub take_front : (at count : ℕ) (text : List ℕ) → at ≤ length text → take at text ++ take count (take (length text - at) (drop at text)) ≡ take (at + count) text
+take_front at count text within =
+    let whole : take (length text - at) (drop at text) ≡ drop at text = take_all _ _ (omega (arith, length-drop at text)) in
+    rw whole (sym (take-add at count text))
+
+abbrev pub Held : Type 0
+Held = List ℕ → Option (List ℕ)
+
+-- what was read so far is a front of what the file has
+pub record IsRead (files : Option Held) (name octets : List ℕ) : Type 0 where
+  pub front : (held : Held) → files ≡ Some held → (bytes : List ℕ) → held name ≡ Some bytes → (length octets ≤ length bytes) × (octets ≡ take (length octets) bytes)
+  pub some : (held : Held) → files ≡ Some held → 0 < length octets → (bytes : List ℕ) × (held name ≡ Some bytes)
+
+pub read_none : (files : Option Held) (name : List ℕ) → IsRead files name []
+read_none files name = record { front = λ held e bytes h. (omega arith, refl); some = λ held e more. absurd (omega arith) }
+
+joined : (octets piece bytes : List ℕ) (count : ℕ) → octets ≡ take (length octets) bytes → piece ≡ take count (drop (length octets) bytes) → length piece ≡ count → octets ++ piece ≡ take (length (octets ++ piece)) bytes
+joined octets piece bytes count e1 e2 len =
+    let sum : length (octets ++ piece) ≡ length octets + count = omega (arith, length-append octets piece, len) in
+    let right : take (length (octets ++ piece)) bytes ≡ take (length octets) bytes ++ take count (drop (length octets) bytes) = ap (λ (k : ℕ). take k bytes) sum ∙ take-add (length octets) count bytes in
+    let left : octets ++ piece ≡ take (length octets) bytes ++ take count (drop (length octets) bytes) = ap (λ (l : List ℕ). l ++ piece) e1 ∙ ap (λ (l : List ℕ). take (length octets) bytes ++ l) e2 in
+    left ∙ sym right
+
+pub read_more : (files : Option Held) (name octets piece buffer : List ℕ) (count : ℕ) → IsRead files name octets → IfSome files (λ held. ReadsFrom (held name) (length octets) count buffer) → piece ≡ take count buffer → count ≤ length buffer → IsRead files name (octets ++ piece)
+read_more None name octets piece buffer count so_far reads is fits = record { front = λ held e bytes h. absurd (cc); some = λ held e more. absurd (cc) }
+read_more (Some files) name octets piece buffer count so_far reads is fits =
+    let len : length piece ≡ count = omega (arith, ap length is, length-take count buffer, fits) in
+    record {
+      front = λ held e bytes h.
+          let same : files ≡ held = cc in
+          let whole : reads.octets ≡ bytes = cc (reads.held, ap (λ (f : Held). f name) same, h) in
+          let within : count ≤ length bytes - length octets = omega (arith, reads.within, ap length whole) in
+          let had = so_far.front held e bytes h in
+          let of_file : piece ≡ take count (drop (length octets) bytes) = is ∙ (reads.front ∙ ap (λ (l : List ℕ). take count (drop (length octets) l)) whole) in
+          (omega (arith, length-append octets piece, len, had.0, within), joined octets piece bytes count had.1 of_file len);
+      some = λ held e more.
+          let same : files ≡ held = cc in
+          (reads.octets, sym (ap (λ (f : Held). f name) same) ∙ reads.held);
+    }
+
+-- after a call that read into the front of a buffer
+pub read_next : (files now : Option Held) (name octets next buffer rest : List ℕ) (from count : ℕ) → now ≡ files → from ≡ length octets → IsRead files name octets → IfSome now (λ held. ReadsFrom (held name) from count buffer) → count ≤ length buffer → next ≡ octets ++ take count (buffer ++ rest) → IsRead files name next
+read_next files now name octets next buffer rest from count same at so_far reads fits is =
+    let there : IfSome files (λ held. ReadsFrom (held name) from count buffer) = subst (λ (f : Option Held). IfSome f (λ held. ReadsFrom (held name) from count buffer)) same reads in
+    let here : IfSome files (λ held. ReadsFrom (held name) (length octets) count buffer) = subst (λ (k : ℕ). IfSome files (λ held. ReadsFrom (held name) k count buffer)) at there in
+    let more : IsRead files name (octets ++ take count buffer) = read_more files name octets (take count buffer) buffer count so_far here refl fits in
+    let piece : next ≡ octets ++ take count buffer = is ∙ ap (λ (l : List ℕ). octets ++ l) (take-append-le count buffer rest fits) in
+    subst (λ (l : List ℕ). IsRead files name l) (sym piece) more
+
+-- the file has no more than what was read, and that is within the limit
+pub read_all : (files : Option Held) (name octets buffer : List ℕ) (limit : ℕ) → IsRead files name octets → IfSome files (λ held. ReadsFrom (held name) (length octets) 0 buffer) → 0 < length buffer → length octets ≤ limit → IfSome files (λ held. IsFrontOf limit (held name) octets)
+read_all None name octets buffer limit so_far reads some fits = tt
+read_all (Some held) name octets buffer limit so_far reads some fits =
+    let had = so_far.front held refl reads.octets reads.held in
+    let ends : length reads.octets ≤ length octets = reads.ends some refl in
+    let whole : take (length octets) reads.octets ≡ reads.octets = take_all _ _ ends in
+    let more : take (limit + 1) reads.octets ≡ reads.octets = take_all _ _ (omega (arith, ends, fits)) in
+    record { bytes = reads.octets; held = reads.held; front = had.1 ∙ (whole ∙ sym more) }
+
+-- one octet more than the limit was read
+pub read_beyond : (files : Option Held) (name octets : List ℕ) (limit : ℕ) → IsRead files name octets → length octets ≡ limit + 1 → IfSome files (λ held. IsFrontOf limit (held name) octets)
+read_beyond None name octets limit so_far len = tt
+read_beyond (Some held) name octets limit so_far len =
+    let (bytes, is) = so_far.some held refl (omega arith) in
+    record { bytes = bytes; held = is; front = (so_far.front held refl bytes is).1 ∙ ap (λ (k : ℕ). take k bytes) len }

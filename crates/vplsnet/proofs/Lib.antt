@@ -1,0 +1,5 @@
+pub mod DomainLemmas
+pub mod FileLemmas
+pub mod OutcomeLemmas
+pub mod PromiseLemmas
+pub mod ReplayLemmas

@@ -1,0 +1,92 @@
+-- What a replay answers of a file that is told, where no fault is counted.
+use Rattle.std.proofs.Common.{◌≡◌, ◌≢◌, ◌<◌, ◌≤◌, ◌⊎◌, ◌∙◌, ℕ, List, Option, Some, None, Result, Ok, Err, IfSome, length, inl, inr, refl, ap, sym, subst, arith}
+use Rattle.net_base.specs.declared.entry.Entry.{Entry}
+use Rattle.net_base.specs.Outside.{Rose}
+use Rattle.scenario_text.specs.declared.scenario.Scenario.{Scenario}
+use Rattle.scenario_text.specs.declared.scenario_fault.ScenarioFault.{ScenarioFault}
+use Rattle.scenario_text.specs.Document.{document}
+use Rattle.vplsnet.specs.declared.outcome.Outcome.{Outcome}
+use Rattle.vplsnet.specs.declared.outcome.Outcome.TheVariants.{Done, Usage, ReadFault, WriteFault, TooLong, ScenarioRefused, NoMemory}
+use Rattle.vplsnet.specs.Files.{IsLonger}
+use Rattle.vplsnet.specs.Replays.{Files, Around, Replays, IsAccepted, IsRefused, IsTooLong, Tells, IsToldLonger, IsToldRefused, IsToldAccepted, scenario_limit}
+
+-- a told file has one content
+same_octets : (files : Files) (name octets other : List ℕ) → Tells files name octets → IfSome files (λ held. held name ≡ Some other) → octets ≡ other
+same_octets None name octets other tells told = absurd (cc (tells.told))
+same_octets (Some held) name octets other tells told =
+    let same : held ≡ tells.held = cc (tells.told) in
+    let both : Some octets ≡ Some other = sym tells.has ∙ (sym (ap (λ (h : List ℕ → Option (List ℕ)). h name) same) ∙ told) in
+    cc (both)
+
+longer_octets : (files : Files) (name octets : List ℕ) (limit : ℕ) → Tells files name octets → IfSome files (λ held. IsLonger limit (held name)) → limit < length octets
+longer_octets None name octets limit tells longer = absurd (cc (tells.told))
+longer_octets (Some held) name octets limit tells longer =
+    let same : octets ≡ longer.bytes = same_octets (Some held) name octets longer.bytes tells longer.held in
+    omega (arith, ap length same, longer.longer)
+
+-- what was accepted, refused or too long of a told file is its content
+accepted_content : (files : Files) (name octets : List ℕ) (scenario : Scenario) → Tells files name octets → IsAccepted files name scenario → (length octets ≤ scenario_limit) × (document octets ≡ Ok scenario)
+accepted_content files name octets scenario tells accepted =
+    let same : octets ≡ accepted.octets = same_octets files name octets accepted.octets tells accepted.told in
+    (omega (arith, ap length same, accepted.fits), ap document same ∙ accepted.reads)
+
+refused_content : (files : Files) (name octets : List ℕ) (fault : ScenarioFault) → Tells files name octets → IsRefused files name fault → (length octets ≤ scenario_limit) × (document octets ≡ Err fault)
+refused_content files name octets fault tells refused =
+    let same : octets ≡ refused.octets = same_octets files name octets refused.octets tells refused.told in
+    (omega (arith, ap length same, refused.fits), ap document same ∙ refused.reads)
+
+too_long_content : (files : Files) (name octets named : List ℕ) (limit : ℕ) → Tells files name octets → IsTooLong files name named limit → scenario_limit < length octets
+too_long_content files name octets named limit tells long =
+    let above = longer_octets files name octets limit tells long.longer in
+    omega (arith, long.is_limit, above)
+
+pub too_long_told : (around : Around) (name : List ℕ) (trace : List Entry) (outcome : Outcome) → Replays around name trace outcome → IsToldLonger around.files name → ¬ Rose (around.shelf_before name) (around.shelf_after name)
+    → (outcome ≡ TooLong name scenario_limit) ⊎ (outcome ≡ NoMemory)
+too_long_told around name trace Done replays told calm =
+    let content = accepted_content around.files name told.octets replays.replay.scenario told.tells replays.replay.accepted in
+    absurd (omega (arith, told.longer, content.0))
+too_long_told around name trace Usage replays told calm = absurd replays
+too_long_told around name trace ReadFault replays told calm = absurd (calm replays.0)
+too_long_told around name trace WriteFault replays told calm =
+    let content = accepted_content around.files name told.octets replays.replay.scenario told.tells replays.replay.accepted in
+    absurd (omega (arith, told.longer, content.0))
+too_long_told around name trace (TooLong named limit) replays told calm =
+    inl (ap (λ (n : List ℕ). TooLong n limit) replays.0.same ∙ ap (λ (l : ℕ). TooLong name l) replays.0.is_limit)
+too_long_told around name trace (ScenarioRefused fault) replays told calm =
+    let content = refused_content around.files name told.octets fault told.tells replays.0 in
+    absurd (omega (arith, told.longer, content.0))
+too_long_told around name trace NoMemory replays told calm = inr refl
+
+pub refused_told : (around : Around) (name : List ℕ) (trace : List Entry) (outcome : Outcome) (fault : ScenarioFault) → Replays around name trace outcome → IsToldRefused around.files name fault → ¬ Rose (around.shelf_before name) (around.shelf_after name)
+    → (outcome ≡ ScenarioRefused fault) ⊎ (outcome ≡ NoMemory)
+refused_told around name trace Done fault replays told calm =
+    let content = accepted_content around.files name told.octets replays.replay.scenario told.tells replays.replay.accepted in
+    absurd (cc (content.1, told.reads))
+refused_told around name trace Usage fault replays told calm = absurd replays
+refused_told around name trace ReadFault fault replays told calm = absurd (calm replays.0)
+refused_told around name trace WriteFault fault replays told calm =
+    let content = accepted_content around.files name told.octets replays.replay.scenario told.tells replays.replay.accepted in
+    absurd (cc (content.1, told.reads))
+refused_told around name trace (TooLong named limit) fault replays told calm =
+    let content = too_long_content around.files name told.octets named limit told.tells replays.0 in
+    absurd (omega (arith, told.fits, content))
+refused_told around name trace (ScenarioRefused other) fault replays told calm =
+    let content = refused_content around.files name told.octets other told.tells replays.0 in
+    let same : other ≡ fault = cc (content.1, told.reads) in
+    inl (ap ScenarioRefused same)
+refused_told around name trace NoMemory fault replays told calm = inr refl
+
+pub accepted_told : (around : Around) (name : List ℕ) (trace : List Entry) (outcome : Outcome) → Replays around name trace outcome → IsToldAccepted around.files name
+    → ¬ Rose (around.shelf_before name) (around.shelf_after name) → ¬ Rose around.sink_before around.sink_after
+    → (outcome ≡ Done) ⊎ (outcome ≡ NoMemory)
+accepted_told around name trace Done replays told calm quiet = inl refl
+accepted_told around name trace Usage replays told calm quiet = absurd replays
+accepted_told around name trace ReadFault replays told calm quiet = absurd (calm replays.0)
+accepted_told around name trace WriteFault replays told calm quiet = absurd (quiet replays.cause)
+accepted_told around name trace (TooLong named limit) replays told calm quiet =
+    let content = too_long_content around.files name told.octets named limit told.tells replays.0 in
+    absurd (omega (arith, told.fits, content))
+accepted_told around name trace (ScenarioRefused fault) replays told calm quiet =
+    let content = refused_content around.files name told.octets fault told.tells replays.0 in
+    absurd (cc (content.1, told.reads))
+accepted_told around name trace NoMemory replays told calm quiet = inr refl

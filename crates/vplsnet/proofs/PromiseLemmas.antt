@@ -1,0 +1,27 @@
+-- The run of a scenario that is accepted keeps every promise.
+use Rattle.std.proofs.Common.{◌≡◌, ◌<◌, ◌≤◌, ℕ, List, Option, Some, None, length}
+use Rattle.net_base.specs.declared.plan.Plan.{Plan}
+use Rattle.network_model.specs.Laws.{HasPlacedCircuits}
+use Rattle.network_model.proofs.IsolatedLemmas.{run_isolated}
+use Rattle.network_model.proofs.SplitLemmas.{run_split}
+use Rattle.network_model.proofs.OnceLemmas.{run_serves_once}
+use Rattle.scenario_text.specs.declared.scenario.Scenario.{Scenario}
+use Rattle.scenario_text.specs.Runnable.{IsRunnable, IsPlaced}
+use Rattle.vplsnet.specs.Made.{made}
+use Rattle.vplsnet.specs.Promises.{KeepsPromises}
+use Rattle.vplsnet.proofs.ReplayLemmas.{all_at}
+
+circuits_placed : (scenario : Scenario) → IsRunnable scenario → HasPlacedCircuits scenario.plan
+circuits_placed scenario runnable = record {
+  edges = λ circuit row is. (all_at (IsPlaced (length scenario.plan.edges) (length scenario.plan.services)) scenario.plan.circuits circuit.0 row runnable.placed is).edge;
+  tags = λ circuit row tag is tagged.
+      let untagged : row.tag ≡ None = (all_at (IsPlaced (length scenario.plan.edges) (length scenario.plan.services)) scenario.plan.circuits circuit.0 row runnable.placed is).untagged in
+      absurd (cc (untagged, tagged));
+}
+
+pub promises_kept : (scenario : Scenario) → IsRunnable scenario → KeepsPromises scenario.plan (made scenario.commands)
+promises_kept scenario runnable = record {
+  isolated = run_isolated scenario.plan (made scenario.commands) (circuits_placed scenario runnable);
+  split = run_split scenario.plan (made scenario.commands);
+  once = run_serves_once scenario.plan (made scenario.commands) (circuits_placed scenario runnable);
+}

@@ -1,0 +1,16 @@
+use Rattle.std.proofs.Common.{◌≡◌, ◌≤◌, ◌+◌, ◌-◌, length}
+use Rattle.net_base.specs.Outside.{NeverFall}
+use Rattle.vplsnet.proofs.FileLemmas.{IsRead}
+use Rattle.vplsnet.proofs.files.read_front.Given as goal
+
+abbrev pub invariant-reading : goal.invariant-reading
+invariant-reading g l = record {
+  front : IsRead (g.F.Shelf.files l.fn.shelf) l.name l.octets;
+  files : g.F.Shelf.files l.shelf ≡ g.F.Shelf.files l.fn.shelf;
+  faults : NeverFall (g.F.Shelf.faults l.fn.shelf) (g.F.Shelf.faults l.shelf);
+  within : length l.octets ≤ l.limit + 1;
+  size : length l.piece ≡ 4096;
+}
+
+abbrev pub decreases-reading : goal.decreases-reading
+decreases-reading g l = l.limit + 1 - length l.octets

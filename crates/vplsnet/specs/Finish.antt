@@ -1,0 +1,34 @@
+-- The status and the line by which the program ends.
+use Rattle.std.specs.Prelude.{◌++◌, codes, ℕ, List, []}
+use Rattle.std.specs.Fmt.{decimal}
+use Rattle.scenario_text.specs.declared.scenario_fault.ScenarioFault.{ScenarioFault}
+use Rattle.scenario_text.specs.declared.scenario_fault.ScenarioFault.TheVariants as fault
+use Rattle.vplsnet.specs.declared.outcome.Outcome.{Outcome}
+use Rattle.vplsnet.specs.declared.outcome.Outcome.TheVariants.{Done, Usage, ReadFault, WriteFault, TooLong, ScenarioRefused, NoMemory}
+
+abbrev pub status_of : Outcome → ℕ
+status_of Done = 0
+status_of Usage = 2
+status_of ReadFault = 3
+status_of WriteFault = 4
+status_of (TooLong name limit) = 5
+status_of (ScenarioRefused fault) = 5
+status_of NoMemory = 8
+
+abbrev pub fault_name : ScenarioFault → List ℕ
+fault_name fault.NotToml = codes "NotToml"
+fault_name fault.NotBuilt = codes "NotBuilt"
+fault_name fault.NoMemory = codes "out of memory"
+
+abbrev pub long_line : List ℕ → ℕ → List ℕ
+long_line name limit = ((codes "vplsnet: " ++ name) ++ codes " is longer than ") ++ decimal limit
+
+-- the line that tells how a run ended; one that is done has none
+abbrev pub finish_text : Outcome → List ℕ
+finish_text Done = []
+finish_text Usage = codes "vplsnet: usage"
+finish_text ReadFault = codes "vplsnet: read fault"
+finish_text WriteFault = codes "vplsnet: write fault"
+finish_text (TooLong name limit) = long_line name limit
+finish_text (ScenarioRefused fault) = codes "vplsnet: scenario: " ++ fault_name fault
+finish_text NoMemory = codes "vplsnet: out of memory"

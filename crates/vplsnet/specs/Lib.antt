@@ -1,0 +1,9 @@
+pub mod Domain
+pub mod Files
+pub mod Finish
+pub mod Made
+pub mod Promises
+pub mod Replays
+pub mod Report
+pub mod ReportWords
+pub mod Words

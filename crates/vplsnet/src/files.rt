@@ -1,0 +1,174 @@
+//! Whole files and whole texts, read and written in pieces.
+ghost use Rattle.std.specs.Prelude.{◌≡◌, ◌<◌, ◌≤◌, ◌+◌, ◌^◌, length, IfSome, IfOk, OnOk, OnErr, IsErrOf, Some};
+ghost use Rattle.net_base.specs.Outside.{Rose, NeverFall, Appends};
+ghost use Rattle.vplsnet.specs.Files.{IsFrontOf, IsLonger, AppendsFront};
+
+use net_base::{Failed, List, NoMemory, Octets, Shelf, Sink};
+use std::alloc::Global;
+
+/// The most octets that one call asks a shelf for.
+const PIECE: usize = 4096;
+
+/// Why a file was not read.
+#[derive(Clone, Copy, Debug, PartialEq, Eq)]
+pub enum ReadStop {
+    /// A call of the shelf failed, and was counted there.
+    Fault,
+    /// The file has more octets than the limit.
+    TooLong,
+    /// Memory was refused.
+    NoMemory,
+}
+
+impl From<NoMemory> for ReadStop {
+    ghost use Rattle.std.specs.Prelude.{◌≡◌};
+    ghost use Rattle.vplsnet.specs.declared.files.ReadStop.TheVariants as stop;
+
+    ghost from_gives = { λ _ e. e ≡ stop.NoMemory };
+
+    fn from(_: NoMemory) -> ReadStop {
+        ReadStop::NoMemory
+    }
+}
+
+impl From<Failed> for ReadStop {
+    ghost use Rattle.std.specs.Prelude.{◌≡◌};
+    ghost use Rattle.vplsnet.specs.declared.files.ReadStop.TheVariants as stop;
+
+    ghost from_gives = { λ _ e. e ≡ stop.Fault };
+
+    fn from(_: Failed) -> ReadStop {
+        ReadStop::Fault
+    }
+}
+
+/// Reads a file from its front on, to its end or until one octet more than the limit is read: of a file that
+/// the shelf tells, exactly the first `min(length, limit + 1)` octets. It asks for no octet beyond those.
+///
+/// `Fault` comes only where a call with this name failed. `TooLong` never comes.
+pub fn read_front<F: Shelf>(
+    alloc: Global,
+    shelf: &mut F,
+    name: &str,
+    limit: usize,
+) -> Result<Octets, ReadStop>
+    requires { limit < 2 ^ 62 }
+    ensures front { IfSome (F.files shelf.old) (λ held. IfOk result (λ octets. IsFrontOf limit (held name.now) octets)) }
+    ensures within { IfOk result (λ octets. length octets ≤ limit + 1) }
+    ensures fault { IsErrOf result ReadStop.Fault → Rose (F.faults shelf.old name.now) (F.faults shelf.new name.now) }
+    ensures never_long { IsErrOf result ReadStop.TooLong → ⊥ }
+    ensures same_files { F.files shelf.new ≡ F.files shelf.old }
+    ensures never_fall { NeverFall (F.faults shelf.old) (F.faults shelf.new) }
+{
+    let mut octets = List::new(alloc);
+    let mut piece = [0u8; PIECE];
+    'reading: while octets.len() <= limit {
+        let room = (limit + 1 - octets.len()).min(PIECE);
+        let count = shelf.read_at(name, octets.len() as u64, &mut piece[..room])?;
+        if count == 0 {
+            return Ok(octets);
+        }
+        octets.extend_from_slice(&piece[..count])?;
+    }
+    Ok(octets)
+}
+
+/// Reads a file whole, where it has no more octets than the limit, and else answers `TooLong`.
+///
+/// `Fault` comes only where a call with this name failed.
+pub fn read_file<F: Shelf>(
+    alloc: Global,
+    shelf: &mut F,
+    name: &str,
+    limit: usize,
+) -> Result<Octets, ReadStop>
+    requires { limit < 2 ^ 62 }
+    ensures whole { IfSome (F.files shelf.old) (λ held. IfOk result (λ octets. held name.now ≡ Some octets)) }
+    ensures within { IfOk result (λ octets. length octets ≤ limit) }
+    ensures too_long { IfSome (F.files shelf.old) (λ held. IsErrOf result ReadStop.TooLong → IsLonger limit (held name.now)) }
+    ensures never_longer { IfSome (F.files shelf.old) (λ held. IsLonger limit (held name.now) → OnOk result ⊥) }
+    ensures fault { IsErrOf result ReadStop.Fault → Rose (F.faults shelf.old name.now) (F.faults shelf.new name.now) }
+    ensures same_files { F.files shelf.new ≡ F.files shelf.old }
+    ensures never_fall { NeverFall (F.faults shelf.old) (F.faults shelf.new) }
+{
+    let octets = read_front(alloc, shelf, name, limit)?;
+    if octets.len() > limit {
+        return Err(ReadStop::TooLong);
+    }
+    Ok(octets)
+}
+
+/// Writes a text whole. After `Failed` a front of it was taken that lacks its end.
+pub fn write_text<K: Sink>(sink: &mut K, text: &[u8]) -> Result<(), Failed>
+    ensures whole { OnOk result (Appends (K.taken sink.old) (K.taken sink.new) text.now) }
+    ensures front { OnErr result (AppendsFront (K.taken sink.old) (K.taken sink.new) text.now) }
+    ensures fault { OnErr result (Rose (K.faults sink.old) (K.faults sink.new)) }
+    ensures never_falls { K.faults sink.old ≤ K.faults sink.new }
+{
+    let mut at = 0;
+    'writing: while at < text.len() {
+        let count = sink.write(&text[at..])?;
+        at += count;
+    }
+    Ok(())
+}
+
+#[cfg(test)]
+mod tests {
+    use super::*;
+    use net_base::{MemShelf, MemSink};
+    use std::test::Fail;
+
+    // A shelf that holds `count` octets under `f`, of which the second call fails where that is wanted.
+    fn shelf_of(alloc: Global, count: usize, fails: bool) -> Result<MemShelf, NoMemory> {
+        let mut numbers = List::new(alloc);
+        if fails {
+            numbers.push(2)?;
+        }
+        let mut shelf = MemShelf::new(alloc, numbers)?;
+        let octets = Vec::from_elem(alloc, 7u8, count)?;
+        shelf.store(alloc, "f", octets.as_slice())?;
+        Ok(shelf)
+    }
+
+    #[test]
+    fn reads_up_to_the_limit(rt: HostRuntime) -> Result<(), Fail> {
+        let rows = [
+            (5, 5, false, Ok(5)),
+            (6, 5, false, Err(ReadStop::TooLong)),
+            (0, 0, false, Ok(0)),
+            (1, 0, false, Err(ReadStop::TooLong)),
+            (9000, 9000, false, Ok(9000)),
+            (9001, 9000, false, Err(ReadStop::TooLong)),
+            (9000, 9000, true, Err(ReadStop::Fault)),
+        ];
+        for (count, limit, fails, want) in rows {
+            let mut shelf = shelf_of(rt.alloc(), count, fails)?;
+            let length = read_file(rt.alloc(), &mut shelf, "f", limit).map(|octets| octets.len());
+            assert_eq!(rt; length, want, "{count} octets at the limit {limit}");
+            assert_eq!(rt; shelf.faults("f"), u64::from(fails), "{count} octets");
+        }
+        Ok(())
+    }
+
+    #[test]
+    fn reads_no_file_that_is_not_held(rt: HostRuntime) -> Result<(), Fail> {
+        let mut shelf = shelf_of(rt.alloc(), 5, false)?;
+        let length = read_file(rt.alloc(), &mut shelf, "g", 5).map(|octets| octets.len());
+        assert_eq!(rt; length, Err(ReadStop::Fault));
+        assert_eq!(rt; shelf.faults("g"), 1);
+        assert_eq!(rt; shelf.faults("f"), 0);
+        Ok(())
+    }
+
+    #[test]
+    fn writes_as_much_as_is_taken(rt: HostRuntime) -> Result<(), Fail> {
+        for (room, want, taken) in [(6, Ok(()), "abcdef"), (3, Err(Failed), "abc")] {
+            let mut sink = MemSink::new(rt.alloc(), room, List::new(rt.alloc()))?;
+            assert_eq!(rt; write_text(&mut sink, b"abcdef"), want);
+            assert_eq!(rt; sink.taken(), taken.as_bytes());
+            assert_eq!(rt; sink.faults(), u64::from(want.is_err()));
+        }
+        Ok(())
+    }
+}

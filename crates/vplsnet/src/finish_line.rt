@@ -1,0 +1,62 @@
+//! The line that tells how a call ended.
+ghost use Rattle.std.specs.Prelude.{◌≡◌, ◌≢◌, ◌++◌, codes, string_bytes, IfOk};
+ghost use Rattle.vplsnet.specs.Finish.{fault_name, long_line, finish_text};
+
+use crate::outcome::Outcome;
+use net_base::NoMemory;
+use scenario_text::ScenarioFault;
+use std::alloc::Global;
+
+/// The line, without a line feed, that tells on standard error how a call ended that was not done.
+pub fn finish_line(alloc: Global, outcome: &Outcome) -> Result<String, NoMemory>
+    requires { outcome.now ≢ Outcome.Done }
+    ensures { IfOk result (λ line. string_bytes line ≡ finish_text outcome.now) }
+{
+    match outcome {
+        Outcome::Done => unreachable!(),
+        Outcome::Usage => plain_line(alloc, "vplsnet: usage"),
+        Outcome::ReadFault => plain_line(alloc, "vplsnet: read fault"),
+        Outcome::WriteFault => plain_line(alloc, "vplsnet: write fault"),
+        Outcome::TooLong { name, limit } => too_long_line(alloc, name.as_str(), *limit),
+        Outcome::ScenarioRefused(fault) => refused_line(alloc, fault_text(*fault)),
+        Outcome::NoMemory => plain_line(alloc, "vplsnet: out of memory"),
+    }
+}
+
+fn plain_line(alloc: Global, text: &str) -> Result<String, NoMemory>
+    ensures { IfOk result (λ line. string_bytes line ≡ text.now) }
+{
+    Ok(String::from_str(alloc, text)?)
+}
+
+// The line for a file that is too long.
+fn too_long_line(alloc: Global, name: &str, limit: u64) -> Result<String, NoMemory>
+    ensures { IfOk result (λ line. string_bytes line ≡ long_line name.now limit) }
+{
+    let digits = limit.to_string(alloc)?;
+    let mut line = String::from_str(alloc, "vplsnet: ")?;
+    line.push_str(name)?;
+    line.push_str(" is longer than ")?;
+    line.push_str(digits.as_str())?;
+    Ok(line)
+}
+
+// The line for a scenario that is refused.
+fn refused_line(alloc: Global, fault: &str) -> Result<String, NoMemory>
+    ensures { IfOk result (λ line. string_bytes line ≡ codes "vplsnet: scenario: " ++ fault.now) }
+{
+    let mut line = String::from_str(alloc, "vplsnet: scenario: ")?;
+    line.push_str(fault)?;
+    Ok(line)
+}
+
+// The name of a fault.
+fn fault_text(fault: ScenarioFault) -> &'static str
+    ensures { result.now ≡ fault_name fault }
+{
+    match fault {
+        ScenarioFault::NotToml => "NotToml",
+        ScenarioFault::NotBuilt => "NotBuilt",
+        ScenarioFault::NoMemory => "out of memory",
+    }
+}

@@ -1,0 +1,41 @@
+//! How a call of the program ends.
+ghost use Rattle.std.specs.Prelude.{◌≡◌};
+ghost use Rattle.vplsnet.specs.Finish.{status_of};
+
+use net_base::Word;
+use scenario_text::ScenarioFault;
+
+/// How a call of the program ended.
+#[derive(Debug, Drop)]
+pub enum Outcome {
+    /// The whole input was read and the whole text was taken.
+    Done,
+    /// The words are not those of a command.
+    Usage,
+    /// A call of the shelf for the named file failed. Nothing was taken.
+    ReadFault,
+    /// The sink failed. What was taken is a front of the text.
+    WriteFault,
+    /// The named file has more octets than its limit. Nothing was taken.
+    TooLong { name: Word, limit: u64 },
+    /// The scenario has this first fault, which is not want of memory. Nothing was taken.
+    ScenarioRefused(ScenarioFault),
+    /// Memory was refused. Nothing was taken.
+    NoMemory,
+}
+
+impl Outcome {
+    /// The status with which the program ends.
+    pub fn status(&self) -> u8
+        ensures { result ≡ status_of self.now }
+    {
+        match self {
+            Outcome::Done => 0,
+            Outcome::Usage => 2,
+            Outcome::ReadFault => 3,
+            Outcome::WriteFault => 4,
+            Outcome::TooLong { .. } | Outcome::ScenarioRefused(_) => 5,
+            Outcome::NoMemory => 8,
+        }
+    }
+}
