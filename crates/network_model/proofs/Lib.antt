@@ -1,4 +1,5 @@
 pub mod CalmLemmas
+mod Examples
 pub mod IsolatedLemmas
 pub mod OnceLemmas
 pub mod SplitLemmas

@@ -12,6 +12,8 @@ mod replay;
 mod report;
 mod run;
 mod std_sink;
+#[cfg(test)]
+mod tests;
 mod words;
 
 use crate::file_shelf::FileShelf;

@@ -1,0 +1,101 @@
+-- The definitions at work on small networks: each equation below is found by evaluation alone.
+use Rattle.std.proofs.Common.{◌≡◌, ℕ, Bool, true, false, List, [], ◌∷◌, Option, Some, None, Ok, refl}
+use Rattle.std.specs.Prelude.{codes}
+use Rattle.net_base.specs.declared.plan.Plan.{Plan}
+use Rattle.net_base.specs.declared.edge_plan.EdgePlan.{EdgePlan}
+use Rattle.net_base.specs.declared.service_plan.ServicePlan.{ServicePlan}
+use Rattle.net_base.specs.declared.circuit_plan.CircuitPlan.{CircuitPlan}
+use Rattle.net_base.specs.declared.entry.Entry.{Entry}
+use Rattle.net_base.specs.declared.entry.Entry.TheVariants.{Did, In, Left}
+use Rattle.net_base.specs.declared.event.Event.{Event}
+use Rattle.net_base.specs.declared.event.Event.TheVariants.{Frame}
+use Rattle.net_base.specs.declared.places.CircuitId.{CircuitId}
+use Rattle.net_base.specs.declared.places.ServiceId.{ServiceId}
+use Rattle.hvpls_spokes.specs.declared.port.Port.TheVariants as port
+use Rattle.network_model.specs.State.{NetworkState, empty_network}
+use Rattle.network_model.specs.Step.{step}
+use Rattle.network_model.specs.Run.{run}
+use Rattle.network_model.specs.Calm.{is_quiet, is_full, is_calm}
+use Rattle.network_model.specs.Reach.{is_site, reach, ahead}
+use Rattle.network_model.specs.Window.{Window}
+
+abbrev an_edge : ℕ → EdgePlan
+an_edge last = record { name = codes "pe"; address = record { 0 = 10 ∷ 0 ∷ 0 ∷ last ∷ [] }; first_label = 16; keepalive = 180; max_pdu = 4096 }
+
+abbrev a_service : ServicePlan
+a_service = record { name = codes "s"; mtu = 1500; age = 300 }
+
+abbrev a_circuit : ℕ → ℕ → CircuitPlan
+a_circuit edge service = record { name = codes "c"; edge = record { 0 = edge }; service = record { 0 = service }; tag = None }
+
+-- one edge with three circuits of one service and one of another
+abbrev one_edge : Plan
+one_edge = record {
+  edges = an_edge 1 ∷ [];
+  services = a_service ∷ a_service ∷ [];
+  circuits = a_circuit 0 0 ∷ a_circuit 0 1 ∷ a_circuit 0 0 ∷ a_circuit 0 0 ∷ [];
+  wires = []
+}
+
+-- two edges, each with a circuit of one service, and no wire between them
+abbrev two_edges : Plan
+two_edges = record {
+  edges = an_edge 1 ∷ an_edge 2 ∷ [];
+  services = a_service ∷ [];
+  circuits = a_circuit 0 0 ∷ a_circuit 1 0 ∷ [];
+  wires = []
+}
+
+abbrev circuit : ℕ → CircuitId
+circuit place = record { 0 = place }
+
+abbrev service : ℕ → ServiceId
+service place = record { 0 = place }
+
+-- a broadcast of 14 octets
+abbrev broadcast : List ℕ
+broadcast = 255 ∷ 255 ∷ 255 ∷ 255 ∷ 255 ∷ 255 ∷ 2 ∷ 0 ∷ 0 ∷ 0 ∷ 0 ∷ 1 ∷ 8 ∷ 0 ∷ []
+
+-- it leaves at the other circuits of its service, in port order, and not at that of the other service
+floods : (run one_edge (Frame (circuit 0) broadcast ∷ [])).entries
+  ≡ Did (Frame (circuit 0) broadcast) ∷ In (circuit 0) 1 broadcast ∷ Left (circuit 2) 1 0 broadcast ∷ Left (circuit 3) 1 0 broadcast ∷ []
+floods = refl
+
+-- a circuit alone in its service has nowhere to send
+alone : (run one_edge (Frame (circuit 1) broadcast ∷ [])).entries ≡ Did (Frame (circuit 1) broadcast) ∷ In (circuit 1) 1 broadcast ∷ []
+alone = refl
+
+-- frames are numbered as they enter
+numbered : (step one_edge (step one_edge empty_network (Frame (circuit 1) broadcast)).state (Frame (circuit 1) broadcast)).entries
+  ≡ Did (Frame (circuit 1) broadcast) ∷ In (circuit 1) 2 broadcast ∷ []
+numbered = refl
+
+-- a service whose circuits are at one edge is calm; one with two core edges and no mesh wire is quiet and not full
+calm_alone : is_calm one_edge empty_network (service 0) ≡ true
+calm_alone = refl
+
+quiet_apart : is_quiet two_edges empty_network (service 0) ≡ true
+quiet_apart = refl
+
+not_full_apart : is_full two_edges empty_network (service 0) ≡ false
+not_full_apart = refl
+
+-- sites, and what is behind and ahead of a circuit's port
+site_here : is_site one_edge empty_network (service 0) (circuit 2) ≡ true
+site_here = refl
+
+no_site_there : is_site one_edge empty_network (service 0) (circuit 1) ≡ false
+no_site_there = refl
+
+reach_itself : reach one_edge empty_network (service 0) 0 (port.Circuit (circuit 2)) (circuit 2) ≡ true
+reach_itself = refl
+
+ahead_others : ahead one_edge empty_network (service 0) 0 (port.Circuit (circuit 2)) (circuit 3) ≡ true
+ahead_others = refl
+
+not_ahead_itself : ahead one_edge empty_network (service 0) 0 (port.Circuit (circuit 2)) (circuit 2) ≡ false
+not_ahead_itself = refl
+
+-- the premises of a window can be met
+a_window : Window one_edge [] (circuit 0) broadcast (Frame (circuit 2) broadcast ∷ []) (service 0)
+a_window = record { sender = refl; on = refl; frame = broadcast; formed = refl; calm = refl; flooded = refl; spared = refl; over = refl }
