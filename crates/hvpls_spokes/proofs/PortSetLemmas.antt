@@ -1,5 +1,5 @@
 -- A bit of a row of words is set or cleared, and the others stay.
-use Rattle.std.proofs.Common.{◌≡◌, ◌≢◌, ◌<◌, ◌/◌, ◌%◌, ◌*◌, ◌+◌, ◌-◌, ◌^◌, ◌∙◌, ℕ, Bool, true, false, List, length, get_or, set, bit_and, bit_or, nat_eq, inl, inr, ap, sym, arith, eq-eqb, w64, get_or-set_same, get_or-set_other}
+use Rattle.std.proofs.Common.{◌≡◌, ◌≢◌, ◌<◌, ◌/◌, ◌%◌, ◌*◌, ◌^◌, ℕ, true, false, List, length, get_or, set, bit_and, bit_or, nat_eq, inl, inr, ap, arith, eq-eqb, w64, get_or-set_same, get_or-set_other}
 use Rattle.std.proofs.lemmas.Bool.{cases_eq}
 use Rattle.std.proofs.lemmas.Nat.Bits.{bit_at_set_same, bit_at_set_other, bit_at_clear_same, bit_at_clear_other}
 use Rattle.std.specs.Int.{bit_at, bit_not}
@@ -7,8 +7,8 @@ use Rattle.hvpls_spokes.specs.PortSet.{has}
 
 -- a word is replaced by one that has the same bits but for that of a port
 other_bits : (words : List ℕ) (port p word : ℕ) → port < 512 → length words ≡ 8 → p ≢ port
-  → ((bit : ℕ) → bit < 64 → bit ≢ port % 64 → bit_at word bit ≡ bit_at (get_or words (port / 64) 0) bit)
-  → has (set words (port / 64) word) p ≡ has words p
+    → ((bit : ℕ) → bit < 64 → bit ≢ port % 64 → bit_at word bit ≡ bit_at (get_or words (port / 64) 0) bit)
+    → has (set words (port / 64) word) p ≡ has words p
 other_bits words port p word fits len ne same = elim (cases_eq (p / 64) (port / 64)) [
   | inl together ↦
       let within : port / 64 < length words = omega arith in

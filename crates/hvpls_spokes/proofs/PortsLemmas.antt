@@ -1,7 +1,6 @@
 -- The ports of a service at an edge are its circuits there, each once.
-use Rattle.std.proofs.Common.{◌≡◌, ◌≢◌, ◌<◌, ◌≤◌, ◌+◌, ◌-◌, ◌++◌, ◌&&◌, ◌==◌, ◌∙◌, ℕ, zero, suc, Bool, true, false, List, [], ◌∷◌, Option, Some, None, length, slice_get, position, nat_eq, cond, not, refl, ap, sym, subst, arith, append_assoc, length-append, inl, inr}
+use Rattle.std.proofs.Common.{◌≡◌, ◌<◌, ◌≤◌, ◌+◌, ◌++◌, ◌∙◌, ℕ, zero, suc, Bool, true, false, List, [], ◌∷◌, Option, Some, None, length, slice_get, position, nat_eq, cond, refl, ap, sym, subst, arith, append_assoc, length-append, inl, inr}
 use Rattle.std.proofs.lemmas.Bool.{cases_order, cases_Bool, eqb-true, eq-eqb, ne_eqb, lt-ltb}
-use Rattle.std.proofs.lemmas.Bool.Decides.{nat_tests}
 use Rattle.std.proofs.lemmas.List.Quantifiers.{position-Some}
 use Rattle.std.proofs.lemmas.Option.{slice_get-get_or}
 use Rattle.std.specs.List.{position_or_len}
@@ -12,7 +11,7 @@ use Rattle.net_base.specs.declared.places.EdgeId.{EdgeId}
 use Rattle.net_base.specs.declared.places.ServiceId.{ServiceId}
 use Rattle.hvpls_spokes.specs.declared.port.Port.{Port}
 use Rattle.hvpls_spokes.specs.declared.port.Port.TheVariants as port
-use Rattle.hvpls_spokes.specs.Port.{circuit_ports, ports_of, serves, is_circuit_port, is_mesh_port}
+use Rattle.hvpls_spokes.specs.Port.{circuit_ports, ports_of, serves, is_circuit_port}
 
 pub slice_get-seam : {X : Type 0} (front : List X) (x : X) (rest : List X) → slice_get (front ++ x ∷ rest) (length front) ≡ Some x
 slice_get-seam [] x rest = refl
@@ -48,7 +47,7 @@ place_from k (row ∷ rows) service edge p c leads =
 
 -- a later port leads to a later circuit
 rising_if : (serve : Bool) (k : ℕ) (rest : List Port) (p q c d : ℕ) → ((i : ℕ) (e : ℕ) → LeadsTo rest i e → k + 1 ≤ e) → ((i j : ℕ) → i < j → LeadsTo rest i c → LeadsTo rest j d → c < d)
-  → p < q → LeadsTo (cond serve (port.Circuit (record { 0 = k }) ∷ rest) rest) p c → LeadsTo (cond serve (port.Circuit (record { 0 = k }) ∷ rest) rest) q d → c < d
+    → p < q → LeadsTo (cond serve (port.Circuit (record { 0 = k }) ∷ rest) rest) p c → LeadsTo (cond serve (port.Circuit (record { 0 = k }) ∷ rest) rest) q d → c < d
 rising_if true k rest p zero c d later rises below at_p at_q = absurd (omega arith)
 rising_if true k rest zero (suc q) c d later rises below at_p at_q =
     let same : k ≡ c = same_place k c at_p.is in
@@ -57,17 +56,17 @@ rising_if true k rest (suc p) (suc q) c d later rises below at_p at_q = rises p 
 rising_if false k rest p q c d later rises below at_p at_q = rises p q below at_p at_q
 
 pub rising : (k : ℕ) (rows : List CircuitPlan) (service : ServiceId) (edge : EdgeId) (p q c d : ℕ) → p < q
-  → LeadsTo (circuit_ports k rows service edge) p c → LeadsTo (circuit_ports k rows service edge) q d → c < d
+    → LeadsTo (circuit_ports k rows service edge) p c → LeadsTo (circuit_ports k rows service edge) q d → c < d
 rising k [] service edge p q c d below at_p at_q = absurd (cc (at_p.is))
 rising k (row ∷ rows) service edge p q c d below at_p at_q =
     rising_if (serves service edge row) k (circuit_ports (k + 1) rows service edge) p q c d
-        (λ i e later. place_from (k + 1) rows service edge i e later)
-        (λ i j under at_i at_j. rising (k + 1) rows service edge i j c d under at_i at_j)
-        below at_p at_q
+    (λ i e later. place_from (k + 1) rows service edge i e later)
+    (λ i j under at_i at_j. rising (k + 1) rows service edge i j c d under at_i at_j)
+    below at_p at_q
 
 -- two ports are one exactly where their circuits are one
 pub same_port : (k : ℕ) (rows : List CircuitPlan) (service : ServiceId) (edge : EdgeId) (p q c d : ℕ)
-  → LeadsTo (circuit_ports k rows service edge) p c → LeadsTo (circuit_ports k rows service edge) q d → nat_eq p q ≡ nat_eq c d
+    → LeadsTo (circuit_ports k rows service edge) p c → LeadsTo (circuit_ports k rows service edge) q d → nat_eq p q ≡ nat_eq c d
 same_port k rows service edge p q c d at_p at_q = elim (cases_order p q) [
   | inl same ↦
       let ports : Some (port.Circuit (record { 0 = c })) ≡ Some (port.Circuit (record { 0 = d })) = sym (at_p.is) ∙ (ap (λ (i : ℕ). slice_get (circuit_ports k rows service edge) i) same ∙ at_q.is) in
@@ -107,10 +106,10 @@ pub found_port : (circuit : CircuitId) (ports : List Port) (p : ℕ) → positio
 found_port circuit ports p e =
     let found = position-Some (is_circuit_port circuit) ports p (port.Circuit (record { 0 = 0 })) e in
     leads_if circuit ports p _ (slice_get-get_or ports p (port.Circuit (record { 0 = 0 })) found.0) found.1 where
-  leads_if : (circuit : CircuitId) (ports : List Port) (p : ℕ) (x : Port) → slice_get ports p ≡ Some x → is_circuit_port circuit x ≡ true → LeadsTo ports p circuit.0
-  leads_if circuit ports p (port.Circuit at) is test = record { is = is ∙ ap (λ (n : ℕ). Some (port.Circuit (record { 0 = n }))) (eqb-true at.0 circuit.0 test) }
-  leads_if circuit ports p (port.Mesh wire) is test = absurd (cc (test))
-  leads_if circuit ports p (port.Spoke wire) is test = absurd (cc (test))
+      leads_if : (circuit : CircuitId) (ports : List Port) (p : ℕ) (x : Port) → slice_get ports p ≡ Some x → is_circuit_port circuit x ≡ true → LeadsTo ports p circuit.0
+      leads_if circuit ports p (port.Circuit at) is test = record { is = is ∙ ap (λ (n : ℕ). Some (port.Circuit (record { 0 = n }))) (eqb-true at.0 circuit.0 test) }
+      leads_if circuit ports p (port.Mesh wire) is test = absurd (cc (test))
+      leads_if circuit ports p (port.Spoke wire) is test = absurd (cc (test))
 
 -- and one is found where there is one
 found_below : (test : Port → Bool) (ports : List Port) (p : ℕ) (x : Port) → slice_get ports p ≡ Some x → test x ≡ true → position_or_len test ports < length ports
@@ -127,7 +126,7 @@ found_below test (y ∷ ys) (suc p) x is passes = elim (cases_Bool (test y)) [
 pub finds_port : (circuit : CircuitId) (ports : List Port) → HasPort ports circuit.0 → (p : ℕ) × (position (is_circuit_port circuit) ports ≡ Some p)
 finds_port circuit ports has =
     let below : position_or_len (is_circuit_port circuit) ports < length ports =
-        found_below (is_circuit_port circuit) ports has.p (port.Circuit (record { 0 = circuit.0 })) has.leads.is (eq-eqb circuit.0 circuit.0 refl) in
+    found_below (is_circuit_port circuit) ports has.p (port.Circuit (record { 0 = circuit.0 })) has.leads.is (eq-eqb circuit.0 circuit.0 refl) in
     (position_or_len (is_circuit_port circuit) ports, rw (lt-ltb (position_or_len (is_circuit_port circuit) ports) (length ports) below) refl)
 
 -- each port leads to a circuit of the plan that serves the service at the edge
@@ -143,8 +142,8 @@ AreServed rows service edge (port.Mesh wire ∷ ports) = ⊥
 AreServed rows service edge (port.Spoke wire ∷ ports) = ⊥
 
 served_if : (serve : Bool) (all : List CircuitPlan) (service : ServiceId) (edge : EdgeId) (k : ℕ) (row : CircuitPlan) (rest : List Port)
-  → serves service edge row ≡ serve → slice_get all k ≡ Some row → AreServed all service edge rest
-  → AreServed all service edge (cond serve (port.Circuit (record { 0 = k }) ∷ rest) rest)
+    → serves service edge row ≡ serve → slice_get all k ≡ Some row → AreServed all service edge rest
+    → AreServed all service edge (cond serve (port.Circuit (record { 0 = k }) ∷ rest) rest)
 served_if true all service edge k row rest test is later = (record { row = row; is = is; serve = test }, later)
 served_if false all service edge k row rest test is later = later
 
@@ -154,7 +153,7 @@ served_from front (row ∷ rows) service edge k len =
     let here : slice_get (front ++ row ∷ rows) k ≡ Some row = ap (λ (n : ℕ). slice_get (front ++ row ∷ rows) n) len ∙ slice_get-seam front row rows in
     let next = served_from (front ++ row ∷ []) rows service edge (k + 1) (omega (arith, length-append front (row ∷ []), len)) in
     served_if (serves service edge row) (front ++ row ∷ rows) service edge k row (circuit_ports (k + 1) rows service edge) refl here
-        (subst (λ (all : List CircuitPlan). AreServed all service edge (circuit_ports (k + 1) rows service edge)) (append_assoc front (row ∷ []) rows) next)
+    (subst (λ (all : List CircuitPlan). AreServed all service edge (circuit_ports (k + 1) rows service edge)) (append_assoc front (row ∷ []) rows) next)
 
 pub ports_served : (plan : Plan) (service : ServiceId) (edge : EdgeId) → AreServed plan.circuits service edge (ports_of plan service edge)
 ports_served plan service edge = served_from [] plan.circuits service edge 0 refl

@@ -1,5 +1,5 @@
 -- Sets of ports: the port p is bit p modulo 64 of word p / 64.
-use Rattle.std.specs.Prelude.{◌≡◌, ◌/◌, ◌%◌, ◌==◌, ℕ, Bool, List, slice_index}
+use Rattle.std.specs.Prelude.{◌/◌, ◌%◌, ◌==◌, ℕ, Bool, List, slice_index}
 use Rattle.std.specs.Int.{bit_at}
 
 -- the port is in the set

@@ -1,5 +1,5 @@
 -- What leaves at a circuit is the inner frame with the circuit's tag, so it has that inner frame again.
-use Rattle.std.proofs.Common.{◌≡◌, ◌≤◌, ◌<◌, ◌+◌, ◌-◌, ◌*◌, ◌/◌, ◌%◌, ◌++◌, ◌∙◌, ℕ, Bool, true, false, List, [], ◌∷◌, Option, Some, None, Result, Ok, Err, length, take, drop, get_or, nat_lt, nat_eq, not, cond, refl, ap, sym, subst, arith, append_assoc, length-append, length-take, length-drop, eq-eqb}
+use Rattle.std.proofs.Common.{◌≡◌, ◌≤◌, ◌<◌, ◌+◌, ◌*◌, ◌/◌, ◌%◌, ◌++◌, ◌∙◌, ℕ, Bool, true, false, List, Option, Some, None, Result, Ok, Err, length, take, drop, get_or, nat_lt, nat_eq, not, cond, refl, ap, sym, arith, append_assoc, length-append, length-take, length-drop, eq-eqb}
 use Rattle.std.proofs.lemmas.Bool.Decides.{nat_tests}
 use Rattle.std.proofs.lemmas.List.{get_or-append-add, take-append-drop, length-take-le}
 use Rattle.std.proofs.Math.Seq.{take-append_seam, drop-append_seam}
@@ -60,7 +60,7 @@ untagged-dressed tag front back len fits more =
     let dressed : List ℕ = (front ++ tag_octets tag) ++ back in
     let as_front : dressed ≡ front ++ (tag_octets tag ++ back) = append_assoc front (tag_octets tag) back in
     let octet : (n : ℕ) → get_or dressed (12 + n) 0 ≡ get_or (tag_octets tag ++ back) n 0 =
-        λ n. ap (λ (l : List ℕ). get_or l (12 + n) 0) as_front ∙ (ap (λ (k : ℕ). get_or (front ++ (tag_octets tag ++ back)) (k + n) 0) (sym len) ∙ get_or-append-add front (tag_octets tag ++ back) n 0) in
+    λ n. ap (λ (l : List ℕ). get_or l (12 + n) 0) as_front ∙ (ap (λ (k : ℕ). get_or (front ++ (tag_octets tag ++ back)) (k + n) 0) (sym len) ∙ get_or-append-add front (tag_octets tag ++ back) n 0) in
     let first : get_or dressed 12 0 ≡ 129 = octet 0 in
     let second : get_or dressed 13 0 ≡ 0 = octet 1 in
     let third : get_or dressed 14 0 ≡ tag / 256 = octet 2 in
@@ -71,7 +71,7 @@ untagged-dressed tag front back len fits more =
     let number : (get_or dressed 14 0 * 256 + get_or dressed 15 0) % 4096 ≡ tag = rw (third, fourth) (omega arith) in
     let right : not (nat_eq ((get_or dressed 14 0 * 256 + get_or dressed 15 0) % 4096) tag) ≡ false = ap not (eq-eqb _ _ number) in
     let kept : take 12 dressed ≡ front =
-        ap (λ (l : List ℕ). take 12 l) as_front ∙ (ap (λ (k : ℕ). take k (front ++ (tag_octets tag ++ back))) (sym len) ∙ take-append_seam front (tag_octets tag ++ back)) in
+    ap (λ (l : List ℕ). take 12 l) as_front ∙ (ap (λ (k : ℕ). take k (front ++ (tag_octets tag ++ back))) (sym len) ∙ take-append_seam front (tag_octets tag ++ back)) in
     let width : length (front ++ tag_octets tag) ≡ 16 = omega (arith, length-append front (tag_octets tag), len) in
     let rest : drop 16 dressed ≡ back = ap (λ (k : ℕ). drop k dressed) (sym width) ∙ drop-append_seam (front ++ tag_octets tag) back in
     all_failed _ _ _ _ _ _ _ typed long right ∙ (ap (λ (l : List ℕ). Ok (l ++ drop 16 dressed)) kept ∙ ap (λ (l : List ℕ). Ok (front ++ l)) rest)
@@ -86,6 +86,6 @@ inner-dress (Some tag) mtu frame fits size =
     let long : nat_lt (length dressed) 14 ≡ false = grind (arith, nat_tests, width, size.header) in
     let small : nat_lt (mtu + 18) (length frame) ≡ false = grind (arith, nat_tests, size.room) in
     let again : untagged (Some tag) dressed ≡ Ok frame =
-        untagged-dressed tag (take 12 frame) (drop 12 frame) front fits back ∙ ap (λ (l : List ℕ). Ok l) (take-append-drop 12 frame) in
+    untagged-dressed tag (take 12 frame) (drop 12 frame) front fits back ∙ ap (λ (l : List ℕ). Ok l) (take-append-drop 12 frame) in
     all_failed (nat_lt (length dressed) 14) false false Short Short Short (of_size mtu (untagged (Some tag) dressed)) long refl refl
-        ∙ (ap (λ (r : Result (List ℕ) DropCause). of_size mtu r) again ∙ rw small refl)
+    ∙ (ap (λ (r : Result (List ℕ) DropCause). of_size mtu r) again ∙ rw small refl)

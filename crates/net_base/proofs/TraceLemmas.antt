@@ -1,5 +1,5 @@
 -- Traces that are joined: customers stay apart, and split horizon holds, of the whole where they do of its parts.
-use Rattle.std.proofs.Common.{◌≡◌, ◌++◌, ◌⊎◌, ℕ, List, [], ◌∷◌, refl, ap, sym, subst, inl, inr, append_assoc, append-nil}
+use Rattle.std.proofs.Common.{◌++◌, List, [], ◌∷◌, refl, sym, subst, inl, inr, append_assoc, append-nil}
 use Rattle.net_base.specs.declared.plan.Plan.{Plan}
 use Rattle.net_base.specs.declared.entry.Entry.{Entry}
 use Rattle.net_base.specs.Isolated.{Among, IsolatedAfter}

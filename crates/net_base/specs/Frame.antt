@@ -1,5 +1,5 @@
 -- The inner frame: a customer's frame without the tag of its circuit (RFC 4762 section 7.1, IEEE 802.1Q clause 9.6).
-use Rattle.std.specs.Prelude.{◌≡◌, ◌==◌, ◌+◌, ◌*◌, ◌/◌, ◌%◌, ◌++◌, not, nat_lt, ℕ, Bool, List, [], ◌∷◌, length, take, drop, slice_index, Option, Some, None, Result, Ok, Err, if◌then◌else◌}
+use Rattle.std.specs.Prelude.{◌==◌, ◌+◌, ◌*◌, ◌/◌, ◌%◌, ◌++◌, not, nat_lt, ℕ, Bool, List, [], ◌∷◌, length, take, drop, slice_index, Option, Some, None, Result, Ok, Err, if◌then◌else◌}
 use Rattle.net_base.specs.Mac.{is_group_address}
 use Rattle.net_base.specs.declared.drop_cause.DropCause.{DropCause}
 use Rattle.net_base.specs.declared.drop_cause.DropCause.TheVariants.{Short, Long, WrongTag, NoTag}

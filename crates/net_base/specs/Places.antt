@@ -1,5 +1,5 @@
 -- Rows of a plan by their places.
-use Rattle.std.specs.Prelude.{ℕ, Bool, false, Option, Some, None, slice_get, option_map, option_and_then}
+use Rattle.std.specs.Prelude.{ℕ, Bool, false, Option, Some, None, slice_get, option_map}
 use Rattle.net_base.specs.declared.plan.Plan.{Plan}
 use Rattle.net_base.specs.declared.circuit_plan.CircuitPlan.{CircuitPlan}
 use Rattle.net_base.specs.declared.service_plan.ServicePlan.{ServicePlan}
@@ -7,7 +7,6 @@ use Rattle.net_base.specs.declared.wire_plan.WirePlan.{WirePlan}
 use Rattle.net_base.specs.declared.wire_plan.Class.{Class}
 use Rattle.net_base.specs.declared.wire_plan.Class.TheVariants.{Mesh, Spoke}
 use Rattle.net_base.specs.declared.places.CircuitId.{CircuitId}
-use Rattle.net_base.specs.declared.places.EdgeId.{EdgeId}
 use Rattle.net_base.specs.declared.places.ServiceId.{ServiceId}
 use Rattle.net_base.specs.declared.places.WireId.{WireId}
 

@@ -1,5 +1,5 @@
 -- Split horizon: what came by one mesh pseudowire never goes out by another (RFC 4762 section 4.4).
-use Rattle.std.specs.Prelude.{◌≡◌, ◌==◌, ◌||◌, ℕ, Bool, true, false, List, [], ◌∷◌, Option, Some, None}
+use Rattle.std.specs.Prelude.{◌≡◌, ◌==◌, ◌||◌, Bool, true, false, List, [], ◌∷◌, Option, Some, None}
 use Rattle.net_base.specs.declared.plan.Plan.{Plan}
 use Rattle.net_base.specs.declared.wire_plan.WirePlan.{WirePlan}
 use Rattle.net_base.specs.declared.arrival.Arrival.{Arrival}

@@ -1,6 +1,6 @@
 -- In a calm service all circuits are at one edge as long as no wire carries frames.
-use Rattle.std.proofs.Common.{◌≡◌, ◌<◌, ◌≤◌, ◌+◌, ◌&&◌, ◌||◌, ◌==◌, ◌∙◌, ℕ, zero, suc, Bool, true, false, List, [], ◌∷◌, Option, Some, None, cond, length, slice_get, refl, ap, sym, subst, nat_eq, not, arith, inl, inr}
-use Rattle.std.proofs.lemmas.Bool.{cases_Bool, eqb-true, eq-eqb, cases_order}
+use Rattle.std.proofs.Common.{◌≡◌, ◌<◌, ◌+◌, ◌&&◌, ◌||◌, ◌==◌, ◌∙◌, ℕ, zero, suc, Bool, true, false, List, [], ◌∷◌, Some, length, slice_get, refl, ap, nat_eq, not, arith, inl, inr}
+use Rattle.std.proofs.lemmas.Bool.{eqb-true, eq-eqb, cases_order}
 use Rattle.std.specs.List.{list_any}
 use Rattle.net_base.specs.declared.plan.Plan.{Plan}
 use Rattle.net_base.specs.declared.circuit_plan.CircuitPlan.{CircuitPlan}
@@ -8,8 +8,8 @@ use Rattle.net_base.specs.declared.wire_plan.WirePlan.{WirePlan}
 use Rattle.net_base.specs.declared.places.EdgeId.{EdgeId}
 use Rattle.net_base.specs.declared.places.ServiceId.{ServiceId}
 use Rattle.network_model.specs.State.{NetworkState}
-use Rattle.network_model.specs.Roles.{all_below, any_wire, count_wires, has_port, is_circuit_at, ends_at, is_spoke_from, is_mesh_of, is_first, is_last, is_spoke_edge, is_core_edge}
-use Rattle.network_model.specs.Calm.{carries, first_forwards, last_forwards, is_joined_up, meshes, is_live_spoke, is_quiet, is_full, has_live_spokes, is_calm}
+use Rattle.network_model.specs.Roles.{all_below, any_wire, count_wires, is_circuit_at, is_spoke_from, is_mesh_of, is_first, is_last, is_spoke_edge, is_core_edge}
+use Rattle.network_model.specs.Calm.{carries, first_forwards, meshes, is_live_spoke, is_quiet, is_full, has_live_spokes, is_calm}
 
 -- parts of a conjunction
 pub and_left : (a b : Bool) → a && b ≡ true → a ≡ true
@@ -74,16 +74,16 @@ any_at test (y ∷ ys) (suc i) x is passes = rises (test y) (list_any test ys) (
 no_spoke_edge : (plan : Plan) (network : NetworkState) (service : ServiceId) (edge : ℕ) → has_live_spokes plan network service ≡ true → edge < length plan.edges → is_spoke_edge plan service edge ≡ false
 no_spoke_edge plan network service edge live within =
     fails (is_spoke_edge plan service edge) (count_wires (is_live_spoke network service edge) 0 plan.wires) (no_live network service edge 0 plan.wires)
-        (below_holds (length plan.edges) edge (λ e. not (is_spoke_edge plan service e) || count_wires (is_live_spoke network service e) 0 plan.wires == 1) live within) where
-  fails : (spoke : Bool) (count : ℕ) → count ≡ 0 → not spoke || nat_eq count 1 ≡ true → spoke ≡ false
-  fails false count none holds = refl
-  fails true count none holds =
-      let one : nat_eq 0 1 ≡ true = rw none at holds in
-      absurd (cc (one))
+    (below_holds (length plan.edges) edge (λ e. not (is_spoke_edge plan service e) || count_wires (is_live_spoke network service e) 0 plan.wires == 1) live within) where
+      fails : (spoke : Bool) (count : ℕ) → count ≡ 0 → not spoke || nat_eq count 1 ≡ true → spoke ≡ false
+      fails false count none holds = refl
+      fails true count none holds =
+          let one : nat_eq 0 1 ≡ true = rw none at holds in
+          absurd (cc (one))
 
 core_of : (plan : Plan) (network : NetworkState) (service : ServiceId) (circuit : ℕ) (row : CircuitPlan)
-  → has_live_spokes plan network service ≡ true → slice_get plan.circuits circuit ≡ Some row → nat_eq row.service.0 service.0 ≡ true → row.edge.0 < length plan.edges
-  → is_core_edge plan service row.edge.0 ≡ true
+    → has_live_spokes plan network service ≡ true → slice_get plan.circuits circuit ≡ Some row → nat_eq row.service.0 service.0 ≡ true → row.edge.0 < length plan.edges
+    → is_core_edge plan service row.edge.0 ≡ true
 core_of plan network service circuit row live is of_service within =
     let here : is_circuit_at service row.edge.0 row ≡ true = rw (of_service, eq-eqb row.edge.0 row.edge.0 refl) refl in
     let some : list_any (is_circuit_at service row.edge.0) plan.circuits ≡ true = any_at (is_circuit_at service row.edge.0) plan.circuits circuit row is here in
@@ -91,10 +91,10 @@ core_of plan network service circuit row live is of_service within =
 
 -- two circuits of a calm service are at one edge
 pub at_one_edge : (plan : Plan) (network : NetworkState) (service : ServiceId) (c d : ℕ) (row other : CircuitPlan)
-  → is_calm plan network service ≡ true
-  → slice_get plan.circuits c ≡ Some row → nat_eq row.service.0 service.0 ≡ true → row.edge.0 < length plan.edges
-  → slice_get plan.circuits d ≡ Some other → nat_eq other.service.0 service.0 ≡ true → other.edge.0 < length plan.edges
-  → row.edge.0 ≡ other.edge.0
+    → is_calm plan network service ≡ true
+    → slice_get plan.circuits c ≡ Some row → nat_eq row.service.0 service.0 ≡ true → row.edge.0 < length plan.edges
+    → slice_get plan.circuits d ≡ Some other → nat_eq other.service.0 service.0 ≡ true → other.edge.0 < length plan.edges
+    → row.edge.0 ≡ other.edge.0
 at_one_edge plan network service c d row other calm is of_service within is_too of_service_too within_too =
     let live = and_right (is_quiet plan network service && is_full plan network service) (has_live_spokes plan network service) calm in
     let full = and_right (is_quiet plan network service) (is_full plan network service) (and_left (is_quiet plan network service && is_full plan network service) (has_live_spokes plan network service) calm) in
@@ -102,10 +102,10 @@ at_one_edge plan network service c d row other calm is of_service within is_too 
     let first = below_holds (length plan.edges) row.edge.0 (λ a. all_below (length plan.edges) (met a)) full within in
     let both = below_holds (length plan.edges) other.edge.0 (met row.edge.0) first within_too in
     meets (is_core_edge plan service row.edge.0) (is_core_edge plan service other.edge.0) row.edge.0 other.edge.0 (any_wire (meshes network service row.edge.0 other.edge.0) 0 plan.wires)
-        (core_of plan network service c row live is of_service within) (core_of plan network service d other live is_too of_service_too within_too)
-        (no_mesh network service row.edge.0 other.edge.0 0 plan.wires) both where
-  meets : (x y : Bool) (a b : ℕ) (mesh : Bool) → x ≡ true → y ≡ true → mesh ≡ false → not (x && y) || (nat_eq a b || mesh) ≡ true → a ≡ b
-  meets x y a b mesh core too none holds = eqb-true a b (last (nat_eq a b) mesh none (rw (core, too) at holds)) where
-    last : (equal mesh : Bool) → mesh ≡ false → equal || mesh ≡ true → equal ≡ true
-    last true mesh none holds = refl
-    last false mesh none holds = absurd (cc)
+    (core_of plan network service c row live is of_service within) (core_of plan network service d other live is_too of_service_too within_too)
+    (no_mesh network service row.edge.0 other.edge.0 0 plan.wires) both where
+      meets : (x y : Bool) (a b : ℕ) (mesh : Bool) → x ≡ true → y ≡ true → mesh ≡ false → not (x && y) || (nat_eq a b || mesh) ≡ true → a ≡ b
+      meets x y a b mesh core too none holds = eqb-true a b (last (nat_eq a b) mesh none (rw (core, too) at holds)) where
+        last : (equal mesh : Bool) → mesh ≡ false → equal || mesh ≡ true → equal ≡ true
+        last true mesh none holds = refl
+        last false mesh none holds = absurd (cc)

@@ -1,18 +1,16 @@
 -- The definitions at work on small networks: each equation below is found by evaluation alone.
-use Rattle.std.proofs.Common.{◌≡◌, ℕ, Bool, true, false, List, [], ◌∷◌, Option, Some, None, Ok, refl}
+use Rattle.std.proofs.Common.{◌≡◌, ℕ, true, false, List, [], ◌∷◌, None, refl}
 use Rattle.std.specs.Prelude.{codes}
 use Rattle.net_base.specs.declared.plan.Plan.{Plan}
 use Rattle.net_base.specs.declared.edge_plan.EdgePlan.{EdgePlan}
 use Rattle.net_base.specs.declared.service_plan.ServicePlan.{ServicePlan}
 use Rattle.net_base.specs.declared.circuit_plan.CircuitPlan.{CircuitPlan}
-use Rattle.net_base.specs.declared.entry.Entry.{Entry}
 use Rattle.net_base.specs.declared.entry.Entry.TheVariants.{Did, In, Left}
-use Rattle.net_base.specs.declared.event.Event.{Event}
 use Rattle.net_base.specs.declared.event.Event.TheVariants.{Frame}
 use Rattle.net_base.specs.declared.places.CircuitId.{CircuitId}
 use Rattle.net_base.specs.declared.places.ServiceId.{ServiceId}
 use Rattle.hvpls_spokes.specs.declared.port.Port.TheVariants as port
-use Rattle.network_model.specs.State.{NetworkState, empty_network}
+use Rattle.network_model.specs.State.{empty_network}
 use Rattle.network_model.specs.Step.{step}
 use Rattle.network_model.specs.Run.{run}
 use Rattle.network_model.specs.Calm.{is_quiet, is_full, is_calm}
@@ -34,7 +32,7 @@ one_edge = record {
   edges = an_edge 1 ∷ [];
   services = a_service ∷ a_service ∷ [];
   circuits = a_circuit 0 0 ∷ a_circuit 0 1 ∷ a_circuit 0 0 ∷ a_circuit 0 0 ∷ [];
-  wires = []
+  wires = [];
 }
 
 -- two edges, each with a circuit of one service, and no wire between them
@@ -43,7 +41,7 @@ two_edges = record {
   edges = an_edge 1 ∷ an_edge 2 ∷ [];
   services = a_service ∷ [];
   circuits = a_circuit 0 0 ∷ a_circuit 1 0 ∷ [];
-  wires = []
+  wires = [];
 }
 
 abbrev circuit : ℕ → CircuitId
@@ -58,7 +56,7 @@ broadcast = 255 ∷ 255 ∷ 255 ∷ 255 ∷ 255 ∷ 255 ∷ 2 ∷ 0 ∷ 0 ∷ 0 
 
 -- it leaves at the other circuits of its service, in port order, and not at that of the other service
 floods : (run one_edge (Frame (circuit 0) broadcast ∷ [])).entries
-  ≡ Did (Frame (circuit 0) broadcast) ∷ In (circuit 0) 1 broadcast ∷ Left (circuit 2) 1 0 broadcast ∷ Left (circuit 3) 1 0 broadcast ∷ []
+    ≡ Did (Frame (circuit 0) broadcast) ∷ In (circuit 0) 1 broadcast ∷ Left (circuit 2) 1 0 broadcast ∷ Left (circuit 3) 1 0 broadcast ∷ []
 floods = refl
 
 -- a circuit alone in its service has nowhere to send
@@ -67,7 +65,7 @@ alone = refl
 
 -- frames are numbered as they enter
 numbered : (step one_edge (step one_edge empty_network (Frame (circuit 1) broadcast)).state (Frame (circuit 1) broadcast)).entries
-  ≡ Did (Frame (circuit 1) broadcast) ∷ In (circuit 1) 2 broadcast ∷ []
+    ≡ Did (Frame (circuit 1) broadcast) ∷ In (circuit 1) 2 broadcast ∷ []
 numbered = refl
 
 -- a service whose circuits are at one edge is calm; one with two core edges and no mesh wire is quiet and not full

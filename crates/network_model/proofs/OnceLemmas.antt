@@ -1,19 +1,19 @@
 -- A flooded frame leaves at each other site of its calm service exactly once.
-use Rattle.std.proofs.Common.{◌≡◌, ◌<◌, ◌≤◌, ◌+◌, ◌++◌, ◌&&◌, ◌||◌, ◌==◌, ◌∙◌, ℕ, zero, suc, Bool, true, false, List, [], ◌∷◌, Option, Some, None, Result, Ok, Err, cond, length, slice_get, position, refl, ap, sym, subst, nat_eq, not, arith, inl, inr, add-zero, zero-add, append_assoc, option_map}
-use Rattle.std.proofs.lemmas.Bool.{cases_Bool, eqb-true, eq-eqb, ne_eqb}
+use Rattle.std.proofs.Common.{◌≡◌, ◌<◌, ◌≤◌, ◌+◌, ◌++◌, ◌&&◌, ◌∙◌, ℕ, zero, suc, Bool, true, false, List, [], ◌∷◌, Option, Some, None, Result, Ok, Err, cond, slice_get, position, refl, ap, sym, subst, nat_eq, not, arith, inl, inr, add-zero, zero-add, append_assoc, option_map}
+use Rattle.std.proofs.lemmas.Bool.{cases_Bool, eq-eqb, ne_eqb}
 use Rattle.std.proofs.Math.Bool.{and-true}
 use Rattle.net_base.specs.declared.plan.Plan.{Plan}
 use Rattle.net_base.specs.declared.circuit_plan.CircuitPlan.{CircuitPlan}
 use Rattle.net_base.specs.declared.drop_cause.DropCause.{DropCause}
 use Rattle.net_base.specs.declared.entry.Entry.{Entry}
-use Rattle.net_base.specs.declared.entry.Entry.TheVariants.{Did, Idle, Said, In, Sent, Copied, Left, Dropped, Session, Wire, Pong}
+use Rattle.net_base.specs.declared.entry.Entry.TheVariants.{Left}
 use Rattle.net_base.specs.declared.event.Event.{Event}
 use Rattle.net_base.specs.declared.event.Event.TheVariants.{Frame}
 use Rattle.net_base.specs.declared.places.CircuitId.{CircuitId}
 use Rattle.net_base.specs.declared.places.EdgeId.{EdgeId}
 use Rattle.net_base.specs.declared.places.ServiceId.{ServiceId}
 use Rattle.net_base.specs.Isolated.{inner_at}
-use Rattle.net_base.specs.Places.{circuit_row, service_of}
+use Rattle.net_base.specs.Places.{circuit_row}
 use Rattle.hvpls_spokes.specs.declared.port.Port.{Port}
 use Rattle.hvpls_spokes.specs.declared.port.Port.TheVariants as port
 use Rattle.hvpls_spokes.specs.Port.{ports_of, circuit_ports, is_circuit_port, is_mesh, serves}
@@ -21,14 +21,14 @@ use Rattle.hvpls_spokes.proofs.PortsLemmas.{LeadsTo, HasPort, AreServed, ports_s
 use Rattle.vsi_bridge.specs.Targets.{is_target}
 use Rattle.network_model.specs.State.{NetworkState, EdgeState, at_edge, is_on, empty_network}
 use Rattle.network_model.specs.Enter.{copy_by, copies, bridged, received, forwarded, entering, frame_row, port_forwards, forwards}
-use Rattle.network_model.specs.Step.{step, event_row}
-use Rattle.network_model.specs.Run.{state_after, entries_along, run}
+use Rattle.network_model.specs.Step.{step}
+use Rattle.network_model.specs.Run.{state_after, entries_along}
 use Rattle.network_model.specs.Calm.{is_calm}
-use Rattle.network_model.specs.Reach.{is_site, is_circuit_of, is_circuit_on, is_row_of, is_row_on}
-use Rattle.network_model.specs.Window.{Window, next_origin}
-use Rattle.network_model.specs.OnceEach.{times_left, LeftWithin, ServedOnce, OnceEach}
+use Rattle.network_model.specs.Reach.{is_site, is_row_of, is_row_on}
+use Rattle.network_model.specs.Window.{next_origin}
+use Rattle.network_model.specs.OnceEach.{times_left, LeftWithin}
 use Rattle.network_model.specs.Laws.{HasPlacedCircuits, RunsServeOnce}
-use Rattle.network_model.proofs.CalmLemmas.{and_left, and_right, at_one_edge}
+use Rattle.network_model.proofs.CalmLemmas.{at_one_edge}
 
 -- joined traces
 pub times_left-append : (origin : ℕ) (circuit : CircuitId) (xs ys : List Entry) → times_left origin circuit (xs ++ ys) ≡ times_left origin circuit xs + times_left origin circuit ys
@@ -45,7 +45,7 @@ pub along-append : (plan : Plan) (network : NetworkState) (xs ys : List Event) �
 along-append plan network [] ys = refl
 along-append plan network (x ∷ xs) ys =
     ap (λ (l : List Entry). (step plan network x).entries ++ l) (along-append plan (step plan network x).state xs ys)
-        ∙ sym (append_assoc (step plan network x).entries (entries_along plan (step plan network x).state xs) (entries_along plan (state_after plan (step plan network x).state xs) ys))
+    ∙ sym (append_assoc (step plan network x).entries (entries_along plan (step plan network x).state xs) (entries_along plan (state_after plan (step plan network x).state xs) ys))
 
 -- copies of one frame show its number, and no hops
 chosen_other : (plan : Plan) (origin other : ℕ) (circuit : CircuitId) (frame : List ℕ) (x : Port) (b : Bool) → nat_eq origin other ≡ false → times_left other circuit (cond b (copy_by plan origin 0 frame x) []) ≡ 0
@@ -55,7 +55,7 @@ chosen_other plan origin other circuit frame (port.Mesh wire) true apart = refl
 chosen_other plan origin other circuit frame (port.Spoke wire) true apart = refl
 
 copies_other : (plan : Plan) (origin other : ℕ) (circuit : CircuitId) (targets : ℕ → Bool) (frame : List ℕ) (p : ℕ) (ports : List Port)
-  → nat_eq origin other ≡ false → times_left other circuit (copies targets (copy_by plan origin 0 frame) p ports) ≡ 0
+    → nat_eq origin other ≡ false → times_left other circuit (copies targets (copy_by plan origin 0 frame) p ports) ≡ 0
 copies_other plan origin other circuit targets frame p [] apart = refl
 copies_other plan origin other circuit targets frame p (x ∷ ports) apart =
     let here = chosen_other plan origin other circuit frame x (targets p) apart in
@@ -66,42 +66,42 @@ copies_within : (plan : Plan) (origin number : ℕ) (targets : ℕ → Bool) (fr
 copies_within plan origin number targets frame p [] = tt
 copies_within plan origin number targets frame p (x ∷ ports) =
     within-append number (cond (targets p) (copy_by plan origin 0 frame x) []) (copies targets (copy_by plan origin 0 frame) (p + 1) ports)
-        (chosen x (targets p)) (copies_within plan origin number targets frame (p + 1) ports) where
-  chosen : (x : Port) (b : Bool) → LeftWithin number (cond b (copy_by plan origin 0 frame x) [])
-  chosen x false = tt
-  chosen (port.Circuit at) true = (λ same. omega arith, tt)
-  chosen (port.Mesh wire) true = tt
-  chosen (port.Spoke wire) true = tt
+    (chosen x (targets p)) (copies_within plan origin number targets frame (p + 1) ports) where
+      chosen : (x : Port) (b : Bool) → LeftWithin number (cond b (copy_by plan origin 0 frame x) [])
+      chosen x false = tt
+      chosen (port.Circuit at) true = (λ same. omega arith, tt)
+      chosen (port.Mesh wire) true = tt
+      chosen (port.Spoke wire) true = tt
 
 -- a step tells of no frame but the one that enters in it
 bridged_other : (plan : Plan) (edge : EdgeState) (ports : List Port) (origin other : ℕ) (circuit : CircuitId) (frame : List ℕ) (arrival : Option ℕ)
-  → nat_eq origin other ≡ false → times_left other circuit (bridged edge ports (copy_by plan origin 0 frame) arrival) ≡ 0
+    → nat_eq origin other ≡ false → times_left other circuit (bridged edge ports (copy_by plan origin 0 frame) arrival) ≡ 0
 bridged_other plan edge ports origin other circuit frame None apart = refl
 bridged_other plan edge ports origin other circuit frame (Some arrival) apart = copies_other plan origin other circuit (is_target ports (port_forwards edge ports) arrival) frame 0 ports apart
 
 received_other : (edge : EdgeId) (origin other : ℕ) (circuit : CircuitId) (sent : List ℕ → List Entry) (read : Result (List ℕ) DropCause)
-  → ((frame : List ℕ) → times_left other circuit (sent frame) ≡ 0) → times_left other circuit (received edge origin sent read) ≡ 0
+    → ((frame : List ℕ) → times_left other circuit (sent frame) ≡ 0) → times_left other circuit (received edge origin sent read) ≡ 0
 received_other edge origin other circuit sent (Ok frame) none = none frame
 received_other edge origin other circuit sent (Err cause) none = refl
 
 entering_other : (plan : Plan) (network : NetworkState) (at circuit : CircuitId) (octets : List ℕ) (row : CircuitPlan) (on : Bool) (other : ℕ)
-  → (network.entered + 1 ≡ other → (entering plan network at octets row on).state.entered ≡ network.entered + 1 → ⊥)
-  → times_left other circuit (entering plan network at octets row on).entries ≡ 0
+    → (network.entered + 1 ≡ other → (entering plan network at octets row on).state.entered ≡ network.entered + 1 → ⊥)
+    → times_left other circuit (entering plan network at octets row on).entries ≡ 0
 entering_other plan network at circuit octets row false other apart = refl
 entering_other plan network at circuit octets row true other apart =
     received_other row.edge (network.entered + 1) other circuit _ (inner_at plan at octets)
-        (λ frame. bridged_other plan (at_edge network row.edge) (ports_of plan row.service row.edge) (network.entered + 1) other circuit frame
-            (position (is_circuit_port at) (ports_of plan row.service row.edge)) (ne_eqb (network.entered + 1) other (λ same. apart same refl)))
+    (λ frame. bridged_other plan (at_edge network row.edge) (ports_of plan row.service row.edge) (network.entered + 1) other circuit frame
+    (position (is_circuit_port at) (ports_of plan row.service row.edge)) (ne_eqb (network.entered + 1) other (λ same. apart same refl)))
 
 frame_other : (plan : Plan) (network : NetworkState) (at circuit : CircuitId) (octets : List ℕ) (row : Option CircuitPlan) (other : ℕ)
-  → (network.entered + 1 ≡ other → (frame_row plan network at octets row).state.entered ≡ network.entered + 1 → ⊥)
-  → times_left other circuit (frame_row plan network at octets row).entries ≡ 0
+    → (network.entered + 1 ≡ other → (frame_row plan network at octets row).state.entered ≡ network.entered + 1 → ⊥)
+    → times_left other circuit (frame_row plan network at octets row).entries ≡ 0
 frame_other plan network at circuit octets None other apart = refl
 frame_other plan network at circuit octets (Some row) other apart = entering_other plan network at circuit octets row (is_on (at_edge network row.edge) at) other apart
 
 step_other : (plan : Plan) (network : NetworkState) (event : Event) (circuit : CircuitId) (other : ℕ)
-  → (network.entered + 1 ≡ other → (step plan network event).state.entered ≡ network.entered + 1 → ⊥)
-  → times_left other circuit (step plan network event).entries ≡ 0
+    → (network.entered + 1 ≡ other → (step plan network event).state.entered ≡ network.entered + 1 → ⊥)
+    → times_left other circuit (step plan network event).entries ≡ 0
 step_other plan network (Frame at octets) circuit other apart = frame_other plan network at circuit octets (circuit_row plan at) other apart
 step_other plan network event circuit other apart = refl
 
@@ -124,7 +124,7 @@ counts_rise plan network (e ∷ es) = omega (arith, step_counts plan network e, 
 
 -- before a frame enters, and after the step in which it does, nothing is told of it
 none_before : (plan : Plan) (network : NetworkState) (events : List Event) (circuit : CircuitId) (other : ℕ)
-  → (state_after plan network events).entered < other → times_left other circuit (entries_along plan network events) ≡ 0
+    → (state_after plan network events).entered < other → times_left other circuit (entries_along plan network events) ≡ 0
 none_before plan network [] circuit other later = refl
 none_before plan network (e ∷ es) circuit other later =
     let rise = counts_rise plan (step plan network e).state es in
@@ -133,7 +133,7 @@ none_before plan network (e ∷ es) circuit other later =
     omega (arith, times_left-append other circuit (step plan network e).entries (entries_along plan (step plan network e).state es))
 
 none_after : (plan : Plan) (network : NetworkState) (events : List Event) (circuit : CircuitId) (other : ℕ)
-  → other ≤ network.entered → times_left other circuit (entries_along plan network events) ≡ 0
+    → other ≤ network.entered → times_left other circuit (entries_along plan network events) ≡ 0
 none_after plan network [] circuit other earlier = refl
 none_after plan network (e ∷ es) circuit other earlier =
     let rise = step_counts plan network e in
@@ -143,7 +143,7 @@ none_after plan network (e ∷ es) circuit other earlier =
 
 -- what leaves has passed no segment, since no wire carries frames
 received_within : (edge : EdgeId) (origin number : ℕ) (sent : List ℕ → List Entry) (read : Result (List ℕ) DropCause)
-  → ((frame : List ℕ) → LeftWithin number (sent frame)) → LeftWithin number (received edge origin sent read)
+    → ((frame : List ℕ) → LeftWithin number (sent frame)) → LeftWithin number (received edge origin sent read)
 received_within edge origin number sent (Ok frame) holds = holds frame
 received_within edge origin number sent (Err cause) holds = tt
 
@@ -155,8 +155,8 @@ entering_within : (plan : Plan) (network : NetworkState) (at : CircuitId) (octet
 entering_within plan network at octets row false number = tt
 entering_within plan network at octets row true number =
     received_within row.edge (network.entered + 1) number _ (inner_at plan at octets)
-        (λ frame. bridged_within plan (at_edge network row.edge) (ports_of plan row.service row.edge) (network.entered + 1) number frame
-            (position (is_circuit_port at) (ports_of plan row.service row.edge)))
+    (λ frame. bridged_within plan (at_edge network row.edge) (ports_of plan row.service row.edge) (network.entered + 1) number frame
+    (position (is_circuit_port at) (ports_of plan row.service row.edge)))
 
 frame_within : (plan : Plan) (network : NetworkState) (at : CircuitId) (octets : List ℕ) (row : Option CircuitPlan) (number : ℕ) → LeftWithin number (frame_row plan network at octets row).entries
 frame_within plan network at octets None number = tt
@@ -179,27 +179,27 @@ chosen test copy (port.Mesh wire ∷ ports) = chosen test copy ports
 chosen test copy (port.Spoke wire ∷ ports) = chosen test copy ports
 
 copies-chosen : (rows : List CircuitPlan) (service : ServiceId) (edge : EdgeId) (targets test : ℕ → Bool) (copy : Port → List Entry) (offset : ℕ) (ports : List Port)
-  → AreServed rows service edge ports → ((p c : ℕ) → LeadsTo ports p c → targets (offset + p) ≡ test c)
-  → copies targets copy offset ports ≡ chosen test copy ports
+    → AreServed rows service edge ports → ((p c : ℕ) → LeadsTo ports p c → targets (offset + p) ≡ test c)
+    → copies targets copy offset ports ≡ chosen test copy ports
 unfolding chosen
 copies-chosen rows service edge targets test copy offset [] served same = refl
 copies-chosen rows service edge targets test copy offset (port.Circuit at ∷ ports) served same =
     let here : targets offset ≡ test at.0 = ap targets (sym (add-zero offset)) ∙ same 0 at.0 (record { is = refl }) in
     let later = copies-chosen rows service edge targets test copy (offset + 1) ports served.1
-        (λ p c leads. ap targets (omega arith) ∙ same (suc p) c (record { is = leads.is })) in
+    (λ p c leads. ap targets (omega arith) ∙ same (suc p) c (record { is = leads.is })) in
     ap (λ (b : Bool). cond b (copy (port.Circuit at)) [] ++ copies targets copy (offset + 1) ports) here ∙ ap (λ (l : List Entry). cond (test at.0) (copy (port.Circuit at)) [] ++ l) later
 copies-chosen rows service edge targets test copy offset (port.Mesh wire ∷ ports) served same = absurd served
 copies-chosen rows service edge targets test copy offset (port.Spoke wire ∷ ports) served same = absurd served
 
 -- how often a frame leaves at a circuit by the ports of its service
 count_if : (plan : Plan) (origin : ℕ) (frame : List ℕ) (circuit : CircuitId) (test : ℕ → Bool) (k : ℕ) (serve : Bool) (rest : List Port)
-  → times_left origin circuit (chosen test (copy_by plan origin 0 frame) (cond serve (port.Circuit (record { 0 = k }) ∷ rest) rest))
-  ≡ cond (serve && (test k && nat_eq k circuit.0)) 1 0 + times_left origin circuit (chosen test (copy_by plan origin 0 frame) rest)
+    → times_left origin circuit (chosen test (copy_by plan origin 0 frame) (cond serve (port.Circuit (record { 0 = k }) ∷ rest) rest))
+    ≡ cond (serve && (test k && nat_eq k circuit.0)) 1 0 + times_left origin circuit (chosen test (copy_by plan origin 0 frame) rest)
 unfolding chosen
 count_if plan origin frame circuit test k false rest = omega arith
 count_if plan origin frame circuit test k true rest = chooses (test k) where
   chooses : (b : Bool) → times_left origin circuit (cond b (copy_by plan origin 0 frame (port.Circuit (record { 0 = k }))) [] ++ chosen test (copy_by plan origin 0 frame) rest)
-    ≡ cond (b && nat_eq k circuit.0) 1 0 + times_left origin circuit (chosen test (copy_by plan origin 0 frame) rest)
+      ≡ cond (b && nat_eq k circuit.0) 1 0 + times_left origin circuit (chosen test (copy_by plan origin 0 frame) rest)
   chooses true = rw (eq-eqb origin origin refl) refl
   chooses false = omega arith
 
@@ -209,7 +209,7 @@ serves_row service edge (Some row) = serves service edge row
 
 -- no port of circuits from place k on leads to an earlier one
 count_earlier : (plan : Plan) (origin : ℕ) (frame : List ℕ) (circuit : CircuitId) (test : ℕ → Bool) (k : ℕ) (rows : List CircuitPlan) (service : ServiceId) (edge : EdgeId)
-  → circuit.0 < k → times_left origin circuit (chosen test (copy_by plan origin 0 frame) (circuit_ports k rows service edge)) ≡ 0
+    → circuit.0 < k → times_left origin circuit (chosen test (copy_by plan origin 0 frame) (circuit_ports k rows service edge)) ≡ 0
 unfolding chosen
 count_earlier plan origin frame circuit test k [] service edge earlier = refl
 count_earlier plan origin frame circuit test k (row ∷ rows) service edge earlier =
@@ -218,14 +218,14 @@ count_earlier plan origin frame circuit test k (row ∷ rows) service edge earli
     let here = count_if plan origin frame circuit test k (serves service edge row) (circuit_ports (k + 1) rows service edge) in
     let none : cond {A = ℕ} (serves service edge row && (test k && nat_eq k circuit.0)) 1 0 ≡ 0 = rw apart (falls (serves service edge row) (test k)) in
     omega arith where
-  falls : (a b : Bool) → cond {A = ℕ} (a && (b && false)) 1 0 ≡ 0
-  falls true true = refl
-  falls true false = refl
-  falls false b = refl
+      falls : (a b : Bool) → cond {A = ℕ} (a && (b && false)) 1 0 ≡ 0
+      falls true true = refl
+      falls true false = refl
+      falls false b = refl
 
 count_at : (plan : Plan) (origin : ℕ) (frame : List ℕ) (circuit : CircuitId) (test : ℕ → Bool) (k j : ℕ) (rows : List CircuitPlan) (service : ServiceId) (edge : EdgeId)
-  → circuit.0 ≡ k + j
-  → times_left origin circuit (chosen test (copy_by plan origin 0 frame) (circuit_ports k rows service edge)) ≡ cond (serves_row service edge (slice_get rows j) && test circuit.0) 1 0
+    → circuit.0 ≡ k + j
+    → times_left origin circuit (chosen test (copy_by plan origin 0 frame) (circuit_ports k rows service edge)) ≡ cond (serves_row service edge (slice_get rows j) && test circuit.0) 1 0
 unfolding chosen
 count_at plan origin frame circuit test k j [] service edge place = refl
 count_at plan origin frame circuit test k zero (row ∷ rows) service edge place =
@@ -233,59 +233,59 @@ count_at plan origin frame circuit test k zero (row ∷ rows) service edge place
     let rest = count_earlier plan origin frame circuit test (k + 1) rows service edge (omega arith) in
     let here = count_if plan origin frame circuit test k (serves service edge row) (circuit_ports (k + 1) rows service edge) in
     let met : cond {A = ℕ} (serves service edge row && (test k && nat_eq k circuit.0)) 1 0 ≡ cond (serves service edge row && test circuit.0) 1 0 =
-        rw (eq-eqb k circuit.0 same) (keeps (serves service edge row) (test k) ∙ ap (λ (n : ℕ). cond {A = ℕ} (serves service edge row && test n) 1 0) same) in
+    rw (eq-eqb k circuit.0 same) (keeps (serves service edge row) (test k) ∙ ap (λ (n : ℕ). cond {A = ℕ} (serves service edge row && test n) 1 0) same) in
     omega arith where
-  keeps : (a b : Bool) → cond {A = ℕ} (a && (b && true)) 1 0 ≡ cond (a && b) 1 0
-  keeps true true = refl
-  keeps true false = refl
-  keeps false b = refl
+      keeps : (a b : Bool) → cond {A = ℕ} (a && (b && true)) 1 0 ≡ cond (a && b) 1 0
+      keeps true true = refl
+      keeps true false = refl
+      keeps false b = refl
 count_at plan origin frame circuit test k (suc j) (row ∷ rows) service edge place =
     let apart : nat_eq k circuit.0 ≡ false = ne_eqb k circuit.0 (λ same. absurd (omega arith)) in
     let rest = count_at plan origin frame circuit test (k + 1) j rows service edge (omega arith) in
     let here = count_if plan origin frame circuit test k (serves service edge row) (circuit_ports (k + 1) rows service edge) in
     let none : cond {A = ℕ} (serves service edge row && (test k && nat_eq k circuit.0)) 1 0 ≡ 0 = rw apart (falls (serves service edge row) (test k)) in
     omega arith where
-  falls : (a b : Bool) → cond {A = ℕ} (a && (b && false)) 1 0 ≡ 0
-  falls true true = refl
-  falls true false = refl
-  falls false b = refl
+      falls : (a b : Bool) → cond {A = ℕ} (a && (b && false)) 1 0 ≡ 0
+      falls true true = refl
+      falls true false = refl
+      falls false b = refl
 
 -- a frame that came by a circuit goes to the other circuits that are on
 abbrev goes_to : EdgeState → ℕ → ℕ → Bool
 goes_to edge sender circuit = edge.circuit_on circuit && not (nat_eq circuit sender)
 
 target_is : (plan : Plan) (service : ServiceId) (at : EdgeId) (edge : EdgeState) (arrival sender p c : ℕ)
-  → LeadsTo (ports_of plan service at) arrival sender → LeadsTo (ports_of plan service at) p c
-  → is_target (ports_of plan service at) (port_forwards edge (ports_of plan service at)) arrival p ≡ goes_to edge sender c
+    → LeadsTo (ports_of plan service at) arrival sender → LeadsTo (ports_of plan service at) p c
+    → is_target (ports_of plan service at) (port_forwards edge (ports_of plan service at)) arrival p ≡ goes_to edge sender c
 target_is plan service at edge arrival sender p c from to =
     let same : nat_eq p arrival ≡ nat_eq c sender = same_port 0 plan.circuits service at p arrival c sender to from in
     let met : (x y : Option Port) (equal : Bool) → Bool = λ x y equal. (forwards edge y && not equal) && not (is_mesh x && is_mesh y) in
     ap (λ (x : Option Port). met x (slice_get (ports_of plan service at) p) (nat_eq p arrival)) from.is
-        ∙ (ap (λ (y : Option Port). met (Some (port.Circuit (record { 0 = sender }))) y (nat_eq p arrival)) to.is
-        ∙ (ap (λ (equal : Bool). met (Some (port.Circuit (record { 0 = sender }))) (Some (port.Circuit (record { 0 = c }))) equal) same
-        ∙ and-true (goes_to edge sender c)))
+    ∙ (ap (λ (y : Option Port). met (Some (port.Circuit (record { 0 = sender }))) y (nat_eq p arrival)) to.is
+    ∙ (ap (λ (equal : Bool). met (Some (port.Circuit (record { 0 = sender }))) (Some (port.Circuit (record { 0 = c }))) equal) same
+    ∙ and-true (goes_to edge sender c)))
 
 -- the sites of a calm service are the circuits that are on at the edge of any of its circuits
 site_is : (plan : Plan) (network : NetworkState) (service : ServiceId) (sender circuit : CircuitId) (row : CircuitPlan) (found : Option CircuitPlan)
-  → HasPlacedCircuits plan → is_calm plan network service ≡ true
-  → circuit_row plan sender ≡ Some row → nat_eq row.service.0 service.0 ≡ true → circuit_row plan circuit ≡ found
-  → serves_row service row.edge found && goes_to (at_edge network row.edge) sender.0 circuit.0
-  ≡ (is_row_of service found && is_row_on network circuit found) && not (nat_eq circuit.0 sender.0)
+    → HasPlacedCircuits plan → is_calm plan network service ≡ true
+    → circuit_row plan sender ≡ Some row → nat_eq row.service.0 service.0 ≡ true → circuit_row plan circuit ≡ found
+    → serves_row service row.edge found && goes_to (at_edge network row.edge) sender.0 circuit.0
+    ≡ (is_row_of service found && is_row_on network circuit found) && not (nat_eq circuit.0 sender.0)
 site_is plan network service sender circuit row None placed calm is of_service found = refl
 site_is plan network service sender circuit row (Some other) placed calm is of_service found = elim (cases_Bool (nat_eq other.service.0 service.0)) [
   | inr away ↦ rw away refl
   | inl here ↦
       let edges : row.edge.0 ≡ other.edge.0 =
-          at_one_edge plan network service sender.0 circuit.0 row other calm is of_service (placed.edges sender row is) found here (placed.edges circuit other found) in
+      at_one_edge plan network service sender.0 circuit.0 row other calm is of_service (placed.edges sender row is) found here (placed.edges circuit other found) in
       let same : nat_eq other.edge.0 row.edge.0 ≡ true = eq-eqb other.edge.0 row.edge.0 (sym edges) in
       rw (here, same) (ap (λ (n : ℕ). (network.edges n).circuit_on circuit.0 && not (nat_eq circuit.0 sender.0)) edges)
 ]
 
 -- the frame that enters in a window leaves once at each other site
 forwarded_once : (plan : Plan) (network : NetworkState) (at circuit : CircuitId) (octets frame : List ℕ) (row : CircuitPlan)
-  → HasPlacedCircuits plan → is_calm plan network row.service ≡ true → circuit_row plan at ≡ Some row → inner_at plan at octets ≡ Ok frame
-  → times_left (network.entered + 1) circuit (forwarded plan network at row (network.entered + 1) octets)
-  ≡ cond (is_site plan network row.service circuit && not (nat_eq circuit.0 at.0)) 1 0
+    → HasPlacedCircuits plan → is_calm plan network row.service ≡ true → circuit_row plan at ≡ Some row → inner_at plan at octets ≡ Ok frame
+    → times_left (network.entered + 1) circuit (forwarded plan network at row (network.entered + 1) octets)
+    ≡ cond (is_site plan network row.service circuit && not (nat_eq circuit.0 at.0)) 1 0
 forwarded_once plan network at circuit octets frame row placed calm is formed =
     let origin : ℕ = network.entered + 1 in
     let ports : List Port = ports_of plan row.service row.edge in
@@ -296,28 +296,28 @@ forwarded_once plan network at circuit octets frame row placed calm is formed =
     let (arrival, found) = finds_port at ports has in
     let from : LeadsTo ports arrival at.0 = found_port at ports arrival found in
     let same : copies (is_target ports (port_forwards edge ports) arrival) copy 0 ports ≡ chosen (goes_to edge at.0) copy ports =
-        copies-chosen plan.circuits row.service row.edge (is_target ports (port_forwards edge ports) arrival) (goes_to edge at.0) copy 0 ports (ports_served plan row.service row.edge)
-            (λ p c to. ap (is_target ports (port_forwards edge ports) arrival) (zero-add p) ∙ target_is plan row.service row.edge edge arrival at.0 p c from to) in
+    copies-chosen plan.circuits row.service row.edge (is_target ports (port_forwards edge ports) arrival) (goes_to edge at.0) copy 0 ports (ports_served plan row.service row.edge)
+    (λ p c to. ap (is_target ports (port_forwards edge ports) arrival) (zero-add p) ∙ target_is plan row.service row.edge edge arrival at.0 p c from to) in
     let counted = count_at plan origin frame circuit (goes_to edge at.0) 0 circuit.0 plan.circuits row.service row.edge (sym (zero-add circuit.0)) in
     let sites = site_is plan network row.service at circuit row (slice_get plan.circuits circuit.0) placed calm is (eq-eqb row.service.0 row.service.0 refl) refl in
     ap (λ (r : Result (List ℕ) DropCause). times_left origin circuit (received row.edge origin (λ x. bridged edge ports (copy_by plan origin 0 x) (position (is_circuit_port at) ports)) r)) formed
-        ∙ (ap (λ (o : Option ℕ). times_left origin circuit (bridged edge ports copy o)) found
-        ∙ (ap (times_left origin circuit) same
-        ∙ (counted
-        ∙ ap (λ (b : Bool). cond {A = ℕ} b 1 0) sites)))
+    ∙ (ap (λ (o : Option ℕ). times_left origin circuit (bridged edge ports copy o)) found
+    ∙ (ap (times_left origin circuit) same
+    ∙ (counted
+    ∙ ap (λ (b : Bool). cond {A = ℕ} b 1 0) sites)))
 
 frame_once : (plan : Plan) (network : NetworkState) (at circuit : CircuitId) (octets frame : List ℕ) (service : ServiceId) (row : Option CircuitPlan)
-  → HasPlacedCircuits plan → is_calm plan network service ≡ true → circuit_row plan at ≡ row → option_map (λ (r : CircuitPlan). r.service) row ≡ Some service
-  → is_row_on network at row ≡ true → inner_at plan at octets ≡ Ok frame
-  → times_left (network.entered + 1) circuit (frame_row plan network at octets row).entries
-  ≡ cond (is_site plan network service circuit && not (nat_eq circuit.0 at.0)) 1 0
+    → HasPlacedCircuits plan → is_calm plan network service ≡ true → circuit_row plan at ≡ row → option_map (λ (r : CircuitPlan). r.service) row ≡ Some service
+    → is_row_on network at row ≡ true → inner_at plan at octets ≡ Ok frame
+    → times_left (network.entered + 1) circuit (frame_row plan network at octets row).entries
+    ≡ cond (is_site plan network service circuit && not (nat_eq circuit.0 at.0)) 1 0
 frame_once plan network at circuit octets frame service None placed calm is of_service on formed = absurd (cc)
 frame_once plan network at circuit octets frame service (Some row) placed calm is of_service on formed =
     let same : service ≡ row.service = cc (of_service) in
     let calm_here : is_calm plan network row.service ≡ true = subst (λ (s : ServiceId). is_calm plan network s ≡ true) same calm in
     ap (λ (b : Bool). times_left (network.entered + 1) circuit (entering plan network at octets row b).entries) on
-        ∙ (forwarded_once plan network at circuit octets frame row placed calm_here is formed
-        ∙ ap (λ (s : ServiceId). cond {A = ℕ} (is_site plan network s circuit && not (nat_eq circuit.0 at.0)) 1 0) (sym same))
+    ∙ (forwarded_once plan network at circuit octets frame row placed calm_here is formed
+    ∙ ap (λ (s : ServiceId). cond {A = ℕ} (is_site plan network s circuit && not (nat_eq circuit.0 at.0)) 1 0) (sym same))
 
 -- a frame that enters raises the count
 frame_enters : (plan : Plan) (network : NetworkState) (at : CircuitId) (octets : List ℕ) (row : Option CircuitPlan) → is_row_on network at row ≡ true → (frame_row plan network at octets row).state.entered ≡ network.entered + 1
@@ -330,7 +330,7 @@ run_serves_once plan events placed before at octets during after service split w
     let origin : ℕ = next_origin network in
     let rest : List Event = during ++ after in
     let told : entries_along plan empty_network events ≡ entries_along plan empty_network before ++ ((step plan network (Frame at octets)).entries ++ entries_along plan (step plan network (Frame at octets)).state rest) =
-        ap (λ (l : List Event). entries_along plan empty_network l) split ∙ along-append plan empty_network before (Frame at octets ∷ rest) in
+    ap (λ (l : List Event). entries_along plan empty_network l) split ∙ along-append plan empty_network before (Frame at octets ∷ rest) in
     let entered : (step plan network (Frame at octets)).state.entered ≡ origin = frame_enters plan network at octets (circuit_row plan at) window.on in
     record {
       once = λ circuit.
@@ -338,9 +338,12 @@ run_serves_once plan events placed before at octets during after service split w
           let later = none_after plan (step plan network (Frame at octets)).state rest circuit origin (omega arith) in
           let here = frame_once plan network at circuit octets window.frame service (circuit_row plan at) placed window.calm refl window.sender window.on window.formed in
           let sum : times_left origin circuit (entries_along plan empty_network events) ≡ times_left origin circuit (step plan network (Frame at octets)).entries =
-              ap (times_left origin circuit) told
-                  ∙ omega (arith, times_left-append origin circuit (entries_along plan empty_network before) ((step plan network (Frame at octets)).entries ++ entries_along plan (step plan network (Frame at octets)).state rest),
-                      times_left-append origin circuit (step plan network (Frame at octets)).entries (entries_along plan (step plan network (Frame at octets)).state rest)) in
+          ap (times_left origin circuit) told
+          ∙ omega (
+            arith,
+            times_left-append origin circuit (entries_along plan empty_network before) ((step plan network (Frame at octets)).entries ++ entries_along plan (step plan network (Frame at octets)).state rest),
+            times_left-append origin circuit (step plan network (Frame at octets)).entries (entries_along plan (step plan network (Frame at octets)).state rest),
+          ) in
           sum ∙ here;
-      within = along_within plan empty_network events origin
+      within = along_within plan empty_network events origin;
     }

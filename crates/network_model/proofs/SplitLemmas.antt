@@ -1,5 +1,5 @@
 -- Split horizon holds of every run.
-use Rattle.std.proofs.Common.{◌≡◌, ◌++◌, ◌+◌, ℕ, Bool, true, false, List, [], ◌∷◌, Option, Some, None, Result, Ok, Err, cond, position}
+use Rattle.std.proofs.Common.{◌+◌, ℕ, Bool, true, false, List, [], ◌∷◌, Option, Some, None, Result, Ok, Err, cond, position}
 use Rattle.net_base.specs.declared.plan.Plan.{Plan}
 use Rattle.net_base.specs.declared.circuit_plan.CircuitPlan.{CircuitPlan}
 use Rattle.net_base.specs.declared.drop_cause.DropCause.{DropCause}
@@ -17,9 +17,9 @@ use Rattle.hvpls_spokes.specs.declared.port.Port.TheVariants as port
 use Rattle.hvpls_spokes.specs.Port.{ports_of, is_circuit_port}
 use Rattle.vsi_bridge.specs.Targets.{is_target}
 use Rattle.network_model.specs.State.{NetworkState, EdgeState, at_edge, is_on, empty_network}
-use Rattle.network_model.specs.Enter.{copy_by, copies, bridged, received, forwarded, entering, frame_row, port_forwards}
-use Rattle.network_model.specs.Step.{step, event_row}
-use Rattle.network_model.specs.Run.{entries_along, run}
+use Rattle.network_model.specs.Enter.{copy_by, copies, bridged, received, entering, frame_row, port_forwards}
+use Rattle.network_model.specs.Step.{step}
+use Rattle.network_model.specs.Run.{entries_along}
 use Rattle.network_model.specs.Laws.{RunsAreSplit}
 
 chosen_split : (plan : Plan) (origin hops : ℕ) (frame : List ℕ) (x : Port) (chosen : Bool) → Split plan (cond chosen (copy_by plan origin hops frame x) [])
@@ -32,7 +32,7 @@ copies_split : (plan : Plan) (targets : ℕ → Bool) (origin hops : ℕ) (frame
 copies_split plan targets origin hops frame p [] = tt
 copies_split plan targets origin hops frame p (x ∷ ports) =
     split-append plan (cond (targets p) (copy_by plan origin hops frame x) []) (copies targets (copy_by plan origin hops frame) (p + 1) ports)
-        (chosen_split plan origin hops frame x (targets p)) (copies_split plan targets origin hops frame (p + 1) ports)
+    (chosen_split plan origin hops frame x (targets p)) (copies_split plan targets origin hops frame (p + 1) ports)
 
 bridged_split : (plan : Plan) (edge : EdgeState) (ports : List Port) (origin hops : ℕ) (frame : List ℕ) (arrival : Option ℕ) → Split plan (bridged edge ports (copy_by plan origin hops frame) arrival)
 bridged_split plan edge ports origin hops frame None = tt
@@ -44,10 +44,12 @@ received_split plan edge origin sent (Err cause) splits = (tt, tt)
 
 entering_split : (plan : Plan) (network : NetworkState) (circuit : CircuitId) (octets : List ℕ) (row : CircuitPlan) (on : Bool) → Split plan (entering plan network circuit octets row on).entries
 entering_split plan network circuit octets row false = (tt, tt)
-entering_split plan network circuit octets row true =
-    (tt, received_split plan row.edge (network.entered + 1) _ (inner_at plan circuit octets)
-        (λ frame. bridged_split plan (at_edge network row.edge) (ports_of plan row.service row.edge) (network.entered + 1) 0 frame
-            (position (is_circuit_port circuit) (ports_of plan row.service row.edge))))
+entering_split plan network circuit octets row true = (
+  tt,
+  received_split plan row.edge (network.entered + 1) _ (inner_at plan circuit octets)
+      (λ frame. bridged_split plan (at_edge network row.edge) (ports_of plan row.service row.edge) (network.entered + 1) 0 frame
+      (position (is_circuit_port circuit) (ports_of plan row.service row.edge))),
+)
 
 frame_split : (plan : Plan) (network : NetworkState) (circuit : CircuitId) (octets : List ℕ) (row : Option CircuitPlan) → Split plan (frame_row plan network circuit octets row).entries
 frame_split plan network circuit octets None = (tt, tt)

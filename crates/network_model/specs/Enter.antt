@@ -1,6 +1,6 @@
 -- A customer's frame enters at a circuit: the bridge of its service sends copies of the inner frame (RFC 4762 sections
 -- 4.1, 4.4 and 7.1).
-use Rattle.std.specs.Prelude.{◌≡◌, ◌+◌, ◌++◌, ℕ, Bool, false, List, [], ◌∷◌, Option, Some, None, Result, Ok, Err, slice_get, position, option_and_then, if◌then◌else◌}
+use Rattle.std.specs.Prelude.{◌+◌, ◌++◌, ℕ, Bool, false, List, [], ◌∷◌, Option, Some, None, Result, Ok, Err, slice_get, position, option_and_then, if◌then◌else◌}
 use Rattle.net_base.specs.declared.plan.Plan.{Plan}
 use Rattle.net_base.specs.declared.circuit_plan.CircuitPlan.{CircuitPlan}
 use Rattle.net_base.specs.declared.drop_cause.DropCause.{DropCause}

@@ -1,5 +1,5 @@
 -- What holds of every run.
-use Rattle.std.specs.Prelude.{◌≡◌, ◌<◌, ℕ, List, Option, Some, length}
+use Rattle.std.specs.Prelude.{◌≡◌, ◌<◌, ℕ, List, Some, length}
 use Rattle.net_base.specs.declared.plan.Plan.{Plan}
 use Rattle.net_base.specs.declared.circuit_plan.CircuitPlan.{CircuitPlan}
 use Rattle.net_base.specs.declared.event.Event.{Event}

@@ -6,12 +6,11 @@ use Rattle.net_base.specs.declared.wire_plan.WirePlan.{WirePlan}
 use Rattle.net_base.specs.declared.places.CircuitId.{CircuitId}
 use Rattle.net_base.specs.declared.places.EdgeId.{EdgeId}
 use Rattle.net_base.specs.declared.places.ServiceId.{ServiceId}
-use Rattle.net_base.specs.declared.places.WireId.{WireId}
 use Rattle.net_base.specs.Places.{circuit_row, wire_row}
 use Rattle.hvpls_spokes.specs.declared.port.Port.{Port}
 use Rattle.hvpls_spokes.specs.declared.port.Port.TheVariants as port
 use Rattle.network_model.specs.State.{NetworkState, at_edge, is_on}
-use Rattle.network_model.specs.Roles.{is_first, is_spoke_edge}
+use Rattle.network_model.specs.Roles.{is_spoke_edge}
 use Rattle.network_model.specs.Calm.{is_live_spoke}
 
 abbrev pub is_row_of : ServiceId → Option CircuitPlan → Bool

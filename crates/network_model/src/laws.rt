@@ -6,19 +6,16 @@ ghost use Rattle.network_model.specs.Laws.{RunsAreIsolated, RunsAreSplit, RunsSe
 #[tactic(auto, using(crate::proofs::IsolatedLemmas::run_isolated))]
 pub fn runs_are_isolated()
     ensures { RunsAreIsolated }
-{
-}
+{}
 
 /// Split horizon: whatever is sent on a mesh wire came by no other mesh wire (RFC 4762 section 4.4).
 #[tactic(auto, using(crate::proofs::SplitLemmas::run_split))]
 pub fn runs_are_split()
     ensures { RunsAreSplit }
-{
-}
+{}
 
 /// A flooded frame that enters a calm service, and of which no copy is lost or repeated, leaves at each other
 /// site of the service exactly once, within twelve segments.
 pub fn runs_serve_once()
     ensures { RunsServeOnce }
-{
-}
+{}

@@ -1,5 +1,5 @@
 -- What a replay answers of a file that is told, where no fault is counted.
-use Rattle.std.proofs.Common.{◌≡◌, ◌≢◌, ◌<◌, ◌≤◌, ◌⊎◌, ◌∙◌, ℕ, List, Option, Some, None, Result, Ok, Err, IfSome, length, inl, inr, refl, ap, sym, subst, arith}
+use Rattle.std.proofs.Common.{◌≡◌, ◌<◌, ◌≤◌, ◌⊎◌, ◌∙◌, ℕ, List, Option, Some, None, Ok, Err, IfSome, length, inl, inr, refl, ap, sym, arith}
 use Rattle.net_base.specs.declared.entry.Entry.{Entry}
 use Rattle.net_base.specs.Outside.{Rose}
 use Rattle.scenario_text.specs.declared.scenario.Scenario.{Scenario}

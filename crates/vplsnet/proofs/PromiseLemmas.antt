@@ -1,6 +1,5 @@
 -- The run of a scenario that is accepted keeps every promise.
-use Rattle.std.proofs.Common.{◌≡◌, ◌<◌, ◌≤◌, ℕ, List, Option, Some, None, length}
-use Rattle.net_base.specs.declared.plan.Plan.{Plan}
+use Rattle.std.proofs.Common.{◌≡◌, None, length}
 use Rattle.network_model.specs.Laws.{HasPlacedCircuits}
 use Rattle.network_model.proofs.IsolatedLemmas.{run_isolated}
 use Rattle.network_model.proofs.SplitLemmas.{run_split}

@@ -1,5 +1,5 @@
 -- What a replay tells of a frame is the row of the frame in the network's step.
-use Rattle.std.proofs.Common.{◌≡◌, ◌<◌, ◌≤◌, ◌+◌, ◌++◌, ◌∙◌, ℕ, zero, suc, Bool, true, false, List, [], ◌∷◌, Option, Some, None, Result, Ok, Err, cond, length, drop, slice_get, get_or, nat_lt, position, option_map, option_and_then, refl, ap, sym, subst, arith, append_assoc, length-append, add-zero, zero-add}
+use Rattle.std.proofs.Common.{◌≡◌, ◌<◌, ◌≤◌, ◌+◌, ◌++◌, ◌∙◌, ℕ, zero, suc, Bool, false, List, [], ◌∷◌, Option, Some, None, Result, Ok, cond, length, drop, slice_get, get_or, nat_lt, position, option_map, option_and_then, refl, ap, sym, subst, arith, append_assoc, add-zero, zero-add}
 use Rattle.std.proofs.lemmas.Bool.Decides.{nat_tests}
 use Rattle.std.proofs.lemmas.Option.{slice_get_within, get_or_from_slice_get, slice_get_read}
 use Rattle.std.specs.List.{All}
@@ -16,14 +16,14 @@ use Rattle.net_base.specs.declared.places.EdgeId.{EdgeId}
 use Rattle.net_base.specs.declared.places.ServiceId.{ServiceId}
 use Rattle.net_base.specs.Frame.{inner, dress}
 use Rattle.net_base.specs.Isolated.{inner_at, inner_by, mtu_by}
-use Rattle.net_base.specs.Places.{circuit_row, service_row, service_of, mtu_of}
+use Rattle.net_base.specs.Places.{circuit_row, service_of, mtu_of}
 use Rattle.hvpls_spokes.specs.declared.port.Port.{Port}
 use Rattle.hvpls_spokes.specs.declared.port.Port.TheVariants as port
 use Rattle.hvpls_spokes.specs.Port.{ports_of, is_circuit_port}
 use Rattle.hvpls_spokes.specs.PortSet.{has}
 use Rattle.vsi_bridge.specs.Targets.{is_target}
 use Rattle.network_model.specs.State.{NetworkState, EdgeState, empty_edge}
-use Rattle.network_model.specs.Enter.{tag_of, copy_by, copies, bridged, received, forwarded, frame_row, port_forwards}
+use Rattle.network_model.specs.Enter.{tag_of, copy_by, copies, bridged, received, frame_row, port_forwards}
 use Rattle.network_model.specs.Step.{step}
 use Rattle.network_model.specs.Run.{entries_along, run}
 use Rattle.scenario_text.specs.declared.command.Command.{Command}

@@ -1,5 +1,5 @@
 -- The bridged domains of the one edge that a replay drives.
-use Rattle.std.specs.Prelude.{◌≡◌, ◌+◌, ℕ, Bool, List, [], ◌∷◌, Option, Some, None}
+use Rattle.std.specs.Prelude.{◌≡◌, ◌+◌, ℕ, List, [], ◌∷◌, Option, Some, None}
 use Rattle.net_base.specs.declared.entry.Entry.{Entry}
 use Rattle.net_base.specs.declared.entry.Entry.TheVariants.{Left}
 use Rattle.net_base.specs.declared.places.EdgeId.{EdgeId}

@@ -1,4 +1,4 @@
-use Rattle.std.proofs.Common.{◌≡◌, ◌<◌, ◌++◌, ◌+◌, ◌∙◌, ℕ, Bool, true, false, List, [], Option, cond, drop, length, slice_get, ap, sym, refl, arith, append_assoc}
+use Rattle.std.proofs.Common.{◌≡◌, ◌<◌, ◌++◌, ◌+◌, ◌∙◌, ℕ, Bool, List, [], Option, cond, drop, length, slice_get, ap, sym, arith, append_assoc}
 use Rattle.net_base.specs.declared.entry.Entry.{Entry}
 use Rattle.hvpls_spokes.specs.declared.port.Port.{Port}
 use Rattle.hvpls_spokes.specs.PortSet.{has}

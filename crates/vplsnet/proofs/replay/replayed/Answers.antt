@@ -1,4 +1,3 @@
-use Rattle.std.proofs.Common.{◌<◌, length, ap, arith}
 use Rattle.vplsnet.proofs.ReplayLemmas.{told_next}
 use Rattle.vplsnet.proofs.replay.replayed.Goals as goal
 
