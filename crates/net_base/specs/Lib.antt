@@ -1,3 +1,6 @@
+pub mod Accepted
+pub mod Earlier
+pub mod Faults
 pub mod Frame
 pub mod Isolated
 pub mod Label
@@ -5,7 +8,13 @@ pub mod Mac
 pub mod MemShelf
 pub mod MemSink
 pub mod Name
+pub mod NameFaults
 pub mod Outside
 pub mod Padded
+pub mod Paths
 pub mod Places
+pub mod PlanFault
+pub mod PortFaults
+pub mod RowFaults
 pub mod Split
+pub mod WireFaults

@@ -1,6 +1,16 @@
 //! The plan of a network.
+ghost use Rattle.std.specs.Prelude.{◌≡◌, ◌≤◌, Some, None, length, IfOk, MatchResult};
+ghost use Rattle.net_base.specs.Accepted.{IsAccepted};
+ghost use Rattle.net_base.specs.Paths.{are_joined};
+ghost use Rattle.net_base.specs.PlanFault.{plan_fault};
 
-use crate::{CircuitPlan, EdgePlan, List, ServicePlan, WirePlan};
+use crate::name_faults::first_repeat_fault;
+use crate::paths::has_segment;
+use crate::port_faults::first_port_fault;
+use crate::row_faults::first_row_fault;
+use crate::wire_faults::first_wire_fault;
+use crate::{CircuitPlan, EdgeId, EdgePlan, List, NoMemory, PlanFault, ServicePlan, WirePlan};
+use std::alloc::Global;
 
 /// A network as it is planned: four lists, whose rows name one another by their places.
 #[derive(Debug, Drop)]
@@ -9,4 +19,82 @@ pub struct Plan {
     pub services: List<ServicePlan>,
     pub circuits: List<CircuitPlan>,
     pub wires: List<WirePlan>,
+}
+
+impl Plan {
+    /// The first fault of the plan, if it has one. It takes no memory.
+    ///
+    /// First come the numbers and places of single rows: `OutOfRange` and `UnknownName`, in the order edges,
+    /// services, circuits, wires. Then `RepeatedName`, over the names of all four lists together and then over
+    /// the edges' addresses; `PathTooLong` and `PathRepeats`, wire by wire; `RepeatedPwId`; `TwoMeshWires`;
+    /// `SpokeInMesh`; last `OutOfRange` of a service that has more than 512 ports at an edge. The place is that
+    /// of the later row of two (RFC 4762 sections 4.4 and 10.1, RFC 8077 section 6.1).
+    ///
+    /// In an accepted plan the places lie within the lists, the names differ, and no two wires clash.
+    #[tactic(auto, using(crate::proofs::AcceptedLemmas::accepted))]
+    pub fn check(&self) -> Result<(), PlanFault>
+        requires edges { length self.now.edges ≤ 64 }
+        requires services { length self.now.services ≤ 64 }
+        requires circuits { length self.now.circuits ≤ 512 }
+        requires wires { length self.now.wires ≤ 1024 }
+        ensures first { MatchResult result (λ _. plan_fault self.now ≡ None) (λ fault. plan_fault self.now ≡ Some fault) }
+        ensures accepted { IfOk result (λ _. IsAccepted self.now) }
+    {
+        match first_fault(self) {
+            None => Ok(()),
+            Some(fault) => Err(fault),
+        }
+    }
+
+    /// Whether a segment of some wire joins the two edges, in either direction (RFC 6073). Joined edges are
+    /// peers: they keep an LDP session.
+    pub fn joined(&self, a: EdgeId, b: EdgeId) -> bool
+        ensures { result ≡ are_joined self.now a.0 b.0 }
+    {
+        self.wires
+            .as_slice()
+            .iter()
+            .any(|wire| has_segment(wire.path.as_slice(), a, b))
+    }
+
+    /// An equal plan.
+    pub fn copy(&self, alloc: Global) -> Result<Plan, NoMemory>
+        ensures { IfOk result (λ plan. plan ≡ self.now) }
+    {
+        Ok(Plan {
+            edges: self.edges.copy(alloc)?,
+            services: self.services.copy(alloc)?,
+            circuits: self.circuits.copy(alloc)?,
+            wires: copy_wires(alloc, self.wires.as_slice())?,
+        })
+    }
+}
+
+fn first_fault(plan: &Plan) -> Option<PlanFault>
+    requires edges { length plan.now.edges ≤ 64 }
+    requires services { length plan.now.services ≤ 64 }
+    requires circuits { length plan.now.circuits ≤ 512 }
+    requires wires { length plan.now.wires ≤ 1024 }
+    ensures { result ≡ plan_fault plan.now }
+{
+    if let Some(fault) = first_row_fault(plan) {
+        return Some(fault);
+    }
+    if let Some(fault) = first_repeat_fault(plan) {
+        return Some(fault);
+    }
+    if let Some(fault) = first_wire_fault(plan) {
+        return Some(fault);
+    }
+    first_port_fault(plan)
+}
+
+fn copy_wires(alloc: Global, wires: &[WirePlan]) -> Result<List<WirePlan>, NoMemory>
+    ensures { IfOk result (λ list. list ≡ wires.now) }
+{
+    let mut list = List::new(alloc);
+    for wire in wires {
+        list.push(wire.copy(alloc)?)?;
+    }
+    Ok(list)
 }

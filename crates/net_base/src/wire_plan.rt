@@ -1,6 +1,8 @@
 //! A pseudowire in the plan.
+ghost use Rattle.std.specs.Prelude.{◌≡◌, IfOk};
 
-use crate::{EdgeId, List, Name, Offer, ServiceId};
+use crate::{EdgeId, List, Name, NoMemory, Offer, ServiceId};
+use std::alloc::Global;
 
 /// How a wire serves its service (RFC 4762 sections 4.4 and 10.1).
 #[derive(Clone, Copy, Debug, PartialEq, Eq)]
@@ -28,4 +30,22 @@ pub struct WirePlan {
     pub far: Offer,
     /// Of a spoke edge's spokes the usable one with the least number is chosen (RFC 6870).
     pub priority: u8,
+}
+
+impl WirePlan {
+    /// An equal wire.
+    pub fn copy(&self, alloc: Global) -> Result<WirePlan, NoMemory>
+        ensures { IfOk result (λ wire. wire ≡ self.now) }
+    {
+        Ok(WirePlan {
+            name: self.name,
+            service: self.service,
+            class: self.class,
+            path: self.path.copy(alloc)?,
+            pw_id: self.pw_id,
+            near: self.near,
+            far: self.far,
+            priority: self.priority,
+        })
+    }
 }
