@@ -1,0 +1,67 @@
+//! What enters at a circuit.
+ghost use Rattle.std.specs.Prelude.{◌≡◌, ◌≤◌, ◌+◌, ◌++◌, length, take, drop, Ok, Err, None, Some, IfOk, IfErr, OnErr};
+ghost use Rattle.net_base.specs.Frame.{inner as inner_of, untagged};
+ghost use Rattle.eth_encap.specs.Fault.{cause_of};
+
+use crate::FrameFault;
+use crate::octets::{join, pair};
+use crate::tag::TAG_PROTOCOL;
+
+// The octets of a frame and header that every frame has.
+const HEADER: usize = 14;
+
+// The parts of the frame before and behind its tag, where its VLAN ID is this one.
+fn around_tag(tag: u16, frame: &[u8]) -> Result<(&[u8], &[u8]), FrameFault>
+    requires { 14 ≤ length frame.now }
+    ensures ok { IfOk result (λ parts. untagged (Some tag) frame.now ≡ Ok (parts.0.now ++ parts.1.now)) }
+    ensures fits { IfOk result (λ parts. length parts.0.now + length parts.1.now ≤ length frame.now) }
+    ensures fault { IfErr result (λ fault. untagged (Some tag) frame.now ≡ Err (cause_of fault)) }
+{
+    if pair(frame, 12) != TAG_PROTOCOL {
+        return Err(FrameFault::NoTag);
+    }
+    if frame.len() < 18 {
+        return Err(FrameFault::Short);
+    }
+    if pair(frame, 14) % 4096 != tag {
+        return Err(FrameFault::WrongTag);
+    }
+    Ok((frame.split_at(12).0, frame.split_at(16).1))
+}
+
+// The parts of the frame that its inner frame joins.
+fn inner_parts(tag: Option<u16>, frame: &[u8]) -> Result<(&[u8], &[u8]), FrameFault>
+    requires { 14 ≤ length frame.now }
+    ensures ok { IfOk result (λ parts. untagged tag frame.now ≡ Ok (parts.0.now ++ parts.1.now)) }
+    ensures fits { IfOk result (λ parts. length parts.0.now + length parts.1.now ≤ length frame.now) }
+    ensures fault { IfErr result (λ fault. untagged tag frame.now ≡ Err (cause_of fault)) }
+{
+    match tag {
+        None => Ok((frame, &[])),
+        Some(tag) => around_tag(tag, frame),
+    }
+}
+
+/// The inner frame of what enters at a circuit: the frame without the circuit's tag, where it has one (RFC
+/// 4762 section 7.1). Writes it to the front of `out`, which is as long as the frame or longer, and answers
+/// its length in octets. The `mtu` counts the octets behind a header, and leaves room for one tag of the
+/// customer's own. The first fault that holds is answered, and then nothing was written: `Short` for fewer
+/// octets than a header, or than a header and the circuit's tag, `NoTag` where that tag is missing,
+/// `WrongTag` where it has another VLAN ID, and `Long` for an inner frame of more than `mtu` and 18 octets.
+pub fn inner(tag: Option<u16>, mtu: u16, frame: &[u8], out: &mut [u8]) -> Result<usize, FrameFault>
+    requires { length frame.now ≤ length out.old }
+    ensures ok { IfOk result (λ count. inner_of tag mtu frame.now ≡ Ok (take count out.new)) }
+    ensures count { IfOk result (λ count. count ≤ length frame.now) }
+    ensures rest { IfOk result (λ count. drop count out.new ≡ drop count out.old) }
+    ensures fault { IfErr result (λ fault. inner_of tag mtu frame.now ≡ Err (cause_of fault)) }
+    ensures unchanged { OnErr result (out.new ≡ out.old) }
+{
+    if frame.len() < HEADER {
+        return Err(FrameFault::Short);
+    }
+    let (front, back) = inner_parts(tag, frame)?;
+    if front.len() + back.len() > mtu as usize + HEADER + 4 {
+        return Err(FrameFault::Long);
+    }
+    Ok(join(front, back, out))
+}

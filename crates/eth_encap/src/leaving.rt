@@ -1,0 +1,46 @@
+//! What leaves at a circuit.
+ghost use Rattle.std.specs.Prelude.{◌≡◌, ◌≤◌, ◌+◌, ◌++◌, length, drop, Some, IfSome};
+ghost use Rattle.net_base.specs.Frame.{dress as dressed, tag_octets};
+
+use crate::octets::{join, put};
+use crate::tag::TAG_PROTOCOL;
+use byteorder::{BigEndian, ByteOrder};
+
+// The octets of a tag with priority and drop eligibility 0.
+fn tag_bytes(tag: u16) -> [u8; 4]
+    ensures { result ≡ tag_octets tag }
+{
+    let mut octets = [0u8; 4];
+    BigEndian::write_u16(&mut octets, TAG_PROTOCOL);
+    BigEndian::write_u16(&mut octets[2..], tag);
+    octets
+}
+
+// Writes the inner frame with the tag behind its addresses.
+fn put_tagged(tag: u16, inner: &[u8], out: &mut [u8]) -> usize
+    requires header { 14 ≤ length inner.now }
+    requires room { length inner.now + 4 ≤ length out.old }
+    ensures len { result ≡ length inner.now + 4 }
+    ensures octets { out.new ≡ dressed (Some tag) inner.now ++ drop result out.old }
+{
+    let (addresses, rest) = inner.split_at(12);
+    let tagged = join(addresses, &tag_bytes(tag), out);
+    put(out, tagged, rest)
+}
+
+/// The inner frame as it leaves at a circuit, with the circuit's tag behind the addresses, where it has one;
+/// the tag's priority and drop eligibility are 0 (RFC 4762 section 7.1, IEEE 802.1Q clause 9.6). Writes it
+/// to the front of `out`, which has four octets more than the inner frame or still more, and answers its
+/// length in octets. `tag` is a VLAN ID, at most 4095.
+pub fn dress(tag: Option<u16>, inner: &[u8], out: &mut [u8]) -> usize
+    requires header { 14 ≤ length inner.now }
+    requires room { length inner.now + 4 ≤ length out.old }
+    requires tag { IfSome tag (λ tag. tag ≤ 4095) }
+    ensures count { result ≡ length (dressed tag inner.now) }
+    ensures octets { out.new ≡ dressed tag inner.now ++ drop result out.old }
+{
+    match tag {
+        None => put(out, 0, inner),
+        Some(tag) => put_tagged(tag, inner, out),
+    }
+}

@@ -1,0 +1,17 @@
+//! The addresses that a bridge has learned, each with the port by which it came (RFC 4762 section 4.2).
+//!
+//! A table takes memory only where it is opened. Its definitions stand in `specs/Addresses.antt`.
+#![tactic(auto)]
+
+mod edits;
+mod learned;
+mod mac_entry;
+mod mac_table;
+mod search;
+
+pub use learned::Learned;
+pub use mac_entry::MacEntry;
+pub use mac_table::MacTable;
+
+#[cfg(test)]
+mod tests;
