@@ -1,44 +1,171 @@
--- The events of a document.
-use Rattle.std.specs.Prelude.{◌==◌, ◌&&◌, nat_le, codes, ℕ, List, length, take, drop, Option, Some, None, Result, Ok, option_map, position, if◌then◌else◌}
+-- The commands of a document, word by word.
+use Rattle.std.specs.Prelude.{◌+◌, nat_lt, codes, ℕ, List, [], ◌∷◌, is_some, Result, Ok, Err, if◌then◌else◌}
 use Rattle.std.specs.Str.{bytes_eq}
-use Rattle.toml.specs.Data.{Data, as_str}
-use Rattle.net_base.specs.Frame.{goes_to_group}
-use Rattle.net_base.specs.declared.event.Event.TheVariants.{Frame}
-use Rattle.scenario_text.specs.declared.scenario_fault.ScenarioFault.{ScenarioFault}
+use Rattle.toml.specs.Data.{Data, Items, no_items, item, as_str}
+use Rattle.net_base.specs.declared.event.Event.{Event}
+use Rattle.net_base.specs.declared.event.Event.TheVariants.{Connect, Deliver, Lose, Restart, Tick, Frame, Arrive, Discard, Again, Wire, Circuit, Status, Priority, Ping}
 use Rattle.scenario_text.specs.declared.command.Command.{Command}
-use Rattle.scenario_text.specs.declared.command.Command.TheVariants.{One}
+use Rattle.scenario_text.specs.declared.command.Command.TheVariants.{One, Settle, Flow, Ticks, Play}
+use Rattle.scenario_text.specs.declared.plan_names.PlanNames.{PlanNames}
+use Rattle.scenario_text.specs.declared.scenario_fault.ScenarioFault.{ScenarioFault}
+use Rattle.scenario_text.specs.declared.scenario_fault.ScenarioFault.TheVariants.{WrongKind, BadWord}
 use Rattle.scenario_text.specs.Reading.{◌>>=◌, checked, found}
+use Rattle.scenario_text.specs.Places.{place_at, top_row}
 use Rattle.scenario_text.specs.Names.{place_in}
-use Rattle.scenario_text.specs.Hex.{unhex}
+use Rattle.scenario_text.specs.Words.{word_at, first_word, said, ends, decimal_from, switch_of, some_word}
+use Rattle.scenario_text.specs.Hex.{frame_of}
 
--- what follows the word `frame` and a space
-abbrev pub after_frame : List ℕ → Option (List ℕ)
-after_frame text = if bytes_eq (take 6 text) (codes "frame ") then Some (drop 6 text) else None
+-- connect E P
+unfoldable pub connect_in : PlanNames → ℕ → List ℕ → Result Event ScenarioFault
+connect_in names event text = do
+  from ← said (place_in names.edges) event 2 text
+  to ← said (place_in names.edges) event 3 text
+  end ← ends event 4 text
+  Ok (Connect (record { 0 = from }) (record { 0 = to }))
 
--- the parts before and after the first space
-abbrev pub halves : List ℕ → Option (List ℕ × List ℕ)
-halves text = option_map (λ place. (take place text, drop 1 (drop place text))) (position (λ b. b == 32) text)
+-- deliver E P N
+unfoldable pub deliver_in : PlanNames → ℕ → List ℕ → Result Event ScenarioFault
+deliver_in names event text = do
+  from ← said (place_in names.edges) event 2 text
+  to ← said (place_in names.edges) event 3 text
+  count ← said (decimal_from 1 65535) event 4 text
+  end ← ends event 5 text
+  Ok (Deliver (record { 0 = from }) (record { 0 = to }) count)
 
--- the octets of a frame: 14 to 1518 of them, to a group
-unfoldable pub frame_octets : List ℕ → Result (List ℕ) ScenarioFault
-frame_octets digits = do
-  octets ← unhex digits
-  fits ← checked (nat_le 14 (length octets) && nat_le (length octets) 1518)
-  group ← checked (goes_to_group octets)
-  Ok octets
+-- lose E P
+unfoldable pub lose_in : PlanNames → ℕ → List ℕ → Result Event ScenarioFault
+lose_in names event text = do
+  edge ← said (place_in names.edges) event 2 text
+  peer ← said (place_in names.edges) event 3 text
+  end ← ends event 4 text
+  Ok (Lose (record { 0 = edge }) (record { 0 = peer }))
 
--- the place of C among the circuits' names and the digits, of `frame C HEX`
-abbrev pub addressed_in : List (List ℕ) → List ℕ → Result (ℕ × List ℕ) ScenarioFault
-addressed_in circuits text =
-    found (after_frame text) >>= (λ rest. found (halves rest) >>= (λ parts. found (place_in circuits parts.0) >>= (λ place. Ok (place, parts.1))))
+-- restart E
+unfoldable pub restart_in : PlanNames → ℕ → List ℕ → Result Event ScenarioFault
+restart_in names event text = do
+  edge ← said (place_in names.edges) event 2 text
+  end ← ends event 3 text
+  Ok (Restart (record { 0 = edge }))
 
--- the command `frame C HEX`
-unfoldable pub command_in : List (List ℕ) → List ℕ → Result Command ScenarioFault
-command_in circuits text = do
-  addressed ← addressed_in circuits text
-  octets ← frame_octets addressed.1
-  Ok (One (Frame (record { 0 = addressed.0 }) octets))
+-- frame C HEX
+unfoldable pub frame_in : PlanNames → ℕ → List ℕ → Result Event ScenarioFault
+frame_in names event text = do
+  circuit ← said (place_in names.circuits) event 2 text
+  octets ← said frame_of event 3 text
+  end ← ends event 4 text
+  Ok (Frame (record { 0 = circuit }) octets)
 
--- the command that an item is
-abbrev pub event_in : List (List ℕ) → Data → Result Command ScenarioFault
-event_in circuits value = found (as_str value) >>= command_in circuits
+-- K, the number of a packet
+unfoldable pub packet_in : ℕ → List ℕ → Result ℕ ScenarioFault
+packet_in event text = do
+  packet ← said (decimal_from 1 18446744073709551615) event 2 text
+  end ← ends event 3 text
+  Ok packet
+
+-- wire E W on, wire E W off
+unfoldable pub wire_switch_in : PlanNames → ℕ → List ℕ → Result Event ScenarioFault
+wire_switch_in names event text = do
+  edge ← said (place_in names.edges) event 2 text
+  wire ← said (place_in names.wires) event 3 text
+  on ← said switch_of event 4 text
+  end ← ends event 5 text
+  Ok (Wire (record { 0 = edge }) (record { 0 = wire }) on)
+
+-- circuit C on, circuit C off
+unfoldable pub circuit_switch_in : PlanNames → ℕ → List ℕ → Result Event ScenarioFault
+circuit_switch_in names event text = do
+  circuit ← said (place_in names.circuits) event 2 text
+  on ← said switch_of event 3 text
+  end ← ends event 4 text
+  Ok (Circuit (record { 0 = circuit }) on)
+
+-- status E W N
+unfoldable pub status_in : PlanNames → ℕ → List ℕ → Result Event ScenarioFault
+status_in names event text = do
+  edge ← said (place_in names.edges) event 2 text
+  wire ← said (place_in names.wires) event 3 text
+  bits ← said (decimal_from 0 31) event 4 text
+  end ← ends event 5 text
+  Ok (Status (record { 0 = edge }) (record { 0 = wire }) bits)
+
+-- priority E W N
+unfoldable pub priority_in : PlanNames → ℕ → List ℕ → Result Event ScenarioFault
+priority_in names event text = do
+  edge ← said (place_in names.edges) event 2 text
+  wire ← said (place_in names.wires) event 3 text
+  priority ← said (decimal_from 0 255) event 4 text
+  end ← ends event 5 text
+  Ok (Priority (record { 0 = edge }) (record { 0 = wire }) priority)
+
+-- ping E W
+unfoldable pub ping_in : PlanNames → ℕ → List ℕ → Result Event ScenarioFault
+ping_in names event text = do
+  edge ← said (place_in names.edges) event 2 text
+  wire ← said (place_in names.wires) event 3 text
+  end ← ends event 4 text
+  Ok (Ping (record { 0 = edge }) (record { 0 = wire }))
+
+-- N of settle, flow and tick
+unfoldable pub repeats_in : ℕ → List ℕ → Result ℕ ScenarioFault
+repeats_in event text = do
+  count ← said (decimal_from 1 10000) event 2 text
+  end ← ends event 3 text
+  Ok count
+
+-- tick alone, or tick N
+abbrev pub tick_in : ℕ → List ℕ → Result Command ScenarioFault
+tick_in event text = if is_some (word_at 2 text) then repeats_in event text >>= (λ count. Ok (Ticks count)) else Ok (One Tick)
+
+-- play C FILE, of which a document has at most four
+unfoldable pub play_in : PlanNames → ℕ → ℕ → List ℕ → Result Command ScenarioFault
+play_in names event plays text = do
+  few ← checked (BadWord event 1) (nat_lt plays 4)
+  circuit ← said (place_in names.circuits) event 2 text
+  file ← said some_word event 3 text
+  end ← ends event 4 text
+  Ok (Play (record { 0 = circuit }) file)
+
+-- one event
+abbrev pub one : Result Event ScenarioFault → Result Command ScenarioFault
+one read = read >>= (λ event. Ok (One event))
+
+-- the command of this first word
+unfoldable pub command_of : PlanNames → ℕ → ℕ → List ℕ → List ℕ → Result Command ScenarioFault
+command_of names event plays word text =
+    if bytes_eq word (codes "connect") then one (connect_in names event text)
+    else if bytes_eq word (codes "deliver") then one (deliver_in names event text)
+    else if bytes_eq word (codes "lose") then one (lose_in names event text)
+    else if bytes_eq word (codes "restart") then one (restart_in names event text)
+    else if bytes_eq word (codes "tick") then tick_in event text
+    else if bytes_eq word (codes "frame") then one (frame_in names event text)
+    else if bytes_eq word (codes "arrive") then packet_in event text >>= (λ packet. Ok (One (Arrive packet)))
+    else if bytes_eq word (codes "drop") then packet_in event text >>= (λ packet. Ok (One (Discard packet)))
+    else if bytes_eq word (codes "again") then packet_in event text >>= (λ packet. Ok (One (Again packet)))
+    else if bytes_eq word (codes "wire") then one (wire_switch_in names event text)
+    else if bytes_eq word (codes "circuit") then one (circuit_switch_in names event text)
+    else if bytes_eq word (codes "status") then one (status_in names event text)
+    else if bytes_eq word (codes "priority") then one (priority_in names event text)
+    else if bytes_eq word (codes "ping") then one (ping_in names event text)
+    else if bytes_eq word (codes "settle") then repeats_in event text >>= (λ count. Ok (Settle count))
+    else if bytes_eq word (codes "flow") then repeats_in event text >>= (λ count. Ok (Flow count))
+    else if bytes_eq word (codes "play") then play_in names event plays text
+    else Err (BadWord event 1)
+
+-- the command that a text is, after so many commands `play`
+abbrev pub command_in : PlanNames → ℕ → ℕ → List ℕ → Result Command ScenarioFault
+command_in names event plays text = command_of names event plays (first_word text) text
+
+-- the command that an item is, which is a string
+abbrev pub event_in : PlanNames → ℕ → ℕ → Data → Result Command ScenarioFault
+event_in names event plays value = found (WrongKind (place_at top_row (codes "events"))) (as_str value) >>= command_in names event plays
+
+-- one more where the command is `play`
+abbrev pub plays_after : ℕ → Command → ℕ
+plays_after plays (Play circuit file) = plays + 1
+plays_after plays command = plays
+
+-- the commands of items, the first of which has this number
+abbrev pub commands_in : PlanNames → ℕ → ℕ → Items → Result (List Command) ScenarioFault
+commands_in names event plays no_items = Ok []
+commands_in names event plays (item value rest) =
+    event_in names event plays value >>= (λ x. commands_in names (event + 1) (plays_after plays x) rest >>= (λ xs. Ok (x ∷ xs)))

@@ -1,28 +1,65 @@
--- The keys of the document's tables.
-use Rattle.std.specs.Prelude.{◌||◌, not, codes, ℕ, Bool, false, List, Result, Ok, Option}
+-- The keys that a table of the document may have.
+use Rattle.std.specs.Prelude.{◌||◌, not, codes, ℕ, Bool, true, false, List, Result, Ok, Err, Option, Some, None, if◌then◌else◌}
 use Rattle.std.specs.Str.{bytes_eq}
-use Rattle.toml.specs.Data.{Data, Members, no_members, member, as_table}
+use Rattle.toml.specs.Data.{Members, no_members, member}
+use Rattle.net_base.specs.declared.table.Table.{Table}
+use Rattle.net_base.specs.declared.table.Table.TheVariants.{Top, Events, Edge, Service, Circuit, Wire}
+use Rattle.scenario_text.specs.declared.row_place.RowPlace.{RowPlace}
 use Rattle.scenario_text.specs.declared.scenario_fault.ScenarioFault.{ScenarioFault}
-use Rattle.scenario_text.specs.declared.table_kind.TableKind.{TableKind}
-use Rattle.scenario_text.specs.declared.table_kind.TableKind.TheVariants.{Document, Edge, Service, Circuit}
-use Rattle.scenario_text.specs.Reading.{◌>>=◌, checked, found}
+use Rattle.scenario_text.specs.declared.scenario_fault.ScenarioFault.TheVariants.{UnknownKey}
+use Rattle.scenario_text.specs.Places.{place_at}
 
--- a table of this kind may have the key
-abbrev pub is_known_key : TableKind → List ℕ → Bool
-is_known_key Document key = (((bytes_eq key (codes "version") || bytes_eq key (codes "events")) || bytes_eq key (codes "edge")) || bytes_eq key (codes "service")) || bytes_eq key (codes "circuit")
-is_known_key Edge key = bytes_eq key (codes "name") || bytes_eq key (codes "address")
-is_known_key Service key = bytes_eq key (codes "name")
-is_known_key Circuit key = (bytes_eq key (codes "name") || bytes_eq key (codes "edge")) || bytes_eq key (codes "service")
+abbrev pub is_top_key : List ℕ → Bool
+is_top_key key =
+    ((((bytes_eq key (codes "version") || bytes_eq key (codes "events")) || bytes_eq key (codes "edge")) || bytes_eq key (codes "service")) || bytes_eq key (codes "circuit"))
+    || bytes_eq key (codes "wire")
 
--- some member has a key that the kind lacks
-abbrev pub has_unknown_key : TableKind → Members → Bool
-has_unknown_key kind no_members = false
-has_unknown_key kind (member key value rest) = not (is_known_key kind key) || has_unknown_key kind rest
+abbrev pub is_edge_key : List ℕ → Bool
+is_edge_key key =
+    (((bytes_eq key (codes "name") || bytes_eq key (codes "address")) || bytes_eq key (codes "first_label")) || bytes_eq key (codes "keepalive")) || bytes_eq key (codes "max_pdu")
 
--- the members of a table with no unknown key
-abbrev pub known_members : TableKind → Option Members → Result Members ScenarioFault
-known_members kind table = found table >>= (λ ms. checked (not (has_unknown_key kind ms)) >>= (λ known. Ok ms))
+abbrev pub is_service_key : List ℕ → Bool
+is_service_key key = (bytes_eq key (codes "name") || bytes_eq key (codes "mtu")) || bytes_eq key (codes "age")
 
--- the members of a row
-abbrev pub row_members : TableKind → Data → Result Members ScenarioFault
-row_members kind value = known_members kind (as_table value)
+abbrev pub is_circuit_key : List ℕ → Bool
+is_circuit_key key = ((bytes_eq key (codes "name") || bytes_eq key (codes "edge")) || bytes_eq key (codes "service")) || bytes_eq key (codes "tag")
+
+-- the keys of a wire as a whole
+abbrev pub is_wire_key : List ℕ → Bool
+is_wire_key key =
+    ((((bytes_eq key (codes "name") || bytes_eq key (codes "service")) || bytes_eq key (codes "class")) || bytes_eq key (codes "path")) || bytes_eq key (codes "pw_id"))
+    || bytes_eq key (codes "priority")
+
+-- the keys of what an end of a wire offers
+abbrev pub is_offer_key : List ℕ → Bool
+is_offer_key key =
+    ((((((bytes_eq key (codes "mode") || bytes_eq key (codes "control_word")) || bytes_eq key (codes "mtu")) || bytes_eq key (codes "vlan")) || bytes_eq key (codes "vccv"))
+    || bytes_eq key (codes "status")) || bytes_eq key (codes "group")) || bytes_eq key (codes "description")
+
+-- the same for the far end alone
+abbrev pub is_far_key : List ℕ → Bool
+is_far_key key =
+    ((((((bytes_eq key (codes "far_mode") || bytes_eq key (codes "far_control_word")) || bytes_eq key (codes "far_mtu")) || bytes_eq key (codes "far_vlan")) || bytes_eq key (codes "far_vccv"))
+    || bytes_eq key (codes "far_status")) || bytes_eq key (codes "far_group")) || bytes_eq key (codes "far_description")
+
+-- a row of this table may have the key
+abbrev pub is_known_key : Table → List ℕ → Bool
+is_known_key Top key = is_top_key key
+is_known_key Events key = false
+is_known_key Edge key = is_edge_key key
+is_known_key Service key = is_service_key key
+is_known_key Circuit key = is_circuit_key key
+is_known_key Wire key = (is_wire_key key || is_offer_key key) || is_far_key key
+
+-- the first key that rows of this table lack; members stand in the byte order of their keys, so it is the least
+abbrev pub unknown_key : Table → Members → Option (List ℕ)
+unknown_key table no_members = None
+unknown_key table (member key value rest) = if not (is_known_key table key) then Some key else unknown_key table rest
+
+abbrev pub none_unknown : RowPlace → Option (List ℕ) → Result Bool ScenarioFault
+none_unknown row None = Ok true
+none_unknown row (Some key) = Err (UnknownKey (place_at row key))
+
+-- the row has known keys alone
+abbrev pub only_known : Table → RowPlace → Members → Result Bool ScenarioFault
+only_known table row ms = none_unknown row (unknown_key table ms)

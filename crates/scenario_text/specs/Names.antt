@@ -1,13 +1,13 @@
 -- Names, and their places in a list.
-use Rattle.std.specs.Prelude.{◌&&◌, not, position, ℕ, Bool, true, List, [], ◌∷◌, Option}
-use Rattle.std.specs.List.{list_any}
+use Rattle.std.specs.Prelude.{◌≡◌, position, ℕ, List, Option}
+use Rattle.std.specs.Map.{lookup}
 use Rattle.std.specs.Str.{bytes_eq}
+use denote.Ref.{Bor}
 
 -- the place of the first such name
 abbrev pub place_in : List (List ℕ) → List ℕ → Option ℕ
 place_in names name = position (bytes_eq name) names
 
--- no name stands twice
-abbrev pub is_distinct : List (List ℕ) → Bool
-is_distinct [] = true
-is_distinct (x ∷ xs) = not (list_any (bytes_eq x) xs) && is_distinct xs
+-- the entries give each name its place
+pub record Finds (names : List (List ℕ)) (entries : List (Bor (List ℕ) × ℕ)) : Type 0 where
+  pub place : (name : Bor (List ℕ)) → lookup (λ k. bytes_eq name.now k.now) entries ≡ place_in names name.now

@@ -1,20 +1,35 @@
--- Names, addresses and the version.
-use Rattle.std.specs.Prelude.{◌==◌, not, ℕ, ℤ, pos, negsuc, Bool, false, List, [], ◌∷◌, Option, Some, None, Result, Ok, option_and_then}
+-- The kinds of values that stand at keys, and keys that are needed or have a default.
+use Rattle.std.specs.Prelude.{◌&&◌, nat_le, not, codes, length, ℕ, ℤ, pos, negsuc, Bool, true, false, List, [], ◌∷◌, Option, Some, None, is_some, Result, Ok, Err, if◌then◌else◌}
 use Rattle.std.specs.Str.{bytes_eq}
 use Rattle.std.specs.Net.Reader.{read_ipv4}
-use Rattle.toml.specs.Data.{Data, as_str, as_integer}
+use Rattle.toml.specs.Data.{Data, Items, no_items, item, Members, as_str, as_integer, as_bool, as_array, get_member}
 use Rattle.net_base.specs.Name.{is_name_text}
 use Rattle.net_base.specs.declared.addr.Addr.{Addr}
+use Rattle.net_base.specs.declared.place.Place.{Place}
+use Rattle.net_base.specs.declared.plan_fault.PlanFault.TheVariants.{OutOfRange}
+use Rattle.net_base.specs.declared.wire_plan.Class.{Class}
+use Rattle.net_base.specs.declared.wire_plan.Class.TheVariants.{Mesh, Spoke}
+use Rattle.scenario_text.specs.declared.row_place.RowPlace.{RowPlace}
 use Rattle.scenario_text.specs.declared.scenario_fault.ScenarioFault.{ScenarioFault}
+use Rattle.scenario_text.specs.declared.scenario_fault.ScenarioFault.TheVariants.{Missing, WrongKind, Plan}
+use Rattle.scenario_text.specs.Places.{place_at}
 use Rattle.scenario_text.specs.Reading.{◌>>=◌, checked, found}
 
--- the text that stands there
-abbrev pub text_in : Option Data → Result (List ℕ) ScenarioFault
-text_in value = found (option_and_then as_str value)
+-- the value where it is in its range
+abbrev pub in_range : {A : Type 0} → Place → Bool → A → Result A ScenarioFault
+in_range place test x = if test then Ok x else Err (Plan (OutOfRange place))
 
--- the name that stands there
-abbrev pub name_in : Option Data → Result (List ℕ) ScenarioFault
-name_in value = text_in value >>= (λ text. checked (is_name_text text) >>= (λ named. Ok text))
+-- the value that is meant, where it is one
+abbrev pub meant : {A : Type 0} → Place → Option A → Result A ScenarioFault
+meant place x = found (Plan (OutOfRange place)) x
+
+-- a string
+abbrev pub a_text : Place → Data → Result (List ℕ) ScenarioFault
+a_text place value = found (WrongKind place) (as_str value)
+
+-- a string that is a name
+abbrev pub a_name : Place → Data → Result (List ℕ) ScenarioFault
+a_name place value = a_text place value >>= (λ text. in_range place (is_name_text text) text)
 
 -- the octets of a dotted quad, where nothing follows it
 abbrev pub whole_of : Option (List ℕ × List ℕ) → Option (List ℕ)
@@ -29,23 +44,80 @@ quad_of text = whole_of (read_ipv4 text)
 abbrev pub is_unspecified : List ℕ → Bool
 is_unspecified octets = bytes_eq octets (0 ∷ 0 ∷ 0 ∷ 0 ∷ [])
 
--- the address that a text is
-abbrev pub address_of : List ℕ → Result Addr ScenarioFault
-address_of text = found (quad_of text) >>= (λ octets. checked (not (is_unspecified octets)) >>= (λ fit. Ok (record { 0 = octets })))
+-- the address that a dotted quad is
+abbrev pub address_of : Place → List ℕ → Result Addr ScenarioFault
+address_of place text = meant place (quad_of text) >>= (λ octets. in_range place (not (is_unspecified octets)) (record { 0 = octets }))
 
--- the address that stands there
-abbrev pub address_in : Option Data → Result Addr ScenarioFault
-address_in value = text_in value >>= address_of
+-- a string that is a dotted quad without leading zeros, not 0.0.0.0
+abbrev pub an_address : Place → Data → Result Addr ScenarioFault
+an_address place value = a_text place value >>= address_of place
 
--- the integer is 1
-abbrev pub is_one : ℤ → Bool
-is_one (pos n) = n == 1
-is_one (negsuc n) = false
+-- a number from low to high
+abbrev pub number_from : ℕ → ℕ → Place → ℤ → Result ℕ ScenarioFault
+number_from low high place (pos n) = in_range place (nat_le low n && nat_le n high) n
+number_from low high place (negsuc n) = Err (Plan (OutOfRange place))
 
-abbrev pub is_one_if : Option ℤ → Bool
-is_one_if None = false
-is_one_if (Some z) = is_one z
+-- an integer from low to high
+abbrev pub a_number : ℕ → ℕ → Place → Data → Result ℕ ScenarioFault
+a_number low high place value = found (WrongKind place) (as_integer value) >>= number_from low high place
 
--- the version that stands there is 1
-abbrev pub is_version_one : Option Data → Bool
-is_version_one value = is_one_if (option_and_then as_integer value)
+-- a boolean
+abbrev pub a_boolean : Place → Data → Result Bool ScenarioFault
+a_boolean place value = found (WrongKind place) (as_bool value)
+
+abbrev pub class_of : List ℕ → Option Class
+class_of text = if bytes_eq text (codes "mesh") then Some Mesh else if bytes_eq text (codes "spoke") then Some Spoke else None
+
+-- the string `mesh` or `spoke`
+abbrev pub a_class : Place → Data → Result Class ScenarioFault
+a_class place value = a_text place value >>= (λ text. meant place (class_of text))
+
+-- tagged mode in place of raw mode
+abbrev pub mode_of : List ℕ → Option Bool
+mode_of text = if bytes_eq text (codes "raw") then Some false else if bytes_eq text (codes "tagged") then Some true else None
+
+-- the string `raw` or `tagged`
+abbrev pub a_mode : Place → Data → Result Bool ScenarioFault
+a_mode place value = a_text place value >>= (λ text. meant place (mode_of text))
+
+-- a string of at most 80 octets
+abbrev pub a_description : Place → Data → Result (List ℕ) ScenarioFault
+a_description place value = a_text place value >>= (λ text. in_range place (nat_le (length text) 80) text)
+
+-- every item passes the test
+abbrev pub all_items : (Data → Bool) → Items → Bool
+all_items test no_items = true
+all_items test (item value rest) = test value && all_items test rest
+
+abbrev pub is_string : Data → Bool
+is_string value = is_some (as_str value)
+
+-- an array of items that pass the test
+abbrev pub an_array : (Data → Bool) → Place → Data → Result Items ScenarioFault
+an_array test place value = found (WrongKind place) (as_array value) >>= (λ items. checked (WrongKind place) (all_items test items) >>= (λ all. Ok items))
+
+-- the items are names
+abbrev pub names_in : Place → Items → Result (List (List ℕ)) ScenarioFault
+names_in place no_items = Ok []
+names_in place (item value rest) = a_name place value >>= (λ x. names_in place rest >>= (λ xs. Ok (x ∷ xs)))
+
+-- an array of strings that are names
+abbrev pub a_path : Place → Data → Result (List (List ℕ)) ScenarioFault
+a_path place value = an_array is_string place value >>= names_in place
+
+-- the value at a key that a row has to have
+abbrev pub needed : {A : Type 0} → (Place → Data → Result A ScenarioFault) → RowPlace → List ℕ → Members → Result A ScenarioFault
+needed kind row key ms = found (Missing (place_at row key)) (get_member key ms) >>= kind (place_at row key)
+
+-- what is read where a value stands, and else the default
+abbrev pub read_or : {A : Type 0} → A → (Data → Result A ScenarioFault) → Option Data → Result A ScenarioFault
+read_or default read None = Ok default
+read_or default read (Some value) = read value
+
+-- the value at a key, which has a default
+abbrev pub defaulted : {A : Type 0} → A → (Place → Data → Result A ScenarioFault) → RowPlace → List ℕ → Members → Result A ScenarioFault
+defaulted default kind row key ms = read_or default (kind (place_at row key)) (get_member key ms)
+
+-- the value at a key that may be left out, whose default may be none
+abbrev pub optional : {A : Type 0} → Option A → (Place → Data → Result A ScenarioFault) → RowPlace → List ℕ → Members → Result (Option A) ScenarioFault
+optional default kind row key ms = read_or default (λ value. kind (place_at row key) value >>= (λ x. Ok (Some x))) (get_member key ms)

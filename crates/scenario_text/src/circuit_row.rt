@@ -8,4 +8,6 @@ pub struct CircuitRow {
     pub name: Name,
     pub edge: Name,
     pub service: Name,
+    /// 1 to 4094, or none.
+    pub tag: Option<u16>,
 }

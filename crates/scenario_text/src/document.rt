@@ -1,26 +1,30 @@
 //! Whole documents.
-ghost use Rattle.std.specs.Prelude.{◌≡◌, ◌≤◌, length, codes, true, IfOk};
+ghost use Rattle.std.specs.Prelude.{◌≡◌, ◌≤◌, None, length, IfOk};
 ghost use Rattle.std.specs.List.{All};
-ghost use Rattle.toml.specs.Data.{get_member};
+ghost use Rattle.net_base.specs.NameFaults.{edge_names, circuit_names, wire_names};
+ghost use Rattle.net_base.specs.PlanFault.{plan_fault};
 ghost use Rattle.toml.specs.Parse.{parse_document};
-ghost use Rattle.toml.specs.View.{table_view};
+ghost use Rattle.toml.specs.View.{items_view, table_view};
+ghost use Rattle.scenario_text.specs.Arrays.{arrays_of, HasLimits};
+ghost use Rattle.scenario_text.specs.Document.{names_of, plan_in, scenario_in, scenario_or, document};
+ghost use Rattle.scenario_text.specs.Events.{commands_in};
 ghost use Rattle.scenario_text.specs.Reading.{Gives};
-ghost use Rattle.scenario_text.specs.Rows.{array_in};
-ghost use Rattle.scenario_text.specs.Names.{is_distinct};
-ghost use Rattle.scenario_text.specs.Circuits.{circuit_names};
-ghost use Rattle.scenario_text.specs.Events.{event_in};
-ghost use Rattle.scenario_text.specs.Document.{scenario_in, scenario_or, document};
-ghost use Rattle.scenario_text.specs.Runnable.{IsRunnable, IsFloodedFrame};
+ghost use Rattle.scenario_text.specs.Runnable.{IsPlanned, IsRunnablePlan, IsRunnable};
 
-use crate::events::commands;
-use crate::members::{is_version_one_at, known};
+use crate::arrays::{Arrays, document_arrays};
+use crate::circuit_row::CircuitRow;
+use crate::commands::commands;
 use crate::name_index::NameIndex;
-use crate::plan::plan;
-use crate::table_kind::TableKind;
+use crate::plan::{names_of_edges, plan};
+use crate::plan_names::PlanNames;
+use crate::rows::rows;
+use crate::wire_row::WireRow;
 use crate::{Command, Scenario, ScenarioFault};
-use net_base::{CircuitPlan, List, Name};
+use net_base::{
+    CircuitPlan, EdgePlan, List, Name, Plan, ServicePlan, Table as TableKind, WirePlan,
+};
 use std::alloc::{AllocError, Global};
-use toml::Table;
+use toml::{Table, Value};
 
 // The names of circuits in order.
 fn names_of_circuits(alloc: Global, circuits: &[CircuitPlan]) -> Result<Vec<Name>, AllocError>
@@ -29,40 +33,122 @@ fn names_of_circuits(alloc: Global, circuits: &[CircuitPlan]) -> Result<Vec<Name
     circuits.iter().map(|circuit| circuit.name).collect(alloc)
 }
 
-// The commands of a table, at these circuits.
-fn commands_at(
-    alloc: Global,
-    circuits: &[CircuitPlan],
-    table: &Table,
-) -> Result<List<Command>, ScenarioFault>
-    requires few { length circuits.now ≤ 512 }
-    requires distinct { is_distinct (circuit_names circuits.now) ≡ true }
-    ensures exact { Gives result (array_in 100000 (event_in (circuit_names circuits.now)) (get_member (codes "events") (table_view table.now))) }
-    ensures flooded { IfOk result (λ commands. All (IsFloodedFrame (length circuits.now)) commands) }
+// The names of wires in order.
+fn names_of_wires(alloc: Global, wires: &[WirePlan]) -> Result<Vec<Name>, AllocError>
+    ensures { IfOk result (λ names. names.items ≡ wire_names wires.now) }
 {
-    let names = names_of_circuits(alloc, circuits)?;
-    let index = NameIndex::of_distinct(alloc, names.as_slice())?;
-    commands(alloc, &index, table, "events")
+    wires.iter().map(|wire| wire.name).collect(alloc)
+}
+
+// The commands at the rows of a plan, whose names these are.
+fn planned_commands(
+    alloc: Global,
+    plan: &Plan,
+    names: &PlanNames<'_>,
+    events: &[Value],
+) -> Result<List<Command>, ScenarioFault>
+    requires names { names.now ≡ names_of plan.now }
+    requires few { length events.now ≤ 100000 }
+    ensures exact { Gives result (commands_in (names_of plan.now) 1 0 (items_view events.now)) }
+    ensures many { IfOk result (λ commands. length commands ≡ length events.now) }
+    ensures planned { IfOk result (λ commands. All (IsPlanned (length plan.now.edges) (length plan.now.circuits) (length plan.now.wires)) commands) }
+{
+    let _plan = plan;
+    commands(alloc, names, events)
+}
+
+// The commands at the rows of a plan, which have these names in order.
+fn named_commands(
+    alloc: Global,
+    plan: &Plan,
+    edges: &[Name],
+    circuits: &[Name],
+    wires: &[Name],
+    events: &[Value],
+) -> Result<List<Command>, ScenarioFault>
+    requires runnable { IsRunnablePlan plan.now }
+    requires edges { edges.now ≡ edge_names plan.now.edges }
+    requires circuits { circuits.now ≡ circuit_names plan.now.circuits }
+    requires wires { wires.now ≡ wire_names plan.now.wires }
+    requires few { length events.now ≤ 100000 }
+    ensures exact { Gives result (commands_in (names_of plan.now) 1 0 (items_view events.now)) }
+    ensures many { IfOk result (λ commands. length commands ≡ length events.now) }
+    ensures planned { IfOk result (λ commands. All (IsPlanned (length plan.now.edges) (length plan.now.circuits) (length plan.now.wires)) commands) }
+{
+    let edge_index = NameIndex::of(alloc, edges)?;
+    let circuit_index = NameIndex::of(alloc, circuits)?;
+    let wire_index = NameIndex::of(alloc, wires)?;
+    let names = PlanNames {
+        edges: edge_index,
+        circuits: circuit_index,
+        wires: wire_index,
+    };
+    planned_commands(alloc, plan, &names, events)
+}
+
+// The commands at a plan.
+fn plan_commands(
+    alloc: Global,
+    plan: &Plan,
+    events: &[Value],
+) -> Result<List<Command>, ScenarioFault>
+    requires runnable { IsRunnablePlan plan.now }
+    requires few { length events.now ≤ 100000 }
+    ensures exact { Gives result (commands_in (names_of plan.now) 1 0 (items_view events.now)) }
+    ensures many { IfOk result (λ commands. length commands ≡ length events.now) }
+    ensures planned { IfOk result (λ commands. All (IsPlanned (length plan.now.edges) (length plan.now.circuits) (length plan.now.wires)) commands) }
+{
+    let edges = names_of_edges(alloc, plan.edges.as_slice())?;
+    let circuits = names_of_circuits(alloc, plan.circuits.as_slice())?;
+    let wires = names_of_wires(alloc, plan.wires.as_slice())?;
+    named_commands(
+        alloc,
+        plan,
+        edges.as_slice(),
+        circuits.as_slice(),
+        wires.as_slice(),
+        events,
+    )
+}
+
+// The plan of the arrays.
+#[tactic(auto, unfolding(crate::specs::Document::plan_in))]
+fn arrays_plan(alloc: Global, arrays: &Arrays<'_>) -> Result<Plan, ScenarioFault>
+    requires { HasLimits arrays.now }
+    ensures exact { Gives result (plan_in (arrays_of arrays.now)) }
+    ensures checked { IfOk result (λ plan. plan_fault plan ≡ None) }
+    ensures runnable { IfOk result IsRunnablePlan }
+{
+    let edges = rows::<EdgePlan>(alloc, TableKind::Edge, arrays.edges)?;
+    let services = rows::<ServicePlan>(alloc, TableKind::Service, arrays.services)?;
+    let circuit_rows = rows::<CircuitRow>(alloc, TableKind::Circuit, arrays.circuits)?;
+    let wire_rows = rows::<WireRow>(alloc, TableKind::Wire, arrays.wires)?;
+    plan(
+        alloc,
+        edges,
+        services,
+        circuit_rows.as_slice(),
+        wire_rows.as_slice(),
+    )
 }
 
 // The scenario of a table.
 #[tactic(auto, unfolding(crate::specs::Document::scenario_in))]
 fn scenario(alloc: Global, table: &Table) -> Result<Scenario, ScenarioFault>
     ensures exact { Gives result (scenario_in (table_view table.now)) }
+    ensures checked { IfOk result (λ scenario. plan_fault scenario.plan ≡ None) }
     ensures runnable { IfOk result IsRunnable }
 {
-    if !is_version_one_at(table, "version") {
-        return Err(ScenarioFault::NotBuilt);
-    }
-    let table = known(TableKind::Document, table)?;
-    let plan = plan(alloc, table)?;
-    let commands = commands_at(alloc, plan.circuits.as_slice(), table)?;
+    let arrays = document_arrays(table)?;
+    let plan = arrays_plan(alloc, &arrays)?;
+    let commands = plan_commands(alloc, &plan, arrays.events)?;
     Ok(Scenario { plan, commands })
 }
 
 // The scenario of a text.
 fn read_text(alloc: Global, text: &str) -> Result<Scenario, ScenarioFault>
     ensures exact { Gives result (scenario_or (parse_document text.now)) }
+    ensures checked { IfOk result (λ scenario. plan_fault scenario.plan ≡ None) }
     ensures runnable { IfOk result IsRunnable }
 {
     match toml::table_from_str(alloc, text) {
@@ -77,11 +163,18 @@ fn read_text(alloc: Global, text: &str) -> Result<Scenario, ScenarioFault>
     }
 }
 
-/// The scenario that a document is. `NotToml` comes exactly where the bytes are no TOML document, not UTF-8
-/// among them; `NotBuilt` where they are one that is outside what is built so far; `NoMemory` where memory
-/// was refused, and says nothing of the bytes.
+/// The scenario that a document of version 1 is, or its first fault.
+///
+/// The faults come in this order. `NotToml` where the bytes are no TOML document, not UTF-8 among them.
+/// `Missing`, `WrongKind` and `Version` of the key `version`. `WrongKind` of `events`, `edge`, `service`,
+/// `circuit` and `wire`, then `UnknownKey` of the top, then `TooMany`: at most 100,000 events, 64 edges, 64
+/// services, 512 circuits and 1,024 wires. Row by row, `Missing`, `WrongKind` and `OutOfRange` of each key, and
+/// then the row's `UnknownKey`. `UnknownName` of what circuits and then wires name. The faults of
+/// `Plan::check`. Last, event by event, `BadWord`. `NoMemory` comes where memory was refused, and says nothing
+/// of the bytes.
 pub fn read_scenario(alloc: Global, bytes: &[u8]) -> Result<Scenario, ScenarioFault>
     ensures document { Gives result (document bytes.now) }
+    ensures checked { IfOk result (λ scenario. plan_fault scenario.plan ≡ None) }
     ensures runnable { IfOk result IsRunnable }
 {
     match str::from_utf8(bytes) {

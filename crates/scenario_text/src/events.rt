@@ -1,198 +1,182 @@
 //! The events of a document.
-ghost use Rattle.std.specs.Prelude.{◌≡◌, ◌≤◌, ◌<◌, ◌==◌, ◌&&◌, nat_le, length, true, position, option_map, IfOk, IfSome, OnOk, Ok};
-ghost use Rattle.std.specs.List.{All};
-ghost use Rattle.net_base.specs.Frame.{goes_to_group};
-ghost use Rattle.toml.specs.Data.{get_member};
-ghost use Rattle.toml.specs.View.{view, items_view, table_view};
-ghost use Rattle.scenario_text.specs.Reading.{Gives, Fills, MapsTo, found};
-ghost use Rattle.scenario_text.specs.Rows.{all_in, few_in, array_in};
-ghost use Rattle.scenario_text.specs.Events.{after_frame, halves, frame_octets, addressed_in, command_in, event_in};
-ghost use Rattle.scenario_text.specs.Runnable.{IsFloodedFrame, IsFloodedOctets};
+ghost use Rattle.std.specs.Prelude.{◌≡◌, ◌≤◌, length, IfOk};
+ghost use Rattle.scenario_text.specs.Events.{connect_in, deliver_in, lose_in, restart_in, frame_in, packet_in, wire_switch_in, circuit_switch_in, status_in, priority_in, ping_in};
+ghost use Rattle.scenario_text.specs.Reading.{Gives};
+ghost use Rattle.scenario_text.specs.Runnable.{IsAmong};
 
-use crate::hex::decode;
-use crate::members::member;
-use crate::name_index::NameIndex;
-use crate::{Command, ScenarioFault};
-use net_base::{CircuitId, Event, List};
+use crate::ScenarioFault;
+use crate::plan_names::PlanNames;
+use crate::said::{frame_word, name_word, no_word, number_word, switch_word};
+use net_base::{CircuitId, EdgeId, Event, WireId};
 use std::alloc::Global;
-use toml::{Table, Value};
 
-// What follows the word `frame` and a space.
-fn after_word(text: &[u8]) -> Option<&[u8]>
-    ensures { option_map (λ r. r.now) result ≡ after_frame text.now }
+/// `connect E P`.
+#[tactic(auto, unfolding(crate::specs::Events::connect_in))]
+pub fn connect(names: &PlanNames<'_>, event: u32, text: &str) -> Result<Event, ScenarioFault>
+    ensures exact { result ≡ connect_in names.now event text.now }
+    ensures among { IfOk result (IsAmong names.now) }
 {
-    if text.len() < 6 {
-        return None;
-    }
-    let (word, rest) = text.split_at(6);
-    if word == b"frame ".as_slice() {
-        Some(rest)
-    } else {
-        None
-    }
+    let from = name_word(&names.edges, event, 2, text)?;
+    let to = name_word(&names.edges, event, 3, text)?;
+    no_word(event, 4, text)?;
+    Ok(Event::Connect {
+        from: EdgeId(from),
+        to: EdgeId(to),
+    })
 }
 
-// The place of the first space.
-fn space(text: &[u8]) -> Option<usize>
-    ensures place { result ≡ position (λ b. b == 32) text.now }
-    ensures within { IfSome result (λ place. place < length text.now) }
+/// `deliver E P N`, with N from 1 to 65535.
+#[tactic(auto, unfolding(crate::specs::Events::deliver_in))]
+pub fn deliver(names: &PlanNames<'_>, event: u32, text: &str) -> Result<Event, ScenarioFault>
+    ensures exact { result ≡ deliver_in names.now event text.now }
+    ensures among { IfOk result (IsAmong names.now) }
 {
-    text.iter().position(|octet| *octet == b' ')
+    let from = name_word(&names.edges, event, 2, text)?;
+    let to = name_word(&names.edges, event, 3, text)?;
+    let count = number_word(1, 65535, event, 4, text)? as u16;
+    no_word(event, 5, text)?;
+    Ok(Event::Deliver {
+        from: EdgeId(from),
+        to: EdgeId(to),
+        count,
+    })
 }
 
-// The parts before and after the first space.
-fn parts(text: &[u8]) -> Option<(&[u8], &[u8])>
-    ensures { option_map (λ p. (p.0.now, p.1.now)) result ≡ halves text.now }
+/// `lose E P`.
+#[tactic(auto, unfolding(crate::specs::Events::lose_in))]
+pub fn lose(names: &PlanNames<'_>, event: u32, text: &str) -> Result<Event, ScenarioFault>
+    ensures exact { result ≡ lose_in names.now event text.now }
+    ensures among { IfOk result (IsAmong names.now) }
 {
-    match space(text) {
-        Some(place) => {
-            let (name, from_space) = text.split_at(place);
-            let (_, digits) = from_space.split_at(1);
-            Some((name, digits))
-        }
-        None => None,
-    }
+    let edge = name_word(&names.edges, event, 2, text)?;
+    let peer = name_word(&names.edges, event, 3, text)?;
+    no_word(event, 4, text)?;
+    Ok(Event::Lose {
+        edge: EdgeId(edge),
+        peer: EdgeId(peer),
+    })
 }
 
-// Whether a frame goes to a group.
-fn is_to_group(frame: &[u8]) -> bool
-    requires { 6 ≤ length frame.now }
-    ensures { result ≡ goes_to_group frame.now }
+/// `restart E`.
+#[tactic(auto, unfolding(crate::specs::Events::restart_in))]
+pub fn restart(names: &PlanNames<'_>, event: u32, text: &str) -> Result<Event, ScenarioFault>
+    ensures exact { result ≡ restart_in names.now event text.now }
+    ensures among { IfOk result (IsAmong names.now) }
 {
-    frame[0] % 2 == 1
+    let edge = name_word(&names.edges, event, 2, text)?;
+    no_word(event, 3, text)?;
+    Ok(Event::Restart { edge: EdgeId(edge) })
 }
 
-// Puts the octets of a frame in place of what the buffer holds.
-#[tactic(auto, unfolding(crate::specs::Events::frame_octets))]
-fn read_frame(digits: &[u8], octets: &mut Vec<u8>) -> Result<(), ScenarioFault>
-    ensures exact { Fills octets.new.items result (frame_octets digits.now) }
-    ensures flooded { OnOk result (IsFloodedOctets octets.new.items) }
-{
-    decode(digits, octets)?;
-    let frame = octets.as_slice();
-    if frame.len() < 14 || frame.len() > 1518 {
-        return Err(ScenarioFault::NotBuilt);
-    }
-    if !is_to_group(frame) {
-        return Err(ScenarioFault::NotBuilt);
-    }
-    Ok(())
-}
-
-// The place of the circuit that a command names, and the digits of its frame.
-fn addressed<'a>(
-    circuits: &NameIndex<'_>,
-    text: &'a [u8],
-) -> Result<(usize, &'a [u8]), ScenarioFault>
-    ensures exact { MapsTo (λ p. (p.0, p.1.now)) result (addressed_in circuits.now text.now) }
-    ensures within { IfOk result (λ p. p.0 < length circuits.now) }
-{
-    let rest = match after_word(text) {
-        Some(rest) => rest,
-        None => return Err(ScenarioFault::NotBuilt),
-    };
-    let (name, digits) = match parts(rest) {
-        Some(parts) => parts,
-        None => return Err(ScenarioFault::NotBuilt),
-    };
-    match circuits.place(name) {
-        Some(place) => Ok((place, digits)),
-        None => Err(ScenarioFault::NotBuilt),
-    }
-}
-
-// The command that a text is. The buffer is for the octets of its frame.
-#[tactic(auto, unfolding(crate::specs::Events::command_in))]
-fn command(
+/// `frame C HEX`, with 1 to 9216 octets.
+#[tactic(auto, unfolding(crate::specs::Events::frame_in))]
+pub fn frame(
     alloc: Global,
-    circuits: &NameIndex<'_>,
-    text: &[u8],
-    octets: &mut Vec<u8>,
-) -> Result<Command, ScenarioFault>
-    requires { length circuits.now ≤ 512 }
-    ensures exact { Gives result (command_in circuits.now text.now) }
-    ensures flooded { IfOk result (IsFloodedFrame (length circuits.now)) }
+    names: &PlanNames<'_>,
+    event: u32,
+    text: &str,
+) -> Result<Event, ScenarioFault>
+    ensures exact { Gives result (frame_in names.now event text.now) }
+    ensures among { IfOk result (IsAmong names.now) }
 {
-    let (place, digits) = addressed(circuits, text)?;
-    read_frame(digits, octets)?;
-    let bytes = List::from_bytes(alloc, octets.as_slice())?;
-    Ok(Command::One(Event::Frame {
-        circuit: CircuitId(place as u16),
+    let circuit = name_word(&names.circuits, event, 2, text)?;
+    let bytes = frame_word(alloc, event, 3, text)?;
+    no_word(event, 4, text)?;
+    Ok(Event::Frame {
+        circuit: CircuitId(circuit),
         bytes,
-    }))
+    })
 }
 
-// The command that an item is.
-fn item(
-    alloc: Global,
-    circuits: &NameIndex<'_>,
-    value: &Value,
-    octets: &mut Vec<u8>,
-) -> Result<Command, ScenarioFault>
-    requires { length circuits.now ≤ 512 }
-    ensures exact { Gives result (event_in circuits.now (view value.now)) }
-    ensures flooded { IfOk result (IsFloodedFrame (length circuits.now)) }
+/// The number of the packet in `arrive K`, `drop K` and `again K`, from 1.
+#[tactic(auto, unfolding(crate::specs::Events::packet_in))]
+pub fn packet(event: u32, text: &str) -> Result<u64, ScenarioFault>
+    ensures { result ≡ packet_in event text.now }
 {
-    match value.as_str() {
-        Some(text) => command(alloc, circuits, text.as_bytes(), octets),
-        None => Err(ScenarioFault::NotBuilt),
+    let packet = number_word(1, u64::MAX, event, 2, text)?;
+    match no_word(event, 3, text) {
+        Ok(()) => Ok(packet),
+        Err(fault) => Err(fault),
     }
 }
 
-// The commands of an array.
-fn all_commands(
-    alloc: Global,
-    circuits: &NameIndex<'_>,
-    array: &[Value],
-) -> Result<List<Command>, ScenarioFault>
-    requires { length circuits.now ≤ 512 }
-    ensures exact { Gives result (all_in (event_in circuits.now) (items_view array.now)) }
-    ensures flooded { IfOk result (λ commands. All (IsFloodedFrame (length circuits.now)) commands) }
+/// `wire E W on` and `wire E W off`.
+#[tactic(auto, unfolding(crate::specs::Events::wire_switch_in))]
+pub fn wire_switch(names: &PlanNames<'_>, event: u32, text: &str) -> Result<Event, ScenarioFault>
+    ensures exact { result ≡ wire_switch_in names.now event text.now }
+    ensures among { IfOk result (IsAmong names.now) }
 {
-    let mut octets = Vec::with_capacity(alloc, 1518)?;
-    let mut commands = List::new(alloc);
-    for value in array {
-        let command = item(alloc, circuits, value, &mut octets)?;
-        commands.push(command)?;
-    }
-    Ok(commands)
+    let edge = name_word(&names.edges, event, 2, text)?;
+    let wire = name_word(&names.wires, event, 3, text)?;
+    let on = switch_word(event, 4, text)?;
+    no_word(event, 5, text)?;
+    Ok(Event::Wire {
+        edge: EdgeId(edge),
+        wire: WireId(wire),
+        on,
+    })
 }
 
-// The commands of an array of at most 100,000.
-#[tactic(auto, using(crate::proofs::RowLemmas::items_length_view))]
-fn few_commands(
-    alloc: Global,
-    circuits: &NameIndex<'_>,
-    value: &Value,
-) -> Result<List<Command>, ScenarioFault>
-    requires { length circuits.now ≤ 512 }
-    ensures exact { Gives result (few_in 100000 (event_in circuits.now) (view value.now)) }
-    ensures flooded { IfOk result (λ commands. All (IsFloodedFrame (length circuits.now)) commands) }
+/// `circuit C on` and `circuit C off`.
+#[tactic(auto, unfolding(crate::specs::Events::circuit_switch_in))]
+pub fn circuit_switch(names: &PlanNames<'_>, event: u32, text: &str) -> Result<Event, ScenarioFault>
+    ensures exact { result ≡ circuit_switch_in names.now event text.now }
+    ensures among { IfOk result (IsAmong names.now) }
 {
-    match value.as_array() {
-        Some(array) => {
-            if array.len() > 100_000 {
-                return Err(ScenarioFault::NotBuilt);
-            }
-            all_commands(alloc, circuits, array.as_slice())
-        }
-        None => Err(ScenarioFault::NotBuilt),
-    }
+    let circuit = name_word(&names.circuits, event, 2, text)?;
+    let on = switch_word(event, 3, text)?;
+    no_word(event, 4, text)?;
+    Ok(Event::Circuit {
+        circuit: CircuitId(circuit),
+        on,
+    })
 }
 
-/// The commands of the array at a key, none where it is absent. The circuits have these names in order.
-pub fn commands(
-    alloc: Global,
-    circuits: &NameIndex<'_>,
-    table: &Table,
-    key: &str,
-) -> Result<List<Command>, ScenarioFault>
-    requires { length circuits.now ≤ 512 }
-    ensures exact { Gives result (array_in 100000 (event_in circuits.now) (get_member key.now (table_view table.now))) }
-    ensures flooded { IfOk result (λ commands. All (IsFloodedFrame (length circuits.now)) commands) }
+/// `status E W N`, with N from 0 to 31.
+#[tactic(auto, unfolding(crate::specs::Events::status_in))]
+pub fn status(names: &PlanNames<'_>, event: u32, text: &str) -> Result<Event, ScenarioFault>
+    ensures exact { result ≡ status_in names.now event text.now }
+    ensures among { IfOk result (IsAmong names.now) }
 {
-    match member(table, key) {
-        Some(value) => few_commands(alloc, circuits, value),
-        None => Ok(List::new(alloc)),
-    }
+    let edge = name_word(&names.edges, event, 2, text)?;
+    let wire = name_word(&names.wires, event, 3, text)?;
+    let bits = number_word(0, 31, event, 4, text)? as u8;
+    no_word(event, 5, text)?;
+    Ok(Event::Status {
+        edge: EdgeId(edge),
+        wire: WireId(wire),
+        bits,
+    })
+}
+
+/// `priority E W N`, with N from 0 to 255.
+#[tactic(auto, unfolding(crate::specs::Events::priority_in))]
+pub fn priority(names: &PlanNames<'_>, event: u32, text: &str) -> Result<Event, ScenarioFault>
+    ensures exact { result ≡ priority_in names.now event text.now }
+    ensures among { IfOk result (IsAmong names.now) }
+{
+    let edge = name_word(&names.edges, event, 2, text)?;
+    let wire = name_word(&names.wires, event, 3, text)?;
+    let priority = number_word(0, 255, event, 4, text)? as u8;
+    no_word(event, 5, text)?;
+    Ok(Event::Priority {
+        edge: EdgeId(edge),
+        wire: WireId(wire),
+        priority,
+    })
+}
+
+/// `ping E W`.
+#[tactic(auto, unfolding(crate::specs::Events::ping_in))]
+pub fn ping(names: &PlanNames<'_>, event: u32, text: &str) -> Result<Event, ScenarioFault>
+    ensures exact { result ≡ ping_in names.now event text.now }
+    ensures among { IfOk result (IsAmong names.now) }
+{
+    let edge = name_word(&names.edges, event, 2, text)?;
+    let wire = name_word(&names.wires, event, 3, text)?;
+    no_word(event, 4, text)?;
+    Ok(Event::Ping {
+        edge: EdgeId(edge),
+        wire: WireId(wire),
+    })
 }

@@ -1,47 +1,50 @@
 //! Octets as pairs of hexadecimal digits.
-ghost use Rattle.std.specs.Prelude.{◌≡◌, ◌<◌, IfOk};
-ghost use Rattle.scenario_text.specs.Reading.{Fills};
+ghost use Rattle.std.specs.Prelude.{◌≡◌, ◌<◌, IfOk, IfSome};
 ghost use Rattle.scenario_text.specs.Hex.{digit_value, pair_value, unhex};
 
-use crate::ScenarioFault;
+use net_base::{List, NoMemory, Octets};
+use std::alloc::Global;
 
 // The value of a digit, below 16.
-fn digit(octet: u8) -> Result<u8, ScenarioFault>
+fn digit(octet: u8) -> Option<u8>
     ensures value { result ≡ digit_value octet }
-    ensures below { IfOk result (λ value. value < 16) }
+    ensures below { IfSome result (λ value. value < 16) }
 {
     match octet {
-        b'0'..=b'9' => Ok(octet - b'0'),
-        b'a'..=b'f' => Ok(octet - b'a' + 10),
-        b'A'..=b'F' => Ok(octet - b'A' + 10),
-        _ => Err(ScenarioFault::NotBuilt),
+        b'0'..=b'9' => Some(octet - b'0'),
+        b'a'..=b'f' => Some(octet - b'a' + 10),
+        b'A'..=b'F' => Some(octet - b'A' + 10),
+        _ => None,
     }
 }
 
 // The octet of two digits.
-fn pair(first: u8, second: u8) -> Result<u8, ScenarioFault>
+fn pair(first: u8, second: u8) -> Option<u8>
     ensures { result ≡ pair_value first second }
 {
-    let high = digit(first)?;
-    let low = digit(second)?;
-    Ok(high * 16 + low)
+    match (digit(first), digit(second)) {
+        (Some(high), Some(low)) => Some(high * 16 + low),
+        _ => None,
+    }
 }
 
-/// Puts the octets of pairs of digits in place of what the buffer holds. `NotBuilt` comes exactly where the
-/// digits are no pairs of hexadecimal digits.
-#[tactic(auto, using(crate::proofs::HexLemmas::unhex_step, crate::proofs::HexLemmas::unhex_odd))]
-pub fn decode(digits: &[u8], octets: &mut Vec<u8>) -> Result<(), ScenarioFault>
-    ensures { Fills octets.new.items result (unhex digits.now) }
+/// The octets of pairs of digits; `None` exactly where these are no pairs of hexadecimal digits.
+#[tactic(auto, using(crate::proofs::HexLemmas::unhex_step, crate::proofs::HexLemmas::unhex_odd, crate::proofs::HexLemmas::unhex_bad))]
+pub fn decode(alloc: Global, digits: &[u8]) -> Result<Option<Octets>, NoMemory>
+    ensures { IfOk result (λ octets. octets ≡ unhex digits.now) }
 {
-    octets.clear();
+    let mut octets = List::new(alloc);
     let mut at = 0;
     'decoding: while digits.len() - at >= 2 {
-        let octet = pair(digits[at], digits[at + 1])?;
+        let octet = match pair(digits[at], digits[at + 1]) {
+            Some(octet) => octet,
+            None => return Ok(None),
+        };
         octets.push(octet)?;
         at += 2;
     }
     if at < digits.len() {
-        return Err(ScenarioFault::NotBuilt);
+        return Ok(None);
     }
-    Ok(())
+    Ok(Some(octets))
 }

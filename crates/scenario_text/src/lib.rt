@@ -3,20 +3,34 @@
 //! `specs/Document.antt` says which scenario a document is; `read_scenario` reads it.
 #![tactic(auto)]
 
+mod arrays;
 mod circuit_row;
 mod circuits;
 mod command;
+mod commands;
+mod decimal;
 mod document;
 mod events;
 mod hex;
+mod key;
+mod keys;
 mod members;
 mod name_index;
+mod named;
+mod offer_row;
+mod offers;
 mod plan;
+mod plan_names;
 mod row;
+mod row_place;
 mod rows;
+mod said;
 mod scenario;
 mod scenario_fault;
-mod table_kind;
+mod values;
+mod wire_row;
+mod wires;
+mod words;
 
 pub use command::Command;
 pub use document::read_scenario;

@@ -1,17 +1,16 @@
 //! Members of a table.
-ghost use Rattle.std.specs.Prelude.{◌≡◌, not, map, option_map, option_copied, string_bytes};
-ghost use Rattle.std.specs.List.{list_any};
-ghost use Rattle.std.specs.Map.{keys_of};
-ghost use Rattle.toml.specs.Data.{get_member, as_str};
+ghost use Rattle.std.specs.Prelude.{◌≡◌, ◌≤◌, option_map, IfOk, IfSome};
+ghost use Rattle.toml.specs.Data.{get_member};
 ghost use Rattle.toml.specs.View.{view, table_view};
-ghost use Rattle.scenario_text.specs.Keys.{is_known_key, has_unknown_key, known_members, row_members};
-ghost use Rattle.scenario_text.specs.Values.{quad_of, text_in, name_in, address_in, address_of, is_version_one};
-ghost use Rattle.scenario_text.specs.Reading.{MapsTo};
+ghost use Rattle.scenario_text.specs.Places.{place_at};
+ghost use Rattle.scenario_text.specs.Reading.{Gives, MapsTo, found};
+ghost use Rattle.scenario_text.specs.Values.{a_name, an_address, a_number, a_boolean, a_class, a_mode, a_description, a_path, needed, defaulted, optional};
 
 use crate::ScenarioFault;
-use crate::table_kind::TableKind;
-use net_base::{Addr, Name};
-use std::net::Ipv4Addr;
+use crate::row_place::RowPlace;
+use crate::values::{address, boolean, class, description, mode, name, number, path};
+use net_base::{Addr, Class, List, Name, Text};
+use std::alloc::Global;
 use toml::{Table, Value};
 
 /// The value at a key.
@@ -21,107 +20,156 @@ pub fn member<'a>(table: &'a Table, key: &str) -> Option<&'a Value>
     table.get(key)
 }
 
-// Whether some key is not known, by the map's own keys.
-fn has_unknown_among(kind: TableKind, table: &Table) -> bool
-    ensures { result ≡ list_any (λ k. not (is_known_key kind (string_bytes k))) (keys_of table.now.entries) }
-{
-    table.keys().any(|key| !kind.knows(key.as_str()))
-}
-
-/// Whether the table has a key that its kind lacks.
-pub fn has_unknown(kind: TableKind, table: &Table) -> bool
-    ensures { result ≡ has_unknown_key kind (table_view table.now) }
-{
-    has_unknown_among(kind, table)
-}
-
-/// The table, where it has no key that its kind lacks.
-pub fn known<'a>(kind: TableKind, table: &'a Table) -> Result<&'a Table, ScenarioFault>
-    ensures { MapsTo (λ t. table_view t.now) result (known_members kind (Some (table_view table.now))) }
-{
-    if has_unknown(kind, table) {
-        return Err(ScenarioFault::NotBuilt);
-    }
-    Ok(table)
-}
-
-/// The table that a row is, where it has no key that its kind lacks.
-pub fn row_table<'a>(kind: TableKind, value: &'a Value) -> Result<&'a Table, ScenarioFault>
-    ensures { MapsTo (λ t. table_view t.now) result (row_members kind (view value.now)) }
-{
-    match value.as_table() {
-        Some(table) => known(kind, table),
-        None => Err(ScenarioFault::NotBuilt),
-    }
-}
-
-/// The text at a key.
-pub fn text_at<'a>(table: &'a Table, key: &str) -> Result<&'a str, ScenarioFault>
-    ensures { MapsTo (λ t. t.now) result (text_in (get_member key.now (table_view table.now))) }
+/// The value at a key that the row has to have.
+pub fn needed_member<'a>(
+    row: RowPlace,
+    table: &'a Table,
+    key: &str,
+) -> Result<&'a Value, ScenarioFault>
+    ensures { MapsTo (λ v. view v.now) result (found (ScenarioFault.Missing (place_at row key.now)) (get_member key.now (table_view table.now))) }
 {
     match member(table, key) {
-        Some(value) => match value.as_str() {
-            Some(text) => Ok(text),
-            None => Err(ScenarioFault::NotBuilt),
-        },
-        None => Err(ScenarioFault::NotBuilt),
+        Some(value) => Ok(value),
+        None => Err(row.missing(key)),
     }
 }
 
 /// The name at a key.
-pub fn name_at(table: &Table, key: &str) -> Result<Name, ScenarioFault>
-    ensures { result ≡ name_in (get_member key.now (table_view table.now)) }
+pub fn name_at(row: RowPlace, table: &Table, key: &str) -> Result<Name, ScenarioFault>
+    ensures { result ≡ needed a_name row key.now (table_view table.now) }
 {
-    let text = text_at(table, key)?;
-    match Name::read(text) {
-        Some(name) => Ok(name),
-        None => Err(ScenarioFault::NotBuilt),
-    }
-}
-
-// The octets of a dotted quad.
-fn quad(text: &str) -> Option<[u8; 4]>
-    ensures { result ≡ quad_of text.now }
-{
-    match text.parse::<Ipv4Addr>() {
-        Ok(address) => Some(address.octets()),
-        Err(_) => None,
-    }
-}
-
-// The address that a text is.
-fn address(text: &str) -> Result<Addr, ScenarioFault>
-    ensures { result ≡ address_of text.now }
-{
-    match quad(text) {
-        Some(octets) => {
-            if octets == [0, 0, 0, 0] {
-                Err(ScenarioFault::NotBuilt)
-            } else {
-                Ok(Addr(octets))
-            }
-        }
-        None => Err(ScenarioFault::NotBuilt),
-    }
+    let value = needed_member(row, table, key)?;
+    name(row, key, value)
 }
 
 /// The address at a key.
-pub fn address_at(table: &Table, key: &str) -> Result<Addr, ScenarioFault>
-    ensures { result ≡ address_in (get_member key.now (table_view table.now)) }
+pub fn address_at(row: RowPlace, table: &Table, key: &str) -> Result<Addr, ScenarioFault>
+    ensures { result ≡ needed an_address row key.now (table_view table.now) }
 {
-    let text = text_at(table, key)?;
-    address(text)
+    let value = needed_member(row, table, key)?;
+    address(row, key, value)
 }
 
-/// Whether the version at `version` is 1.
-pub fn is_version_one_at(table: &Table, key: &str) -> bool
-    ensures { result ≡ is_version_one (get_member key.now (table_view table.now)) }
+/// The class at a key.
+pub fn class_at(row: RowPlace, table: &Table, key: &str) -> Result<Class, ScenarioFault>
+    ensures { result ≡ needed a_class row key.now (table_view table.now) }
+{
+    let value = needed_member(row, table, key)?;
+    class(row, key, value)
+}
+
+/// The names of edges at a key.
+pub fn path_at(
+    alloc: Global,
+    row: RowPlace,
+    table: &Table,
+    key: &str,
+) -> Result<List<Name>, ScenarioFault>
+    ensures { Gives result (needed a_path row key.now (table_view table.now)) }
+{
+    let value = needed_member(row, table, key)?;
+    path(alloc, row, key, value)
+}
+
+/// The number at a key that the row has to have.
+pub fn number_at(
+    row: RowPlace,
+    table: &Table,
+    key: &str,
+    low: u32,
+    high: u32,
+) -> Result<u32, ScenarioFault>
+    ensures exact { result ≡ needed (a_number low high) row key.now (table_view table.now) }
+    ensures within { IfOk result (λ n. (low ≤ n) × (n ≤ high)) }
+{
+    let value = needed_member(row, table, key)?;
+    number(row, key, value, low, high)
+}
+
+/// The number at a key, or the default.
+pub fn number_or(
+    default: u32,
+    row: RowPlace,
+    table: &Table,
+    key: &str,
+    low: u32,
+    high: u32,
+) -> Result<u32, ScenarioFault>
+    requires reaches { low ≤ default }
+    requires fits { default ≤ high }
+    ensures exact { result ≡ defaulted default (a_number low high) row key.now (table_view table.now) }
+    ensures within { IfOk result (λ n. (low ≤ n) × (n ≤ high)) }
 {
     match member(table, key) {
-        Some(value) => match value.as_integer() {
-            Some(1) => true,
-            _ => false,
+        Some(value) => number(row, key, value, low, high),
+        None => Ok(default),
+    }
+}
+
+/// The number at a key that may be left out.
+pub fn optional_number(
+    default: Option<u16>,
+    row: RowPlace,
+    table: &Table,
+    key: &str,
+    low: u32,
+    high: u32,
+) -> Result<Option<u16>, ScenarioFault>
+    requires short { high ≤ 65535 }
+    requires within { IfSome default (λ n. (low ≤ n) × (n ≤ high)) }
+    ensures exact { result ≡ optional default (a_number low high) row key.now (table_view table.now) }
+    ensures within { IfOk result (λ o. IfSome o (λ n. (low ≤ n) × (n ≤ high))) }
+{
+    match member(table, key) {
+        Some(value) => match number(row, key, value, low, high) {
+            Ok(number) => Ok(Some(number as u16)),
+            Err(fault) => Err(fault),
         },
-        None => false,
+        None => Ok(default),
+    }
+}
+
+/// The boolean at a key, or the default.
+pub fn boolean_or(
+    default: bool,
+    row: RowPlace,
+    table: &Table,
+    key: &str,
+) -> Result<bool, ScenarioFault>
+    ensures { result ≡ defaulted default a_boolean row key.now (table_view table.now) }
+{
+    match member(table, key) {
+        Some(value) => boolean(row, key, value),
+        None => Ok(default),
+    }
+}
+
+/// Whether the mode at a key is tagged mode, or the default.
+pub fn mode_or(
+    default: bool,
+    row: RowPlace,
+    table: &Table,
+    key: &str,
+) -> Result<bool, ScenarioFault>
+    ensures { result ≡ defaulted default a_mode row key.now (table_view table.now) }
+{
+    match member(table, key) {
+        Some(value) => mode(row, key, value),
+        None => Ok(default),
+    }
+}
+
+/// The description at a key, or the default.
+pub fn description_or(
+    default: &Text<80>,
+    row: RowPlace,
+    table: &Table,
+    key: &str,
+) -> Result<Text<80>, ScenarioFault>
+    ensures { result ≡ defaulted default.now a_description row key.now (table_view table.now) }
+{
+    match member(table, key) {
+        Some(value) => description(row, key, value),
+        None => Ok(*default),
     }
 }

@@ -1,29 +1,37 @@
 //! What a row of a table is read as.
 ghost use Rattle.std.specs.Prelude.{◌≡◌, IfOk};
-ghost use Rattle.toml.specs.View.{view};
+ghost use Rattle.toml.specs.View.{table_view};
+ghost use Rattle.scenario_text.specs.Reading.{Gives};
 
 use crate::ScenarioFault;
 use crate::circuit_row::CircuitRow;
-use crate::members::{address_at, name_at, row_table};
-use crate::table_kind::TableKind;
-use net_base::{EdgePlan, ServicePlan};
-use toml::Value;
+use crate::keys::only_known_keys;
+use crate::members::{
+    address_at, class_at, name_at, number_at, number_or, optional_number, path_at,
+};
+use crate::offers::{far_offer, near_offer};
+use crate::row_place::RowPlace;
+use crate::wire_row::WireRow;
+use net_base::{EdgePlan, ServicePlan, Table as TableKind};
+use std::alloc::Global;
+use toml::Table;
 
 /// What a row of a table is read as.
 pub trait Row: Sized + Drop {
     ghost use Rattle.std.specs.Prelude.{Result};
-    ghost use Rattle.toml.specs.Data.{Data};
+    ghost use Rattle.toml.specs.Data.{Members};
+    ghost use Rattle.scenario_text.specs.declared.row_place.RowPlace.{RowPlace};
     ghost use Rattle.scenario_text.specs.declared.scenario_fault.ScenarioFault.{ScenarioFault};
 
-    /// What a value says.
-    ghost row_of: { Data → Result Self ScenarioFault };
+    /// What the members of a row say.
+    ghost row_of: { RowPlace → Members → Result Self ScenarioFault };
 
     /// What each row keeps.
     ghost keeps: { Self → Type 0 };
 
-    /// The row that a value is.
-    fn read(value: &Value) -> Result<Self, ScenarioFault>
-        ensures exact { result ≡ row_of (view value.now) }
+    /// The row that a table is.
+    fn read(alloc: Global, row: RowPlace, table: &Table) -> Result<Self, ScenarioFault>
+        ensures exact { Gives result (row_of row (table_view table.now)) }
         ensures kept { IfOk result keeps };
 }
 
@@ -35,57 +43,100 @@ impl Row for EdgePlan {
     ghost keeps = { λ _. Unit {0} };
 
     #[tactic(auto, unfolding(crate::specs::Rows::edge_in))]
-    fn read(value: &Value) -> Result<EdgePlan, ScenarioFault> {
-        let table = row_table(TableKind::Edge, value)?;
-        let name = name_at(table, "name")?;
-        let address = address_at(table, "address")?;
-        Ok(EdgePlan {
-            name,
-            address,
-            first_label: 16,
-            keepalive: 180,
-            max_pdu: 4096,
-        })
+    fn read(_alloc: Global, row: RowPlace, table: &Table) -> Result<EdgePlan, ScenarioFault> {
+        let name = name_at(row, table, "name")?;
+        let address = address_at(row, table, "address")?;
+        let first_label = number_or(16, row, table, "first_label", 16, 1048575)?;
+        let keepalive = number_or(180, row, table, "keepalive", 3, 65535)? as u16;
+        let max_pdu = number_or(4096, row, table, "max_pdu", 256, 4096)? as u16;
+        match only_known_keys(TableKind::Edge, row, table) {
+            Ok(()) => Ok(EdgePlan {
+                name,
+                address,
+                first_label,
+                keepalive,
+                max_pdu,
+            }),
+            Err(fault) => Err(fault),
+        }
     }
 }
 
 impl Row for ServicePlan {
     ghost use Rattle.scenario_text.specs.Rows.{service_in};
-    ghost use Rattle.scenario_text.specs.Runnable.{HasUsualMtu};
+    ghost use Rattle.scenario_text.specs.Runnable.{IsSized};
 
     ghost row_of = { service_in };
 
-    ghost keeps = { HasUsualMtu };
+    ghost keeps = { IsSized };
 
     #[tactic(auto, unfolding(crate::specs::Rows::service_in))]
-    fn read(value: &Value) -> Result<ServicePlan, ScenarioFault> {
-        let table = row_table(TableKind::Service, value)?;
-        let name = name_at(table, "name")?;
-        Ok(ServicePlan {
-            name,
-            mtu: 1500,
-            age: 300,
-        })
+    fn read(_alloc: Global, row: RowPlace, table: &Table) -> Result<ServicePlan, ScenarioFault> {
+        let name = name_at(row, table, "name")?;
+        let mtu = number_or(1500, row, table, "mtu", 64, 9198)? as u16;
+        let age = number_or(300, row, table, "age", 1, 1000000)?;
+        match only_known_keys(TableKind::Service, row, table) {
+            Ok(()) => Ok(ServicePlan { name, mtu, age }),
+            Err(fault) => Err(fault),
+        }
     }
 }
 
 impl Row for CircuitRow {
     ghost use Rattle.scenario_text.specs.Rows.{circuit_row_in};
+    ghost use Rattle.scenario_text.specs.Runnable.{HasTag};
 
     ghost row_of = { circuit_row_in };
 
-    ghost keeps = { λ _. Unit {0} };
+    ghost keeps = { λ row. HasTag row.tag };
 
     #[tactic(auto, unfolding(crate::specs::Rows::circuit_row_in))]
-    fn read(value: &Value) -> Result<CircuitRow, ScenarioFault> {
-        let table = row_table(TableKind::Circuit, value)?;
-        let name = name_at(table, "name")?;
-        let edge = name_at(table, "edge")?;
-        let service = name_at(table, "service")?;
-        Ok(CircuitRow {
-            name,
-            edge,
-            service,
-        })
+    fn read(_alloc: Global, row: RowPlace, table: &Table) -> Result<CircuitRow, ScenarioFault> {
+        let name = name_at(row, table, "name")?;
+        let edge = name_at(row, table, "edge")?;
+        let service = name_at(row, table, "service")?;
+        let tag = optional_number(None, row, table, "tag", 1, 4094)?;
+        match only_known_keys(TableKind::Circuit, row, table) {
+            Ok(()) => Ok(CircuitRow {
+                name,
+                edge,
+                service,
+                tag,
+            }),
+            Err(fault) => Err(fault),
+        }
+    }
+}
+
+impl Row for WireRow {
+    ghost use Rattle.scenario_text.specs.Rows.{wire_row_in};
+
+    ghost row_of = { wire_row_in };
+
+    ghost keeps = { λ _. Unit {0} };
+
+    #[tactic(auto, unfolding(crate::specs::Rows::wire_row_in))]
+    fn read(alloc: Global, row: RowPlace, table: &Table) -> Result<WireRow, ScenarioFault> {
+        let name = name_at(row, table, "name")?;
+        let service = name_at(row, table, "service")?;
+        let class = class_at(row, table, "class")?;
+        let path = path_at(alloc, row, table, "path")?;
+        let pw_id = number_at(row, table, "pw_id", 1, 4294967295)?;
+        let priority = number_or(100, row, table, "priority", 0, 255)? as u8;
+        let near = near_offer(row, table)?;
+        let far = far_offer(&near, row, table)?;
+        match only_known_keys(TableKind::Wire, row, table) {
+            Ok(()) => Ok(WireRow {
+                name,
+                service,
+                class,
+                path,
+                pw_id,
+                priority,
+                near,
+                far,
+            }),
+            Err(fault) => Err(fault),
+        }
     }
 }

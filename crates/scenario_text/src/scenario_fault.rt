@@ -1,6 +1,6 @@
 //! Why a text is no scenario.
 
-use net_base::NoMemory;
+use net_base::{NoMemory, Place, PlanFault, Table};
 use std::alloc::{AllocError, AllocFailed};
 use thiserror::Error;
 
@@ -10,9 +10,27 @@ pub enum ScenarioFault {
     /// The bytes are no TOML document; a TOML document is UTF-8.
     #[error("not a TOML document")]
     NotToml,
-    /// A text outside what is built so far. This fault is temporary.
-    #[error("outside what is built so far")]
-    NotBuilt,
+    /// A key that a row has to have is absent.
+    #[error("a key is missing")]
+    Missing(Place),
+    /// The value at a key is of another kind.
+    #[error("a value is of the wrong kind")]
+    WrongKind(Place),
+    /// A key that no row of the table has.
+    #[error("a key is unknown")]
+    UnknownKey(Place),
+    /// A word of an event is missing, one too many, or not what has to stand there. Both numbers count from 1.
+    #[error("word {word} of event {event} is wrong")]
+    BadWord { event: u32, word: u32 },
+    /// A table has more rows, or the document more events, than the limit.
+    #[error("more than {limit} rows")]
+    TooMany { table: Table, limit: u32 },
+    /// The version is not 1.
+    #[error("not version 1")]
+    Version,
+    /// A value outside its range, a name that no row has, or a fault of the plan as a whole.
+    #[error("the plan is at fault")]
+    Plan(PlanFault),
     /// Memory was refused.
     #[error("out of memory")]
     NoMemory,

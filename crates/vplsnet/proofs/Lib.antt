@@ -1,3 +1,4 @@
+pub mod BuiltLemmas
 pub mod DomainLemmas
 pub mod FileLemmas
 pub mod OutcomeLemmas

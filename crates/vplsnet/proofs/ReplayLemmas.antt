@@ -1,11 +1,10 @@
 -- What a replay tells of a frame is the row of the frame in the network's step.
-use Rattle.std.proofs.Common.{◌≡◌, ◌<◌, ◌≤◌, ◌+◌, ◌++◌, ◌∙◌, ℕ, zero, suc, Bool, false, List, [], ◌∷◌, Option, Some, None, Result, Ok, cond, length, drop, slice_get, get_or, nat_lt, position, option_map, option_and_then, refl, ap, sym, subst, arith, append_assoc, add-zero, zero-add}
+use Rattle.std.proofs.Common.{true, false, ◌&&◌, nat_le, nat_eq, ◌≡◌, ◌<◌, ◌≤◌, ◌+◌, ◌++◌, ◌∙◌, ℕ, zero, suc, Bool, false, List, [], ◌∷◌, Option, Some, None, Result, Ok, cond, length, drop, slice_get, get_or, nat_lt, position, option_map, option_and_then, refl, ap, sym, subst, arith, append_assoc, add-zero, zero-add}
 use Rattle.std.proofs.lemmas.Bool.Decides.{nat_tests}
 use Rattle.std.proofs.lemmas.Option.{slice_get_within, get_or_from_slice_get, slice_get_read}
 use Rattle.std.specs.List.{All}
 use Rattle.net_base.specs.declared.plan.Plan.{Plan}
 use Rattle.net_base.specs.declared.circuit_plan.CircuitPlan.{CircuitPlan}
-use Rattle.net_base.specs.declared.service_plan.ServicePlan.{ServicePlan}
 use Rattle.net_base.specs.declared.drop_cause.DropCause.{DropCause}
 use Rattle.net_base.specs.declared.entry.Entry.{Entry}
 use Rattle.net_base.specs.declared.entry.Entry.TheVariants.{In, Left}
@@ -29,8 +28,12 @@ use Rattle.network_model.specs.Run.{entries_along, run}
 use Rattle.scenario_text.specs.declared.command.Command.{Command}
 use Rattle.scenario_text.specs.declared.command.Command.TheVariants.{One}
 use Rattle.scenario_text.specs.declared.scenario.Scenario.{Scenario}
-use Rattle.vplsnet.specs.Made.{made, event_of}
-use Rattle.scenario_text.specs.Runnable.{IsPlaced, HasUsualMtu, IsFloodedEvent, IsFloodedFrame, IsFloodedOctets}
+use Rattle.vplsnet.specs.Made.{made, told_by}
+use Rattle.scenario_text.specs.Runnable.{IsPlaced}
+use Rattle.network_model.proofs.CalmLemmas.{and_left, and_right}
+use Rattle.std.specs.List.{list_all}
+use Rattle.vplsnet.specs.Built.{is_untagged, is_usual, is_flooded_frame, is_built_event, is_built_command, is_built}
+use Rattle.vplsnet.proofs.BuiltLemmas.{IsFrameSize, flooded_size, built_circuit, usual_mtu, untagged_at}
 use Rattle.vplsnet.specs.declared.domain.Domain.{Domain}
 use Rattle.vplsnet.specs.Domain.{IsDomain, AreDomains, plain_copy, after_frames, first_edge}
 
@@ -82,7 +85,7 @@ bridged_plain plan origin octets edge ports None untagged = refl
 bridged_plain plan origin octets edge ports (Some arrival) untagged = copies_plain plan origin octets (is_target ports (port_forwards edge ports) arrival) 0 ports untagged
 
 -- a frame of 14 to 1518 octets at a circuit without a tag is its own inner frame
-plain_inner : (tag mtu : Option ℕ) (row : CircuitPlan) (octets : List ℕ) → row.tag ≡ None → mtu ≡ Some 1500 → IsFloodedOctets octets → inner_by (Some row) mtu octets ≡ Ok octets
+plain_inner : (tag mtu : Option ℕ) (row : CircuitPlan) (octets : List ℕ) → row.tag ≡ None → mtu ≡ Some 1500 → IsFrameSize octets → inner_by (Some row) mtu octets ≡ Ok octets
 plain_inner tag mtu row octets untagged usual flooded =
     let enough : nat_lt (length octets) 14 ≡ false = grind (arith, nat_tests, flooded.long_enough) in
     let few : nat_lt 1518 (length octets) ≡ false = grind (arith, nat_tests, flooded.short_enough) in
@@ -102,23 +105,18 @@ has_row (x ∷ xs) (suc k) within = has_row xs k (omega arith)
 pub record IsPlain (plan : Plan) : Type 0 where
   pub edges : length plan.edges ≤ 1
   pub placed : All (IsPlaced (length plan.edges) (length plan.services)) plan.circuits
-  pub sized : All HasUsualMtu plan.services
+  pub untagged : list_all is_untagged plan.circuits ≡ true
 
 plain_tag : (plan : Plan) → IsPlain plan → (circuit : CircuitId) → tag_of plan circuit ≡ None
 plain_tag plan plain circuit =
-    tag_none (circuit_row plan circuit) (λ row is. (all_at (IsPlaced (length plan.edges) (length plan.services)) plan.circuits circuit.0 row plain.placed is).untagged)
-
-plain_mtu : (plan : Plan) (service : ServiceId) → IsPlain plan → service.0 < length plan.services → mtu_of plan service ≡ Some 1500
-plain_mtu plan service plain within =
-    let (row, is) = has_row plan.services service.0 within in
-    ap (λ (r : Option ServicePlan). option_map (λ (row : ServicePlan). row.mtu) r) is ∙ ap (λ (n : ℕ). Some n) (all_at HasUsualMtu plan.services service.0 row plain.sized is)
+    tag_none (circuit_row plan circuit) (λ row is. untagged_at plan.circuits circuit.0 row plain.untagged is)
 
 -- what a frame tells that enters as the next one
 pub frame_tells : (plan : Plan) (entered : ℕ) (circuit : CircuitId) (octets : List ℕ) (row : CircuitPlan) (domain : Domain)
-    → IsPlain plan → circuit_row plan circuit ≡ Some row → IsFloodedOctets octets → IsDomain plan row.service domain
+    → IsPlain plan → circuit_row plan circuit ≡ Some row → is_flooded_frame octets ≡ true → is_usual (mtu_by plan (service_of plan circuit)) ≡ true → IsDomain plan row.service domain
     → (frame_row plan (after_frames entered) circuit octets (circuit_row plan circuit)).entries
     ≡ In circuit (entered + 1) octets ∷ bridged empty_edge domain.bridge.ports (plain_copy (entered + 1) octets) (position (is_circuit_port circuit) domain.bridge.ports)
-frame_tells plan entered circuit octets row domain plain is flooded domain_is =
+frame_tells plan entered circuit octets row domain plain is flooded usual domain_is =
     let placed : IsPlaced (length plan.edges) (length plan.services) row = all_at (IsPlaced (length plan.edges) (length plan.services)) plan.circuits circuit.0 row plain.placed is in
     let at_first : row.edge.0 ≡ 0 = omega (arith, placed.edge, plain.edges) in
     let edge : row.edge ≡ first_edge = ap (λ (n : ℕ). record { 0 = n }) at_first in
@@ -127,7 +125,7 @@ frame_tells plan entered circuit octets row domain plain is flooded domain_is =
     let frame : inner_at plan circuit octets ≡ Ok octets =
     ap (λ (r : Option CircuitPlan). inner_by r (mtu_by plan (service_of plan circuit)) octets) is
     ∙ (ap (λ (s : Option ServiceId). inner_by (Some row) (mtu_by plan s) octets) service
-    ∙ plain_inner None (mtu_of plan row.service) row octets placed.untagged (plain_mtu plan row.service plain placed.service) flooded) in
+    ∙ plain_inner None (mtu_of plan row.service) row octets (untagged_at plan.circuits circuit.0 row plain.untagged is) (usual_mtu plan circuit row is usual) (flooded_size octets flooded)) in
     let sent : List ℕ → List Port → List Entry = λ x ps. bridged empty_edge ps (copy_by plan (entered + 1) 0 x) (position (is_circuit_port circuit) ps) in
     let told : received row.edge (entered + 1) (λ x. sent x (ports_of plan row.service row.edge)) (inner_at plan circuit octets)
     ≡ bridged empty_edge domain.bridge.ports (plain_copy (entered + 1) octets) (position (is_circuit_port circuit) domain.bridge.ports) =
@@ -137,11 +135,12 @@ frame_tells plan entered circuit octets row domain plain is flooded domain_is =
     ap (λ (r : Option CircuitPlan). (frame_row plan (after_frames entered) circuit octets r).entries) is ∙ ap (λ (l : List Entry). In circuit (entered + 1) octets ∷ l) told
 
 -- and the state is that after one frame more
-pub frame_leads : (plan : Plan) (entered : ℕ) (event : Event) → IsFloodedEvent (length plan.circuits) event → (step plan (after_frames entered) event).state ≡ after_frames (entered + 1)
-frame_leads plan entered (Frame circuit octets) flooded =
-    let (row, is) = has_row plan.circuits circuit.0 flooded.0 in
+pub frame_leads : (plan : Plan) (entered : ℕ) (event : Event) → is_built_event plan event ≡ true → (step plan (after_frames entered) event).state ≡ after_frames (entered + 1)
+frame_leads plan entered (Frame circuit octets) built =
+    let usual = and_right (is_flooded_frame octets) (is_usual (mtu_by plan (service_of plan circuit))) built in
+    let (row, is) = has_row plan.circuits circuit.0 (built_circuit plan circuit usual) in
     ap (λ (r : Option CircuitPlan). (frame_row plan (after_frames entered) circuit octets r).state) is
-frame_leads plan entered event flooded = absurd flooded
+frame_leads plan entered event built = absurd (cc)
 
 -- what is read at a place stands there
 pub stands_at : {X : Type 0} (xs ys : List X) (k : ℕ) (x : X) → xs ≡ ys → k < length ys → x ≡ get_or xs k x → slice_get ys k ≡ Some x
@@ -152,11 +151,11 @@ pub read_domain : (plan : Plan) (service : ServiceId) (domains : List Domain) (d
 read_domain plan service domains domain are within is = domain_at plan service domains domain are (stands_at domains domains service.0 domain refl within is)
 
 pub told_frame : (plan : Plan) (entered : ℕ) (circuit : CircuitId) (octets : List ℕ) (row : CircuitPlan) (domain : Domain) (old mid new : List Entry) (copied read : List ℕ)
-    → IsPlain plan → circuit_row plan circuit ≡ Some row → IsFloodedOctets octets → IsDomain plan row.service domain
+    → IsPlain plan → circuit_row plan circuit ≡ Some row → is_flooded_frame octets ≡ true → is_usual (mtu_by plan (service_of plan circuit)) ≡ true → IsDomain plan row.service domain
     → copied ≡ octets → read ≡ octets → mid ≡ old ++ In circuit (entered + 1) copied ∷ []
     → new ≡ mid ++ bridged empty_edge domain.bridge.ports (plain_copy (entered + 1) read) (position (is_circuit_port circuit) domain.bridge.ports)
     → new ≡ old ++ (frame_row plan (after_frames entered) circuit octets (circuit_row plan circuit)).entries
-told_frame plan entered circuit octets row domain old mid new copied read plain is flooded domain_is copied_is read_is mid_is new_is =
+told_frame plan entered circuit octets row domain old mid new copied read plain is flooded usual domain_is copied_is read_is mid_is new_is =
     let out : List ℕ → List Entry = λ x. bridged empty_edge domain.bridge.ports (plain_copy (entered + 1) x) (position (is_circuit_port circuit) domain.bridge.ports) in
     let entry : List ℕ → Entry = λ x. In circuit (entered + 1) x in
     new_is
@@ -164,7 +163,7 @@ told_frame plan entered circuit octets row domain old mid new copied read plain 
     ∙ (ap (λ (x : List ℕ). (old ++ entry copied ∷ []) ++ out x) read_is
     ∙ (ap (λ (x : List ℕ). (old ++ entry x ∷ []) ++ out octets) copied_is
     ∙ (append_assoc old (entry octets ∷ []) (out octets)
-    ∙ ap (λ (l : List Entry). old ++ l) (sym (frame_tells plan entered circuit octets row domain plain is flooded domain_is))))))
+    ∙ ap (λ (l : List Entry). old ++ l) (sym (frame_tells plan entered circuit octets row domain plain is flooded usual domain_is))))))
 
 -- after so many commands: what is told so far, with what the others will tell, is the run
 pub record IsTold (scenario : Scenario) (entered : ℕ) (domains : List Domain) (trace : List Entry) : Type 0 where
@@ -172,40 +171,73 @@ pub record IsTold (scenario : Scenario) (entered : ℕ) (domains : List Domain) 
   pub len : length domains ≡ length scenario.plan.services
   pub told : trace ++ entries_along scenario.plan (after_frames entered) (made (drop entered scenario.commands)) ≡ (run scenario.plan (made scenario.commands)).entries
 
--- one command more
-events_from : (commands : List Command) (k : ℕ) (command : Command) → slice_get commands k ≡ Some command → made (drop k commands) ≡ event_of command ∷ made (drop (suc k) commands)
-events_from [] k command is = absurd (cc (is))
-events_from (first ∷ commands) zero command is =
-    let same : first ≡ command = cc (is) in
-    ap (λ (c : Command). made (c ∷ commands)) same
-events_from (first ∷ commands) (suc k) command is = events_from commands k command is
+-- a command that is built is one event
+pub record IsOneEvent (plan : Plan) (command : Command) : Type 0 where
+  pub event : Event
+  pub is : command ≡ One event
+  pub built : is_built_event plan event ≡ true
 
-flooded_event : (circuits : ℕ) (command : Command) → IsFloodedFrame circuits command → IsFloodedEvent circuits (event_of command)
-flooded_event circuits (One event) flooded = flooded
+one_event : (plan : Plan) (command : Command) → is_built_command plan command ≡ true → IsOneEvent plan command
+one_event plan (One event) built = record { event = event; is = refl; built = built }
+one_event plan command built = absurd (cc)
+
+-- one command more
+events_from : (commands : List Command) (k : ℕ) (event : Event) → slice_get commands k ≡ Some (One event) → made (drop k commands) ≡ event ∷ made (drop (suc k) commands)
+events_from [] k event is = absurd (cc (is))
+events_from (first ∷ commands) zero event is =
+    let same : first ≡ One event = cc (is) in
+    ap (λ (c : Command). made (c ∷ commands)) same
+events_from (first ∷ commands) (suc k) event is = events_from commands k event is
+
+pub built_at : (plan : Plan) (commands : List Command) (k : ℕ) (command : Command) → list_all (is_built_command plan) commands ≡ true → slice_get commands k ≡ Some command → is_built_command plan command ≡ true
+built_at plan [] k command all is = absurd (cc (is))
+built_at plan (first ∷ commands) zero command all is =
+    let same : first ≡ command = cc (is) in
+    ap (is_built_command plan) (sym same) ∙ and_left (is_built_command plan first) (list_all (is_built_command plan) commands) all
+built_at plan (first ∷ commands) (suc k) command all is = built_at plan commands k command (and_right (is_built_command plan first) (list_all (is_built_command plan) commands) all) is
+
+-- the parts of being built
+pub record IsBuilt (scenario : Scenario) : Type 0 where
+  pub edges : length scenario.plan.edges ≤ 1
+  pub untagged : list_all is_untagged scenario.plan.circuits ≡ true
+  pub commands : list_all (is_built_command scenario.plan) scenario.commands ≡ true
+
+pub built_parts : (scenario : Scenario) → is_built scenario ≡ true → IsBuilt scenario
+built_parts scenario built =
+    let plan : Bool = nat_le (length scenario.plan.edges) 1 && nat_eq (length scenario.plan.wires) 0 in
+    let front = and_left (plan && list_all is_untagged scenario.plan.circuits) (list_all (is_built_command scenario.plan) scenario.commands) built in
+    let one : nat_le (length scenario.plan.edges) 1 ≡ true = and_left (nat_le (length scenario.plan.edges) 1) (nat_eq (length scenario.plan.wires) 0) (and_left plan (list_all is_untagged scenario.plan.circuits) front) in
+    record {
+      edges = grind (arith, nat_tests, one);
+      untagged = and_right plan (list_all is_untagged scenario.plan.circuits) front;
+      commands = and_right (plan && list_all is_untagged scenario.plan.circuits) (list_all (is_built_command scenario.plan) scenario.commands) built;
+    }
 
 pub told_next : (scenario : Scenario) (entered : ℕ) (items : List Command) (command : Command) (domains before : List Domain) (trace now : List Entry)
-    → All (IsFloodedFrame (length scenario.plan.circuits)) scenario.commands
+    → is_built scenario ≡ true
     → IsTold scenario entered before trace → domains ≡ before
     → items ≡ scenario.commands → entered < length items → command ≡ get_or items entered command
-    → now ≡ trace ++ (step scenario.plan (after_frames entered) (event_of command)).entries
+    → now ≡ trace ++ told_by scenario.plan (after_frames entered) command
     → IsTold scenario (entered + 1) domains now
-told_next scenario entered items command domains before trace now frames so_far same all within read now_is =
-    let is : slice_get scenario.commands entered ≡ Some command = stands_at items scenario.commands entered command all (omega (arith, ap length all)) read in
-    let flooded = flooded_event (length scenario.plan.circuits) command (all_at (IsFloodedFrame (length scenario.plan.circuits)) scenario.commands entered command frames is) in
-    let event : Event = event_of command in
+told_next scenario entered items command domains before trace now built so_far same all within read now_is =
+    let at : slice_get scenario.commands entered ≡ Some command = stands_at items scenario.commands entered command all (omega (arith, ap length all)) read in
+    let one = one_event scenario.plan command (built_at scenario.plan scenario.commands entered command (built_parts scenario built).commands at) in
+    let event : Event = one.event in
+    let is : slice_get scenario.commands entered ≡ Some (One event) = at ∙ ap (λ (c : Command). Some c) one.is in
+    let told : now ≡ trace ++ (step scenario.plan (after_frames entered) event).entries = now_is ∙ ap (λ (c : Command). trace ++ told_by scenario.plan (after_frames entered) c) one.is in
     let next : suc entered ≡ entered + 1 = omega arith in
     let rest : List Command = drop (entered + 1) scenario.commands in
     let events : made (drop entered scenario.commands) ≡ event ∷ made rest =
-    events_from scenario.commands entered command is ∙ ap (λ (n : ℕ). event ∷ made (drop n scenario.commands)) next in
+    events_from scenario.commands entered event is ∙ ap (λ (n : ℕ). event ∷ made (drop n scenario.commands)) next in
     let along : entries_along scenario.plan (after_frames entered) (made (drop entered scenario.commands))
     ≡ (step scenario.plan (after_frames entered) event).entries ++ entries_along scenario.plan (after_frames (entered + 1)) (made rest) =
     ap (λ (es : List Event). entries_along scenario.plan (after_frames entered) es) events
-    ∙ ap (λ (n : NetworkState). (step scenario.plan (after_frames entered) event).entries ++ entries_along scenario.plan n (made rest)) (frame_leads scenario.plan entered event flooded) in
+    ∙ ap (λ (n : NetworkState). (step scenario.plan (after_frames entered) event).entries ++ entries_along scenario.plan n (made rest)) (frame_leads scenario.plan entered event one.built) in
     record {
       opened = subst (AreDomains scenario.plan 0) (sym same) so_far.opened;
       len = ap length same ∙ so_far.len;
       told =
-          ap (λ (l : List Entry). l ++ entries_along scenario.plan (after_frames (entered + 1)) (made rest)) now_is
+          ap (λ (l : List Entry). l ++ entries_along scenario.plan (after_frames (entered + 1)) (made rest)) told
           ∙ (append_assoc trace (step scenario.plan (after_frames entered) event).entries (entries_along scenario.plan (after_frames (entered + 1)) (made rest))
           ∙ (ap (λ (l : List Entry). trace ++ l) (sym along) ∙ so_far.told));
     }

@@ -1,10 +1,9 @@
 -- The status and the line by which the program ends.
 use Rattle.std.specs.Prelude.{◌++◌, codes, ℕ, List, []}
 use Rattle.std.specs.Fmt.{decimal}
-use Rattle.scenario_text.specs.declared.scenario_fault.ScenarioFault.{ScenarioFault}
-use Rattle.scenario_text.specs.declared.scenario_fault.ScenarioFault.TheVariants as fault
+use Rattle.vplsnet.specs.FaultText.{fault_words, spaced}
 use Rattle.vplsnet.specs.declared.outcome.Outcome.{Outcome}
-use Rattle.vplsnet.specs.declared.outcome.Outcome.TheVariants.{Done, Usage, ReadFault, WriteFault, TooLong, ScenarioRefused, NoMemory}
+use Rattle.vplsnet.specs.declared.outcome.Outcome.TheVariants.{Done, Usage, ReadFault, WriteFault, TooLong, ScenarioRefused, NotBuilt, NoMemory}
 
 abbrev pub status_of : Outcome → ℕ
 status_of Done = 0
@@ -13,12 +12,8 @@ status_of ReadFault = 3
 status_of WriteFault = 4
 status_of (TooLong name limit) = 5
 status_of (ScenarioRefused fault) = 5
+status_of NotBuilt = 5
 status_of NoMemory = 8
-
-abbrev pub fault_name : ScenarioFault → List ℕ
-fault_name fault.NotToml = codes "NotToml"
-fault_name fault.NotBuilt = codes "NotBuilt"
-fault_name fault.NoMemory = codes "out of memory"
 
 abbrev pub long_line : List ℕ → ℕ → List ℕ
 long_line name limit = ((codes "vplsnet: " ++ name) ++ codes " is longer than ") ++ decimal limit
@@ -30,5 +25,6 @@ finish_text Usage = codes "vplsnet: usage"
 finish_text ReadFault = codes "vplsnet: read fault"
 finish_text WriteFault = codes "vplsnet: write fault"
 finish_text (TooLong name limit) = long_line name limit
-finish_text (ScenarioRefused fault) = codes "vplsnet: scenario: " ++ fault_name fault
+finish_text (ScenarioRefused fault) = codes "vplsnet: scenario:" ++ spaced (fault_words fault)
+finish_text NotBuilt = codes "vplsnet: not built"
 finish_text NoMemory = codes "vplsnet: out of memory"

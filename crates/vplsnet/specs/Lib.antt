@@ -1,4 +1,6 @@
+pub mod Built
 pub mod Domain
+pub mod FaultText
 pub mod Files
 pub mod Finish
 pub mod Made

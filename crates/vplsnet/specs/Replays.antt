@@ -1,5 +1,5 @@
 -- What the replay of a named file does, by its outcome.
-use Rattle.std.specs.Prelude.{◌≡◌, ◌≢◌, ◌≤◌, ◌<◌, ℕ, List, [], length, Option, Some, Ok, Err, IfSome}
+use Rattle.std.specs.Prelude.{◌≡◌, ◌≢◌, ◌≤◌, ◌<◌, ℕ, true, false, List, [], length, Option, Some, Ok, Err, IfSome}
 use Rattle.net_base.specs.declared.entry.Entry.{Entry}
 use Rattle.net_base.specs.Isolated.{Isolated}
 use Rattle.net_base.specs.Outside.{Rose, Appends}
@@ -12,7 +12,8 @@ use Rattle.scenario_text.specs.declared.scenario_fault.ScenarioFault.TheVariants
 use Rattle.scenario_text.specs.Document.{document}
 use Rattle.vplsnet.specs.declared.ending.Ending.TheVariants.{End}
 use Rattle.vplsnet.specs.declared.outcome.Outcome.{Outcome}
-use Rattle.vplsnet.specs.declared.outcome.Outcome.TheVariants.{Done, Usage, ReadFault, WriteFault, TooLong, ScenarioRefused, NoMemory}
+use Rattle.vplsnet.specs.declared.outcome.Outcome.TheVariants.{Done, Usage, ReadFault, WriteFault, TooLong, ScenarioRefused, NotBuilt, NoMemory}
+use Rattle.vplsnet.specs.Built.{is_built}
 use Rattle.vplsnet.specs.Files.{IsLonger, AppendsFront}
 use Rattle.vplsnet.specs.Made.{made}
 use Rattle.vplsnet.specs.Report.{report}
@@ -51,10 +52,17 @@ pub record IsRefused (files : Files) (name : List ℕ) (fault : ScenarioFault) :
   pub reads : document octets ≡ Err fault
   pub no_want : fault ≢ scenario_fault.NoMemory
 
+-- the scenario is accepted, and has something that is not built yet
+pub record IsUnbuilt (files : Files) (name : List ℕ) : Type 0 where
+  pub scenario : Scenario
+  pub accepted : IsAccepted files name scenario
+  pub unbuilt : is_built scenario ≡ false
+
 -- the trace is that of the run of the accepted scenario, the text is its report, and every promise holds of it
 pub record IsReplay (files : Files) (name : List ℕ) (trace : List Entry) (text : List ℕ) : Type 0 where
   pub scenario : Scenario
   pub accepted : IsAccepted files name scenario
+  pub built : is_built scenario ≡ true
   pub run_is : trace ≡ (run scenario.plan (made scenario.commands)).entries
   pub text_is : text ≡ report scenario.plan trace End
   -- customers stay apart
@@ -101,6 +109,7 @@ Replays around name trace ReadFault = HasReadFault around name × IsUntouched ar
 Replays around name trace WriteFault = IsCutShort around name trace
 Replays around name trace (TooLong named limit) = IsTooLong around.files name named limit × IsUntouched around trace
 Replays around name trace (ScenarioRefused fault) = IsRefused around.files name fault × IsUntouched around trace
+Replays around name trace NotBuilt = IsUnbuilt around.files name × IsUntouched around trace
 Replays around name trace NoMemory = around.taken_after ≡ around.taken_before
 
 -- why a scenario was not had
@@ -111,6 +120,7 @@ Prevents files before after name ReadFault = Rose (before name) (after name)
 Prevents files before after name WriteFault = ⊥
 Prevents files before after name (TooLong named limit) = IsTooLong files name named limit
 Prevents files before after name (ScenarioRefused fault) = IsRefused files name fault
+Prevents files before after name NotBuilt = IsUnbuilt files name
 Prevents files before after name NoMemory = Unit {0}
 
 -- the shelf tells what the name has
@@ -131,9 +141,8 @@ pub record IsToldRefused (files : Files) (name : List ℕ) (fault : ScenarioFaul
   pub fits : length octets ≤ scenario_limit
   pub reads : document octets ≡ Err fault
 
-pub record IsToldAccepted (files : Files) (name : List ℕ) : Type 0 where
+pub record IsToldAccepted (files : Files) (name : List ℕ) (scenario : Scenario) : Type 0 where
   pub octets : List ℕ
-  pub scenario : Scenario
   pub tells : Tells files name octets
   pub fits : length octets ≤ scenario_limit
   pub reads : document octets ≡ Ok scenario

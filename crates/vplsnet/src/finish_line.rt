@@ -1,7 +1,9 @@
 //! The line that tells how a call ended.
 ghost use Rattle.std.specs.Prelude.{◌≡◌, ◌≢◌, ◌++◌, codes, string_bytes, IfOk};
-ghost use Rattle.vplsnet.specs.Finish.{fault_name, long_line, finish_text};
+ghost use Rattle.vplsnet.specs.FaultText.{fault_words, spaced};
+ghost use Rattle.vplsnet.specs.Finish.{long_line, finish_text};
 
+use crate::fault_text::put_fault;
 use crate::outcome::Outcome;
 use net_base::NoMemory;
 use scenario_text::ScenarioFault;
@@ -18,7 +20,8 @@ pub fn finish_line(alloc: Global, outcome: &Outcome) -> Result<String, NoMemory>
         Outcome::ReadFault => plain_line(alloc, "vplsnet: read fault"),
         Outcome::WriteFault => plain_line(alloc, "vplsnet: write fault"),
         Outcome::TooLong { name, limit } => too_long_line(alloc, name.as_str(), *limit),
-        Outcome::ScenarioRefused(fault) => refused_line(alloc, fault_text(*fault)),
+        Outcome::ScenarioRefused(fault) => refused_line(alloc, *fault),
+        Outcome::NotBuilt => plain_line(alloc, "vplsnet: not built"),
         Outcome::NoMemory => plain_line(alloc, "vplsnet: out of memory"),
     }
 }
@@ -42,21 +45,10 @@ fn too_long_line(alloc: Global, name: &str, limit: u64) -> Result<String, NoMemo
 }
 
 // The line for a scenario that is refused.
-fn refused_line(alloc: Global, fault: &str) -> Result<String, NoMemory>
-    ensures { IfOk result (λ line. string_bytes line ≡ codes "vplsnet: scenario: " ++ fault.now) }
+fn refused_line(alloc: Global, fault: ScenarioFault) -> Result<String, NoMemory>
+    ensures { IfOk result (λ line. string_bytes line ≡ codes "vplsnet: scenario:" ++ spaced (fault_words fault)) }
 {
-    let mut line = String::from_str(alloc, "vplsnet: scenario: ")?;
-    line.push_str(fault)?;
+    let mut line = String::from_str(alloc, "vplsnet: scenario:")?;
+    put_fault(&mut line, fault)?;
     Ok(line)
-}
-
-// The name of a fault.
-fn fault_text(fault: ScenarioFault) -> &'static str
-    ensures { result.now ≡ fault_name fault }
-{
-    match fault {
-        ScenarioFault::NotToml => "NotToml",
-        ScenarioFault::NotBuilt => "NotBuilt",
-        ScenarioFault::NoMemory => "out of memory",
-    }
 }

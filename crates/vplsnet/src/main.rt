@@ -1,8 +1,10 @@
 //! `vplsnet`: a network of VPLS provider edges, run from a file.
 #![tactic(auto)]
 
+mod built;
 mod domain;
 mod ending;
+mod fault_text;
 mod file_shelf;
 mod files;
 mod finish;

@@ -20,6 +20,8 @@ pub enum Outcome {
     TooLong { name: Word, limit: u64 },
     /// The scenario has this first fault, which is not want of memory. Nothing was taken.
     ScenarioRefused(ScenarioFault),
+    /// The scenario is accepted, and has something that is not built yet. Nothing was taken.
+    NotBuilt,
     /// Memory was refused. Nothing was taken.
     NoMemory,
 }
@@ -34,7 +36,7 @@ impl Outcome {
             Outcome::Usage => 2,
             Outcome::ReadFault => 3,
             Outcome::WriteFault => 4,
-            Outcome::TooLong { .. } | Outcome::ScenarioRefused(_) => 5,
+            Outcome::TooLong { .. } | Outcome::ScenarioRefused(_) | Outcome::NotBuilt => 5,
             Outcome::NoMemory => 8,
         }
     }

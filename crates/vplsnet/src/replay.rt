@@ -1,12 +1,15 @@
 //! The run of a scenario of one edge: each frame passes the bridge of its service.
-ghost use Rattle.std.specs.Prelude.{◌≡◌, ◌≤◌, ◌<◌, ◌+◌, ◌^◌, ◌++◌, length, All, IfOk, OnOk};
-ghost use Rattle.net_base.specs.Places.{circuit_row};
+ghost use Rattle.std.specs.Prelude.{◌≡◌, ◌≤◌, ◌<◌, ◌+◌, ◌^◌, ◌++◌, true, length, All, IfOk, OnOk};
+ghost use Rattle.std.specs.List.{list_all};
+ghost use Rattle.net_base.specs.Isolated.{mtu_by};
+ghost use Rattle.net_base.specs.Places.{circuit_row, service_of};
 ghost use Rattle.network_model.specs.Enter.{frame_row};
 ghost use Rattle.network_model.specs.Run.{run};
 ghost use Rattle.network_model.specs.Step.{step};
-ghost use Rattle.scenario_text.specs.Runnable.{IsPlaced, HasUsualMtu, IsFloodedEvent, IsFloodedFrame, IsFloodedOctets, IsRunnable};
+ghost use Rattle.scenario_text.specs.Runnable.{IsPlaced, IsRunnable};
+ghost use Rattle.vplsnet.specs.Built.{is_untagged, is_usual, is_flooded_frame, is_built_event, is_built_command, is_built};
 ghost use Rattle.vplsnet.specs.Domain.{AreDomains, after_frames};
-ghost use Rattle.vplsnet.specs.Made.{made, event_of};
+ghost use Rattle.vplsnet.specs.Made.{made, told_by};
 
 use crate::domain::{Domain, open_domain};
 use net_base::{CircuitId, Entry, Event, List, NoMemory, Octets, Plan, ServiceId, Trace};
@@ -15,7 +18,8 @@ use std::alloc::Global;
 
 /// The entries that the run of a scenario tells, in order.
 pub fn replayed(alloc: Global, scenario: &Scenario) -> Result<Trace, NoMemory>
-    requires { IsRunnable scenario.now }
+    requires runnable { IsRunnable scenario.now }
+    requires built { is_built scenario.now ≡ true }
     ensures { IfOk result (λ trace. trace ≡ (run scenario.now.plan (made scenario.now.commands)).entries) }
 {
     let mut domains = open_domains(alloc, &scenario.plan)?;
@@ -61,19 +65,21 @@ fn tell_command(
     requires few { entered < 2 ^ 63 }
     requires edges { length plan.now.edges ≤ 1 }
     requires placed { All (IsPlaced (length plan.now.edges) (length plan.now.services)) plan.now.circuits }
-    requires sized { All HasUsualMtu plan.now.services }
-    requires flooded { IsFloodedFrame (length plan.now.circuits) command.now }
+    requires untagged { list_all is_untagged plan.now.circuits ≡ true }
+    requires built { is_built_command plan.now command.now ≡ true }
     requires domains { AreDomains plan.now 0 domains.old.items }
     requires len { length domains.old.items ≡ length plan.now.services }
-    ensures told { OnOk result (trace.new ≡ trace.old ++ (step plan.now (after_frames entered) (event_of command.now)).entries) }
+    ensures told { OnOk result (trace.new ≡ trace.old ++ told_by plan.now (after_frames entered) command.now) }
     ensures same { domains.new.items ≡ domains.old.items }
 {
     match command {
         Command::One(event) => tell_event(alloc, plan, event, entered, domains, trace),
+        _ => Ok(()),
     }
 }
 
 // Tells an event and what it brings about, after so many frames have entered.
+#[tactic(auto, using(crate::proofs::BuiltLemmas::built_circuit))]
 fn tell_event(
     alloc: Global,
     plan: &Plan,
@@ -85,8 +91,8 @@ fn tell_event(
     requires few { entered < 2 ^ 63 }
     requires edges { length plan.now.edges ≤ 1 }
     requires placed { All (IsPlaced (length plan.now.edges) (length plan.now.services)) plan.now.circuits }
-    requires sized { All HasUsualMtu plan.now.services }
-    requires flooded { IsFloodedEvent (length plan.now.circuits) event.now }
+    requires untagged { list_all is_untagged plan.now.circuits ≡ true }
+    requires built { is_built_event plan.now event.now ≡ true }
     requires domains { AreDomains plan.now 0 domains.old.items }
     requires len { length domains.old.items ≡ length plan.now.services }
     ensures told { OnOk result (trace.new ≡ trace.old ++ (step plan.now (after_frames entered) event.now).entries) }
@@ -116,9 +122,10 @@ fn tell_frame(
     requires few { entered < 2 ^ 63 }
     requires edges { length plan.now.edges ≤ 1 }
     requires placed { All (IsPlaced (length plan.now.edges) (length plan.now.services)) plan.now.circuits }
-    requires sized { All HasUsualMtu plan.now.services }
+    requires untagged { list_all is_untagged plan.now.circuits ≡ true }
     requires circuit { circuit.0 < length plan.now.circuits }
-    requires flooded { IsFloodedOctets octets.now }
+    requires flooded { is_flooded_frame octets.now ≡ true }
+    requires usual { is_usual (mtu_by plan.now (service_of plan.now circuit)) ≡ true }
     requires domains { AreDomains plan.now 0 domains.old.items }
     requires len { length domains.old.items ≡ length plan.now.services }
     ensures told { OnOk result (trace.new ≡ trace.old ++ (frame_row plan.now (after_frames entered) circuit octets.now (circuit_row plan.now circuit)).entries) }

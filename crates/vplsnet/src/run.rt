@@ -1,8 +1,10 @@
 //! All that the program does.
-ghost use Rattle.std.specs.Prelude.{◌≡◌, ◌⊎◌, ◌↔◌, [], None, map, string_bytes, IfOk, IfErr, IfSome, OnOk};
+ghost use Rattle.std.specs.Prelude.{◌≡◌, ◌⊎◌, ◌↔◌, [], true, false, None, MatchResult, map, string_bytes, IfOk, IfErr, IfSome, OnOk};
 ghost use Rattle.net_base.specs.Outside.{Rose};
 ghost use Rattle.scenario_text.specs.declared.scenario_fault.ScenarioFault.{ScenarioFault};
+ghost use Rattle.scenario_text.specs.declared.scenario.Scenario.{Scenario};
 ghost use Rattle.scenario_text.specs.Runnable.{IsRunnable};
+ghost use Rattle.vplsnet.specs.Built.{is_built};
 ghost use Rattle.vplsnet.specs.declared.ending.Ending.TheVariants.{End};
 ghost use Rattle.network_model.specs.Run.{run};
 ghost use Rattle.vplsnet.specs.Finish.{status_of};
@@ -12,6 +14,7 @@ ghost use Rattle.vplsnet.specs.Replays.{Replays, Prevents, IsAccepted, IsToldLon
 ghost use Rattle.vplsnet.specs.Report.{report};
 ghost use Rattle.vplsnet.specs.Words.{replayed_file};
 
+use crate::built::is_built_scenario;
 use crate::ending::Ending;
 use crate::files::{ReadStop, read_file, write_text};
 use crate::finish::Finish;
@@ -30,8 +33,9 @@ const SCENARIO_LIMIT: usize = 8_388_608;
 ///
 /// `replay FILE` reads a scenario and writes the report of its run. `Usage` comes exactly where the words are not
 /// these; then in this order `ReadFault` where the shelf's count for the file rose, `TooLong` where the file has
-/// more than 8,388,608 octets, `ScenarioRefused` where it is no scenario that is built, and `WriteFault` where the
-/// sink's count rose. `NoMemory` may come at any time before the writing.
+/// more than 8,388,608 octets, `ScenarioRefused` where it has a fault, and `WriteFault` where the
+/// sink's count rose. `NotBuilt` comes, after an accepted scenario, where it has something that is not built yet.
+/// `NoMemory` may come at any time before the writing.
 pub fn run<F: Shelf, K: Sink>(
     alloc: Global,
     words: &[String],
@@ -62,8 +66,11 @@ pub fn run<F: Shelf, K: Sink>(
     ensures refused { IfSome (replayed_file (map string_bytes words.now)) (λ name. (fault : ScenarioFault)
         → IsToldRefused (F.files shelf.old) name fault → ¬ Rose (F.faults shelf.old name) (F.faults shelf.new name)
         → (result.outcome ≡ Outcome.ScenarioRefused fault) ⊎ (result.outcome ≡ Outcome.NoMemory)) }
-    ensures complete { IfSome (replayed_file (map string_bytes words.now)) (λ name.
-        IsToldAccepted (F.files shelf.old) name → ¬ Rose (F.faults shelf.old name) (F.faults shelf.new name) → ¬ Rose (K.faults sink.old) (K.faults sink.new)
+    ensures not_built { IfSome (replayed_file (map string_bytes words.now)) (λ name. (scenario : Scenario)
+        → IsToldAccepted (F.files shelf.old) name scenario → is_built scenario ≡ false → ¬ Rose (F.faults shelf.old name) (F.faults shelf.new name)
+        → (result.outcome ≡ Outcome.NotBuilt) ⊎ (result.outcome ≡ Outcome.NoMemory)) }
+    ensures complete { IfSome (replayed_file (map string_bytes words.now)) (λ name. (scenario : Scenario)
+        → IsToldAccepted (F.files shelf.old) name scenario → is_built scenario ≡ true → ¬ Rose (F.faults shelf.old name) (F.faults shelf.new name) → ¬ Rose (K.faults sink.old) (K.faults sink.new)
         → (result.outcome ≡ Outcome.Done) ⊎ (result.outcome ≡ Outcome.NoMemory)) }
     // The shelf's files are as they were.
     ensures same_files { F.files shelf.new ≡ F.files shelf.old }
@@ -108,13 +115,14 @@ fn replay<F: Shelf, K: Sink>(alloc: Global, name: &str, shelf: &mut F, sink: &mu
 // The scenario of the named file, or why it was not had.
 fn scenario_of<F: Shelf>(alloc: Global, shelf: &mut F, name: &str) -> Result<Scenario, Outcome>
     ensures accepted { IfOk result (IsAccepted (F.files shelf.old) name.now) }
+    ensures built { IfOk result (λ scenario. is_built scenario ≡ true) }
     ensures runnable { IfOk result IsRunnable }
     ensures prevented { IfErr result (Prevents (F.files shelf.old) (F.faults shelf.old) (F.faults shelf.new) name.now) }
     ensures same_files { F.files shelf.new ≡ F.files shelf.old }
 {
     match read_file(alloc, shelf, name, SCENARIO_LIMIT) {
         Ok(octets) => match read_scenario(alloc, octets.as_slice()) {
-            Ok(scenario) => Ok(scenario),
+            Ok(scenario) => built_only(scenario),
             Err(ScenarioFault::NoMemory) => Err(Outcome::NoMemory),
             Err(fault) => Err(Outcome::ScenarioRefused(fault)),
         },
@@ -130,9 +138,21 @@ fn scenario_of<F: Shelf>(alloc: Global, shelf: &mut F, name: &str) -> Result<Sce
     }
 }
 
+// The scenario, where it is within what is built.
+fn built_only(scenario: Scenario) -> Result<Scenario, Outcome>
+    ensures { MatchResult result (λ s. (s ≡ scenario) × (is_built s ≡ true)) (λ outcome. (outcome ≡ Outcome.NotBuilt) × (is_built scenario ≡ false)) }
+{
+    if is_built_scenario(&scenario) {
+        Ok(scenario)
+    } else {
+        Err(Outcome::NotBuilt)
+    }
+}
+
 // The run of a scenario and its report.
 fn run_of(alloc: Global, scenario: &Scenario) -> Result<(Trace, Vec<u8>), NoMemory>
-    requires { IsRunnable scenario.now }
+    requires runnable { IsRunnable scenario.now }
+    requires built { is_built scenario.now ≡ true }
     ensures trace { IfOk result (λ made_of. made_of.0 ≡ (run scenario.now.plan (made scenario.now.commands)).entries) }
     ensures text { IfOk result (λ made_of. made_of.1.items ≡ report scenario.now.plan made_of.0 End) }
     ensures promises { OnOk result (KeepsPromises scenario.now.plan (made scenario.now.commands)) }

@@ -5,7 +5,6 @@ use crate::finish_line::finish_line;
 use crate::outcome::Outcome;
 use crate::run::run;
 use net_base::{List, MemShelf, MemSink, NoMemory, Shelf, Sink};
-use scenario_text::ScenarioFault;
 use std::alloc::Global;
 use std::test::Fail;
 
@@ -105,6 +104,8 @@ fn replays_no_events(rt: HostRuntime) -> Result<(), Fail> {
 #[test]
 fn ends_with_a_status_and_a_line(rt: HostRuntime) -> Result<(), Fail> {
     let odd = "events = [\"frame c1 ffffffffffff020000000001080g\"]";
+    let seventh =
+        "events = [\"tick\", \"tick\", \"tick\", \"tick\", \"tick\", \"tick\", \"jump a\"]";
     let full = Around {
         sink_fails: 1,
         ..SOUND
@@ -122,7 +123,7 @@ fn ends_with_a_status_and_a_line(rt: HostRuntime) -> Result<(), Fail> {
             "events = 1",
             &SOUND,
             5,
-            "vplsnet: scenario: NotBuilt",
+            "vplsnet: scenario: WrongKind top 0 events",
         ),
         (
             "replay f",
@@ -131,7 +132,35 @@ fn ends_with_a_status_and_a_line(rt: HostRuntime) -> Result<(), Fail> {
             5,
             "vplsnet: scenario: NotToml",
         ),
-        ("replay f", odd, &SOUND, 5, "vplsnet: scenario: NotBuilt"),
+        ("replay f", odd, &SOUND, 5, "vplsnet: scenario: BadWord 1 3"),
+        (
+            "replay f",
+            seventh,
+            &SOUND,
+            5,
+            "vplsnet: scenario: BadWord 7 1",
+        ),
+        (
+            "replay f",
+            "\"no key\" = 1",
+            &SOUND,
+            5,
+            "vplsnet: scenario: UnknownKey top 0 no?key",
+        ),
+        (
+            "replay f",
+            "[[circuit]]\nname = \"c2\"\nedge = \"e\"\nservice = \"s\"",
+            &SOUND,
+            5,
+            "vplsnet: scenario: Plan RepeatedName circuit 3 name",
+        ),
+        (
+            "replay f",
+            "events = [\"tick\"]",
+            &SOUND,
+            5,
+            "vplsnet: not built",
+        ),
     ];
     for (words, events, around, status, line) in rows {
         let (finish, sink) = call(rt.alloc(), words, events, around)?;
@@ -145,16 +174,20 @@ fn ends_with_a_status_and_a_line(rt: HostRuntime) -> Result<(), Fail> {
 }
 
 #[test]
-fn refuses_what_is_not_built(rt: HostRuntime) -> Result<(), Fail> {
-    let odd = "events = [\"frame c1 ffffffffffff020000000001080g\"]";
-    let (finish, _) = call(rt.alloc(), "replay f", odd, &SOUND)?;
-    assert!(rt;
-        matches!(
-            finish.outcome,
-            Outcome::ScenarioRefused(ScenarioFault::NotBuilt)
-        )
-    );
-    assert_eq!(rt; finish.trace.len(), 0);
+fn answers_what_is_not_built(rt: HostRuntime) -> Result<(), Fail> {
+    // A frame of 13 octets, one to a station, one that is too long, a circuit that goes off, and a delivery.
+    for events in [
+        "events = [\"frame c1 ffffffffffff02000000000108\"]",
+        "events = [\"frame c1 0200000000020200000000010800\"]",
+        "events = [\"circuit c1 off\"]",
+        "events = [\"settle 20\"]",
+    ] {
+        let (finish, sink) = call(rt.alloc(), "replay f", events, &SOUND)?;
+        assert!(rt; matches!(finish.outcome, Outcome::NotBuilt), "{events}");
+        assert_eq!(rt; finish.status, 5);
+        assert_eq!(rt; finish.trace.len(), 0);
+        assert_eq!(rt; sink.taken().len(), 0);
+    }
     Ok(())
 }
 

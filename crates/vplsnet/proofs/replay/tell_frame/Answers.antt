@@ -26,8 +26,8 @@ returns-clause-told c =
     all_at (IsPlaced (length c.args.plan.now.edges) (length c.args.plan.now.services)) c.args.plan.now.circuits c.args.circuit.0 row c.requires.placed is in
     let domain : IsDomain c.args.plan.now row.service c.index_mut.result.now =
     read_domain c.args.plan.now row.service c.args.domains.now.items c.index_mut.result.now c.requires.domains (omega (arith, placed.service, c.requires.len)) c.index_mut.ensures.value in
-    let plain : IsPlain c.args.plan.now = record { edges = c.requires.edges; placed = c.requires.placed; sized = c.requires.sized } in
+    let plain : IsPlain c.args.plan.now = record { edges = c.requires.edges; placed = c.requires.placed; untagged = c.requires.untagged } in
     on_ok_weaker c.flood.result
     (λ copies. told_frame c.args.plan.now c.args.entered c.args.circuit c.args.octets.now row c.index_mut.result.now c.args.trace.now c.push.new.self c.flood.new.trace c.in_ok-copy.field-0 c.as_slice-2.result.now
-    plain is c.requires.flooded domain c.in_ok-copy.ensures c.as_slice-2.ensures c.in_ok-push.ensures.ok copies)
+    plain is c.requires.flooded c.requires.usual domain c.in_ok-copy.ensures c.as_slice-2.ensures c.in_ok-push.ensures.ok copies)
     c.flood.ensures.copies

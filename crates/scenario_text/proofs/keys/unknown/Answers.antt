@@ -1,0 +1,7 @@
+-- The keys of the map are those of the members.
+use Rattle.std.proofs.Common.{◌∙◌}
+use Rattle.scenario_text.proofs.KeyLemmas.{unknown_view}
+use Rattle.scenario_text.proofs.keys.unknown.Goals as goal
+
+pub returns : goal.returns
+returns c = c.unknown_among.ensures ∙ unknown_view c.args.table c.args.members.now.entries

@@ -1,0 +1,24 @@
+-- The arrays of a document as the code holds them.
+use Rattle.std.specs.Prelude.{◌≤◌, length}
+use Rattle.toml.specs.View.{items_view}
+use Rattle.scenario_text.specs.Top.{Arrays as TopArrays}
+use Rattle.scenario_text.specs.declared.arrays.Arrays.{Arrays}
+
+-- the items of each array
+abbrev pub arrays_of : Arrays → TopArrays
+arrays_of arrays =
+    record {
+      events = items_view arrays.events.now;
+      edges = items_view arrays.edges.now;
+      services = items_view arrays.services.now;
+      circuits = items_view arrays.circuits.now;
+      wires = items_view arrays.wires.now;
+    }
+
+-- no array has too many items
+pub record HasLimits (arrays : Arrays) : Type 0 where
+  pub events : length arrays.events.now ≤ 100000
+  pub edges : length arrays.edges.now ≤ 64
+  pub services : length arrays.services.now ≤ 64
+  pub circuits : length arrays.circuits.now ≤ 512
+  pub wires : length arrays.wires.now ≤ 1024

@@ -1,0 +1,64 @@
+-- The top of a document: its version and its arrays.
+use Rattle.std.specs.Prelude.{◌==◌, nat_le, codes, ℕ, ℤ, pos, negsuc, Bool, false, is_some, Result, Ok}
+use Rattle.toml.specs.Data.{Data, Items, no_items, Members, as_table, as_integer}
+use Rattle.net_base.specs.declared.place.Place.{Place}
+use Rattle.net_base.specs.declared.table.Table.{Table}
+use Rattle.net_base.specs.declared.table.Table.TheVariants.{Top, Events, Edge, Service, Circuit, Wire}
+use Rattle.scenario_text.specs.declared.scenario_fault.ScenarioFault.{ScenarioFault}
+use Rattle.scenario_text.specs.declared.scenario_fault.ScenarioFault.TheVariants.{WrongKind, TooMany, Version}
+use Rattle.scenario_text.specs.Reading.{◌>>=◌, checked, found}
+use Rattle.scenario_text.specs.Places.{top_row}
+use Rattle.scenario_text.specs.Keys.{only_known}
+use Rattle.scenario_text.specs.Values.{an_array, is_string, needed, defaulted}
+use Rattle.scenario_text.specs.Rows.{items_length}
+
+abbrev pub is_one : ℤ → Bool
+is_one (pos n) = n == 1
+is_one (negsuc n) = false
+
+-- the integer 1
+abbrev pub a_version : Place → Data → Result Bool ScenarioFault
+a_version place value = found (WrongKind place) (as_integer value) >>= (λ z. checked Version (is_one z))
+
+abbrev pub is_table : Data → Bool
+is_table value = is_some (as_table value)
+
+-- the arrays of a document
+pub record Arrays : Type 0 where
+  pub events : Items
+  pub edges : Items
+  pub services : Items
+  pub circuits : Items
+  pub wires : Items
+
+-- the array has at most so many items
+abbrev pub few : ℕ → Table → Items → Result Bool ScenarioFault
+few limit table items = checked (TooMany table limit) (nat_le (items_length items) limit)
+
+-- the arrays that stand at the keys of the top
+unfoldable pub arrays_at : Members → Result Arrays ScenarioFault
+arrays_at ms = do
+  events ← defaulted no_items (an_array is_string) top_row (codes "events") ms
+  edges ← defaulted no_items (an_array is_table) top_row (codes "edge") ms
+  services ← defaulted no_items (an_array is_table) top_row (codes "service") ms
+  circuits ← defaulted no_items (an_array is_table) top_row (codes "circuit") ms
+  wires ← defaulted no_items (an_array is_table) top_row (codes "wire") ms
+  Ok (record { events = events; edges = edges; services = services; circuits = circuits; wires = wires })
+
+-- no array has too many items
+unfoldable pub few_in : Arrays → Result Bool ScenarioFault
+few_in arrays = do
+  events ← few 100000 Events arrays.events
+  edges ← few 64 Edge arrays.edges
+  services ← few 64 Service arrays.services
+  circuits ← few 512 Circuit arrays.circuits
+  few 1024 Wire arrays.wires
+
+-- the arrays of a document of version 1
+unfoldable pub arrays_in : Members → Result Arrays ScenarioFault
+arrays_in ms = do
+  version ← needed a_version top_row (codes "version") ms
+  arrays ← arrays_at ms
+  known ← only_known Top top_row ms
+  few ← few_in arrays
+  Ok arrays

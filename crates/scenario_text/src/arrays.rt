@@ -1,0 +1,154 @@
+//! The top of a document: its version and its arrays.
+ghost use Rattle.std.specs.Prelude.{◌≡◌, ◌≤◌, true, codes, length, IfOk};
+ghost use Rattle.std.specs.List.{list_all};
+ghost use Rattle.toml.specs.Data.{no_items};
+ghost use Rattle.toml.specs.View.{view, items_view, table_view};
+ghost use Rattle.scenario_text.specs.Places.{place_at, top_row};
+ghost use Rattle.scenario_text.specs.Reading.{MapsTo};
+ghost use Rattle.scenario_text.specs.Values.{is_string, an_array, all_items, needed, defaulted};
+ghost use Rattle.scenario_text.specs.Top.{is_table, a_version, few, few_in, arrays_at, arrays_in};
+ghost use Rattle.scenario_text.specs.Arrays.{arrays_of, HasLimits};
+
+use crate::ScenarioFault;
+use crate::keys::only_known_keys;
+use crate::members::{member, needed_member};
+use crate::row_place::RowPlace;
+use crate::values::strings;
+use net_base::Table as TableKind;
+use toml::{Table, Value};
+
+/// The arrays of a document, each in the order of its rows.
+#[derive(Clone, Copy)]
+pub struct Arrays<'a> {
+    pub events: &'a [Value],
+    pub edges: &'a [Value],
+    pub services: &'a [Value],
+    pub circuits: &'a [Value],
+    pub wires: &'a [Value],
+}
+
+// Refuses a version that is not 1.
+fn version(table: &Table) -> Result<(), ScenarioFault>
+    ensures { MapsTo (λ _. true) result (needed a_version top_row (codes "version") (table_view table.now)) }
+{
+    let row = RowPlace::top();
+    match needed_member(row, table, "version") {
+        Ok(value) => match value.as_integer() {
+            Some(1) => Ok(()),
+            Some(_) => Err(ScenarioFault::Version),
+            None => Err(row.wrong_kind("version")),
+        },
+        Err(fault) => Err(fault),
+    }
+}
+
+// Whether all are tables, one by one.
+fn each_is_table(array: &[Value]) -> bool
+    ensures { result ≡ list_all (λ v. is_table (view v)) array.now }
+{
+    array.iter().all(|value| value.is_table())
+}
+
+// Whether all are tables.
+fn are_tables(array: &[Value]) -> bool
+    ensures { result ≡ all_items is_table (items_view array.now) }
+{
+    each_is_table(array)
+}
+
+// An array of tables.
+fn tables<'a>(row: RowPlace, key: &str, value: &'a Value) -> Result<&'a [Value], ScenarioFault>
+    ensures { MapsTo (λ items. items_view items.now) result (an_array is_table (place_at row key.now) (view value.now)) }
+{
+    match value.as_array() {
+        Some(array) => {
+            let items = array.as_slice();
+            if !are_tables(items) {
+                return Err(row.wrong_kind(key));
+            }
+            Ok(items)
+        }
+        None => Err(row.wrong_kind(key)),
+    }
+}
+
+// The tables at a key, none where it is absent.
+fn tables_at<'a>(row: RowPlace, table: &'a Table, key: &str) -> Result<&'a [Value], ScenarioFault>
+    ensures { MapsTo (λ items. items_view items.now) result (defaulted no_items (an_array is_table) row key.now (table_view table.now)) }
+{
+    match member(table, key) {
+        Some(value) => tables(row, key, value),
+        None => Ok(&[]),
+    }
+}
+
+// The strings at a key, none where it is absent.
+fn strings_at<'a>(row: RowPlace, table: &'a Table, key: &str) -> Result<&'a [Value], ScenarioFault>
+    ensures { MapsTo (λ items. items_view items.now) result (defaulted no_items (an_array is_string) row key.now (table_view table.now)) }
+{
+    match member(table, key) {
+        Some(value) => strings(row, key, value),
+        None => Ok(&[]),
+    }
+}
+
+// The arrays that stand at the keys of the top.
+#[tactic(auto, unfolding(crate::specs::Top::arrays_at))]
+fn top_arrays(table: &Table) -> Result<Arrays<'_>, ScenarioFault>
+    ensures { MapsTo arrays_of result (arrays_at (table_view table.now)) }
+{
+    let row = RowPlace::top();
+    let events = strings_at(row, table, "events")?;
+    let edges = tables_at(row, table, "edge")?;
+    let services = tables_at(row, table, "service")?;
+    let circuits = tables_at(row, table, "circuit")?;
+    let wires = tables_at(row, table, "wire")?;
+    Ok(Arrays {
+        events,
+        edges,
+        services,
+        circuits,
+        wires,
+    })
+}
+
+// Refuses an array of more items than the limit.
+#[tactic(auto, using(crate::proofs::RowLemmas::items_length_view))]
+fn check_few(limit: u32, table: TableKind, array: &[Value]) -> Result<(), ScenarioFault>
+    ensures exact { MapsTo (λ _. true) result (few limit table (items_view array.now)) }
+    ensures few { IfOk result (λ _. length array.now ≤ limit) }
+{
+    if array.len() > limit as usize {
+        return Err(ScenarioFault::TooMany { table, limit });
+    }
+    Ok(())
+}
+
+// Refuses arrays of which one has too many items.
+#[tactic(auto, unfolding(crate::specs::Top::few_in))]
+fn check_limits(arrays: &Arrays<'_>) -> Result<(), ScenarioFault>
+    ensures exact { MapsTo (λ _. true) result (few_in (arrays_of arrays.now)) }
+    ensures few { IfOk result (λ _. HasLimits arrays.now) }
+{
+    check_few(100000, TableKind::Events, arrays.events)?;
+    check_few(64, TableKind::Edge, arrays.edges)?;
+    check_few(64, TableKind::Service, arrays.services)?;
+    check_few(512, TableKind::Circuit, arrays.circuits)?;
+    match check_few(1024, TableKind::Wire, arrays.wires) {
+        Ok(()) => Ok(()),
+        Err(fault) => Err(fault),
+    }
+}
+
+/// The arrays of a document of version 1.
+#[tactic(auto, unfolding(crate::specs::Top::arrays_in))]
+pub fn document_arrays(table: &Table) -> Result<Arrays<'_>, ScenarioFault>
+    ensures exact { MapsTo arrays_of result (arrays_in (table_view table.now)) }
+    ensures few { IfOk result HasLimits }
+{
+    version(table)?;
+    let arrays = top_arrays(table)?;
+    only_known_keys(TableKind::Top, RowPlace::top(), table)?;
+    check_limits(&arrays)?;
+    Ok(arrays)
+}

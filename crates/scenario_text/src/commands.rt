@@ -1,0 +1,157 @@
+//! The commands of a document.
+ghost use Rattle.std.specs.Prelude.{◌≡◌, ◌≤◌, ◌+◌, length, IfOk};
+ghost use Rattle.std.specs.List.{All};
+ghost use Rattle.toml.specs.View.{view, items_view};
+ghost use Rattle.scenario_text.specs.Events.{repeats_in, tick_in, play_in, command_of, command_in, event_in, plays_after, commands_in};
+ghost use Rattle.scenario_text.specs.Reading.{Gives};
+ghost use Rattle.scenario_text.specs.Runnable.{IsCount, IsNamed};
+
+use crate::events::{
+    circuit_switch, connect, deliver, frame, lose, packet, ping, priority, restart, status,
+    wire_switch,
+};
+use crate::plan_names::PlanNames;
+use crate::row_place::RowPlace;
+use crate::said::{bad_word, file_word, name_word, no_word, number_word};
+use crate::words::{first, word};
+use crate::{Command, ScenarioFault};
+use net_base::{CircuitId, Event, List};
+use std::alloc::Global;
+use toml::Value;
+
+// N of `settle N`, `flow N` and `tick N`, from 1 to 10000.
+#[tactic(auto, unfolding(crate::specs::Events::repeats_in))]
+fn repeats(event: u32, text: &str) -> Result<u32, ScenarioFault>
+    ensures exact { result ≡ repeats_in event text.now }
+    ensures within { IfOk result IsCount }
+{
+    let count = number_word(1, 10000, event, 2, text)? as u32;
+    match no_word(event, 3, text) {
+        Ok(()) => Ok(count),
+        Err(fault) => Err(fault),
+    }
+}
+
+// `tick` and `tick N`.
+fn tick(names: &PlanNames<'_>, event: u32, text: &str) -> Result<Command, ScenarioFault>
+    ensures exact { result ≡ tick_in event text.now }
+    ensures named { IfOk result (IsNamed names.now) }
+{
+    match word(text, 2) {
+        Some(_) => Ok(Command::Ticks(repeats(event, text)?)),
+        None => Ok(Command::One(Event::Tick)),
+    }
+}
+
+// `play C FILE`, of which a document has at most four.
+#[tactic(auto, unfolding(crate::specs::Events::play_in))]
+fn play(
+    alloc: Global,
+    names: &PlanNames<'_>,
+    event: u32,
+    plays: u32,
+    text: &str,
+) -> Result<Command, ScenarioFault>
+    ensures exact { Gives result (play_in names.now event plays text.now) }
+    ensures named { IfOk result (IsNamed names.now) }
+{
+    if plays >= 4 {
+        return Err(bad_word(event, 1));
+    }
+    let circuit = name_word(&names.circuits, event, 2, text)?;
+    let file = file_word(alloc, event, 3, text)?;
+    no_word(event, 4, text)?;
+    Ok(Command::Play(CircuitId(circuit), file))
+}
+
+// The command of a first word.
+#[tactic(auto, unfolding(crate::specs::Events::command_of))]
+fn command_of_word(
+    alloc: Global,
+    names: &PlanNames<'_>,
+    event: u32,
+    plays: u32,
+    word: &str,
+    text: &str,
+) -> Result<Command, ScenarioFault>
+    ensures exact { Gives result (command_of names.now event plays word.now text.now) }
+    ensures named { IfOk result (IsNamed names.now) }
+{
+    match word {
+        "connect" => Ok(Command::One(connect(names, event, text)?)),
+        "deliver" => Ok(Command::One(deliver(names, event, text)?)),
+        "lose" => Ok(Command::One(lose(names, event, text)?)),
+        "restart" => Ok(Command::One(restart(names, event, text)?)),
+        "tick" => tick(names, event, text),
+        "frame" => Ok(Command::One(frame(alloc, names, event, text)?)),
+        "arrive" => Ok(Command::One(Event::Arrive {
+            packet: packet(event, text)?,
+        })),
+        "drop" => Ok(Command::One(Event::Discard {
+            packet: packet(event, text)?,
+        })),
+        "again" => Ok(Command::One(Event::Again {
+            packet: packet(event, text)?,
+        })),
+        "wire" => Ok(Command::One(wire_switch(names, event, text)?)),
+        "circuit" => Ok(Command::One(circuit_switch(names, event, text)?)),
+        "status" => Ok(Command::One(status(names, event, text)?)),
+        "priority" => Ok(Command::One(priority(names, event, text)?)),
+        "ping" => Ok(Command::One(ping(names, event, text)?)),
+        "settle" => Ok(Command::Settle(repeats(event, text)?)),
+        "flow" => Ok(Command::Flow(repeats(event, text)?)),
+        "play" => play(alloc, names, event, plays, text),
+        _ => Err(bad_word(event, 1)),
+    }
+}
+
+// The command that an item is.
+fn item(
+    alloc: Global,
+    names: &PlanNames<'_>,
+    event: u32,
+    plays: u32,
+    value: &Value,
+) -> Result<Command, ScenarioFault>
+    ensures exact { Gives result (event_in names.now event plays (view value.now)) }
+    ensures named { IfOk result (IsNamed names.now) }
+{
+    match value.as_str() {
+        Some(text) => command_of_word(alloc, names, event, plays, first(text), text),
+        None => Err(RowPlace::top().wrong_kind("events")),
+    }
+}
+
+// One more where the command is `play`.
+fn plays_with(plays: u32, command: &Command) -> u32
+    requires { plays ≤ 100000 }
+    ensures value { result ≡ plays_after plays command.now }
+    ensures bound { result ≤ plays + 1 }
+{
+    match command {
+        Command::Play(_, _) => plays + 1,
+        _ => plays,
+    }
+}
+
+/// The commands of an array of strings. `BadWord` comes exactly where a word is missing, one too many, or not
+/// what has to stand there, and at the first word of a fifth `play`.
+pub fn commands(
+    alloc: Global,
+    names: &PlanNames<'_>,
+    array: &[Value],
+) -> Result<List<Command>, ScenarioFault>
+    requires { length array.now ≤ 100000 }
+    ensures exact { Gives result (commands_in names.now 1 0 (items_view array.now)) }
+    ensures many { IfOk result (λ commands. length commands ≡ length array.now) }
+    ensures named { IfOk result (λ commands. All (IsNamed names.now) commands) }
+{
+    let mut commands = List::new(alloc);
+    let mut plays = 0;
+    for (i, value) in array.iter().enumerate() {
+        let command = item(alloc, names, i as u32 + 1, plays, value)?;
+        plays = plays_with(plays, &command);
+        commands.push(command)?;
+    }
+    Ok(commands)
+}

@@ -1,0 +1,127 @@
+//! The keys that a table of the document may have.
+ghost use Rattle.std.specs.Prelude.{◌≡◌, not, true, option_map, string_bytes};
+ghost use Rattle.std.specs.List.{find};
+ghost use Rattle.std.specs.Map.{keys_of};
+ghost use Rattle.toml.specs.View.{table_view};
+ghost use Rattle.scenario_text.specs.Keys.{is_top_key, is_edge_key, is_service_key, is_circuit_key, is_wire_key, is_offer_key, is_far_key, is_known_key, unknown_key, only_known};
+ghost use Rattle.scenario_text.specs.Reading.{MapsTo};
+
+use crate::ScenarioFault;
+use crate::row_place::RowPlace;
+use net_base::Table as TableKind;
+use toml::Table;
+
+fn is_top(key: &str) -> bool
+    ensures { result ≡ is_top_key key.now }
+{
+    key == "version"
+        || key == "events"
+        || key == "edge"
+        || key == "service"
+        || key == "circuit"
+        || key == "wire"
+}
+
+fn is_edge(key: &str) -> bool
+    ensures { result ≡ is_edge_key key.now }
+{
+    key == "name"
+        || key == "address"
+        || key == "first_label"
+        || key == "keepalive"
+        || key == "max_pdu"
+}
+
+fn is_service(key: &str) -> bool
+    ensures { result ≡ is_service_key key.now }
+{
+    key == "name" || key == "mtu" || key == "age"
+}
+
+fn is_circuit(key: &str) -> bool
+    ensures { result ≡ is_circuit_key key.now }
+{
+    key == "name" || key == "edge" || key == "service" || key == "tag"
+}
+
+// Whether this is a key of a wire as a whole.
+fn is_wire(key: &str) -> bool
+    ensures { result ≡ is_wire_key key.now }
+{
+    key == "name"
+        || key == "service"
+        || key == "class"
+        || key == "path"
+        || key == "pw_id"
+        || key == "priority"
+}
+
+// Whether this is a key of what an end of a wire offers.
+fn is_offer(key: &str) -> bool
+    ensures { result ≡ is_offer_key key.now }
+{
+    key == "mode"
+        || key == "control_word"
+        || key == "mtu"
+        || key == "vlan"
+        || key == "vccv"
+        || key == "status"
+        || key == "group"
+        || key == "description"
+}
+
+// Whether this is a key of what the far end alone offers.
+fn is_far(key: &str) -> bool
+    ensures { result ≡ is_far_key key.now }
+{
+    key == "far_mode"
+        || key == "far_control_word"
+        || key == "far_mtu"
+        || key == "far_vlan"
+        || key == "far_vccv"
+        || key == "far_status"
+        || key == "far_group"
+        || key == "far_description"
+}
+
+// Whether a row of the table may have the key.
+fn is_known(table: TableKind, key: &str) -> bool
+    ensures { result ≡ is_known_key table key.now }
+{
+    match table {
+        TableKind::Top => is_top(key),
+        TableKind::Events => false,
+        TableKind::Edge => is_edge(key),
+        TableKind::Service => is_service(key),
+        TableKind::Circuit => is_circuit(key),
+        TableKind::Wire => is_wire(key) || is_offer(key) || is_far(key),
+    }
+}
+
+// The first key that rows of the table lack, by the map's own keys.
+fn unknown_among(table: TableKind, members: &Table) -> Option<&String>
+    ensures { option_map (λ k. string_bytes k.now) result ≡ option_map string_bytes (find (λ k. not (is_known_key table (string_bytes k))) (keys_of members.now.entries)) }
+{
+    members.keys().find(|key| !is_known(table, key.as_str()))
+}
+
+// The first key that rows of the table lack.
+fn unknown(table: TableKind, members: &Table) -> Option<&String>
+    ensures { option_map (λ k. string_bytes k.now) result ≡ unknown_key table (table_view members.now) }
+{
+    unknown_among(table, members)
+}
+
+/// Refuses the least key that rows of the table lack.
+pub fn only_known_keys(
+    table: TableKind,
+    row: RowPlace,
+    members: &Table,
+) -> Result<(), ScenarioFault>
+    ensures { MapsTo (λ _. true) result (only_known table row (table_view members.now)) }
+{
+    match unknown(table, members) {
+        Some(key) => Err(row.unknown_key(key.as_str())),
+        None => Ok(()),
+    }
+}

@@ -1,0 +1,76 @@
+//! What the ends of a wire offer.
+ghost use Rattle.std.specs.Prelude.{◌≡◌, ◌≤◌, [], IfSome, IfOk};
+ghost use Rattle.toml.specs.View.{table_view};
+ghost use Rattle.scenario_text.specs.Rows.{near_in, far_in};
+ghost use Rattle.scenario_text.specs.Offers.{HasRanges};
+
+use crate::ScenarioFault;
+use crate::members::{boolean_or, description_or, mode_or, number_or, optional_number};
+use crate::offer_row::OfferRow;
+use crate::row_place::RowPlace;
+use net_base::Text;
+use toml::Table;
+
+// No octets.
+fn no_description() -> Text<80>
+    ensures { result ≡ [] }
+{
+    Text::read(&[]).unwrap()
+}
+
+/// What the near end of a wire offers.
+#[tactic(auto, unfolding(crate::specs::Rows::near_in))]
+pub fn near_offer(row: RowPlace, table: &Table) -> Result<OfferRow, ScenarioFault>
+    ensures exact { result ≡ near_in row (table_view table.now) }
+    ensures ranges { IfOk result HasRanges }
+{
+    let tagged = mode_or(false, row, table, "mode")?;
+    let cword = boolean_or(true, row, table, "control_word")?;
+    let mtu = optional_number(None, row, table, "mtu", 0, 65535)?;
+    let vlan = optional_number(None, row, table, "vlan", 0, 4095)?;
+    let vccv = number_or(0, row, table, "vccv", 0, 7)? as u8;
+    let status = boolean_or(true, row, table, "status")?;
+    let group = number_or(0, row, table, "group", 0, 4294967295)?;
+    match description_or(&no_description(), row, table, "description") {
+        Ok(description) => Ok(OfferRow {
+            tagged,
+            cword,
+            mtu,
+            vlan,
+            vccv,
+            status,
+            group,
+            description,
+        }),
+        Err(fault) => Err(fault),
+    }
+}
+
+/// What the far end of a wire offers, which is the same as the near one where nothing else is said.
+#[tactic(auto, unfolding(crate::specs::Rows::far_in))]
+pub fn far_offer(near: &OfferRow, row: RowPlace, table: &Table) -> Result<OfferRow, ScenarioFault>
+    requires { HasRanges near.now }
+    ensures exact { result ≡ far_in near.now row (table_view table.now) }
+    ensures ranges { IfOk result HasRanges }
+{
+    let tagged = mode_or(near.tagged, row, table, "far_mode")?;
+    let cword = boolean_or(near.cword, row, table, "far_control_word")?;
+    let mtu = optional_number(near.mtu, row, table, "far_mtu", 0, 65535)?;
+    let vlan = optional_number(near.vlan, row, table, "far_vlan", 0, 4095)?;
+    let vccv = number_or(near.vccv as u32, row, table, "far_vccv", 0, 7)? as u8;
+    let status = boolean_or(near.status, row, table, "far_status")?;
+    let group = number_or(near.group, row, table, "far_group", 0, 4294967295)?;
+    match description_or(&near.description, row, table, "far_description") {
+        Ok(description) => Ok(OfferRow {
+            tagged,
+            cword,
+            mtu,
+            vlan,
+            vccv,
+            status,
+            group,
+            description,
+        }),
+        Err(fault) => Err(fault),
+    }
+}

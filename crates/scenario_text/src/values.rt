@@ -1,0 +1,232 @@
+//! The kinds of values that stand at keys.
+ghost use Rattle.std.specs.Prelude.{◌≡◌, ◌≤◌, IfOk};
+ghost use Rattle.std.specs.List.{list_all};
+ghost use Rattle.toml.specs.View.{view, items_view};
+ghost use Rattle.scenario_text.specs.Places.{place_at};
+ghost use Rattle.scenario_text.specs.Reading.{Gives, MapsTo};
+ghost use Rattle.scenario_text.specs.Values.{a_text, a_name, quad_of, address_of, an_address, number_from, a_number, a_boolean, class_of, a_class, mode_of, a_mode, a_description, is_string, an_array, names_in, a_path, all_items};
+
+use crate::ScenarioFault;
+use crate::row_place::RowPlace;
+use net_base::{Addr, Class, List, Name, Text};
+use std::alloc::Global;
+use std::net::Ipv4Addr;
+use toml::Value;
+
+// A string.
+fn text<'a>(row: RowPlace, key: &str, value: &'a Value) -> Result<&'a str, ScenarioFault>
+    ensures { MapsTo (λ t. t.now) result (a_text (place_at row key.now) (view value.now)) }
+{
+    match value.as_str() {
+        Some(text) => Ok(text),
+        None => Err(row.wrong_kind(key)),
+    }
+}
+
+/// A string that is a name.
+pub fn name(row: RowPlace, key: &str, value: &Value) -> Result<Name, ScenarioFault>
+    ensures { result ≡ a_name (place_at row key.now) (view value.now) }
+{
+    let text = text(row, key, value)?;
+    match Name::read(text) {
+        Some(name) => Ok(name),
+        None => Err(row.out_of_range(key)),
+    }
+}
+
+// The octets of a dotted quad.
+fn quad(text: &str) -> Option<[u8; 4]>
+    ensures { result ≡ quad_of text.now }
+{
+    match text.parse::<Ipv4Addr>() {
+        Ok(address) => Some(address.octets()),
+        Err(_) => None,
+    }
+}
+
+// The address that a text is.
+fn address_of_text(row: RowPlace, key: &str, text: &str) -> Result<Addr, ScenarioFault>
+    ensures { result ≡ address_of (place_at row key.now) text.now }
+{
+    match quad(text) {
+        Some(octets) => {
+            if octets == [0, 0, 0, 0] {
+                Err(row.out_of_range(key))
+            } else {
+                Ok(Addr(octets))
+            }
+        }
+        None => Err(row.out_of_range(key)),
+    }
+}
+
+/// A string that is a dotted quad without leading zeros, not 0.0.0.0.
+pub fn address(row: RowPlace, key: &str, value: &Value) -> Result<Addr, ScenarioFault>
+    ensures { result ≡ an_address (place_at row key.now) (view value.now) }
+{
+    let text = text(row, key, value)?;
+    address_of_text(row, key, text)
+}
+
+// The number that an integer is, from low to high.
+fn number_of_integer(
+    row: RowPlace,
+    key: &str,
+    integer: i64,
+    low: u32,
+    high: u32,
+) -> Result<u32, ScenarioFault>
+    ensures exact { result ≡ number_from low high (place_at row key.now) integer }
+    ensures within { IfOk result (λ n. (low ≤ n) × (n ≤ high)) }
+{
+    if integer < low as i64 || integer > high as i64 {
+        return Err(row.out_of_range(key));
+    }
+    Ok(integer as u32)
+}
+
+/// An integer from low to high.
+pub fn number(
+    row: RowPlace,
+    key: &str,
+    value: &Value,
+    low: u32,
+    high: u32,
+) -> Result<u32, ScenarioFault>
+    ensures exact { result ≡ a_number low high (place_at row key.now) (view value.now) }
+    ensures within { IfOk result (λ n. (low ≤ n) × (n ≤ high)) }
+{
+    match value.as_integer() {
+        Some(integer) => number_of_integer(row, key, integer, low, high),
+        None => Err(row.wrong_kind(key)),
+    }
+}
+
+/// A boolean.
+pub fn boolean(row: RowPlace, key: &str, value: &Value) -> Result<bool, ScenarioFault>
+    ensures { result ≡ a_boolean (place_at row key.now) (view value.now) }
+{
+    match value.as_bool() {
+        Some(boolean) => Ok(boolean),
+        None => Err(row.wrong_kind(key)),
+    }
+}
+
+// The class that a text names.
+fn class_of_text(text: &str) -> Option<Class>
+    ensures { result ≡ class_of text.now }
+{
+    if text == "mesh" {
+        Some(Class::Mesh)
+    } else if text == "spoke" {
+        Some(Class::Spoke)
+    } else {
+        None
+    }
+}
+
+/// The string `mesh` or `spoke`.
+pub fn class(row: RowPlace, key: &str, value: &Value) -> Result<Class, ScenarioFault>
+    ensures { result ≡ a_class (place_at row key.now) (view value.now) }
+{
+    let text = text(row, key, value)?;
+    match class_of_text(text) {
+        Some(class) => Ok(class),
+        None => Err(row.out_of_range(key)),
+    }
+}
+
+// Whether a text names tagged mode, where it names a mode.
+fn mode_of_text(text: &str) -> Option<bool>
+    ensures { result ≡ mode_of text.now }
+{
+    if text == "raw" {
+        Some(false)
+    } else if text == "tagged" {
+        Some(true)
+    } else {
+        None
+    }
+}
+
+/// The string `raw` or `tagged`, and whether it is the latter.
+pub fn mode(row: RowPlace, key: &str, value: &Value) -> Result<bool, ScenarioFault>
+    ensures { result ≡ a_mode (place_at row key.now) (view value.now) }
+{
+    let text = text(row, key, value)?;
+    match mode_of_text(text) {
+        Some(tagged) => Ok(tagged),
+        None => Err(row.out_of_range(key)),
+    }
+}
+
+/// A string of at most 80 octets.
+pub fn description(row: RowPlace, key: &str, value: &Value) -> Result<Text<80>, ScenarioFault>
+    ensures { result ≡ a_description (place_at row key.now) (view value.now) }
+{
+    let text = text(row, key, value)?;
+    match Text::read(text.as_bytes()) {
+        Some(text) => Ok(text),
+        None => Err(row.out_of_range(key)),
+    }
+}
+
+// Whether all are strings, one by one.
+fn each_is_string(array: &[Value]) -> bool
+    ensures { result ≡ list_all (λ v. is_string (view v)) array.now }
+{
+    array.iter().all(|value| value.is_str())
+}
+
+// Whether all are strings.
+fn are_strings(array: &[Value]) -> bool
+    ensures { result ≡ all_items is_string (items_view array.now) }
+{
+    each_is_string(array)
+}
+
+/// An array of strings.
+pub fn strings<'a>(row: RowPlace, key: &str, value: &'a Value) -> Result<&'a [Value], ScenarioFault>
+    ensures { MapsTo (λ items. items_view items.now) result (an_array is_string (place_at row key.now) (view value.now)) }
+{
+    match value.as_array() {
+        Some(array) => {
+            let items = array.as_slice();
+            if !are_strings(items) {
+                return Err(row.wrong_kind(key));
+            }
+            Ok(items)
+        }
+        None => Err(row.wrong_kind(key)),
+    }
+}
+
+// The names that the items of an array are.
+fn names(
+    alloc: Global,
+    row: RowPlace,
+    key: &str,
+    array: &[Value],
+) -> Result<List<Name>, ScenarioFault>
+    ensures { Gives result (names_in (place_at row key.now) (items_view array.now)) }
+{
+    let mut names = List::new(alloc);
+    for value in array {
+        let name = name(row, key, value)?;
+        names.push(name)?;
+    }
+    Ok(names)
+}
+
+/// An array of strings that are names.
+pub fn path(
+    alloc: Global,
+    row: RowPlace,
+    key: &str,
+    value: &Value,
+) -> Result<List<Name>, ScenarioFault>
+    ensures { Gives result (a_path (place_at row key.now) (view value.now)) }
+{
+    let items = strings(row, key, value)?;
+    names(alloc, row, key, items)
+}

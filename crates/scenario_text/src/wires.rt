@@ -1,0 +1,125 @@
+//! The wires of a plan.
+ghost use Rattle.std.specs.Prelude.{◌≡◌, ◌≤◌, length, IfOk};
+ghost use Rattle.net_base.specs.NameFaults.{service_names};
+ghost use Rattle.scenario_text.specs.Reading.{Gives};
+ghost use Rattle.scenario_text.specs.References.{told, offer_of, mtu_at, path_in, wire_in, wires_in};
+
+use crate::ScenarioFault;
+use crate::name_index::NameIndex;
+use crate::named::named_place;
+use crate::offer_row::OfferRow;
+use crate::row_place::RowPlace;
+use crate::wire_row::WireRow;
+use net_base::{EdgeId, List, Name, Offer, ServiceId, ServicePlan, Table as TableKind, WirePlan};
+use std::alloc::Global;
+
+// A number of 16 bits, where it is told.
+fn told_mtu(number: u16) -> Option<u16>
+    ensures { result ≡ told number }
+{
+    if number == 0 { None } else { Some(number) }
+}
+
+// The VCCV bits, where they are told.
+fn told_vccv(bits: u8) -> Option<u8>
+    ensures { result ≡ told bits }
+{
+    if bits == 0 { None } else { Some(bits) }
+}
+
+// The offer of an end, where the service has this MTU.
+fn offer(mtu: u16, row: &OfferRow) -> Offer
+    ensures { result ≡ offer_of mtu row.now }
+{
+    Offer {
+        tagged: row.tagged,
+        cword: row.cword,
+        mtu: told_mtu(row.mtu.unwrap_or(mtu)),
+        vlan: row.vlan,
+        vccv: told_vccv(row.vccv),
+        status: row.status,
+        group: row.group,
+        description: row.description,
+    }
+}
+
+// The MTU of the service at a place.
+fn service_mtu(services: &[ServicePlan], place: u16) -> u16
+    ensures { result ≡ mtu_at services.now place }
+{
+    match services.get(place as usize) {
+        Some(service) => service.mtu,
+        None => 0,
+    }
+}
+
+// The edges of a path.
+fn path(
+    alloc: Global,
+    edges: &NameIndex<'_>,
+    place: RowPlace,
+    names: &[Name],
+) -> Result<List<EdgeId>, ScenarioFault>
+    ensures { Gives result (path_in edges.now place names.now) }
+{
+    let mut path = List::new(alloc);
+    for name in names {
+        let edge = named_place(place, "path", edges, name)?;
+        path.push(EdgeId(edge))?;
+    }
+    Ok(path)
+}
+
+// The wire of a row.
+#[tactic(auto, unfolding(crate::specs::References::wire_in))]
+fn wire(
+    alloc: Global,
+    edges: &NameIndex<'_>,
+    service_index: &NameIndex<'_>,
+    services: &[ServicePlan],
+    place: RowPlace,
+    row: &WireRow,
+) -> Result<WirePlan, ScenarioFault>
+    requires { service_index.now ≡ service_names services.now }
+    ensures { Gives result (wire_in edges.now services.now place row.now) }
+{
+    let service = named_place(place, "service", service_index, &row.service)?;
+    let path = path(alloc, edges, place, row.path.as_slice())?;
+    let mtu = service_mtu(services, service);
+    Ok(WirePlan {
+        name: row.name,
+        service: ServiceId(service),
+        class: row.class,
+        path,
+        pw_id: row.pw_id,
+        near: offer(mtu, &row.near),
+        far: offer(mtu, &row.far),
+        priority: row.priority,
+    })
+}
+
+/// The wires of the rows, at edges of these names and of these services. `UnknownName` comes exactly where a
+/// row names an edge or a service that is not among them.
+pub fn wires(
+    alloc: Global,
+    edges: &NameIndex<'_>,
+    service_index: &NameIndex<'_>,
+    services: &[ServicePlan],
+    rows: &[WireRow],
+) -> Result<List<WirePlan>, ScenarioFault>
+    requires few { length rows.now ≤ 1024 }
+    requires same { service_index.now ≡ service_names services.now }
+    ensures exact { Gives result (wires_in edges.now services.now 1 rows.now) }
+    ensures many { IfOk result (λ wires. length wires ≡ length rows.now) }
+{
+    let mut wires = List::new(alloc);
+    for (i, row) in rows.iter().enumerate() {
+        let place = RowPlace {
+            table: TableKind::Wire,
+            index: i as u32 + 1,
+        };
+        let wire = wire(alloc, edges, service_index, services, place, row)?;
+        wires.push(wire)?;
+    }
+    Ok(wires)
+}
