@@ -1,42 +1,56 @@
 //! Virtual switch instances.
-ghost use Rattle.std.specs.Prelude.{◌≡◌, ◌<◌, ℕ, true, length, IfOk};
+ghost use Rattle.std.specs.Prelude.{◌≡◌, ◌==◌, ◌<◌, ◌≤◌, ◌&&◌, ℕ, [], filter, not, true, length, IfOk};
 ghost use Rattle.net_base.specs.Mac.{is_group_address};
+ghost use Rattle.hvpls_spokes.specs.Flood.{is_flooded};
 ghost use Rattle.hvpls_spokes.specs.PortSet.{has};
-ghost use Rattle.vsi_bridge.specs.Targets.{is_target};
+ghost use Rattle.mac_table.specs.Addresses.{AreDistinct, NoneAfter, is_young};
+ghost use Rattle.vsi_bridge.specs.BridgeState.{table_of, most_addresses};
+ghost use Rattle.vsi_bridge.specs.Targets.{heard, is_target, known_port};
 
 use hvpls_spokes::{PortSet, Ports, flood_set};
+use mac_table::MacTable;
 use net_base::{Mac, NoMemory};
 use std::alloc::Global;
 use std::marker::Model;
 
+/// The most addresses that a bridge learns.
+const MOST_ADDRESSES: u32 = 4096;
+
 /// The bridge of a service at an edge, its virtual switch instance (RFC 4762 section 4). Contracts see its
-/// ports and its age limit.
+/// ports, its age limit and the addresses that it has learned.
 #[derive(Debug, Drop)]
 pub struct Bridge {
     ports: Ports,
     age: u32,
+    table: MacTable,
 }
 
 impl Model for Bridge {
-    ghost use Rattle.vsi_bridge.specs.BridgeState.{BridgeState};
+    ghost use Rattle.std.specs.Prelude.{◌≡◌};
+    ghost use Rattle.vsi_bridge.specs.BridgeState.{BridgeState, most_addresses};
 
     ghost Value = { BridgeState };
 
-    ghost view = { λ b. record { ports = b.ports; age = b.age } };
+    ghost view = { λ b. record { ports = b.ports; age = b.age; entries = b.table.entries } };
+
+    ghost invariant = { λ b. b.table.capacity ≡ most_addresses };
 }
 
 impl Bridge {
-    /// A bridge over these ports. `age` is the number of ticks after which a learned address that was not
-    /// heard again is forgotten (RFC 4762 section 9.1).
+    /// A bridge over these ports that has learned nothing, with the memory for 4,096 addresses. After this no
+    /// call takes memory. `age` is the number of ticks after which a learned address that was not heard again
+    /// is forgotten (RFC 4762 section 4.2).
     pub fn open(alloc: Global, ports: Ports, age: u32) -> Result<Bridge, NoMemory>
-        ensures { IfOk result (λ bridge. bridge ≡ record { ports = ports; age = age }) }
+        ensures { IfOk result (λ bridge. bridge ≡ record { ports = ports; age = age; entries = [] }) }
     {
-        let _ = alloc;
-        Ok(Bridge { ports, age })
+        let table = MacTable::open(alloc, MOST_ADDRESSES)?;
+        Ok(Bridge { ports, age, table })
     }
 
-    /// The ports to which a frame goes that came by the port `arrival` at the tick `now`. A frame to a group
-    /// address goes to the flood set (RFC 4762 section 4.1).
+    /// Learns that a frame from `source` came by the port `arrival` at the tick `now`, and then answers the
+    /// ports to which it goes. A group is never learned, and a new address is not where 4,096 are held. A
+    /// frame to a group, or to a station that was not heard, goes to the flood set; a frame to a known station
+    /// goes to its port where that one is in the flood set, and else nowhere (RFC 4762 sections 4.1 and 4.2).
     pub fn decide(
         &mut self,
         arrival: u16,
@@ -45,14 +59,64 @@ impl Bridge {
         now: u64,
         forwarding: &PortSet,
     ) -> PortSet
-        requires group { is_group_address destination.0 ≡ true }
         requires ports { (p : ℕ) → has forwarding.now p ≡ true → p < length self.old.ports }
         requires arrival { has forwarding.now arrival ≡ true }
-        ensures targets { (p : ℕ) → has result p ≡ is_target self.old.ports (has forwarding.now) arrival p }
-        ensures same { self.new ≡ self.old }
+        requires ticks { NoneAfter now self.old.entries }
+        ensures learns { self.new ≡ record self.old { entries = heard self.old.entries source arrival now } }
+        ensures targets { (p : ℕ) → has result p ≡ is_target self.old.ports (has forwarding.now) arrival (known_port self.new.entries destination) p }
+        ensures ticks { NoneAfter now self.new.entries }
     {
-        let _ = (source, destination, now);
-        flood_set(&self.ports, forwarding, arrival)
+        self.hear(source, arrival, now);
+        let flood = flood_set(&self.ports, forwarding, arrival);
+        match self.known(destination) {
+            Some(port) => only(&flood, self.ports.len(), port),
+            None => flood,
+        }
+    }
+
+    // Learns the source of a frame, where it is a station.
+    fn hear(&mut self, source: Mac, arrival: u16, now: u64)
+        requires ticks { NoneAfter now self.old.entries }
+        ensures learns { self.new ≡ record self.old { entries = heard self.old.entries source arrival now } }
+        ensures ticks { NoneAfter now self.new.entries }
+    {
+        if !source.is_group() {
+            self.table.learn(source, arrival, now);
+        }
+    }
+
+    // The port of a known station.
+    fn known(&self, destination: Mac) -> Option<u16>
+        ensures { result ≡ known_port self.now.entries destination }
+    {
+        if destination.is_group() {
+            return None;
+        }
+        self.table.find(destination)
+    }
+
+    /// Forgets the addresses that were not heard for as many ticks as the age limit (RFC 4762 section 4.2).
+    pub fn tick(&mut self, now: u64)
+        requires { NoneAfter now self.old.entries }
+        ensures entries { self.new ≡ record self.old { entries = filter (is_young now self.old.age) self.old.entries } }
+        ensures ticks { NoneAfter now self.new.entries }
+    {
+        self.table.age(now, self.age);
+    }
+
+    /// Forgets the addresses that are at the port.
+    pub fn drop_port(&mut self, port: u16)
+        ensures entries { self.new ≡ record self.old { entries = filter (λ e. not (e.port == port)) self.old.entries } }
+        ensures ticks { (now : ℕ) → NoneAfter now self.old.entries → NoneAfter now self.new.entries }
+    {
+        self.table.drop_port(port);
+    }
+
+    /// The addresses that were learned.
+    pub fn table(&self) -> &MacTable
+        ensures { result.now ≡ table_of self.now.entries }
+    {
+        &self.table
     }
 
     /// The ports.
@@ -68,4 +132,31 @@ impl Bridge {
     {
         self.age
     }
+}
+
+// Whether the set, whose ports are below `len`, has the port, which may be any number.
+#[tactic(auto, using(crate::proofs::PortLemmas::beyond))]
+fn is_in(set: &PortSet, len: u16, port: u16) -> bool
+    requires set { (p : ℕ) → has set.now p ≡ true → p < len }
+    requires len { len ≤ 512 }
+    ensures has { result ≡ has set.now port }
+    ensures within { result ≡ true → port < 512 }
+{
+    if port >= len {
+        return false;
+    }
+    set.contains(port)
+}
+
+// The port alone, where it is in the set.
+fn only(set: &PortSet, len: u16, port: u16) -> PortSet
+    requires set { (p : ℕ) → has set.now p ≡ true → p < len }
+    requires len { len ≤ 512 }
+    ensures { (p : ℕ) → has result p ≡ (has set.now p && p == port) }
+{
+    let mut one = PortSet::empty();
+    if is_in(set, len, port) {
+        one.insert(port);
+    }
+    one
 }
