@@ -5,23 +5,24 @@ use Rattle.net_base.specs.declared.plan.Plan.{Plan}
 use Rattle.net_base.specs.declared.edge_plan.EdgePlan.{EdgePlan}
 use Rattle.net_base.specs.declared.service_plan.ServicePlan.{ServicePlan}
 use Rattle.net_base.specs.declared.circuit_plan.CircuitPlan.{CircuitPlan}
-use Rattle.net_base.specs.declared.entry.Entry.TheVariants.{Did, In, Left}
-use Rattle.net_base.specs.declared.event.Event.TheVariants.{Frame}
+use Rattle.net_base.specs.declared.drop_cause.DropCause.TheVariants.{Short}
+use Rattle.net_base.specs.declared.entry.Entry.TheVariants.{Did, Idle, In, Left, Dropped}
+use Rattle.net_base.specs.declared.event.Event.TheVariants.{Tick, Frame, Circuit}
 use Rattle.net_base.specs.declared.places.CircuitId.{CircuitId}
 use Rattle.net_base.specs.declared.places.ServiceId.{ServiceId}
 use Rattle.hvpls_spokes.specs.declared.port.Port.TheVariants as port
 use Rattle.network_model.specs.State.{empty_network}
 use Rattle.network_model.specs.Step.{step}
-use Rattle.network_model.specs.Run.{run}
+use Rattle.network_model.specs.Run.{run, state_after}
 use Rattle.network_model.specs.Calm.{is_quiet, is_full, is_calm}
 use Rattle.network_model.specs.Reach.{is_site, reach, ahead}
-use Rattle.network_model.specs.Window.{Window}
+use Rattle.network_model.specs.Window.{Window, is_flooded}
 
 abbrev an_edge : ℕ → EdgePlan
 an_edge last = record { name = codes "pe"; address = record { 0 = 10 ∷ 0 ∷ 0 ∷ last ∷ [] }; first_label = 16; keepalive = 180; max_pdu = 4096 }
 
 abbrev a_service : ServicePlan
-a_service = record { name = codes "s"; mtu = 1500; age = 300 }
+a_service = record { name = codes "s"; mtu = 1500; age = 2 }
 
 abbrev a_circuit : ℕ → ℕ → CircuitPlan
 a_circuit edge service = record { name = codes "c"; edge = record { 0 = edge }; service = record { 0 = service }; tag = None }
@@ -63,6 +64,37 @@ floods = refl
 alone : (run one_edge (Frame (circuit 1) broadcast ∷ [])).entries ≡ Did (Frame (circuit 1) broadcast) ∷ In (circuit 1) 1 broadcast ∷ []
 alone = refl
 
+-- a frame from station 2 to station 1
+abbrev answer : List ℕ
+answer = 2 ∷ 0 ∷ 0 ∷ 0 ∷ 0 ∷ 1 ∷ 2 ∷ 0 ∷ 0 ∷ 0 ∷ 0 ∷ 2 ∷ 8 ∷ 0 ∷ []
+
+-- station 1 was heard at the first circuit, so a frame to it leaves there alone, and after two ticks is flooded
+learns : (step one_edge (state_after one_edge empty_network (Frame (circuit 0) broadcast ∷ [])) (Frame (circuit 2) answer)).entries
+    ≡ Did (Frame (circuit 2) answer) ∷ In (circuit 2) 2 answer ∷ Left (circuit 0) 2 0 answer ∷ []
+learns = refl
+
+forgets : (step one_edge (state_after one_edge empty_network (Frame (circuit 0) broadcast ∷ Tick ∷ Tick ∷ [])) (Frame (circuit 2) answer)).entries
+    ≡ Did (Frame (circuit 2) answer) ∷ In (circuit 2) 2 answer ∷ Left (circuit 0) 2 0 answer ∷ Left (circuit 3) 2 0 answer ∷ []
+forgets = refl
+
+remembers : (step one_edge (state_after one_edge empty_network (Frame (circuit 0) broadcast ∷ Tick ∷ [])) (Frame (circuit 2) answer)).entries
+    ≡ Did (Frame (circuit 2) answer) ∷ In (circuit 2) 2 answer ∷ Left (circuit 0) 2 0 answer ∷ []
+remembers = refl
+
+-- a circuit that is turned off loses its stations, and what enters there is idle
+turned_off : (run one_edge (Frame (circuit 0) broadcast ∷ Circuit (circuit 0) false ∷ Circuit (circuit 0) false ∷ Frame (circuit 2) answer ∷ Frame (circuit 0) broadcast ∷ [])).entries
+    ≡ Did (Frame (circuit 0) broadcast) ∷ In (circuit 0) 1 broadcast ∷ Left (circuit 2) 1 0 broadcast ∷ Left (circuit 3) 1 0 broadcast
+    ∷ Did (Circuit (circuit 0) false)
+    ∷ Did (Circuit (circuit 0) false) ∷ Idle
+    ∷ Did (Frame (circuit 2) answer) ∷ In (circuit 2) 2 answer ∷ Left (circuit 3) 2 0 answer
+    ∷ Did (Frame (circuit 0) broadcast) ∷ Idle ∷ []
+turned_off = refl
+
+-- a frame that is too short is dropped at its edge
+drops : (run one_edge (Frame (circuit 0) (255 ∷ []) ∷ [])).entries
+    ≡ Did (Frame (circuit 0) (255 ∷ [])) ∷ In (circuit 0) 1 (255 ∷ []) ∷ Dropped (record { 0 = 0 }) 1 Short ∷ []
+drops = refl
+
 -- frames are numbered as they enter
 numbered : (step one_edge (step one_edge empty_network (Frame (circuit 1) broadcast)).state (Frame (circuit 1) broadcast)).entries
     ≡ Did (Frame (circuit 1) broadcast) ∷ In (circuit 1) 2 broadcast ∷ []
@@ -97,3 +129,14 @@ not_ahead_itself = refl
 -- the premises of a window can be met
 a_window : Window one_edge [] (circuit 0) broadcast (Frame (circuit 2) broadcast ∷ []) (service 0)
 a_window = record { sender = refl; on = refl; frame = broadcast; formed = refl; calm = refl; flooded = refl; spared = refl; over = refl }
+
+-- a station that no bridge has learned opens a window too; one that a frame of the window teaches does not, nor a
+-- frame to its own source
+a_window_of_a_station : Window one_edge [] (circuit 0) answer [] (service 0)
+a_window_of_a_station = record { sender = refl; on = refl; frame = answer; formed = refl; calm = refl; flooded = refl; spared = refl; over = refl }
+
+taught_meanwhile : is_flooded one_edge empty_network (service 0) answer (Frame (circuit 0) answer ∷ Frame (circuit 2) broadcast ∷ []) ≡ false
+taught_meanwhile = refl
+
+own_source : is_flooded one_edge empty_network (service 0) (2 ∷ 0 ∷ 0 ∷ 0 ∷ 0 ∷ 2 ∷ 2 ∷ 0 ∷ 0 ∷ 0 ∷ 0 ∷ 2 ∷ 8 ∷ 0 ∷ []) (Frame (circuit 0) (2 ∷ 0 ∷ 0 ∷ 0 ∷ 0 ∷ 2 ∷ 2 ∷ 0 ∷ 0 ∷ 0 ∷ 0 ∷ 2 ∷ 8 ∷ 0 ∷ []) ∷ []) ≡ false
+own_source = refl

@@ -1,5 +1,5 @@
 -- Customers stay apart in every run.
-use Rattle.std.proofs.Common.{◌≡◌, ◌<◌, ◌++◌, ◌+◌, ◌&&◌, ◌∙◌, ℕ, Bool, true, false, List, [], ◌∷◌, Option, Some, None, Result, Ok, Err, cond, position, refl, ap, sym, nat_eq, option_map, option_and_then}
+use Rattle.std.proofs.Common.{◌≡◌, ◌<◌, ◌++◌, ◌+◌, ◌&&◌, ◌∙◌, ℕ, Bool, true, false, List, [], ◌∷◌, Option, Some, None, Result, Ok, Err, cond, refl, ap, sym, nat_eq, option_map, option_and_then}
 use Rattle.std.proofs.lemmas.Bool.{eqb-true}
 use Rattle.net_base.specs.declared.plan.Plan.{Plan}
 use Rattle.net_base.specs.declared.circuit_plan.CircuitPlan.{CircuitPlan}
@@ -7,7 +7,7 @@ use Rattle.net_base.specs.declared.drop_cause.DropCause.{DropCause}
 use Rattle.net_base.specs.declared.entry.Entry.{Entry}
 use Rattle.net_base.specs.declared.entry.Entry.TheVariants.{Did, In}
 use Rattle.net_base.specs.declared.event.Event.{Event}
-use Rattle.net_base.specs.declared.event.Event.TheVariants.{Frame}
+use Rattle.net_base.specs.declared.event.Event.TheVariants.{Frame, Circuit}
 use Rattle.net_base.specs.declared.places.CircuitId.{CircuitId}
 use Rattle.net_base.specs.declared.places.EdgeId.{EdgeId}
 use Rattle.net_base.specs.declared.places.ServiceId.{ServiceId}
@@ -18,11 +18,11 @@ use Rattle.net_base.proofs.FrameLemmas.{IsVlanId, inner_size, inner-dress}
 use Rattle.net_base.proofs.TraceLemmas.{isolated-append, among-append, among-last}
 use Rattle.hvpls_spokes.specs.declared.port.Port.{Port}
 use Rattle.hvpls_spokes.specs.declared.port.Port.TheVariants as port
-use Rattle.hvpls_spokes.specs.Port.{ports_of, is_circuit_port, serves}
+use Rattle.hvpls_spokes.specs.Port.{ports_of, serves}
 use Rattle.hvpls_spokes.proofs.PortsLemmas.{IsServed, AreServed, ports_served}
-use Rattle.vsi_bridge.specs.Targets.{is_target}
 use Rattle.network_model.specs.State.{NetworkState, EdgeState, at_edge, is_on, empty_network}
-use Rattle.network_model.specs.Enter.{tag_of, copy_by, copies, bridged, received, entering, frame_row, port_forwards}
+use Rattle.network_model.specs.Enter.{tag_of, copy_by, copies, bridged, targets_of, hearing, port_at, forwarded, received, entering, frame_row}
+use Rattle.network_model.specs.Turn.{is_same, turning, turn_row}
 use Rattle.network_model.specs.Step.{step}
 use Rattle.network_model.specs.Run.{entries_along}
 use Rattle.network_model.specs.Laws.{HasPlacedCircuits, RunsAreIsolated}
@@ -116,26 +116,28 @@ copies_isolated plan service edge targets origin hops frame earlier p (port.Mesh
 copies_isolated plan service edge targets origin hops frame earlier p (port.Spoke wire ∷ ports) copying served = absurd served
 
 bridged_isolated : (plan : Plan) (service : ServiceId) (edge : EdgeId) (state : EdgeState) (origin hops : ℕ) (frame : List ℕ) (earlier : List Entry) (arrival : Option ℕ)
-    → Copying plan service edge origin frame earlier → IsolatedAfter plan earlier (bridged state (ports_of plan service edge) (copy_by plan origin hops frame) arrival)
+    → Copying plan service edge origin frame earlier → IsolatedAfter plan earlier (bridged state service (ports_of plan service edge) frame (copy_by plan origin hops frame) arrival)
 bridged_isolated plan service edge state origin hops frame earlier None copying = tt
 bridged_isolated plan service edge state origin hops frame earlier (Some arrival) copying =
-    copies_isolated plan service edge (is_target (ports_of plan service edge) (port_forwards state (ports_of plan service edge)) arrival) origin hops frame earlier 0
+    copies_isolated plan service edge (targets_of state service (ports_of plan service edge) frame arrival) origin hops frame earlier 0
     (ports_of plan service edge) copying (ports_served plan service edge)
 
-received_isolated : (plan : Plan) (edge : EdgeId) (origin : ℕ) (earlier : List Entry) (sent : List ℕ → List Entry) (read : Result (List ℕ) DropCause)
-    → ((frame : List ℕ) → read ≡ Ok frame → IsolatedAfter plan earlier (sent frame)) → IsolatedAfter plan earlier (received edge origin sent read)
-received_isolated plan edge origin earlier sent (Ok frame) isolated = isolated frame refl
-received_isolated plan edge origin earlier sent (Err cause) isolated = (tt, tt)
+received_isolated : (plan : Plan) (edge : EdgeState) (circuit : CircuitId) (row : CircuitPlan) (origin : ℕ) (earlier : List Entry) (read : Result (List ℕ) DropCause)
+    → ((frame : List ℕ) → read ≡ Ok frame → IsolatedAfter plan earlier (forwarded plan edge circuit row origin frame).entries)
+    → IsolatedAfter plan earlier (received plan edge circuit row origin read).entries
+received_isolated plan edge circuit row origin earlier (Ok frame) isolated = isolated frame refl
+received_isolated plan edge circuit row origin earlier (Err cause) isolated = (tt, tt)
 
 entering_isolated : (plan : Plan) (network : NetworkState) (circuit : CircuitId) (octets : List ℕ) (row : CircuitPlan) (on : Bool) (earlier : List Entry)
     → HasPlacedCircuits plan → circuit_row plan circuit ≡ Some row → IsolatedAfter plan earlier (entering plan network circuit octets row on).entries
 entering_isolated plan network circuit octets row false earlier placed is = (tt, tt)
 entering_isolated plan network circuit octets row true earlier placed is =
-    let entry : Entry = In circuit (network.entered + 1) octets in (
+    let entry : Entry = In circuit (network.entered + 1) octets in
+    let edge : EdgeState = at_edge network row.edge in (
       tt,
-      received_isolated plan row.edge (network.entered + 1) (earlier ++ entry ∷ []) _ (inner_at plan circuit octets)
-          (λ frame read. bridged_isolated plan row.service row.edge (at_edge network row.edge) (network.entered + 1) 0 frame (earlier ++ entry ∷ [])
-          (position (is_circuit_port circuit) (ports_of plan row.service row.edge))
+      received_isolated plan edge circuit row (network.entered + 1) (earlier ++ entry ∷ []) (inner_at plan circuit octets)
+          (λ frame read. bridged_isolated plan row.service row.edge (hearing edge row.service frame (port_at plan circuit row)) (network.entered + 1) 0 frame (earlier ++ entry ∷ [])
+          (port_at plan circuit row)
           (record {
             placed = placed;
             sender = circuit;
@@ -153,8 +155,17 @@ frame_isolated : (plan : Plan) (network : NetworkState) (circuit : CircuitId) (o
 frame_isolated plan network circuit octets None earlier placed is = (tt, tt)
 frame_isolated plan network circuit octets (Some row) earlier placed is = entering_isolated plan network circuit octets row (is_on (at_edge network row.edge) circuit) earlier placed is
 
+turning_isolated : (plan : Plan) (network : NetworkState) (circuit : CircuitId) (row : CircuitPlan) (on so : Bool) (earlier : List Entry) → IsolatedAfter plan earlier (turning plan network circuit row on so).entries
+turning_isolated plan network circuit row on true earlier = (tt, tt)
+turning_isolated plan network circuit row on false earlier = tt
+
+turn_isolated : (plan : Plan) (network : NetworkState) (circuit : CircuitId) (on : Bool) (row : Option CircuitPlan) (earlier : List Entry) → IsolatedAfter plan earlier (turn_row plan network circuit on row).entries
+turn_isolated plan network circuit on None earlier = (tt, tt)
+turn_isolated plan network circuit on (Some row) earlier = turning_isolated plan network circuit row on (is_same on (is_on (at_edge network row.edge) circuit)) earlier
+
 step_isolated : (plan : Plan) (network : NetworkState) (event : Event) (earlier : List Entry) → HasPlacedCircuits plan → IsolatedAfter plan earlier (step plan network event).entries
 step_isolated plan network (Frame circuit octets) earlier placed = (tt, frame_isolated plan network circuit octets (circuit_row plan circuit) (earlier ++ Did (Frame circuit octets) ∷ []) placed refl)
+step_isolated plan network (Circuit circuit on) earlier placed = (tt, turn_isolated plan network circuit on (circuit_row plan circuit) (earlier ++ Did (Circuit circuit on) ∷ []))
 step_isolated plan network event earlier placed = (tt, tt)
 
 pub along_isolated : (plan : Plan) (network : NetworkState) (events : List Event) (earlier : List Entry) → HasPlacedCircuits plan → IsolatedAfter plan earlier (entries_along plan network events)

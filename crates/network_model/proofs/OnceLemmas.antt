@@ -1,5 +1,5 @@
 -- A flooded frame leaves at each other site of its calm service exactly once.
-use Rattle.std.proofs.Common.{◌≡◌, ◌<◌, ◌≤◌, ◌+◌, ◌++◌, ◌&&◌, ◌∙◌, ℕ, zero, suc, Bool, true, false, List, [], ◌∷◌, Option, Some, None, Result, Ok, Err, cond, slice_get, position, refl, ap, sym, subst, nat_eq, not, arith, inl, inr, add-zero, zero-add, append_assoc, option_map}
+use Rattle.std.proofs.Common.{◌≡◌, ◌<◌, ◌≤◌, ◌+◌, ◌++◌, ◌&&◌, ◌∙◌, ℕ, zero, suc, Bool, true, false, List, [], ◌∷◌, Option, Some, None, Result, Ok, Err, cond, slice_get, refl, ap, sym, subst, nat_eq, not, arith, inl, inr, add-zero, zero-add, append_assoc, option_map}
 use Rattle.std.proofs.lemmas.Bool.{cases_Bool, eq-eqb, ne_eqb}
 use Rattle.std.proofs.Math.Bool.{and-true}
 use Rattle.net_base.specs.declared.plan.Plan.{Plan}
@@ -8,7 +8,7 @@ use Rattle.net_base.specs.declared.drop_cause.DropCause.{DropCause}
 use Rattle.net_base.specs.declared.entry.Entry.{Entry}
 use Rattle.net_base.specs.declared.entry.Entry.TheVariants.{Left}
 use Rattle.net_base.specs.declared.event.Event.{Event}
-use Rattle.net_base.specs.declared.event.Event.TheVariants.{Frame}
+use Rattle.net_base.specs.declared.event.Event.TheVariants.{Frame, Circuit}
 use Rattle.net_base.specs.declared.places.CircuitId.{CircuitId}
 use Rattle.net_base.specs.declared.places.EdgeId.{EdgeId}
 use Rattle.net_base.specs.declared.places.ServiceId.{ServiceId}
@@ -16,19 +16,21 @@ use Rattle.net_base.specs.Isolated.{inner_at}
 use Rattle.net_base.specs.Places.{circuit_row}
 use Rattle.hvpls_spokes.specs.declared.port.Port.{Port}
 use Rattle.hvpls_spokes.specs.declared.port.Port.TheVariants as port
-use Rattle.hvpls_spokes.specs.Port.{ports_of, circuit_ports, is_circuit_port, is_mesh, serves}
+use Rattle.hvpls_spokes.specs.Port.{ports_of, circuit_ports, is_mesh, serves}
 use Rattle.hvpls_spokes.proofs.PortsLemmas.{LeadsTo, HasPort, AreServed, ports_served, same_port, has_port, found_port, finds_port}
-use Rattle.vsi_bridge.specs.Targets.{is_target}
-use Rattle.network_model.specs.State.{NetworkState, EdgeState, at_edge, is_on, empty_network}
-use Rattle.network_model.specs.Enter.{copy_by, copies, bridged, received, forwarded, entering, frame_row, port_forwards, forwards}
+use Rattle.vsi_bridge.specs.Targets.{known_port, is_target}
+use Rattle.network_model.specs.State.{NetworkState, EdgeState, at_edge, addresses_of, is_on, empty_network}
+use Rattle.network_model.specs.Enter.{copy_by, copies, bridged, destination, targets_of, hearing, port_at, received, forwarded, entering, frame_row, port_forwards, forwards}
+use Rattle.network_model.specs.Turn.{is_same, turning, turn_row}
 use Rattle.network_model.specs.Step.{step}
 use Rattle.network_model.specs.Run.{state_after, entries_along}
 use Rattle.network_model.specs.Calm.{is_calm}
 use Rattle.network_model.specs.Reach.{is_site, is_row_of, is_row_on}
-use Rattle.network_model.specs.Window.{next_origin}
+use Rattle.network_model.specs.Window.{is_flooded, next_origin}
 use Rattle.network_model.specs.OnceEach.{times_left, LeftWithin}
 use Rattle.network_model.specs.Laws.{HasPlacedCircuits, RunsServeOnce}
 use Rattle.network_model.proofs.CalmLemmas.{at_one_edge}
+use Rattle.network_model.proofs.FloodLemmas.{unknown_heard}
 
 -- joined traces
 pub times_left-append : (origin : ℕ) (circuit : CircuitId) (xs ys : List Entry) → times_left origin circuit (xs ++ ys) ≡ times_left origin circuit xs + times_left origin circuit ys
@@ -74,24 +76,24 @@ copies_within plan origin number targets frame p (x ∷ ports) =
       chosen (port.Spoke wire) true = tt
 
 -- a step tells of no frame but the one that enters in it
-bridged_other : (plan : Plan) (edge : EdgeState) (ports : List Port) (origin other : ℕ) (circuit : CircuitId) (frame : List ℕ) (arrival : Option ℕ)
-    → nat_eq origin other ≡ false → times_left other circuit (bridged edge ports (copy_by plan origin 0 frame) arrival) ≡ 0
-bridged_other plan edge ports origin other circuit frame None apart = refl
-bridged_other plan edge ports origin other circuit frame (Some arrival) apart = copies_other plan origin other circuit (is_target ports (port_forwards edge ports) arrival) frame 0 ports apart
+bridged_other : (plan : Plan) (edge : EdgeState) (service : ServiceId) (ports : List Port) (origin other : ℕ) (circuit : CircuitId) (frame : List ℕ) (arrival : Option ℕ)
+    → nat_eq origin other ≡ false → times_left other circuit (bridged edge service ports frame (copy_by plan origin 0 frame) arrival) ≡ 0
+bridged_other plan edge service ports origin other circuit frame None apart = refl
+bridged_other plan edge service ports origin other circuit frame (Some arrival) apart = copies_other plan origin other circuit (targets_of edge service ports frame arrival) frame 0 ports apart
 
-received_other : (edge : EdgeId) (origin other : ℕ) (circuit : CircuitId) (sent : List ℕ → List Entry) (read : Result (List ℕ) DropCause)
-    → ((frame : List ℕ) → times_left other circuit (sent frame) ≡ 0) → times_left other circuit (received edge origin sent read) ≡ 0
-received_other edge origin other circuit sent (Ok frame) none = none frame
-received_other edge origin other circuit sent (Err cause) none = refl
+received_other : (plan : Plan) (edge : EdgeState) (at circuit : CircuitId) (row : CircuitPlan) (origin other : ℕ) (read : Result (List ℕ) DropCause)
+    → nat_eq origin other ≡ false → times_left other circuit (received plan edge at row origin read).entries ≡ 0
+received_other plan edge at circuit row origin other (Ok frame) apart =
+    bridged_other plan (hearing edge row.service frame (port_at plan at row)) row.service (ports_of plan row.service row.edge) origin other circuit frame (port_at plan at row) apart
+received_other plan edge at circuit row origin other (Err cause) apart = refl
 
 entering_other : (plan : Plan) (network : NetworkState) (at circuit : CircuitId) (octets : List ℕ) (row : CircuitPlan) (on : Bool) (other : ℕ)
     → (network.entered + 1 ≡ other → (entering plan network at octets row on).state.entered ≡ network.entered + 1 → ⊥)
     → times_left other circuit (entering plan network at octets row on).entries ≡ 0
 entering_other plan network at circuit octets row false other apart = refl
 entering_other plan network at circuit octets row true other apart =
-    received_other row.edge (network.entered + 1) other circuit _ (inner_at plan at octets)
-    (λ frame. bridged_other plan (at_edge network row.edge) (ports_of plan row.service row.edge) (network.entered + 1) other circuit frame
-    (position (is_circuit_port at) (ports_of plan row.service row.edge)) (ne_eqb (network.entered + 1) other (λ same. apart same refl)))
+    received_other plan (at_edge network row.edge) at circuit row (network.entered + 1) other (inner_at plan at octets)
+    (ne_eqb (network.entered + 1) other (λ same. apart same refl))
 
 frame_other : (plan : Plan) (network : NetworkState) (at circuit : CircuitId) (octets : List ℕ) (row : Option CircuitPlan) (other : ℕ)
     → (network.entered + 1 ≡ other → (frame_row plan network at octets row).state.entered ≡ network.entered + 1 → ⊥)
@@ -99,10 +101,19 @@ frame_other : (plan : Plan) (network : NetworkState) (at circuit : CircuitId) (o
 frame_other plan network at circuit octets None other apart = refl
 frame_other plan network at circuit octets (Some row) other apart = entering_other plan network at circuit octets row (is_on (at_edge network row.edge) at) other apart
 
+turning_other : (plan : Plan) (network : NetworkState) (at circuit : CircuitId) (row : CircuitPlan) (on so : Bool) (other : ℕ) → times_left other circuit (turning plan network at row on so).entries ≡ 0
+turning_other plan network at circuit row on true other = refl
+turning_other plan network at circuit row on false other = refl
+
+turn_other : (plan : Plan) (network : NetworkState) (at circuit : CircuitId) (on : Bool) (row : Option CircuitPlan) (other : ℕ) → times_left other circuit (turn_row plan network at on row).entries ≡ 0
+turn_other plan network at circuit on None other = refl
+turn_other plan network at circuit on (Some row) other = turning_other plan network at circuit row on (is_same on (is_on (at_edge network row.edge) at)) other
+
 step_other : (plan : Plan) (network : NetworkState) (event : Event) (circuit : CircuitId) (other : ℕ)
     → (network.entered + 1 ≡ other → (step plan network event).state.entered ≡ network.entered + 1 → ⊥)
     → times_left other circuit (step plan network event).entries ≡ 0
 step_other plan network (Frame at octets) circuit other apart = frame_other plan network at circuit octets (circuit_row plan at) other apart
+step_other plan network (Circuit at on) circuit other apart = turn_other plan network at circuit on (circuit_row plan at) other
 step_other plan network event circuit other apart = refl
 
 -- the count of frames never falls
@@ -114,8 +125,17 @@ frame_counts : (plan : Plan) (network : NetworkState) (at : CircuitId) (octets :
 frame_counts plan network at octets None = omega arith
 frame_counts plan network at octets (Some row) = entering_counts plan network at octets row (is_on (at_edge network row.edge) at)
 
+turning_counts : (plan : Plan) (network : NetworkState) (at : CircuitId) (row : CircuitPlan) (on so : Bool) → (turning plan network at row on so).state.entered ≡ network.entered
+turning_counts plan network at row on true = refl
+turning_counts plan network at row on false = refl
+
+turn_counts : (plan : Plan) (network : NetworkState) (at : CircuitId) (on : Bool) (row : Option CircuitPlan) → (turn_row plan network at on row).state.entered ≡ network.entered
+turn_counts plan network at on None = refl
+turn_counts plan network at on (Some row) = turning_counts plan network at row on (is_same on (is_on (at_edge network row.edge) at))
+
 step_counts : (plan : Plan) (network : NetworkState) (event : Event) → network.entered ≤ (step plan network event).state.entered
 step_counts plan network (Frame at octets) = frame_counts plan network at octets (circuit_row plan at)
+step_counts plan network (Circuit at on) = omega (arith, turn_counts plan network at on (circuit_row plan at))
 step_counts plan network event = omega arith
 
 counts_rise : (plan : Plan) (network : NetworkState) (events : List Event) → network.entered ≤ (state_after plan network events).entered
@@ -142,21 +162,27 @@ none_after plan network (e ∷ es) circuit other earlier =
     omega (arith, times_left-append other circuit (step plan network e).entries (entries_along plan (step plan network e).state es))
 
 -- what leaves has passed no segment, since no wire carries frames
-received_within : (edge : EdgeId) (origin number : ℕ) (sent : List ℕ → List Entry) (read : Result (List ℕ) DropCause)
-    → ((frame : List ℕ) → LeftWithin number (sent frame)) → LeftWithin number (received edge origin sent read)
-received_within edge origin number sent (Ok frame) holds = holds frame
-received_within edge origin number sent (Err cause) holds = tt
+bridged_within : (plan : Plan) (edge : EdgeState) (service : ServiceId) (ports : List Port) (origin number : ℕ) (frame : List ℕ) (arrival : Option ℕ)
+    → LeftWithin number (bridged edge service ports frame (copy_by plan origin 0 frame) arrival)
+bridged_within plan edge service ports origin number frame None = tt
+bridged_within plan edge service ports origin number frame (Some arrival) = copies_within plan origin number (targets_of edge service ports frame arrival) frame 0 ports
 
-bridged_within : (plan : Plan) (edge : EdgeState) (ports : List Port) (origin number : ℕ) (frame : List ℕ) (arrival : Option ℕ) → LeftWithin number (bridged edge ports (copy_by plan origin 0 frame) arrival)
-bridged_within plan edge ports origin number frame None = tt
-bridged_within plan edge ports origin number frame (Some arrival) = copies_within plan origin number (is_target ports (port_forwards edge ports) arrival) frame 0 ports
+received_within : (plan : Plan) (edge : EdgeState) (at : CircuitId) (row : CircuitPlan) (origin number : ℕ) (read : Result (List ℕ) DropCause) → LeftWithin number (received plan edge at row origin read).entries
+received_within plan edge at row origin number (Ok frame) =
+    bridged_within plan (hearing edge row.service frame (port_at plan at row)) row.service (ports_of plan row.service row.edge) origin number frame (port_at plan at row)
+received_within plan edge at row origin number (Err cause) = tt
 
 entering_within : (plan : Plan) (network : NetworkState) (at : CircuitId) (octets : List ℕ) (row : CircuitPlan) (on : Bool) (number : ℕ) → LeftWithin number (entering plan network at octets row on).entries
 entering_within plan network at octets row false number = tt
-entering_within plan network at octets row true number =
-    received_within row.edge (network.entered + 1) number _ (inner_at plan at octets)
-    (λ frame. bridged_within plan (at_edge network row.edge) (ports_of plan row.service row.edge) (network.entered + 1) number frame
-    (position (is_circuit_port at) (ports_of plan row.service row.edge)))
+entering_within plan network at octets row true number = received_within plan (at_edge network row.edge) at row (network.entered + 1) number (inner_at plan at octets)
+
+turning_within : (plan : Plan) (network : NetworkState) (at : CircuitId) (row : CircuitPlan) (on so : Bool) (number : ℕ) → LeftWithin number (turning plan network at row on so).entries
+turning_within plan network at row on true number = tt
+turning_within plan network at row on false number = tt
+
+turn_within : (plan : Plan) (network : NetworkState) (at : CircuitId) (on : Bool) (row : Option CircuitPlan) (number : ℕ) → LeftWithin number (turn_row plan network at on row).entries
+turn_within plan network at on None number = tt
+turn_within plan network at on (Some row) number = turning_within plan network at row on (is_same on (is_on (at_edge network row.edge) at)) number
 
 frame_within : (plan : Plan) (network : NetworkState) (at : CircuitId) (octets : List ℕ) (row : Option CircuitPlan) (number : ℕ) → LeftWithin number (frame_row plan network at octets row).entries
 frame_within plan network at octets None number = tt
@@ -164,6 +190,7 @@ frame_within plan network at octets (Some row) number = entering_within plan net
 
 step_within : (plan : Plan) (network : NetworkState) (event : Event) (number : ℕ) → LeftWithin number (step plan network event).entries
 step_within plan network (Frame at octets) number = frame_within plan network at octets (circuit_row plan at) number
+step_within plan network (Circuit at on) number = turn_within plan network at on (circuit_row plan at) number
 step_within plan network event number = tt
 
 along_within : (plan : Plan) (network : NetworkState) (events : List Event) (number : ℕ) → LeftWithin number (entries_along plan network events)
@@ -254,16 +281,17 @@ count_at plan origin frame circuit test k (suc j) (row ∷ rows) service edge pl
 abbrev goes_to : EdgeState → ℕ → ℕ → Bool
 goes_to edge sender circuit = edge.circuit_on circuit && not (nat_eq circuit sender)
 
-target_is : (plan : Plan) (service : ServiceId) (at : EdgeId) (edge : EdgeState) (arrival sender p c : ℕ)
-    → LeadsTo (ports_of plan service at) arrival sender → LeadsTo (ports_of plan service at) p c
-    → is_target (ports_of plan service at) (port_forwards edge (ports_of plan service at)) arrival p ≡ goes_to edge sender c
-target_is plan service at edge arrival sender p c from to =
+target_is : (plan : Plan) (service : ServiceId) (at : EdgeId) (edge : EdgeState) (known : Option ℕ) (arrival sender p c : ℕ)
+    → known ≡ None → LeadsTo (ports_of plan service at) arrival sender → LeadsTo (ports_of plan service at) p c
+    → is_target (ports_of plan service at) (port_forwards edge (ports_of plan service at)) arrival known p ≡ goes_to edge sender c
+target_is plan service at edge known arrival sender p c unknown from to =
     let same : nat_eq p arrival ≡ nat_eq c sender = same_port 0 plan.circuits service at p arrival c sender to from in
     let met : (x y : Option Port) (equal : Bool) → Bool = λ x y equal. (forwards edge y && not equal) && not (is_mesh x && is_mesh y) in
-    ap (λ (x : Option Port). met x (slice_get (ports_of plan service at) p) (nat_eq p arrival)) from.is
+    ap (λ (k : Option ℕ). is_target (ports_of plan service at) (port_forwards edge (ports_of plan service at)) arrival k p) unknown
+    ∙ (ap (λ (x : Option Port). met x (slice_get (ports_of plan service at) p) (nat_eq p arrival)) from.is
     ∙ (ap (λ (y : Option Port). met (Some (port.Circuit (record { 0 = sender }))) y (nat_eq p arrival)) to.is
     ∙ (ap (λ (equal : Bool). met (Some (port.Circuit (record { 0 = sender }))) (Some (port.Circuit (record { 0 = c }))) equal) same
-    ∙ and-true (goes_to edge sender c)))
+    ∙ and-true (goes_to edge sender c))))
 
 -- the sites of a calm service are the circuits that are on at the edge of any of its circuits
 site_is : (plan : Plan) (network : NetworkState) (service : ServiceId) (sender circuit : CircuitId) (row : CircuitPlan) (found : Option CircuitPlan)
@@ -282,42 +310,46 @@ site_is plan network service sender circuit row (Some other) placed calm is of_s
 ]
 
 -- the frame that enters in a window leaves once at each other site
-forwarded_once : (plan : Plan) (network : NetworkState) (at circuit : CircuitId) (octets frame : List ℕ) (row : CircuitPlan)
-    → HasPlacedCircuits plan → is_calm plan network row.service ≡ true → circuit_row plan at ≡ Some row → inner_at plan at octets ≡ Ok frame
-    → times_left (network.entered + 1) circuit (forwarded plan network at row (network.entered + 1) octets)
+forwarded_once : (plan : Plan) (network : NetworkState) (at circuit : CircuitId) (frame : List ℕ) (row : CircuitPlan)
+    → HasPlacedCircuits plan → is_calm plan network row.service ≡ true → circuit_row plan at ≡ Some row
+    → ((arrival : Option ℕ) → known_port (addresses_of (hearing (at_edge network row.edge) row.service frame arrival) row.service) (destination frame) ≡ None)
+    → times_left (network.entered + 1) circuit (forwarded plan (at_edge network row.edge) at row (network.entered + 1) frame).entries
     ≡ cond (is_site plan network row.service circuit && not (nat_eq circuit.0 at.0)) 1 0
-forwarded_once plan network at circuit octets frame row placed calm is formed =
+forwarded_once plan network at circuit frame row placed calm is unknown =
     let origin : ℕ = network.entered + 1 in
     let ports : List Port = ports_of plan row.service row.edge in
-    let edge : EdgeState = at_edge network row.edge in
     let copy : Port → List Entry = copy_by plan origin 0 frame in
     let serve : serves row.service row.edge row ≡ true = rw (eq-eqb row.service.0 row.service.0 refl, eq-eqb row.edge.0 row.edge.0 refl) refl in
     let has : HasPort ports at.0 = has_port 0 at.0 at.0 plan.circuits row row.service row.edge (sym (zero-add at.0)) is serve in
     let (arrival, found) = finds_port at ports has in
     let from : LeadsTo ports arrival at.0 = found_port at ports arrival found in
-    let same : copies (is_target ports (port_forwards edge ports) arrival) copy 0 ports ≡ chosen (goes_to edge at.0) copy ports =
-    copies-chosen plan.circuits row.service row.edge (is_target ports (port_forwards edge ports) arrival) (goes_to edge at.0) copy 0 ports (ports_served plan row.service row.edge)
-    (λ p c to. ap (is_target ports (port_forwards edge ports) arrival) (zero-add p) ∙ target_is plan row.service row.edge edge arrival at.0 p c from to) in
+    let edge : EdgeState = hearing (at_edge network row.edge) row.service frame (Some arrival) in
+    let targets : ℕ → Bool = targets_of edge row.service ports frame arrival in
+    let same : copies targets copy 0 ports ≡ chosen (goes_to edge at.0) copy ports =
+    copies-chosen plan.circuits row.service row.edge targets (goes_to edge at.0) copy 0 ports (ports_served plan row.service row.edge)
+    (λ p c to. ap targets (zero-add p) ∙ target_is plan row.service row.edge edge (known_port (addresses_of edge row.service) (destination frame)) arrival at.0 p c (unknown (Some arrival)) from to) in
     let counted = count_at plan origin frame circuit (goes_to edge at.0) 0 circuit.0 plan.circuits row.service row.edge (sym (zero-add circuit.0)) in
     let sites = site_is plan network row.service at circuit row (slice_get plan.circuits circuit.0) placed calm is (eq-eqb row.service.0 row.service.0 refl) refl in
-    ap (λ (r : Result (List ℕ) DropCause). times_left origin circuit (received row.edge origin (λ x. bridged edge ports (copy_by plan origin 0 x) (position (is_circuit_port at) ports)) r)) formed
-    ∙ (ap (λ (o : Option ℕ). times_left origin circuit (bridged edge ports copy o)) found
+    ap (λ (o : Option ℕ). times_left origin circuit (bridged (hearing (at_edge network row.edge) row.service frame o) row.service ports frame copy o)) found
     ∙ (ap (times_left origin circuit) same
     ∙ (counted
-    ∙ ap (λ (b : Bool). cond {A = ℕ} b 1 0) sites)))
+    ∙ ap (λ (b : Bool). cond {A = ℕ} b 1 0) sites))
 
-frame_once : (plan : Plan) (network : NetworkState) (at circuit : CircuitId) (octets frame : List ℕ) (service : ServiceId) (row : Option CircuitPlan)
+-- a frame whose destination is flooded finds no port
+frame_once : (plan : Plan) (network : NetworkState) (at circuit : CircuitId) (octets frame : List ℕ) (service : ServiceId) (row : Option CircuitPlan) (during : List Event)
     → HasPlacedCircuits plan → is_calm plan network service ≡ true → circuit_row plan at ≡ row → option_map (λ (r : CircuitPlan). r.service) row ≡ Some service
-    → is_row_on network at row ≡ true → inner_at plan at octets ≡ Ok frame
+    → is_row_on network at row ≡ true → inner_at plan at octets ≡ Ok frame → is_flooded plan network service frame (Frame at octets ∷ during) ≡ true
     → times_left (network.entered + 1) circuit (frame_row plan network at octets row).entries
     ≡ cond (is_site plan network service circuit && not (nat_eq circuit.0 at.0)) 1 0
-frame_once plan network at circuit octets frame service None placed calm is of_service on formed = absurd (cc)
-frame_once plan network at circuit octets frame service (Some row) placed calm is of_service on formed =
+frame_once plan network at circuit octets frame service None during placed calm is of_service on formed floods = absurd (cc)
+frame_once plan network at circuit octets frame service (Some row) during placed calm is of_service on formed floods =
     let same : service ≡ row.service = cc (of_service) in
     let calm_here : is_calm plan network row.service ≡ true = subst (λ (s : ServiceId). is_calm plan network s ≡ true) same calm in
+    let floods_here : is_flooded plan network row.service frame (Frame at octets ∷ during) ≡ true = subst (λ (s : ServiceId). is_flooded plan network s frame (Frame at octets ∷ during) ≡ true) same floods in
     ap (λ (b : Bool). times_left (network.entered + 1) circuit (entering plan network at octets row b).entries) on
-    ∙ (forwarded_once plan network at circuit octets frame row placed calm_here is formed
-    ∙ ap (λ (s : ServiceId). cond {A = ℕ} (is_site plan network s circuit && not (nat_eq circuit.0 at.0)) 1 0) (sym same))
+    ∙ (ap (λ (r : Result (List ℕ) DropCause). times_left (network.entered + 1) circuit (received plan (at_edge network row.edge) at row (network.entered + 1) r).entries) formed
+    ∙ (forwarded_once plan network at circuit frame row placed calm_here is (unknown_heard plan network at octets frame row during placed is formed floods_here)
+    ∙ ap (λ (s : ServiceId). cond {A = ℕ} (is_site plan network s circuit && not (nat_eq circuit.0 at.0)) 1 0) (sym same)))
 
 -- a frame that enters raises the count
 frame_enters : (plan : Plan) (network : NetworkState) (at : CircuitId) (octets : List ℕ) (row : Option CircuitPlan) → is_row_on network at row ≡ true → (frame_row plan network at octets row).state.entered ≡ network.entered + 1
@@ -336,7 +368,7 @@ run_serves_once plan events placed before at octets during after service split w
       once = λ circuit.
           let earlier = none_before plan empty_network before circuit origin (omega arith) in
           let later = none_after plan (step plan network (Frame at octets)).state rest circuit origin (omega arith) in
-          let here = frame_once plan network at circuit octets window.frame service (circuit_row plan at) placed window.calm refl window.sender window.on window.formed in
+          let here = frame_once plan network at circuit octets window.frame service (circuit_row plan at) during placed window.calm refl window.sender window.on window.formed window.flooded in
           let sum : times_left origin circuit (entries_along plan empty_network events) ≡ times_left origin circuit (step plan network (Frame at octets)).entries =
           ap (times_left origin circuit) told
           ∙ omega (

@@ -7,4 +7,6 @@ pub mod Roles
 pub mod Run
 pub mod State
 pub mod Step
+pub mod Tick
+pub mod Turn
 pub mod Window

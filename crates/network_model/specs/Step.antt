@@ -2,15 +2,19 @@
 use Rattle.std.specs.Prelude.{[], ◌∷◌}
 use Rattle.net_base.specs.declared.plan.Plan.{Plan}
 use Rattle.net_base.specs.declared.event.Event.{Event}
-use Rattle.net_base.specs.declared.event.Event.TheVariants.{Frame}
+use Rattle.net_base.specs.declared.event.Event.TheVariants.{Tick, Frame, Circuit}
 use Rattle.net_base.specs.declared.entry.Entry.TheVariants.{Did}
 use Rattle.net_base.specs.Places.{circuit_row}
 use Rattle.network_model.specs.State.{NetworkState}
 use Rattle.network_model.specs.Enter.{Stepped, frame_row}
+use Rattle.network_model.specs.Tick.{tick_row}
+use Rattle.network_model.specs.Turn.{turn_row}
 
--- the row of an event. Those of the other events are to come; no accepted scenario makes them yet
+-- the row of an event. Those of the other events are to come; no scenario that is run makes them yet
 abbrev pub event_row : Plan → NetworkState → Event → Stepped
+event_row plan network Tick = tick_row plan network
 event_row plan network (Frame circuit octets) = frame_row plan network circuit octets (circuit_row plan circuit)
+event_row plan network (Circuit circuit on) = turn_row plan network circuit on (circuit_row plan circuit)
 event_row plan network event = record { state = network; entries = [] }
 
 -- an event is told first, and then what it brings about

@@ -12,7 +12,8 @@ use Rattle.net_base.specs.declared.places.ServiceId.{ServiceId}
 use Rattle.net_base.specs.Frame.{destination_of, source_of, goes_to_group}
 use Rattle.net_base.specs.Isolated.{inner_at}
 use Rattle.net_base.specs.Places.{service_of, wire_row}
-use Rattle.network_model.specs.State.{NetworkState, LearnedAddress, Packet, empty_network}
+use Rattle.mac_table.specs.Addresses.{has_address}
+use Rattle.network_model.specs.State.{NetworkState, Packet, empty_network}
 use Rattle.network_model.specs.Step.{step}
 use Rattle.network_model.specs.Run.{state_after}
 use Rattle.network_model.specs.Roles.{all_below, is_wire_of}
@@ -43,12 +44,9 @@ all_spare plan origin network [] = true
 all_spare plan origin network (e ∷ es) = spares network origin e && all_spare plan origin (step plan network e).state es
 
 -- no bridge of the service has learned the address
-abbrev pub holds_address : List ℕ → List LearnedAddress → Bool
-holds_address address entries = list_any (λ entry. bytes_eq entry.address address) entries
-
 abbrev pub is_unlearned : Plan → NetworkState → ServiceId → List ℕ → Bool
 is_unlearned plan network service address =
-    all_below (length plan.edges) (λ edge. not (holds_address address ((network.edges edge).learned service.0)))
+    all_below (length plan.edges) (λ edge. not (has_address ((network.edges edge).learned service.0) (record { 0 = address })))
 
 -- the address is the source of the inner frame
 abbrev pub is_sourced : List ℕ → Result (List ℕ) DropCause → Bool
