@@ -1,5 +1,8 @@
 //! Why a frame or a packet is refused.
+ghost use Rattle.std.specs.Prelude.{◌≡◌};
+ghost use Rattle.eth_encap.specs.Fault.{cause_of};
 
+use net_base::DropCause;
 use thiserror::Error;
 
 /// Why a frame or a packet is not taken in. Each is the drop cause of its name.
@@ -26,4 +29,21 @@ pub enum FrameFault {
     /// A label stack entry with TTL 0 (RFC 3032 section 2.4).
     #[error("TTL 0")]
     Ttl,
+}
+
+impl FrameFault {
+    /// The drop cause of the same name.
+    pub fn cause(self) -> DropCause
+        ensures { result ≡ cause_of self }
+    {
+        match self {
+            FrameFault::Short => DropCause::Short,
+            FrameFault::Long => DropCause::Long,
+            FrameFault::WrongTag => DropCause::WrongTag,
+            FrameFault::NoTag => DropCause::NoTag,
+            FrameFault::BadNibble => DropCause::BadNibble,
+            FrameFault::NotBottom => DropCause::NotBottom,
+            FrameFault::Ttl => DropCause::Ttl,
+        }
+    }
 }

@@ -6,7 +6,7 @@ use byteorder::{BigEndian, ByteOrder};
 
 // The number of the two octets at a place.
 #[tactic(auto, using(crate::proofs::OctetLemmas::number_at))]
-pub fn pair(octets: &[u8], at: usize) -> u16
+pub(crate) fn pair(octets: &[u8], at: usize) -> u16
     requires { at + 2 ≤ length octets.now }
     ensures { result ≡ pair_at octets.now at }
 {
@@ -15,7 +15,7 @@ pub fn pair(octets: &[u8], at: usize) -> u16
 }
 
 // Writes the piece at the place, and answers the place behind it.
-pub fn put(out: &mut [u8], at: usize, piece: &[u8]) -> usize
+pub(crate) fn put(out: &mut [u8], at: usize, piece: &[u8]) -> usize
     requires { at + length piece.now ≤ length out.old }
     ensures end { result ≡ at + length piece.now }
     ensures octets { out.new ≡ (take at out.old ++ piece.now) ++ drop result out.old }
@@ -27,7 +27,7 @@ pub fn put(out: &mut [u8], at: usize, piece: &[u8]) -> usize
 
 // Writes two pieces to the front, and answers the place behind them.
 #[tactic(auto, using(crate::proofs::OctetLemmas::added_behind))]
-pub fn join(front: &[u8], back: &[u8], out: &mut [u8]) -> usize
+pub(crate) fn join(front: &[u8], back: &[u8], out: &mut [u8]) -> usize
     requires { length front.now + length back.now ≤ length out.old }
     ensures end { result ≡ length front.now + length back.now }
     ensures octets { out.new ≡ (front.now ++ back.now) ++ drop result out.old }

@@ -1,5 +1,5 @@
 //! The ports of a service at an edge, in order.
-ghost use Rattle.std.specs.Prelude.{◌≡◌, ◌≤◌, length, slice_get, option_map, position, IfOk};
+ghost use Rattle.std.specs.Prelude.{◌≡◌, ◌≤◌, ◌<◌, length, slice_get, option_map, position, IfOk, IfSome};
 ghost use Rattle.hvpls_spokes.specs.Port.{kind_of, is_circuit_port, is_mesh_port, ports_of};
 
 use crate::{Port, PortKind};
@@ -81,7 +81,8 @@ impl Ports {
 
     /// The number of the port that leads to the circuit; `None` exactly where none does.
     pub fn find(&self, circuit: CircuitId) -> Option<u16>
-        ensures { result ≡ position (is_circuit_port circuit) self.now }
+        ensures port { result ≡ position (is_circuit_port circuit) self.now }
+        ensures within { IfSome result (λ port. port < 512) }
     {
         let place = place_of(self.ports.as_slice(), circuit)?;
         Some(place as u16)
@@ -90,7 +91,8 @@ impl Ports {
 
 // The place of the port that leads to the circuit.
 fn place_of(ports: &[Port], circuit: CircuitId) -> Option<usize>
-    ensures { result ≡ position (is_circuit_port circuit) ports.now }
+    ensures place { result ≡ position (is_circuit_port circuit) ports.now }
+    ensures within { IfSome result (λ place. place < length ports.now) }
 {
     ports.iter().position(|port| leads_to(*port, circuit))
 }

@@ -22,7 +22,7 @@ fn replace(entries: &mut [MacEntry], entry: MacEntry) -> bool
 }
 
 // Puts the entry in place of the one of its address, or at the end where there is room.
-pub fn learn_in(entries: &mut Vec<MacEntry>, capacity: u32, entry: MacEntry) -> Learned
+pub(crate) fn learn_in(entries: &mut Vec<MacEntry>, capacity: u32, entry: MacEntry) -> Learned
     requires { IsHeld capacity (vec_capacity entries.old) entries.old.items }
     ensures learning { result ≡ learning_of (record { entries = entries.old.items; capacity = capacity }) entry.address }
     ensures entries { entries.new.items ≡ learned (record { entries = entries.old.items; capacity = capacity }) entry }
@@ -39,7 +39,7 @@ pub fn learn_in(entries: &mut Vec<MacEntry>, capacity: u32, entry: MacEntry) -> 
 }
 
 // Keeps the entries whose frames came less than the limit ago.
-pub fn keep_young(entries: &mut Vec<MacEntry>, now: u64, limit: u32)
+pub(crate) fn keep_young(entries: &mut Vec<MacEntry>, now: u64, limit: u32)
     ensures items { entries.new.items ≡ filter (is_young now limit) entries.old.items }
     ensures held { (capacity : ℕ) → IsHeld capacity (vec_capacity entries.old) entries.old.items → IsHeld capacity (vec_capacity entries.new) entries.new.items }
     ensures ticks { (tick : ℕ) → NoneAfter tick entries.old.items → NoneAfter tick entries.new.items }
@@ -48,7 +48,7 @@ pub fn keep_young(entries: &mut Vec<MacEntry>, now: u64, limit: u32)
 }
 
 // Keeps the entries that are not at the port.
-pub fn keep_off_port(entries: &mut Vec<MacEntry>, port: u16)
+pub(crate) fn keep_off_port(entries: &mut Vec<MacEntry>, port: u16)
     ensures items { entries.new.items ≡ filter (λ e. not (e.port == port)) entries.old.items }
     ensures held { (capacity : ℕ) → IsHeld capacity (vec_capacity entries.old) entries.old.items → IsHeld capacity (vec_capacity entries.new) entries.new.items }
     ensures ticks { (tick : ℕ) → NoneAfter tick entries.old.items → NoneAfter tick entries.new.items }
@@ -67,7 +67,7 @@ fn is_kept(from: u16, addresses: &[Mac], entry: &MacEntry) -> bool
 }
 
 // Keeps the entries that stay after a withdrawal by the port.
-pub fn keep_staying(entries: &mut Vec<MacEntry>, from: u16, addresses: &[Mac])
+pub(crate) fn keep_staying(entries: &mut Vec<MacEntry>, from: u16, addresses: &[Mac])
     ensures items { entries.new.items ≡ filter (stays from addresses.now) entries.old.items }
     ensures held { (capacity : ℕ) → IsHeld capacity (vec_capacity entries.old) entries.old.items → IsHeld capacity (vec_capacity entries.new) entries.new.items }
     ensures ticks { (tick : ℕ) → NoneAfter tick entries.old.items → NoneAfter tick entries.new.items }

@@ -13,7 +13,7 @@ fn is_entry_of(address: Mac, entry: &MacEntry) -> bool
 }
 
 // The port of the address.
-pub fn find_port(entries: &[MacEntry], address: Mac) -> Option<u16>
+pub(crate) fn find_port(entries: &[MacEntry], address: Mac) -> Option<u16>
     ensures { result ≡ port_of entries.now address }
 {
     for entry in entries {
@@ -25,7 +25,7 @@ pub fn find_port(entries: &[MacEntry], address: Mac) -> Option<u16>
 }
 
 // The place of the address, or the number of entries where it is not held.
-pub fn place_of(entries: &[MacEntry], address: Mac) -> usize
+pub(crate) fn place_of(entries: &[MacEntry], address: Mac) -> usize
     ensures place { result ≡ place_in entries.now address }
     ensures within { result ≤ length entries.now }
 {
@@ -38,7 +38,7 @@ pub fn place_of(entries: &[MacEntry], address: Mac) -> usize
 }
 
 // Whether the address of the entry is in the list.
-pub fn is_in(addresses: &[Mac], entry: &MacEntry) -> bool
+pub(crate) fn is_in(addresses: &[Mac], entry: &MacEntry) -> bool
     ensures { result ≡ is_listed addresses.now entry.now }
 {
     for address in addresses {

@@ -1,5 +1,5 @@
 -- A flooded frame leaves at each other site of its calm service exactly once.
-use Rattle.std.proofs.Common.{◌≡◌, ◌<◌, ◌≤◌, ◌+◌, ◌++◌, ◌&&◌, ◌∙◌, ℕ, zero, suc, Bool, true, false, List, [], ◌∷◌, Option, Some, None, Result, Ok, Err, cond, slice_get, refl, ap, sym, subst, nat_eq, not, arith, inl, inr, add-zero, zero-add, append_assoc, option_map}
+use Rattle.std.proofs.Common.{◌≡◌, ◌<◌, ◌≤◌, ◌+◌, ◌++◌, ◌&&◌, ◌∙◌, ℕ, zero, suc, Bool, true, false, List, [], ◌∷◌, Option, Some, None, Result, Ok, Err, cond, slice_get, refl, ap, sym, subst, nat_eq, not, arith, inl, inr, add-zero, zero-add, option_map}
 use Rattle.std.proofs.lemmas.Bool.{cases_Bool, eq-eqb, ne_eqb}
 use Rattle.std.proofs.Math.Bool.{and-true}
 use Rattle.net_base.specs.declared.plan.Plan.{Plan}
@@ -30,6 +30,7 @@ use Rattle.network_model.specs.Window.{is_flooded, next_origin}
 use Rattle.network_model.specs.OnceEach.{times_left, LeftWithin}
 use Rattle.network_model.specs.Laws.{HasPlacedCircuits, RunsServeOnce}
 use Rattle.network_model.proofs.CalmLemmas.{at_one_edge}
+use Rattle.network_model.proofs.RunLemmas.{along-append}
 use Rattle.network_model.proofs.FloodLemmas.{unknown_heard}
 
 -- joined traces
@@ -42,12 +43,6 @@ pub within-append : (origin : ℕ) (xs ys : List Entry) → LeftWithin origin xs
 within-append origin [] ys front back = back
 within-append origin (Left at from hops octets ∷ xs) ys front back = (front.0, within-append origin xs ys front.1 back)
 within-append origin (x ∷ xs) ys front back = within-append origin xs ys front back
-
-pub along-append : (plan : Plan) (network : NetworkState) (xs ys : List Event) → entries_along plan network (xs ++ ys) ≡ entries_along plan network xs ++ entries_along plan (state_after plan network xs) ys
-along-append plan network [] ys = refl
-along-append plan network (x ∷ xs) ys =
-    ap (λ (l : List Entry). (step plan network x).entries ++ l) (along-append plan (step plan network x).state xs ys)
-    ∙ sym (append_assoc (step plan network x).entries (entries_along plan (step plan network x).state xs) (entries_along plan (state_after plan (step plan network x).state xs) ys))
 
 -- copies of one frame show its number, and no hops
 chosen_other : (plan : Plan) (origin other : ℕ) (circuit : CircuitId) (frame : List ℕ) (x : Port) (b : Bool) → nat_eq origin other ≡ false → times_left other circuit (cond b (copy_by plan origin 0 frame x) []) ≡ 0

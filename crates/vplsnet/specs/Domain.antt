@@ -1,43 +1,43 @@
--- The bridged domains of the one edge that a replay drives.
-use Rattle.std.specs.Prelude.{◌≡◌, ◌+◌, ℕ, List, [], ◌∷◌, Option, Some, None}
+-- A bridged domain: a service at the edge that a replay drives.
+use Rattle.std.specs.Prelude.{◌==◌, ℕ, Bool, true, false, List, [], Option, Some, None}
 use Rattle.net_base.specs.declared.entry.Entry.{Entry}
-use Rattle.net_base.specs.declared.entry.Entry.TheVariants.{Left}
-use Rattle.net_base.specs.declared.places.EdgeId.{EdgeId}
-use Rattle.net_base.specs.declared.places.ServiceId.{ServiceId}
 use Rattle.net_base.specs.declared.plan.Plan.{Plan}
 use Rattle.hvpls_spokes.specs.declared.port.Port.{Port}
-use Rattle.hvpls_spokes.specs.declared.port.Port.TheVariants as port
-use Rattle.hvpls_spokes.specs.Port.{ports_of}
 use Rattle.hvpls_spokes.specs.PortSet.{has}
-use Rattle.network_model.specs.State.{NetworkState, empty_edge, empty_network}
-use Rattle.network_model.specs.Enter.{port_forwards}
+use Rattle.vsi_bridge.specs.BridgeState.{BridgeState}
+use Rattle.vsi_bridge.specs.Targets.{heard, is_target, known_port}
+use Rattle.network_model.specs.Enter.{copies, copy_by, source, destination}
+use Rattle.network_model.specs.Turn.{without_port}
 use Rattle.vplsnet.specs.declared.domain.Domain.{Domain}
 
--- the first edge of a plan
-abbrev pub first_edge : EdgeId
-first_edge = record { 0 = 0 }
+-- the test holds of a port that was found
+abbrev pub holds_of : (ℕ → Bool) → Option ℕ → Bool
+holds_of test None = false
+holds_of test (Some port) = test port
 
--- the domain has the ports of the service at the first edge, and knows which of them forward
-pub record IsDomain (plan : Plan) (service : ServiceId) (domain : Domain) : Type 0 where
-  pub ports : domain.bridge.ports ≡ ports_of plan service first_edge
-  pub forwarding : (p : ℕ) → has domain.forwarding p ≡ port_forwards empty_edge (ports_of plan service first_edge) p
+-- the number is that of a port that was found
+abbrev pub is_found : Option ℕ → ℕ → Bool
+is_found None p = false
+is_found (Some port) p = p == port
 
--- the domains of the services from a place on, in order
-abbrev pub AreDomains : Plan → ℕ → List Domain → Type 0
-AreDomains plan place [] = Unit {0}
-AreDomains plan place (domain ∷ domains) = IsDomain plan (record { 0 = place }) domain × AreDomains plan (place + 1) domains
+-- the bridge after it heard a frame by a port
+abbrev pub hears : BridgeState → List ℕ → ℕ → Option ℕ → BridgeState
+hears bridge frame now None = bridge
+hears bridge frame now (Some arrival) = record bridge { entries = heard bridge.entries (source frame) arrival now }
 
--- a copy by a port as it came: no circuit has a tag
-abbrev pub plain_copy : ℕ → List ℕ → Port → List Entry
-plain_copy origin octets (port.Circuit circuit) = Left circuit origin 0 octets ∷ []
-plain_copy origin octets (port.Mesh wire) = []
-plain_copy origin octets (port.Spoke wire) = []
+-- the copies of a frame that the domain's bridge has heard by a port
+abbrev pub sent_by : Plan → Domain → ℕ → List ℕ → Option ℕ → List Entry
+sent_by plan domain number frame None = []
+sent_by plan domain number frame (Some arrival) =
+    copies (is_target domain.bridge.ports (has domain.forwarding) arrival (known_port domain.bridge.entries (destination frame)))
+    (copy_by plan number 0 frame) 0 domain.bridge.ports
+
+-- the bridge after a circuit's port was turned on or off
+abbrev pub turned_bridge : BridgeState → Option ℕ → Bool → BridgeState
+turned_bridge bridge port true = bridge
+turned_bridge bridge port false = record bridge { entries = without_port port bridge.entries }
 
 -- the copy by a port, where there is one
 abbrev pub copies_by : (Port → List Entry) → Option Port → List Entry
 copies_by copy None = []
 copies_by copy (Some x) = copy x
-
--- the network after so many frames: nothing else has changed
-abbrev pub after_frames : ℕ → NetworkState
-after_frames count = record empty_network { entered = count }

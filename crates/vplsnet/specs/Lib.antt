@@ -8,4 +8,5 @@ pub mod Promises
 pub mod Replays
 pub mod Report
 pub mod ReportWords
+pub mod SingleEdge
 pub mod Words

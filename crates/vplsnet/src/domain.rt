@@ -1,39 +1,40 @@
 //! A bridged domain: a service at the edge that a replay drives.
-ghost use Rattle.std.specs.Prelude.{◌≡◌, ◌≤◌, ◌<◌, ◌+◌, ◌++◌, ◌∷◌, [], ℕ, true, length, take, drop, position, IfOk, OnOk};
-ghost use Rattle.net_base.specs.Frame.{goes_to_group};
+ghost use Rattle.std.specs.Prelude.{◌≡◌, ◌≤◌, ◌<◌, ◌+◌, ◌++◌, ◌&&◌, nat_lt, [], filter, ℕ, true, length, take, drop, position, slice_get, All, IfOk, IfSome, OnOk, if◌then◌else◌};
+ghost use Rattle.net_base.specs.Frame.{dress as dressed_frame};
 ghost use Rattle.hvpls_spokes.specs.Port.{ports_of, is_circuit_port};
 ghost use Rattle.hvpls_spokes.specs.PortSet.{has};
+ghost use Rattle.mac_table.specs.Addresses.{NoneAfter, is_young};
+ghost use Rattle.network_model.specs.Enter.{copies, copy_by, port_forwards, tag_of as tag_in};
 ghost use Rattle.network_model.specs.State.{empty_edge};
-ghost use Rattle.network_model.specs.Enter.{copies, bridged, port_forwards};
-ghost use Rattle.vsi_bridge.specs.Targets.{is_target};
-ghost use Rattle.vplsnet.specs.Domain.{IsDomain, plain_copy, copies_by};
+ghost use Rattle.scenario_text.specs.Runnable.{IsPlaced};
+ghost use Rattle.vplsnet.specs.Domain.{holds_of, is_found, hears, sent_by, turned_bridge, copies_by};
 
+use eth_encap::dress;
 use hvpls_spokes::{Port, PortKind, PortSet, Ports};
-use net_base::{CircuitId, EdgeId, Entry, List, Mac, NoMemory, Plan, ServiceId, Trace};
+use net_base::{CircuitId, EdgeId, Entry, List, Mac, NoMemory, Octets, Plan, ServiceId, Trace};
 use std::alloc::Global;
 use vsi_bridge::Bridge;
 
-/// The edge that a replay drives.
-const FIRST_EDGE: EdgeId = EdgeId(0);
-
-/// A service at the edge: its bridge, and which of its ports forward.
+/// A service at an edge: its bridge, and which of its ports forward.
 #[derive(Debug, Drop)]
 pub struct Domain {
     pub(crate) bridge: Bridge,
     pub(crate) forwarding: PortSet,
 }
 
-/// The domain of a service at the first edge.
+/// The domain of a service at an edge, with every circuit on.
 pub fn open_domain(
     alloc: Global,
     plan: &Plan,
     service: ServiceId,
+    edge: EdgeId,
     age: u32,
 ) -> Result<Domain, NoMemory>
     requires { length plan.now.circuits ≤ 512 }
-    ensures { IfOk result (IsDomain plan.now service) }
+    ensures bridge { IfOk result (λ domain. domain.bridge ≡ record { ports = ports_of plan.now service edge; age = age; entries = [] }) }
+    ensures forwarding { IfOk result (λ domain. (p : ℕ) → has domain.forwarding p ≡ port_forwards empty_edge (ports_of plan.now service edge) p) }
 {
-    let ports = Ports::open(alloc, plan, service, FIRST_EDGE)?;
+    let ports = Ports::open(alloc, plan, service, edge)?;
     let forwarding = forwarding_of(&ports);
     let bridge = Bridge::open(alloc, ports, age)?;
     Ok(Domain { bridge, forwarding })
@@ -53,42 +54,79 @@ fn forwarding_of(ports: &Ports) -> PortSet
 }
 
 impl Domain {
-    /// A frame to a group enters as number `number` at a circuit: tells the copies that leave at the other
-    /// circuits of the service that are on.
-    pub fn flood(
+    /// Whether the circuit is on.
+    pub fn is_on(&self, circuit: CircuitId) -> bool
+        ensures { result ≡ holds_of (has self.now.forwarding) (position (is_circuit_port circuit) self.now.bridge.ports) }
+    {
+        match self.bridge.ports().find(circuit) {
+            Some(port) => self.forwarding.contains(port),
+            None => false,
+        }
+    }
+
+    /// Turns the circuit on, or off without what was learned at it.
+    pub fn turn(&mut self, circuit: CircuitId, on: bool)
+        ensures forwarding { (p : ℕ) → has self.new.forwarding p ≡ (if is_found (position (is_circuit_port circuit) self.old.bridge.ports) p then on else has self.old.forwarding p) }
+        ensures bridge { self.new.bridge ≡ turned_bridge self.old.bridge (position (is_circuit_port circuit) self.old.bridge.ports) on }
+    {
+        let Some(port) = self.bridge.ports().find(circuit) else {
+            return;
+        };
+        if on {
+            self.forwarding.insert(port);
+        } else {
+            self.forwarding.remove(port);
+            self.bridge.drop_port(port);
+        }
+    }
+
+    /// The bridge hears an inner frame that entered as number `number` at a circuit which is on, at the tick
+    /// `now`, and a copy is told for each port to which it sends the frame.
+    pub fn forward(
         &mut self,
         alloc: Global,
+        plan: &Plan,
         circuit: CircuitId,
         number: u64,
-        octets: &[u8],
+        now: u64,
+        frame: &[u8],
         trace: &mut Trace,
     ) -> Result<(), NoMemory>
-        requires forwarding { (p : ℕ) → has self.old.forwarding p ≡ port_forwards empty_edge self.old.bridge.ports p }
-        requires long_enough { 14 ≤ length octets.now }
-        requires group { goes_to_group octets.now ≡ true }
-        ensures copies { OnOk result (trace.new ≡ trace.old ++ bridged empty_edge self.old.bridge.ports (plain_copy number octets.now) (position (is_circuit_port circuit) self.old.bridge.ports)) }
-        ensures same { self.new ≡ self.old }
+        requires placed { All (IsPlaced (length plan.now.edges) (length plan.now.services)) plan.now.circuits }
+        requires ports { (p : ℕ) → has self.old.forwarding p ≡ true → p < length self.old.bridge.ports }
+        requires on { IfSome (position (is_circuit_port circuit) self.old.bridge.ports) (λ arrival. has self.old.forwarding arrival ≡ true) }
+        requires ticks { NoneAfter now self.old.bridge.entries }
+        requires header { 14 ≤ length frame.now }
+        ensures told { OnOk result (trace.new ≡ trace.old ++ sent_by plan.now self.new number frame.now (position (is_circuit_port circuit) self.old.bridge.ports)) }
+        ensures learns { self.new ≡ record self.old { bridge = hears self.old.bridge frame.now now (position (is_circuit_port circuit) self.old.bridge.ports) } }
+        ensures ticks { NoneAfter now self.new.bridge.entries }
     {
         let Some(arrival) = self.bridge.ports().find(circuit) else {
             return Ok(());
         };
-        let targets = self.targets(arrival, octets);
-        put_copies(alloc, self.bridge.ports(), &targets, number, octets, trace)
+        let source = address_at(frame, 6);
+        let destination = address_at(frame, 0);
+        let targets = self
+            .bridge
+            .decide(arrival, source, destination, now, &self.forwarding);
+        put_copies(
+            alloc,
+            plan,
+            self.bridge.ports(),
+            &targets,
+            number,
+            frame,
+            trace,
+        )
     }
 
-    // The ports to which the bridge sends a frame to a group that came by the port `arrival`.
-    fn targets(&mut self, arrival: u16, octets: &[u8]) -> PortSet
-        requires forwarding { (p : ℕ) → has self.old.forwarding p ≡ port_forwards empty_edge self.old.bridge.ports p }
-        requires arrival { port_forwards empty_edge self.old.bridge.ports arrival ≡ true }
-        requires long_enough { 14 ≤ length octets.now }
-        requires group { goes_to_group octets.now ≡ true }
-        ensures targets { (p : ℕ) → has result p ≡ is_target self.old.bridge.ports (port_forwards empty_edge self.old.bridge.ports) arrival p }
-        ensures same { self.new ≡ self.old }
+    /// The bridge forgets what it has not heard for as long as its age limit.
+    pub fn tick(&mut self, now: u64)
+        requires { NoneAfter now self.old.bridge.entries }
+        ensures forgets { self.new ≡ record self.old { bridge = record self.old.bridge { entries = filter (is_young now self.old.bridge.age) self.old.bridge.entries } } }
+        ensures ticks { NoneAfter now self.new.bridge.entries }
     {
-        let destination = address_at(octets, 0);
-        let source = address_at(octets, 6);
-        self.bridge
-            .decide(arrival, source, destination, 0, &self.forwarding)
+        self.bridge.tick(now);
     }
 }
 
@@ -110,39 +148,69 @@ fn address_at(octets: &[u8], at: usize) -> Mac
 // Tells a copy by each port that is a target, in port order.
 fn put_copies(
     alloc: Global,
+    plan: &Plan,
     ports: &Ports,
     targets: &PortSet,
     number: u64,
-    octets: &[u8],
+    frame: &[u8],
     trace: &mut Trace,
 ) -> Result<(), NoMemory>
-    ensures { OnOk result (trace.new ≡ trace.old ++ copies (has targets.now) (plain_copy number octets.now) 0 ports.now) }
+    requires placed { All (IsPlaced (length plan.now.edges) (length plan.now.services)) plan.now.circuits }
+    requires header { 14 ≤ length frame.now }
+    ensures { OnOk result (trace.new ≡ trace.old ++ copies (has targets.now) (copy_by plan.now number 0 frame.now) 0 ports.now) }
 {
     for port in 0..ports.len() {
         if targets.contains(port) {
-            put_copy(alloc, ports.get(port), number, octets, trace)?;
+            put_copy(alloc, plan, ports.get(port), number, frame, trace)?;
         }
     }
     Ok(())
 }
 
-// Tells the copy by a port.
+// Tells the copy by a port: at a circuit the frame with the circuit's tag.
 fn put_copy(
     alloc: Global,
+    plan: &Plan,
     port: Option<Port>,
     number: u64,
-    octets: &[u8],
+    frame: &[u8],
     trace: &mut Trace,
 ) -> Result<(), NoMemory>
-    ensures { OnOk result (trace.new ≡ trace.old ++ copies_by (plain_copy number octets.now) port) }
+    requires placed { All (IsPlaced (length plan.now.edges) (length plan.now.services)) plan.now.circuits }
+    requires header { 14 ≤ length frame.now }
+    ensures { OnOk result (trace.new ≡ trace.old ++ copies_by (copy_by plan.now number 0 frame.now) port) }
 {
     if let Some(Port::Circuit(circuit)) = port {
         trace.push(Entry::Left {
             circuit,
             origin: number,
             hops: 0,
-            bytes: List::from_bytes(alloc, octets)?,
+            bytes: dressed(alloc, tag_of(plan, circuit), frame)?,
         })?;
     }
     Ok(())
+}
+
+// The tag of a circuit.
+fn tag_of(plan: &Plan, circuit: CircuitId) -> Option<u16>
+    requires placed { All (IsPlaced (length plan.now.edges) (length plan.now.services)) plan.now.circuits }
+    ensures tag { result ≡ tag_in plan.now circuit }
+    ensures within { IfSome result (λ tag. tag ≤ 4095) }
+{
+    match plan.circuits.get(circuit.0 as usize) {
+        Some(row) => row.tag,
+        None => None,
+    }
+}
+
+// The inner frame with the tag, where there is one.
+fn dressed(alloc: Global, tag: Option<u16>, frame: &[u8]) -> Result<Octets, NoMemory>
+    requires header { 14 ≤ length frame.now }
+    requires tag { IfSome tag (λ tag. tag ≤ 4095) }
+    ensures { IfOk result (λ octets. octets ≡ dressed_frame tag frame.now) }
+{
+    let mut out = vec![in alloc; 0u8; frame.len() + 4]?;
+    let count = dress(tag, frame, out.as_mut_slice());
+    let (octets, _) = out.as_slice().split_at(count);
+    List::from_bytes(alloc, octets)
 }

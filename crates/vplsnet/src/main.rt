@@ -3,6 +3,7 @@
 
 mod built;
 mod domain;
+mod domains;
 mod ending;
 mod fault_text;
 mod file_shelf;
@@ -13,6 +14,7 @@ mod outcome;
 mod replay;
 mod report;
 mod run;
+mod single_edge;
 mod std_sink;
 #[cfg(test)]
 mod tests;

@@ -2,8 +2,8 @@ use Rattle.std.proofs.Common.{◌≡◌, ◌<◌, ◌++◌, ◌+◌, ◌∙◌, 
 use Rattle.net_base.specs.declared.entry.Entry.{Entry}
 use Rattle.hvpls_spokes.specs.declared.port.Port.{Port}
 use Rattle.hvpls_spokes.specs.PortSet.{has}
-use Rattle.network_model.specs.Enter.{copies}
-use Rattle.vplsnet.specs.Domain.{plain_copy, copies_by}
+use Rattle.network_model.specs.Enter.{copies, copy_by}
+use Rattle.vplsnet.specs.Domain.{copies_by}
 use Rattle.vplsnet.proofs.DomainLemmas.{copies_next, told_by, told_none}
 use Rattle.vplsnet.proofs.domain.put_copies.Goals as goal
 use Rattle.vplsnet.proofs.domain.put_copies.Goals.{then-contains+in_ok-put_copy, else-contains}
@@ -20,7 +20,7 @@ goes_on targets copy p ports told now whole within kept is =
 
 pub loop-port-preserved : goal.loop-port-preserved
 loop-port-preserved c =
-    let copy : Port → List Entry = plain_copy c.args.number c.args.octets.now in
+    let copy : Port → List Entry = copy_by c.args.plan.now c.args.number 0 c.args.frame.now in
     let within : c.loop-port.port < length c.args.ports.now = omega (arith, c.len-port-end.ensures.len, c.loop-port-test.true) in
     goes_on (has c.args.targets.now) copy c.loop-port.port c.args.ports.now c.loop-port.trace c.if-contains.trace _ within c.loop-port.invariant
     (elim c.if-contains.branch [

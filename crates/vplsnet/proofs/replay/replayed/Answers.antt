@@ -1,14 +1,13 @@
-use Rattle.std.proofs.Common.{length, ap, arith}
-use Rattle.vplsnet.proofs.ReplayLemmas.{told_next, built_at, built_parts, stands_at}
+use Rattle.std.proofs.Common.{arith}
+use Rattle.network_model.specs.State.{empty_network}
+use Rattle.vplsnet.proofs.ReplayLemmas.{ran_next}
 use Rattle.vplsnet.proofs.replay.replayed.Goals as goal
 
-pub tell_command-requires-clause-built : goal.tell_command-requires-clause-built
-tell_command-requires-clause-built c =
-    built_at c.args.scenario.now.plan c.args.scenario.now.commands c.loop-entered.entered c.command-item.result (built_parts c.args.scenario.now c.requires.built).commands
-    (stands_at c.as_slice-command-items.result.now c.args.scenario.now.commands c.loop-entered.entered c.command-item.result c.as_slice-command-items.ensures
-    (omega (arith, ap length c.as_slice-command-items.ensures, c.loop-entered-test.true)) c.command-item.is)
-
-pub loop-entered-preserved : goal.loop-entered-preserved
-loop-entered-preserved c =
-    told_next c.args.scenario.now c.loop-entered.entered c.as_slice-command-items.result.now c.command-item.result c.tell_command.new.domains.items c.loop-entered.domains.items c.loop-entered.trace c.tell_command.new.trace
-    c.requires.built c.loop-entered.invariant c.in_ok-tell_command.ensures.same c.as_slice-command-items.ensures c.loop-entered-test.true c.command-item.is c.in_ok-tell_command.ensures.told
+pub loop-command-preserved : goal.loop-command-preserved
+loop-command-preserved c = record {
+  ran =
+      ran_next c.args.scenario.now.plan empty_network c.as_slice-command-items.result.now c.args.scenario.now.commands c.loop-command.command-index c.command-item.result
+      c.loop-command.edge c.run_command.new.edge c.loop-command.trace c.run_command.new.trace
+      c.as_slice-command-items.ensures c.loop-command-test.true c.command-item.is c.loop-command.invariant.ran c.in_ok-run_command.ensures.ran;
+  counted = omega (arith, c.in_ok-run_command.ensures.counted, c.loop-command.invariant.counted);
+}
