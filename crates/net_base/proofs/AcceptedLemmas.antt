@@ -13,8 +13,8 @@ use Rattle.net_base.specs.declared.plan_fault.PlanFault.{PlanFault}
 use Rattle.net_base.specs.declared.circuit_plan.CircuitPlan.{CircuitPlan}
 use Rattle.net_base.specs.declared.wire_plan.WirePlan.{WirePlan}
 use Rattle.net_base.specs.Accepted.{IsAccepted, IsCircuitOf, IsWireOf, NonePair, plan_names}
-use Rattle.net_base.specs.Faults.{first_fault, clash_after}
-use Rattle.net_base.specs.NameFaults.{edge_names, service_names, circuit_names, wire_names, have_same_address}
+use Rattle.net_base.specs.Faults.{first_fault, first_clash, clash_after}
+use Rattle.net_base.specs.NameFaults.{edge_names, service_names, circuit_names, wire_names, have_same_address, address_clash, repeat_fault}
 use Rattle.net_base.specs.Paths.{has_repeat}
 use Rattle.net_base.specs.PlanFault.{plan_fault}
 use Rattle.net_base.specs.PortFaults.{any_place, port_count, is_crowded, crowd_fault, ports_fault}
@@ -70,6 +70,21 @@ joined_apart clash before row other next [] (y ∷ ys) front back =
 joined_apart clash before row other next (x ∷ xs) ys front back =
     let both = passed (list_any (λ old. clash old x) before) row (clash_after clash (before ++ x ∷ []) (row + 1) xs) front in
     rw both.0 (joined_apart clash (before ++ x ∷ []) (row + 1) other (next + 1) xs ys both.1 (subst (λ l. clash_after clash l other ys ≡ None) (sym (append_assoc before (x ∷ []) xs)) back))
+
+-- the rows may have other places
+moved_apart : {A : Type 0} (clash : A → A → Bool) (before : List A) (row other : ℕ) (rows : List A) → clash_after clash before row rows ≡ None → clash_after clash before other rows ≡ None
+moved_apart clash before row other [] e = refl
+moved_apart clash before row other (x ∷ xs) e =
+    let both = passed (list_any (λ old. clash old x) before) row (clash_after clash (before ++ x ∷ []) (row + 1) xs) e in
+    rw both.0 (moved_apart clash (before ++ x ∷ []) (row + 1) (other + 1) xs both.1)
+
+-- rows and rows after them
+parted_apart : {A : Type 0} (clash : A → A → Bool) (before : List A) (row first second : ℕ) (xs ys : List A) → clash_after clash before row (xs ++ ys) ≡ None → (clash_after clash before first xs ≡ None) × (clash_after clash (before ++ xs) second ys ≡ None)
+parted_apart clash before row first second [] ys e = (refl, subst (λ l. clash_after clash l second ys ≡ None) (sym (append-nil before)) (moved_apart clash before row second ys e))
+parted_apart clash before row first second (x ∷ xs) ys e =
+    let both = passed (list_any (λ old. clash old x) before) row (clash_after clash (before ++ x ∷ []) (row + 1) (xs ++ ys)) e in
+    let rest = parted_apart clash (before ++ x ∷ []) (row + 1) (first + 1) second xs ys both.1 in
+    (rw both.0 rest.0, subst (λ l. clash_after clash l second ys ≡ None) (append_assoc before (x ∷ []) xs) rest.1)
 
 below_of : (n m : ℕ) → not (nat_lt n m) ≡ false → n < m
 below_of n m e = grind (arith, nat_tests)
@@ -178,3 +193,11 @@ accepted plan e =
       spokes = rows_apart is_spoke_in_mesh [] 0 plan.wires (unmapped _ _ mesh_wires.1);
       ports = ports_fit plan wires.1;
     }
+
+-- where the names differ, no name stood before
+pub repeat_of_address : (plan : Plan) → first_clash bytes_eq (plan_names plan) ≡ None → repeat_fault plan ≡ address_clash plan.edges
+repeat_of_address plan e =
+    let four = parted_apart bytes_eq [] 0 0 0 ((edge_names plan.edges ++ service_names plan.services) ++ circuit_names plan.circuits) (wire_names plan.wires) e in
+    let three = parted_apart bytes_eq [] 0 0 0 (edge_names plan.edges ++ service_names plan.services) (circuit_names plan.circuits) four.0 in
+    let two = parted_apart bytes_eq [] 0 0 0 (edge_names plan.edges) (service_names plan.services) three.0 in
+    rw (two.0, two.1, three.1, four.1) refl

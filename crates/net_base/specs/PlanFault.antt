@@ -8,6 +8,10 @@ use Rattle.net_base.specs.NameFaults.{repeat_fault}
 use Rattle.net_base.specs.WireFaults.{wires_fault}
 use Rattle.net_base.specs.PortFaults.{ports_fault}
 
--- single rows, then names and addresses, then paths and pairs of wires, then the ports of the services
+-- paths and pairs of wires, then the ports of the services
+abbrev pub later_fault : Plan → Option PlanFault
+later_fault plan = option_or (wires_fault plan) (ports_fault plan)
+
+-- single rows, then names and addresses, then wires and ports
 abbrev pub plan_fault : Plan → Option PlanFault
-plan_fault plan = option_or (row_fault plan) (option_or (repeat_fault plan) (option_or (wires_fault plan) (ports_fault plan)))
+plan_fault plan = option_or (row_fault plan) (option_or (repeat_fault plan) (later_fault plan))

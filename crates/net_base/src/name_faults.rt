@@ -1,7 +1,8 @@
 //! Names and addresses that stand twice in a plan.
-ghost use Rattle.std.specs.Prelude.{◌≡◌, ◌≤◌, ◌<◌, ◌||◌, ◌++◌, [], map, length, IfSome};
+ghost use Rattle.std.specs.Prelude.{◌≡◌, ◌≤◌, ◌<◌, ◌||◌, ◌++◌, [], None, map, length, IfSome};
 ghost use Rattle.std.specs.List.{list_any};
 ghost use Rattle.std.specs.Str.{bytes_eq};
+ghost use Rattle.net_base.specs.Accepted.{plan_names};
 ghost use Rattle.net_base.specs.Earlier.{names_before};
 ghost use Rattle.net_base.specs.Faults.{clash_after, first_clash};
 ghost use Rattle.net_base.specs.NameFaults.{edge_names, service_names, name_clash, have_same_address, address_clash, repeat_fault};
@@ -151,6 +152,16 @@ pub(crate) fn first_repeat_fault(plan: &Plan) -> Option<PlanFault>
         return Some(fault);
     }
     fault_of_addresses(edges)
+}
+
+/// The fault of the first address that stood before, in a plan whose names differ.
+#[tactic(auto, using(crate::proofs::AcceptedLemmas::repeat_of_address))]
+pub(crate) fn first_address_fault(plan: &Plan) -> Option<PlanFault>
+    requires edges { length plan.now.edges ≤ 64 }
+    requires distinct { first_clash bytes_eq (plan_names plan.now) ≡ None }
+    ensures { result ≡ repeat_fault plan.now }
+{
+    fault_of_addresses(plan.edges.as_slice())
 }
 
 fn before_edges() -> Earlier<'static>

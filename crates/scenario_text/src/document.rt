@@ -15,30 +15,15 @@ use crate::arrays::{Arrays, document_arrays};
 use crate::circuit_row::CircuitRow;
 use crate::commands::commands;
 use crate::name_index::NameIndex;
-use crate::plan::{names_of_edges, plan};
+use crate::names::{names_of_circuits, names_of_edges, names_of_wires};
+use crate::plan::plan;
 use crate::plan_names::PlanNames;
 use crate::rows::rows;
 use crate::wire_row::WireRow;
 use crate::{Command, Scenario, ScenarioFault};
-use net_base::{
-    CircuitPlan, EdgePlan, List, Name, Plan, ServicePlan, Table as TableKind, WirePlan,
-};
-use std::alloc::{AllocError, Global};
+use net_base::{EdgePlan, List, Name, Plan, ServicePlan, Table as TableKind};
+use std::alloc::Global;
 use toml::{Table, Value};
-
-// The names of circuits in order.
-fn names_of_circuits(alloc: Global, circuits: &[CircuitPlan]) -> Result<Vec<Name>, AllocError>
-    ensures { IfOk result (λ names. names.items ≡ circuit_names circuits.now) }
-{
-    circuits.iter().map(|circuit| circuit.name).collect(alloc)
-}
-
-// The names of wires in order.
-fn names_of_wires(alloc: Global, wires: &[WirePlan]) -> Result<Vec<Name>, AllocError>
-    ensures { IfOk result (λ names. names.items ≡ wire_names wires.now) }
-{
-    wires.iter().map(|wire| wire.name).collect(alloc)
-}
 
 // The commands at the rows of a plan, whose names these are.
 fn planned_commands(

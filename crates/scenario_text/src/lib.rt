@@ -17,6 +17,7 @@ mod keys;
 mod members;
 mod name_index;
 mod named;
+mod names;
 mod offer_row;
 mod offers;
 mod plan;

@@ -1,6 +1,8 @@
 //! Names by which their places are found.
-ghost use Rattle.std.specs.Prelude.{◌≡◌, ◌<◌, ◌≤◌, length, IfOk, IfSome};
-ghost use Rattle.scenario_text.specs.Names.{place_in, Finds};
+ghost use Rattle.std.specs.Prelude.{◌≡◌, ◌<◌, ◌≤◌, [], not, length, take, get_or, IfOk, IfSome};
+ghost use Rattle.std.specs.List.{list_any};
+ghost use Rattle.std.specs.Str.{bytes_eq};
+ghost use Rattle.scenario_text.specs.Names.{place_in, are_distinct, Finds};
 
 use indexmap::IndexMap;
 use net_base::{Name, NoMemory};
@@ -29,7 +31,7 @@ impl<'a> Model for NameIndex<'a> {
 impl<'a> NameIndex<'a> {
     /// The names in order. One may stand more than once.
     pub fn of(alloc: Global, names: &'a [Name]) -> Result<NameIndex<'a>, NoMemory>
-        requires { length names.now ≤ 1024 }
+        requires { length names.now ≤ 1664 }
         ensures { IfOk result (λ index. index ≡ names.now) }
     {
         let places = places_of(alloc, names)?;
@@ -42,6 +44,13 @@ impl<'a> NameIndex<'a> {
         ensures within { IfSome result (λ place. place < length self.now) }
     {
         self.first_place(name)
+    }
+
+    /// Whether each name stands once.
+    pub fn are_distinct(&self) -> bool
+        ensures { result ≡ are_distinct self.now }
+    {
+        stand_once(self.names, &self.places)
     }
 
     // The place that the map gives a name.
@@ -57,7 +66,7 @@ impl<'a> NameIndex<'a> {
 
 // The first place of each name. A later place is put in first, and gives way.
 fn places_of<'a>(alloc: Global, names: &'a [Name]) -> Result<IndexMap<&'a [u8], u16>, NoMemory>
-    requires { length names.now ≤ 1024 }
+    requires { length names.now ≤ 1664 }
     ensures { IfOk result (λ places. Finds names.now places.entries) }
 {
     let mut places = IndexMap::with_capacity(alloc, names.len())?;
@@ -67,4 +76,29 @@ fn places_of<'a>(alloc: Global, names: &'a [Name]) -> Result<IndexMap<&'a [u8], 
         places.insert(names[at].as_slice(), at as u16)?;
     }
     Ok(places)
+}
+
+// Whether each name stands once, where the map gives each its first place.
+fn stand_once(names: &[Name], places: &IndexMap<&[u8], u16>) -> bool
+    requires { Finds names.now places.now.entries }
+    ensures { result ≡ are_distinct names.now }
+{
+    for (at, _name) in names.iter().enumerate() {
+        if !is_first(names, places, at) {
+            return false;
+        }
+    }
+    true
+}
+
+// Whether the name at a place stands nowhere before it.
+fn is_first(names: &[Name], places: &IndexMap<&[u8], u16>, at: usize) -> bool
+    requires finds { Finds names.now places.now.entries }
+    requires within { at < length names.now }
+    ensures { result ≡ not (list_any (λ old. bytes_eq old (get_or names.now at [])) (take at names.now)) }
+{
+    match places.get(names[at].as_slice()) {
+        Some(place) => *place as usize == at,
+        None => false,
+    }
 }

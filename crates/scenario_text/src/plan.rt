@@ -1,8 +1,10 @@
 //! The plan of a document.
 ghost use Rattle.std.specs.Prelude.{◌≡◌, ◌≤◌, None, length, IfOk};
 ghost use Rattle.std.specs.List.{All};
+ghost use Rattle.net_base.specs.Accepted.{plan_names};
 ghost use Rattle.net_base.specs.NameFaults.{edge_names, service_names};
 ghost use Rattle.net_base.specs.PlanFault.{plan_fault};
+ghost use Rattle.scenario_text.specs.Names.{are_distinct};
 ghost use Rattle.scenario_text.specs.Reading.{Gives};
 ghost use Rattle.scenario_text.specs.References.{sound, circuits_in, plan_of};
 ghost use Rattle.scenario_text.specs.Runnable.{HasTag, IsPlaced, IsSized, IsRunnablePlan};
@@ -11,24 +13,11 @@ use crate::ScenarioFault;
 use crate::circuit_row::CircuitRow;
 use crate::circuits::circuits;
 use crate::name_index::NameIndex;
+use crate::names::{names_of_edges, names_of_plan, names_of_services};
 use crate::wire_row::WireRow;
 use crate::wires::wires;
-use net_base::{CircuitPlan, EdgePlan, List, Name, Plan, ServicePlan};
-use std::alloc::{AllocError, Global};
-
-/// The names of edges in order.
-pub fn names_of_edges(alloc: Global, edges: &[EdgePlan]) -> Result<Vec<Name>, AllocError>
-    ensures { IfOk result (λ names. names.items ≡ edge_names edges.now) }
-{
-    edges.iter().map(|edge| edge.name).collect(alloc)
-}
-
-// The names of services in order.
-fn names_of_services(alloc: Global, services: &[ServicePlan]) -> Result<Vec<Name>, AllocError>
-    ensures { IfOk result (λ names. names.items ≡ service_names services.now) }
-{
-    services.iter().map(|service| service.name).collect(alloc)
-}
+use net_base::{CircuitPlan, EdgePlan, List, NoMemory, Plan, ServicePlan};
+use std::alloc::Global;
 
 // The circuits of the rows, at these edges and services.
 fn placed_circuits(
@@ -50,14 +39,29 @@ fn placed_circuits(
     circuits(alloc, edge_index, service_index, rows)
 }
 
-// The plan, where it has no fault.
-fn sound_plan(plan: Plan) -> Result<Plan, ScenarioFault>
+// Whether the names of a plan differ, over all its lists.
+fn have_distinct_names(alloc: Global, plan: &Plan) -> Result<bool, NoMemory>
+    requires { IsRunnablePlan plan.now }
+    ensures { IfOk result (λ distinct. distinct ≡ are_distinct (plan_names plan.now)) }
+{
+    let names = names_of_plan(alloc, plan)?;
+    let index = NameIndex::of(alloc, names.as_slice())?;
+    Ok(index.are_distinct())
+}
+
+// The plan, where it has no fault. Names are compared with each other only where one stands twice.
+fn sound_plan(alloc: Global, plan: Plan) -> Result<Plan, ScenarioFault>
     requires { IsRunnablePlan plan }
-    ensures exact { result ≡ sound plan }
+    ensures exact { Gives result (sound plan) }
     ensures checked { IfOk result (λ sound. plan_fault sound ≡ None) }
     ensures runnable { IfOk result IsRunnablePlan }
 {
-    match plan.check() {
+    let checked = if have_distinct_names(alloc, &plan)? {
+        plan.check_distinct()
+    } else {
+        plan.check()
+    };
+    match checked {
         Ok(()) => Ok(plan),
         Err(fault) => Err(ScenarioFault::Plan(fault)),
     }
@@ -101,10 +105,11 @@ pub fn plan(
         services.as_slice(),
         wire_rows,
     )?;
-    sound_plan(Plan {
+    let plan = Plan {
         edges,
         services,
         circuits,
         wires,
-    })
+    };
+    sound_plan(alloc, plan)
 }
