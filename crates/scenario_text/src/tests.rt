@@ -483,6 +483,41 @@ fn tells_faults_of_plans(rt: HostRuntime) {
             "name",
         ),
         (
+            "version = 1\nedge = [{name='a',address='10.0.0.1'},{name='b',address='10.0.0.2'}]\nservice = [{name='s'}]\ncircuit = [{name='b',edge='a',service='s'}]\nwire = []\nevents = []\n",
+            Kind::RepeatedName,
+            TableKind::Circuit,
+            1,
+            "name",
+        ),
+        (
+            "version = 1\nedge = [{name='a',address='10.0.0.1'},{name='b',address='10.0.0.2'}]\nservice = [{name='s'}]\ncircuit = [{name='s',edge='a',service='s'}]\nwire = []\nevents = []\n",
+            Kind::RepeatedName,
+            TableKind::Circuit,
+            1,
+            "name",
+        ),
+        (
+            "version = 1\nedge = [{name='a',address='10.0.0.1'},{name='b',address='10.0.0.2'}]\nservice = [{name='s'}]\ncircuit = []\nwire = [{name='b',service='s',class='mesh',path=['a','b'],pw_id=1}]\nevents = []\n",
+            Kind::RepeatedName,
+            TableKind::Wire,
+            1,
+            "name",
+        ),
+        (
+            "version = 1\nedge = [{name='a',address='10.0.0.1'},{name='b',address='10.0.0.2'}]\nservice = [{name='s'}]\ncircuit = [{name='c',edge='a',service='s'}]\nwire = [{name='c',service='s',class='mesh',path=['a','b'],pw_id=1}]\nevents = []\n",
+            Kind::RepeatedName,
+            TableKind::Wire,
+            1,
+            "name",
+        ),
+        (
+            "version = 1\nedge = [{name='a',address='10.0.0.1'},{name='b',address='10.0.0.2'}]\nservice = [{name='s'}]\ncircuit = []\nwire = [{name='w',service='s',class='mesh',path=['a','b'],pw_id=1},{name='w',service='s',class='mesh',path=['a','b'],pw_id=1}]\nevents = []\n",
+            Kind::RepeatedName,
+            TableKind::Wire,
+            2,
+            "name",
+        ),
+        (
             "version = 1\nedge = [{name='a',address='10.0.0.1'},{name='b',address='10.0.0.2'}]\nservice = [{name='s'}]\ncircuit = []\nwire = [{name='w',service='s',class='mesh',path=['a'],pw_id=1}]\nevents = []\n",
             Kind::PathTooLong,
             TableKind::Wire,
@@ -585,6 +620,32 @@ fn tells_too_many_rows(rt: HostRuntime) {
         assert!(rt;
             read_scenario(rt.alloc(), text.as_bytes()).err() == Some(fault),
             "at {key}"
+        );
+    }
+}
+
+#[test]
+fn tells_too_many_events(rt: HostRuntime) {
+    for (count, fault) in [
+        (100000, ScenarioFault::BadWord { event: 1, word: 1 }),
+        (
+            100001,
+            ScenarioFault::TooMany {
+                table: TableKind::Events,
+                limit: 100000,
+            },
+        ),
+    ] {
+        let mut text = String::from_str(rt.alloc(), "version = 1\nevents = [").expect(
+            &rt, "memory",
+        );
+        for _ in 0..count {
+            text.push_str("'',").expect(&rt, "memory");
+        }
+        text.push_str("]").expect(&rt, "memory");
+        assert!(rt;
+            read_scenario(rt.alloc(), text.as_bytes()).err() == Some(fault),
+            "at {count}"
         );
     }
 }
@@ -747,6 +808,82 @@ fn reads_defaults_and_the_far_end(rt: HostRuntime) {
     }
     assert_eq!(rt; scenario.plan.wires.len(), 1);
     assert_eq!(rt; scenario.commands.len(), 0);
+}
+
+#[test]
+fn reads_each_key_of_the_far_end(rt: HostRuntime) {
+    let plain = Offer {
+        tagged: false,
+        cword: true,
+        mtu: Some(1500),
+        vlan: None,
+        vccv: None,
+        status: true,
+        group: 0,
+        description: Text::read(&[]).expect(&rt, "a text"),
+    };
+    let description = Text::read(b"far").expect(&rt, "a text");
+    for (key, far) in [
+        (
+            "far_mode='tagged'",
+            Offer {
+                tagged: true,
+                ..plain
+            },
+        ),
+        (
+            "far_control_word=false",
+            Offer {
+                cword: false,
+                ..plain
+            },
+        ),
+        (
+            "far_mtu=9000",
+            Offer {
+                mtu: Some(9000),
+                ..plain
+            },
+        ),
+        ("far_mtu=0", Offer { mtu: None, ..plain }),
+        (
+            "far_vlan=0",
+            Offer {
+                vlan: Some(0),
+                ..plain
+            },
+        ),
+        (
+            "far_vccv=5",
+            Offer {
+                vccv: Some(5),
+                ..plain
+            },
+        ),
+        (
+            "far_status=false",
+            Offer {
+                status: false,
+                ..plain
+            },
+        ),
+        ("far_group=9", Offer { group: 9, ..plain }),
+        (
+            "far_description='far'",
+            Offer {
+                description,
+                ..plain
+            },
+        ),
+    ] {
+        let text = format!(in rt.alloc(); "{WIRE},{key}}}]").expect(&rt, "memory");
+        let scenario = read_scenario(rt.alloc(), text.as_bytes()).expect(&rt, "a scenario");
+        for wire in scenario.plan.wires.as_slice() {
+            assert!(rt; wire.near == plain, "at {key}");
+            assert!(rt; wire.far == far, "at {key}");
+        }
+        assert_eq!(rt; scenario.plan.wires.len(), 1, "at {key}");
+    }
 }
 
 #[test]
