@@ -1,0 +1,154 @@
+-- The first fault of octets that spell no PDU: of all that can be named the one of least place, and of two at one octet
+-- the one of least rank.
+use Rattle.std.specs.Prelude.{◌≡◌, ◌≢◌, ◌<◌, ◌≤◌, ◌+◌, ◌^◌, ◌%◌, ◌++◌, ◌⊎◌, ℕ, false, List, length, flat_map, Some}
+use Rattle.std.specs.List.{AllByRecursion}
+use Rattle.net_base.specs.declared.field.Field.{Field}
+use Rattle.net_base.specs.declared.field.Field.TheVariants as field
+use Rattle.ldp_grammar.specs.declared.fault.Fault.{Fault}
+use Rattle.ldp_grammar.specs.declared.fault.Cause.{Cause}
+use Rattle.ldp_grammar.specs.declared.fault.Cause.TheVariants as cause
+use Rattle.ldp_grammar.specs.declared.message_kind.MessageKind.{MessageKind}
+use Rattle.ldp_grammar.specs.Octets.{two_at}
+use Rattle.ldp_grammar.specs.Rows.{Row, kind_of, row_of}
+use Rattle.ldp_grammar.specs.Layouts.{fits, most, listed}
+use Rattle.ldp_grammar.specs.Tlvs.{Tlv, type_in, spell_tlv, IsTlv, count_of}
+use Rattle.ldp_grammar.specs.Spells.{Spelling, spell, IsSpelling, IsFramed}
+
+-- the fields in the order in which their rules are stated
+abbrev pub field_rank : Field → ℕ
+field_rank field.Fec = 0
+field_rank field.AddressList = 1
+field_rank field.Label = 2
+field_rank field.Status = 3
+field_rank field.Hello = 4
+field_rank field.Transport = 5
+field_rank field.MacList = 6
+field_rank field.Session = 7
+field_rank field.RequestId = 8
+field_rank field.PwStatus = 9
+field_rank field.Point = 10
+field_rank field.InfoLength = 11
+field_rank field.Parameter = 12
+field_rank field.Mtu = 13
+field_rank field.Description = 14
+field_rank field.Vlan = 15
+field_rank field.Vccv = 16
+
+-- the causes in the order in which their rules are stated
+abbrev pub rank : Cause → ℕ
+rank cause.Version = 0
+rank cause.PduLength = 1
+rank cause.MessageLength = 2
+rank cause.TlvLength = 3
+rank (cause.TlvValue field) = 4 + field_rank field
+rank (cause.Repeated field) = 32 + field_rank field
+
+-- the first fault comes no later than the second
+abbrev pub Precedes : Fault → Fault → Type 0
+Precedes f g = (f.place < g.place) ⊎ ((f.place ≡ g.place) × (rank f.cause ≤ rank g.cause))
+
+-- of the faults that are named, this one comes first
+pub record IsFirst (Names : Fault → Type 0) (fault : Fault) : Type 0 where
+  pub named : Names fault
+  pub first : (other : Fault) → Names other → Precedes fault other
+
+-- a fault in octets that stand behind others
+abbrev pub moved : ℕ → Fault → Fault
+moved count f = record { place = count + f.place; cause = f.cause }
+
+-- A fault is named behind items that stand one after another: `Here` says which fault is named where an item should
+-- begin, by the items before it and the octets from there.
+pub record IsNamedIn {A : Type 0} (spelled : A → List ℕ) (IsItem : A → Type 0) (Here : List A → List ℕ → Fault → Type 0) (octets : List ℕ) (fault : Fault) : Type 0 where
+  pub before : List A
+  pub rest : List ℕ
+  pub split : octets ≡ flat_map spelled before ++ rest
+  pub items : AllByRecursion IsItem before
+  pub here : Fault
+  pub names : Here before rest here
+  pub is : fault ≡ moved (length (flat_map spelled before)) here
+
+-- no whole TLV stands here: one to three octets are left, or the Length is past the end
+abbrev pub CutsTlv : List ℕ → ℕ → Type 0
+CutsTlv rest place =
+    ((0 < length rest) × (length rest < 4) × (place ≡ 0))
+    ⊎ ((4 ≤ length rest) × (length rest < 4 + two_at 2 rest) × (place ≡ 2))
+
+-- the TLV here is listed, and stands before as often as it may
+pub record IsRepeated (row : Row) (before : List Tlv) (rest : List ℕ) (field : Field) : Type 0 where
+  pub whole : 4 ≤ length rest
+  pub is_listed : listed row (type_in (two_at 0 rest)) ≡ Some field
+  pub full : most field ≤ count_of (type_in (two_at 0 rest)) before
+
+-- the TLV here is listed, and its value does not fit
+pub record IsMisfit (row : Row) (rest : List ℕ) (field : Field) : Type 0 where
+  pub tlv : Tlv
+  pub more : List ℕ
+  pub split : rest ≡ spell_tlv tlv ++ more
+  pub is_tlv : IsTlv tlv
+  pub is_listed : listed row (type_in tlv.word) ≡ Some field
+  pub misfits : fits field tlv.value ≡ false
+
+abbrev pub TlvFault : Row → List Tlv → List ℕ → Cause → ℕ → Type 0
+TlvFault row before rest cause.TlvLength place = CutsTlv rest place
+TlvFault row before rest (cause.Repeated field) place = (place ≡ 0) × IsRepeated row before rest field
+TlvFault row before rest (cause.TlvValue field) place = (place ≡ 2) × IsMisfit row rest field
+TlvFault row before rest other place = ⊥
+
+abbrev pub IsTlvFault : Row → List Tlv → List ℕ → Fault → Type 0
+IsTlvFault row before rest f = TlvFault row before rest f.cause f.place
+
+-- the faults of the TLVs of a message with this row
+abbrev pub NamesTlvs : Row → List ℕ → Fault → Type 0
+NamesTlvs row body = IsNamedIn spell_tlv IsTlv (IsTlvFault row) body
+
+-- no whole message stands here: one to three octets are left, or the Message Length is below 4 or past the end
+abbrev pub CutsMessage : List ℕ → ℕ → Type 0
+CutsMessage rest place =
+    ((0 < length rest) × (length rest < 4) × (place ≡ 0))
+    ⊎ ((4 ≤ length rest) × ((two_at 2 rest < 4) ⊎ (length rest < 4 + two_at 2 rest)) × (place ≡ 2))
+
+abbrev pub LengthFault : List ℕ → Cause → ℕ → Type 0
+LengthFault rest cause.MessageLength place = CutsMessage rest place
+LengthFault rest other place = ⊥
+
+-- the fault is one of the TLVs of the message here
+pub record IsWithin (rest : List ℕ) (fault : Fault) : Type 0 where
+  pub message : Spelling
+  pub more : List ℕ
+  pub split : rest ≡ spell message ++ more
+  pub is_message : IsSpelling message
+  pub kind : MessageKind
+  pub known : kind_of (message.word % 2 ^ 15) ≡ Some kind
+  pub here : Fault
+  pub names : NamesTlvs (row_of kind) message.body here
+  pub is : fault ≡ moved 8 here
+
+abbrev pub IsMessageFault : List Spelling → List ℕ → Fault → Type 0
+IsMessageFault before rest f = LengthFault rest f.cause f.place ⊎ IsWithin rest f
+
+-- the faults of messages one after another
+abbrev pub NamesMessages : List ℕ → Fault → Type 0
+NamesMessages body = IsNamedIn spell IsSpelling IsMessageFault body
+
+-- the faults of a PDU's header
+abbrev pub HeaderFault : List ℕ → ℕ → Cause → ℕ → Type 0
+HeaderFault bytes max cause.Version place = (place ≡ 0) × (2 ≤ length bytes) × (two_at 0 bytes ≢ 1)
+HeaderFault bytes max cause.PduLength place =
+    (place ≡ 2) × ((length bytes < 4) ⊎ (two_at 2 bytes < 14) ⊎ (max < two_at 2 bytes) ⊎ (length bytes ≢ 4 + two_at 2 bytes))
+HeaderFault bytes max other place = ⊥
+
+-- the fault is one of the messages of a PDU with a right header
+pub record IsInside (bytes : List ℕ) (max : ℕ) (fault : Fault) : Type 0 where
+  pub sender : List ℕ
+  pub body : List ℕ
+  pub framed : IsFramed bytes max sender body
+  pub here : Fault
+  pub names : NamesMessages body here
+  pub is : fault ≡ moved 10 here
+
+abbrev pub Names : List ℕ → ℕ → Fault → Type 0
+Names bytes max f = HeaderFault bytes max f.cause f.place ⊎ IsInside bytes max f
+
+-- the octets spell no PDU whose PDU Length is at most this maximum, and this is their first fault
+abbrev pub FirstFault : List ℕ → ℕ → Fault → Type 0
+FirstFault bytes max = IsFirst (Names bytes max)

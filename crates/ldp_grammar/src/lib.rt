@@ -1,0 +1,28 @@
+//! The grammar of LDP (RFC 5036 sections 3.1 to 3.5): PDUs and messages as values, the row of TLVs that each
+//! message has, the layout of each TLV, and which octets spell a PDU.
+//!
+//! `specs/Spells.antt` says which octets spell a PDU, `specs/FirstFault.antt` which fault stands first where none
+//! is spelled, and `specs/Written.antt` which spelling an edge writes. Nothing here reads octets.
+#![tactic(auto)]
+
+mod address_list;
+mod fault;
+mod ldp_id;
+mod message;
+mod message_kind;
+mod pdu;
+mod session_params;
+mod status_code;
+mod tlv_part;
+mod why;
+
+pub use address_list::AddressList;
+pub use fault::{Cause, Fault};
+pub use ldp_id::LdpId;
+pub use message::Message;
+pub use message_kind::MessageKind;
+pub use pdu::Pdu;
+pub use session_params::SessionParams;
+pub use status_code::StatusCode;
+pub use tlv_part::TlvPart;
+pub use why::Why;

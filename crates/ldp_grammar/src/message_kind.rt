@@ -1,0 +1,70 @@
+//! The known messages, by type, and the TLVs that each may have.
+ghost use Rattle.std.specs.Prelude.{◌≡◌};
+ghost use Rattle.ldp_grammar.specs.Rows.{kind_of, type_of, part_of, row_of};
+
+use crate::TlvPart;
+
+/// A message type that is known (RFC 5036 section 3.5).
+#[derive(Clone, Copy, Debug, PartialEq, Eq)]
+pub enum MessageKind {
+    /// 0x0001.
+    Notification,
+    /// 0x0100.
+    Hello,
+    /// 0x0200.
+    Initialization,
+    /// 0x0201.
+    KeepAlive,
+    /// 0x0300.
+    Address,
+    /// 0x0301.
+    AddressWithdraw,
+}
+
+impl MessageKind {
+    /// The known message of a type, without its U bit; `None` exactly where the type is not known.
+    pub fn of(number: u16) -> Option<MessageKind>
+        ensures { result ≡ kind_of number }
+    {
+        match number {
+            0x0001 => Some(MessageKind::Notification),
+            0x0100 => Some(MessageKind::Hello),
+            0x0200 => Some(MessageKind::Initialization),
+            0x0201 => Some(MessageKind::KeepAlive),
+            0x0300 => Some(MessageKind::Address),
+            0x0301 => Some(MessageKind::AddressWithdraw),
+            _ => None,
+        }
+    }
+
+    /// The type, without U bit.
+    pub fn number(self) -> u16
+        ensures { result ≡ type_of self }
+    {
+        match self {
+            MessageKind::Notification => 0x0001,
+            MessageKind::Hello => 0x0100,
+            MessageKind::Initialization => 0x0200,
+            MessageKind::KeepAlive => 0x0201,
+            MessageKind::Address => 0x0300,
+            MessageKind::AddressWithdraw => 0x0301,
+        }
+    }
+
+    /// What a TLV of a type, without U and F bit, is to the message.
+    pub fn part(self, tlv: u16) -> TlvPart
+        ensures { result ≡ part_of (row_of self) tlv }
+    {
+        match (self, tlv) {
+            (MessageKind::Notification, 0x0300) => TlvPart::Needed,
+            (MessageKind::Notification, 0x0301 | 0x0302 | 0x0303) => TlvPart::PassedOver,
+            (MessageKind::Hello, 0x0400) => TlvPart::Needed,
+            (MessageKind::Hello, 0x0401) => TlvPart::Further,
+            (MessageKind::Hello, 0x0402) => TlvPart::PassedOver,
+            (MessageKind::Initialization, 0x0500) => TlvPart::Needed,
+            (MessageKind::Initialization, _) => TlvPart::PassedOver,
+            (MessageKind::Address | MessageKind::AddressWithdraw, 0x0101) => TlvPart::Needed,
+            _ => TlvPart::Unknown,
+        }
+    }
+}

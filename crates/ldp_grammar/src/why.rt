@@ -1,0 +1,14 @@
+//! Why a message is not processed.
+
+use net_base::Field;
+
+/// Why a message without a fault is not processed; the first reason that holds.
+#[derive(Clone, Copy, Debug, PartialEq, Eq)]
+pub enum Why {
+    /// The type of the first TLV that is unknown in the message and has U = 0 (RFC 5036 section 3.3).
+    UnknownTlv(u16),
+    /// The first TLV that the message needs and lacks (RFC 5036 section 3.5.1.2.5).
+    Missing(Field),
+    /// The first octet of a FEC that is no single PWid element (RFC 5036 section 3.4.1.1).
+    UnknownFec(u8),
+}
