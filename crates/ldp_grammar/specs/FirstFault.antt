@@ -67,6 +67,13 @@ pub record IsNamedIn {A : Type 0} (spelled : A → List ℕ) (IsItem : A → Typ
   pub names : Here before rest here
   pub is : fault ≡ moved (length (flat_map spelled before)) here
 
+-- Behind these items, of the faults that are named where the next should begin this one comes first, and it lies within
+-- the next item.
+pub record IsFirstHere {A : Type 0} (spelled : A → List ℕ) (IsItem : A → Type 0) (Here : List A → List ℕ → Fault → Type 0) (before : List A) (rest : List ℕ) (fault : Fault) : Type 0 where
+  pub named : Here before rest fault
+  pub first : (other : Fault) → Here before rest other → Precedes fault other
+  pub inside : (item : A) (more : List ℕ) → IsItem item → rest ≡ spelled item ++ more → fault.place < length (spelled item)
+
 -- no whole TLV stands here: one to three octets are left, or the Length is past the end
 abbrev pub CutsTlv : List ℕ → ℕ → Type 0
 CutsTlv rest place =
@@ -97,6 +104,9 @@ TlvFault row before rest other place = ⊥
 abbrev pub IsTlvFault : Row → List Tlv → List ℕ → Fault → Type 0
 IsTlvFault row before rest f = TlvFault row before rest f.cause f.place
 
+abbrev pub IsFirstTlvFault : Row → List Tlv → List ℕ → Fault → Type 0
+IsFirstTlvFault row = IsFirstHere spell_tlv IsTlv (IsTlvFault row)
+
 -- the faults of the TLVs of a message with this row
 abbrev pub NamesTlvs : Row → List ℕ → Fault → Type 0
 NamesTlvs row body = IsNamedIn spell_tlv IsTlv (IsTlvFault row) body
@@ -125,6 +135,9 @@ pub record IsWithin (rest : List ℕ) (fault : Fault) : Type 0 where
 
 abbrev pub IsMessageFault : List Spelling → List ℕ → Fault → Type 0
 IsMessageFault before rest f = LengthFault rest f.cause f.place ⊎ IsWithin rest f
+
+abbrev pub IsFirstMessageFault : List Spelling → List ℕ → Fault → Type 0
+IsFirstMessageFault = IsFirstHere spell IsSpelling IsMessageFault
 
 -- the faults of messages one after another
 abbrev pub NamesMessages : List ℕ → Fault → Type 0

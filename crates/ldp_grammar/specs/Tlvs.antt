@@ -52,6 +52,11 @@ abbrev pub KeepsTo : Option Field → ℕ → Type 0
 KeepsTo (Some field) count = count ≤ most field
 KeepsTo None count = Unit {0}
 
+-- one more may come after this many
+abbrev pub HasRoom : Option Field → ℕ → Type 0
+HasRoom (Some field) count = count < most field
+HasRoom None count = Unit {0}
+
 -- the TLVs of a message with this row are without fault
 pub record IsFaultless (row : Row) (tlvs : List Tlv) : Type 0 where
   pub values : AllByRecursion (IsFitting row) tlvs

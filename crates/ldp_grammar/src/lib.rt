@@ -7,6 +7,7 @@
 
 mod address_list;
 mod fault;
+mod layout;
 mod ldp_id;
 mod message;
 mod message_kind;
@@ -18,6 +19,7 @@ mod why;
 
 pub use address_list::AddressList;
 pub use fault::{Cause, Fault};
+pub use layout::{field_of_type, is_fitting, most_of};
 pub use ldp_id::LdpId;
 pub use message::Message;
 pub use message_kind::MessageKind;

@@ -1,8 +1,10 @@
 //! The known messages, by type, and the TLVs that each may have.
 ghost use Rattle.std.specs.Prelude.{◌≡◌};
 ghost use Rattle.ldp_grammar.specs.Rows.{kind_of, type_of, part_of, row_of};
+ghost use Rattle.ldp_grammar.specs.Layouts.{listed};
 
-use crate::TlvPart;
+use crate::{TlvPart, field_of_type};
+use net_base::Field;
 
 /// A message type that is known (RFC 5036 section 3.5).
 #[derive(Clone, Copy, Debug, PartialEq, Eq)]
@@ -65,6 +67,16 @@ impl MessageKind {
             (MessageKind::Initialization, _) => TlvPart::PassedOver,
             (MessageKind::Address | MessageKind::AddressWithdraw, 0x0101) => TlvPart::Needed,
             _ => TlvPart::Unknown,
+        }
+    }
+    /// The TLV of a type, without U and F bit, where the message needs it or may have it; `None` exactly where it is
+    /// passed over or unknown there.
+    pub fn listed(self, tlv: u16) -> Option<Field>
+        ensures { result ≡ listed (row_of self) tlv }
+    {
+        match self.part(tlv) {
+            TlvPart::Needed | TlvPart::Further => field_of_type(tlv),
+            TlvPart::PassedOver | TlvPart::Unknown => None,
         }
     }
 }

@@ -1,0 +1,4 @@
+pub mod ItemLemmas
+pub mod OctetLemmas
+pub mod SpellingLemmas
+pub mod TlvLemmas

@@ -1,0 +1,54 @@
+//! The layouts of the TLVs that are read.
+ghost use Rattle.std.specs.Prelude.{◌≡◌};
+ghost use Rattle.ldp_grammar.specs.Layouts.{field_of, fits, most};
+
+use byteorder::{BigEndian, ByteOrder};
+use net_base::Field;
+
+/// The TLV of a type, without U and F bit; `None` exactly where the type is of none that is read.
+pub fn field_of_type(tlv: u16) -> Option<Field>
+    ensures { result ≡ field_of tlv }
+{
+    match tlv {
+        0x0101 => Some(Field::AddressList),
+        0x0300 => Some(Field::Status),
+        0x0400 => Some(Field::Hello),
+        0x0401 => Some(Field::Transport),
+        0x0500 => Some(Field::Session),
+        _ => None,
+    }
+}
+
+// Whether octets are an address family and its addresses.
+fn are_addresses(value: &[u8]) -> bool
+    ensures { result ≡ fits Field.AddressList value.now }
+{
+    if value.len() < 2 {
+        return false;
+    }
+    !(BigEndian::read_u16(value) == 1 && (value.len() - 2) % 4 != 0)
+}
+
+/// Whether the value fits the layout of its TLV (RFC 5036 sections 3.4 and 3.5). The TLVs that are not read yet take
+/// any value.
+pub fn is_fitting(field: Field, value: &[u8]) -> bool
+    ensures { result ≡ fits field value.now }
+{
+    match field {
+        Field::AddressList => are_addresses(value),
+        Field::Status => value.len() == 10,
+        Field::Hello | Field::Transport => value.len() == 4,
+        Field::Session => value.len() == 14,
+        _ => true,
+    }
+}
+
+/// How often a TLV may stand in one message that lists it.
+pub fn most_of(field: Field) -> usize
+    ensures { result ≡ most field }
+{
+    match field {
+        Field::Point => 3,
+        _ => 1,
+    }
+}
