@@ -41,7 +41,7 @@ compared spelled IsItem free (t ∷ ts) (b ∷ bs) more rest fit_ts fit_before e
 abbrev pub AreClean : {A : Type 0} → (A → List ℕ) → (List A → List ℕ → Fault → Type 0) → List A → Type 0
 AreClean {A = A} spelled Here ts = (before : List A) (t : A) (further : List A) (rest : List ℕ) (f : Fault) → ts ≡ before ++ t ∷ further → Here before (spelled t ++ rest) f → ⊥
 
-moved_after : (n : ℕ) (f g : Fault) → Precedes f g → Precedes (moved n f) (moved n g)
+pub moved_after : (n : ℕ) (f g : Fault) → Precedes f g → Precedes (moved n f) (moved n g)
 moved_after n f g (inl less) = inl (omega arith)
 moved_after n f g (inr both) = inr (ap (λ (p : ℕ). n + p) both.0, both.1)
 

@@ -2,3 +2,4 @@ pub mod ItemLemmas
 pub mod OctetLemmas
 pub mod SpellingLemmas
 pub mod TlvLemmas
+pub mod MessageLemmas

@@ -148,7 +148,7 @@ repeated_tlv row ts rest field whole is_listed full = record {
 no_repeat : (row : Row) (ts : List Tlv) (rest : List ℕ) (field : Field) → HasRoom (listed row (type_in (two_at 0 rest))) (count_of (type_in (two_at 0 rest)) ts) → IsRepeated row ts rest field → ⊥
 no_repeat row ts rest field room names = omega (arith, has_room _ field _ names.is_listed room, names.full)
 
-uncut_at : (rest more : List ℕ) (t : Tlv) (place : ℕ) → IsTlv t → rest ≡ spell_tlv t ++ more → CutsTlv rest place → ⊥
+pub uncut_at : (rest more : List ℕ) (t : Tlv) (place : ℕ) → IsTlv t → rest ≡ spell_tlv t ++ more → CutsTlv rest place → ⊥
 uncut_at rest more t place is e cuts = uncut t more place is (subst (λ (l : List ℕ). CutsTlv l place) e cuts)
 
 long_first : (row : Row) (ts : List Tlv) (rest : List ℕ) → 4 ≤ length rest → length rest < 4 + two_at 2 rest → HasRoom (listed row (type_in (two_at 0 rest))) (count_of (type_in (two_at 0 rest)) ts) → (c : Cause) (place : ℕ) → TlvFault row ts rest c place

@@ -1,7 +1,9 @@
 -- TLVs one after another (RFC 5036 section 3.3).
 use Rattle.std.specs.Prelude.{◌≡◌, ◌<◌, ◌≤◌, ◌+◌, ◌==◌, ◌^◌, ◌%◌, ◌++◌, ℕ, Bool, true, false, List, [], ◌∷◌, length, flat_map, Option, Some, None, if◌then◌else◌}
 use Rattle.std.specs.List.{AllByRecursion}
+use Rattle.std.specs.Option.{option_or}
 use Rattle.net_base.specs.declared.field.Field.{Field}
+use Rattle.ldp_grammar.specs.declared.tlv_part.TlvPart.{TlvPart}
 use Rattle.ldp_grammar.specs.declared.tlv_part.TlvPart.TheVariants.{Unknown, Needed, Further, PassedOver}
 use Rattle.ldp_grammar.specs.declared.why.Why.{Why}
 use Rattle.ldp_grammar.specs.declared.why.Why.TheVariants.{UnknownTlv, Missing}
@@ -62,15 +64,20 @@ pub record IsFaultless (row : Row) (tlvs : List Tlv) : Type 0 where
   pub values : AllByRecursion (IsFitting row) tlvs
   pub counts : (kind : ℕ) → KeepsTo (listed row kind) (count_of kind tlvs)
 
+-- the type in the word of a TLV, where it is unknown in a message with this row and has U = 0
+abbrev pub unknown_as : TlvPart → ℕ → Option ℕ
+unknown_as Unknown word = if bit 15 word then None else Some (type_in word)
+unknown_as Needed word = None
+unknown_as Further word = None
+unknown_as PassedOver word = None
+
+abbrev pub unknown_in : Row → ℕ → Option ℕ
+unknown_in row word = unknown_as (part_of row (type_in word)) word
+
 -- the type of the first TLV that is unknown and has U = 0
 abbrev pub first_unknown : Row → List Tlv → Option ℕ
 first_unknown row [] = None
-first_unknown row (t ∷ ts) = elim (part_of row (type_in t.word)) as (λ _. Option ℕ) [
-  Needed ↦ first_unknown row ts
-  | Further ↦ first_unknown row ts
-  | PassedOver ↦ first_unknown row ts
-  | Unknown ↦ if bit 15 t.word then first_unknown row ts else Some (type_in t.word)
-]
+first_unknown row (t ∷ ts) = option_or (unknown_in row t.word) (first_unknown row ts)
 
 -- the first TLV of these types that is absent
 abbrev pub first_absent : List ℕ → List Tlv → Option Field

@@ -1,4 +1,6 @@
 //! Faults of the octets of a PDU.
+ghost use Rattle.std.specs.Prelude.{◌≡◌, ◌+◌, ◌<◌, ◌^◌};
+ghost use Rattle.ldp_grammar.specs.FirstFault.{moved};
 
 use net_base::Field;
 
@@ -26,4 +28,17 @@ pub struct Fault {
     pub place: u16,
     /// What is wrong there.
     pub cause: Cause,
+}
+
+impl Fault {
+    /// The same fault, counted from so many octets before.
+    pub fn behind(self, count: u16) -> Fault
+        requires { count + self.place < 2 ^ 16 }
+        ensures { result ≡ moved count self }
+    {
+        Fault {
+            place: count + self.place,
+            cause: self.cause,
+        }
+    }
 }

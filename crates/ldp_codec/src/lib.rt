@@ -1,0 +1,10 @@
+//! LDP on the wire: the PDU that octets spell, or their first fault, and the octets of a message (RFC 5036 sections
+//! 3.1 to 3.5).
+//!
+//! The definitions of both stand in `specs/` of `ldp_grammar`.
+#![tactic(auto)]
+
+mod numbers;
+mod tlv;
+mod tlv_search;
+mod tlv_walk;

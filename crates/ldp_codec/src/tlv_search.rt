@@ -1,0 +1,42 @@
+//! The TLVs of one type among others.
+ghost use Rattle.std.specs.Prelude.{◌≡◌, ◌≤◌, List, length, option_copied};
+ghost use Rattle.ldp_grammar.specs.Tlvs.{Tlv, IsJoined, count_of, value_of};
+
+use crate::tlv::{TLV_HEADER, TYPE_LIMIT, split_tlv};
+
+// How many of the TLVs are of a type.
+#[tactic(auto, using(crate::proofs::SearchLemmas::counted_one, crate::proofs::SearchLemmas::counted_other, crate::proofs::SearchLemmas::counted_all, crate::proofs::SearchLemmas::counts_first))]
+pub fn count_tlvs(tlv: u16, octets: &[u8]) -> usize
+    ensures count { (ts : List Tlv) → IsJoined octets.now ts → result ≡ count_of tlv ts }
+{
+    let mut count = 0;
+    let mut at = 0;
+    'counting: while at < octets.len() {
+        let (_, rest) = octets.split_at(at);
+        let Some((word, value, _)) = split_tlv(rest) else {
+            return count;
+        };
+        if word % TYPE_LIMIT == tlv {
+            count += 1;
+        }
+        at += TLV_HEADER + value.len();
+    }
+    count
+}
+
+// The value of the first TLV of a type.
+#[tactic(auto, using(crate::proofs::SearchLemmas::seeks_first, crate::proofs::SearchLemmas::found_here, crate::proofs::SearchLemmas::sought_other, crate::proofs::SearchLemmas::sought_none))]
+pub fn find_value(tlv: u16, octets: &[u8]) -> Option<&[u8]>
+    ensures value { (ts : List Tlv) → IsJoined octets.now ts → option_copied result ≡ value_of tlv ts }
+{
+    let mut at = 0;
+    'searching: while at < octets.len() {
+        let (_, rest) = octets.split_at(at);
+        let (word, value, _) = split_tlv(rest)?;
+        if word % TYPE_LIMIT == tlv {
+            return Some(value);
+        }
+        at += TLV_HEADER + value.len();
+    }
+    None
+}

@@ -1,0 +1,102 @@
+//! The walk over the TLVs of a message.
+ghost use Rattle.std.specs.Prelude.{◌≡◌, ◌≤◌, ◌<◌, ◌+◌, ℕ, List, Some, None, false, length, IfOk, IfErr, IfSome};
+ghost use Rattle.net_base.specs.declared.field.Field.{Field};
+ghost use Rattle.ldp_grammar.specs.Layouts.{fits, listed, most};
+ghost use Rattle.ldp_grammar.specs.FirstFault.{IsFirst, IsFirstTlvFault, NamesTlvs};
+ghost use Rattle.ldp_grammar.specs.Rows.{row_of};
+ghost use Rattle.ldp_grammar.specs.Tlvs.{Tlv, IsJoined, HasRoom, HasValue, count_of, type_in, unknown_in};
+ghost use Rattle.ldp_codec.specs.Walk.{IsTaken, IsWalked, unknown_after};
+
+use crate::numbers::two;
+use crate::tlv::{TLV_HEADER, TYPE_LIMIT, split_tlv};
+use crate::tlv_search::count_tlvs;
+use ldp_grammar::{Cause, Fault, MessageKind, TlvPart, is_fitting, most_of};
+use net_base::Field;
+
+// The TLV of this type, where the message lists it and has as many before as it may.
+fn repeated(kind: MessageKind, tlv: u16, before: &[u8]) -> Option<Field>
+    ensures full { (ts : List Tlv) → IsJoined before.now ts → IfSome result (λ field. (listed (row_of kind) tlv ≡ Some field) × (most field ≤ count_of tlv ts)) }
+    ensures room { (ts : List Tlv) → IsJoined before.now ts → result ≡ None → HasRoom (listed (row_of kind) tlv) (count_of tlv ts) }
+{
+    let field = kind.listed(tlv)?;
+    if count_tlvs(tlv, before) < most_of(field) {
+        return None;
+    }
+    Some(field)
+}
+
+// The TLV of this type, where the message lists it and the value does not fit.
+fn misfit(kind: MessageKind, tlv: u16, value: &[u8]) -> Option<Field>
+    ensures misfit { IfSome result (λ field. (listed (row_of kind) tlv ≡ Some field) × (fits field value.now ≡ false)) }
+    ensures value { result ≡ None → HasValue (listed (row_of kind) tlv) value.now }
+{
+    let field = kind.listed(tlv)?;
+    if is_fitting(field, value) {
+        return None;
+    }
+    Some(field)
+}
+
+// The type of the TLV with this word, where it is unknown in the message and not to be ignored.
+fn unknown(kind: MessageKind, word: u16) -> Option<u16>
+    ensures { result ≡ unknown_in (row_of kind) word }
+{
+    match kind.part(word % TYPE_LIMIT) {
+        TlvPart::Unknown if word < 0x8000 => Some(word % TYPE_LIMIT),
+        _ => None,
+    }
+}
+
+#[tactic(auto, using(crate::proofs::WalkLemmas::taken_here, crate::proofs::WalkLemmas::misfit_here, ldp_grammar::proofs::TlvLemmas::short_tlv, ldp_grammar::proofs::TlvLemmas::long_tlv, ldp_grammar::proofs::TlvLemmas::repeated_tlv))]
+// The word and the size of the TLV in front, behind others of its message.
+fn take_tlv(kind: MessageKind, before: &[u8], rest: &[u8]) -> Result<(u16, usize), Fault>
+    requires some { 0 < length rest.now }
+    ensures taken { (ts : List Tlv) → IsJoined before.now ts → IfOk result (λ r. IsTaken (row_of kind) ts rest.now r.0 r.1) }
+    ensures fault { (ts : List Tlv) → IsJoined before.now ts → IfErr result (IsFirstTlvFault (row_of kind) ts rest.now) }
+    ensures near { IfErr result (λ fault. fault.place < length rest.now) }
+{
+    if rest.len() < TLV_HEADER {
+        return Err(fault(0, Cause::TlvLength));
+    }
+    let tlv = two(rest, 0) % TYPE_LIMIT;
+    if let Some(field) = repeated(kind, tlv, before) {
+        return Err(fault(0, Cause::Repeated(field)));
+    }
+    let Some((word, value, _)) = split_tlv(rest) else {
+        return Err(fault(2, Cause::TlvLength));
+    };
+    if let Some(field) = misfit(kind, tlv, value) {
+        return Err(fault(2, Cause::TlvValue(field)));
+    }
+    Ok((word, TLV_HEADER + value.len()))
+}
+
+// A fault at a place.
+fn fault(place: u16, cause: Cause) -> Fault
+    ensures { result ≡ record { place = place; cause = cause } }
+{
+    Fault { place, cause }
+}
+
+#[tactic(auto, using(crate::proofs::WalkLemmas::walked_more, crate::proofs::WalkLemmas::walk_fault, crate::proofs::WalkLemmas::walked_all, crate::proofs::WalkLemmas::walked_none))]
+// The type of the first TLV that is unknown in the message and not to be ignored, where the octets behind the Message
+// ID are TLVs without fault; or else their first fault, its place counted from the first of them.
+pub fn walk_tlvs(kind: MessageKind, body: &[u8]) -> Result<Option<u16>, Fault>
+    requires { length body.now < 65536 }
+    ensures walked { IfOk result (IsWalked (row_of kind) body.now) }
+    ensures fault { IfErr result (IsFirst (NamesTlvs (row_of kind) body.now)) }
+    ensures near { IfErr result (λ fault. fault.place < length body.now) }
+{
+    let mut first = None;
+    let mut at = 0;
+    'walking: while at < body.len() {
+        let (before, rest) = body.split_at(at);
+        let (word, size) = match take_tlv(kind, before, rest) {
+            Ok(taken) => taken,
+            Err(fault) => return Err(fault.behind(at as u16)),
+        };
+        first = first.or(unknown(kind, word));
+        at += size;
+    }
+    Ok(first)
+}
