@@ -77,7 +77,7 @@ pub walk_fault : (row : Row) (body : List ℕ) (at : ℕ) (unknown : Option ℕ)
 walk_fault row body at unknown f within w faults =
     first_of_tlvs row body (take at body) (drop at body) w.tlvs at f (sym (take-append-drop at body)) (omega (arith, length-take at body)) w.joined w.faultless (faults w.tlvs w.joined)
 
-take_all : (xs : List ℕ) (n : ℕ) → length xs ≤ n → take n xs ≡ xs
+pub take_all : (xs : List ℕ) (n : ℕ) → length xs ≤ n → take n xs ≡ xs
 take_all xs n past =
     sym (append-nil (take n xs)) ∙ (ap (λ (l : List ℕ). take n xs ++ l) (sym (drop_of_length-le xs past)) ∙ take-append-drop n xs)
 

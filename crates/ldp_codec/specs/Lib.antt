@@ -1,1 +1,3 @@
+pub mod Decoded
+pub mod Stop
 pub mod Walk

@@ -4,7 +4,16 @@
 //! The definitions of both stand in `specs/` of `ldp_grammar`.
 #![tactic(auto)]
 
+mod decode_fault;
+mod message_body;
+mod message_head;
+mod message_walk;
 mod numbers;
+mod pdu_header;
+mod stop;
 mod tlv;
 mod tlv_search;
 mod tlv_walk;
+mod values;
+
+pub use decode_fault::DecodeFault;

@@ -3,3 +3,4 @@ pub mod OctetLemmas
 pub mod SpellingLemmas
 pub mod TlvLemmas
 pub mod MessageLemmas
+pub mod PduLemmas

@@ -1,5 +1,5 @@
 -- Numbers in octets.
-use Rattle.std.proofs.Common.{◌≡◌, ◌≤◌, ◌<◌, ◌+◌, ◌*◌, ◌/◌, ◌%◌, ◌^◌, ◌++◌, ℕ, List, [], ◌∷◌, length, get_or, drop, refl, sym, ap, ◌∙◌, arith}
+use Rattle.std.proofs.Common.{◌≡◌, ◌≤◌, ◌<◌, ◌+◌, ◌*◌, ◌/◌, ◌%◌, ◌^◌, ◌++◌, ℕ, zero, suc, List, [], ◌∷◌, length, get_or, take, drop, refl, sym, ap, ◌∙◌, arith}
 use Rattle.byteorder.specs.Endian.{big_number}
 use Rattle.byteorder.specs.Numbers.{big_number-reads_back}
 use Rattle.ldp_grammar.specs.Octets.{two, four, two_at, four_at}
@@ -52,3 +52,21 @@ read_two n more fits = big_number-reads_back 2 n more fits
 
 pub read_four : (n : ℕ) (more : List ℕ) → n < 4294967296 → big_number 4 (four n ++ more) ≡ n
 read_four n more fits = big_number-reads_back 4 n more fits
+
+-- parts of octets are octets
+none_octet : (i : ℕ) → get_or [] i 0 < 256
+none_octet i = omega arith
+
+pub octets_drop : (n : ℕ) (xs : List ℕ) → AreOctets xs → AreOctets (drop n xs)
+octets_drop zero xs octets = octets
+octets_drop (suc n) [] octets = none_octet
+octets_drop (suc n) (x ∷ xs) octets = octets_drop n xs (λ i. octets (suc i))
+
+octet_front : (x : ℕ) (xs : List ℕ) → x < 256 → AreOctets xs → (i : ℕ) → get_or (x ∷ xs) i 0 < 256
+octet_front x xs fits octets zero = fits
+octet_front x xs fits octets (suc i) = octets i
+
+pub octets_take : (n : ℕ) (xs : List ℕ) → AreOctets xs → AreOctets (take n xs)
+octets_take zero xs octets = none_octet
+octets_take (suc n) [] octets = none_octet
+octets_take (suc n) (x ∷ xs) octets = octet_front x (take n xs) (octets 0) (octets_take n xs (λ i. octets (suc i)))

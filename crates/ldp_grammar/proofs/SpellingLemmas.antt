@@ -6,7 +6,7 @@ use Rattle.ldp_grammar.specs.Spells.{Spelling, spell, IsSpelling}
 use Rattle.ldp_grammar.proofs.OctetLemmas.{same_two, same_four}
 use Rattle.ldp_grammar.proofs.ItemLemmas.{ArePrefixFree}
 
-same_front : (xs ys more rest : List ℕ) → length xs ≡ length ys → xs ++ more ≡ ys ++ rest → (xs ≡ ys) × (more ≡ rest)
+pub same_front : (xs ys more rest : List ℕ) → length xs ≡ length ys → xs ++ more ≡ ys ++ rest → (xs ≡ ys) × (more ≡ rest)
 same_front [] [] more rest len e = (refl, e)
 same_front [] (y ∷ ys) more rest len e = absurd (omega (arith, len))
 same_front (x ∷ xs) [] more rest len e = absurd (omega (arith, len))

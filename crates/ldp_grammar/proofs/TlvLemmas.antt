@@ -8,9 +8,11 @@ use Rattle.ldp_grammar.specs.declared.fault.Fault.{Fault}
 use Rattle.ldp_grammar.specs.declared.fault.Cause.{Cause}
 use Rattle.ldp_grammar.specs.declared.fault.Cause.TheVariants as cause
 use Rattle.ldp_grammar.specs.Octets.{two, two_at}
-use Rattle.ldp_grammar.specs.Rows.{Row}
-use Rattle.ldp_grammar.specs.Layouts.{fits, most, listed}
-use Rattle.ldp_grammar.specs.Tlvs.{Tlv, type_in, spell_tlv, IsTlv, IsJoined, count_of, value_of, HasValue, IsFitting, KeepsTo, HasRoom, IsFaultless}
+use Rattle.ldp_grammar.specs.declared.message_kind.MessageKind.{MessageKind}
+use Rattle.ldp_grammar.specs.declared.message_kind.MessageKind.TheVariants.{Notification, Hello, Initialization, KeepAlive, Address, AddressWithdraw}
+use Rattle.ldp_grammar.specs.Rows.{Row, row_of, is_in}
+use Rattle.ldp_grammar.specs.Layouts.{field_of, fits, most, listed}
+use Rattle.ldp_grammar.specs.Tlvs.{Tlv, type_in, spell_tlv, IsTlv, IsJoined, count_of, value_of, HasValue, IsFitting, KeepsTo, HasRoom, IsFaultless, first_absent}
 use Rattle.ldp_grammar.specs.FirstFault.{TlvFault, IsTlvFault, CutsTlv, IsRepeated, IsMisfit, Precedes, NamesTlvs, IsFirst, IsFirstTlvFault, moved, rank}
 use Rattle.ldp_grammar.proofs.OctetLemmas.{AreOctets, two_read}
 use Rattle.ldp_grammar.proofs.ItemLemmas.{AreClean, first_behind, none_named, items_more, item_at, one_list}
@@ -229,3 +231,49 @@ joined_none (t ∷ ts) joined = absurd (omega (arith, ap length joined.spelled))
 -- one list of TLVs has these octets
 pub joined_once : (body : List ℕ) (ts us : List Tlv) → IsJoined body ts → IsJoined body us → ts ≡ us
 joined_once body ts us one other = one_list spell_tlv IsTlv tlvs_apart (λ t. omega (arith, size_of t [])) ts us one.fit other.fit (sym one.spelled ∙ other.spelled)
+
+-- the value of a TLV that a row lists fits
+pub value_fits : (row : Row) (ts : List Tlv) (kind : ℕ) (value : List ℕ) → AllByRecursion (IsFitting row) ts → value_of kind ts ≡ Some value → HasValue (listed row kind) value
+value_fits row [] kind value fitting e = absurd (cc)
+value_fits row (t ∷ ts) kind value fitting e = elim (cases_Bool (nat_eq (type_in t.word) kind)) [
+  inl same ↦ (let here : value_of kind (t ∷ ts) ≡ Some t.value = rw same refl in
+  let is : t.value ≡ value = cc (sym here ∙ e) in
+  subst (HasValue (listed row kind)) is (subst (λ (k : ℕ). HasValue (listed row k) t.value) (eqb-true _ _ same) fitting.0))
+  | inr other ↦ (let there : value_of kind (t ∷ ts) ≡ value_of kind ts = rw other refl in
+  value_fits row ts kind value fitting.1 (sym there ∙ e))
+]
+
+pub none_of : (kind : ℕ) (ts : List Tlv) → value_of kind ts ≡ None → count_of kind ts ≡ 0
+none_of kind [] e = refl
+none_of kind (t ∷ ts) e = elim (cases_Bool (nat_eq (type_in t.word) kind)) [
+  inl same ↦ (let here : value_of kind (t ∷ ts) ≡ Some t.value = rw same refl in absurd (cc (sym here ∙ e)))
+  | inr other ↦ (let there : value_of kind (t ∷ ts) ≡ value_of kind ts = rw other refl in
+  let count : count_of kind (t ∷ ts) ≡ count_of kind ts = rw other refl in
+  count ∙ none_of kind ts (sym there ∙ e))
+]
+
+-- each of the types has a field
+abbrev pub HaveFields : List ℕ → Type 0
+HaveFields [] = Unit {0}
+HaveFields (kind ∷ kinds) = (field_of kind ≡ None → ⊥) × HaveFields kinds
+
+pub rows_have_fields : (kind : MessageKind) → HaveFields (row_of kind).needed
+rows_have_fields Notification = ((λ e. cc), tt)
+rows_have_fields Hello = ((λ e. cc), tt)
+rows_have_fields Initialization = ((λ e. cc), tt)
+rows_have_fields KeepAlive = tt
+rows_have_fields Address = ((λ e. cc), tt)
+rows_have_fields AddressWithdraw = ((λ e. cc), tt)
+
+-- where none is absent, a needed one is there
+pub needed_there : (kinds : List ℕ) (ts : List Tlv) (kind : ℕ) → HaveFields kinds → is_in kind kinds ≡ true → first_absent kinds ts ≡ None → count_of kind ts ≡ 0 → ⊥
+needed_there [] ts kind have is e none = absurd (cc)
+needed_there (k ∷ ks) ts kind have is e none = elim (cases_Bool (nat_eq (count_of k ts) 0)) [
+  inl absent ↦ (let here : first_absent (k ∷ ks) ts ≡ field_of k = rw absent refl in have.0 (sym here ∙ e))
+  | inr there ↦ elim (cases_Bool (nat_eq kind k)) [
+    inl same ↦ (let zero_of : nat_eq (count_of k ts) 0 ≡ true = eq-eqb _ _ (subst (λ (n : ℕ). count_of n ts ≡ 0) (eqb-true _ _ same) none) in absurd (cc (sym zero_of ∙ there)))
+    | inr other ↦ (let rest : first_absent (k ∷ ks) ts ≡ first_absent ks ts = rw there refl in
+    let in_rest : is_in kind (k ∷ ks) ≡ is_in kind ks = rw other refl in
+    needed_there ks ts kind have.1 (sym in_rest ∙ is) (sym rest ∙ e) none)
+  ]
+]

@@ -79,4 +79,16 @@ impl MessageKind {
             TlvPart::PassedOver | TlvPart::Unknown => None,
         }
     }
+    /// The types of the TLVs that the message needs, in the order in which they are written.
+    pub fn needed(self) -> &'static [u16]
+        ensures { result.now ≡ (row_of self).needed }
+    {
+        match self {
+            MessageKind::Notification => &[0x0300],
+            MessageKind::Hello => &[0x0400],
+            MessageKind::Initialization => &[0x0500],
+            MessageKind::KeepAlive => &[],
+            MessageKind::Address | MessageKind::AddressWithdraw => &[0x0101],
+        }
+    }
 }
