@@ -6,3 +6,4 @@ pub mod MessageSplit
 pub mod BodyLemmas
 pub mod HeaderLemmas
 pub mod MessageWalkLemmas
+pub mod DecodeLemmas

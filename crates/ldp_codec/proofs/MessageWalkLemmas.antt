@@ -9,6 +9,9 @@ use Rattle.ldp_grammar.specs.Spells.{Spelling, spell, IsSpelling, StandsFor}
 use Rattle.ldp_grammar.specs.FirstFault.{IsFirst, IsFirstMessageFault, NamesMessages, moved}
 use Rattle.ldp_grammar.proofs.ItemLemmas.{items_more}
 use Rattle.ldp_grammar.proofs.MessageLemmas.{octets_of, fault_within, first_of_messages, stand_more, spelled_more}
+use Rattle.ldp_codec.specs.declared.stop.Stop.{Stop}
+use Rattle.ldp_codec.specs.declared.stop.Stop.TheVariants.{At, NoMemory}
+use Rattle.ldp_codec.specs.Stop.{StopsAt, stop_behind}
 use Rattle.ldp_codec.specs.Walk.{IsFirstAs, IsMessageSplit, IsMessageTaken, AreMessages}
 use Rattle.ldp_codec.proofs.PlaceLemmas.{placed}
 use Rattle.ldp_codec.proofs.WalkLemmas.{take_all}
@@ -47,3 +50,29 @@ messages_all body at messages past are = subst (λ (l : List ℕ). AreMessages l
 
 pub messages_none : AreMessages [] []
 messages_none = record { spellings = []; spelled = refl; fit = tt; stand = tt }
+
+-- stops of which something holds
+pub stops_weaker : (P Q : Fault → Type 0) → ((f : Fault) → P f → Q f) → (s : Stop) → StopsAt P s → StopsAt Q s
+stops_weaker P Q follows (At fault) holds = follows fault holds
+stops_weaker P Q follows NoMemory holds = tt
+
+pub stops_behind : (P Q : Fault → Type 0) (count : ℕ) → ((f : Fault) → P f → Q (moved count f)) → (s : Stop) → StopsAt P s → StopsAt Q (stop_behind count s)
+stops_behind P Q count follows (At fault) holds = follows fault holds
+stops_behind P Q count follows NoMemory holds = tt
+
+pub stops_both : (P Q R : Fault → Type 0) → ((f : Fault) → P f → Q f → R f) → (s : Stop) → StopsAt P s → StopsAt Q s → StopsAt R s
+stops_both P Q R follows (At fault) holds also = follows fault holds also
+stops_both P Q R follows NoMemory holds also = tt
+
+-- a stop at the next message is one of the messages
+pub messages_stop : (body : List ℕ) (at : ℕ) (messages : List Message) (s : Stop) → at ≤ length body → AreMessages (take at body) messages → ((before : List Spelling) → StopsAt (IsFirstMessageFault before (drop at body)) s) → StopsAt (IsFirst (NamesMessages body)) (stop_behind at s)
+messages_stop body at messages (At fault) within are stops = messages_fault body at messages fault within are stops
+messages_stop body at messages NoMemory within are stops = tt
+
+pub near_behind : (at room more : ℕ) (s : Stop) → at + more ≤ room → StopsAt (λ fault. fault.place < more) s → StopsAt (λ fault. fault.place < room) (stop_behind at s)
+near_behind at room more (At fault) fits near = omega (arith, near)
+near_behind at room more NoMemory fits near = tt
+
+pub stop_fits : (at more : ℕ) (s : Stop) → at + more ≤ 65536 → StopsAt (λ fault. fault.place < more) s → StopsAt (λ fault. at + fault.place < 65536) s
+stop_fits at more (At fault) fits near = omega (arith, near)
+stop_fits at more NoMemory fits near = tt

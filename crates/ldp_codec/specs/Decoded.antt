@@ -4,6 +4,8 @@ use Rattle.ldp_grammar.specs.declared.fault.Fault.{Fault}
 use Rattle.ldp_grammar.specs.declared.fault.Cause.{Cause}
 use Rattle.ldp_grammar.specs.declared.fault.Cause.TheVariants as cause
 use Rattle.ldp_grammar.specs.declared.pdu.Pdu.{Pdu}
+use Rattle.ldp_codec.specs.declared.stop.Stop.{Stop}
+use Rattle.ldp_codec.specs.declared.stop.Stop.TheVariants as stop
 use Rattle.ldp_codec.specs.declared.decode_fault.DecodeFault.{DecodeFault}
 use Rattle.ldp_codec.specs.declared.decode_fault.DecodeFault.TheVariants.{Version, PduLength, MessageLength, TlvLength, TlvValue, Repeated, NoMemory}
 
@@ -18,6 +20,11 @@ refusal_at (cause.Repeated field) place = Repeated place field
 
 abbrev pub refusal_of : Fault → DecodeFault
 refusal_of fault = refusal_at fault.cause fault.place
+
+-- the refusal of what stopped the reading
+abbrev pub refusal_for : Stop → DecodeFault
+refusal_for (stop.At fault) = refusal_of fault
+refusal_for stop.NoMemory = NoMemory
 
 -- the refusal names a fault of which this holds, or memory was refused
 abbrev pub Tells : (Fault → Type 0) → DecodeFault → Type 0

@@ -1,6 +1,6 @@
 //! Why octets are no PDU.
-ghost use Rattle.std.specs.Prelude.{◌≡◌};
 
+use crate::stop::Stop;
 use ldp_grammar::{Cause, Fault};
 use net_base::{Field, NoMemory};
 use thiserror::Error;
@@ -61,6 +61,20 @@ impl From<Fault> for DecodeFault {
             Cause::TlvLength => DecodeFault::TlvLength { at },
             Cause::TlvValue(field) => DecodeFault::TlvValue { at, field },
             Cause::Repeated(field) => DecodeFault::Repeated { at, field },
+        }
+    }
+}
+
+impl From<Stop> for DecodeFault {
+    ghost use Rattle.std.specs.Prelude.{◌≡◌};
+    ghost use Rattle.ldp_codec.specs.Decoded.{refusal_for};
+
+    ghost from_gives = { λ stop e. e ≡ refusal_for stop };
+
+    fn from(stop: Stop) -> DecodeFault {
+        match stop {
+            Stop::At(fault) => DecodeFault::from(fault),
+            Stop::NoMemory => DecodeFault::NoMemory,
         }
     }
 }

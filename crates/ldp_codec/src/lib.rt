@@ -4,6 +4,7 @@
 //! The definitions of both stand in `specs/` of `ldp_grammar`.
 #![tactic(auto)]
 
+mod decode;
 mod decode_fault;
 mod message_body;
 mod message_head;
@@ -16,4 +17,5 @@ mod tlv_search;
 mod tlv_walk;
 mod values;
 
+pub use decode::decode_pdu;
 pub use decode_fault::DecodeFault;

@@ -89,14 +89,12 @@ pub fn read_messages(alloc: Global, body: &[u8]) -> Result<List<Message>, Stop>
     let mut at = 0;
     'reading: while at < body.len() {
         let (_, rest) = body.split_at(at);
-        match take_message(alloc, rest) {
-            Ok((message, size)) => {
-                messages.push(message)?;
-                at += size;
-            }
-            Err(Stop::At(fault)) => return Err(Stop::At(fault.behind(at as u16))),
-            Err(Stop::NoMemory) => return Err(Stop::NoMemory),
-        }
+        let (message, size) = match take_message(alloc, rest) {
+            Ok(taken) => taken,
+            Err(stop) => return Err(stop.behind(at as u16)),
+        };
+        messages.push(message)?;
+        at += size;
     }
     Ok(messages)
 }

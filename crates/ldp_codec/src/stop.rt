@@ -1,4 +1,6 @@
 //! Why the reading of messages stopped.
+ghost use Rattle.std.specs.Prelude.{◌≡◌, ◌+◌, ◌<◌};
+ghost use Rattle.ldp_codec.specs.Stop.{StopsAt, stop_behind};
 
 use ldp_grammar::Fault;
 use net_base::NoMemory;
@@ -10,6 +12,19 @@ pub enum Stop {
     At(Fault),
     // Memory was refused.
     NoMemory,
+}
+
+impl Stop {
+    // The same stop, counted from so many octets before.
+    pub fn behind(self, count: u16) -> Stop
+        requires { StopsAt (λ fault. count + fault.place < 65536) self }
+        ensures { result ≡ stop_behind count self }
+    {
+        match self {
+            Stop::At(fault) => Stop::At(fault.behind(count)),
+            Stop::NoMemory => Stop::NoMemory,
+        }
+    }
 }
 
 impl From<NoMemory> for Stop {

@@ -4,3 +4,4 @@ pub mod SpellingLemmas
 pub mod TlvLemmas
 pub mod MessageLemmas
 pub mod PduLemmas
+pub mod MeaningLemmas

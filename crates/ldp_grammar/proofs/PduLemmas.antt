@@ -37,11 +37,11 @@ no_header_fault bytes sender body max small f cause.TlvLength place names = name
 no_header_fault bytes sender body max small f (cause.TlvValue field) place names = names
 no_header_fault bytes sender body max small f (cause.Repeated field) place names = names
 
-record SameFrame (sender other body rest : List ℕ) : Type 0 where
-  one_sender : sender ≡ other
-  one_body : body ≡ rest
+pub record SameFrame (sender other body rest : List ℕ) : Type 0 where
+  pub one_sender : sender ≡ other
+  pub one_body : body ≡ rest
 
-same_frame : (bytes sender other body rest : List ℕ) (max : ℕ) → IsFramed bytes max sender body → IsFramed bytes max other rest → SameFrame sender other body rest
+pub same_frame : (bytes sender other body rest : List ℕ) (max : ℕ) → IsFramed bytes max sender body → IsFramed bytes max other rest → SameFrame sender other body rest
 same_frame bytes sender other body rest max f g =
     let e : two 1 ++ two (6 + length body) ++ sender ++ body ≡ two 1 ++ two (6 + length rest) ++ other ++ rest = sym f.split ∙ g.split in
     let tail : sender ++ body ≡ other ++ rest = cc (e) in

@@ -8,11 +8,12 @@ use Rattle.ldp_grammar.specs.declared.fault.Fault.{Fault}
 use Rattle.ldp_grammar.specs.declared.fault.Cause.{Cause}
 use Rattle.ldp_grammar.specs.declared.fault.Cause.TheVariants as cause
 use Rattle.ldp_grammar.specs.declared.message_kind.MessageKind.{MessageKind}
+use Rattle.ldp_grammar.specs.declared.pdu.Pdu.{Pdu}
 use Rattle.ldp_grammar.specs.Octets.{two_at}
 use Rattle.ldp_grammar.specs.Rows.{Row, kind_of, row_of}
 use Rattle.ldp_grammar.specs.Layouts.{fits, most, listed}
 use Rattle.ldp_grammar.specs.Tlvs.{Tlv, type_in, spell_tlv, IsTlv, count_of}
-use Rattle.ldp_grammar.specs.Spells.{Spelling, spell, IsSpelling, IsFramed}
+use Rattle.ldp_grammar.specs.Spells.{Spelling, spell, IsSpelling, IsFramed, Spells}
 
 -- the fields in the order in which their rules are stated
 abbrev pub field_rank : Field → ℕ
@@ -165,3 +166,9 @@ Names bytes max f = HeaderFault bytes max f.cause f.place ⊎ IsInside bytes max
 -- the octets spell no PDU whose PDU Length is at most this maximum, and this is their first fault
 abbrev pub FirstFault : List ℕ → ℕ → Fault → Type 0
 FirstFault bytes max = IsFirst (Names bytes max)
+
+-- octets spell one PDU at most, have one first fault at most, and never both
+pub record OneReading : Type 0 where
+  pub one_pdu : (bytes : List ℕ) (max : ℕ) (p q : Pdu) → Spells bytes max p → Spells bytes max q → p ≡ q
+  pub one_fault : (bytes : List ℕ) (max : ℕ) (f g : Fault) → FirstFault bytes max f → FirstFault bytes max g → f ≡ g
+  pub not_both : (bytes : List ℕ) (max : ℕ) (p : Pdu) (f : Fault) → max ≤ 4096 → Spells bytes max p → FirstFault bytes max f → ⊥

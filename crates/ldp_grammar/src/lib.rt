@@ -7,6 +7,7 @@
 
 mod address_list;
 mod fault;
+mod laws;
 mod layout;
 mod ldp_id;
 mod message;
@@ -19,6 +20,7 @@ mod why;
 
 pub use address_list::AddressList;
 pub use fault::{Cause, Fault};
+pub use laws::one_reading;
 pub use layout::{field_of_type, is_fitting, most_of};
 pub use ldp_id::LdpId;
 pub use message::Message;

@@ -1,0 +1,19 @@
+-- A stop among the messages refuses the PDU.
+use Rattle.std.proofs.Common.{◌≡◌, ◌++◌, List, ℕ, drop, subst, sym, ap, ◌∙◌}
+use Rattle.ldp_grammar.specs.Octets.{two}
+use Rattle.ldp_grammar.specs.FirstFault.{FirstFault, IsFirst, NamesMessages}
+use Rattle.ldp_codec.specs.Decoded.{Tells, refusal_for}
+use Rattle.ldp_codec.specs.Stop.{StopsAt}
+use Rattle.ldp_codec.proofs.DecodeLemmas.{tells_stop}
+use Rattle.ldp_codec.proofs.decode.decode.Goals as goal
+
+pub returns-in-Err : goal.returns-in-Err
+returns-in-Err c =
+    let bytes = c.args.bytes.now in
+    let id = c.in_ok-id.id in
+    let first : StopsAt (IsFirst (NamesMessages (drop 10 bytes))) c.in-Err.stop = subst (λ (l : List ℕ). StopsAt (IsFirst (NamesMessages l)) c.in-Err.stop) c.split_at.ensures.back c.in-Err.ensures.fault in
+    let tells = tells_stop bytes (id.router.0 ++ two id.space) (drop 10 bytes) c.args.max c.in-Err.stop c.requires c.in_ok-id.ensures.framed first in
+    record {
+      spelled = tt;
+      fault = subst (Tells (FirstFault bytes c.args.max)) (sym (c.from.ensures ∙ ap refusal_for c.behind.ensures)) tells;
+    }
