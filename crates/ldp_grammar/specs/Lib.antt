@@ -5,3 +5,4 @@ pub mod Rows
 pub mod Spells
 pub mod Tlvs
 pub mod Values
+pub mod Written

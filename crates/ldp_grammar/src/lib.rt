@@ -17,6 +17,7 @@ mod session_params;
 mod status_code;
 mod tlv_part;
 mod why;
+mod writable;
 
 pub use address_list::AddressList;
 pub use fault::{Cause, Fault};
@@ -30,3 +31,4 @@ pub use session_params::SessionParams;
 pub use status_code::StatusCode;
 pub use tlv_part::TlvPart;
 pub use why::Why;
+pub use writable::{is_writable, message_size};
