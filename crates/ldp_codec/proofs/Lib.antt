@@ -7,3 +7,4 @@ pub mod BodyLemmas
 pub mod HeaderLemmas
 pub mod MessageWalkLemmas
 pub mod DecodeLemmas
+pub mod PutLemmas

@@ -1,3 +1,4 @@
 pub mod Decoded
+pub mod Put
 pub mod Stop
 pub mod Walk

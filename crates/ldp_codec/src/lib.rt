@@ -6,16 +6,20 @@
 
 mod decode;
 mod decode_fault;
+mod encode;
 mod message_body;
 mod message_head;
 mod message_walk;
 mod numbers;
 mod pdu_header;
+mod put;
 mod stop;
 mod tlv;
 mod tlv_search;
 mod tlv_walk;
 mod values;
+mod written_values;
 
 pub use decode::decode_pdu;
 pub use decode_fault::DecodeFault;
+pub use encode::encode_into;
