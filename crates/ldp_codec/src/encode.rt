@@ -7,15 +7,21 @@ ghost use Rattle.ldp_codec.specs.Put.{IsPut};
 ghost use Rattle.ldp_grammar.specs.Written.{address_octets};
 
 use crate::put::put;
-use crate::written_values::{hello_bytes, message_header, pdu_header, session_bytes, status_bytes, tlv_header, two_bytes};
+use crate::written_values::{
+    hello_bytes, message_header, pdu_header, session_bytes, status_bytes, tlv_header, two_bytes,
+};
 use ldp_grammar::{AddressList, LdpId, Message, MessageKind, message_size};
 use net_base::{Addr, Octets};
 
 // The types of the TLVs that are written.
 const ADDRESS_LIST: u16 = 0x0101;
+
 const STATUS: u16 = 0x0300;
+
 const HELLO_PARAMETERS: u16 = 0x0400;
+
 const TRANSPORT_ADDRESS: u16 = 0x0401;
+
 const SESSION_PARAMETERS: u16 = 0x0500;
 
 // Writes a TLV with U = 0 and F = 0 at the place, and answers the place behind it.
@@ -92,10 +98,19 @@ fn put_tlvs(out: &mut [u8], at: usize, message: &Message) -> usize
 {
     match message {
         Message::Notification { status, .. } => put_tlv(out, at, STATUS, &status_bytes(*status)),
-        Message::Hello { hold, targeted, request, transport, .. } => {
-            put_hello(out, at, hello_bytes(*hold, *targeted, *request), *transport)
-        }
-        Message::Initialization { params, .. } => put_tlv(out, at, SESSION_PARAMETERS, &session_bytes(*params)),
+        Message::Hello {
+            hold,
+            targeted,
+            request,
+            transport,
+            ..
+        } => { put_hello(out, at, hello_bytes(*hold, *targeted, *request), *transport) }
+        Message::Initialization { params, .. } => put_tlv(
+            out,
+            at,
+            SESSION_PARAMETERS,
+            &session_bytes(*params),
+        ),
         Message::Address { family, octets, .. } => put_addresses(out, at, *family, octets),
         Message::AddressWithdraw { addresses, .. } => put_withdrawn(out, at, addresses),
         Message::KeepAlive { .. } | Message::Other { .. } | Message::Unprocessed { .. } => at,

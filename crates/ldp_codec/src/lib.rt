@@ -23,3 +23,6 @@ mod written_values;
 pub use decode::decode_pdu;
 pub use decode_fault::DecodeFault;
 pub use encode::encode_into;
+
+#[cfg(test)]
+mod tests;

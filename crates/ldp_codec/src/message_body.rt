@@ -17,9 +17,13 @@ use std::alloc::Global;
 
 // The types of the TLVs that are read.
 const ADDRESS_LIST: u16 = 0x0101;
+
 const STATUS: u16 = 0x0300;
+
 const HELLO_PARAMETERS: u16 = 0x0400;
+
 const TRANSPORT_ADDRESS: u16 = 0x0401;
+
 const SESSION_PARAMETERS: u16 = 0x0500;
 
 // The first of the TLVs that is absent.
@@ -143,7 +147,12 @@ fn address_withdraw(alloc: Global, id: u32, body: &[u8]) -> Result<Message, NoMe
 }
 
 // The processed message.
-pub fn processed(alloc: Global, kind: MessageKind, id: u32, body: &[u8]) -> Result<Message, NoMemory>
+pub fn processed(
+    alloc: Global,
+    kind: MessageKind,
+    id: u32,
+    body: &[u8],
+) -> Result<Message, NoMemory>
     requires { IsComplete kind body.now }
     ensures means { IfOk result (λ m. (ts : List Tlv) → IsJoined body.now ts → Means kind id ts m) }
 {

@@ -8,6 +8,7 @@ use ldp_grammar::{Cause, Fault};
 
 // The octets of a message before those that its Message Length counts, and those of its Message ID.
 const LENGTH_HEADER: usize = 4;
+
 const ID: usize = 4;
 
 /// The octets of a message before its TLVs.

@@ -31,7 +31,13 @@ fn walk_body(kind: Option<MessageKind>, body: &[u8]) -> Result<Option<u16>, Faul
 }
 
 // The message of a known kind: processed, or not for the first reason that holds.
-fn read_body(alloc: Global, kind: MessageKind, unknown: Option<u16>, id: u32, body: &[u8]) -> Result<Message, NoMemory>
+fn read_body(
+    alloc: Global,
+    kind: MessageKind,
+    unknown: Option<u16>,
+    id: u32,
+    body: &[u8],
+) -> Result<Message, NoMemory>
     requires walked { IsWalked (row_of kind) body.now unknown }
     ensures read { IfOk result (IsRead kind id body.now) }
 {
@@ -43,7 +49,14 @@ fn read_body(alloc: Global, kind: MessageKind, unknown: Option<u16>, id: u32, bo
 }
 
 // The message that a spelling without fault stands for.
-fn read_message(alloc: Global, kind: Option<MessageKind>, unknown: Option<u16>, word: u16, id: u32, body: &[u8]) -> Result<Message, NoMemory>
+fn read_message(
+    alloc: Global,
+    kind: Option<MessageKind>,
+    unknown: Option<u16>,
+    word: u16,
+    id: u32,
+    body: &[u8],
+) -> Result<Message, NoMemory>
     requires kind { kind ≡ kind_of (word % 2 ^ 15) }
     requires walked { IsWalkedAs kind body.now unknown }
     ensures stands { IfOk result (StandsFor (record { word = word; id = id; body = body.now })) }

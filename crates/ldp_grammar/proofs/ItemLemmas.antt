@@ -33,7 +33,7 @@ compared spelled IsItem free (t ∷ ts) (b ∷ bs) more rest fit_ts fit_before e
     let joined : spelled t ++ (flat_map spelled ts ++ more) ≡ spelled b ++ (flat_map spelled bs ++ rest) = sym (append_assoc (spelled t) (flat_map spelled ts) more) ∙ (e ∙ append_assoc (spelled b) (flat_map spelled bs) rest) in
     let (head, tail) = free t b (flat_map spelled ts ++ more) (flat_map spelled bs ++ rest) fit_ts.0 fit_before.0 joined in
     elim (compared spelled IsItem free ts bs more rest fit_ts.1 fit_before.1 tail) [
-      inl w ↦ inl (record { further = w.further; longer = (λ i. sym head i ∷ w.longer i); left = w.left })
+      | inl w ↦ inl (record { further = w.further; longer = (λ i. sym head i ∷ w.longer i); left = w.left })
       | inr w ↦ inr (record { item = w.item; further = w.further; longer = (λ i. head i ∷ w.longer i); left = w.left })
     ]
 
@@ -76,7 +76,7 @@ pub first_behind : {A : Type 0} (spelled : A → List ℕ) (IsItem : A → Type 
 first_behind {A = A} spelled IsItem Here free ts rest f items clean here = record {
   named = record { before = ts; rest = rest; split = refl; items = items; here = f; names = here.named; is = refl };
   first = λ g w. elim (compared spelled IsItem free ts w.before rest w.rest items w.items w.split) [
-    inl x ↦ after spelled IsItem Here ts rest f here.first here.inside x.further w.before w.rest w.here g w.items w.names w.is x.longer x.left
+    | inl x ↦ after spelled IsItem Here ts rest f here.first here.inside x.further w.before w.rest w.here g w.items w.names w.is x.longer x.left
     | inr x ↦ absurd (clean w.before x.item x.further (flat_map spelled x.further ++ rest) w.here x.longer (subst (λ (l : List ℕ). Here w.before l w.here) x.left w.names))
   ];
 }
@@ -91,7 +91,7 @@ pub none_named : {A : Type 0} (spelled : A → List ℕ) (IsItem : A → Type 0)
     → (g : Fault) → IsNamedIn spelled IsItem Here (flat_map spelled ts) g → ⊥
 none_named spelled IsItem Here free ts items clean none g w =
     elim (compared spelled IsItem free ts w.before [] w.rest items w.items (append-nil (flat_map spelled ts) ∙ w.split)) [
-      inl x ↦ none w.before w.here (subst (λ (l : List ℕ). Here w.before l w.here) ((no_front _ _ x.left).1) w.names)
+      | inl x ↦ none w.before w.here (subst (λ (l : List ℕ). Here w.before l w.here) ((no_front _ _ x.left).1) w.names)
       | inr x ↦ clean w.before x.item x.further (flat_map spelled x.further ++ []) w.here x.longer (subst (λ (l : List ℕ). Here w.before l w.here) x.left w.names)
     ]
 

@@ -141,8 +141,8 @@ fault_within before rest more s kind f is e known first near = record {
   named = inr (record { message = s; more = more; split = e; is_message = is; kind = kind; known = known; here = f; names = first.named; is = refl });
   first = λ g names. within_first rest more s kind f is e known first g names;
   inside = λ m left is_m split.
-    let same : s ≡ m = (messages_apart s m more left is is_m (sym e ∙ split)).0 in
-    omega (arith, near, ap (λ (x : Spelling). length x.body) same);
+      let same : s ≡ m = (messages_apart s m more left is is_m (sym e ∙ split)).0 in
+      omega (arith, near, ap (λ (x : Spelling). length x.body) same);
 }
 
 -- one more message that stands for something

@@ -36,7 +36,7 @@ uncut t rest place is (inr long) = omega (arith, long.1, size_of t rest, length_
 pub count-append : (kind : ℕ) (ts us : List Tlv) → count_of kind (ts ++ us) ≡ count_of kind ts + count_of kind us
 count-append kind [] us = omega arith
 count-append kind (t ∷ ts) us = elim (cases_Bool (nat_eq (type_in t.word) kind)) [
-  inl same ↦ rw same (omega (arith, count-append kind ts us))
+  | inl same ↦ rw same (omega (arith, count-append kind ts us))
   | inr other ↦ rw other (count-append kind ts us)
 ]
 
@@ -201,7 +201,7 @@ pub faultless_more : (row : Row) (ts : List Tlv) (t : Tlv) → IsFaultless row t
 faultless_more row ts t faultless fitting room = record {
   values = items_more (IsFitting row) ts t faultless.values fitting;
   counts = λ kind. elim (cases_Bool (nat_eq (type_in t.word) kind)) [
-    inl same ↦ (let is : type_in t.word ≡ kind = eqb-true _ _ same in subst (λ (k : ℕ). KeepsTo (listed row k) (count_of k (ts ++ t ∷ []))) is (keeps_more _ _ _ (omega (arith, count-append (type_in t.word) ts (t ∷ []), count_here t [])) room))
+    | inl same ↦ (let is : type_in t.word ≡ kind = eqb-true _ _ same in subst (λ (k : ℕ). KeepsTo (listed row k) (count_of k (ts ++ t ∷ []))) is (keeps_more _ _ _ (omega (arith, count-append (type_in t.word) ts (t ∷ []), count_here t [])) room))
     | inr other ↦ (let none : count_of kind (t ∷ []) ≡ 0 = rw other refl in subst (KeepsTo (listed row kind)) (omega (arith, count-append kind ts (t ∷ []), none)) (faultless.counts kind))
   ];
 }
@@ -236,20 +236,20 @@ joined_once body ts us one other = one_list spell_tlv IsTlv tlvs_apart (λ t. om
 pub value_fits : (row : Row) (ts : List Tlv) (kind : ℕ) (value : List ℕ) → AllByRecursion (IsFitting row) ts → value_of kind ts ≡ Some value → HasValue (listed row kind) value
 value_fits row [] kind value fitting e = absurd (cc)
 value_fits row (t ∷ ts) kind value fitting e = elim (cases_Bool (nat_eq (type_in t.word) kind)) [
-  inl same ↦ (let here : value_of kind (t ∷ ts) ≡ Some t.value = rw same refl in
-  let is : t.value ≡ value = cc (sym here ∙ e) in
-  subst (HasValue (listed row kind)) is (subst (λ (k : ℕ). HasValue (listed row k) t.value) (eqb-true _ _ same) fitting.0))
+  | inl same ↦ (let here : value_of kind (t ∷ ts) ≡ Some t.value = rw same refl in
+      let is : t.value ≡ value = cc (sym here ∙ e) in
+      subst (HasValue (listed row kind)) is (subst (λ (k : ℕ). HasValue (listed row k) t.value) (eqb-true _ _ same) fitting.0))
   | inr other ↦ (let there : value_of kind (t ∷ ts) ≡ value_of kind ts = rw other refl in
-  value_fits row ts kind value fitting.1 (sym there ∙ e))
+      value_fits row ts kind value fitting.1 (sym there ∙ e))
 ]
 
 pub none_of : (kind : ℕ) (ts : List Tlv) → value_of kind ts ≡ None → count_of kind ts ≡ 0
 none_of kind [] e = refl
 none_of kind (t ∷ ts) e = elim (cases_Bool (nat_eq (type_in t.word) kind)) [
-  inl same ↦ (let here : value_of kind (t ∷ ts) ≡ Some t.value = rw same refl in absurd (cc (sym here ∙ e)))
+  | inl same ↦ (let here : value_of kind (t ∷ ts) ≡ Some t.value = rw same refl in absurd (cc (sym here ∙ e)))
   | inr other ↦ (let there : value_of kind (t ∷ ts) ≡ value_of kind ts = rw other refl in
-  let count : count_of kind (t ∷ ts) ≡ count_of kind ts = rw other refl in
-  count ∙ none_of kind ts (sym there ∙ e))
+      let count : count_of kind (t ∷ ts) ≡ count_of kind ts = rw other refl in
+      count ∙ none_of kind ts (sym there ∙ e))
 ]
 
 -- each of the types has a field
@@ -269,11 +269,11 @@ rows_have_fields AddressWithdraw = ((λ e. cc), tt)
 pub needed_there : (kinds : List ℕ) (ts : List Tlv) (kind : ℕ) → HaveFields kinds → is_in kind kinds ≡ true → first_absent kinds ts ≡ None → count_of kind ts ≡ 0 → ⊥
 needed_there [] ts kind have is e none = absurd (cc)
 needed_there (k ∷ ks) ts kind have is e none = elim (cases_Bool (nat_eq (count_of k ts) 0)) [
-  inl absent ↦ (let here : first_absent (k ∷ ks) ts ≡ field_of k = rw absent refl in have.0 (sym here ∙ e))
+  | inl absent ↦ (let here : first_absent (k ∷ ks) ts ≡ field_of k = rw absent refl in have.0 (sym here ∙ e))
   | inr there ↦ elim (cases_Bool (nat_eq kind k)) [
-    inl same ↦ (let zero_of : nat_eq (count_of k ts) 0 ≡ true = eq-eqb _ _ (subst (λ (n : ℕ). count_of n ts ≡ 0) (eqb-true _ _ same) none) in absurd (cc (sym zero_of ∙ there)))
+    | inl same ↦ (let zero_of : nat_eq (count_of k ts) 0 ≡ true = eq-eqb _ _ (subst (λ (n : ℕ). count_of n ts ≡ 0) (eqb-true _ _ same) none) in absurd (cc (sym zero_of ∙ there)))
     | inr other ↦ (let rest : first_absent (k ∷ ks) ts ≡ first_absent ks ts = rw there refl in
-    let in_rest : is_in kind (k ∷ ks) ≡ is_in kind ks = rw other refl in
-    needed_there ks ts kind have.1 (sym in_rest ∙ is) (sym rest ∙ e) none)
+        let in_rest : is_in kind (k ∷ ks) ≡ is_in kind ks = rw other refl in
+        needed_there ks ts kind have.1 (sym in_rest ∙ is) (sym rest ∙ e) none)
   ]
 ]

@@ -10,6 +10,7 @@ use net_base::{Addr, Octets};
 
 // The octets of a message before its TLVs, and of a TLV before its value.
 const MESSAGE_HEADER: usize = 8;
+
 const TLV_HEADER: usize = 4;
 
 // Status data has 30 bits.

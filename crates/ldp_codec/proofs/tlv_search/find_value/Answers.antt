@@ -9,9 +9,9 @@ use Rattle.ldp_codec.proofs.tlv_search.find_value.Goals as goal
 pub returns-in_err-word : goal.returns-in_err-word
 returns-in_err-word c = record {
   value = λ ts joined.
-    let on = c.searching.invariant.on ts joined in
-    let here : IsJoined c.split_at.result.1.now on.further = subst (λ (l : List ℕ). IsJoined l on.further) (sym c.split_at.ensures.back) on.joined in
-    absurd (joined_some c.split_at.result.1.now on.further here (omega (arith, c.split_at.ensures.back_len, c.searching-test.true)) (λ t more is e. c.in_err-word.ensures.none t more is e refl));
+      let on = c.searching.invariant.on ts joined in
+      let here : IsJoined c.split_at.result.1.now on.further = subst (λ (l : List ℕ). IsJoined l on.further) (sym c.split_at.ensures.back) on.joined in
+      absurd (joined_some c.split_at.result.1.now on.further here (omega (arith, c.split_at.ensures.back_len, c.searching-test.true)) (λ t more is e. c.in_err-word.ensures.none t more is e refl));
 }
 
 pub searching-preserved : goal.searching-preserved
