@@ -5,3 +5,5 @@ pub mod TlvLemmas
 pub mod MessageLemmas
 pub mod PduLemmas
 pub mod MeaningLemmas
+pub mod WrittenLemmas
+pub mod RoundTripLemmas

@@ -20,10 +20,10 @@ use Rattle.ldp_grammar.proofs.MessageLemmas.{messages_faultless}
 version_of : (bytes sender body : List ℕ) (max : ℕ) → IsFramed bytes max sender body → two_at 0 bytes ≡ 1
 version_of bytes sender body max f = ap (two_at 0) f.split
 
-length_of : (bytes sender body : List ℕ) (max : ℕ) → max ≤ 4096 → IsFramed bytes max sender body → two_at 2 bytes ≡ 6 + length body
+pub length_of : (bytes sender body : List ℕ) (max : ℕ) → max ≤ 4096 → IsFramed bytes max sender body → two_at 2 bytes ≡ 6 + length body
 length_of bytes sender body max small f = ap (two_at 2) f.split ∙ omega (arith, f.most)
 
-count_of : (bytes sender body : List ℕ) (max : ℕ) → IsFramed bytes max sender body → length bytes ≡ 10 + length body
+pub count_of : (bytes sender body : List ℕ) (max : ℕ) → IsFramed bytes max sender body → length bytes ≡ 10 + length body
 count_of bytes sender body max f = ap length f.split ∙ omega (arith, length-append sender body, f.identifier)
 
 no_header_fault : (bytes sender body : List ℕ) (max : ℕ) → max ≤ 4096 → IsFramed bytes max sender body → (c : Cause) (place : ℕ) → HeaderFault bytes max c place → ⊥

@@ -12,7 +12,8 @@ use Rattle.ldp_grammar.specs.declared.message_kind.MessageKind.TheVariants as ki
 use Rattle.ldp_grammar.specs.Octets.{two, four}
 use Rattle.ldp_grammar.specs.Rows.{address_list, status, hello_parameters, transport_address, session_parameters, type_of}
 use Rattle.ldp_grammar.specs.Tlvs.{Tlv, spell_tlv}
-use Rattle.ldp_grammar.specs.Spells.{Spelling, spell}
+use Rattle.ldp_grammar.specs.declared.pdu.Pdu.{Pdu}
+use Rattle.ldp_grammar.specs.Spells.{Spelling, spell, Spells}
 
 -- a bit of the value 2 ^ place
 abbrev pub bit_as : ℕ → Bool → ℕ
@@ -119,3 +120,39 @@ abbrev pub address_octets : Message → ℕ
 address_octets (Address id family octets) = length octets
 address_octets (AddressWithdraw id addresses) = list_length addresses
 address_octets other = 0
+
+-- the numbers of a message fit the fields that they are written in, and its addresses have four octets
+abbrev pub IsAddress4 : Option Addr → Type 0
+IsAddress4 None = Unit {0}
+IsAddress4 (Some a) = length a.0 ≡ 4
+
+abbrev pub HasFamily : Option AddressList → Type 0
+HasFamily None = Unit {0}
+HasFamily (Some a) = a.family < 2 ^ 16
+
+pub record IsId (id : LdpId) : Type 0 where
+  pub router : length id.router.0 ≡ 4
+  pub space : id.space < 2 ^ 16
+
+pub record AreParams (p : SessionParams) : Type 0 where
+  pub version : p.version < 2 ^ 16
+  pub keepalive : p.keepalive < 2 ^ 16
+  pub limit : p.limit < 2 ^ 8
+  pub max_pdu : p.max_pdu < 2 ^ 16
+  pub receiver : IsId p.receiver
+
+abbrev pub Fits : Message → Type 0
+Fits (Notification id code) = (id < 2 ^ 32) × (code.message < 2 ^ 32) × (code.kind < 2 ^ 16)
+Fits (Hello id hold targeted request transport) = (id < 2 ^ 32) × (hold < 2 ^ 16) × IsAddress4 transport
+Fits (Initialization id params) = (id < 2 ^ 32) × AreParams params
+Fits (KeepAlive id) = id < 2 ^ 32
+Fits (Address id family octets) = (id < 2 ^ 32) × (family < 2 ^ 16)
+Fits (AddressWithdraw id addresses) = (id < 2 ^ 32) × HasFamily addresses
+Fits (Other id u number) = id < 2 ^ 32
+Fits (Unprocessed id number why) = id < 2 ^ 32
+
+-- What is written spells the PDU with that message alone, for each maximum that it keeps to; and no spelling of a PDU
+-- is the front of another.
+pub record WrittenIsRead : Type 0 where
+  pub read : (max : ℕ) (m : Message) (id : LdpId) → max ≤ 4096 → writable m ≡ true → Fits m → IsId id → 6 + length (message_octets m) ≤ max → Spells (written m id) max (record { id = id; messages = m ∷ [] })
+  pub no_front : (max : ℕ) (p q : Pdu) (bytes more : List ℕ) → max ≤ 4096 → Spells bytes max p → Spells (bytes ++ more) max q → more ≡ []

@@ -1,8 +1,15 @@
 //! What holds of the octets of every PDU.
 ghost use Rattle.ldp_grammar.specs.FirstFault.{OneReading};
+ghost use Rattle.ldp_grammar.specs.Written.{WrittenIsRead};
 
 /// Octets spell one PDU at most, have one first fault at most, and never both. The maximum is one of a session, at
 /// most 4096.
 pub fn one_reading()
     ensures { OneReading }
+{}
+
+/// A message that can be written, and whose fields fit, is what its written octets spell, for each maximum that they
+/// keep to; and the octets of no PDU are the front of another's.
+pub fn written_is_read()
+    ensures { WrittenIsRead }
 {}

@@ -21,7 +21,7 @@ mod writable;
 
 pub use address_list::AddressList;
 pub use fault::{Cause, Fault};
-pub use laws::one_reading;
+pub use laws::{one_reading, written_is_read};
 pub use layout::{field_of_type, is_fitting, most_of};
 pub use ldp_id::LdpId;
 pub use message::Message;
