@@ -1,10 +1,10 @@
 -- The values that a message needs and may have.
-use Rattle.std.proofs.Common.{◌≡◌, ℕ, true, List, Option, Some, None, refl, sym, ap, ◌∙◌, Bor}
+use Rattle.std.proofs.Common.{◌≡◌, ℕ, true, List, Option, Some, None, refl, sym, Bor}
 use Rattle.std.specs.Prelude.{option_copied, IfSome, IsSome}
 use Rattle.ldp_grammar.specs.declared.message_kind.MessageKind.{MessageKind}
-use Rattle.ldp_grammar.specs.Rows.{Row, row_of, is_in}
+use Rattle.ldp_grammar.specs.Rows.{row_of, is_in}
 use Rattle.ldp_grammar.specs.Layouts.{listed}
-use Rattle.ldp_grammar.specs.Tlvs.{Tlv, IsJoined, HasValue, value_of, count_of}
+use Rattle.ldp_grammar.specs.Tlvs.{Tlv, IsJoined, HasValue, value_of}
 use Rattle.ldp_grammar.proofs.TlvLemmas.{value_fits, none_of, needed_there, rows_have_fields}
 use Rattle.ldp_codec.specs.Walk.{IsComplete}
 

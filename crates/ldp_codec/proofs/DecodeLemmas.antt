@@ -1,5 +1,5 @@
 -- What a decoder answers.
-use Rattle.std.proofs.Common.{◌≡◌, ◌≤◌, ◌<◌, ◌+◌, ◌++◌, ◌⊎◌, inl, inr, ℕ, List, length, flat_map, drop, refl, sym, ap, subst, ◌∙◌}
+use Rattle.std.proofs.Common.{◌≡◌, ◌≤◌, ◌<◌, ◌++◌, ◌⊎◌, inl, inr, ℕ, List, length, refl, ap, subst, ◌∙◌}
 use Rattle.std.specs.Prelude.{Result, Ok, Err, IfOk, IfErr}
 use Rattle.ldp_grammar.specs.declared.fault.Fault.{Fault}
 use Rattle.ldp_grammar.specs.declared.fault.Cause.{Cause}
@@ -8,7 +8,7 @@ use Rattle.ldp_grammar.specs.declared.ldp_id.LdpId.{LdpId}
 use Rattle.ldp_grammar.specs.declared.message.Message.{Message}
 use Rattle.ldp_grammar.specs.declared.pdu.Pdu.{Pdu}
 use Rattle.ldp_grammar.specs.Octets.{two}
-use Rattle.ldp_grammar.specs.Spells.{IsFramed, Spells, spell}
+use Rattle.ldp_grammar.specs.Spells.{IsFramed, Spells}
 use Rattle.ldp_grammar.specs.FirstFault.{FirstFault, Names, IsFirst, NamesMessages, moved}
 use Rattle.ldp_grammar.proofs.PduLemmas.{never_both, one_first, first_inside}
 use Rattle.ldp_grammar.proofs.MeaningLemmas.{one_pdu}

@@ -1,8 +1,7 @@
 -- The TLVs of one type among others.
-use Rattle.std.proofs.Common.{◌≡◌, ◌≤◌, ◌<◌, ◌+◌, ◌%◌, ◌++◌, ℕ, List, [], ◌∷◌, Some, None, Option, length, flat_map, take, drop, refl, sym, ap, subst, ◌∙◌, nat_eq, false, eq-eqb, arith}
+use Rattle.std.proofs.Common.{◌≡◌, ◌≤◌, ◌<◌, ◌+◌, ◌%◌, ◌++◌, ℕ, List, [], ◌∷◌, Some, None, length, flat_map, drop, refl, sym, ap, subst, ◌∙◌, nat_eq, false, eq-eqb, arith}
 use Rattle.std.proofs.Math.ListN.{drop_of_length-le}
-use Rattle.std.proofs.lemmas.Bool.{ne_eqb}
-use Rattle.ldp_grammar.specs.Tlvs.{Tlv, IsTlv, IsJoined, spell_tlv, count_of, value_of, type_in}
+use Rattle.ldp_grammar.specs.Tlvs.{Tlv, IsTlv, IsJoined, spell_tlv, count_of, value_of}
 use Rattle.ldp_grammar.proofs.TlvLemmas.{joined_front, joined_none, size_of}
 use Rattle.ldp_codec.specs.Walk.{IsSplit, CountsOn, SeeksOn}
 use Rattle.ldp_codec.proofs.PlaceLemmas.{placed}

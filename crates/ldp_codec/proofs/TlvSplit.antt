@@ -1,5 +1,5 @@
 -- The TLV at the front of octets.
-use Rattle.std.proofs.Common.{◌≡◌, ◌≤◌, ◌<◌, ◌+◌, ◌-◌, ◌++◌, ℕ, suc, List, [], ◌∷◌, length, take, drop, refl, sym, ap, subst, ◌∙◌, append_assoc, length-take, length-drop, length-append, arith, inl, inr}
+use Rattle.std.proofs.Common.{◌≡◌, ◌≤◌, ◌<◌, ◌-◌, ◌++◌, ℕ, suc, List, [], ◌∷◌, length, take, drop, refl, sym, ap, ◌∙◌, length-take, length-drop, arith, inr}
 use Rattle.std.proofs.lemmas.List.{take-append-drop}
 use Rattle.ldp_grammar.specs.Octets.{two, two_at}
 use Rattle.ldp_grammar.specs.Tlvs.{Tlv, IsTlv, spell_tlv}

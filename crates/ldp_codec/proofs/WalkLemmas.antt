@@ -1,16 +1,15 @@
 -- The walk over the TLVs of a message.
-use Rattle.std.proofs.Common.{◌≡◌, ◌≤◌, ◌<◌, ◌+◌, ◌%◌, ◌++◌, ℕ, List, [], ◌∷◌, Option, Some, None, false, length, flat_map, take, drop, refl, sym, ap, subst, ◌∙◌, append-nil, length-take, arith}
+use Rattle.std.proofs.Common.{◌≡◌, ◌≤◌, ◌+◌, ◌++◌, ℕ, List, [], ◌∷◌, Option, Some, None, false, length, take, drop, refl, sym, ap, subst, ◌∙◌, append-nil, length-take, arith}
 use Rattle.std.proofs.lemmas.List.{take-append-drop}
 use Rattle.std.proofs.Math.ListN.{drop_of_length-le}
 use Rattle.std.specs.Option.{option_or}
-use Rattle.std.specs.List.{AllByRecursion}
 use Rattle.net_base.specs.declared.field.Field.{Field}
 use Rattle.ldp_grammar.specs.declared.fault.Fault.{Fault}
 use Rattle.ldp_grammar.specs.declared.fault.Cause.TheVariants as cause
 use Rattle.ldp_grammar.specs.Octets.{two_at}
 use Rattle.ldp_grammar.specs.Rows.{Row}
-use Rattle.ldp_grammar.specs.Layouts.{fits, most, listed}
-use Rattle.ldp_grammar.specs.Tlvs.{Tlv, IsTlv, IsJoined, IsFaultless, HasRoom, HasValue, KeepsTo, spell_tlv, type_in, count_of, unknown_in, first_unknown}
+use Rattle.ldp_grammar.specs.Layouts.{fits, listed}
+use Rattle.ldp_grammar.specs.Tlvs.{Tlv, IsJoined, HasRoom, HasValue, KeepsTo, spell_tlv, type_in, count_of, unknown_in, first_unknown}
 use Rattle.ldp_grammar.specs.FirstFault.{IsFirst, IsFirstTlvFault, NamesTlvs, moved}
 use Rattle.ldp_grammar.proofs.TlvLemmas.{word_of, misfit_tlv, faultless_more, joined_more, first_of_tlvs}
 use Rattle.ldp_codec.specs.Walk.{IsSplit, IsTaken, IsWalked, unknown_after}

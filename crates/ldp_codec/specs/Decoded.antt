@@ -1,5 +1,5 @@
 -- What a decoder answers.
-use Rattle.std.specs.Prelude.{◌≡◌, ◌⊎◌, ℕ, Result, Ok, Err}
+use Rattle.std.specs.Prelude.{◌≡◌, ◌⊎◌, ℕ, Result, Err}
 use Rattle.ldp_grammar.specs.declared.fault.Fault.{Fault}
 use Rattle.ldp_grammar.specs.declared.fault.Cause.{Cause}
 use Rattle.ldp_grammar.specs.declared.fault.Cause.TheVariants as cause

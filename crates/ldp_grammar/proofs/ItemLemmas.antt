@@ -1,10 +1,9 @@
 -- Items that stand one after another, and the first fault behind some of them.
-use Rattle.std.proofs.Common.{◌≡◌, ◌≤◌, ◌<◌, ◌+◌, ◌++◌, ◌⊎◌, inl, inr, ℕ, List, [], ◌∷◌, length, flat_map, refl, sym, ap, subst, ◌∙◌, append_assoc, append-nil, length-append, arith}
+use Rattle.std.proofs.Common.{◌≡◌, ◌<◌, ◌+◌, ◌++◌, ◌⊎◌, inl, inr, ℕ, List, [], ◌∷◌, length, flat_map, refl, sym, ap, subst, ◌∙◌, append_assoc, append-nil, length-append, arith}
 use Rattle.std.proofs.lemmas.Grind.{flat_map-append}
 use Rattle.std.specs.List.{AllByRecursion}
 use Rattle.ldp_grammar.specs.declared.fault.Fault.{Fault}
-use Rattle.ldp_grammar.specs.declared.fault.Cause.{Cause}
-use Rattle.ldp_grammar.specs.FirstFault.{IsNamedIn, IsFirst, IsFirstHere, Precedes, moved, rank}
+use Rattle.ldp_grammar.specs.FirstFault.{IsNamedIn, IsFirst, IsFirstHere, Precedes, moved}
 
 -- no item's octets begin with another item's octets
 abbrev pub ArePrefixFree : {A : Type 0} → (A → List ℕ) → (A → Type 0) → Type 0

@@ -1,5 +1,5 @@
 -- Octets stand for one message at most.
-use Rattle.std.proofs.Common.{◌≡◌, ◌≤◌, ◌<◌, ◌+◌, ◌%◌, ◌^◌, ◌++◌, ℕ, Bool, List, [], ◌∷◌, Option, Some, None, length, flat_map, refl, sym, ap, subst, ◌∙◌, arith}
+use Rattle.std.proofs.Common.{◌≡◌, ◌<◌, ◌%◌, ◌^◌, ◌++◌, ℕ, Bool, List, [], ◌∷◌, Option, Some, None, flat_map, refl, sym, ap, subst, ◌∙◌, arith}
 use Rattle.net_base.specs.declared.addr.Addr.{Addr}
 use Rattle.ldp_grammar.specs.declared.address_list.AddressList.{AddressList}
 use Rattle.ldp_grammar.specs.declared.message.Message.{Message}
@@ -14,7 +14,7 @@ use Rattle.ldp_grammar.specs.Octets.{two}
 use Rattle.ldp_grammar.specs.Rows.{row_of, kind_of, address_list, status, hello_parameters, transport_address, session_parameters}
 use Rattle.ldp_grammar.specs.Tlvs.{Tlv, value_of, reason}
 use Rattle.ldp_grammar.specs.Values.{IsStatus, IsHello, IsSession, IsAddresses, IsAddressList, IsAddress}
-use Rattle.ldp_grammar.specs.Spells.{Spelling, spell, IsSpelling, OfValue, OfBoth, Means, Tells, IsRead, StandsAs, StandsFor, StandInOrder, Spells}
+use Rattle.ldp_grammar.specs.Spells.{Spelling, spell, IsSpelling, OfValue, OfBoth, Means, Tells, StandsAs, StandInOrder, Spells}
 use Rattle.ldp_grammar.proofs.ItemLemmas.{one_list}
 use Rattle.ldp_grammar.proofs.OctetLemmas.{same_two}
 use Rattle.ldp_grammar.proofs.SpellingLemmas.{same_front, messages_apart}

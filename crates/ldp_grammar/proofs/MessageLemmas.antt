@@ -1,5 +1,5 @@
 -- Messages of a PDU: what they stand for, and the fault where the walk over them ends.
-use Rattle.std.proofs.Common.{◌≡◌, ◌≤◌, ◌<◌, ◌+◌, ◌*◌, ◌/◌, ◌%◌, ◌^◌, ◌++◌, ◌⊎◌, inl, inr, ℕ, Bool, true, false, List, [], ◌∷◌, Option, Some, None, length, get_or, take, drop, flat_map, refl, sym, ap, subst, ◌∙◌, append_assoc, append-nil, length-append, arith}
+use Rattle.std.proofs.Common.{◌≡◌, ◌<◌, ◌+◌, ◌%◌, ◌^◌, ◌++◌, ◌⊎◌, inl, inr, ℕ, List, [], ◌∷◌, Option, Some, None, length, flat_map, refl, sym, ap, subst, ◌∙◌, append-nil, length-append, arith}
 use Rattle.std.proofs.lemmas.Grind.{flat_map-append}
 use Rattle.std.specs.List.{AllByRecursion}
 use Rattle.ldp_grammar.specs.declared.fault.Fault.{Fault}
@@ -7,11 +7,11 @@ use Rattle.ldp_grammar.specs.declared.fault.Cause.{Cause}
 use Rattle.ldp_grammar.specs.declared.fault.Cause.TheVariants as cause
 use Rattle.ldp_grammar.specs.declared.message.Message.{Message}
 use Rattle.ldp_grammar.specs.declared.message_kind.MessageKind.{MessageKind}
-use Rattle.ldp_grammar.specs.Octets.{two, two_at}
+use Rattle.ldp_grammar.specs.Octets.{two_at}
 use Rattle.ldp_grammar.specs.Rows.{kind_of, row_of}
-use Rattle.ldp_grammar.specs.Spells.{Spelling, spell, IsSpelling, IsRead, StandsAs, StandsFor, StandInOrder}
+use Rattle.ldp_grammar.specs.Spells.{Spelling, spell, IsSpelling, StandsAs, StandsFor, StandInOrder}
 use Rattle.ldp_grammar.specs.FirstFault.{LengthFault, CutsMessage, IsWithin, IsMessageFault, IsFirstMessageFault, Precedes, NamesTlvs, NamesMessages, IsFirst, moved}
-use Rattle.ldp_grammar.proofs.ItemLemmas.{AreClean, first_behind, none_named, items_more, item_at, one_list, moved_after}
+use Rattle.ldp_grammar.proofs.ItemLemmas.{AreClean, first_behind, none_named, item_at, moved_after}
 use Rattle.ldp_grammar.proofs.SpellingLemmas.{messages_apart}
 use Rattle.ldp_grammar.proofs.TlvLemmas.{tlvs_faultless}
 

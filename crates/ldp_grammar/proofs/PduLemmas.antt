@@ -1,16 +1,14 @@
 -- PDUs: at most one is spelled, one fault at most is first, and never both.
-use Rattle.std.proofs.Common.{◌≡◌, ◌≤◌, ◌<◌, ◌+◌, ◌-◌, ◌*◌, ◌/◌, ◌%◌, ◌^◌, ◌++◌, ◌⊎◌, inl, inr, ℕ, Bool, true, false, List, [], ◌∷◌, Option, Some, None, length, get_or, nat_lt, take, drop, flat_map, refl, sym, ap, subst, ◌∙◌, append_assoc, append-nil, length-append, arith}
+use Rattle.std.proofs.Common.{◌≡◌, ◌≤◌, ◌+◌, ◌-◌, ◌++◌, ◌⊎◌, inl, inr, ℕ, List, [], ◌∷◌, length, get_or, nat_lt, flat_map, refl, sym, ap, subst, ◌∙◌, length-append, arith}
 use Rattle.std.specs.Prelude.{if◌then◌else◌}
-use Rattle.std.specs.List.{AllByRecursion}
 use Rattle.net_base.specs.declared.field.Field.{Field}
 use Rattle.net_base.specs.declared.field.Field.TheVariants as field
-use Rattle.net_base.specs.declared.addr.Addr.{Addr}
 use Rattle.ldp_grammar.specs.declared.fault.Fault.{Fault}
 use Rattle.ldp_grammar.specs.declared.fault.Cause.{Cause}
 use Rattle.ldp_grammar.specs.declared.fault.Cause.TheVariants as cause
 use Rattle.ldp_grammar.specs.declared.pdu.Pdu.{Pdu}
 use Rattle.ldp_grammar.specs.Octets.{two, two_at}
-use Rattle.ldp_grammar.specs.Spells.{Spelling, spell, IsSpelling, IsFramed, Spells, StandInOrder}
+use Rattle.ldp_grammar.specs.Spells.{spell, IsFramed, Spells}
 use Rattle.ldp_grammar.specs.FirstFault.{IsFirst, FirstFault, Names, HeaderFault, IsInside, Precedes, NamesMessages, moved, rank, field_rank}
 use Rattle.ldp_grammar.proofs.ItemLemmas.{moved_after}
 use Rattle.ldp_grammar.proofs.SpellingLemmas.{same_front}

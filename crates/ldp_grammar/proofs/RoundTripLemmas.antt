@@ -1,5 +1,5 @@
 -- What is written spells its message, and no spelling is the front of another.
-use Rattle.std.proofs.Common.{◌≡◌, ◌≤◌, ◌<◌, ◌+◌, ◌%◌, ◌^◌, ◌++◌, ℕ, Bool, true, false, List, [], ◌∷◌, Option, Some, None, length, flat_map, nat_lt, refl, sym, ap, subst, ◌∙◌, append-nil, length-append, arith}
+use Rattle.std.proofs.Common.{◌≡◌, ◌≤◌, ◌<◌, ◌+◌, ◌++◌, ℕ, Bool, true, List, [], ◌∷◌, Option, Some, None, length, flat_map, nat_lt, refl, sym, ap, ◌∙◌, append-nil, length-append, arith}
 use Rattle.std.proofs.lemmas.Bool.Decides.{nat_tests}
 use Rattle.net_base.specs.declared.addr.Addr.{Addr}
 use Rattle.ldp_grammar.specs.declared.address_list.AddressList.{AddressList}
@@ -13,8 +13,8 @@ use Rattle.ldp_grammar.specs.declared.status_code.StatusCode.{StatusCode}
 use Rattle.ldp_grammar.specs.Octets.{two, two_at}
 use Rattle.ldp_grammar.specs.Rows.{row_of, address_list, status, hello_parameters, transport_address, session_parameters}
 use Rattle.ldp_grammar.specs.Layouts.{listed}
-use Rattle.ldp_grammar.specs.Tlvs.{Tlv, spell_tlv}
-use Rattle.ldp_grammar.specs.Spells.{spell, IsSpelling, IsRead, StandsFor, Spells}
+use Rattle.ldp_grammar.specs.Tlvs.{spell_tlv}
+use Rattle.ldp_grammar.specs.Spells.{IsSpelling, IsRead, StandsFor, Spells}
 use Rattle.ldp_grammar.specs.Written.{message_octets, written_spelling, written, writable, Fits, IsId, AreParams, IsAddress4, are_whole, tlv, status_octets, hello_octets, session_octets, addresses_octets, id_octets, transport_tlvs, withdrawn_tlvs, WrittenIsRead}
 use Rattle.ldp_grammar.proofs.WrittenLemmas.{status_back, hello_back, session_back, addresses_fit, keeps_none, keeps_alone, keeps_two}
 use Rattle.ldp_grammar.proofs.OctetLemmas.{read_two}

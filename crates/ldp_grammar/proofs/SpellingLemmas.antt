@@ -1,8 +1,7 @@
 -- Octets of TLVs and of messages.
-use Rattle.std.proofs.Common.{◌≡◌, ◌≤◌, ◌<◌, ◌+◌, ◌*◌, ◌/◌, ◌%◌, ◌^◌, ◌++◌, ℕ, List, [], ◌∷◌, length, get_or, drop, refl, sym, ap, ◌∙◌, arith}
-use Rattle.ldp_grammar.specs.Octets.{two, four}
-use Rattle.ldp_grammar.specs.Tlvs.{Tlv, spell_tlv, IsTlv}
-use Rattle.ldp_grammar.specs.Spells.{Spelling, spell, IsSpelling}
+use Rattle.std.proofs.Common.{◌≡◌, ◌+◌, ◌++◌, ℕ, List, [], ◌∷◌, length, refl, arith}
+use Rattle.ldp_grammar.specs.Tlvs.{spell_tlv, IsTlv}
+use Rattle.ldp_grammar.specs.Spells.{spell, IsSpelling}
 use Rattle.ldp_grammar.proofs.OctetLemmas.{same_two, same_four}
 use Rattle.ldp_grammar.proofs.ItemLemmas.{ArePrefixFree}
 

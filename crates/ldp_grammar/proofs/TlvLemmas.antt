@@ -1,5 +1,5 @@
 -- TLVs of a message: what is walked, and the fault where the walk ends.
-use Rattle.std.proofs.Common.{◌≡◌, ◌≤◌, ◌<◌, ◌+◌, ◌*◌, ◌/◌, ◌%◌, ◌^◌, ◌++◌, ◌⊎◌, inl, inr, ℕ, Bool, true, false, List, [], ◌∷◌, Option, Some, None, length, get_or, take, drop, flat_map, nat_eq, eq-eqb, eqb-true, refl, sym, ap, subst, ◌∙◌, append_assoc, append-nil, length-append, arith}
+use Rattle.std.proofs.Common.{◌≡◌, ◌≤◌, ◌<◌, ◌+◌, ◌++◌, inl, inr, ℕ, true, false, List, [], ◌∷◌, Option, Some, None, length, flat_map, nat_eq, eq-eqb, eqb-true, refl, sym, ap, subst, ◌∙◌, append-nil, length-append, arith}
 use Rattle.std.proofs.lemmas.Bool.{cases_Bool}
 use Rattle.std.proofs.lemmas.Grind.{flat_map-append}
 use Rattle.std.specs.List.{AllByRecursion}
@@ -7,14 +7,13 @@ use Rattle.net_base.specs.declared.field.Field.{Field}
 use Rattle.ldp_grammar.specs.declared.fault.Fault.{Fault}
 use Rattle.ldp_grammar.specs.declared.fault.Cause.{Cause}
 use Rattle.ldp_grammar.specs.declared.fault.Cause.TheVariants as cause
-use Rattle.ldp_grammar.specs.Octets.{two, two_at}
+use Rattle.ldp_grammar.specs.Octets.{two_at}
 use Rattle.ldp_grammar.specs.declared.message_kind.MessageKind.{MessageKind}
 use Rattle.ldp_grammar.specs.declared.message_kind.MessageKind.TheVariants.{Notification, Hello, Initialization, KeepAlive, Address, AddressWithdraw}
 use Rattle.ldp_grammar.specs.Rows.{Row, row_of, is_in}
 use Rattle.ldp_grammar.specs.Layouts.{field_of, fits, most, listed}
 use Rattle.ldp_grammar.specs.Tlvs.{Tlv, type_in, spell_tlv, IsTlv, IsJoined, count_of, value_of, HasValue, IsFitting, KeepsTo, HasRoom, IsFaultless, first_absent}
-use Rattle.ldp_grammar.specs.FirstFault.{TlvFault, IsTlvFault, CutsTlv, IsRepeated, IsMisfit, Precedes, NamesTlvs, IsFirst, IsFirstTlvFault, moved, rank}
-use Rattle.ldp_grammar.proofs.OctetLemmas.{AreOctets, two_read}
+use Rattle.ldp_grammar.specs.FirstFault.{TlvFault, IsTlvFault, CutsTlv, IsRepeated, Precedes, NamesTlvs, IsFirst, IsFirstTlvFault, moved, rank}
 use Rattle.ldp_grammar.proofs.ItemLemmas.{AreClean, first_behind, none_named, items_more, item_at, one_list}
 use Rattle.ldp_grammar.proofs.SpellingLemmas.{tlvs_apart}
 

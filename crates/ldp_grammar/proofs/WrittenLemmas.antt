@@ -1,19 +1,16 @@
 -- What is written is read.
-use Rattle.std.proofs.Common.{◌≡◌, inl, inr, ◌≤◌, ◌<◌, ◌+◌, ◌-◌, ◌*◌, ◌/◌, ◌%◌, ◌^◌, ◌++◌, ◌&&◌, not, ℕ, Bool, true, false, List, [], ◌∷◌, Option, Some, None, length, get_or, take, drop, flat_map, nat_eq, nat_le, nat_lt, eq-eqb, eqb-true, refl, sym, ap, subst, ◌∙◌, append_assoc, append-nil, length-append, arith}
+use Rattle.std.proofs.Common.{◌≡◌, inl, inr, ◌≤◌, ◌<◌, ◌+◌, ◌-◌, ◌%◌, ◌++◌, ℕ, Bool, true, false, List, [], ◌∷◌, Option, Some, None, length, take, nat_eq, nat_le, eq-eqb, eqb-true, refl, sym, ap, ◌∙◌, arith}
 use Rattle.std.proofs.lemmas.Bool.{cases_Bool, ne_eqb}
 use Rattle.std.proofs.lemmas.Bool.Decides.{nat_tests}
-use Rattle.std.proofs.Math.Seq.{take-append_seam}
-use Rattle.net_base.specs.declared.addr.Addr.{Addr}
 use Rattle.net_base.specs.declared.field.Field.{Field}
 use Rattle.net_base.specs.declared.field.Field.TheVariants as field
-use Rattle.ldp_grammar.specs.declared.ldp_id.LdpId.{LdpId}
 use Rattle.ldp_grammar.specs.declared.session_params.SessionParams.{SessionParams}
 use Rattle.ldp_grammar.specs.declared.status_code.StatusCode.{StatusCode}
 use Rattle.ldp_grammar.specs.Octets.{two, four, two_at, four_at, bit}
 use Rattle.ldp_grammar.specs.Layouts.{fits, most}
 use Rattle.ldp_grammar.specs.Tlvs.{Tlv, type_in, count_of, KeepsTo}
 use Rattle.ldp_grammar.specs.Values.{IsStatus, IsHello, IsSession}
-use Rattle.ldp_grammar.specs.Written.{bit_as, status_octets, hello_octets, session_octets, id_octets, addresses_octets, are_whole, IsId, AreParams}
+use Rattle.ldp_grammar.specs.Written.{bit_as, status_octets, hello_octets, session_octets, id_octets, addresses_octets, are_whole, AreParams}
 use Rattle.ldp_grammar.proofs.OctetLemmas.{read_two, read_four}
 
 -- the two high bits of a word, and what is below them
@@ -132,7 +129,7 @@ keeps_one (Some f) count few = omega (arith, least_most f)
 
 count_one : (kind : ℕ) (t : Tlv) → count_of kind (t ∷ []) ≤ 1
 count_one kind t = elim (cases_Bool (nat_eq (type_in t.word) kind)) [
-  inl same ↦ rw same (omega arith)
+  | inl same ↦ rw same (omega arith)
   | inr other ↦ rw other (omega arith)
 ]
 
@@ -144,8 +141,8 @@ keeps_alone o kind t = keeps_one o _ (count_one kind t)
 
 count_two : (kind : ℕ) (t u : Tlv) → (type_in t.word ≡ type_in u.word → ⊥) → count_of kind (t ∷ u ∷ []) ≤ 1
 count_two kind t u differ = elim (cases_Bool (nat_eq (type_in t.word) kind)) [
-  inl same ↦ elim (cases_Bool (nat_eq (type_in u.word) kind)) [
-    inl too ↦ absurd (differ (eqb-true _ _ same ∙ sym (eqb-true _ _ too)))
+  | inl same ↦ elim (cases_Bool (nat_eq (type_in u.word) kind)) [
+    | inl too ↦ absurd (differ (eqb-true _ _ same ∙ sym (eqb-true _ _ too)))
     | inr other ↦ rw (same, other) (omega arith)
   ]
   | inr other ↦ rw other (count_one kind u)

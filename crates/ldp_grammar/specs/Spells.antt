@@ -1,5 +1,5 @@
 -- Which octets spell a PDU (RFC 5036 sections 3.1 and 3.3 to 3.5).
-use Rattle.std.specs.Prelude.{◌≡◌, ◌<◌, ◌≤◌, ◌+◌, ◌^◌, ◌%◌, ◌++◌, ℕ, Bool, List, [], ◌∷◌, length, flat_map, Option, Some, None}
+use Rattle.std.specs.Prelude.{◌≡◌, ◌<◌, ◌≤◌, ◌+◌, ◌^◌, ◌%◌, ◌++◌, ℕ, List, [], ◌∷◌, length, flat_map, Option, Some, None}
 use Rattle.std.specs.List.{AllByRecursion}
 use Rattle.ldp_grammar.specs.declared.message.Message.{Message}
 use Rattle.ldp_grammar.specs.declared.message.Message.TheVariants as message

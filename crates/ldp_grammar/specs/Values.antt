@@ -1,5 +1,5 @@
 -- What the values of TLVs stand for (RFC 5036 sections 3.4 and 3.5). Each bit or octet that is not named is ignored.
-use Rattle.std.specs.Prelude.{◌≡◌, ◌%◌, ◌^◌, ℕ, Bool, List, [], ◌∷◌, drop, take, slice_index}
+use Rattle.std.specs.Prelude.{◌≡◌, ◌%◌, ◌^◌, ℕ, Bool, List, drop, take, slice_index}
 use Rattle.net_base.specs.declared.addr.Addr.{Addr}
 use Rattle.ldp_grammar.specs.declared.status_code.StatusCode.{StatusCode}
 use Rattle.ldp_grammar.specs.declared.session_params.SessionParams.{SessionParams}

@@ -1,6 +1,6 @@
 -- The one spelling that an edge writes: U = 0 and F = 0, and the TLVs in the order of the message's row (RFC 5036
 -- sections 3.1 to 3.5). Bits that are ignored are written 0.
-use Rattle.std.specs.Prelude.{◌≡◌, ◌≤◌, ◌<◌, ◌+◌, ◌-◌, ◌*◌, ◌^◌, ◌%◌, ◌==◌, ◌&&◌, ◌++◌, not, nat_lt, ℕ, Bool, true, false, List, [], ◌∷◌, length, flat_map, get_or, Option, Some, None, if◌then◌else◌}
+use Rattle.std.specs.Prelude.{◌≡◌, ◌≤◌, ◌<◌, ◌+◌, ◌^◌, ◌%◌, ◌==◌, ◌&&◌, ◌++◌, not, nat_lt, ℕ, Bool, true, false, List, [], ◌∷◌, length, flat_map, Option, Some, None, if◌then◌else◌}
 use Rattle.net_base.specs.declared.addr.Addr.{Addr}
 use Rattle.ldp_grammar.specs.declared.address_list.AddressList.{AddressList}
 use Rattle.ldp_grammar.specs.declared.ldp_id.LdpId.{LdpId}

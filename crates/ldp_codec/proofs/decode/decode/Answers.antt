@@ -1,5 +1,5 @@
 -- A stop among the messages refuses the PDU.
-use Rattle.std.proofs.Common.{◌≡◌, ◌++◌, List, ℕ, drop, subst, sym, ap, ◌∙◌}
+use Rattle.std.proofs.Common.{◌++◌, List, ℕ, drop, subst, sym, ap, ◌∙◌}
 use Rattle.ldp_grammar.specs.Octets.{two}
 use Rattle.ldp_grammar.specs.FirstFault.{FirstFault, IsFirst, NamesMessages}
 use Rattle.ldp_codec.specs.Decoded.{Tells, refusal_for}

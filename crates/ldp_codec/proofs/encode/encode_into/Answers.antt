@@ -1,6 +1,6 @@
 -- The header, and the message behind it.
 use Rattle.std.proofs.Common.{◌≡◌, ◌+◌, ◌++◌, List, ℕ, length, subst, sym, ap, ◌∙◌, arith, length-append}
-use Rattle.ldp_grammar.specs.Written.{header_octets, message_octets, id_octets}
+use Rattle.ldp_grammar.specs.Written.{header_octets, message_octets}
 use Rattle.ldp_codec.specs.Put.{IsPut}
 use Rattle.ldp_codec.proofs.PutLemmas.{put_both, put_front}
 use Rattle.ldp_codec.proofs.encode.encode_into.Goals as goal

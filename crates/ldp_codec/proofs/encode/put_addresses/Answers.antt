@@ -1,5 +1,5 @@
 -- The header, the family behind it, and the addresses behind that.
-use Rattle.std.proofs.Common.{◌≡◌, ◌+◌, ◌++◌, List, ℕ, length, subst, ap, ◌∙◌, sym, arith}
+use Rattle.std.proofs.Common.{◌≡◌, ◌+◌, ◌++◌, List, ℕ, length, subst, ap, ◌∙◌, arith}
 use Rattle.ldp_grammar.specs.Octets.{two}
 use Rattle.ldp_codec.specs.Put.{IsPut}
 use Rattle.ldp_codec.proofs.PutLemmas.{put_both}

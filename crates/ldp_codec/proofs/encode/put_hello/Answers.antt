@@ -1,5 +1,5 @@
 -- The parameters, and the transport address behind them.
-use Rattle.std.proofs.Common.{◌≡◌, ◌+◌, List, ℕ, length, flat_map, arith}
+use Rattle.std.proofs.Common.{flat_map, arith}
 use Rattle.ldp_grammar.specs.Rows.{hello_parameters}
 use Rattle.ldp_grammar.specs.Tlvs.{spell_tlv}
 use Rattle.ldp_grammar.specs.Written.{tlv, transport_tlvs}

@@ -1,5 +1,5 @@
 -- A status stands alone.
-use Rattle.std.proofs.Common.{◌≡◌, List, ℕ, flat_map, subst, sym}
+use Rattle.std.proofs.Common.{List, ℕ, flat_map, subst, sym}
 use Rattle.ldp_grammar.specs.declared.message.Message.{Message}
 use Rattle.ldp_grammar.specs.Rows.{status}
 use Rattle.ldp_grammar.specs.Tlvs.{spell_tlv}

@@ -1,5 +1,5 @@
 -- A needed TLV is there, and its value fits.
-use Rattle.std.proofs.Common.{◌≡◌, List, ℕ, Option, Bor, subst}
+use Rattle.std.proofs.Common.{List, ℕ, Option, Bor, subst}
 use Rattle.std.specs.Prelude.{IfSome}
 use Rattle.ldp_grammar.specs.Rows.{row_of}
 use Rattle.ldp_grammar.specs.Layouts.{listed}

@@ -1,5 +1,5 @@
 -- One more message is read, or the reading ends at a fault.
-use Rattle.std.proofs.Common.{◌≡◌, ◌+◌, ◌<◌, List, ℕ, take, drop, length, subst, sym, arith}
+use Rattle.std.proofs.Common.{◌+◌, ◌<◌, List, ℕ, take, drop, length, subst, sym, arith}
 use Rattle.ldp_grammar.specs.Spells.{Spelling}
 use Rattle.ldp_grammar.specs.FirstFault.{IsFirst, IsFirstMessageFault, NamesMessages}
 use Rattle.ldp_codec.specs.Stop.{StopsAt}

@@ -1,5 +1,5 @@
 -- The first fault of a message's TLVs is the message's.
-use Rattle.std.proofs.Common.{◌≡◌, subst, sym}
+use Rattle.std.proofs.Common.{subst, sym}
 use Rattle.ldp_grammar.specs.FirstFault.{IsFirstMessageFault}
 use Rattle.ldp_codec.proofs.MessageWalkLemmas.{fault_as}
 use Rattle.ldp_codec.proofs.message_walk.take_message.Goals as goal

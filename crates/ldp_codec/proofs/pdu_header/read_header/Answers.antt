@@ -1,5 +1,5 @@
 -- A right version and a right length frame the octets behind the header.
-use Rattle.std.proofs.Common.{List, ℕ, ◌++◌, arith}
+use Rattle.std.proofs.Common.{◌++◌, arith}
 use Rattle.ldp_grammar.specs.Octets.{two}
 use Rattle.ldp_grammar.proofs.OctetLemmas.{AreOctets}
 use Rattle.ldp_codec.proofs.HeaderLemmas.{framed}

@@ -1,5 +1,5 @@
 -- The six octets behind the PDU Length.
-use Rattle.std.proofs.Common.{◌≡◌, ◌∷◌, List, ℕ, take, drop, subst, sym, ap, ◌∙◌, arith}
+use Rattle.std.proofs.Common.{take, subst, sym, ap, ◌∙◌, arith}
 use Rattle.ldp_grammar.proofs.OctetLemmas.{AreOctets, octets_drop}
 use Rattle.ldp_codec.proofs.HeaderLemmas.{sender_of}
 use Rattle.ldp_codec.proofs.pdu_header.sender.Goals as goal

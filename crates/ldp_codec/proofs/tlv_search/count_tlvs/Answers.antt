@@ -1,5 +1,5 @@
 -- Where none stands whole, the octets are no joined TLVs; and one more TLV is counted, or passed.
-use Rattle.std.proofs.Common.{◌≡◌, ◌+◌, List, ℕ, length, drop, refl, sym, subst, arith}
+use Rattle.std.proofs.Common.{◌+◌, List, ℕ, length, drop, refl, sym, subst, arith}
 use Rattle.std.proofs.lemmas.Bool.{ne_eqb}
 use Rattle.ldp_grammar.specs.Tlvs.{IsJoined}
 use Rattle.ldp_codec.specs.Walk.{IsSplit, CountsOn}

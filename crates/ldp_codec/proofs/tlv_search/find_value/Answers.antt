@@ -1,5 +1,5 @@
 -- Where none stands whole, the octets are no joined TLVs; and a TLV of another type is passed.
-use Rattle.std.proofs.Common.{◌≡◌, ◌+◌, List, ℕ, length, drop, refl, sym, subst, arith}
+use Rattle.std.proofs.Common.{List, ℕ, drop, refl, sym, subst, arith}
 use Rattle.std.proofs.lemmas.Bool.{ne_eqb}
 use Rattle.ldp_grammar.specs.Tlvs.{IsJoined}
 use Rattle.ldp_codec.specs.Walk.{IsSplit}

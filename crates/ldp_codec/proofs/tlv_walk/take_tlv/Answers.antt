@@ -1,5 +1,4 @@
-use Rattle.std.proofs.Common.{◌≡◌, ◌≤◌, List, ℕ, length, Some, None, refl, sym, ap, subst, arith}
-use Rattle.ldp_grammar.specs.Tlvs.{Tlv, IsJoined}
+use Rattle.std.proofs.Common.{refl, sym, subst}
 use Rattle.ldp_grammar.specs.FirstFault.{IsFirstTlvFault}
 use Rattle.ldp_grammar.specs.Rows.{row_of}
 use Rattle.ldp_codec.proofs.WalkLemmas.{misfit_at}

@@ -1,6 +1,5 @@
-use Rattle.std.proofs.Common.{◌≡◌, ◌≤◌, ◌+◌, List, ℕ, Option, length, Some, None, take, drop, refl, sym, ap, subst, ◌∙◌}
+use Rattle.std.proofs.Common.{◌+◌, List, ℕ, take, drop, sym, ap, subst, ◌∙◌}
 use Rattle.std.specs.Option.{option_or}
-use Rattle.ldp_grammar.specs.declared.fault.Fault.{Fault}
 use Rattle.ldp_grammar.specs.FirstFault.{IsFirst, NamesTlvs, IsFirstTlvFault}
 use Rattle.ldp_grammar.specs.Tlvs.{Tlv, IsJoined}
 use Rattle.ldp_grammar.specs.Rows.{row_of}
