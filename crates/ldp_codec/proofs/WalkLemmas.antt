@@ -5,7 +5,7 @@ use Rattle.std.proofs.Math.ListN.{drop_of_length-le}
 use Rattle.std.specs.Option.{option_or}
 use Rattle.net_base.specs.declared.field.Field.{Field}
 use Rattle.ldp_grammar.specs.declared.fault.Fault.{Fault}
-use Rattle.ldp_grammar.specs.declared.fault.Cause.TheVariants as cause
+use Rattle.ldp_grammar.specs.declared.cause.Cause.TheVariants as cause
 use Rattle.ldp_grammar.specs.Octets.{two_at}
 use Rattle.ldp_grammar.specs.Rows.{Row}
 use Rattle.ldp_grammar.specs.Layouts.{fits, listed}

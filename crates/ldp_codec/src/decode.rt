@@ -8,8 +8,8 @@ ghost use Rattle.ldp_codec.specs.Decoded.{IsUnlessNoMemory, Tells, refusal_of};
 
 use crate::DecodeFault;
 use crate::message_walk::read_messages;
-use crate::pdu_header::{PDU_HEADER, read_header};
-use ldp_grammar::Pdu;
+use crate::pdu_header::read_header;
+use ldp_grammar::{PDU_HEADER, Pdu};
 use std::alloc::Global;
 
 // The PDU, or the first fault.

@@ -10,19 +10,11 @@ use crate::put::put;
 use crate::written_values::{
     hello_bytes, message_header, pdu_header, session_bytes, status_bytes, tlv_header, two_bytes,
 };
-use ldp_grammar::{AddressList, LdpId, Message, MessageKind, message_size};
+use ldp_grammar::{
+    ADDRESS_LIST, AddressList, HELLO_PARAMETERS, LdpId, Message, MessageKind, SESSION_PARAMETERS,
+    STATUS, TRANSPORT_ADDRESS, message_size,
+};
 use net_base::{Addr, Octets};
-
-// The types of the TLVs that are written.
-const ADDRESS_LIST: u16 = 0x0101;
-
-const STATUS: u16 = 0x0300;
-
-const HELLO_PARAMETERS: u16 = 0x0400;
-
-const TRANSPORT_ADDRESS: u16 = 0x0401;
-
-const SESSION_PARAMETERS: u16 = 0x0500;
 
 // Writes a TLV with U = 0 and F = 0 at the place, and answers the place behind it.
 #[tactic(auto, using(crate::proofs::PutLemmas::put_both))]

@@ -11,20 +11,12 @@ ghost use Rattle.ldp_codec.specs.Walk.{IsComplete};
 
 use crate::tlv_search::{count_tlvs, find_value};
 use crate::values::{address_list, addresses, hello_params, session_params, status_code};
-use ldp_grammar::{AddressList, Message, MessageKind, Why, field_of_type};
+use ldp_grammar::{
+    ADDRESS_LIST, AddressList, HELLO_PARAMETERS, Message, MessageKind, SESSION_PARAMETERS, STATUS,
+    TRANSPORT_ADDRESS, Why, field_of_type,
+};
 use net_base::{Addr, Field, NoMemory};
 use std::alloc::Global;
-
-// The types of the TLVs that are read.
-const ADDRESS_LIST: u16 = 0x0101;
-
-const STATUS: u16 = 0x0300;
-
-const HELLO_PARAMETERS: u16 = 0x0400;
-
-const TRANSPORT_ADDRESS: u16 = 0x0401;
-
-const SESSION_PARAMETERS: u16 = 0x0500;
 
 // The first of the TLVs that is absent.
 fn first_missing(needed: &[u16], body: &[u8]) -> Option<Field>

@@ -11,9 +11,6 @@ const LENGTH_HEADER: usize = 4;
 
 const ID: usize = 4;
 
-/// The octets of a message before its TLVs.
-pub const MESSAGE_HEADER: usize = LENGTH_HEADER + ID;
-
 // The Message Length is at fault.
 fn length_fault(place: u16) -> Fault
     ensures { result ≡ record { place = place; cause = Cause.MessageLength } }

@@ -7,10 +7,10 @@ ghost use Rattle.ldp_codec.specs.Stop.{StopsAt};
 ghost use Rattle.ldp_codec.specs.Walk.{IsWalked, IsWalkedAs, IsFirstAs, IsMessageTaken, AreMessages};
 
 use crate::message_body::{processed, reason_not};
-use crate::message_head::{MESSAGE_HEADER, split_message};
+use crate::message_head::split_message;
 use crate::stop::Stop;
 use crate::tlv_walk::walk_tlvs;
-use ldp_grammar::{Fault, Message, MessageKind};
+use ldp_grammar::{Fault, MESSAGE_HEADER, Message, MessageKind};
 use net_base::{List, NoMemory};
 use std::alloc::Global;
 

@@ -19,9 +19,6 @@ const LENGTH_HEADER: usize = 4;
 // The least PDU Length: an identifier and a message without TLVs.
 const LEAST: u16 = 14;
 
-/// The octets of a PDU before its messages.
-pub const PDU_HEADER: usize = 10;
-
 // The identifier of the sender.
 fn sender(bytes: &[u8]) -> LdpId
     requires { 10 ≤ length bytes.now }

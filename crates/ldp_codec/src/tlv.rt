@@ -5,9 +5,7 @@ ghost use Rattle.ldp_grammar.specs.Tlvs.{Tlv, IsTlv, spell_tlv};
 ghost use Rattle.ldp_codec.specs.Walk.{IsSplit};
 
 use crate::numbers::two;
-
-// The octets of a TLV before its value: the word with its type, and its Length.
-pub const TLV_HEADER: usize = 4;
+use ldp_grammar::TLV_HEADER;
 
 // The type in a TLV's word, without U and F bit.
 pub const TYPE_LIMIT: u16 = 0x4000;

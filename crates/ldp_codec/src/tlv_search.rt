@@ -2,7 +2,8 @@
 ghost use Rattle.std.specs.Prelude.{◌≡◌, ◌≤◌, List, length, option_copied};
 ghost use Rattle.ldp_grammar.specs.Tlvs.{Tlv, IsJoined, count_of, value_of};
 
-use crate::tlv::{TLV_HEADER, TYPE_LIMIT, split_tlv};
+use crate::tlv::{TYPE_LIMIT, split_tlv};
+use ldp_grammar::TLV_HEADER;
 
 // How many of the TLVs are of a type.
 #[tactic(auto, using(crate::proofs::SearchLemmas::counted_one, crate::proofs::SearchLemmas::counted_other, crate::proofs::SearchLemmas::counted_all, crate::proofs::SearchLemmas::counts_first))]

@@ -8,9 +8,9 @@ ghost use Rattle.ldp_grammar.specs.Tlvs.{Tlv, IsJoined, HasRoom, HasValue, count
 ghost use Rattle.ldp_codec.specs.Walk.{IsTaken, IsWalked, unknown_after};
 
 use crate::numbers::two;
-use crate::tlv::{TLV_HEADER, TYPE_LIMIT, split_tlv};
+use crate::tlv::{TYPE_LIMIT, split_tlv};
 use crate::tlv_search::count_tlvs;
-use ldp_grammar::{Cause, Fault, MessageKind, TlvPart, is_fitting, most_of};
+use ldp_grammar::{Cause, Fault, MessageKind, TLV_HEADER, TlvPart, is_fitting, most_of};
 use net_base::Field;
 
 // The TLV of this type, where the message lists it and has as many before as it may.

@@ -7,3 +7,4 @@ pub mod PduLemmas
 pub mod MeaningLemmas
 pub mod WrittenLemmas
 pub mod RoundTripLemmas
+pub mod Examples

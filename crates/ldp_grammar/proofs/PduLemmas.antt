@@ -4,8 +4,8 @@ use Rattle.std.specs.Prelude.{if◌then◌else◌}
 use Rattle.net_base.specs.declared.field.Field.{Field}
 use Rattle.net_base.specs.declared.field.Field.TheVariants as field
 use Rattle.ldp_grammar.specs.declared.fault.Fault.{Fault}
-use Rattle.ldp_grammar.specs.declared.fault.Cause.{Cause}
-use Rattle.ldp_grammar.specs.declared.fault.Cause.TheVariants as cause
+use Rattle.ldp_grammar.specs.declared.cause.Cause.{Cause}
+use Rattle.ldp_grammar.specs.declared.cause.Cause.TheVariants as cause
 use Rattle.ldp_grammar.specs.declared.pdu.Pdu.{Pdu}
 use Rattle.ldp_grammar.specs.Octets.{two, two_at}
 use Rattle.ldp_grammar.specs.Spells.{spell, IsFramed, Spells}

@@ -5,8 +5,8 @@ use Rattle.std.specs.List.{AllByRecursion}
 use Rattle.net_base.specs.declared.field.Field.{Field}
 use Rattle.net_base.specs.declared.field.Field.TheVariants as field
 use Rattle.ldp_grammar.specs.declared.fault.Fault.{Fault}
-use Rattle.ldp_grammar.specs.declared.fault.Cause.{Cause}
-use Rattle.ldp_grammar.specs.declared.fault.Cause.TheVariants as cause
+use Rattle.ldp_grammar.specs.declared.cause.Cause.{Cause}
+use Rattle.ldp_grammar.specs.declared.cause.Cause.TheVariants as cause
 use Rattle.ldp_grammar.specs.declared.message_kind.MessageKind.{MessageKind}
 use Rattle.ldp_grammar.specs.declared.pdu.Pdu.{Pdu}
 use Rattle.ldp_grammar.specs.Octets.{two_at}

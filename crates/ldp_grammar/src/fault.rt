@@ -2,24 +2,7 @@
 ghost use Rattle.std.specs.Prelude.{◌≡◌, ◌+◌, ◌<◌, ◌^◌};
 ghost use Rattle.ldp_grammar.specs.FirstFault.{moved};
 
-use net_base::Field;
-
-/// What is wrong with octets that spell no PDU (RFC 5036 section 3.5.1.2.2).
-#[derive(Clone, Copy, Debug, PartialEq, Eq)]
-pub enum Cause {
-    /// The version is not 1.
-    Version,
-    /// The PDU Length is below 14, above the maximum, or not the number of octets behind it.
-    PduLength,
-    /// The Message Length is below 4 or past the PDU's end, or 1 to 3 octets stand where a message begins.
-    MessageLength,
-    /// The TLV's Length is past the message's end, or 1 to 3 octets stand where a TLV begins.
-    TlvLength,
-    /// The value does not fit the layout of its TLV.
-    TlvValue(Field),
-    /// A TLV comes once more than its message may have it.
-    Repeated(Field),
-}
+use crate::Cause;
 
 /// A fault at its place.
 #[derive(Clone, Copy, Debug, PartialEq, Eq)]

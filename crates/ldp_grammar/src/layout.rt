@@ -2,6 +2,9 @@
 ghost use Rattle.std.specs.Prelude.{◌≡◌};
 ghost use Rattle.ldp_grammar.specs.Layouts.{field_of, fits, most};
 
+use crate::tlv_type::{
+    ADDRESS_LIST, HELLO_PARAMETERS, SESSION_PARAMETERS, STATUS, TRANSPORT_ADDRESS,
+};
 use byteorder::{BigEndian, ByteOrder};
 use net_base::Field;
 
@@ -10,11 +13,11 @@ pub fn field_of_type(tlv: u16) -> Option<Field>
     ensures { result ≡ field_of tlv }
 {
     match tlv {
-        0x0101 => Some(Field::AddressList),
-        0x0300 => Some(Field::Status),
-        0x0400 => Some(Field::Hello),
-        0x0401 => Some(Field::Transport),
-        0x0500 => Some(Field::Session),
+        ADDRESS_LIST => Some(Field::AddressList),
+        STATUS => Some(Field::Status),
+        HELLO_PARAMETERS => Some(Field::Hello),
+        TRANSPORT_ADDRESS => Some(Field::Transport),
+        SESSION_PARAMETERS => Some(Field::Session),
         _ => None,
     }
 }

@@ -6,6 +6,7 @@
 #![tactic(auto)]
 
 mod address_list;
+mod cause;
 mod fault;
 mod laws;
 mod layout;
@@ -14,13 +15,16 @@ mod message;
 mod message_kind;
 mod pdu;
 mod session_params;
+mod sizes;
 mod status_code;
 mod tlv_part;
+mod tlv_type;
 mod why;
 mod writable;
 
 pub use address_list::AddressList;
-pub use fault::{Cause, Fault};
+pub use cause::Cause;
+pub use fault::Fault;
 pub use laws::{one_reading, written_is_read};
 pub use layout::{field_of_type, is_fitting, most_of};
 pub use ldp_id::LdpId;
@@ -28,7 +32,9 @@ pub use message::Message;
 pub use message_kind::MessageKind;
 pub use pdu::Pdu;
 pub use session_params::SessionParams;
+pub use sizes::{MESSAGE_HEADER, PDU_HEADER, TLV_HEADER};
 pub use status_code::StatusCode;
 pub use tlv_part::TlvPart;
+pub use tlv_type::{ADDRESS_LIST, HELLO_PARAMETERS, SESSION_PARAMETERS, STATUS, TRANSPORT_ADDRESS};
 pub use why::Why;
 pub use writable::{is_writable, message_size};

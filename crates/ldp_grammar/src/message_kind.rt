@@ -3,6 +3,9 @@ ghost use Rattle.std.specs.Prelude.{◌≡◌};
 ghost use Rattle.ldp_grammar.specs.Rows.{kind_of, type_of, part_of, row_of};
 ghost use Rattle.ldp_grammar.specs.Layouts.{listed};
 
+use crate::tlv_type::{
+    ADDRESS_LIST, HELLO_PARAMETERS, SESSION_PARAMETERS, STATUS, TRANSPORT_ADDRESS,
+};
 use crate::{TlvPart, field_of_type};
 use net_base::Field;
 
@@ -58,17 +61,18 @@ impl MessageKind {
         ensures { result ≡ part_of (row_of self) tlv }
     {
         match (self, tlv) {
-            (MessageKind::Notification, 0x0300) => TlvPart::Needed,
+            (MessageKind::Notification, STATUS) => TlvPart::Needed,
             (MessageKind::Notification, 0x0301 | 0x0302 | 0x0303) => TlvPart::PassedOver,
-            (MessageKind::Hello, 0x0400) => TlvPart::Needed,
-            (MessageKind::Hello, 0x0401) => TlvPart::Further,
+            (MessageKind::Hello, HELLO_PARAMETERS) => TlvPart::Needed,
+            (MessageKind::Hello, TRANSPORT_ADDRESS) => TlvPart::Further,
             (MessageKind::Hello, 0x0402) => TlvPart::PassedOver,
-            (MessageKind::Initialization, 0x0500) => TlvPart::Needed,
+            (MessageKind::Initialization, SESSION_PARAMETERS) => TlvPart::Needed,
             (MessageKind::Initialization, _) => TlvPart::PassedOver,
-            (MessageKind::Address | MessageKind::AddressWithdraw, 0x0101) => TlvPart::Needed,
+            (MessageKind::Address | MessageKind::AddressWithdraw, ADDRESS_LIST) => TlvPart::Needed,
             _ => TlvPart::Unknown,
         }
     }
+
     /// The TLV of a type, without U and F bit, where the message needs it or may have it; `None` exactly where it is
     /// passed over or unknown there.
     pub fn listed(self, tlv: u16) -> Option<Field>
@@ -79,16 +83,17 @@ impl MessageKind {
             TlvPart::PassedOver | TlvPart::Unknown => None,
         }
     }
+
     /// The types of the TLVs that the message needs, in the order in which they are written.
     pub fn needed(self) -> &'static [u16]
         ensures { result.now ≡ (row_of self).needed }
     {
         match self {
-            MessageKind::Notification => &[0x0300],
-            MessageKind::Hello => &[0x0400],
-            MessageKind::Initialization => &[0x0500],
+            MessageKind::Notification => &[STATUS],
+            MessageKind::Hello => &[HELLO_PARAMETERS],
+            MessageKind::Initialization => &[SESSION_PARAMETERS],
             MessageKind::KeepAlive => &[],
-            MessageKind::Address | MessageKind::AddressWithdraw => &[0x0101],
+            MessageKind::Address | MessageKind::AddressWithdraw => &[ADDRESS_LIST],
         }
     }
 }

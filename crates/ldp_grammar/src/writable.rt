@@ -5,13 +5,9 @@ ghost use Rattle.ldp_grammar.specs.Tlvs.{spell_tlv};
 ghost use Rattle.std.specs.Prelude.{flat_map};
 ghost use Rattle.ldp_grammar.specs.Written.{list_length};
 
+use crate::sizes::{MESSAGE_HEADER, TLV_HEADER};
 use crate::{AddressList, Message, SessionParams};
 use net_base::{Addr, Octets};
-
-// The octets of a message before its TLVs, and of a TLV before its value.
-const MESSAGE_HEADER: usize = 8;
-
-const TLV_HEADER: usize = 4;
 
 // Status data has 30 bits.
 const CODE_LIMIT: u32 = 0x4000_0000;

@@ -1,0 +1,95 @@
+-- The definitions at work on octets: each fact below is found by evaluation alone, or by witnesses that are written out.
+use Rattle.std.proofs.Common.{◌≡◌, ◌++◌, ℕ, true, false, List, [], ◌∷◌, Some, None, inl, inr, refl, arith}
+use Rattle.net_base.specs.declared.field.Field.TheVariants as field
+use Rattle.ldp_grammar.specs.declared.cause.Cause.TheVariants as cause
+use Rattle.ldp_grammar.specs.declared.ldp_id.LdpId.{LdpId}
+use Rattle.ldp_grammar.specs.declared.message.Message.TheVariants as message
+use Rattle.ldp_grammar.specs.declared.message_kind.MessageKind.TheVariants as kind
+use Rattle.ldp_grammar.specs.declared.why.Why.TheVariants.{UnknownTlv, Missing}
+use Rattle.ldp_grammar.specs.Rows.{row_of}
+use Rattle.ldp_grammar.specs.Layouts.{fits, listed}
+use Rattle.ldp_grammar.specs.Tlvs.{Tlv, reason}
+use Rattle.ldp_grammar.specs.Spells.{Spells}
+use Rattle.ldp_grammar.specs.FirstFault.{Names, NamesTlvs, NamesMessages}
+use Rattle.ldp_grammar.specs.Written.{written, writable}
+use Rattle.ldp_grammar.proofs.WrittenLemmas.{keeps_none}
+
+abbrev sender : LdpId
+sender = record { router = record { 0 = 10 ∷ 0 ∷ 0 ∷ 1 ∷ [] }; space = 0 }
+
+-- a KeepAlive with Message ID 1
+abbrev keep_alive : List ℕ
+keep_alive = 0 ∷ 1 ∷ 0 ∷ 14 ∷ 10 ∷ 0 ∷ 0 ∷ 1 ∷ 0 ∷ 0 ∷ 2 ∷ 1 ∷ 0 ∷ 4 ∷ 0 ∷ 0 ∷ 0 ∷ 1 ∷ []
+
+keep_alive_written : written (message.KeepAlive 1) sender ≡ keep_alive
+keep_alive_written = refl
+
+keep_alive_spelled : Spells keep_alive 4096 (record { id = sender; messages = message.KeepAlive 1 ∷ [] })
+keep_alive_spelled = record {
+  spellings = record { word = 513; id = 1; body = [] } ∷ [];
+  framed = record { split = refl; identifier = refl; least = omega arith; most = omega arith };
+  router = refl;
+  space = omega arith;
+  fit = ((omega arith, omega arith, omega arith), tt);
+  stand = (record { tlvs = []; joined = record { spelled = refl; fit = tt }; faultless = record { values = tt; counts = λ k. keeps_none (listed (row_of kind.KeepAlive) k) }; tells = refl }, tt);
+}
+
+-- why messages are not processed
+abbrev a_tlv : ℕ → List ℕ → Tlv
+a_tlv word value = record { word = word; value = value }
+
+first_unknown_tlv : reason (row_of kind.KeepAlive) (a_tlv 16128 [] ∷ a_tlv 16129 [] ∷ []) ≡ Some (UnknownTlv 16128)
+first_unknown_tlv = refl
+
+ignored_tlv : reason (row_of kind.KeepAlive) (a_tlv 48896 [] ∷ []) ≡ None
+ignored_tlv = refl
+
+no_addresses : reason (row_of kind.Address) [] ≡ Some (Missing field.AddressList)
+no_addresses = refl
+
+unknown_before_missing : reason (row_of kind.Address) (a_tlv 16128 [] ∷ []) ≡ Some (UnknownTlv 16128)
+unknown_before_missing = refl
+
+other_features : reason (row_of kind.Initialization) (a_tlv 34051 [] ∷ a_tlv 1280 [] ∷ a_tlv 1281 [] ∷ []) ≡ None
+other_features = refl
+
+-- layouts
+whole_address : fits field.AddressList (0 ∷ 1 ∷ 10 ∷ 0 ∷ 0 ∷ 1 ∷ []) ≡ true
+whole_address = refl
+
+part_of_address : fits field.AddressList (0 ∷ 1 ∷ 10 ∷ 0 ∷ 0 ∷ []) ≡ false
+part_of_address = refl
+
+other_family : fits field.AddressList (0 ∷ 2 ∷ 10 ∷ 0 ∷ 0 ∷ []) ≡ true
+other_family = refl
+
+not_written : writable (message.AddressWithdraw 1 None) ≡ false
+not_written = refl
+
+-- faults that are named
+another_version : Names (0 ∷ 2 ∷ []) 4096 (record { place = 0; cause = cause.Version })
+another_version = inl (refl, omega arith, λ e. omega (arith, e))
+
+too_short : Names (0 ∷ 1 ∷ 0 ∷ 13 ∷ []) 4096 (record { place = 2; cause = cause.PduLength })
+too_short = inl (refl, inr (inl (omega arith)))
+
+too_long : Names (0 ∷ 1 ∷ 16 ∷ 1 ∷ []) 4096 (record { place = 2; cause = cause.PduLength })
+too_long = inl (refl, inr (inr (inl (omega arith))))
+
+length_of_three : NamesMessages (2 ∷ 1 ∷ 0 ∷ 3 ∷ 0 ∷ 0 ∷ 0 ∷ 1 ∷ []) (record { place = 2; cause = cause.MessageLength })
+length_of_three = record { before = []; rest = 2 ∷ 1 ∷ 0 ∷ 3 ∷ 0 ∷ 0 ∷ 0 ∷ 1 ∷ []; split = refl; items = tt; here = record { place = 2; cause = cause.MessageLength }; names = inl (inr (omega arith, inl (omega arith), refl)); is = refl }
+
+-- a second status of which the header alone is there
+abbrev a_status : List ℕ
+a_status = 3 ∷ 0 ∷ 0 ∷ 10 ∷ 0 ∷ 0 ∷ 0 ∷ 0 ∷ 0 ∷ 0 ∷ 0 ∷ 0 ∷ 0 ∷ 0 ∷ []
+
+second_status : NamesTlvs (row_of kind.Notification) (a_status ++ 3 ∷ 0 ∷ 0 ∷ 10 ∷ []) (record { place = 14; cause = cause.Repeated field.Status })
+second_status = record {
+  before = a_tlv 768 (0 ∷ 0 ∷ 0 ∷ 0 ∷ 0 ∷ 0 ∷ 0 ∷ 0 ∷ 0 ∷ 0 ∷ []) ∷ [];
+  rest = 3 ∷ 0 ∷ 0 ∷ 10 ∷ [];
+  split = refl;
+  items = ((omega arith, omega arith), tt);
+  here = record { place = 0; cause = cause.Repeated field.Status };
+  names = (refl, record { whole = omega arith; is_listed = refl; full = omega arith });
+  is = refl;
+}
