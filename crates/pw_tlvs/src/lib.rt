@@ -1,0 +1,31 @@
+//! The TLV values of pseudowires: the PWid FEC element with its interface parameters (RFC 8077 section 6),
+//! the PW Status (RFC 8077 section 6.3), the MAC List (RFC 4762 section 6.2) and the Switching Point PE TLV
+//! (RFC 6073 section 7.4), read and written.
+//!
+//! Each call is about a whole TLV value, behind the type and the length of its TLV. The layouts stand in
+//! `specs/` as relations on the octets, and so does the first fault of octets that no value is spelled by.
+#![tactic(auto)]
+
+mod fec_value;
+mod field_fault;
+mod held;
+mod holder;
+mod if_params;
+mod macs_fault;
+mod point;
+mod points;
+mod pw_fec;
+mod pw_status;
+mod row;
+
+pub use fec_value::FecValue;
+pub use field_fault::FieldFault;
+pub use if_params::IfParams;
+pub use macs_fault::MacsFault;
+pub use point::Point;
+pub use points::Points;
+pub use pw_fec::PwFec;
+pub use pw_status::PwStatus;
+
+#[cfg(test)]
+mod tests;

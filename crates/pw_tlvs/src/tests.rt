@@ -1,0 +1,1 @@
+//! Values with octets that were worked out by hand.
