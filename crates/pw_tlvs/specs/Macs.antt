@@ -1,0 +1,13 @@
+-- The value of a MAC List TLV (RFC 4762 section 6.2).
+use Rattle.std.specs.Prelude.{◌≡◌, ℕ, List, length}
+use Rattle.std.specs.List.{AllByRecursion, flat_map}
+use Rattle.net_base.specs.declared.mac.Mac.{Mac}
+
+-- the octets of addresses, one after another
+abbrev pub mac_octets : List Mac → List ℕ
+mac_octets list = flat_map (λ mac. mac.0) list
+
+-- the octets are these addresses of six octets each
+pub record AreMacs (octets : List ℕ) (list : List Mac) : Type 0 where
+  pub joined : octets ≡ mac_octets list
+  pub whole : AllByRecursion (λ mac. length mac.0 ≡ 6) list

@@ -1,0 +1,65 @@
+-- The one spelling of a value that an edge writes.
+use Rattle.std.specs.Prelude.{◌≡◌, ◌≤◌, ◌+◌, ◌++◌, ℕ, Bool, true, false, List, [], ◌∷◌, length, Option, Some, None, option_map, IfSome, IfNone}
+use Rattle.std.specs.List.{flat_map}
+use Rattle.byteorder.specs.Endian.{big_bytes}
+use Rattle.net_base.specs.declared.addr.Addr.{Addr}
+use Rattle.pw_tlvs.specs.declared.holder.Holder.TheVariants as holder
+use Rattle.pw_tlvs.specs.declared.if_params.IfParams.{IfParams}
+use Rattle.pw_tlvs.specs.declared.point.Point.{Point}
+use Rattle.pw_tlvs.specs.declared.pw_fec.PwFec.{PwFec}
+use Rattle.pw_tlvs.specs.SubTlvs.{SubTlv, spell}
+use Rattle.pw_tlvs.specs.Fec.{no_params}
+
+-- the sub-TLV of a type, where there is something to tell
+abbrev pub told : ℕ → Option (List ℕ) → List SubTlv
+told kind None = []
+told kind (Some value) = record { kind = kind; value = value } ∷ []
+
+-- an empty description is not told
+abbrev pub description_value : List ℕ → Option (List ℕ)
+description_value [] = None
+description_value (octet ∷ octets) = Some (octet ∷ octets)
+
+abbrev pub pair_octets : ℕ × ℕ → List ℕ
+pair_octets pair = pair.0 ∷ pair.1 ∷ []
+
+-- the known parameters by rising type
+abbrev pub parameter_sub_tlvs : IfParams → List SubTlv
+parameter_sub_tlvs params =
+    ((told 0x01 (option_map (λ mtu. big_bytes 2 mtu) params.mtu) ++ told 0x03 (description_value params.description))
+    ++ told 0x06 (option_map (λ vlan. big_bytes 2 vlan) params.vlan)) ++ told 0x0C (option_map pair_octets params.vccv)
+
+abbrev pub written_parameters : IfParams → List ℕ
+written_parameters params = flat_map (spell holder.Fec) (parameter_sub_tlvs params)
+
+-- what the information length counts
+abbrev pub information : Option ℕ → IfParams → List ℕ
+information None params = []
+information (Some pw_id) params = big_bytes 4 pw_id ++ written_parameters params
+
+-- the C bit and the PW type in one number of 16 bits
+abbrev pub control_and_kind : Bool → ℕ → ℕ
+control_and_kind true kind = 0x8000 + kind
+control_and_kind false kind = kind
+
+-- a PWid FEC element (RFC 8077 section 6.1)
+abbrev pub written_fec : PwFec → List ℕ
+written_fec fec =
+    0x80 ∷ (big_bytes 2 (control_and_kind fec.c fec.kind) ++ (length (information fec.pw_id fec.params)
+    ∷ (big_bytes 4 fec.group ++ information fec.pw_id fec.params)))
+
+-- what can be written
+pub record IsWritable (fec : PwFec) : Type 0 where
+  pub kind : fec.kind ≤ 0x7FFF
+  pub vlan : IfSome fec.params.vlan (λ vlan. vlan ≤ 4095)
+  pub params : IfNone fec.pw_id (fec.params ≡ no_params)
+
+-- the parts that are told by rising type
+abbrev pub part_sub_tlvs : Point → List SubTlv
+part_sub_tlvs point =
+    (told 0x01 (option_map (λ pw_id. big_bytes 4 pw_id) point.pw_id) ++ told 0x03 (option_map (λ address. address.0) point.local))
+    ++ told 0x04 (option_map (λ address. address.0) point.remote)
+
+-- a Switching Point PE TLV's value (RFC 6073 section 7.4)
+abbrev pub written_point : Point → List ℕ
+written_point point = flat_map (spell holder.Point) (part_sub_tlvs point)
