@@ -15,7 +15,7 @@ use Rattle.pw_tlvs.specs.declared.row.Row.{Row}
 use Rattle.pw_tlvs.specs.Faults.{place_of, rank_of, Precedes, IsFirst}
 use Rattle.pw_tlvs.specs.SubTlvs.{SubTlv, counted, spell, row_of, fits, allows, IsGood, values, said, AreGood, AreSubTlvs, IsOutside, lone_fault, outside_fault, IsWrong, lone, outside, misfit, excess, again, IsNamed, IsFirstWrong}
 
-same_front : (xs ys more rest : List ℕ) → length xs ≡ length ys → xs ++ more ≡ ys ++ rest → (xs ≡ ys) × (more ≡ rest)
+pub same_front : (xs ys more rest : List ℕ) → length xs ≡ length ys → xs ++ more ≡ ys ++ rest → (xs ≡ ys) × (more ≡ rest)
 same_front [] [] more rest len e = (refl, e)
 same_front [] (y ∷ ys) more rest len e = absurd (omega (arith, len))
 same_front (x ∷ xs) [] more rest len e = absurd (omega (arith, len))
@@ -26,7 +26,7 @@ same_front (x ∷ xs) (y ∷ ys) more rest len e =
     ((λ i. head i ∷ front i), back)
 
 -- the sub-TLV at the front of some octets is known by them
-same_spelled : (h : Holder) (p q : SubTlv) (x y : List ℕ) → spell h p ++ x ≡ spell h q ++ y → (p ≡ q) × (x ≡ y)
+pub same_spelled : (h : Holder) (p q : SubTlv) (x y : List ℕ) → spell h p ++ x ≡ spell h q ++ y → (p ≡ q) × (x ≡ y)
 same_spelled h p q x y e =
     let kind : p.kind ≡ q.kind = cc (e) in
     let counts : counted h + length p.value ≡ counted h + length q.value = cc (e) in
@@ -62,11 +62,11 @@ good_at : (h : Holder) (a : List SubTlv) (p : SubTlv) (more : List SubTlv) → A
 good_at h [] p more all = all.0
 good_at h (q ∷ a) p more all = good_at h a p more all.1
 
-some_of : (h : Holder) (k : ℕ) (row : Row) → row_of h k ≡ Some row → IsSome (row_of h k)
+pub some_of : (h : Holder) (k : ℕ) (row : Row) → row_of h k ≡ Some row → IsSome (row_of h k)
 some_of h k row e = rw e refl
 
 -- a good sub-TLV fits its row
-fits_of : (h : Holder) (p : SubTlv) (row : Row) → IsGood h p → row_of h p.kind ≡ Some row → fits row (counted h + length p.value) ≡ true
+pub fits_of : (h : Holder) (p : SubTlv) (row : Row) → IsGood h p → row_of h p.kind ≡ Some row → fits row (counted h + length p.value) ≡ true
 fits_of h p row good e = rw e at good.fit
 
 -- nothing is wrong where a good sub-TLV stands, and none of its type before

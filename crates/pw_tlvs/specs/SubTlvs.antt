@@ -115,3 +115,8 @@ pub record IsFirstWrong (held : Holder) (before : List SubTlv) (rest : List ℕ)
   pub wrong : IsWrong held before rest at fault
   pub first : (other : FieldFault) → IsWrong held before rest at other → Precedes fault other
   pub within : (s : SubTlv) (more : List ℕ) → rest ≡ spell held s ++ more → place_of fault < at + length (spell held s)
+
+-- whether one of a type stands before; of an unknown type it is not asked
+abbrev pub Stood : Holder → List SubTlv → ℕ → Bool → Type 0
+Stood held before kind true = 1 ≤ length (values kind before)
+Stood held before kind false = IsSome (row_of held kind) → values kind before ≡ []

@@ -17,6 +17,7 @@ mod points;
 mod pw_fec;
 mod pw_status;
 mod row;
+mod sub_tlv;
 
 pub use fec_value::FecValue;
 pub use field_fault::FieldFault;

@@ -1,5 +1,8 @@
 //! Rows of the tables of sub-TLVs.
+ghost use Rattle.std.specs.Prelude.{◌≡◌};
+ghost use Rattle.pw_tlvs.specs.SubTlvs.{fits as row_fits, parameter_row, part_row, row_of as the_row};
 
+use crate::holder::Holder;
 use net_base::Field;
 
 // What a sub-TLV of a known type has to be: the field that its faults name, and the least and the most that
@@ -9,4 +12,51 @@ pub struct Row {
     pub field: Field,
     pub least: u8,
     pub most: u8,
+}
+
+impl Row {
+    // Whether the length is one that the row has.
+    pub fn fits(self, length: u8) -> bool
+        ensures { result ≡ row_fits self length }
+    {
+        self.least <= length && length <= self.most
+    }
+}
+
+// The row of a known type of interface parameters.
+fn row_of_parameter(kind: u8) -> Option<Row>
+    ensures { result ≡ parameter_row kind }
+{
+    let (field, least, most) = match kind {
+        0x01 => (Field::Mtu, 4, 4),
+        0x03 => (Field::Description, 2, 82),
+        0x06 => (Field::Vlan, 4, 4),
+        0x0c => (Field::Vccv, 4, 4),
+        _ => return None,
+    };
+    Some(Row { field, least, most })
+}
+
+// The row of a known type of parts of a switching point.
+fn row_of_part(kind: u8) -> Option<Row>
+    ensures { result ≡ part_row kind }
+{
+    match kind {
+        0x01 | 0x03 | 0x04 => Some(Row {
+            field: Field::Point,
+            least: 4,
+            most: 4,
+        }),
+        _ => None,
+    }
+}
+
+// The row of a known type.
+pub fn row_of(holder: Holder, kind: u8) -> Option<Row>
+    ensures { result ≡ the_row holder kind }
+{
+    match holder {
+        Holder::Fec => row_of_parameter(kind),
+        Holder::Point => row_of_part(kind),
+    }
 }
