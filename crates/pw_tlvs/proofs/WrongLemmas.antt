@@ -12,7 +12,7 @@ use Rattle.pw_tlvs.specs.declared.holder.Holder.{Holder}
 use Rattle.pw_tlvs.specs.declared.holder.Holder.TheVariants as holder
 use Rattle.pw_tlvs.specs.declared.row.Row.{Row}
 use Rattle.pw_tlvs.specs.Faults.{field_rank, place_of, rank_of, Precedes}
-use Rattle.pw_tlvs.specs.SubTlvs.{SubTlv, counted, spell, row_of, parameter_row, part_row, fits, allows, values, IsOutside, lone_fault, outside_fault, IsWrong, lone, outside, misfit, excess, again, IsFirstWrong}
+use Rattle.pw_tlvs.specs.SubTlvs.{SubTlv, counted, spell, row_of, parameter_row, part_row, fits, allows, values, IsOutside, lone_fault, outside_fault, IsWrong, lone, outside, misfit, excess, again, IsFirstWrong, Stood}
 use Rattle.pw_tlvs.proofs.FaultLemmas.{precedes_itself, field_rank_below}
 use Rattle.pw_tlvs.proofs.SubTlvLemmas.{same_spelled, some_of}
 
@@ -205,3 +205,24 @@ excess_first h before rest at row s more spelled known fit bad fresh = record {
     earliest other (again row' some known' stood e) =
         let first = type_octet h s more rest spelled in
         absurd (none_before before s.kind (fresh (some_of h s.kind row known)) (subst (λ (k : ℕ). 1 ≤ length (values k before)) first stood))
+
+stood_yes : (h : Holder) (before : List SubTlv) (k : ℕ) (stood : Bool) → stood ≡ true → Stood h before k stood → 1 ≤ length (values k before)
+stood_yes h before k stood is fact = subst (λ (b : Bool). Stood h before k b) is fact
+
+pub stood_no : (h : Holder) (before : List SubTlv) (k : ℕ) (stood : Bool) → stood ≡ false → Stood h before k stood → IsSome (row_of h k) → values k before ≡ []
+stood_no h before k stood is fact = subst (λ (b : Bool). Stood h before k b) is fact
+
+-- the exit of a known type that stood before
+pub again_exit : (h : Holder) (before : List SubTlv) (rest : List ℕ) (at : ℕ) (row : Row) (stood far : Bool) → 2 ≤ length rest → row_of h (slice_index rest 0) ≡ Some row
+    → (far ≡ false → IsOutside h rest → ⊥) → (h ≡ holder.Point → far ≡ false) → stood ≡ true → Stood h before (slice_index rest 0) stood → IsFirstWrong h before rest at (Repeated at row.field)
+again_exit holder.Fec before rest at row stood far two known near part is fact =
+    again_first holder.Fec before rest at row two (inr refl) known (stood_yes holder.Fec before (slice_index rest 0) stood is fact)
+again_exit holder.Point before rest at row stood far two known near part is fact =
+    again_first holder.Point before rest at row two (inl (near (part refl))) known (stood_yes holder.Point before (slice_index rest 0) stood is fact)
+
+-- the exit of a known type whose length counts too little or too much
+pub outside_exit : (h : Holder) (before : List SubTlv) (rest : List ℕ) (at : ℕ) (row : Row) (stood far : Bool) (f : FieldFault) → 2 ≤ length rest
+    → (far ≡ true → IsOutside h rest) → (h ≡ holder.Point → far ≡ false) → stood ≡ false → far ≡ true → f ≡ outside_fault h at → Stood h before (slice_index rest 0) stood → IsFirstWrong h before rest at f
+outside_exit holder.Fec before rest at row stood far f two outer part is out e fact =
+    subst (λ (x : FieldFault). IsFirstWrong holder.Fec before rest at x) (sym e) (outside_first_fec before rest at two (outer out) (stood_no holder.Fec before (slice_index rest 0) stood is fact))
+outside_exit holder.Point before rest at row stood far f two outer part is out e fact = let near = part refl in absurd (cc (near, out))

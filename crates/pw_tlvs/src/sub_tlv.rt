@@ -83,3 +83,86 @@ fn is_allowed(holder: Holder, kind: u8, value: &[u8]) -> bool
         _ => true,
     }
 }
+
+// The first fault of a sub-TLV of a known type. `again` says whether one of the type stands before, and
+// `outside` whether its length counts too little or too much.
+fn known_fault(
+    holder: Holder,
+    at: u16,
+    row: Row,
+    again: bool,
+    outside: bool,
+    rest: &[u8],
+) -> Option<FieldFault>
+    requires header { 2 ≤ length rest.now }
+    requires within { at + 2 < 65536 }
+    requires row { the_row holder (slice_index rest.now 0) ≡ Some row }
+    requires yes { outside ≡ true → IsOutside holder rest.now }
+    requires no { outside ≡ false → IsOutside holder rest.now → ⊥ }
+    requires part { (holder ≡ held.Point) → outside ≡ false }
+    ensures first { IfSome result (λ fault. (before : List SubTlv) → Stood holder before (slice_index rest.now 0) again → IsFirstWrong holder before rest.now at fault) }
+    ensures fresh { IfNone result (again ≡ false) }
+    ensures inside { IfNone result (outside ≡ false) }
+    ensures good { IfNone result ((s : SubTlv) (more : List ℕ) → rest.now ≡ spell holder s ++ more → IsGood holder s) }
+{
+    let field = row.field;
+    if again {
+        return Some(FieldFault::Repeated { at, field });
+    }
+    if outside {
+        return Some(outside_fault(holder, at));
+    }
+    if !row.fits(rest[1]) {
+        return Some(FieldFault::Value { at: at + 1, field });
+    }
+    if !is_allowed(holder, rest[0], value_at(holder, rest)) {
+        return Some(FieldFault::Value { at: at + 2, field });
+    }
+    None
+}
+
+// The first fault of the sub-TLV at the front. `again` says whether one of its type stands before.
+fn fault_at(holder: Holder, at: u16, again: bool, rest: &[u8]) -> Option<FieldFault>
+    requires some { 1 ≤ length rest.now }
+    requires within { at + length rest.now < 65536 }
+    ensures first { IfSome result (λ fault. (before : List SubTlv) → Stood holder before (slice_index rest.now 0) again → IsFirstWrong holder before rest.now at fault) }
+    ensures header { IfNone result (2 ≤ length rest.now) }
+    ensures inside { IfNone result (IsOutside holder rest.now → ⊥) }
+    ensures fresh { IfNone result (IsSome (the_row holder (slice_index rest.now 0)) → again ≡ false) }
+    ensures good { IfNone result ((s : SubTlv) (more : List ℕ) → rest.now ≡ spell holder s ++ more → IsGood holder s) }
+{
+    if rest.len() == 1 {
+        return Some(lone_fault(holder, at));
+    }
+    let outside = is_outside(holder, rest);
+    if outside && matches!(holder, Holder::Point) {
+        return Some(outside_fault(holder, at));
+    }
+    match row_of(holder, rest[0]) {
+        Some(row) => known_fault(holder, at, row, again, outside, rest),
+        None if outside => Some(outside_fault(holder, at)),
+        None => None,
+    }
+}
+
+// The type and the value of the sub-TLV at the front, or its first fault. The octets begin at a place of the
+// value, and `again` says whether a sub-TLV of the type of the first octet stands before.
+pub fn first_sub_tlv(
+    holder: Holder,
+    at: u16,
+    again: bool,
+    rest: &[u8],
+) -> Result<(u8, &[u8]), FieldFault>
+    requires some { 1 ≤ length rest.now }
+    requires within { at + length rest.now < 65536 }
+    ensures spelled { IfOk result (λ s. rest.now ≡ spell holder (record { kind = s.0; value = s.1.now }) ++ drop (2 + length s.1.now) rest.now) }
+    ensures good { IfOk result (λ s. IsGood holder (record { kind = s.0; value = s.1.now })) }
+    ensures kind { IfOk result (λ s. s.0 ≡ slice_index rest.now 0) }
+    ensures fresh { IfOk result (λ s. IsSome (the_row holder s.0) → again ≡ false) }
+    ensures fault { IfErr result (λ fault. (before : List SubTlv) → Stood holder before (slice_index rest.now 0) again → IsFirstWrong holder before rest.now at fault) }
+{
+    match fault_at(holder, at, again, rest) {
+        Some(fault) => Err(fault),
+        None => Ok((rest[0], value_at(holder, rest))),
+    }
+}
