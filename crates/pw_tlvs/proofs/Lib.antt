@@ -1,3 +1,4 @@
 pub mod FaultLemmas
 pub mod SubTlvLemmas
 pub mod WrongLemmas
+pub mod FoundLemmas

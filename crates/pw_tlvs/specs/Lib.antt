@@ -1,5 +1,6 @@
 pub mod Faults
 pub mod Fec
+pub mod Found
 pub mod Macs
 pub mod Point
 pub mod Points

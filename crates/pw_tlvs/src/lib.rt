@@ -8,6 +8,7 @@
 
 mod fec_value;
 mod field_fault;
+mod found_params;
 mod held;
 mod holder;
 mod if_params;
