@@ -13,6 +13,7 @@ mod held;
 mod holder;
 mod if_params;
 mod macs_fault;
+mod parameters;
 mod point;
 mod points;
 mod pw_fec;
