@@ -6,6 +6,7 @@
 //! `specs/` as relations on the octets, and so does the first fault of octets that no value is spelled by.
 #![tactic(auto)]
 
+mod fec_reading;
 mod fec_value;
 mod field_fault;
 mod found_params;
@@ -21,6 +22,7 @@ mod pw_status;
 mod row;
 mod sub_tlv;
 
+pub use fec_reading::read_fec;
 pub use fec_value::FecValue;
 pub use field_fault::FieldFault;
 pub use if_params::IfParams;

@@ -1,0 +1,130 @@
+-- The value of a FEC TLV is one, or its octets have one first fault.
+use Rattle.std.proofs.Common.{◌≡◌, ◌≤◌, ◌<◌, ◌+◌, ◌++◌, ◌⊎◌, ◌↔◌, ℕ, List, [], ◌∷◌, length, drop, length-drop, refl, sym, ap, ◌∙◌, subst, arith, inl, inr, Some, None, Ok, Err}
+use Rattle.std.specs.Prelude.{slice_index, IfOk, IfErr, Result, Option, option_map}
+use Rattle.std.proofs.lemmas.List.{drop-drop}
+use Rattle.byteorder.specs.Endian.{big_number}
+use Rattle.net_base.specs.declared.field.Field.TheVariants as field
+use Rattle.pw_tlvs.specs.declared.field_fault.FieldFault.{FieldFault}
+use Rattle.pw_tlvs.specs.declared.field_fault.FieldFault.TheVariants.{Size, Value}
+use Rattle.pw_tlvs.specs.declared.fec_value.FecValue.{FecValue}
+use Rattle.pw_tlvs.specs.declared.fec_value.FecValue.TheVariants.{Pw, Foreign}
+use Rattle.pw_tlvs.specs.declared.holder.Holder.TheVariants as holder
+use Rattle.pw_tlvs.specs.declared.if_params.IfParams.{IfParams}
+use Rattle.pw_tlvs.specs.declared.pw_fec.PwFec.{PwFec}
+use Rattle.pw_tlvs.specs.Faults.{Precedes, IsFirst}
+use Rattle.pw_tlvs.specs.SubTlvs.{SubTlv, AreSubTlvs, IsNamed, said}
+use Rattle.pw_tlvs.specs.Fec.{AreParameters, IsPwid, information_length, IsTooShort, IsInformation, IsPwFec, IsOtherElement, IsFollowed, IsFecValue, IsFecFault, empty, short, too_short, past_end, parameter, text_of, vccv_of}
+use Rattle.pw_tlvs.proofs.FaultLemmas.{first_alone, one_first}
+use Rattle.pw_tlvs.proofs.SubTlvLemmas.{never_both, one_joining}
+
+pub empty_first : (octets : List ℕ) → length octets ≡ 0 → IsFirst (IsFecFault octets) Size
+empty_first octets none = first_alone Size (empty none refl) only
+  where
+    only : (g : FieldFault) → IsFecFault octets g → g ≡ Size
+    only g (empty none' e) = e
+    only g (short some first few e) = e
+    only g (too_short begun few e) = let h = begun.header in absurd (omega arith)
+    only g (past_end begun far e) = let h = begun.header in absurd (omega arith)
+    only g (parameter begun long some whole named) = let h = begun.header in absurd (omega arith)
+
+pub short_first : (octets : List ℕ) → 1 ≤ length octets → slice_index octets 0 ≡ 0x80 → length octets < 8 → IsFirst (IsFecFault octets) Size
+short_first octets some first few = first_alone Size (short some first few refl) only
+  where
+    only : (g : FieldFault) → IsFecFault octets g → g ≡ Size
+    only g (empty none e) = e
+    only g (short some' first' few' e) = e
+    only g (too_short begun count e) = let h = begun.header in absurd (omega arith)
+    only g (past_end begun far e) = let h = begun.header in absurd (omega arith)
+    only g (parameter begun long some' whole named) = let h = begun.header in absurd (omega arith)
+
+pub length_first : (octets : List ℕ) → IsPwid octets → (IsTooShort (information_length octets) ⊎ (length octets < 8 + information_length octets)) → IsFirst (IsFecFault octets) (Value 3 field.InfoLength)
+length_first octets begun bad = first_alone (Value 3 field.InfoLength) (named bad) only
+  where
+    named : (IsTooShort (information_length octets) ⊎ (length octets < 8 + information_length octets)) → IsFecFault octets (Value 3 field.InfoLength)
+    named (inl few) = too_short begun few refl
+    named (inr far) = past_end begun far refl
+    whole_is_fine : (IsTooShort (information_length octets) ⊎ (length octets < 8 + information_length octets)) → (IsTooShort (information_length octets) → ⊥) → length octets ≡ 8 + information_length octets → ⊥
+    whole_is_fine (inl few) long whole = long few
+    whole_is_fine (inr far) long whole = omega arith
+    only : (g : FieldFault) → IsFecFault octets g → g ≡ Value 3 field.InfoLength
+    only g (empty none e) = let h = begun.header in absurd (omega arith)
+    only g (short some first few e) = let h = begun.header in absurd (omega arith)
+    only g (too_short begun' few e) = e
+    only g (past_end begun' far e) = e
+    only g (parameter begun' long some whole inner) = absurd (whole_is_fine bad long whole)
+
+pub parameter_first : (octets : List ℕ) (f : FieldFault) → IsPwid octets → (IsTooShort (information_length octets) → ⊥) → 1 ≤ information_length octets → length octets ≡ 8 + information_length octets
+    → IsFirst (IsNamed holder.Fec 12 (drop 12 octets)) f → IsFirst (IsFecFault octets) f
+parameter_first octets f begun long some whole inner = record { named = parameter begun long some whole inner.named; first = first }
+  where
+    first : (g : FieldFault) → IsFecFault octets g → Precedes f g
+    first g (empty none e) = let h = begun.header in absurd (omega arith)
+    first g (short some' first' few e) = let h = begun.header in absurd (omega arith)
+    first g (too_short begun' few e) = absurd (long few)
+    first g (past_end begun' far e) = absurd (omega arith)
+    first g (parameter begun' long' some' whole' named) = inner.first g named
+
+-- the parameters of some octets are one
+one_params : (octets : List ℕ) (a b : IfParams) → AreParameters octets a → AreParameters octets b → a ≡ b
+one_params octets a b one other =
+    let same = one_joining holder.Fec octets one.subs other.subs one.are other.are in
+    let mtu = one.mtu ∙ (ap (λ (l : List SubTlv). option_map (λ (value : List ℕ). big_number 2 value) (said 0x01 l)) same ∙ sym other.mtu) in
+    let description = one.description ∙ (ap (λ (l : List SubTlv). text_of (said 0x03 l)) same ∙ sym other.description) in
+    let vlan = one.vlan ∙ (ap (λ (l : List SubTlv). option_map (λ (value : List ℕ). big_number 2 value) (said 0x06 l)) same ∙ sym other.vlan) in
+    let vccv = one.vccv ∙ (ap (λ (l : List SubTlv). option_map vccv_of (said 0x0C l)) same ∙ sym other.vccv) in
+    λ i. record { mtu = mtu i; description = description i; vlan = vlan i; vccv = vccv i }
+
+one_information : (octets : List ℕ) (m n : Option ℕ) (a b : IfParams) → IsInformation octets m a → IsInformation octets n b → (m ≡ n) × (a ≡ b)
+one_information octets None None a b one other = (refl, one.1 ∙ sym other.1)
+one_information octets None (Some n) a b one other = let len = ap length one.0 in let four = other.0 in absurd (omega arith)
+one_information octets (Some m) None a b one other = let len = ap length other.0 in let four = one.0 in absurd (omega arith)
+one_information octets (Some m) (Some n) a b one other = (ap Some (one.1 ∙ sym other.1), one_params (drop 4 octets) a b one.2 other.2)
+
+one_pw : (octets : List ℕ) (a b : PwFec) → IsPwFec octets a → IsPwFec octets b → a ≡ b
+one_pw octets a b one other =
+    let (pw_id, params) = one_information (drop 8 octets) a.pw_id b.pw_id a.params b.params one.information other.information in
+    let c = one.c ∙ sym other.c in
+    let kind = one.kind ∙ sym other.kind in
+    let group = one.group ∙ sym other.group in
+    λ i. record { c = c i; kind = kind i; group = group i; pw_id = pw_id i; params = params i }
+
+-- the octets are one value at most
+pub one_fec : (octets : List ℕ) (a b : FecValue) → IsFecValue octets a → IsFecValue octets b → a ≡ b
+one_fec octets (Pw a) (Pw b) one other = ap Pw (one_pw octets a b one other)
+one_fec octets (Pw a) (Foreign b) one (inl other) = absurd (other.other (other.is ∙ one.begun.element))
+one_fec octets (Pw a) (Foreign b) one (inr other) = let w = one.whole in let m = other.more in absurd (omega arith)
+one_fec octets (Foreign a) (Pw b) (inl one) other = absurd (one.other (one.is ∙ other.begun.element))
+one_fec octets (Foreign a) (Pw b) (inr one) other = let w = other.whole in let m = one.more in absurd (omega arith)
+one_fec octets (Foreign a) (Foreign b) (inl one) (inl other) = ap Foreign (one.is ∙ sym other.is)
+one_fec octets (Foreign a) (Foreign b) (inl one) (inr other) = absurd (one.other (one.is ∙ other.begun.element))
+one_fec octets (Foreign a) (Foreign b) (inr one) (inl other) = absurd (other.other (other.is ∙ one.begun.element))
+one_fec octets (Foreign a) (Foreign b) (inr one) (inr other) = ap Foreign (one.is ∙ sym other.is)
+
+pw_no_fault : (octets : List ℕ) (a : PwFec) (f : FieldFault) → IsPwFec octets a → IsFecFault octets f → ⊥
+pw_no_fault octets a f is (empty none e) = let h = is.begun.header in omega arith
+pw_no_fault octets a f is (short some first few e) = let h = is.begun.header in omega arith
+pw_no_fault octets a f is (too_short begun few e) = by a.pw_id is.information
+  where
+    by : (n : Option ℕ) → IsInformation (drop 8 octets) n a.params → ⊥
+    by None inf = let len = ap length inf.0 in let d = length-drop 8 octets in let w = is.whole in let low = few.0 in omega arith
+    by (Some n) inf = let four = inf.0 in let d = length-drop 8 octets in let w = is.whole in let high = few.1 in omega arith
+pw_no_fault octets a f is (past_end begun far e) = let w = is.whole in omega arith
+pw_no_fault octets a f is (parameter begun long some whole named) = by a.pw_id is.information
+  where
+    by : (n : Option ℕ) → IsInformation (drop 8 octets) n a.params → ⊥
+    by None inf = let len = ap length inf.0 in let d = length-drop 8 octets in omega arith
+    by (Some n) inf = never_both holder.Fec 12 (drop 4 (drop 8 octets)) inf.2.subs f inf.2.are (subst (λ (l : List ℕ). IsNamed holder.Fec 12 l f) (sym (drop-drop 4 8 octets)) named)
+
+-- octets that are a value have no fault
+pub never_fec : (octets : List ℕ) (a : FecValue) (f : FieldFault) → IsFecValue octets a → IsFecFault octets f → ⊥
+never_fec octets (Pw a) f is named = pw_no_fault octets a f is named
+never_fec octets (Foreign a) f (inl other) (empty none e) = let s = other.some in omega arith
+never_fec octets (Foreign a) f (inl other) (short some first few e) = other.other (other.is ∙ first)
+never_fec octets (Foreign a) f (inl other) (too_short begun few e) = other.other (other.is ∙ begun.element)
+never_fec octets (Foreign a) f (inl other) (past_end begun far e) = other.other (other.is ∙ begun.element)
+never_fec octets (Foreign a) f (inl other) (parameter begun long some whole named) = other.other (other.is ∙ begun.element)
+never_fec octets (Foreign a) f (inr more) (empty none e) = let h = more.begun.header in omega arith
+never_fec octets (Foreign a) f (inr more) (short some first few e) = let h = more.begun.header in omega arith
+never_fec octets (Foreign a) f (inr more) (too_short begun few e) = more.long few
+never_fec octets (Foreign a) f (inr more) (past_end begun far e) = let m = more.more in omega arith
+never_fec octets (Foreign a) f (inr more) (parameter begun long some whole named) = let m = more.more in omega arith
