@@ -5,3 +5,5 @@ pub mod FoundLemmas
 pub mod ReadLemmas
 pub mod FecLemmas
 pub mod ExactLemmas
+pub mod StatusLemmas
+pub mod MacLemmas

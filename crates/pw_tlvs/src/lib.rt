@@ -13,7 +13,9 @@ mod found_params;
 mod held;
 mod holder;
 mod if_params;
+mod macs;
 mod macs_fault;
+mod octets;
 mod parameters;
 mod point;
 mod points;
@@ -26,11 +28,12 @@ pub use fec_reading::read_fec;
 pub use fec_value::FecValue;
 pub use field_fault::FieldFault;
 pub use if_params::IfParams;
+pub use macs::{read_macs, write_macs};
 pub use macs_fault::MacsFault;
 pub use point::Point;
 pub use points::Points;
 pub use pw_fec::PwFec;
-pub use pw_status::PwStatus;
+pub use pw_status::{PwStatus, read_status, write_status};
 
 #[cfg(test)]
 mod tests;

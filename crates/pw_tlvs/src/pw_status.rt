@@ -1,7 +1,47 @@
 //! The status of a pseudowire.
+ghost use Rattle.std.specs.Prelude.{◌≡◌, ◌≤◌, ◌++◌, ◌↔◌, length, drop, Ok, Err, IfOk, IfErr};
+ghost use Rattle.pw_tlvs.specs.declared.pw_status.PwStatus.{PwStatus};
+ghost use Rattle.pw_tlvs.specs.declared.field_fault.FieldFault.{FieldFault};
+ghost use Rattle.pw_tlvs.specs.Faults.{IsFirst};
+ghost use Rattle.pw_tlvs.specs.Status.{IsStatus, IsStatusFault, written_status};
+
+use crate::FieldFault;
+use byteorder::{BigEndian, ByteOrder};
 
 /// The value of a PW Status TLV (RFC 8077 section 6.3), a set of bits: 0x01 not forwarding, 0x02 circuit receive
 /// fault, 0x04 circuit transmit fault, 0x08 PSN receive fault, 0x10 PSN transmit fault (RFC 4446 section 3.5),
 /// 0x20 standby, 0x40 request switchover (RFC 6870 section 5).
 #[derive(Clone, Copy, Debug, PartialEq, Eq)]
 pub struct PwStatus(pub u32);
+
+/// The status that the octets are (RFC 8077 section 6.3). The value has at most 65,535 octets. `Size` comes
+/// exactly where they are not four, and no other fault comes.
+pub fn read_status(value: &[u8]) -> Result<PwStatus, FieldFault>
+    requires { length value.now ≤ 65535 }
+    ensures value { (status : PwStatus) → (result ≡ Ok status) ↔ IsStatus value.now status }
+    ensures fault { (fault : FieldFault) → (result ≡ Err fault) ↔ IsFirst (IsStatusFault value.now) fault }
+{
+    status_of(value)
+}
+
+// The status that the octets are, or their fault.
+fn status_of(value: &[u8]) -> Result<PwStatus, FieldFault>
+    ensures ok { IfOk result (IsStatus value.now) }
+    ensures fault { IfErr result (IsFirst (IsStatusFault value.now)) }
+{
+    if value.len() != 4 {
+        return Err(FieldFault::Size);
+    }
+    Ok(PwStatus(BigEndian::read_u32(value)))
+}
+
+/// Writes the four octets of the status to the front of `out`, which has room for them, and answers their
+/// number (RFC 8077 section 6.3).
+pub fn write_status(status: PwStatus, out: &mut [u8]) -> usize
+    requires room { 4 ≤ length out.old }
+    ensures count { result ≡ length (written_status status) }
+    ensures octets { out.new ≡ written_status status ++ drop result out.old }
+{
+    BigEndian::write_u32(out, status.0);
+    4
+}
