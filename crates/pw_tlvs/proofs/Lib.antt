@@ -7,3 +7,4 @@ pub mod FecLemmas
 pub mod ExactLemmas
 pub mod StatusLemmas
 pub mod MacLemmas
+pub mod PointLemmas
