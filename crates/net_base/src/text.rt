@@ -1,5 +1,5 @@
 //! Short texts that are held inline.
-ghost use Rattle.std.specs.Prelude.{◌≡◌, ◌≤◌, ◌↔◌, length, IsSome, IfSome};
+ghost use Rattle.std.specs.Prelude.{◌≡◌, ◌≤◌, ◌==◌, ◌↔◌, length, IsSome, IfSome};
 
 use std::marker::Model;
 
@@ -39,6 +39,21 @@ impl<const N: usize> Text<N> {
         let len = octets.len();
         held[..len].copy_from_slice(octets);
         Some(Text { octets: held, len })
+    }
+
+    /// The number of octets, at most `N`.
+    pub fn len(&self) -> usize
+        ensures count { result ≡ length self.now }
+        ensures within { result ≤ N }
+    {
+        self.len
+    }
+
+    /// Whether there is no octet.
+    pub fn is_empty(&self) -> bool
+        ensures { result ≡ (length self.now == 0) }
+    {
+        self.len == 0
     }
 
     /// The octets.

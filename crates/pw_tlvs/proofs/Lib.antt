@@ -8,3 +8,4 @@ pub mod ExactLemmas
 pub mod StatusLemmas
 pub mod MacLemmas
 pub mod PointLemmas
+pub mod WrittenLemmas

@@ -24,6 +24,7 @@ mod pw_fec;
 mod pw_status;
 mod row;
 mod sub_tlv;
+mod told;
 
 pub use fec_reading::read_fec;
 pub use fec_value::FecValue;

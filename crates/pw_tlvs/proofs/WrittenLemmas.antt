@@ -1,0 +1,19 @@
+-- Pieces that are written one behind another.
+use Rattle.std.proofs.Common.{◌≡◌, ◌≤◌, ◌+◌, ◌++◌, ◌∙◌, ℕ, List, [], length, take, drop, ap, sym, arith, append_assoc, length-append}
+use Rattle.std.proofs.lemmas.Slice.{drop-append-drop}
+use Rattle.std.proofs.Math.Seq.{take-append_seam}
+use Rattle.std.proofs.lemmas.List.{length-take-le, take-append-le}
+
+-- a piece that is written behind what was made stands behind it, and the rest is as it was
+pub added_behind : (base made piece one two : List ℕ) (at end : ℕ) → one ≡ made ++ drop at base → at ≡ length made → end ≡ at + length piece → two ≡ (take at one ++ piece) ++ drop end one → two ≡ (made ++ piece) ++ drop end base
+added_behind base made piece one two at end begun place behind written =
+    let front : take at one ≡ made = ap (λ (l : List ℕ). take at l) begun ∙ (ap (λ (n : ℕ). take n (made ++ drop at base)) place ∙ take-append_seam made (drop at base)) in
+    let back : drop end one ≡ drop end base = ap (λ (l : List ℕ). drop end l) begun ∙ drop-append-drop at base made end (omega arith) (sym place) in
+    written ∙ (ap (λ (l : List ℕ). (l ++ piece) ++ drop end one) front ∙ ap (λ (l : List ℕ). (made ++ piece) ++ l) back)
+
+-- two pieces that are written one behind another at a place
+pub added_at : (base front back one two : List ℕ) (at middle end : ℕ) → at ≤ length base → middle ≡ at + length front → end ≡ middle + length back
+    → one ≡ (take at base ++ front) ++ drop middle base → two ≡ (take middle one ++ back) ++ drop end one → two ≡ (take at base ++ (front ++ back)) ++ drop end base
+added_at base front back one two at middle end within first second begun written =
+    let len : length (take at base ++ front) ≡ middle = length-append (take at base) front ∙ (ap (λ (n : ℕ). n + length front) (length-take-le at base within) ∙ sym first) in
+    added_behind base (take at base ++ front) back one two middle end begun (sym len) second written ∙ ap (λ (l : List ℕ). l ++ drop end base) (append_assoc (take at base) front back)
