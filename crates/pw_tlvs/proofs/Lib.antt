@@ -9,3 +9,4 @@ pub mod StatusLemmas
 pub mod MacLemmas
 pub mod PointLemmas
 pub mod WrittenLemmas
+pub mod ParameterLemmas

@@ -1,11 +1,15 @@
 -- A switching point's octets are one point, or have one first fault.
-use Rattle.std.proofs.Common.{◌≡◌, ◌∙◌, ℕ, List, [], ◌∷◌, length, refl, sym, ap, arith}
+use Rattle.std.proofs.Common.{◌≡◌, ◌+◌, ◌++◌, ◌∙◌, ℕ, List, [], ◌∷◌, length, length-append, refl, sym, ap, arith}
 use Rattle.std.specs.Prelude.{slice_index, option_map}
-use Rattle.byteorder.specs.Endian.{big_number}
+use Rattle.std.specs.List.{flat_map}
+use Rattle.std.proofs.lemmas.Grind.{flat_map-append}
+use Rattle.byteorder.specs.Endian.{big_number, big_bytes}
+use Rattle.net_base.specs.declared.addr.Addr.{Addr}
 use Rattle.pw_tlvs.specs.declared.field_fault.FieldFault.{FieldFault}
 use Rattle.pw_tlvs.specs.declared.holder.Holder.TheVariants as holder
 use Rattle.pw_tlvs.specs.declared.point.Point.{Point}
-use Rattle.pw_tlvs.specs.SubTlvs.{SubTlv, said}
+use Rattle.pw_tlvs.specs.SubTlvs.{SubTlv, said, spell}
+use Rattle.pw_tlvs.specs.Written.{told, written_point}
 use Rattle.pw_tlvs.specs.Point.{IsPoint, IsPointFault, address_of}
 use Rattle.pw_tlvs.proofs.SubTlvLemmas.{never_both, one_joining}
 
@@ -30,3 +34,27 @@ one_point octets a b one other =
 -- octets that are a point have no fault
 pub never_point : (octets : List ℕ) (a : Point) (f : FieldFault) → IsPoint octets a → IsPointFault octets f → ⊥
 never_point octets a f is named = never_both holder.Point 0 octets is.subs f is.are named
+
+abbrev pub pw_id_octets : Point → List ℕ
+pw_id_octets point = flat_map (spell holder.Point) (told 0x01 (option_map (λ pw_id. big_bytes 4 pw_id) point.pw_id))
+
+abbrev pub local_octets : Point → List ℕ
+local_octets point = flat_map (spell holder.Point) (told 0x03 (option_map (λ address. address.0) point.local))
+
+abbrev pub remote_octets : Point → List ℕ
+remote_octets point = flat_map (spell holder.Point) (told 0x04 (option_map (λ address. address.0) point.remote))
+
+-- a written point is its three parts joined
+pub point_parts : (point : Point) → written_point point ≡ (pw_id_octets point ++ local_octets point) ++ remote_octets point
+point_parts point =
+    let first = told 0x01 (option_map (λ (n : ℕ). big_bytes 4 n) point.pw_id) in
+    let second = told 0x03 (option_map (λ (a : Addr). a.0) point.local) in
+    let third = told 0x04 (option_map (λ (a : Addr). a.0) point.remote) in
+    flat_map-append (spell holder.Point) (first ++ second) third ∙ ap (λ (l : List ℕ). l ++ flat_map (spell holder.Point) third) (flat_map-append (spell holder.Point) first second)
+
+pub point_length : (point : Point) → length (written_point point) ≡ (length (pw_id_octets point) + length (local_octets point)) + length (remote_octets point)
+point_length point =
+    let parts = ap length (point_parts point) in
+    let two = length-append (pw_id_octets point ++ local_octets point) (remote_octets point) in
+    let one = length-append (pw_id_octets point) (local_octets point) in
+    omega (arith, parts, two, one)

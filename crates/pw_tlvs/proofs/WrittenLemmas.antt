@@ -17,3 +17,15 @@ pub added_at : (base front back one two : List ℕ) (at middle end : ℕ) → at
 added_at base front back one two at middle end within first second begun written =
     let len : length (take at base ++ front) ≡ middle = length-append (take at base) front ∙ (ap (λ (n : ℕ). n + length front) (length-take-le at base within) ∙ sym first) in
     added_behind base (take at base ++ front) back one two middle end begun (sym len) second written ∙ ap (λ (l : List ℕ). l ++ drop end base) (append_assoc (take at base) front back)
+
+-- four pieces that are written one behind another at a place
+pub added_four : (base p q r s one two three four : List ℕ) (at a b c d : ℕ) → at ≤ length base
+    → a ≡ at + length p → one ≡ (take at base ++ p) ++ drop a base → b ≡ a + length q → two ≡ (take a one ++ q) ++ drop b one
+    → c ≡ b + length r → three ≡ (take b two ++ r) ++ drop c two → d ≡ c + length s → four ≡ (take c three ++ s) ++ drop d three
+    → four ≡ (take at base ++ (((p ++ q) ++ r) ++ s)) ++ drop d base
+added_four base p q r s one two three four at a b c d within ea o eb t ec h ed f =
+    let second = added_at base p q one two at a b within ea eb o t in
+    let pq = length-append p q in
+    let third = added_at base (p ++ q) r two three at b c within (omega (arith, ea, eb, pq)) ec second h in
+    let pqr = length-append (p ++ q) r in
+    added_at base ((p ++ q) ++ r) s three four at c d within (omega (arith, ea, eb, ec, pq, pqr)) ed third f

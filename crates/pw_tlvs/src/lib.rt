@@ -8,6 +8,7 @@
 
 mod fec_reading;
 mod fec_value;
+mod fec_writing;
 mod field_fault;
 mod found_params;
 mod held;
@@ -19,6 +20,7 @@ mod octets;
 mod parameters;
 mod point;
 mod point_reading;
+mod point_writing;
 mod points;
 mod pw_fec;
 mod pw_status;
@@ -28,12 +30,14 @@ mod told;
 
 pub use fec_reading::read_fec;
 pub use fec_value::FecValue;
+pub use fec_writing::fec_size;
 pub use field_fault::FieldFault;
 pub use if_params::IfParams;
 pub use macs::{read_macs, write_macs};
 pub use macs_fault::MacsFault;
 pub use point::Point;
 pub use point_reading::read_point;
+pub use point_writing::{point_size, write_point};
 pub use points::Points;
 pub use pw_fec::PwFec;
 pub use pw_status::{PwStatus, read_status, write_status};

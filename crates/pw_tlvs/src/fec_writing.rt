@@ -1,0 +1,88 @@
+//! Writing the value of a FEC TLV.
+ghost use Rattle.std.specs.Prelude.{◌≡◌, ◌≤◌, ◌+◌, ◌++◌, ◌∷◌, ℕ, length, take, drop, Option, option_map};
+ghost use Rattle.std.specs.List.{flat_map};
+ghost use Rattle.byteorder.specs.Endian.{big_bytes};
+ghost use Rattle.pw_tlvs.specs.declared.holder.Holder.TheVariants as held;
+ghost use Rattle.pw_tlvs.specs.SubTlvs.{spell};
+ghost use Rattle.pw_tlvs.specs.Written.{IsWritable, written_fec, written_parameters, information, control_and_kind, told, description_value, pair_octets};
+
+use crate::fec_reading::PWID;
+use crate::octets::put;
+use crate::told::{four, put_description, put_pair, put_vccv, two};
+use crate::{IfParams, PwFec};
+use net_base::Text;
+
+// The octets of the parameter of a number, where it is told.
+fn pair_size(number: Option<u16>) -> usize
+    ensures size { (kind : ℕ) → result ≡ length (flat_map (spell held.Fec) (told kind (option_map (λ n. big_bytes 2 n) number))) }
+    ensures within { result ≤ 4 }
+{
+    match number {
+        Some(_) => 4,
+        None => 0,
+    }
+}
+
+// The octets of the parameter of a description, where it is not empty.
+fn description_size(text: &Text<80>) -> usize
+    ensures size { (kind : ℕ) → result ≡ length (flat_map (spell held.Fec) (told kind (description_value text.now))) }
+    ensures within { result ≤ 82 }
+{
+    match text.len() {
+        0 => 0,
+        len => 2 + len,
+    }
+}
+
+// The octets of the parameter of what VCCV can do, where it is told.
+fn vccv_size(types: Option<(u8, u8)>) -> usize
+    ensures size { (kind : ℕ) → result ≡ length (flat_map (spell held.Fec) (told kind (option_map pair_octets types))) }
+    ensures within { result ≤ 4 }
+{
+    match types {
+        Some(_) => 4,
+        None => 0,
+    }
+}
+
+// The octets of the parameters.
+#[tactic(auto, using(crate::proofs::ParameterLemmas::parameters_length))]
+fn parameters_size(params: &IfParams) -> usize
+    ensures size { result ≡ length (written_parameters params.now) }
+    ensures within { result ≤ 94 }
+{
+    let begin = pair_size(params.mtu) + description_size(&params.description);
+    begin + pair_size(params.vlan) + vccv_size(params.vccv)
+}
+
+// The octets that the information length counts.
+fn information_size(fec: &PwFec) -> usize
+    ensures size { result ≡ length (information fec.now.pw_id fec.now.params) }
+    ensures within { result ≤ 98 }
+{
+    match fec.pw_id {
+        Some(_) => 4 + parameters_size(&fec.params),
+        None => 0,
+    }
+}
+
+/// The number of octets that `write_fec` writes, at most 106.
+pub fn fec_size(fec: &PwFec) -> usize
+    ensures size { result ≡ length (written_fec fec.now) }
+    ensures within { result ≤ 106 }
+{
+    8 + information_size(fec)
+}
+
+// Writes the parameters that are told at the place, and answers the place behind them.
+#[tactic(auto, using(crate::proofs::ParameterLemmas::parameters_length))]
+fn put_parameters(out: &mut [u8], at: usize, params: &IfParams) -> usize
+    requires room { at + length (written_parameters params.now) ≤ length out.old }
+    ensures end { result ≡ at + length (written_parameters params.now) }
+    ensures octets { out.new ≡ (take at out.old ++ written_parameters params.now) ++ drop result out.old }
+{
+    let first = put_pair(out, at, 0x01, params.mtu);
+    let second = put_description(out, first, 0x03, &params.description);
+    let third = put_pair(out, second, 0x06, params.vlan);
+    put_vccv(out, third, 0x0c, params.vccv)
+}
