@@ -86,3 +86,48 @@ fn put_parameters(out: &mut [u8], at: usize, params: &IfParams) -> usize
     let third = put_pair(out, second, 0x06, params.vlan);
     put_vccv(out, third, 0x0c, params.vccv)
 }
+
+// The eight octets of an element before its information.
+fn header_of(fec: &PwFec, count: u8) -> [u8; 8]
+    requires { fec.now.kind ≤ 0x7FFF }
+    ensures { result ≡ 0x80 ∷ (big_bytes 2 (control_and_kind fec.now.c fec.now.kind) ++ (count ∷ big_bytes 4 fec.now.group)) }
+{
+    let control = if fec.c { 0x8000 } else { 0 };
+    let word = two(control + fec.kind);
+    let group = four(fec.group);
+    [
+        PWID, word[0], word[1], count, group[0], group[1], group[2], group[3],
+    ]
+}
+
+// Writes the PW ID and the parameters at the place, where there is a PW ID, and answers the place behind them.
+#[tactic(auto, using(crate::proofs::WrittenLemmas::added_at))]
+fn put_information(out: &mut [u8], at: usize, fec: &PwFec) -> usize
+    requires room { at + length (information fec.now.pw_id fec.now.params) ≤ length out.old }
+    ensures end { result ≡ at + length (information fec.now.pw_id fec.now.params) }
+    ensures octets { out.new ≡ (take at out.old ++ information fec.now.pw_id fec.now.params) ++ drop result out.old }
+{
+    match fec.pw_id {
+        Some(pw_id) => {
+            let behind = put(out, at, &four(pw_id));
+            put_parameters(out, behind, &fec.params)
+        }
+        None => at,
+    }
+}
+
+/// Writes the PWid FEC element to the front of `out`, which has room for it, and answers the number of octets
+/// (RFC 8077 section 6.1). Where there is a PW ID, the parameters that are told follow it by rising type; an
+/// empty description is not told. The PW type is at most 0x7FFF, a VLAN ID at most 4095, and an element without
+/// a PW ID has no parameters.
+#[tactic(auto, using(crate::proofs::WrittenLemmas::added_at))]
+pub fn write_fec(fec: &PwFec, out: &mut [u8]) -> usize
+    requires writable { IsWritable fec.now }
+    requires room { length (written_fec fec.now) ≤ length out.old }
+    ensures count { result ≡ length (written_fec fec.now) }
+    ensures octets { out.new ≡ written_fec fec.now ++ drop result out.old }
+{
+    let count = information_size(fec) as u8;
+    let begin = put(out, 0, &header_of(fec, count));
+    put_information(out, begin, fec)
+}

@@ -30,7 +30,7 @@ mod told;
 
 pub use fec_reading::read_fec;
 pub use fec_value::FecValue;
-pub use fec_writing::fec_size;
+pub use fec_writing::{fec_size, write_fec};
 pub use field_fault::FieldFault;
 pub use if_params::IfParams;
 pub use macs::{read_macs, write_macs};
