@@ -10,3 +10,5 @@ pub mod MacLemmas
 pub mod PointLemmas
 pub mod WrittenLemmas
 pub mod ParameterLemmas
+pub mod ToldLemmas
+pub mod LawLemmas

@@ -1,5 +1,5 @@
 -- The one spelling of a value that an edge writes.
-use Rattle.std.specs.Prelude.{◌≡◌, ◌≤◌, ◌+◌, ◌++◌, ℕ, Bool, true, false, List, [], ◌∷◌, length, Option, Some, None, option_map, IfSome, IfNone}
+use Rattle.std.specs.Prelude.{◌≡◌, ◌<◌, ◌≤◌, ◌+◌, ◌^◌, ◌++◌, ℕ, Bool, true, false, List, [], ◌∷◌, length, Option, Some, None, option_map, IfSome, IfNone}
 use Rattle.std.specs.List.{flat_map}
 use Rattle.byteorder.specs.Endian.{big_bytes}
 use Rattle.net_base.specs.declared.addr.Addr.{Addr}
@@ -63,3 +63,16 @@ part_sub_tlvs point =
 -- a Switching Point PE TLV's value (RFC 6073 section 7.4)
 abbrev pub written_point : Point → List ℕ
 written_point point = flat_map (spell holder.Point) (part_sub_tlvs point)
+
+-- the numbers of a FEC are those that its type holds
+pub record IsFecInRange (fec : PwFec) : Type 0 where
+  pub group : fec.group < 2 ^ 32
+  pub pw_id : IfSome fec.pw_id (λ pw_id. pw_id < 2 ^ 32)
+  pub mtu : IfSome fec.params.mtu (λ mtu. mtu < 2 ^ 16)
+  pub description : length fec.params.description ≤ 80
+
+-- the numbers and addresses of a point are those that its type holds
+pub record IsPointInRange (point : Point) : Type 0 where
+  pub pw_id : IfSome point.pw_id (λ pw_id. pw_id < 2 ^ 32)
+  pub local : IfSome point.local (λ address. length address.0 ≡ 4)
+  pub remote : IfSome point.remote (λ address. length address.0 ≡ 4)

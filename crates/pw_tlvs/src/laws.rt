@@ -1,0 +1,44 @@
+//! Laws of the layouts.
+ghost use Rattle.std.specs.Prelude.{◌≡◌, ◌<◌, ◌^◌, ℕ, List, length};
+ghost use Rattle.std.specs.List.{AllByRecursion};
+ghost use Rattle.net_base.specs.declared.mac.Mac.{Mac};
+ghost use Rattle.pw_tlvs.specs.declared.fec_value.FecValue.{FecValue};
+ghost use Rattle.pw_tlvs.specs.declared.fec_value.FecValue.TheVariants.{Pw};
+ghost use Rattle.pw_tlvs.specs.declared.field_fault.FieldFault.{FieldFault};
+ghost use Rattle.pw_tlvs.specs.declared.pw_fec.PwFec.{PwFec};
+ghost use Rattle.pw_tlvs.specs.declared.pw_status.PwStatus.{PwStatus};
+ghost use Rattle.pw_tlvs.specs.declared.point.Point.{Point};
+ghost use Rattle.pw_tlvs.specs.Faults.{IsFirst};
+ghost use Rattle.pw_tlvs.specs.Fec.{IsFecValue, IsFecFault};
+ghost use Rattle.pw_tlvs.specs.Macs.{AreMacs, mac_octets};
+ghost use Rattle.pw_tlvs.specs.Point.{IsPoint, IsPointFault};
+ghost use Rattle.pw_tlvs.specs.Status.{IsStatus, written_status};
+ghost use Rattle.pw_tlvs.specs.Written.{IsFecInRange, IsPointInRange, IsWritable, written_fec, written_point};
+
+/// What is written is a value, and the one that was written; so the read call answers it. It holds of all
+/// numbers that the types hold.
+pub fn written_is_read()
+    ensures fec { (fec : PwFec) → IsWritable fec → IsFecInRange fec → IsFecValue (written_fec fec) (Pw fec) }
+    ensures status { (status : PwStatus) → status.0 < 2 ^ 32 → IsStatus (written_status status) status }
+    ensures macs { (list : List Mac) → AllByRecursion (λ mac. length mac.0 ≡ 6) list → AreMacs (mac_octets list) list }
+    ensures point { (point : Point) → IsPointInRange point → IsPoint (written_point point) point }
+{
+}
+
+/// Octets are one value at most.
+pub fn one_value()
+    ensures fec { (octets : List ℕ) (a b : FecValue) → IsFecValue octets a → IsFecValue octets b → a ≡ b }
+    ensures status { (octets : List ℕ) (a b : PwStatus) → IsStatus octets a → IsStatus octets b → a ≡ b }
+    ensures macs { (octets : List ℕ) (a b : List Mac) → AreMacs octets a → AreMacs octets b → a ≡ b }
+    ensures point { (octets : List ℕ) (a b : Point) → IsPoint octets a → IsPoint octets b → a ≡ b }
+{
+}
+
+/// Octets that are a value have no fault, and other octets have one first fault at most.
+pub fn one_fault()
+    ensures fec { (octets : List ℕ) (value : FecValue) (fault : FieldFault) → IsFecValue octets value → IsFecFault octets fault → ⊥ }
+    ensures point { (octets : List ℕ) (point : Point) (fault : FieldFault) → IsPoint octets point → IsPointFault octets fault → ⊥ }
+    ensures first_of_fec { (octets : List ℕ) (a b : FieldFault) → IsFirst (IsFecFault octets) a → IsFirst (IsFecFault octets) b → a ≡ b }
+    ensures first_of_point { (octets : List ℕ) (a b : FieldFault) → IsFirst (IsPointFault octets) a → IsFirst (IsPointFault octets) b → a ≡ b }
+{
+}
