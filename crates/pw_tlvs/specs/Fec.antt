@@ -21,7 +21,7 @@ abbrev pub text_of : Option (List ℕ) → List ℕ
 text_of None = []
 text_of (Some text) = text
 
--- the two octets of a VCCV parameter: control channel types, connectivity verification types (RFC 5085 section 5.1.2)
+-- the two octets of a VCCV parameter: control channel types, connectivity verification types (RFC 5085 section 5.3.1)
 abbrev pub vccv_of : List ℕ → ℕ × ℕ
 vccv_of value = (slice_index value 0, slice_index value 1)
 

@@ -1,4 +1,4 @@
--- The value of a PW Status TLV (RFC 8077 section 6.3).
+-- The value of a PW Status TLV (RFC 8077 section 6.3.2).
 use Rattle.std.specs.Prelude.{◌≡◌, ◌≢◌, ℕ, List, length}
 use Rattle.byteorder.specs.Endian.{big_number, big_bytes}
 use Rattle.pw_tlvs.specs.declared.pw_status.PwStatus.{PwStatus}

@@ -2,7 +2,7 @@
 
 use net_base::Text;
 
-/// The interface parameters of a PWid FEC element (RFC 8077 section 6.6, types of RFC 4446 section 3.3).
+/// The interface parameters of a PWid FEC element (RFC 8077 section 6.4, types of RFC 4446 section 3.3).
 #[derive(Clone, Copy, Debug, PartialEq, Eq)]
 pub struct IfParams {
     /// The interface MTU in octets, where it is told.
@@ -11,7 +11,7 @@ pub struct IfParams {
     pub description: Text<80>,
     /// The requested VLAN ID, at most 4095, where it is told.
     pub vlan: Option<u16>,
-    /// The VCCV control channel types and connectivity verification types as bits (RFC 5085 section 5.1.2),
+    /// The VCCV control channel types and connectivity verification types as bits (RFC 5085 section 5.3.1),
     /// where they are told.
     pub vccv: Option<(u8, u8)>,
 }

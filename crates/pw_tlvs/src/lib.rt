@@ -1,5 +1,5 @@
 //! The TLV values of pseudowires: the PWid FEC element with its interface parameters (RFC 8077 section 6),
-//! the PW Status (RFC 8077 section 6.3), the MAC List (RFC 4762 section 6.2) and the Switching Point PE TLV
+//! the PW Status (RFC 8077 section 6.3.2), the MAC List (RFC 4762 section 6.2) and the Switching Point PE TLV
 //! (RFC 6073 section 7.4), read and written.
 //!
 //! Each call is about a whole TLV value, behind the type and the length of its TLV. The layouts stand in

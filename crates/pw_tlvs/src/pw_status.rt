@@ -8,13 +8,13 @@ ghost use Rattle.pw_tlvs.specs.Status.{IsStatus, IsStatusFault, written_status};
 use crate::FieldFault;
 use byteorder::{BigEndian, ByteOrder};
 
-/// The value of a PW Status TLV (RFC 8077 section 6.3), a set of bits: 0x01 not forwarding, 0x02 circuit receive
+/// The value of a PW Status TLV (RFC 8077 section 6.3.2), a set of bits: 0x01 not forwarding, 0x02 circuit receive
 /// fault, 0x04 circuit transmit fault, 0x08 PSN receive fault, 0x10 PSN transmit fault (RFC 4446 section 3.5),
-/// 0x20 standby, 0x40 request switchover (RFC 6870 section 5).
+/// 0x20 standby, 0x40 request switchover (RFC 6870).
 #[derive(Clone, Copy, Debug, PartialEq, Eq)]
 pub struct PwStatus(pub u32);
 
-/// The status that the octets are (RFC 8077 section 6.3). The value has at most 65,535 octets. `Size` comes
+/// The status that the octets are (RFC 8077 section 6.3.2). The value has at most 65,535 octets. `Size` comes
 /// exactly where they are not four, and no other fault comes.
 pub fn read_status(value: &[u8]) -> Result<PwStatus, FieldFault>
     requires { length value.now ≤ 65535 }
@@ -36,7 +36,7 @@ fn status_of(value: &[u8]) -> Result<PwStatus, FieldFault>
 }
 
 /// Writes the four octets of the status to the front of `out`, which has room for them, and answers their
-/// number (RFC 8077 section 6.3).
+/// number (RFC 8077 section 6.3.2).
 pub fn write_status(status: PwStatus, out: &mut [u8]) -> usize
     requires room { 4 ≤ length out.old }
     ensures count { result ≡ length (written_status status) }
