@@ -167,11 +167,17 @@ fn writes_and_reads_a_pseudowire(rt: HostRuntime) {
         vlan: Some(7),
         vccv: Some((1, 2)),
     };
-    let full = fec(false, 4, 258, Some(100), params);
-    let mut out = [0u8; 40];
+    let full = PwFec {
+        c: false,
+        kind: 4,
+        group: 258,
+        pw_id: Some(100),
+        params,
+    };
+    let mut out = [0u8; 28];
     assert_eq!(rt; fec_size(&full), 28);
     assert_eq!(rt; write_fec(&full, &mut out), 28);
-    assert!(rt; out[..28] == FULL[..]);
+    assert!(rt; out == FULL);
     assert!(rt; read_fec(&FULL) == Ok(FecValue::Pw(full)));
 }
 
