@@ -1,7 +1,7 @@
 -- The value of a FEC TLV is one, or its octets have one first fault.
-use Rattle.std.proofs.Common.{◌≡◌, ◌≤◌, ◌<◌, ◌+◌, ◌++◌, ◌⊎◌, ◌↔◌, ℕ, List, [], ◌∷◌, length, drop, length-drop, refl, sym, ap, ◌∙◌, subst, arith, inl, inr, Some, None, Ok, Err}
+use Rattle.std.proofs.Common.{◌≡◌, ◌≤◌, ◌<◌, ◌+◌, ◌++◌, ◌⊎◌, ◌↔◌, ℕ, List, [], ◌∷◌, length, take, drop, get_or, length-drop, refl, sym, ap, ◌∙◌, subst, arith, inl, inr, Some, None, Ok, Err}
 use Rattle.std.specs.Prelude.{slice_index, IfOk, IfErr, Result, Option, option_map}
-use Rattle.std.proofs.lemmas.List.{drop-drop}
+use Rattle.std.proofs.lemmas.List.{drop-drop, get_or-take}
 use Rattle.byteorder.specs.Endian.{big_number}
 use Rattle.net_base.specs.declared.field.Field.TheVariants as field
 use Rattle.pw_tlvs.specs.declared.field_fault.FieldFault.{FieldFault}
@@ -128,3 +128,20 @@ never_fec octets (Foreign a) f (inr more) (short some first few e) = let h = mor
 never_fec octets (Foreign a) f (inr more) (too_short begun few e) = more.long few
 never_fec octets (Foreign a) f (inr more) (past_end begun far e) = let m = more.more in omega arith
 never_fec octets (Foreign a) f (inr more) (parameter begun long some whole named) = let m = more.more in omega arith
+
+same_octet : (n : ℕ) (octets other : List ℕ) → n < 4 → take 4 octets ≡ take 4 other → slice_index octets n ≡ slice_index other n
+same_octet n octets other below same = sym (get_or-take 4 octets n 0 below) ∙ (ap (λ (l : List ℕ). get_or l n 0) same ∙ get_or-take 4 other n 0 below)
+
+-- what follows an element is not looked at
+pub followed_again : (octets other : List ℕ) (first : ℕ) → IsFollowed octets first → take 4 octets ≡ take 4 other → length octets ≡ length other → IsFollowed other first
+followed_again octets other first is same len =
+    let begin = same_octet 0 octets other (omega arith) same in
+    let count = same_octet 3 octets other (omega arith) same in
+    let header = is.begun.header in
+    let more = is.more in
+    record {
+      begun = record { element = sym begin ∙ is.begun.element; header = omega arith };
+      is = is.is;
+      long = λ few. is.long (subst IsTooShort (sym count) few);
+      more = omega arith;
+    }

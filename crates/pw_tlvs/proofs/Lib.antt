@@ -12,3 +12,4 @@ pub mod WrittenLemmas
 pub mod ParameterLemmas
 pub mod ToldLemmas
 pub mod LawLemmas
+mod Examples

@@ -1,15 +1,15 @@
 //! Laws of the layouts.
-ghost use Rattle.std.specs.Prelude.{◌≡◌, ◌<◌, ◌^◌, ℕ, List, length};
+ghost use Rattle.std.specs.Prelude.{◌≡◌, ◌<◌, ◌^◌, ℕ, List, length, take};
 ghost use Rattle.std.specs.List.{AllByRecursion};
 ghost use Rattle.net_base.specs.declared.mac.Mac.{Mac};
 ghost use Rattle.pw_tlvs.specs.declared.fec_value.FecValue.{FecValue};
-ghost use Rattle.pw_tlvs.specs.declared.fec_value.FecValue.TheVariants.{Pw};
+ghost use Rattle.pw_tlvs.specs.declared.fec_value.FecValue.TheVariants.{Pw, Foreign};
 ghost use Rattle.pw_tlvs.specs.declared.field_fault.FieldFault.{FieldFault};
 ghost use Rattle.pw_tlvs.specs.declared.pw_fec.PwFec.{PwFec};
 ghost use Rattle.pw_tlvs.specs.declared.pw_status.PwStatus.{PwStatus};
 ghost use Rattle.pw_tlvs.specs.declared.point.Point.{Point};
 ghost use Rattle.pw_tlvs.specs.Faults.{IsFirst};
-ghost use Rattle.pw_tlvs.specs.Fec.{IsFecValue, IsFecFault};
+ghost use Rattle.pw_tlvs.specs.Fec.{IsFecValue, IsFecFault, IsFollowed};
 ghost use Rattle.pw_tlvs.specs.Macs.{AreMacs, mac_octets};
 ghost use Rattle.pw_tlvs.specs.Point.{IsPoint, IsPointFault};
 ghost use Rattle.pw_tlvs.specs.Status.{IsStatus, written_status};
@@ -40,5 +40,12 @@ pub fn one_fault()
     ensures point { (octets : List ℕ) (point : Point) (fault : FieldFault) → IsPoint octets point → IsPointFault octets fault → ⊥ }
     ensures first_of_fec { (octets : List ℕ) (a b : FieldFault) → IsFirst (IsFecFault octets) a → IsFirst (IsFecFault octets) b → a ≡ b }
     ensures first_of_point { (octets : List ℕ) (a b : FieldFault) → IsFirst (IsPointFault octets) a → IsFirst (IsPointFault octets) b → a ≡ b }
+{
+}
+
+/// Where further octets follow a PWid element, nothing behind its information length is looked at: other octets
+/// there are the same value.
+pub fn followed_is_not_looked_into()
+    ensures { (octets other : List ℕ) (first : ℕ) → IsFollowed octets first → take 4 octets ≡ take 4 other → length octets ≡ length other → IsFecValue other (Foreign first) }
 {
 }

@@ -34,7 +34,7 @@ pub use fec_value::FecValue;
 pub use fec_writing::{fec_size, write_fec};
 pub use field_fault::FieldFault;
 pub use if_params::IfParams;
-pub use laws::{one_fault, one_value, written_is_read};
+pub use laws::{followed_is_not_looked_into, one_fault, one_value, written_is_read};
 pub use macs::{read_macs, write_macs};
 pub use macs_fault::MacsFault;
 pub use point::Point;
