@@ -1,15 +1,15 @@
 -- The definitions at work on small values: each equation below is found by evaluation alone.
-use Rattle.std.proofs.Common.{◌≡◌, ◌≢◌, ◌≤◌, ◌<◌, ◌+◌, ℕ, true, false, List, [], ◌∷◌, Some, None, inl, inr, refl, arith}
+use Rattle.std.proofs.Common.{◌≡◌, ℕ, true, List, [], ◌∷◌, Some, None, inl, inr, refl, arith}
 use Rattle.net_base.specs.declared.field.Field.TheVariants as field
-use Rattle.pw_tlvs.specs.declared.field_fault.FieldFault.TheVariants.{Size, Value, Repeated}
+use Rattle.pw_tlvs.specs.declared.field_fault.FieldFault.TheVariants.{Value, Repeated}
 use Rattle.pw_tlvs.specs.declared.fec_value.FecValue.TheVariants.{Pw, Foreign}
 use Rattle.pw_tlvs.specs.declared.holder.Holder.TheVariants as holder
 use Rattle.pw_tlvs.specs.declared.if_params.IfParams.{IfParams}
 use Rattle.pw_tlvs.specs.declared.point.Point.{Point}
 use Rattle.pw_tlvs.specs.declared.pw_fec.PwFec.{PwFec}
-use Rattle.pw_tlvs.specs.Fec.{IsFecValue, IsFecFault, IsPwid, too_short, past_end, parameter, short, empty, no_params}
-use Rattle.pw_tlvs.specs.Point.{IsPoint, IsPointFault}
-use Rattle.pw_tlvs.specs.SubTlvs.{SubTlv, AreGood, lone, outside, misfit, excess, again}
+use Rattle.pw_tlvs.specs.Fec.{IsFecValue, IsFecFault, IsPwid, past_end, parameter}
+use Rattle.pw_tlvs.specs.Point.{IsPointFault}
+use Rattle.pw_tlvs.specs.SubTlvs.{SubTlv, AreGood, lone, outside, again}
 use Rattle.pw_tlvs.specs.Written.{written_fec, written_point}
 use Rattle.pw_tlvs.proofs.SubTlvLemmas.{good_more}
 use Rattle.pw_tlvs.proofs.ToldLemmas.{good_none}
@@ -38,19 +38,34 @@ good_mtu = good_more holder.Fec [] an_mtu (good_none holder.Fec) (record { fit =
 
 read : IsFecValue (fec_octets 8 []) (Pw the_fec)
 read = record {
-  begun = begun 8 []; c = refl; kind = refl; whole = refl; group = refl;
+  begun = begun 8 [];
+  c = refl;
+  kind = refl;
+  whole = refl;
+  group = refl;
   information = (omega arith, refl, record { subs = an_mtu ∷ []; are = record { joined = refl; good = good_mtu }; mtu = refl; description = refl; vlan = refl; vccv = refl });
 }
 
 -- an unknown parameter behind the MTU is ignored
 unknown_ignored : IsFecValue (fec_octets 10 (0x7F ∷ 0x02 ∷ [])) (Pw the_fec)
 unknown_ignored = record {
-  begun = begun 10 (0x7F ∷ 0x02 ∷ []); c = refl; kind = refl; whole = refl; group = refl;
-  information = (omega arith, refl, record {
-    subs = an_mtu ∷ record { kind = 0x7F; value = [] } ∷ [];
-    are = record { joined = refl; good = good_more holder.Fec (an_mtu ∷ []) (record { kind = 0x7F; value = [] }) good_mtu (record { fit = tt; allowed = refl }) (λ known. refl) };
-    mtu = refl; description = refl; vlan = refl; vccv = refl;
-  });
+  begun = begun 10 (0x7F ∷ 0x02 ∷ []);
+  c = refl;
+  kind = refl;
+  whole = refl;
+  group = refl;
+  information = (
+    omega arith,
+    refl,
+    record {
+      subs = an_mtu ∷ record { kind = 0x7F; value = [] } ∷ [];
+      are = record { joined = refl; good = good_more holder.Fec (an_mtu ∷ []) (record { kind = 0x7F; value = [] }) good_mtu (record { fit = tt; allowed = refl }) (λ known. refl) };
+      mtu = refl;
+      description = refl;
+      vlan = refl;
+      vccv = refl;
+    },
+  );
 }
 
 -- a length of 1 is too small: the fault is at the length octet, the 18th of the value

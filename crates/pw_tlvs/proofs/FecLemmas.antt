@@ -1,57 +1,18 @@
 -- The value of a FEC TLV is one, or its octets have one first fault.
-use Rattle.std.proofs.Common.{◌≡◌, ◌≤◌, ◌<◌, ◌+◌, ◌++◌, ◌⊎◌, ◌↔◌, ℕ, List, [], ◌∷◌, length, take, drop, get_or, length-drop, refl, sym, ap, ◌∙◌, subst, arith, inl, inr, Some, None, Ok, Err}
-use Rattle.std.specs.Prelude.{slice_index, IfOk, IfErr, Result, Option, option_map}
+use Rattle.std.proofs.Common.{◌≡◌, ◌≤◌, ◌<◌, ◌+◌, ℕ, List, length, take, drop, get_or, length-drop, refl, sym, ap, ◌∙◌, subst, arith, inl, inr, Some, None}
+use Rattle.std.specs.Prelude.{slice_index, Option, option_map}
 use Rattle.std.proofs.lemmas.List.{drop-drop, get_or-take}
 use Rattle.byteorder.specs.Endian.{big_number}
-use Rattle.net_base.specs.declared.field.Field.TheVariants as field
 use Rattle.pw_tlvs.specs.declared.field_fault.FieldFault.{FieldFault}
-use Rattle.pw_tlvs.specs.declared.field_fault.FieldFault.TheVariants.{Size, Value}
 use Rattle.pw_tlvs.specs.declared.fec_value.FecValue.{FecValue}
 use Rattle.pw_tlvs.specs.declared.fec_value.FecValue.TheVariants.{Pw, Foreign}
 use Rattle.pw_tlvs.specs.declared.holder.Holder.TheVariants as holder
 use Rattle.pw_tlvs.specs.declared.if_params.IfParams.{IfParams}
 use Rattle.pw_tlvs.specs.declared.pw_fec.PwFec.{PwFec}
 use Rattle.pw_tlvs.specs.Faults.{Precedes, IsFirst}
-use Rattle.pw_tlvs.specs.SubTlvs.{SubTlv, AreSubTlvs, IsNamed, said}
-use Rattle.pw_tlvs.specs.Fec.{AreParameters, IsPwid, information_length, IsTooShort, IsInformation, IsPwFec, IsOtherElement, IsFollowed, IsFecValue, IsFecFault, empty, short, too_short, past_end, parameter, text_of, vccv_of}
-use Rattle.pw_tlvs.proofs.FaultLemmas.{first_alone, one_first}
+use Rattle.pw_tlvs.specs.SubTlvs.{SubTlv, IsNamed, said}
+use Rattle.pw_tlvs.specs.Fec.{AreParameters, IsPwid, information_length, IsTooShort, IsInformation, IsPwFec, IsFollowed, IsFecValue, IsFecFault, empty, short, too_short, past_end, parameter, text_of, vccv_of}
 use Rattle.pw_tlvs.proofs.SubTlvLemmas.{never_both, one_joining}
-
-pub empty_first : (octets : List ℕ) → length octets ≡ 0 → IsFirst (IsFecFault octets) Size
-empty_first octets none = first_alone Size (empty none refl) only
-  where
-    only : (g : FieldFault) → IsFecFault octets g → g ≡ Size
-    only g (empty none' e) = e
-    only g (short some first few e) = e
-    only g (too_short begun few e) = let h = begun.header in absurd (omega arith)
-    only g (past_end begun far e) = let h = begun.header in absurd (omega arith)
-    only g (parameter begun long some whole named) = let h = begun.header in absurd (omega arith)
-
-pub short_first : (octets : List ℕ) → 1 ≤ length octets → slice_index octets 0 ≡ 0x80 → length octets < 8 → IsFirst (IsFecFault octets) Size
-short_first octets some first few = first_alone Size (short some first few refl) only
-  where
-    only : (g : FieldFault) → IsFecFault octets g → g ≡ Size
-    only g (empty none e) = e
-    only g (short some' first' few' e) = e
-    only g (too_short begun count e) = let h = begun.header in absurd (omega arith)
-    only g (past_end begun far e) = let h = begun.header in absurd (omega arith)
-    only g (parameter begun long some' whole named) = let h = begun.header in absurd (omega arith)
-
-pub length_first : (octets : List ℕ) → IsPwid octets → (IsTooShort (information_length octets) ⊎ (length octets < 8 + information_length octets)) → IsFirst (IsFecFault octets) (Value 3 field.InfoLength)
-length_first octets begun bad = first_alone (Value 3 field.InfoLength) (named bad) only
-  where
-    named : (IsTooShort (information_length octets) ⊎ (length octets < 8 + information_length octets)) → IsFecFault octets (Value 3 field.InfoLength)
-    named (inl few) = too_short begun few refl
-    named (inr far) = past_end begun far refl
-    whole_is_fine : (IsTooShort (information_length octets) ⊎ (length octets < 8 + information_length octets)) → (IsTooShort (information_length octets) → ⊥) → length octets ≡ 8 + information_length octets → ⊥
-    whole_is_fine (inl few) long whole = long few
-    whole_is_fine (inr far) long whole = omega arith
-    only : (g : FieldFault) → IsFecFault octets g → g ≡ Value 3 field.InfoLength
-    only g (empty none e) = let h = begun.header in absurd (omega arith)
-    only g (short some first few e) = let h = begun.header in absurd (omega arith)
-    only g (too_short begun' few e) = e
-    only g (past_end begun' far e) = e
-    only g (parameter begun' long some whole inner) = absurd (whole_is_fine bad long whole)
 
 pub parameter_first : (octets : List ℕ) (f : FieldFault) → IsPwid octets → (IsTooShort (information_length octets) → ⊥) → 1 ≤ information_length octets → length octets ≡ 8 + information_length octets
     → IsFirst (IsNamed holder.Fec 12 (drop 12 octets)) f → IsFirst (IsFecFault octets) f

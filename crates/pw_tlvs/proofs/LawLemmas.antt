@@ -1,9 +1,7 @@
 -- What is written is a value, and the one that was written.
-use Rattle.std.proofs.Common.{◌≡◌, ◌≤◌, ◌<◌, ◌+◌, ◌++◌, ◌==◌, ◌%◌, ◌^◌, ◌∙◌, ◌&&◌, ℕ, Bool, true, false, List, [], ◌∷◌, length, drop, length-append, refl, sym, ap, subst, arith, Some, None}
-use Rattle.std.specs.Prelude.{IfSome, IfNone, IsSome, Option, option_map, nat_le, slice_index}
-use Rattle.std.specs.List.{flat_map}
+use Rattle.std.proofs.Common.{◌≡◌, ◌≤◌, ◌<◌, ◌+◌, ◌++◌, ◌%◌, ◌^◌, ◌∙◌, ℕ, Bool, true, false, List, [], ◌∷◌, length, refl, sym, ap, subst, arith, Some, None}
+use Rattle.std.specs.Prelude.{IfSome, IfNone, Option, option_map, nat_le}
 use Rattle.std.proofs.lemmas.Bool.Decides.{nat_tests}
-use Rattle.std.proofs.lemmas.Grind.{common_steps}
 use Rattle.byteorder.specs.Endian.{big_number, big_bytes}
 use Rattle.net_base.specs.declared.addr.Addr.{Addr}
 use Rattle.net_base.specs.declared.field.Field.TheVariants as field
@@ -13,8 +11,8 @@ use Rattle.pw_tlvs.specs.declared.if_params.IfParams.{IfParams}
 use Rattle.pw_tlvs.specs.declared.point.Point.{Point}
 use Rattle.pw_tlvs.specs.declared.pw_fec.PwFec.{PwFec}
 use Rattle.pw_tlvs.specs.declared.pw_status.PwStatus.{PwStatus}
-use Rattle.pw_tlvs.specs.SubTlvs.{SubTlv, spell, IsGood, AreGood, AreSubTlvs, said, values, row_of}
-use Rattle.pw_tlvs.specs.Fec.{AreParameters, IsPwFec, IsFecValue, IsInformation, no_params, text_of, vccv_of}
+use Rattle.pw_tlvs.specs.SubTlvs.{IsGood, row_of}
+use Rattle.pw_tlvs.specs.Fec.{AreParameters, IsFecValue, IsInformation, no_params, text_of, vccv_of}
 use Rattle.pw_tlvs.specs.Point.{IsPoint, address_of}
 use Rattle.pw_tlvs.specs.Status.{IsStatus, written_status}
 use Rattle.pw_tlvs.specs.Written.{told, description_value, pair_octets, parameter_sub_tlvs, written_parameters, information, control_and_kind, written_fec, IsWritable, IsFecInRange, part_sub_tlvs, written_point, IsPointInRange}
@@ -68,9 +66,9 @@ good_vlan None below = tt
 good_vlan (Some n) below = record {
   fit = refl;
   allowed =
-    let same : big_number 2 (big_bytes 2 n) ≡ n = number_two n [] (omega (arith, below)) in
-    let within : nat_le n 4095 ≡ true = grind (arith, nat_tests, below) in
-    subst (λ (k : ℕ). nat_le k 4095 ≡ true) (sym same) within;
+      let same : big_number 2 (big_bytes 2 n) ≡ n = number_two n [] (omega (arith, below)) in
+      let within : nat_le n 4095 ≡ true = grind (arith, nat_tests, below) in
+      subst (λ (k : ℕ). nat_le k 4095 ≡ true) (sym same) within;
 }
 
 good_vccv : (o : Option (ℕ × ℕ)) → IfSome (option_map pair_octets o) (λ value. IsGood holder.Fec (record { kind = 0x0C; value = value }))

@@ -1,8 +1,8 @@
 -- Octets are addresses in one way at most.
-use Rattle.std.proofs.Common.{◌≡◌, ◌≤◌, ◌<◌, ◌%◌, ◌*◌, ◌+◌, ◌++◌, ◌∙◌, ℕ, List, [], ◌∷◌, length, take, drop, refl, sym, ap, subst, arith, append_assoc, length-append, length-drop, length-take}
-use Rattle.std.specs.List.{AllByRecursion, flat_map}
+use Rattle.std.proofs.Common.{◌≡◌, ◌≤◌, ◌<◌, ◌%◌, ◌*◌, ◌+◌, ◌++◌, ◌∙◌, ℕ, List, [], ◌∷◌, length, take, drop, refl, sym, ap, arith, length-append}
+use Rattle.std.specs.List.{AllByRecursion}
 use Rattle.std.proofs.lemmas.Grind.{flat_map-append}
-use Rattle.std.proofs.lemmas.List.{append-nil, take_all, take_more, get_or_read}
+use Rattle.std.proofs.lemmas.List.{append-nil}
 use Rattle.std.proofs.lemmas.Slice.{drop-append-drop}
 use Rattle.std.proofs.Math.Seq.{take-add, take-append_seam}
 use Rattle.net_base.specs.declared.mac.Mac.{Mac}
@@ -33,9 +33,6 @@ macs_more octets at list new mac upto below sixes is six e = rw e (record {
   front = take-add at 6 octets ∙ ((λ i. upto.front i ++ sym is i) ∙ sym (octets_more list mac));
   whole = all_more list mac upto.whole six;
 })
-
-pub macs_all : (octets : List ℕ) (at : ℕ) (list : List Mac) → AreMacsUpTo octets at list → length octets ≤ at → AreMacs octets list
-macs_all octets at list upto end = record { joined = sym (take_all at octets end) ∙ upto.front; whole = upto.whole }
 
 same_macs : (a b : List Mac) → AllByRecursion (λ m. length m.0 ≡ 6) a → AllByRecursion (λ m. length m.0 ≡ 6) b → mac_octets a ≡ mac_octets b → a ≡ b
 same_macs [] [] six seven e = refl
@@ -69,7 +66,7 @@ written_more list mac count at end old new newer done six is written = record {
   sixes = let h = done.sixes in omega arith;
   is = let h = done.is in let more = ap length (octets_more list mac) in let parts = length-append (mac_octets list) mac.0 in omega arith;
   octets =
-    let front : take at new ≡ mac_octets list = ap (λ (l : List ℕ). take at l) done.octets ∙ (ap (λ (n : ℕ). take n (mac_octets list ++ drop at old)) done.is ∙ take-append_seam (mac_octets list) (drop at old)) in
-    let back : drop end new ≡ drop end old = ap (λ (l : List ℕ). drop end l) done.octets ∙ drop-append-drop at old (mac_octets list) end (omega arith) (sym done.is) in
-    written ∙ ((λ i. (front i ++ mac.0) ++ back i) ∙ ap (λ (l : List ℕ). l ++ drop end old) (sym (octets_more list mac)));
+      let front : take at new ≡ mac_octets list = ap (λ (l : List ℕ). take at l) done.octets ∙ (ap (λ (n : ℕ). take n (mac_octets list ++ drop at old)) done.is ∙ take-append_seam (mac_octets list) (drop at old)) in
+      let back : drop end new ≡ drop end old = ap (λ (l : List ℕ). drop end l) done.octets ∙ drop-append-drop at old (mac_octets list) end (omega arith) (sym done.is) in
+      written ∙ ((λ i. (front i ++ mac.0) ++ back i) ∙ ap (λ (l : List ℕ). l ++ drop end old) (sym (octets_more list mac)));
 }

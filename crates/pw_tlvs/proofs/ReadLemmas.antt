@@ -1,9 +1,9 @@
 -- Sub-TLVs that were read up to a place.
-use Rattle.std.proofs.Common.{◌≡◌, ◌≤◌, ◌<◌, ◌+◌, ◌++◌, ℕ, Bool, false, List, [], ◌∷◌, length, take, drop, length-append, length-drop, refl, sym, ap, ◌∙◌, subst, arith, append_assoc}
+use Rattle.std.proofs.Common.{◌≡◌, ◌≤◌, ◌+◌, ◌++◌, ℕ, Bool, false, List, [], ◌∷◌, length, take, drop, length-append, length-drop, sym, ap, ◌∙◌, subst, arith}
 use Rattle.std.specs.Prelude.{IsSome}
 use Rattle.std.specs.List.{flat_map}
 use Rattle.std.proofs.lemmas.Grind.{flat_map-append}
-use Rattle.std.proofs.lemmas.List.{append-nil, take-append-drop, length-take-le, take_all, take_at}
+use Rattle.std.proofs.lemmas.List.{append-nil, take-append-drop, length-take-le, take_at}
 use Rattle.std.proofs.Math.Seq.{take-add}
 use Rattle.pw_tlvs.specs.declared.field_fault.FieldFault.{FieldFault}
 use Rattle.pw_tlvs.specs.declared.holder.Holder.{Holder}
@@ -12,7 +12,7 @@ use Rattle.pw_tlvs.specs.declared.found_params.FoundParams.{FoundParams}
 use Rattle.pw_tlvs.specs.declared.point.Point.{Point}
 use Rattle.pw_tlvs.specs.Found.{FoundSays, PointSays}
 use Rattle.pw_tlvs.specs.Faults.{IsFirst}
-use Rattle.pw_tlvs.specs.SubTlvs.{SubTlv, spell, AreGood, AreSubTlvs, IsNamed, IsFirstWrong, Stood, row_of, values}
+use Rattle.pw_tlvs.specs.SubTlvs.{SubTlv, spell, AreGood, IsNamed, IsFirstWrong, Stood, row_of, values}
 use Rattle.pw_tlvs.proofs.SubTlvLemmas.{first_named}
 use Rattle.pw_tlvs.proofs.WrongLemmas.{stood_no}
 
@@ -35,23 +35,16 @@ read_fault h begin octets at place subs f upto is wrong =
     let there : place ≡ begin + length (flat_map (spell h) subs) = omega (arith, length_of h octets at subs upto, is) in
     first_named h begin octets subs (drop at octets) f (split_at h octets at subs upto) upto.good (subst (λ (n : ℕ). IsFirstWrong h subs (drop at octets) n f) there wrong)
 
--- at the end the octets are these sub-TLVs
-pub read_all : (h : Holder) (octets : List ℕ) (at : ℕ) (subs : List SubTlv) → AreReadUpTo h octets at subs → length octets ≤ at → AreSubTlvs h octets subs
-read_all h octets at subs upto end = record { joined = sym (take_all at octets end) ∙ upto.front; good = upto.good }
-
 -- one more stands before a later place
 pub read_more : (h : Holder) (octets : List ℕ) (at size : ℕ) (subs : List SubTlv) (s : SubTlv) (more : List ℕ) → AreReadUpTo h octets at subs → drop at octets ≡ spell h s ++ more
     → size ≡ 2 + length s.value → AreGood h (subs ++ s ∷ []) → AreReadUpTo h octets (at + size) (subs ++ s ∷ [])
 read_more h octets at size subs s more upto next is good = record {
   within = omega (arith, length-drop at octets, ap length next, length-append s.value more, is, upto.within);
   front =
-    let here : take size (drop at octets) ≡ spell h s = ap (take size) next ∙ take_at (spell h s) more size (omega (arith, is)) in
-    take-add at size octets ∙ ((λ i. upto.front i ++ here i) ∙ (ap (λ (l : List ℕ). flat_map (spell h) subs ++ l) (sym (append-nil (spell h s))) ∙ sym (flat_map-append (spell h) subs (s ∷ []))));
+      let here : take size (drop at octets) ≡ spell h s = ap (take size) next ∙ take_at (spell h s) more size (omega (arith, is)) in
+      take-add at size octets ∙ ((λ i. upto.front i ++ here i) ∙ (ap (λ (l : List ℕ). flat_map (spell h) subs ++ l) (sym (append-nil (spell h s))) ∙ sym (flat_map-append (spell h) subs (s ∷ []))));
   good = good;
 }
-
-pub read_none : (h : Holder) (octets : List ℕ) → AreReadUpTo h octets 0 []
-read_none h octets = record { within = omega arith; front = refl; good = record { good = tt; once = λ kind known. omega arith } }
 
 -- parameters were read up to a place, and this is what they say
 pub record AreFoundUpTo (octets : List ℕ) (at : ℕ) (found : FoundParams) : Type 0 where

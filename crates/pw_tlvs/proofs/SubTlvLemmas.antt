@@ -1,19 +1,18 @@
 -- Octets are sub-TLVs in one way at most, and have a fault or are sub-TLVs, and not both.
-use Rattle.std.proofs.Common.{◌≡◌, ◌≤◌, ◌<◌, ◌+◌, ◌-◌, ◌++◌, ◌==◌, ℕ, zero, suc, Bool, true, false, List, [], ◌∷◌, length, get_or, take, drop, map, filter, refl, sym, ap, ◌∙◌, subst, arith, append_assoc, length-append, inl, inr, Some, None}
-use Rattle.std.specs.Prelude.{IfSome, IsSome, slice_index}
-use Rattle.std.proofs.lemmas.Grind.{flat_map-append, common_steps}
+use Rattle.std.proofs.Common.{◌≡◌, ◌≤◌, ◌+◌, ◌++◌, ◌==◌, ℕ, suc, true, false, List, [], ◌∷◌, length, map, filter, refl, sym, ap, ◌∙◌, subst, arith, append_assoc, length-append, inl, inr, Some}
+use Rattle.std.specs.Prelude.{IsSome, slice_index}
+use Rattle.std.proofs.lemmas.Grind.{flat_map-append}
 use Rattle.std.proofs.lemmas.List.{append-nil, map-append}
 use Rattle.std.proofs.lemmas.List.Elements.{filter-append}
 use Rattle.std.proofs.lemmas.Bool.{eq-eqb}
 use Rattle.std.proofs.lemmas.Bool.Decides.{eqb_tells}
 use Rattle.std.specs.List.{AllByRecursion, flat_map}
 use Rattle.pw_tlvs.specs.declared.field_fault.FieldFault.{FieldFault}
-use Rattle.pw_tlvs.specs.declared.field_fault.FieldFault.TheVariants.{Size, Value, Repeated}
 use Rattle.pw_tlvs.specs.declared.holder.Holder.{Holder}
 use Rattle.pw_tlvs.specs.declared.holder.Holder.TheVariants as holder
 use Rattle.pw_tlvs.specs.declared.row.Row.{Row}
-use Rattle.pw_tlvs.specs.Faults.{place_of, rank_of, Precedes, IsFirst}
-use Rattle.pw_tlvs.specs.SubTlvs.{SubTlv, counted, spell, row_of, fits, allows, IsGood, values, said, AreGood, AreSubTlvs, IsOutside, lone_fault, outside_fault, IsWrong, lone, outside, misfit, excess, again, IsNamed, IsFirstWrong}
+use Rattle.pw_tlvs.specs.Faults.{place_of, Precedes, IsFirst}
+use Rattle.pw_tlvs.specs.SubTlvs.{SubTlv, counted, spell, row_of, fits, allows, IsGood, values, AreGood, AreSubTlvs, IsWrong, lone, outside, misfit, excess, again, IsNamed, IsFirstWrong}
 
 pub same_front : (xs ys more rest : List ℕ) → length xs ≡ length ys → xs ++ more ≡ ys ++ rest → (xs ≡ ys) × (more ≡ rest)
 same_front [] [] more rest len e = (refl, e)

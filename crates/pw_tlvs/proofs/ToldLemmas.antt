@@ -1,6 +1,6 @@
 -- What is told is what the sub-TLVs say.
-use Rattle.std.proofs.Common.{◌≡◌, ◌≤◌, ◌<◌, ◌+◌, ◌++◌, ◌==◌, ◌^◌, ◌∙◌, ℕ, Bool, true, false, List, [], ◌∷◌, length, refl, sym, ap, subst, arith, Some, None}
-use Rattle.std.specs.Prelude.{IfSome, IsSome, Option, slice_get, option_map}
+use Rattle.std.proofs.Common.{◌≡◌, ◌<◌, ◌++◌, ◌==◌, ◌^◌, ◌∙◌, ℕ, false, List, [], refl, sym, ap, subst, arith, Some, None}
+use Rattle.std.specs.Prelude.{IfSome, Option, slice_get, option_map}
 use Rattle.std.proofs.lemmas.List.{append-nil}
 use Rattle.byteorder.specs.Endian.{big_number, big_bytes}
 use Rattle.pw_tlvs.specs.declared.holder.Holder.{Holder}

@@ -1,8 +1,8 @@
 -- Pieces that are written one behind another.
-use Rattle.std.proofs.Common.{◌≡◌, ◌≤◌, ◌+◌, ◌++◌, ◌∙◌, ℕ, List, [], length, take, drop, ap, sym, arith, append_assoc, length-append}
+use Rattle.std.proofs.Common.{◌≡◌, ◌≤◌, ◌+◌, ◌++◌, ◌∙◌, ℕ, List, length, take, drop, ap, sym, arith, append_assoc, length-append}
 use Rattle.std.proofs.lemmas.Slice.{drop-append-drop}
 use Rattle.std.proofs.Math.Seq.{take-append_seam}
-use Rattle.std.proofs.lemmas.List.{length-take-le, take-append-le}
+use Rattle.std.proofs.lemmas.List.{length-take-le}
 
 -- a piece that is written behind what was made stands behind it, and the rest is as it was
 pub added_behind : (base made piece one two : List ℕ) (at end : ℕ) → one ≡ made ++ drop at base → at ≡ length made → end ≡ at + length piece → two ≡ (take at one ++ piece) ++ drop end one → two ≡ (made ++ piece) ++ drop end base

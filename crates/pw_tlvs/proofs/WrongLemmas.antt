@@ -1,28 +1,22 @@
 -- What is first wrong at a place, test by test.
-use Rattle.std.proofs.Common.{◌≡◌, ◌≤◌, ◌<◌, ◌+◌, ◌++◌, ◌⊎◌, ℕ, suc, Bool, true, false, List, [], ◌∷◌, length, refl, sym, ap, ◌∙◌, subst, arith, append_assoc, length-append, inl, inr, Some, None}
-use Rattle.std.specs.Prelude.{IfSome, IsSome, slice_index, nat_le, ◌==◌, ◌||◌, not, if◌then◌else◌}
+use Rattle.std.proofs.Common.{◌≡◌, ◌≤◌, ◌+◌, ◌++◌, ◌⊎◌, ℕ, suc, Bool, true, false, List, [], length, refl, sym, ap, ◌∙◌, subst, arith, length-append, inl, inr, Some, None}
+use Rattle.std.specs.Prelude.{IsSome, slice_index, nat_le, ◌==◌, ◌||◌, not, if◌then◌else◌}
 use Rattle.std.proofs.lemmas.Bool.Decides.{eqb_tells, nat_tests}
-use Rattle.std.proofs.lemmas.Grind.{common_steps}
 use Rattle.byteorder.specs.Endian.{big_number}
-use Rattle.net_base.specs.declared.field.Field.{Field}
 use Rattle.net_base.specs.declared.field.Field.TheVariants as field
 use Rattle.pw_tlvs.specs.declared.field_fault.FieldFault.{FieldFault}
-use Rattle.pw_tlvs.specs.declared.field_fault.FieldFault.TheVariants.{Size, Value, Repeated}
+use Rattle.pw_tlvs.specs.declared.field_fault.FieldFault.TheVariants.{Value, Repeated}
 use Rattle.pw_tlvs.specs.declared.holder.Holder.{Holder}
 use Rattle.pw_tlvs.specs.declared.holder.Holder.TheVariants as holder
 use Rattle.pw_tlvs.specs.declared.row.Row.{Row}
 use Rattle.pw_tlvs.specs.Faults.{field_rank, place_of, rank_of, Precedes}
-use Rattle.pw_tlvs.specs.SubTlvs.{SubTlv, counted, spell, row_of, parameter_row, part_row, fits, allows, values, IsOutside, lone_fault, outside_fault, IsWrong, lone, outside, misfit, excess, again, IsFirstWrong, Stood}
-use Rattle.pw_tlvs.proofs.FaultLemmas.{precedes_itself, field_rank_below}
+use Rattle.pw_tlvs.specs.SubTlvs.{SubTlv, counted, spell, row_of, parameter_row, fits, allows, values, IsOutside, lone_fault, outside_fault, IsWrong, lone, outside, misfit, excess, again, IsFirstWrong, Stood}
+use Rattle.pw_tlvs.proofs.FaultLemmas.{precedes_itself}
 use Rattle.pw_tlvs.proofs.SubTlvLemmas.{same_spelled, some_of}
 
 -- the same fault is not before
 precedes_same : (f g : FieldFault) → g ≡ f → Precedes f g
 precedes_same f g e = subst (λ (x : FieldFault). Precedes f x) (sym e) (precedes_itself f)
-
--- a fault of a later octet
-precedes_later : (f g : FieldFault) (at : ℕ) → place_of f < at → at ≤ place_of g → Precedes f g
-precedes_later f g at close from = inl (omega arith)
 
 -- a fault at the same octet that is told later
 precedes_ranked : (f g h : FieldFault) → g ≡ h → place_of f ≡ place_of h → rank_of f ≤ rank_of h → Precedes f g
@@ -58,14 +52,6 @@ parameter_rank false false false false row e = absurd (cc (e))
 row_rank : (k : ℕ) (row : Row) → parameter_row k ≡ Some row → field_rank field.Parameter ≤ field_rank row.field
 row_rank k row e = parameter_rank (k == 0x01) (k == 0x03) (k == 0x06) (k == 0x0C) row e
 
--- the rows of parts are all of the point
-part_field_by : (a : Bool) (row : Row) → (if a then Some (record { field = field.Point; least = 4; most = 4 }) else None) ≡ Some row → row.field ≡ field.Point
-part_field_by true row e = let same : record { field = field.Point; least = 4; most = 4 } ≡ row = cc (e) in ap (λ (r : Row). r.field) (sym same)
-part_field_by false row e = absurd (cc (e))
-
-part_field : (k : ℕ) (row : Row) → part_row k ≡ Some row → row.field ≡ field.Point
-part_field k row e = part_field_by ((k == 0x01 || k == 0x03) || k == 0x04) row e
-
 -- what is allowed for a known type; what is not is a VLAN ID of two octets
 excess_length : (h : Holder) (row : Row) (s : SubTlv) → row_of h s.kind ≡ Some row → fits row (counted h + length s.value) ≡ true → allows h s.kind s.value ≡ false → 1 ≤ length s.value
 excess_length holder.Point row s known fit bad = absurd (cc (bad))
@@ -98,21 +84,6 @@ lone_first h before rest at one = record {
       | holder.Point ↦ precedes_ranked (lone_fault holder.Point at) other (Repeated at row.field) e refl (omega arith)
     ]
 
--- a part of a switching point that reaches past the end
-pub outside_first_point : (before : List SubTlv) (rest : List ℕ) (at : ℕ) → 2 ≤ length rest → IsOutside holder.Point rest → IsFirstWrong holder.Point before rest at (outside_fault holder.Point at)
-outside_first_point before rest at two far = record {
-  wrong = outside two far refl;
-  first = earliest;
-  within = λ s more e. absurd (spelled_inside holder.Point s more rest e far);
-}
-  where
-    earliest : (other : FieldFault) → IsWrong holder.Point before rest at other → Precedes (outside_fault holder.Point at) other
-    earliest other (lone one e) = absurd (omega arith)
-    earliest other (outside two' far' e) = precedes_same (outside_fault holder.Point at) other e
-    earliest other (misfit row two' known bad e) = let p = ap place_of e in inl (omega arith)
-    earliest other (excess row s more spelled known fit bad e) = absurd (spelled_inside holder.Point s more rest spelled far)
-    earliest other (again row some known stood e) = precedes_ranked (outside_fault holder.Point at) other (Repeated at row.field) e refl (omega arith)
-
 -- what is known, whole of its length octet and stood before: other faults of the place come later
 pub again_first : (h : Holder) (before : List SubTlv) (rest : List ℕ) (at : ℕ) (row : Row) → 2 ≤ length rest → ((IsOutside h rest → ⊥) ⊎ (h ≡ holder.Fec)) → row_of h (slice_index rest 0) ≡ Some row
     → 1 ≤ length (values (slice_index rest 0) before) → IsFirstWrong h before rest at (Repeated at row.field)
@@ -126,6 +97,7 @@ again_first h before rest at row two inside known stood = record {
     outside_later holder.Fec other fine far e = let p = ap place_of e in inl (omega arith)
     outside_later holder.Point other (inl near) far e = absurd (near far)
     outside_later holder.Point other (inr is) far e = absurd (cc (is))
+
     earliest : (other : FieldFault) → IsWrong h before rest at other → Precedes (Repeated at row.field) other
     earliest other (lone one e) = absurd (omega arith)
     earliest other (outside two' far e) = outside_later h other inside far e

@@ -1,7 +1,6 @@
 -- The value of a FEC TLV (RFC 5036 section 3.4.1) with a PWid FEC element (RFC 8077 section 6.1).
-use Rattle.std.specs.Prelude.{◌≡◌, ◌<◌, ◌≤◌, ◌+◌, ◌*◌, ◌%◌, ◌++◌, ◌⊎◌, ◌≢◌, nat_le, ℕ, Bool, true, false, List, [], ◌∷◌, length, drop, slice_index, Option, Some, None, option_map}
-use Rattle.std.specs.List.{flat_map}
-use Rattle.byteorder.specs.Endian.{big_number, big_bytes}
+use Rattle.std.specs.Prelude.{◌≡◌, ◌<◌, ◌≤◌, ◌+◌, ◌%◌, ◌⊎◌, ◌≢◌, nat_le, ℕ, List, [], length, drop, slice_index, Option, Some, None, option_map}
+use Rattle.byteorder.specs.Endian.{big_number}
 use Rattle.net_base.specs.declared.field.Field.TheVariants as field
 use Rattle.pw_tlvs.specs.declared.field_fault.FieldFault.{FieldFault}
 use Rattle.pw_tlvs.specs.declared.field_fault.FieldFault.TheVariants.{Size, Value}
@@ -10,7 +9,7 @@ use Rattle.pw_tlvs.specs.declared.fec_value.FecValue.TheVariants.{Pw, Foreign}
 use Rattle.pw_tlvs.specs.declared.holder.Holder.TheVariants as holder
 use Rattle.pw_tlvs.specs.declared.if_params.IfParams.{IfParams}
 use Rattle.pw_tlvs.specs.declared.pw_fec.PwFec.{PwFec}
-use Rattle.pw_tlvs.specs.SubTlvs.{SubTlv, AreSubTlvs, IsNamed, said, spell}
+use Rattle.pw_tlvs.specs.SubTlvs.{SubTlv, AreSubTlvs, IsNamed, said}
 
 -- no parameter is told
 abbrev pub no_params : IfParams

@@ -1,5 +1,5 @@
 -- What sub-TLVs say, as far as they were read.
-use Rattle.std.specs.Prelude.{◌≡◌, ℕ, List, option_map}
+use Rattle.std.specs.Prelude.{◌≡◌, List, option_map}
 use Rattle.byteorder.specs.Endian.{big_number}
 use Rattle.pw_tlvs.specs.declared.found_params.FoundParams.{FoundParams}
 use Rattle.pw_tlvs.specs.declared.point.Point.{Point}

@@ -22,8 +22,7 @@ pub fn written_is_read()
     ensures status { (status : PwStatus) → status.0 < 2 ^ 32 → IsStatus (written_status status) status }
     ensures macs { (list : List Mac) → AllByRecursion (λ mac. length mac.0 ≡ 6) list → AreMacs (mac_octets list) list }
     ensures point { (point : Point) → IsPointInRange point → IsPoint (written_point point) point }
-{
-}
+{}
 
 /// Octets are one value at most.
 pub fn one_value()
@@ -31,8 +30,7 @@ pub fn one_value()
     ensures status { (octets : List ℕ) (a b : PwStatus) → IsStatus octets a → IsStatus octets b → a ≡ b }
     ensures macs { (octets : List ℕ) (a b : List Mac) → AreMacs octets a → AreMacs octets b → a ≡ b }
     ensures point { (octets : List ℕ) (a b : Point) → IsPoint octets a → IsPoint octets b → a ≡ b }
-{
-}
+{}
 
 /// Octets that are a value have no fault, and other octets have one first fault at most.
 pub fn one_fault()
@@ -40,12 +38,10 @@ pub fn one_fault()
     ensures point { (octets : List ℕ) (point : Point) (fault : FieldFault) → IsPoint octets point → IsPointFault octets fault → ⊥ }
     ensures first_of_fec { (octets : List ℕ) (a b : FieldFault) → IsFirst (IsFecFault octets) a → IsFirst (IsFecFault octets) b → a ≡ b }
     ensures first_of_point { (octets : List ℕ) (a b : FieldFault) → IsFirst (IsPointFault octets) a → IsFirst (IsPointFault octets) b → a ≡ b }
-{
-}
+{}
 
 /// Where further octets follow a PWid element, nothing behind its information length is looked at: other octets
 /// there are the same value.
 pub fn followed_is_not_looked_into()
     ensures { (octets other : List ℕ) (first : ℕ) → IsFollowed octets first → take 4 octets ≡ take 4 other → length octets ≡ length other → IsFecValue other (Foreign first) }
-{
-}
+{}

@@ -7,9 +7,7 @@ use crate::{
 use net_base::{Addr, Field, List, Mac, Text};
 
 // C bit, raw, PW ID 100, MTU 1500.
-const RAW: [u8; 16] = [
-    0x80, 0x80, 5, 8, 0, 0, 0, 0, 0, 0, 0, 100, 1, 4, 5, 0xdc,
-];
+const RAW: [u8; 16] = [0x80, 0x80, 5, 8, 0, 0, 0, 0, 0, 0, 0, 100, 1, 4, 5, 0xdc];
 
 // All parameters: MTU 1500, description "ab", VLAN ID 7, VCCV.
 const FULL: [u8; 28] = [
@@ -68,7 +66,11 @@ fn reads_a_pseudowire(rt: HostRuntime) {
     let raw = FecValue::Pw(fec(true, 5, 0, Some(100), params));
     assert!(rt; read_fec(&RAW) == Ok(raw));
     // An unknown parameter behind the MTU is ignored.
-    assert!(rt; read_fec(&[0x80, 0x80, 5, 10, 0, 0, 0, 0, 0, 0, 0, 100, 1, 4, 5, 0xdc, 0x7f, 2]) == read_fec(&RAW));
+    assert!(rt;
+        read_fec(&[
+            0x80, 0x80, 5, 10, 0, 0, 0, 0, 0, 0, 0, 100, 1, 4, 5, 0xdc, 0x7f, 2
+        ]) == read_fec(&RAW)
+    );
 }
 
 #[test]
@@ -84,7 +86,11 @@ fn reads_a_group_and_other_elements(rt: HostRuntime) {
     assert!(rt; read_fec(&[0x80, 0x80, 5, 0, 0, 0, 0, 7]) == Ok(group));
     assert!(rt; read_fec(&[2, 0, 1, 0x20, 10, 0, 3]) == Ok(FecValue::Foreign(2)));
     // A second element follows, and the octets of the first are not looked at.
-    assert!(rt; read_fec(&[0x80, 0x80, 5, 8, 0, 0, 0, 0, 0, 0, 0, 100, 1, 9, 5, 0xdc, 0x80]) == Ok(FecValue::Foreign(0x80)));
+    assert!(rt;
+        read_fec(&[
+            0x80, 0x80, 5, 8, 0, 0, 0, 0, 0, 0, 0, 100, 1, 9, 5, 0xdc, 0x80
+        ]) == Ok(FecValue::Foreign(0x80))
+    );
     assert!(rt; read_fec(&[0x80, 0x80, 5, 0, 0, 0, 0, 7, 0]) == Ok(FecValue::Foreign(0x80)));
 }
 
@@ -98,9 +104,7 @@ fn names_the_first_fault_of_an_element(rt: HostRuntime) {
             value(3, Field::InfoLength),
         ),
         (
-            &[
-                0x80, 0x80, 5, 20, 0, 0, 0, 0, 0, 0, 0, 100, 1, 4, 5, 0xdc,
-            ][..],
+            &[0x80, 0x80, 5, 20, 0, 0, 0, 0, 0, 0, 0, 100, 1, 4, 5, 0xdc][..],
             value(3, Field::InfoLength),
         ),
     ] {
@@ -124,7 +128,10 @@ fn names_the_first_fault_of_a_parameter(rt: HostRuntime) {
         // A VLAN ID of 4096.
         (&[6, 4, 0x10, 0][..], value(14, Field::Vlan)),
         // A known type that comes again, also an empty description, before what is wrong with its length.
-        (&[1, 4, 5, 0xdc, 1, 4, 5, 0xdc][..], repeated(16, Field::Mtu)),
+        (
+            &[1, 4, 5, 0xdc, 1, 4, 5, 0xdc][..],
+            repeated(16, Field::Mtu),
+        ),
         (&[3, 2, 3, 2][..], repeated(14, Field::Description)),
         (&[6, 4, 0, 7, 6, 4, 0, 7][..], repeated(16, Field::Vlan)),
         (&[0x0c, 4, 1, 2, 0x0c, 9][..], repeated(16, Field::Vccv)),
@@ -188,9 +195,7 @@ fn reads_a_switching_point(rt: HostRuntime) {
         local: Some(Addr([10, 0, 0, 2])),
         remote: Some(Addr([10, 0, 0, 3])),
     };
-    let octets = [
-        1, 4, 0, 0, 0, 100, 3, 4, 10, 0, 0, 2, 4, 4, 10, 0, 0, 3,
-    ];
+    let octets = [1, 4, 0, 0, 0, 100, 3, 4, 10, 0, 0, 2, 4, 4, 10, 0, 0, 3];
     assert!(rt; read_point(&octets) == Ok(point));
     let mut out = [0u8; 18];
     assert_eq!(rt; point_size(&point), 18);

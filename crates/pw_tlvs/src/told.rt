@@ -48,9 +48,7 @@ pub fn put_vccv(out: &mut [u8], at: usize, kind: u8, types: Option<(u8, u8)>) ->
     ensures octets { out.new ≡ (take at out.old ++ flat_map (spell held.Fec) (told kind (option_map pair_octets types))) ++ drop result out.old }
 {
     match types {
-        Some((channels, checks)) => {
-            put_sub_tlv(Holder::Fec, out, at, kind, &[channels, checks])
-        }
+        Some((channels, checks)) => { put_sub_tlv(Holder::Fec, out, at, kind, &[channels, checks]) }
         None => at,
     }
 }

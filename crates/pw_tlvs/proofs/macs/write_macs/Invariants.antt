@@ -1,5 +1,5 @@
 -- The addresses before the index are written.
-use Rattle.std.proofs.Common.{◌≡◌, ◌*◌, ◌++◌, length, take, drop}
+use Rattle.std.proofs.Common.{take}
 use Rattle.pw_tlvs.proofs.MacLemmas.{AreWritten}
 use Rattle.pw_tlvs.proofs.macs.write_macs.Given as goal
 

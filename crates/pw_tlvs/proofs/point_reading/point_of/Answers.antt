@@ -22,7 +22,7 @@ reading-preserved c =
     let subs = c.reading.invariant.subs in
     let s : SubTlv = record { kind = c.in_ok-kind.kind; value = c.in_ok-kind.octets.now } in
     let fresh : IsSome (row_of held.Point c.in_ok-kind.kind) → values c.in_ok-kind.kind subs ≡ [] =
-        fresh_of held.Point subs c.in_ok-kind.kind (slice_index c.split_at.result.1.now 0) c.has-again.result c.in_ok-kind.ensures.kind (c.has-again.ensures subs c.reading.invariant.says) c.in_ok-kind.ensures.fresh in
+    fresh_of held.Point subs c.in_ok-kind.kind (slice_index c.split_at.result.1.now 0) c.has-again.result c.in_ok-kind.ensures.kind (c.has-again.ensures subs c.reading.invariant.says) c.in_ok-kind.ensures.fresh in
     record {
       subs = subs ++ s ∷ [];
       upto = read_more held.Point c.args.value.now c.reading.at (2 + length c.in_ok-kind.octets.now) subs s (drop (2 + length c.in_ok-kind.octets.now) c.split_at.result.1.now) upto (sym c.split_at.ensures.back ∙ c.in_ok-kind.ensures.spelled) refl (good_more held.Point subs s upto.good c.in_ok-kind.ensures.good fresh);

@@ -1,7 +1,7 @@
 -- Each exit is the first of what is wrong at the place.
 use Rattle.std.specs.Prelude.{slice_index, drop, length, ◌+◌}
-use Rattle.std.proofs.Common.{sym, ◌∙◌, subst, false, ◌≡◌, true, ℕ, not}
-use Rattle.pw_tlvs.specs.SubTlvs.{SubTlv, Stood, fits, counted, allows}
+use Rattle.std.proofs.Common.{sym, ◌∙◌, subst, ◌≡◌, true, ℕ}
+use Rattle.pw_tlvs.specs.SubTlvs.{fits}
 use Rattle.pw_tlvs.proofs.WrongLemmas.{again_exit, outside_exit, misfit_first, excess_first, stood_no}
 use Rattle.pw_tlvs.proofs.sub_tlv.known_fault.Goals as goal
 
