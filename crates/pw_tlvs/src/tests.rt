@@ -57,6 +57,7 @@ fn repeated(at: u16, field: Field) -> FieldFault {
 #[test]
 fn reads_a_pseudowire(rt: HostRuntime) {
     let description = Text::read(&[]).expect(&rt, "short");
+    assert!(rt; description.is_empty());
     let params = IfParams {
         mtu: Some(1500),
         description,
