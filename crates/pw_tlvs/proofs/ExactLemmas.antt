@@ -15,3 +15,8 @@ module _ {V : Type 0} (Is : V → Type 0) (Named : FieldFault → Type 0) where
   pub exact_err : (never : (a : V) (f : FieldFault) → Is a → Named f → ⊥) (r : Result V FieldFault) → IfOk r Is → IfErr r (IsFirst Named) → (f : FieldFault) → (r ≡ Err f) ↔ IsFirst Named f
   exact_err never (Ok b) ok err f = (λ e. absurd (cc (e)), λ first. absurd (never b f ok first.named))
   exact_err never (Err g) ok err f = (λ e. let same : g ≡ f = cc (e) in subst (IsFirst Named) same err, λ first. ap Err (one_first g f err first))
+
+-- what holds of each fault that can be named holds of the first
+pub err_of_named : {V : Type 0} (Named Holds : FieldFault → Type 0) (r : Result V FieldFault) → IfErr r (IsFirst Named) → ((f : FieldFault) → Named f → Holds f) → IfErr r Holds
+err_of_named Named Holds (Ok v) err all = tt
+err_of_named Named Holds (Err f) err all = all f err.named

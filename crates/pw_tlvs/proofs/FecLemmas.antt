@@ -9,10 +9,12 @@ use Rattle.pw_tlvs.specs.declared.fec_value.FecValue.TheVariants.{Pw, Foreign}
 use Rattle.pw_tlvs.specs.declared.holder.Holder.TheVariants as holder
 use Rattle.pw_tlvs.specs.declared.if_params.IfParams.{IfParams}
 use Rattle.pw_tlvs.specs.declared.pw_fec.PwFec.{PwFec}
-use Rattle.pw_tlvs.specs.Faults.{Precedes, IsFirst}
+use Rattle.pw_tlvs.specs.Faults.{place_of, Precedes, IsFirst}
 use Rattle.pw_tlvs.specs.SubTlvs.{SubTlv, IsNamed, said}
 use Rattle.pw_tlvs.specs.Fec.{AreParameters, IsPwid, information_length, IsTooShort, IsInformation, IsPwFec, IsFollowed, IsFecValue, IsFecFault, empty, short, too_short, past_end, parameter, text_of, vccv_of}
 use Rattle.pw_tlvs.proofs.SubTlvLemmas.{never_both, one_joining}
+use Rattle.pw_tlvs.proofs.WrongLemmas.{named_within}
+use Rattle.std.proofs.lemmas.Bool.{cases_lt}
 
 pub parameter_first : (octets : List ℕ) (f : FieldFault) → IsPwid octets → (IsTooShort (information_length octets) → ⊥) → 1 ≤ information_length octets → length octets ≡ 8 + information_length octets
     → IsFirst (IsNamed holder.Fec 12 (drop 12 octets)) f → IsFirst (IsFecFault octets) f
@@ -106,3 +108,17 @@ followed_again octets other first is same len =
       long = λ few. is.long (subst IsTooShort (sym count) few);
       more = omega arith;
     }
+
+-- a fault that can be named is within the octets
+pub fec_within : (octets : List ℕ) (f : FieldFault) → IsFecFault octets f → place_of f ≤ length octets
+fec_within octets f (empty none e) = let p = ap place_of e in omega arith
+fec_within octets f (short some first few e) = let p = ap place_of e in omega arith
+fec_within octets f (too_short begun few e) = let p = ap place_of e in let h = begun.header in omega arith
+fec_within octets f (past_end begun far e) = let p = ap place_of e in let h = begun.header in omega arith
+fec_within octets f (parameter begun long some whole named) =
+    let close = named_within holder.Fec 12 (drop 12 octets) f named in
+    let rest = length-drop 12 octets in
+    elim (cases_lt (information_length octets) 4) [
+      | inl few ↦ absurd (long (some, omega arith))
+      | inr more ↦ omega arith
+    ]

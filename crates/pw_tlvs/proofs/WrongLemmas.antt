@@ -1,7 +1,8 @@
 -- What is first wrong at a place, test by test.
-use Rattle.std.proofs.Common.{◌≡◌, ◌≤◌, ◌+◌, ◌++◌, ◌⊎◌, ℕ, suc, Bool, true, false, List, [], length, refl, sym, ap, ◌∙◌, subst, arith, length-append, inl, inr, Some, None}
+use Rattle.std.proofs.Common.{◌≡◌, ◌≤◌, ◌<◌, ◌+◌, ◌++◌, ◌⊎◌, ℕ, suc, Bool, true, false, List, [], length, refl, sym, ap, ◌∙◌, subst, arith, length-append, inl, inr, Some, None}
 use Rattle.std.specs.Prelude.{IsSome, slice_index, nat_le, ◌==◌, ◌||◌, not, if◌then◌else◌}
 use Rattle.std.proofs.lemmas.Bool.Decides.{eqb_tells, nat_tests}
+use Rattle.std.specs.List.{flat_map}
 use Rattle.byteorder.specs.Endian.{big_number}
 use Rattle.net_base.specs.declared.field.Field.TheVariants as field
 use Rattle.pw_tlvs.specs.declared.field_fault.FieldFault.{FieldFault}
@@ -10,7 +11,7 @@ use Rattle.pw_tlvs.specs.declared.holder.Holder.{Holder}
 use Rattle.pw_tlvs.specs.declared.holder.Holder.TheVariants as holder
 use Rattle.pw_tlvs.specs.declared.row.Row.{Row}
 use Rattle.pw_tlvs.specs.Faults.{field_rank, place_of, rank_of, Precedes}
-use Rattle.pw_tlvs.specs.SubTlvs.{SubTlv, counted, spell, row_of, parameter_row, fits, allows, values, IsOutside, lone_fault, outside_fault, IsWrong, lone, outside, misfit, excess, again, IsFirstWrong, Stood}
+use Rattle.pw_tlvs.specs.SubTlvs.{SubTlv, counted, spell, row_of, parameter_row, fits, allows, values, IsOutside, lone_fault, outside_fault, IsWrong, lone, outside, misfit, excess, again, IsNamed, IsFirstWrong, Stood}
 use Rattle.pw_tlvs.proofs.FaultLemmas.{precedes_itself}
 use Rattle.pw_tlvs.proofs.SubTlvLemmas.{same_spelled, some_of}
 
@@ -198,3 +199,26 @@ pub outside_exit : (h : Holder) (before : List SubTlv) (rest : List ℕ) (at : �
 outside_exit holder.Fec before rest at row stood far f two outer part is out e fact =
     subst (λ (x : FieldFault). IsFirstWrong holder.Fec before rest at x) (sym e) (outside_first_fec before rest at two (outer out) (stood_no holder.Fec before (slice_index rest 0) stood is fact))
 outside_exit holder.Point before rest at row stood far f two outer part is out e fact = let near = part refl in absurd (cc (near, out))
+
+-- what is wrong is within the octets
+pub wrong_within : (h : Holder) (before : List SubTlv) (rest : List ℕ) (at : ℕ) (f : FieldFault) → IsWrong h before rest at f → place_of f < at + length rest
+wrong_within holder.Fec before rest at f (lone one e) = let p = ap place_of e in omega arith
+wrong_within holder.Point before rest at f (lone one e) = let p = ap place_of e in omega arith
+wrong_within holder.Fec before rest at f (outside two far e) = let p = ap place_of e in omega arith
+wrong_within holder.Point before rest at f (outside two far e) = let p = ap place_of e in omega arith
+wrong_within h before rest at f (misfit row two known bad e) = let p = ap place_of e in omega arith
+wrong_within h before rest at f (excess row s more spelled known fit bad e) =
+    let p = ap place_of e in
+    let len : length rest ≡ suc (suc (length (s.value ++ more))) = ap length spelled in
+    let parts = length-append s.value more in
+    let some = excess_length h row s known fit bad in
+    omega arith
+wrong_within h before rest at f (again row one known stood e) = let p = ap place_of e in omega arith
+
+-- a fault that can be named is within the octets
+pub named_within : (h : Holder) (begin : ℕ) (octets : List ℕ) (f : FieldFault) → IsNamed h begin octets f → place_of f < begin + length octets
+named_within h begin octets f named =
+    let len = ap length named.split in
+    let parts = length-append (flat_map (spell h) named.before) named.rest in
+    let close = wrong_within h named.before named.rest (begin + length (flat_map (spell h) named.before)) f named.wrong in
+    omega arith

@@ -1,8 +1,9 @@
 //! Values with octets that were worked out by hand.
 
 use crate::{
-    FecValue, FieldFault, IfParams, Point, Points, PwFec, PwStatus, fec_size, point_size, read_fec,
-    read_macs, read_point, read_status, write_fec, write_macs, write_point, write_status,
+    FecValue, FieldFault, IfParams, MacsFault, Point, Points, PwFec, PwStatus, fec_size,
+    point_size, read_fec, read_macs, read_point, read_status, write_fec, write_macs, write_point,
+    write_status,
 };
 use net_base::{Addr, Field, List, Mac, Text};
 
@@ -231,7 +232,8 @@ fn reads_and_writes_status_and_addresses(rt: HostRuntime) {
     assert_eq!(rt; write_status(PwStatus(32), &mut out), 4);
     assert!(rt; out[..4] == [0, 0, 0, 0x20][..]);
     let octets = [2, 0, 0, 0, 0, 1, 2, 0, 0, 0, 0, 2];
-    assert!(rt; read_macs(rt.alloc(), &octets[..7]).is_err());
+    let size = MacsFault::Field(FieldFault::Size);
+    assert!(rt; read_macs(rt.alloc(), &octets[..7]).err() == Some(size));
     let list = read_macs(rt.alloc(), &octets).expect(&rt, "addresses");
     let addresses = [Mac([2, 0, 0, 0, 0, 1]), Mac([2, 0, 0, 0, 0, 2])];
     assert!(rt; list.as_slice() == &addresses[..]);
