@@ -1,6 +1,8 @@
 //! `vplsnet`: a network of VPLS provider edges, run from a file.
 #![tactic(auto)]
 
+#[cfg(test)]
+mod bridge_tests;
 mod built;
 mod domain;
 mod domains;

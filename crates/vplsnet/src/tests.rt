@@ -156,7 +156,7 @@ fn ends_with_a_status_and_a_line(rt: HostRuntime) -> Result<(), Fail> {
         ),
         (
             "replay f",
-            "events = [\"tick\"]",
+            "events = [\"flow 1\"]",
             &SOUND,
             5,
             "vplsnet: not built",
@@ -175,12 +175,14 @@ fn ends_with_a_status_and_a_line(rt: HostRuntime) -> Result<(), Fail> {
 
 #[test]
 fn answers_what_is_not_built(rt: HostRuntime) -> Result<(), Fail> {
-    // A frame of 13 octets, one to a station, one that is too long, a circuit that goes off, and a delivery.
+    let second_edge = "[[edge]]\nname = \"f\"\naddress = \"10.0.0.2\"";
     for events in [
-        "events = [\"frame c1 ffffffffffff02000000000108\"]",
-        "events = [\"frame c1 0200000000020200000000010800\"]",
-        "events = [\"circuit c1 off\"]",
         "events = [\"settle 20\"]",
+        "events = [\"flow 1\"]",
+        "events = [\"restart e\"]",
+        "events = [\"arrive 1\"]",
+        "events = [\"play c1 k.pcap\"]",
+        second_edge,
     ] {
         let (finish, sink) = call(rt.alloc(), "replay f", events, &SOUND)?;
         assert!(rt; matches!(finish.outcome, Outcome::NotBuilt), "{events}");
