@@ -138,7 +138,7 @@ counts_rise plan network [] = omega arith
 counts_rise plan network (e ∷ es) = omega (arith, step_counts plan network e, counts_rise plan (step plan network e).state es)
 
 -- before a frame enters, and after the step in which it does, nothing is told of it
-none_before : (plan : Plan) (network : NetworkState) (events : List Event) (circuit : CircuitId) (other : ℕ)
+pub none_before : (plan : Plan) (network : NetworkState) (events : List Event) (circuit : CircuitId) (other : ℕ)
     → (state_after plan network events).entered < other → times_left other circuit (entries_along plan network events) ≡ 0
 none_before plan network [] circuit other later = refl
 none_before plan network (e ∷ es) circuit other later =
@@ -147,7 +147,7 @@ none_before plan network (e ∷ es) circuit other later =
     let rest = none_before plan (step plan network e).state es circuit other later in
     omega (arith, times_left-append other circuit (step plan network e).entries (entries_along plan (step plan network e).state es))
 
-none_after : (plan : Plan) (network : NetworkState) (events : List Event) (circuit : CircuitId) (other : ℕ)
+pub none_after : (plan : Plan) (network : NetworkState) (events : List Event) (circuit : CircuitId) (other : ℕ)
     → other ≤ network.entered → times_left other circuit (entries_along plan network events) ≡ 0
 none_after plan network [] circuit other earlier = refl
 none_after plan network (e ∷ es) circuit other earlier =
@@ -347,7 +347,7 @@ frame_once plan network at circuit octets frame service (Some row) during placed
     ∙ ap (λ (s : ServiceId). cond {A = ℕ} (is_site plan network s circuit && not (nat_eq circuit.0 at.0)) 1 0) (sym same)))
 
 -- a frame that enters raises the count
-frame_enters : (plan : Plan) (network : NetworkState) (at : CircuitId) (octets : List ℕ) (row : Option CircuitPlan) → is_row_on network at row ≡ true → (frame_row plan network at octets row).state.entered ≡ network.entered + 1
+pub frame_enters : (plan : Plan) (network : NetworkState) (at : CircuitId) (octets : List ℕ) (row : Option CircuitPlan) → is_row_on network at row ≡ true → (frame_row plan network at octets row).state.entered ≡ network.entered + 1
 frame_enters plan network at octets None on = absurd (cc)
 frame_enters plan network at octets (Some row) on = ap (λ (b : Bool). (entering plan network at octets row b).state.entered) on
 

@@ -1,5 +1,6 @@
 pub mod Calm
 pub mod Enter
+pub mod KnownOnce
 pub mod Laws
 pub mod OnceEach
 pub mod Reach

@@ -1,5 +1,5 @@
 //! What holds of every run of the network.
-ghost use Rattle.network_model.specs.Laws.{KnownStationsAreServedOnce, RunsAreIsolated, RunsAreSplit, RunsServeOnce};
+ghost use Rattle.network_model.specs.Laws.{RunsAreIsolated, RunsAreSplit, RunsServeKnownOnce, RunsServeOnce};
 
 /// Customers stay apart: whatever leaves at a circuit entered before at a circuit of the same service, as the
 /// same inner frame.
@@ -22,6 +22,6 @@ pub fn runs_serve_once()
 
 /// A frame to a station whose port the bridge of its circuit knows leaves by one port at most (RFC 4762 section
 /// 4.1).
-pub fn known_stations_are_served_once()
-    ensures { KnownStationsAreServedOnce }
+pub fn runs_serve_known_once()
+    ensures { RunsServeKnownOnce }
 {}

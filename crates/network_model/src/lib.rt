@@ -4,6 +4,4 @@
 
 mod laws;
 
-pub use laws::{
-    known_stations_are_served_once, runs_are_isolated, runs_are_split, runs_serve_once,
-};
+pub use laws::{runs_are_isolated, runs_are_split, runs_serve_known_once, runs_serve_once};

@@ -3,6 +3,7 @@ use Rattle.std.proofs.Common.{◌≡◌, ◌<◌, ℕ, Option, Some, None, lengt
 use Rattle.network_model.specs.Laws.{HasPlacedCircuits}
 use Rattle.network_model.proofs.IsolatedLemmas.{run_isolated}
 use Rattle.network_model.proofs.SplitLemmas.{run_split}
+use Rattle.network_model.proofs.KnownLemmas.{run_serves_known_once}
 use Rattle.network_model.proofs.OnceLemmas.{run_serves_once}
 use Rattle.scenario_text.specs.declared.scenario.Scenario.{Scenario}
 use Rattle.scenario_text.specs.Runnable.{HasTag, IsRunnable, IsPlaced}
@@ -28,4 +29,5 @@ promises_kept scenario runnable = record {
   isolated = run_isolated scenario.plan (made scenario.commands) (circuits_placed scenario runnable);
   split = run_split scenario.plan (made scenario.commands);
   once = run_serves_once scenario.plan (made scenario.commands) (circuits_placed scenario runnable);
+  known = run_serves_known_once scenario.plan (made scenario.commands);
 }

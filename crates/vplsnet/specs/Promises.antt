@@ -4,6 +4,7 @@ use Rattle.net_base.specs.declared.plan.Plan.{Plan}
 use Rattle.net_base.specs.declared.event.Event.{Event}
 use Rattle.net_base.specs.Isolated.{Isolated}
 use Rattle.net_base.specs.Split.{Split}
+use Rattle.network_model.specs.KnownOnce.{KnownOnce}
 use Rattle.network_model.specs.OnceEach.{OnceEach}
 use Rattle.network_model.specs.Run.{run}
 
@@ -14,3 +15,5 @@ pub record KeepsPromises (plan : Plan) (events : List Event) : Type 0 where
   pub split : Split plan (run plan events).entries
   -- each flooded frame reaches each site once
   pub once : OnceEach plan events
+  -- each frame to a known station leaves by one port at most
+  pub known : KnownOnce plan events

@@ -4,6 +4,7 @@ use Rattle.net_base.specs.declared.entry.Entry.{Entry}
 use Rattle.net_base.specs.Isolated.{Isolated}
 use Rattle.net_base.specs.Outside.{Rose, Appends}
 use Rattle.net_base.specs.Split.{Split}
+use Rattle.network_model.specs.KnownOnce.{KnownOnce}
 use Rattle.network_model.specs.OnceEach.{OnceEach}
 use Rattle.network_model.specs.Run.{run}
 use Rattle.scenario_text.specs.declared.scenario.Scenario.{Scenario}
@@ -71,6 +72,8 @@ pub record IsReplay (files : Files) (name : List ℕ) (trace : List Entry) (text
   pub split : Split scenario.plan trace
   -- each flooded frame reaches each site once
   pub once : OnceEach scenario.plan (made scenario.commands)
+  -- each frame to a known station leaves by one port at most
+  pub known : KnownOnce scenario.plan (made scenario.commands)
 
 -- no run began, and nothing was taken
 pub record IsUntouched (around : Around) (trace : List Entry) : Type 0 where
