@@ -1,5 +1,5 @@
 //! The PDU that octets spell.
-ghost use Rattle.std.specs.Prelude.{◌≡◌, ◌≤◌, Ok, Err, IfOk, IfErr};
+ghost use Rattle.std.specs.Prelude.{◌≤◌, Ok, Err, IfOk, IfErr};
 ghost use Rattle.ldp_grammar.specs.declared.pdu.Pdu.{Pdu};
 ghost use Rattle.ldp_grammar.specs.declared.fault.Fault.{Fault};
 ghost use Rattle.ldp_grammar.specs.Spells.{Spells};

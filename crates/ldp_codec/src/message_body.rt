@@ -1,11 +1,11 @@
 //! The message that its octets behind the Message ID tell.
-ghost use Rattle.std.specs.Prelude.{◌≡◌, ◌<◌, true, None, List, ℕ, length, option_copied, IfOk, IfErr, IfSome};
-ghost use Rattle.std.specs.Prelude.{Some, ◌%◌, ◌^◌, IsSome};
+ghost use Rattle.std.specs.Prelude.{◌≡◌, ◌<◌, true, None, List, option_copied, IfOk, IfSome};
+ghost use Rattle.std.specs.Prelude.{Some};
 ghost use Rattle.ldp_grammar.specs.declared.message_kind.MessageKind.{MessageKind};
-ghost use Rattle.ldp_grammar.specs.Rows.{row_of, is_in, type_of, status, hello_parameters, transport_address, session_parameters, address_list};
+ghost use Rattle.ldp_grammar.specs.Rows.{row_of, is_in, status, transport_address, address_list};
 ghost use Rattle.ldp_grammar.specs.Layouts.{listed};
 ghost use Rattle.ldp_grammar.specs.Tlvs.{Tlv, IsJoined, HasValue, first_absent, first_unknown, value_of, reason};
-ghost use Rattle.ldp_grammar.specs.Spells.{Means, OfBoth, Tells};
+ghost use Rattle.ldp_grammar.specs.Spells.{Means, OfBoth};
 ghost use Rattle.ldp_grammar.specs.Values.{IsAddress, IsAddressList};
 ghost use Rattle.ldp_codec.specs.Walk.{IsComplete};
 
@@ -62,6 +62,7 @@ fn further_value(kind: MessageKind, tlv: u16, body: &[u8]) -> Option<&[u8]>
     find_value(tlv, body)
 }
 
+// The processed Notification.
 fn notification(id: u32, body: &[u8]) -> Message
     requires { IsComplete MessageKind.Notification body.now }
     ensures means { (ts : List Tlv) → IsJoined body.now ts → Means MessageKind.Notification id ts result }
@@ -84,6 +85,7 @@ fn transport(body: &[u8]) -> Option<Addr>
     }
 }
 
+// The processed Hello.
 fn hello(id: u32, body: &[u8]) -> Message
     requires { IsComplete MessageKind.Hello body.now }
     ensures means { (ts : List Tlv) → IsJoined body.now ts → Means MessageKind.Hello id ts result }
@@ -99,6 +101,7 @@ fn hello(id: u32, body: &[u8]) -> Message
     }
 }
 
+// The processed Initialization.
 fn initialization(id: u32, body: &[u8]) -> Message
     requires { IsComplete MessageKind.Initialization body.now }
     ensures means { (ts : List Tlv) → IsJoined body.now ts → Means MessageKind.Initialization id ts result }
@@ -110,6 +113,7 @@ fn initialization(id: u32, body: &[u8]) -> Message
     }
 }
 
+// The processed Address.
 fn address(alloc: Global, id: u32, body: &[u8]) -> Result<Message, NoMemory>
     requires { IsComplete MessageKind.Address body.now }
     ensures means { IfOk result (λ m. (ts : List Tlv) → IsJoined body.now ts → Means MessageKind.Address id ts m) }
@@ -130,6 +134,7 @@ fn withdrawn(alloc: Global, body: &[u8]) -> Result<Option<AddressList>, NoMemory
     }
 }
 
+// The processed Address Withdraw.
 fn address_withdraw(alloc: Global, id: u32, body: &[u8]) -> Result<Message, NoMemory>
     requires { IsComplete MessageKind.AddressWithdraw body.now }
     ensures means { IfOk result (λ m. (ts : List Tlv) → IsJoined body.now ts → Means MessageKind.AddressWithdraw id ts m) }

@@ -90,8 +90,8 @@ fn take_message(alloc: Global, rest: &[u8]) -> Result<(Message, usize), Stop>
     Ok((message, MESSAGE_HEADER + body.len()))
 }
 
-#[tactic(auto, using(crate::proofs::MessageWalkLemmas::messages_more, crate::proofs::MessageWalkLemmas::messages_fault, crate::proofs::MessageWalkLemmas::messages_all, crate::proofs::MessageWalkLemmas::messages_none))]
 // The messages that the octets spell, one after another.
+#[tactic(auto, using(crate::proofs::MessageWalkLemmas::messages_more, crate::proofs::MessageWalkLemmas::messages_fault, crate::proofs::MessageWalkLemmas::messages_all, crate::proofs::MessageWalkLemmas::messages_none))]
 pub fn read_messages(alloc: Global, body: &[u8]) -> Result<List<Message>, Stop>
     requires few { length body.now < 65536 }
     ensures read { IfOk result (AreMessages body.now) }

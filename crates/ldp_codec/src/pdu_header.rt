@@ -51,8 +51,8 @@ fn has_length(bytes: &[u8], max: u16) -> bool
     LEAST <= len && len <= max && bytes.len() == LENGTH_HEADER + len as usize
 }
 
-#[tactic(auto, using(crate::proofs::HeaderLemmas::framed))]
 // The sender of a PDU whose header is right.
+#[tactic(auto, using(crate::proofs::HeaderLemmas::framed))]
 pub fn read_header(bytes: &[u8], max: u16) -> Result<LdpId, Fault>
     requires { max ≤ 4096 }
     ensures framed { IfOk result (λ id. IsFramed bytes.now max (id.router.0 ++ two_of id.space) (drop 10 bytes.now)) }

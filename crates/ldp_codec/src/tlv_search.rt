@@ -1,5 +1,5 @@
 //! The TLVs of one type among others.
-ghost use Rattle.std.specs.Prelude.{◌≡◌, ◌≤◌, List, length, option_copied};
+ghost use Rattle.std.specs.Prelude.{◌≡◌, List, option_copied};
 ghost use Rattle.ldp_grammar.specs.Tlvs.{Tlv, IsJoined, count_of, value_of};
 
 use crate::tlv::{TYPE_LIMIT, split_tlv};

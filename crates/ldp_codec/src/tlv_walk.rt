@@ -1,11 +1,11 @@
 //! The walk over the TLVs of a message.
-ghost use Rattle.std.specs.Prelude.{◌≡◌, ◌≤◌, ◌<◌, ◌+◌, ℕ, List, Some, None, false, length, IfOk, IfErr, IfSome};
+ghost use Rattle.std.specs.Prelude.{◌≡◌, ◌≤◌, ◌<◌, ◌+◌, List, Some, None, false, length, IfOk, IfErr, IfSome};
 ghost use Rattle.net_base.specs.declared.field.Field.{Field};
 ghost use Rattle.ldp_grammar.specs.Layouts.{fits, listed, most};
 ghost use Rattle.ldp_grammar.specs.FirstFault.{IsFirst, IsFirstTlvFault, NamesTlvs};
 ghost use Rattle.ldp_grammar.specs.Rows.{row_of};
-ghost use Rattle.ldp_grammar.specs.Tlvs.{Tlv, IsJoined, HasRoom, HasValue, count_of, type_in, unknown_in};
-ghost use Rattle.ldp_codec.specs.Walk.{IsTaken, IsWalked, unknown_after};
+ghost use Rattle.ldp_grammar.specs.Tlvs.{Tlv, IsJoined, HasRoom, HasValue, count_of, unknown_in};
+ghost use Rattle.ldp_codec.specs.Walk.{IsTaken, IsWalked};
 
 use crate::numbers::two;
 use crate::tlv::{TYPE_LIMIT, split_tlv};
@@ -47,8 +47,8 @@ fn unknown(kind: MessageKind, word: u16) -> Option<u16>
     }
 }
 
-#[tactic(auto, using(crate::proofs::WalkLemmas::taken_here, crate::proofs::WalkLemmas::misfit_here, ldp_grammar::proofs::TlvLemmas::short_tlv, ldp_grammar::proofs::TlvLemmas::long_tlv, ldp_grammar::proofs::TlvLemmas::repeated_tlv))]
 // The word and the size of the TLV in front, behind others of its message.
+#[tactic(auto, using(crate::proofs::WalkLemmas::taken_here, crate::proofs::WalkLemmas::misfit_here, ldp_grammar::proofs::TlvLemmas::short_tlv, ldp_grammar::proofs::TlvLemmas::long_tlv, ldp_grammar::proofs::TlvLemmas::repeated_tlv))]
 fn take_tlv(kind: MessageKind, before: &[u8], rest: &[u8]) -> Result<(u16, usize), Fault>
     requires some { 0 < length rest.now }
     ensures taken { (ts : List Tlv) → IsJoined before.now ts → IfOk result (λ r. IsTaken (row_of kind) ts rest.now r.0 r.1) }
@@ -78,9 +78,9 @@ fn fault(place: u16, cause: Cause) -> Fault
     Fault { place, cause }
 }
 
-#[tactic(auto, using(crate::proofs::WalkLemmas::walked_more, crate::proofs::WalkLemmas::walk_fault, crate::proofs::WalkLemmas::walked_all, crate::proofs::WalkLemmas::walked_none))]
 // The type of the first TLV that is unknown in the message and not to be ignored, where the octets behind the Message
 // ID are TLVs without fault; or else their first fault, its place counted from the first of them.
+#[tactic(auto, using(crate::proofs::WalkLemmas::walked_more, crate::proofs::WalkLemmas::walk_fault, crate::proofs::WalkLemmas::walked_all, crate::proofs::WalkLemmas::walked_none))]
 pub fn walk_tlvs(kind: MessageKind, body: &[u8]) -> Result<Option<u16>, Fault>
     requires { length body.now < 65536 }
     ensures walked { IfOk result (IsWalked (row_of kind) body.now) }

@@ -1,5 +1,5 @@
 //! What the values of TLVs stand for.
-ghost use Rattle.std.specs.Prelude.{◌≡◌, ◌/◌, ◌%◌, ◌^◌, ◌≤◌, ◌<◌, ◌+◌, length, drop, take, IfOk};
+ghost use Rattle.std.specs.Prelude.{◌≡◌, ◌/◌, ◌%◌, ◌≤◌, ◌<◌, ◌+◌, length, drop, take, IfOk};
 ghost use Rattle.ldp_grammar.specs.Octets.{bit};
 ghost use Rattle.ldp_grammar.specs.Values.{IsStatus, IsHello, IsSession, IsAddresses, IsAddressList};
 
