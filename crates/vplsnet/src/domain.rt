@@ -209,6 +209,9 @@ fn dressed(alloc: Global, tag: Option<u16>, frame: &[u8]) -> Result<Octets, NoMe
     requires tag { IfSome tag (λ tag. tag ≤ 4095) }
     ensures { IfOk result (λ octets. octets ≡ dressed_frame tag frame.now) }
 {
+    if tag.is_none() {
+        return List::from_bytes(alloc, frame);
+    }
     let mut out = vec![in alloc; 0u8; frame.len() + 4]?;
     let count = dress(tag, frame, out.as_mut_slice());
     let (octets, _) = out.as_slice().split_at(count);
