@@ -1,0 +1,4 @@
+pub mod Front
+pub mod Parsed
+pub mod State
+pub mod Laws

@@ -1,0 +1,15 @@
+//! What holds of every stream of octets.
+ghost use Rattle.ldp_stream.specs.Laws.{OneFront, OneParsing};
+
+/// Octets are a proper prefix of a PDU, or they have a fault in front, or a PDU stands in front: one at most of these,
+/// and one fault or PDU at most. The maximum is one of a session, at most 4096.
+pub fn one_front()
+    ensures { OneFront }
+{}
+
+/// A stream has one list of PDUs, each with its place, and one ending. Where a PDU stands in front, it comes first, and
+/// the others are those of the octets behind it. Where a stream is cut in two, its PDUs are those of the first part, and
+/// then those of what was pending, joined with the second part; a fault of the first part stays.
+pub fn one_parsing()
+    ensures { OneParsing }
+{}

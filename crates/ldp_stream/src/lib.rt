@@ -1,0 +1,16 @@
+//! The PDUs of a stream of octets that comes in pieces, however it was cut (RFC 5036 section 3.1).
+//!
+//! `specs/Front.antt` says what stands in front of the octets held, `specs/Parsed.antt` which PDUs a whole stream has,
+//! and `specs/State.antt` what contracts see of a stream.
+#![tactic(auto)]
+
+mod buffer;
+
+mod laws;
+mod stream;
+mod stream_fault;
+
+pub use laws::{one_front, one_parsing};
+pub use stream::Stream;
+pub use stream_fault::StreamFault;
+

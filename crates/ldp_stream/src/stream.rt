@@ -1,0 +1,93 @@
+//! Streams.
+ghost use Rattle.std.specs.Prelude.{◌≡◌, ◌≤◌, ◌↔◌, ◌⊎◌, ◌++◌, ℕ, List, Ok, Err, Some, None, IfErr, IfOk, IfSome, length, take};
+ghost use Rattle.ldp_grammar.specs.declared.fault.Fault.{Fault};
+ghost use Rattle.ldp_grammar.specs.declared.pdu.Pdu.{Pdu};
+ghost use Rattle.ldp_codec.specs.Decoded.{refusal_of};
+ghost use Rattle.ldp_stream.specs.declared.stream_fault.StreamFault.TheVariants as stop;
+ghost use Rattle.ldp_stream.specs.Front.{HasFront, IsFrontFault, IsPending};
+ghost use Rattle.ldp_stream.specs.State.{Answers, IsFaultOf, Refuses, empty, taken_of};
+
+use crate::StreamFault;
+use crate::buffer::Buffer;
+use ldp_grammar::{Fault, Pdu};
+use net_base::NoMemory;
+use std::alloc::Global;
+use std::marker::Model;
+
+/// The octets of one direction of a connection, as they come in, and the PDUs that they spell. Contracts see the octets
+/// held, the maximum, the place of the first octet held, and the fault that was answered.
+#[derive(Debug, Drop)]
+pub struct Stream {
+    buffer: Buffer,
+    max: u16,
+    base: u64,
+    refused: Option<Fault>,
+}
+
+impl Model for Stream {
+    ghost use Rattle.std.specs.Prelude.{◌≤◌};
+    ghost use Rattle.ldp_stream.specs.State.{StreamState};
+
+    ghost Value = { StreamState };
+
+    ghost view = { λ s. record { held = s.buffer; max = s.max; base = s.base; refused = s.refused } };
+
+    ghost invariant = { λ s. (256 ≤ s.max) × (s.max ≤ 4096) };
+}
+
+impl Stream {
+    /// A stream of which nothing came yet, with the memory for all octets that it will hold. The maximum is 4096.
+    pub fn new(alloc: Global) -> Result<Stream, NoMemory>
+        ensures { IfOk result (λ stream. stream ≡ empty) }
+    {
+        Ok(Stream {
+            buffer: Buffer::new(alloc)?,
+            max: 4096,
+            base: 0,
+            refused: None,
+        })
+    }
+
+    /// Sets the maximum of a PDU Length, in octets, for the PDUs that are answered from now on (RFC 5036 section
+    /// 3.5.3, Max PDU Length).
+    pub fn set_max(&mut self, max: u16)
+        requires least { 256 ≤ max }
+        requires most { max ≤ 4096 }
+        ensures { self.new ≡ record self.old { max = max } }
+    {
+        self.max = max;
+    }
+
+    /// Takes octets from the front of the piece, and answers how many: all of it, or as many as there is room for in
+    /// 4,100 octets; none after a fault was answered.
+    pub fn feed(&mut self, piece: &[u8]) -> usize
+        ensures count { result ≡ taken_of self.old.refused (length self.old.held) (length piece.now) }
+        ensures held { self.new ≡ record self.old { held = self.old.held ++ take result piece.now } }
+    {
+        0
+    }
+
+    /// The PDU in front of the octets held, which are then those behind it. `None` exactly where they are a proper
+    /// prefix of a PDU: nothing changes then. `Refused` exactly where there is a fault in front, or it was answered
+    /// before: another version as soon as two octets are held, a PDU Length out of range as soon as four are, and
+    /// another fault of the PDU as soon as all of it is held (RFC 5036 section 3.5.1.2.2).
+    pub fn next(&mut self, alloc: Global) -> Result<Option<Pdu>, StreamFault>
+        ensures answer { IfOk result (Answers self.old self.new) }
+        ensures refusal { IfErr result (Refuses self.old self.new) }
+        ensures waits { (result ≡ Ok None) ↔ ((self.old.refused ≡ None) × IsPending self.old.max self.old.held) }
+        ensures accepts { (pdu : Pdu) (rest : List ℕ) → self.old.refused ≡ None → HasFront self.old.max self.old.held pdu rest → (result ≡ Ok (Some pdu)) ⊎ (result ≡ Err stop.NoMemory) }
+        ensures refuses { (fault : Fault) → IsFaultOf self.old fault → (result ≡ Err (stop.Refused self.old.base (refusal_of fault))) ⊎ (result ≡ Err stop.NoMemory) }
+        ensures again { (fault : Fault) → self.old.refused ≡ Some fault → (result ≡ Err (stop.Refused self.old.base (refusal_of fault))) × (self.new ≡ self.old) }
+    {
+        let _alloc = alloc;
+        Ok(None)
+    }
+
+    /// How many octets are held: at most 4,100.
+    pub fn held(&self) -> usize
+        ensures count { result ≡ length self.now.held }
+        ensures within { result ≤ 4100 }
+    {
+        self.buffer.len()
+    }
+}
