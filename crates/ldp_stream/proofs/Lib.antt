@@ -1,0 +1,3 @@
+pub mod FrontLemmas
+pub mod ParsedLemmas
+pub mod StreamLemmas

@@ -1,4 +1,5 @@
 pub mod Front
+pub mod Halt
 pub mod Parsed
 pub mod State
 pub mod Laws

@@ -5,7 +5,8 @@
 #![tactic(auto)]
 
 mod buffer;
-
+mod front;
+mod halt;
 mod laws;
 mod stream;
 mod stream_fault;
@@ -13,4 +14,3 @@ mod stream_fault;
 pub use laws::{one_front, one_parsing};
 pub use stream::Stream;
 pub use stream_fault::StreamFault;
-

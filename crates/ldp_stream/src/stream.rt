@@ -1,14 +1,17 @@
 //! Streams.
-ghost use Rattle.std.specs.Prelude.{◌≡◌, ◌≤◌, ◌↔◌, ◌⊎◌, ◌++◌, ℕ, List, Ok, Err, Some, None, IfErr, IfOk, IfSome, length, take};
+ghost use Rattle.std.specs.Prelude.{◌≡◌, ◌≤◌, ◌↔◌, ◌⊎◌, ◌++◌, ℕ, List, Ok, Err, Some, None, IfErr, IfOk, drop, length, take};
 ghost use Rattle.ldp_grammar.specs.declared.fault.Fault.{Fault};
 ghost use Rattle.ldp_grammar.specs.declared.pdu.Pdu.{Pdu};
 ghost use Rattle.ldp_codec.specs.Decoded.{refusal_of};
 ghost use Rattle.ldp_stream.specs.declared.stream_fault.StreamFault.TheVariants as stop;
 ghost use Rattle.ldp_stream.specs.Front.{HasFront, IsFrontFault, IsPending};
-ghost use Rattle.ldp_stream.specs.State.{Answers, IsFaultOf, Refuses, empty, taken_of};
+ghost use Rattle.ldp_stream.specs.State.{Answers, IsFaultOf, Refuses, empty, place_behind, taken_of};
 
 use crate::StreamFault;
 use crate::buffer::Buffer;
+use crate::front::decode_front;
+use crate::halt::Halt;
+use ldp_codec::DecodeFault;
 use ldp_grammar::{Fault, Pdu};
 use net_base::NoMemory;
 use std::alloc::Global;
@@ -64,7 +67,10 @@ impl Stream {
         ensures count { result ≡ taken_of self.old.refused (length self.old.held) (length piece.now) }
         ensures held { self.new ≡ record self.old { held = self.old.held ++ take result piece.now } }
     {
-        0
+        if self.refused.is_some() {
+            return 0;
+        }
+        self.buffer.take(piece)
     }
 
     /// The PDU in front of the octets held, which are then those behind it. `None` exactly where they are a proper
@@ -79,8 +85,40 @@ impl Stream {
         ensures refuses { (fault : Fault) → IsFaultOf self.old fault → (result ≡ Err (stop.Refused self.old.base (refusal_of fault))) ⊎ (result ≡ Err stop.NoMemory) }
         ensures again { (fault : Fault) → self.old.refused ≡ Some fault → (result ≡ Err (stop.Refused self.old.base (refusal_of fault))) × (self.new ≡ self.old) }
     {
-        let _alloc = alloc;
-        Ok(None)
+        if let Some(fault) = self.refused {
+            return Err(self.refuse(fault));
+        }
+        match decode_front(alloc, self.buffer.as_slice(), self.max) {
+            Ok(None) => Ok(None),
+            Ok(Some((pdu, size))) => {
+                self.pass(size);
+                Ok(Some(pdu))
+            }
+            Err(Halt::Fault(fault)) => Err(self.refuse(fault)),
+            Err(Halt::NoMemory) => Err(StreamFault::NoMemory),
+        }
+    }
+
+    // The answer that refuses with the fault, which is kept.
+    fn refuse(&mut self, fault: Fault) -> StreamFault
+        ensures answer { result ≡ stop.Refused self.old.base (refusal_of fault) }
+        ensures kept { self.new ≡ record self.old { refused = Some fault } }
+    {
+        self.refused = Some(fault);
+        StreamFault::Refused {
+            base: self.base,
+            fault: DecodeFault::from(fault),
+        }
+    }
+
+    #[tactic(auto, unfolding(crate::specs::State::place_behind))]
+    // Passes the first octets, and their number goes to the place.
+    fn pass(&mut self, count: usize)
+        requires { count ≤ length self.old.held }
+        ensures { self.new ≡ record self.old { held = drop count self.old.held; base = place_behind self.old.base count } }
+    {
+        self.buffer.pass(count);
+        self.base = self.base.saturating_add(count as u64);
     }
 
     /// How many octets are held: at most 4,100.

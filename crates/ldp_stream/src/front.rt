@@ -1,0 +1,93 @@
+//! What stands in front of the octets held.
+ghost use Rattle.std.specs.Prelude.{◌≡◌, ◌≢◌, ◌≤◌, ◌+◌, ◌⊎◌, ◌<◌, Ok, Err, None, Some, IfErr, IfOk, IfSome, length, true, false};
+ghost use Rattle.ldp_grammar.specs.Octets.{two_at};
+ghost use Rattle.ldp_stream.specs.Front.{HasHeader, HasPdu, IsFrontFault, IsPending, size_of};
+ghost use Rattle.ldp_stream.specs.Halt.{Halts, IsSpelledBy};
+
+use crate::halt::Halt;
+use byteorder::{BigEndian, ByteOrder};
+use ldp_codec::decode_pdu;
+use ldp_grammar::{Cause, Fault, Pdu};
+use std::alloc::Global;
+
+// The only version.
+const VERSION: u16 = 1;
+
+// The octets of a PDU that its PDU Length does not count.
+const LENGTH_HEADER: usize = 4;
+
+// The least PDU Length: an identifier and a message without TLVs.
+const LEAST: u16 = 14;
+
+// The number in the two octets at a place.
+fn two(octets: &[u8], place: usize) -> u16
+    requires { place + 2 ≤ length octets.now }
+    ensures { result ≡ two_at place octets.now }
+{
+    let (_, rest) = octets.split_at(place);
+    BigEndian::read_u16(rest)
+}
+
+// The size of the PDU in front where its header is there, in octets, or the fault of the header.
+fn read_size(held: &[u8], max: u16) -> Result<Option<usize>, Fault>
+    ensures pending { result ≡ Ok None → IsPending max held.now }
+    ensures size { IfOk result (λ size. IfSome size (λ n. (n ≡ size_of held.now) × HasHeader max held.now)) }
+    ensures fault { IfErr result (IsFrontFault max held.now) }
+{
+    if held.len() < 2 {
+        return Ok(None);
+    }
+    if two(held, 0) != VERSION {
+        return Err(Fault {
+            place: 0,
+            cause: Cause::Version,
+        });
+    }
+    if held.len() < LENGTH_HEADER {
+        return Ok(None);
+    }
+    let len = two(held, 2);
+    if len < LEAST || max < len {
+        return Err(Fault {
+            place: 2,
+            cause: Cause::PduLength,
+        });
+    }
+    Ok(Some(LENGTH_HEADER + len as usize))
+}
+
+// The PDU that the first octets spell.
+fn decode_first(alloc: Global, held: &[u8], size: usize, max: u16) -> Result<Pdu, Halt>
+    requires least { 256 ≤ max }
+    requires most { max ≤ 4096 }
+    requires whole { HasPdu max held.now }
+    requires size { size ≡ size_of held.now }
+    ensures spelled { IfOk result (λ pdu. IsSpelledBy max held.now pdu size) }
+    ensures halt { IfErr result (Halts max held.now) }
+{
+    let (piece, _) = held.split_at(size);
+    match decode_pdu(alloc, piece, max) {
+        Ok(pdu) => Ok(pdu),
+        Err(refusal) => Err(Halt::from(refusal)),
+    }
+}
+
+// The PDU in front and its size in octets, or nothing where the octets are a proper prefix of a PDU.
+pub fn decode_front(alloc: Global, held: &[u8], max: u16) -> Result<Option<(Pdu, usize)>, Halt>
+    requires least { 256 ≤ max }
+    requires most { max ≤ 4096 }
+    ensures pending { result ≡ Ok None → IsPending max held.now }
+    ensures spelled { IfOk result (λ front. IfSome front (λ f. IsSpelledBy max held.now f.0 f.1)) }
+    ensures halt { IfErr result (Halts max held.now) }
+{
+    let size = match read_size(held, max) {
+        Ok(Some(size)) => size,
+        Ok(None) => return Ok(None),
+        Err(fault) => return Err(Halt::Fault(fault)),
+    };
+    if held.len() < size {
+        return Ok(None);
+    }
+    let pdu = decode_first(alloc, held, size, max)?;
+    Ok(Some((pdu, size)))
+}
