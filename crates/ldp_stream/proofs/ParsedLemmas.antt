@@ -136,7 +136,7 @@ joins base max at octets rest more pdus others ending w v =
       pieces = w.pieces ++ v.pieces;
       rest = v.rest;
       split = ap (λ (l : List ℕ). l ++ more) w.split ∙ (append_assoc (joined_octets w.pieces) w.rest more ∙ (ap (λ (l : List ℕ). joined_octets w.pieces ++ l) back
-      ∙ (sym (append_assoc (joined_octets w.pieces) (joined_octets v.pieces) v.rest) ∙ ap (λ (l : List ℕ). l ++ v.rest) (sym (flat_map-append octets_of w.pieces v.pieces)))));
+          ∙ (sym (append_assoc (joined_octets w.pieces) (joined_octets v.pieces) v.rest) ∙ ap (λ (l : List ℕ). l ++ v.rest) (sym (flat_map-append octets_of w.pieces v.pieces)))));
       spelled = all_joined (IsPiece max) w.pieces v.pieces w.spelled v.spelled;
       are = (λ i. w.are i ++ others_are i) ∙ sym (placed_joined base w.pieces v.pieces);
       ends = subst (λ (n : ℕ). Ends max n v.rest ending) places v.ends;

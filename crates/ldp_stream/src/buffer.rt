@@ -27,17 +27,6 @@ impl Model for Buffer {
     ghost invariant = { λ b. (4100 ≤ vec_capacity b.octets) × (vec_len b.octets ≤ 4100) × (b.front ≤ vec_len b.octets) };
 }
 
-// Moves the octets from a place on to the front.
-fn move_to_front(octets: &mut Vec<u8>, front: usize)
-    requires { front ≤ vec_len octets.old }
-    ensures items { octets.new.items ≡ drop front octets.old.items }
-    ensures capacity { vec_capacity octets.new ≡ vec_capacity octets.old }
-{
-    let left = octets.len() - front;
-    octets.rotate_left(front);
-    octets.truncate(left);
-}
-
 impl Buffer {
     // An empty buffer with all its memory.
     pub fn new(alloc: Global) -> Result<Buffer, NoMemory>
@@ -87,4 +76,15 @@ impl Buffer {
     {
         self.front += count;
     }
+}
+
+// Moves the octets from a place on to the front.
+fn move_to_front(octets: &mut Vec<u8>, front: usize)
+    requires { front ≤ vec_len octets.old }
+    ensures items { octets.new.items ≡ drop front octets.old.items }
+    ensures capacity { vec_capacity octets.new ≡ vec_capacity octets.old }
+{
+    let len = octets.len();
+    octets.as_mut_slice().copy_within(front..len, 0);
+    octets.truncate(len - front);
 }

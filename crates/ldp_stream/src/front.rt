@@ -1,5 +1,5 @@
 //! What stands in front of the octets held.
-ghost use Rattle.std.specs.Prelude.{◌≡◌, ◌≢◌, ◌≤◌, ◌+◌, ◌⊎◌, ◌<◌, Ok, Err, None, Some, IfErr, IfOk, IfSome, length, true, false};
+ghost use Rattle.std.specs.Prelude.{◌≡◌, ◌≤◌, ◌+◌, Ok, None, IfErr, IfOk, IfSome, length};
 ghost use Rattle.ldp_grammar.specs.Octets.{two_at};
 ghost use Rattle.ldp_stream.specs.Front.{HasHeader, HasPdu, IsFrontFault, IsPending, size_of};
 ghost use Rattle.ldp_stream.specs.Halt.{Halts, IsSpelledBy};

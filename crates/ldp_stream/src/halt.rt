@@ -1,6 +1,5 @@
 //! Why no PDU was got from the octets in front.
 ghost use Rattle.std.specs.Prelude.{◌≡◌};
-ghost use Rattle.ldp_stream.specs.Halt.{told_by};
 
 use ldp_codec::DecodeFault;
 use ldp_grammar::{Cause, Fault};
@@ -12,13 +11,6 @@ pub enum Halt {
     Fault(Fault),
     // Memory was refused.
     NoMemory,
-}
-
-// The fault at a place.
-fn at_fault(place: u16, cause: Cause) -> Halt
-    ensures { result ≡ Halt.Fault (record { place = place; cause = cause }) }
-{
-    Halt::Fault(Fault { place, cause })
 }
 
 impl From<DecodeFault> for Halt {
@@ -38,4 +30,11 @@ impl From<DecodeFault> for Halt {
             DecodeFault::NoMemory => Halt::NoMemory,
         }
     }
+}
+
+// The fault at a place.
+fn at_fault(place: u16, cause: Cause) -> Halt
+    ensures { result ≡ Halt.Fault (record { place = place; cause = cause }) }
+{
+    Halt::Fault(Fault { place, cause })
 }

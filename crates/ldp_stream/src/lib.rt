@@ -14,3 +14,6 @@ mod stream_fault;
 pub use laws::{one_front, one_parsing};
 pub use stream::Stream;
 pub use stream_fault::StreamFault;
+
+#[cfg(test)]
+mod tests;

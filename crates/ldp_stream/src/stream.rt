@@ -4,7 +4,7 @@ ghost use Rattle.ldp_grammar.specs.declared.fault.Fault.{Fault};
 ghost use Rattle.ldp_grammar.specs.declared.pdu.Pdu.{Pdu};
 ghost use Rattle.ldp_codec.specs.Decoded.{refusal_of};
 ghost use Rattle.ldp_stream.specs.declared.stream_fault.StreamFault.TheVariants as stop;
-ghost use Rattle.ldp_stream.specs.Front.{HasFront, IsFrontFault, IsPending};
+ghost use Rattle.ldp_stream.specs.Front.{HasFront, IsPending};
 ghost use Rattle.ldp_stream.specs.State.{Answers, IsFaultOf, Refuses, empty, place_behind, taken_of};
 
 use crate::StreamFault;
@@ -18,7 +18,7 @@ use std::alloc::Global;
 use std::marker::Model;
 
 /// The octets of one direction of a connection, as they come in, and the PDUs that they spell. Contracts see the octets
-/// held, the maximum, the place of the first octet held, and the fault that was answered.
+/// held, the maximum, the place in the stream of the first octet held, and the fault that was answered.
 #[derive(Debug, Drop)]
 pub struct Stream {
     buffer: Buffer,
@@ -28,14 +28,14 @@ pub struct Stream {
 }
 
 impl Model for Stream {
-    ghost use Rattle.std.specs.Prelude.{◌≤◌};
+    ghost use Rattle.std.specs.Prelude.{◌≤◌, length};
     ghost use Rattle.ldp_stream.specs.State.{StreamState};
 
     ghost Value = { StreamState };
 
     ghost view = { λ s. record { held = s.buffer; max = s.max; base = s.base; refused = s.refused } };
 
-    ghost invariant = { λ s. (256 ≤ s.max) × (s.max ≤ 4096) };
+    ghost invariant = { λ s. (256 ≤ s.max) × (s.max ≤ 4096) × (length s.buffer ≤ 4100) };
 }
 
 impl Stream {
@@ -62,10 +62,12 @@ impl Stream {
     }
 
     /// Takes octets from the front of the piece, and answers how many: all of it, or as many as there is room for in
-    /// 4,100 octets; none after a fault was answered.
+    /// 4,100 octets; none after a fault was answered. To call `next` until it answers `None` makes room for at least
+    /// one octet. This takes no memory.
     pub fn feed(&mut self, piece: &[u8]) -> usize
         ensures count { result ≡ taken_of self.old.refused (length self.old.held) (length piece.now) }
         ensures held { self.new ≡ record self.old { held = self.old.held ++ take result piece.now } }
+        ensures within { length self.new.held ≤ 4100 }
     {
         if self.refused.is_some() {
             return 0;
@@ -99,6 +101,14 @@ impl Stream {
         }
     }
 
+    /// How many octets are held: at most 4,100.
+    pub fn held(&self) -> usize
+        ensures count { result ≡ length self.now.held }
+        ensures within { result ≤ 4100 }
+    {
+        self.buffer.len()
+    }
+
     // The answer that refuses with the fault, which is kept.
     fn refuse(&mut self, fault: Fault) -> StreamFault
         ensures answer { result ≡ stop.Refused self.old.base (refusal_of fault) }
@@ -111,21 +121,13 @@ impl Stream {
         }
     }
 
-    #[tactic(auto, unfolding(crate::specs::State::place_behind))]
     // Passes the first octets, and their number goes to the place.
+    #[tactic(auto, unfolding(crate::specs::State::place_behind))]
     fn pass(&mut self, count: usize)
         requires { count ≤ length self.old.held }
         ensures { self.new ≡ record self.old { held = drop count self.old.held; base = place_behind self.old.base count } }
     {
         self.buffer.pass(count);
         self.base = self.base.saturating_add(count as u64);
-    }
-
-    /// How many octets are held: at most 4,100.
-    pub fn held(&self) -> usize
-        ensures count { result ≡ length self.now.held }
-        ensures within { result ≤ 4100 }
-    {
-        self.buffer.len()
     }
 }
