@@ -1,7 +1,7 @@
 -- One thing at most stands in front of octets, and what follows does not change it.
 use Rattle.std.proofs.Common.{◌≡◌, ◌≤◌, ◌<◌, ◌+◌, ◌++◌, ◌⊎◌, inl, inr, ℕ, List, [], ◌∷◌, length, take, drop, refl, sym, ap, subst, ◌∙◌, length-append, arith}
 use Rattle.std.proofs.Math.Seq.{take-append_seam, drop-append_seam}
-use Rattle.std.proofs.lemmas.List.{take-append-le, take-append-drop}
+use Rattle.std.proofs.lemmas.List.{take-append-le}
 use Rattle.ldp_grammar.specs.declared.fault.Fault.{Fault}
 use Rattle.ldp_grammar.specs.declared.pdu.Pdu.{Pdu}
 use Rattle.ldp_grammar.specs.Octets.{two_at}
@@ -9,7 +9,7 @@ use Rattle.ldp_grammar.specs.Spells.{Spells}
 use Rattle.ldp_grammar.specs.FirstFault.{FirstFault, Names}
 use Rattle.ldp_grammar.proofs.PduLemmas.{length_of, count_of, one_first, never_both}
 use Rattle.ldp_grammar.proofs.MeaningLemmas.{one_reading}
-use Rattle.ldp_stream.specs.Front.{HasFront, HasFaultyPdu, HasHeader, HasOtherVersion, HasPdu, HasWrongLength, IsFrontFault, IsPending, size_of}
+use Rattle.ldp_stream.specs.Front.{HasFront, HasHeader, IsFrontFault, IsPending, size_of}
 use Rattle.ldp_stream.specs.Laws.{OneFront}
 
 -- the first fields, whatever follows them

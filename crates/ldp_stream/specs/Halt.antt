@@ -1,6 +1,5 @@
 -- Why no PDU was got from the octets in front of a stream.
-use Rattle.std.specs.Prelude.{◌≡◌, ◌≤◌, ◌++◌, ℕ, List, length, take, drop, Option, Some, None}
-use Rattle.ldp_grammar.specs.declared.fault.Fault.{Fault}
+use Rattle.std.specs.Prelude.{◌≤◌, ℕ, List, length, take}
 use Rattle.ldp_grammar.specs.declared.pdu.Pdu.{Pdu}
 use Rattle.ldp_grammar.specs.Spells.{Spells}
 use Rattle.ldp_codec.specs.declared.decode_fault.DecodeFault.{DecodeFault}
@@ -8,7 +7,7 @@ use Rattle.ldp_codec.specs.declared.decode_fault.DecodeFault.TheVariants as refu
 use Rattle.ldp_codec.specs.Decoded.{refusal_of}
 use Rattle.ldp_stream.specs.declared.halt.Halt.{Halt}
 use Rattle.ldp_stream.specs.declared.halt.Halt.TheVariants as halt
-use Rattle.ldp_stream.specs.Front.{HasPdu, IsPending, IsFrontFault}
+use Rattle.ldp_stream.specs.Front.{HasPdu, IsFrontFault}
 
 -- the decoder's answer for the reason
 abbrev pub told_by : Halt → DecodeFault

@@ -1,5 +1,5 @@
 //! What holds of every stream of octets.
-ghost use Rattle.ldp_stream.specs.Laws.{OneFront, OneParsing};
+ghost use Rattle.ldp_stream.specs.Laws.{OneFront, OneParsing, PassesAreParsed};
 
 /// Octets are a proper prefix of a PDU, or they have a fault in front, or a PDU stands in front: one at most of these,
 /// and one fault or PDU at most. The maximum is one of a session, at most 4096.
@@ -12,4 +12,10 @@ pub fn one_front()
 /// then those of what was pending, joined with the second part; a fault of the first part stays.
 pub fn one_parsing()
     ensures { OneParsing }
+{}
+
+/// The PDU that `next` answers is the first of the PDUs of the octets held and of all that are fed later. The place of
+/// the octet behind those held stays, as long as it is below 2^64.
+pub fn passes_are_parsed()
+    ensures { PassesAreParsed }
 {}

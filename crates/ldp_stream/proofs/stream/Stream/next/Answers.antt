@@ -1,9 +1,9 @@
-use Rattle.std.proofs.Common.{rules, ◌≡◌, ◌≤◌, ◌⊎◌, inl, inr, ℕ, List, Ok, Err, Some, None, sym, ap, subst, ◌∙◌, arith}
+use Rattle.std.proofs.Common.{rules, ◌≡◌, ◌≤◌, inl, Ok, Err, Some, None, ap, ◌∙◌, arith}
 use Rattle.ldp_grammar.specs.declared.fault.Fault.{Fault}
 use Rattle.ldp_grammar.specs.declared.pdu.Pdu.{Pdu}
-use Rattle.ldp_stream.specs.Front.{HasFront, IsFrontFault, IsPending}
+use Rattle.ldp_stream.specs.Front.{IsFrontFault}
 use Rattle.ldp_stream.specs.Halt.{IsSpelledBy}
-use Rattle.ldp_stream.specs.State.{IsFaultOf, StreamState}
+use Rattle.ldp_stream.specs.State.{StreamState}
 use Rattle.ldp_codec.specs.Decoded.{refusal_of}
 use Rattle.ldp_stream.specs.declared.stream_fault.StreamFault.{StreamFault}
 use Rattle.ldp_stream.specs.declared.stream_fault.StreamFault.TheVariants as stop
