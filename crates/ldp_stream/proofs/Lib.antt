@@ -1,3 +1,4 @@
 pub mod FrontLemmas
 pub mod ParsedLemmas
 pub mod StreamLemmas
+pub mod CallLemmas

@@ -1,6 +1,5 @@
 //! A flat buffer of octets that are taken at its end and passed at its front.
 ghost use Rattle.std.specs.Prelude.{◌≡◌, ◌≤◌, ◌-◌, ◌++◌, [], IfOk, drop, length, min, take, vec_capacity, vec_len};
-ghost use Rattle.ldp_stream.specs.State.{room};
 
 use net_base::NoMemory;
 use std::alloc::Global;

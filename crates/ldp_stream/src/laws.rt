@@ -1,4 +1,5 @@
 //! What holds of every stream of octets.
+ghost use Rattle.ldp_stream.specs.Calls.{HoweverCut};
 ghost use Rattle.ldp_stream.specs.Laws.{OneFront, OneParsing, PassesAreParsed};
 
 /// Octets are a proper prefix of a PDU, or they have a fault in front, or a PDU stands in front: one at most of these,
@@ -18,4 +19,11 @@ pub fn one_parsing()
 /// the octet behind those held stays, as long as it is below 2^64.
 pub fn passes_are_parsed()
     ensures { PassesAreParsed }
+{}
+
+/// However octets are cut into pieces, and whenever a stream is asked, the PDUs that it answers are those of all the
+/// octets that it took, in order and each with its place: all of them where a proper prefix of a PDU is held, and all
+/// before the fault where one is in front.
+pub fn however_cut()
+    ensures { HoweverCut }
 {}

@@ -78,7 +78,7 @@ impl Stream {
     /// The PDU in front of the octets held, which are then those behind it. `None` exactly where they are a proper
     /// prefix of a PDU: nothing changes then. `Refused` exactly where there is a fault in front, or it was answered
     /// before: another version as soon as two octets are held, a PDU Length out of range as soon as four are, and
-    /// another fault of the PDU as soon as all of it is held (RFC 5036 section 3.5.1.2.2).
+    /// another fault of the PDU as soon as all of it is held (RFC 5036 sections 3.5.1.2.1 and 3.5.1.2.2).
     pub fn next(&mut self, alloc: Global) -> Result<Option<Pdu>, StreamFault>
         ensures answer { IfOk result (Answers self.old self.new) }
         ensures refusal { IfErr result (Refuses self.old self.new) }
