@@ -2,3 +2,4 @@ pub mod FrontLemmas
 pub mod ParsedLemmas
 pub mod StreamLemmas
 pub mod CallLemmas
+pub mod Examples
