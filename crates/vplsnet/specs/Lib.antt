@@ -4,6 +4,8 @@ pub mod FaultText
 pub mod Files
 pub mod Finish
 pub mod Made
+pub mod MessageLine
+pub mod MessageWords
 pub mod Promises
 pub mod Replays
 pub mod Report

@@ -4,6 +4,7 @@
 #[cfg(test)]
 mod bridge_tests;
 mod built;
+mod decode;
 mod domain;
 mod domains;
 mod ending;

@@ -7,7 +7,7 @@ mod event;
 mod last_line;
 mod lines;
 mod names;
-mod pieces;
+pub mod pieces;
 
 use crate::ending::Ending;
 use crate::report::entry::put_entry;

@@ -53,8 +53,8 @@ fn hex_digit_of(nibble: u8) -> u8
     }
 }
 
-// Adds two digits for each octet.
-fn put_digits(text: &mut Vec<u8>, octets: &[u8]) -> Result<(), NoMemory>
+/// Adds two digits for each octet.
+pub fn put_digits(text: &mut Vec<u8>, octets: &[u8]) -> Result<(), NoMemory>
     ensures { OnOk result (text.new.items ≡ text.old.items ++ hex octets.now) }
 {
     for octet in octets {

@@ -1,0 +1,170 @@
+//! The parts of a message, each with a blank before it.
+ghost use Rattle.std.specs.Prelude.{◌≡◌, ◌++◌, ◌∷◌, [], codes, OnOk};
+ghost use Rattle.std.specs.Fmt.{decimal};
+ghost use Rattle.vplsnet.specs.FaultText.{spaced};
+ghost use Rattle.vplsnet.specs.MessageWords.{addresses_word, dotted, flag, hello_word, marked, part_words, session_word, status_word, transport_words, type_word, why_word, withdrawn_words};
+
+use crate::decode::names::field_text;
+use crate::decode::pieces::{put_dotted, put_flag, put_id, put_slash_flag, put_slash_number};
+use crate::report::pieces::{put_digits, put_number, put_text, put_word};
+use itoa::Buffer;
+use ldp_grammar::{AddressList, Message, SessionParams, StatusCode, Why};
+use net_base::{Addr, NoMemory, Octets};
+
+// Adds a status.
+fn put_status(text: &mut Vec<u8>, status: StatusCode) -> Result<(), NoMemory>
+    ensures { OnOk result (text.new.items ≡ text.old.items ++ spaced (status_word status ∷ [])) }
+{
+    put_text(text, b" code=")?;
+    put_flag(text, status.fatal)?;
+    put_slash_flag(text, status.forward)?;
+    put_slash_number(text, u64::from(status.code))?;
+    put_slash_number(text, u64::from(status.message))?;
+    put_slash_number(text, u64::from(status.kind))?;
+    Ok(())
+}
+
+// Adds the hold time, the T bit and the R bit of a Hello.
+fn put_hello(text: &mut Vec<u8>, hold: u16, targeted: bool, request: bool) -> Result<(), NoMemory>
+    ensures { OnOk result (text.new.items ≡ text.old.items ++ (codes " " ++ hello_word hold targeted request)) }
+{
+    put_text(text, b" hold=")?;
+    put_number(text, u64::from(hold))?;
+    put_slash_flag(text, targeted)?;
+    put_slash_flag(text, request)?;
+    Ok(())
+}
+
+// Adds an address under its label.
+fn put_address(text: &mut Vec<u8>, label: &[u8], address: Addr) -> Result<(), NoMemory>
+    ensures { OnOk result (text.new.items ≡ text.old.items ++ spaced ((label.now ++ dotted address) ∷ [])) }
+{
+    put_word(text, label)?;
+    put_dotted(text, address)?;
+    Ok(())
+}
+
+// Adds the transport address, where there is one.
+fn put_transport(text: &mut Vec<u8>, transport: &Option<Addr>) -> Result<(), NoMemory>
+    ensures { OnOk result (text.new.items ≡ text.old.items ++ spaced (transport_words transport.now)) }
+{
+    match transport {
+        Some(address) => put_address(text, b"transport=", *address),
+        None => Ok(()),
+    }
+}
+
+// Adds what an Initialization proposes, before the Max PDU Length.
+fn put_session_front(text: &mut Vec<u8>, params: SessionParams) -> Result<(), NoMemory>
+    ensures { OnOk result (text.new.items ≡ text.old.items ++ (codes " session=" ++ (decimal params.version ++ marked (codes "/") (decimal params.keepalive ∷ flag params.demand ∷ flag params.loops ∷ decimal params.limit ∷ [])))) }
+{
+    put_text(text, b" session=")?;
+    put_number(text, u64::from(params.version))?;
+    put_slash_number(text, u64::from(params.keepalive))?;
+    put_slash_flag(text, params.demand)?;
+    put_slash_flag(text, params.loops)?;
+    put_slash_number(text, u64::from(params.limit))?;
+    Ok(())
+}
+
+// Adds what an Initialization proposes.
+fn put_session(text: &mut Vec<u8>, params: SessionParams) -> Result<(), NoMemory>
+    ensures { OnOk result (text.new.items ≡ text.old.items ++ spaced (session_word params ∷ [])) }
+{
+    put_session_front(text, params)?;
+    put_slash_number(text, u64::from(params.max_pdu))?;
+    put_text(text, b"/")?;
+    put_id(text, params.receiver)?;
+    Ok(())
+}
+
+// Adds an address family.
+fn put_family(text: &mut Vec<u8>, family: u16) -> Result<(), NoMemory>
+    ensures { OnOk result (text.new.items ≡ text.old.items ++ (codes " addresses=" ++ decimal family)) }
+{
+    put_text(text, b" addresses=")?;
+    put_number(text, u64::from(family))?;
+    Ok(())
+}
+
+// Adds an address family and addresses.
+fn put_addresses(text: &mut Vec<u8>, family: u16, octets: &Octets) -> Result<(), NoMemory>
+    ensures { OnOk result (text.new.items ≡ text.old.items ++ spaced (addresses_word family octets.now ∷ [])) }
+{
+    put_family(text, family)?;
+    put_text(text, b"/")?;
+    put_digits(text, octets.as_slice())?;
+    Ok(())
+}
+
+// Adds the addresses that are withdrawn, where there are any.
+fn put_withdrawn(text: &mut Vec<u8>, addresses: &Option<AddressList>) -> Result<(), NoMemory>
+    ensures { OnOk result (text.new.items ≡ text.old.items ++ spaced (withdrawn_words addresses.now)) }
+{
+    match addresses {
+        Some(list) => put_addresses(text, list.family, &list.octets),
+        None => Ok(()),
+    }
+}
+
+// Adds the type of a message that is not known or not processed.
+fn put_type(text: &mut Vec<u8>, kind: u16) -> Result<(), NoMemory>
+    ensures { OnOk result (text.new.items ≡ text.old.items ++ spaced (type_word kind ∷ [])) }
+{
+    put_text(text, b" type=")?;
+    put_number(text, u64::from(kind))?;
+    Ok(())
+}
+
+// Adds why a message is not processed: the reason, and what it names.
+fn put_reason(text: &mut Vec<u8>, reason: &[u8], named: &[u8]) -> Result<(), NoMemory>
+    ensures { OnOk result (text.new.items ≡ text.old.items ++ spaced ((reason.now ++ named.now) ∷ [])) }
+{
+    put_word(text, reason)?;
+    put_text(text, named)?;
+    Ok(())
+}
+
+// Adds why a message is not processed.
+fn put_why(text: &mut Vec<u8>, why: Why) -> Result<(), NoMemory>
+    ensures { OnOk result (text.new.items ≡ text.old.items ++ spaced (why_word why ∷ [])) }
+{
+    let mut buffer = Buffer::new();
+    match why {
+        Why::UnknownTlv(kind) => {
+            put_reason(text, b"why=UnknownTlv:", buffer.format(kind).as_bytes())
+        }
+        Why::Missing(field) => put_reason(text, b"why=Missing:", field_text(field).as_bytes()),
+        Why::UnknownFec(octet) => {
+            put_reason(text, b"why=UnknownFec:", buffer.format(octet).as_bytes())
+        }
+    }
+}
+
+/// Adds the parts of a message.
+pub fn put_parts(text: &mut Vec<u8>, message: &Message) -> Result<(), NoMemory>
+    ensures { OnOk result (text.new.items ≡ text.old.items ++ spaced (part_words message.now)) }
+{
+    match message {
+        Message::Notification { status, .. } => put_status(text, *status),
+        Message::Hello {
+            hold,
+            targeted,
+            request,
+            transport,
+            ..
+        } => {
+            put_hello(text, *hold, *targeted, *request)?;
+            put_transport(text, transport)
+        }
+        Message::Initialization { params, .. } => put_session(text, *params),
+        Message::KeepAlive { .. } => Ok(()),
+        Message::Address { family, octets, .. } => put_addresses(text, *family, octets),
+        Message::AddressWithdraw { addresses, .. } => put_withdrawn(text, addresses),
+        Message::Other { kind, .. } => put_type(text, *kind),
+        Message::Unprocessed { kind, why, .. } => {
+            put_type(text, *kind)?;
+            put_why(text, *why)
+        }
+    }
+}
