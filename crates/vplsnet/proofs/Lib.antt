@@ -1,3 +1,4 @@
+pub mod DecodeLemmas
 pub mod DomainLemmas
 pub mod DomainsLemmas
 pub mod FileLemmas
@@ -5,3 +6,4 @@ pub mod OutcomeLemmas
 pub mod PromiseLemmas
 pub mod ReplayLemmas
 pub mod SingleEdgeLemmas
+pub mod StreamLemmas

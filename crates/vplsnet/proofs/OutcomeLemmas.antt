@@ -6,20 +6,20 @@ use Rattle.scenario_text.specs.declared.scenario.Scenario.{Scenario}
 use Rattle.scenario_text.specs.declared.scenario_fault.ScenarioFault.{ScenarioFault}
 use Rattle.scenario_text.specs.Document.{document}
 use Rattle.vplsnet.specs.declared.outcome.Outcome.{Outcome}
-use Rattle.vplsnet.specs.declared.outcome.Outcome.TheVariants.{Done, Usage, ReadFault, WriteFault, TooLong, ScenarioRefused, NotBuilt, NoMemory}
+use Rattle.vplsnet.specs.declared.outcome.Outcome.TheVariants.{Done, Usage, ReadFault, WriteFault, TooLong, ScenarioRefused, NotBuilt, DecodeRefused, Unfinished, NoMemory}
 use Rattle.vplsnet.specs.Built.{is_built}
 use Rattle.vplsnet.specs.Files.{IsLonger}
 use Rattle.vplsnet.specs.Replays.{Files, Around, Replays, IsAccepted, IsRefused, IsTooLong, Tells, IsToldLonger, IsToldRefused, IsToldAccepted, scenario_limit}
 
 -- a told file has one content
-same_octets : (files : Files) (name octets other : List ℕ) → Tells files name octets → IfSome files (λ held. held name ≡ Some other) → octets ≡ other
+pub same_octets : (files : Files) (name octets other : List ℕ) → Tells files name octets → IfSome files (λ held. held name ≡ Some other) → octets ≡ other
 same_octets None name octets other tells told = absurd (cc (tells.told))
 same_octets (Some held) name octets other tells told =
     let same : held ≡ tells.held = cc (tells.told) in
     let both : Some octets ≡ Some other = sym tells.has ∙ (sym (ap (λ (h : List ℕ → Option (List ℕ)). h name) same) ∙ told) in
     cc (both)
 
-longer_octets : (files : Files) (name octets : List ℕ) (limit : ℕ) → Tells files name octets → IfSome files (λ held. IsLonger limit (held name)) → limit < length octets
+pub longer_octets : (files : Files) (name octets : List ℕ) (limit : ℕ) → Tells files name octets → IfSome files (λ held. IsLonger limit (held name)) → limit < length octets
 longer_octets None name octets limit tells longer = absurd (cc (tells.told))
 longer_octets (Some held) name octets limit tells longer =
     let same : octets ≡ longer.bytes = same_octets (Some held) name octets longer.bytes tells longer.held in
@@ -59,6 +59,8 @@ too_long_told around name trace (ScenarioRefused fault) replays told calm =
 too_long_told around name trace NotBuilt replays told calm =
     let content = accepted_content around.files name told.octets replays.0.scenario told.tells replays.0.accepted in
     absurd (omega (arith, told.longer, content.0))
+too_long_told around name trace (DecodeRefused stopped) replays told calm = absurd replays
+too_long_told around name trace (Unfinished at) replays told calm = absurd replays
 too_long_told around name trace NoMemory replays told calm = inr refl
 
 pub refused_told : (around : Around) (name : List ℕ) (trace : List Entry) (outcome : Outcome) (fault : ScenarioFault) → Replays around name trace outcome → IsToldRefused around.files name fault → ¬ Rose (around.shelf_before name) (around.shelf_after name)
@@ -81,6 +83,8 @@ refused_told around name trace (ScenarioRefused other) fault replays told calm =
 refused_told around name trace NotBuilt fault replays told calm =
     let content = accepted_content around.files name told.octets replays.0.scenario told.tells replays.0.accepted in
     absurd (cc (content.1, told.reads))
+refused_told around name trace (DecodeRefused stopped) fault replays told calm = absurd replays
+refused_told around name trace (Unfinished at) fault replays told calm = absurd replays
 refused_told around name trace NoMemory fault replays told calm = inr refl
 
 -- of a told file that is accepted, the scenario is the one that was read
@@ -107,6 +111,8 @@ unbuilt_told around name trace (ScenarioRefused fault) scenario replays told unb
     let content = refused_content around.files name told.octets fault told.tells replays.0 in
     absurd (cc (content.1, told.reads))
 unbuilt_told around name trace NotBuilt scenario replays told unbuilt calm = inl refl
+unbuilt_told around name trace (DecodeRefused stopped) scenario replays told unbuilt calm = absurd replays
+unbuilt_told around name trace (Unfinished at) scenario replays told unbuilt calm = absurd replays
 unbuilt_told around name trace NoMemory scenario replays told unbuilt calm = inr refl
 
 pub accepted_told : (around : Around) (name : List ℕ) (trace : List Entry) (outcome : Outcome) (scenario : Scenario) → Replays around name trace outcome → IsToldAccepted around.files name scenario → is_built scenario ≡ true
@@ -125,4 +131,6 @@ accepted_told around name trace (ScenarioRefused fault) scenario replays told bu
 accepted_told around name trace NotBuilt scenario replays told built calm quiet =
     let same = same_scenario around.files name told.octets scenario replays.0.scenario told.tells told.reads replays.0.accepted in
     absurd (cc (ap is_built same, replays.0.unbuilt, built))
+accepted_told around name trace (DecodeRefused stopped) scenario replays told built calm quiet = absurd replays
+accepted_told around name trace (Unfinished at) scenario replays told built calm quiet = absurd replays
 accepted_told around name trace NoMemory scenario replays told built calm quiet = inr refl

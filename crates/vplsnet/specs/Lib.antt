@@ -1,4 +1,5 @@
 pub mod Built
+pub mod Decodes
 pub mod Domain
 pub mod FaultText
 pub mod Files
@@ -11,4 +12,7 @@ pub mod Replays
 pub mod Report
 pub mod ReportWords
 pub mod SingleEdge
+pub mod StreamFaultText
+pub mod StreamSteps
+pub mod StreamText
 pub mod Words

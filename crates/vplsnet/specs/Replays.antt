@@ -13,7 +13,7 @@ use Rattle.scenario_text.specs.declared.scenario_fault.ScenarioFault.TheVariants
 use Rattle.scenario_text.specs.Document.{document}
 use Rattle.vplsnet.specs.declared.ending.Ending.TheVariants.{End}
 use Rattle.vplsnet.specs.declared.outcome.Outcome.{Outcome}
-use Rattle.vplsnet.specs.declared.outcome.Outcome.TheVariants.{Done, Usage, ReadFault, WriteFault, TooLong, ScenarioRefused, NotBuilt, NoMemory}
+use Rattle.vplsnet.specs.declared.outcome.Outcome.TheVariants.{Done, Usage, ReadFault, WriteFault, TooLong, ScenarioRefused, NotBuilt, DecodeRefused, Unfinished, NoMemory}
 use Rattle.vplsnet.specs.Built.{is_built}
 use Rattle.vplsnet.specs.Files.{IsLonger, AppendsFront}
 use Rattle.vplsnet.specs.Made.{made}
@@ -113,6 +113,8 @@ Replays around name trace WriteFault = IsCutShort around name trace
 Replays around name trace (TooLong named limit) = IsTooLong around.files name named limit × IsUntouched around trace
 Replays around name trace (ScenarioRefused fault) = IsRefused around.files name fault × IsUntouched around trace
 Replays around name trace NotBuilt = IsUnbuilt around.files name × IsUntouched around trace
+Replays around name trace (DecodeRefused fault) = ⊥
+Replays around name trace (Unfinished at) = ⊥
 Replays around name trace NoMemory = around.taken_after ≡ around.taken_before
 
 -- why a scenario was not had
@@ -124,6 +126,8 @@ Prevents files before after name WriteFault = ⊥
 Prevents files before after name (TooLong named limit) = IsTooLong files name named limit
 Prevents files before after name (ScenarioRefused fault) = IsRefused files name fault
 Prevents files before after name NotBuilt = IsUnbuilt files name
+Prevents files before after name (DecodeRefused fault) = ⊥
+Prevents files before after name (Unfinished at) = ⊥
 Prevents files before after name NoMemory = Unit {0}
 
 -- the shelf tells what the name has

@@ -25,8 +25,8 @@ pub fn put_fault(line: &mut String, fault: ScenarioFault) -> Result<(), NoMemory
     }
 }
 
-// Adds a word that is followed by nothing.
-fn put_word(line: &mut String, word: &str) -> Result<(), NoMemory>
+/// Adds a word, with a blank before it.
+pub fn put_word(line: &mut String, word: &str) -> Result<(), NoMemory>
     ensures { OnOk result (string_bytes line.new ≡ string_bytes line.old ++ spaced (word.now ∷ [])) }
 {
     line.push_str(" ")?;
@@ -34,7 +34,8 @@ fn put_word(line: &mut String, word: &str) -> Result<(), NoMemory>
     Ok(())
 }
 
-fn put_number(line: &mut String, number: u32) -> Result<(), NoMemory>
+/// Adds a number in decimal, with a blank before it.
+pub fn put_number(line: &mut String, number: u64) -> Result<(), NoMemory>
     ensures { OnOk result (string_bytes line.new ≡ string_bytes line.old ++ spaced (decimal number ∷ [])) }
 {
     let mut buffer = Buffer::new();
@@ -45,8 +46,8 @@ fn put_bad_word(line: &mut String, event: u32, word: u32) -> Result<(), NoMemory
     ensures { OnOk result (string_bytes line.new ≡ string_bytes line.old ++ spaced (codes "BadWord" ∷ decimal event ∷ decimal word ∷ [])) }
 {
     put_word(line, "BadWord")?;
-    put_number(line, event)?;
-    put_number(line, word)
+    put_number(line, u64::from(event))?;
+    put_number(line, u64::from(word))
 }
 
 fn put_too_many(line: &mut String, table: Table, limit: u32) -> Result<(), NoMemory>
@@ -54,7 +55,7 @@ fn put_too_many(line: &mut String, table: Table, limit: u32) -> Result<(), NoMem
 {
     put_word(line, "TooMany")?;
     put_word(line, table_text(table))?;
-    put_number(line, limit)
+    put_number(line, u64::from(limit))
 }
 
 // Adds a fault's name and its place.
@@ -78,7 +79,7 @@ fn put_place(line: &mut String, place: &Place) -> Result<(), NoMemory>
     ensures { OnOk result (string_bytes line.new ≡ string_bytes line.old ++ spaced (place_words place.now)) }
 {
     put_word(line, table_text(place.table))?;
-    put_number(line, place.index)?;
+    put_number(line, u64::from(place.index))?;
     put_key(line, &place.key)
 }
 

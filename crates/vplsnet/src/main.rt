@@ -19,6 +19,7 @@ mod report;
 mod run;
 mod single_edge;
 mod std_sink;
+mod stream_fault_text;
 #[cfg(test)]
 mod tests;
 mod words;

@@ -2,6 +2,7 @@
 ghost use Rattle.std.specs.Prelude.{◌≡◌};
 ghost use Rattle.vplsnet.specs.Finish.{status_of};
 
+use ldp_stream::StreamFault;
 use net_base::Word;
 use scenario_text::ScenarioFault;
 
@@ -22,6 +23,11 @@ pub enum Outcome {
     ScenarioRefused(ScenarioFault),
     /// The scenario is accepted, and has something that is not built yet. Nothing was taken.
     NotBuilt,
+    /// The stream has this first fault, which is not want of memory. The lines of the messages before it were taken.
+    DecodeRefused(StreamFault),
+    /// The stream ends within a PDU that begins at `at`, in octets from 0. The lines of the messages before it were
+    /// taken.
+    Unfinished { at: u64 },
     /// Memory was refused. Nothing was taken.
     NoMemory,
 }
@@ -37,6 +43,7 @@ impl Outcome {
             Outcome::ReadFault => 3,
             Outcome::WriteFault => 4,
             Outcome::TooLong { .. } | Outcome::ScenarioRefused(_) | Outcome::NotBuilt => 5,
+            Outcome::DecodeRefused(_) | Outcome::Unfinished { .. } => 6,
             Outcome::NoMemory => 8,
         }
     }

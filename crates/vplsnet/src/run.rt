@@ -1,5 +1,9 @@
 //! All that the program does.
-ghost use Rattle.std.specs.Prelude.{◌≡◌, ◌⊎◌, ◌↔◌, [], true, false, None, MatchResult, map, string_bytes, IfOk, IfErr, IfSome, OnOk};
+ghost use Rattle.std.specs.Prelude.{◌≡◌, ◌⊎◌, ◌↔◌, ◌∷◌, [], ℕ, List, true, false, None, MatchResult, map, string_bytes, IfOk, IfErr, IfSome, OnOk};
+ghost use Rattle.ldp_codec.specs.Decoded.{refusal_of};
+ghost use Rattle.ldp_grammar.specs.declared.fault.Fault.{Fault};
+ghost use Rattle.ldp_stream.specs.Parsed.{Pending, Refused};
+ghost use Rattle.ldp_stream.specs.declared.stream_fault.StreamFault.TheVariants as stop;
 ghost use Rattle.net_base.specs.Outside.{Rose};
 ghost use Rattle.scenario_text.specs.declared.scenario_fault.ScenarioFault.{ScenarioFault};
 ghost use Rattle.scenario_text.specs.declared.scenario.Scenario.{Scenario};
@@ -7,14 +11,16 @@ ghost use Rattle.scenario_text.specs.Runnable.{IsRunnable};
 ghost use Rattle.vplsnet.specs.Built.{is_built};
 ghost use Rattle.vplsnet.specs.declared.ending.Ending.TheVariants.{End};
 ghost use Rattle.network_model.specs.Run.{run};
+ghost use Rattle.vplsnet.specs.Decodes.{Decodes, IsToldLongStream, IsToldStream, stream_limit};
 ghost use Rattle.vplsnet.specs.Finish.{status_of};
 ghost use Rattle.vplsnet.specs.Made.{made};
 ghost use Rattle.vplsnet.specs.Promises.{KeepsPromises};
 ghost use Rattle.vplsnet.specs.Replays.{Replays, Prevents, IsAccepted, IsToldLonger, IsToldRefused, IsToldAccepted, scenario_limit};
 ghost use Rattle.vplsnet.specs.Report.{report};
-ghost use Rattle.vplsnet.specs.Words.{replayed_file};
+ghost use Rattle.vplsnet.specs.Words.{decoded_file, replayed_file};
 
 use crate::built::is_built_scenario;
+use crate::decode::decode;
 use crate::ending::Ending;
 use crate::files::{ReadStop, read_file, write_text};
 use crate::finish::Finish;
@@ -31,10 +37,17 @@ const SCENARIO_LIMIT: usize = 8_388_608;
 
 /// Does what the words ask, over a shelf of files and a sink for the text.
 ///
-/// `replay FILE` reads a scenario and writes the report of its run. `Usage` comes exactly where the words are not
-/// these; then in this order `ReadFault` where the shelf's count for the file rose, `TooLong` where the file has
-/// more than 8,388,608 octets, `ScenarioRefused` where it has a fault, and `WriteFault` where the
-/// sink's count rose. `NotBuilt` comes, after an accepted scenario, where it has something that is not built yet.
+/// `Usage` comes exactly where the words are neither row below; then, in this order, `ReadFault` where the shelf's count
+/// for the file rose, and `TooLong` where the file has more octets than its limit.
+///
+/// `replay FILE` reads a scenario, of at most 8,388,608 octets, and writes the report of its run: `ScenarioRefused` where
+/// it has a fault, then `NotBuilt` where it has something that is not built yet, and `WriteFault` where the sink's count
+/// rose.
+///
+/// `decode FILE` reads a stream of LDP PDUs (RFC 5036 section 3.1), of at most 67,108,864 octets, and writes a line for
+/// each message, those before a fault too: `WriteFault` where the sink's count rose, and then `DecodeRefused` where the
+/// stream has a fault and `Unfinished` where it ends within a PDU.
+///
 /// `NoMemory` may come at any time before the writing.
 pub fn run<F: Shelf, K: Sink>(
     alloc: Global,
@@ -45,9 +58,9 @@ pub fn run<F: Shelf, K: Sink>(
     // The status is that of the outcome.
     ensures status { result.status ≡ status_of result.outcome }
     // Wrong words and nothing else are a usage, and nothing is taken.
-    ensures usage { (result.outcome ≡ Outcome.Usage) ↔ (replayed_file (map string_bytes words.now) ≡ None) }
-    ensures unused { replayed_file (map string_bytes words.now) ≡ None → (K.taken sink.new ≡ K.taken sink.old) × (result.trace ≡ []) }
-    // What each other outcome says, its cause among it.
+    ensures usage { (result.outcome ≡ Outcome.Usage) ↔ ((replayed_file (map string_bytes words.now) ≡ None) × (decoded_file (map string_bytes words.now) ≡ None)) }
+    ensures unused { replayed_file (map string_bytes words.now) ≡ None → decoded_file (map string_bytes words.now) ≡ None → (K.taken sink.new ≡ K.taken sink.old) × (result.trace ≡ []) }
+    // What each other outcome of a replay says, its cause among it.
     ensures replays { IfSome (replayed_file (map string_bytes words.now)) (λ name.
         Replays (record {
           files = F.files shelf.old;
@@ -59,7 +72,7 @@ pub fn run<F: Shelf, K: Sink>(
           sink_after = K.faults sink.new;
         })
         name result.trace result.outcome) }
-    // A told file is answered by what it is, unless a fault was counted or memory was refused.
+    // A told scenario is answered by what it is, unless a fault was counted or memory was refused.
     ensures too_long { IfSome (replayed_file (map string_bytes words.now)) (λ name.
         IsToldLonger (F.files shelf.old) name → ¬ Rose (F.faults shelf.old name) (F.faults shelf.new name)
         → (result.outcome ≡ Outcome.TooLong name scenario_limit) ⊎ (result.outcome ≡ Outcome.NoMemory)) }
@@ -72,12 +85,41 @@ pub fn run<F: Shelf, K: Sink>(
     ensures complete { IfSome (replayed_file (map string_bytes words.now)) (λ name. (scenario : Scenario)
         → IsToldAccepted (F.files shelf.old) name scenario → is_built scenario ≡ true → ¬ Rose (F.faults shelf.old name) (F.faults shelf.new name) → ¬ Rose (K.faults sink.old) (K.faults sink.new)
         → (result.outcome ≡ Outcome.Done) ⊎ (result.outcome ≡ Outcome.NoMemory)) }
+    // What each other outcome of a decoding says, its cause among it. No run begins.
+    ensures decodes { IfSome (decoded_file (map string_bytes words.now)) (λ name.
+        Decodes (record {
+          files = F.files shelf.old;
+          shelf_before = F.faults shelf.old;
+          shelf_after = F.faults shelf.new;
+          taken_before = K.taken sink.old;
+          taken_after = K.taken sink.new;
+          sink_before = K.faults sink.old;
+          sink_after = K.faults sink.new;
+        })
+        name result.outcome) }
+    ensures no_run { IfSome (decoded_file (map string_bytes words.now)) (λ name. result.trace ≡ []) }
+    // A told stream is answered by what it is, unless a fault was counted or memory was refused.
+    ensures long_stream { IfSome (decoded_file (map string_bytes words.now)) (λ name.
+        IsToldLongStream (F.files shelf.old) name → ¬ Rose (F.faults shelf.old name) (F.faults shelf.new name)
+        → (result.outcome ≡ Outcome.TooLong name stream_limit) ⊎ (result.outcome ≡ Outcome.NoMemory)) }
+    ensures refused_stream { IfSome (decoded_file (map string_bytes words.now)) (λ name. (base : ℕ) (fault : Fault)
+        → IsToldStream (F.files shelf.old) name (Refused base fault) → ¬ Rose (F.faults shelf.old name) (F.faults shelf.new name) → ¬ Rose (K.faults sink.old) (K.faults sink.new)
+        → (result.outcome ≡ Outcome.DecodeRefused (stop.Refused base (refusal_of fault))) ⊎ (result.outcome ≡ Outcome.NoMemory)) }
+    ensures unfinished_stream { IfSome (decoded_file (map string_bytes words.now)) (λ name. (at octet : ℕ) (rest : List ℕ)
+        → IsToldStream (F.files shelf.old) name (Pending at (octet ∷ rest)) → ¬ Rose (F.faults shelf.old name) (F.faults shelf.new name) → ¬ Rose (K.faults sink.old) (K.faults sink.new)
+        → (result.outcome ≡ Outcome.Unfinished at) ⊎ (result.outcome ≡ Outcome.NoMemory)) }
+    ensures whole_stream { IfSome (decoded_file (map string_bytes words.now)) (λ name. (at : ℕ)
+        → IsToldStream (F.files shelf.old) name (Pending at []) → ¬ Rose (F.faults shelf.old name) (F.faults shelf.new name) → ¬ Rose (K.faults sink.old) (K.faults sink.new)
+        → (result.outcome ≡ Outcome.Done) ⊎ (result.outcome ≡ Outcome.NoMemory)) }
     // The shelf's files are as they were.
     ensures same_files { F.files shelf.new ≡ F.files shelf.old }
 {
-    match file_of(words) {
+    match file_of("replay", words) {
         Some(name) => replay(alloc, name, shelf, sink),
-        None => Finish::without_run(alloc, Outcome::Usage),
+        None => match file_of("decode", words) {
+            Some(name) => decode(alloc, name, shelf, sink),
+            None => Finish::without_run(alloc, Outcome::Usage),
+        },
     }
 }
 

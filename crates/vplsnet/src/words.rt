@@ -1,15 +1,15 @@
 //! The words of the command line, read by hand: the rows are few and fixed.
 ghost use Rattle.std.specs.Prelude.{◌≡◌, map, option_map, string_bytes};
-ghost use Rattle.vplsnet.specs.Words.{is_plain, replayed_file};
+ghost use Rattle.vplsnet.specs.Words.{is_plain, named_file};
 
-/// The file of the words `replay FILE`; `None` exactly where the words are not these. FILE is not empty and does
-/// not begin with `-`.
-pub fn file_of(words: &[String]) -> Option<&str>
-    ensures { option_map (λ file. file.now) result ≡ replayed_file (map string_bytes words.now) }
+/// The file of the words `NAME FILE`, where NAME is the command's; `None` exactly where the words are not these. FILE is
+/// not empty and does not begin with `-`.
+pub fn file_of<'a>(name: &str, words: &'a [String]) -> Option<&'a str>
+    ensures { option_map (λ file. file.now) result ≡ named_file name.now (map string_bytes words.now) }
 {
     match words {
         [command, file] => {
-            if command.as_str() == "replay" && is_plain_word(file.as_str()) {
+            if command.as_str() == name && is_plain_word(file.as_str()) {
                 Some(file.as_str())
             } else {
                 None
