@@ -11,6 +11,8 @@ pub mod names;
 mod parts;
 mod pieces;
 mod stream;
+#[cfg(test)]
+mod tests;
 
 use crate::decode::stream::stream_text;
 use crate::files::{ReadStop, read_file, write_text};

@@ -1,0 +1,384 @@
+//! Whole decodings over a shelf and a sink in memory, of octets that were worked out by hand.
+
+use crate::finish::Finish;
+use crate::finish_line::finish_line;
+use crate::outcome::Outcome;
+use crate::run::run;
+use net_base::{List, MemShelf, MemSink, NoMemory, Shelf, Sink};
+use std::alloc::Global;
+use std::process::Abort;
+use std::test::Fail;
+
+// The value of a hexadecimal digit.
+fn nibble(digit: u8) -> u8 {
+    match digit {
+        b'0'..=b'9' => digit - b'0',
+        b'a'..=b'f' => digit - b'a' + 10,
+        _ => 0,
+    }
+}
+
+// The octets of pairs of hexadecimal digits; blanks are passed over.
+fn octets_of(alloc: Global, text: &str) -> Result<Vec<u8>, NoMemory> {
+    let mut octets = Vec::new(alloc);
+    let mut high = None;
+    for digit in text.as_bytes() {
+        if *digit != b' ' {
+            match high {
+                None => high = Some(nibble(*digit)),
+                Some(front) => {
+                    octets.push((front << 4) | nibble(*digit))?;
+                    high = None;
+                }
+            }
+        }
+    }
+    Ok(octets)
+}
+
+// Runs words, parted by blanks, over a shelf that holds these octets under `f`, of which a call fails where that is
+// wanted, and a sink with this room.
+fn call(
+    alloc: Global,
+    words: &str,
+    octets: &[u8],
+    fails: u64,
+    room: usize,
+) -> Result<(Finish, MemSink), Fail> {
+    let mut numbers = List::new(alloc);
+    if fails > 0 {
+        numbers.push(fails)?;
+    }
+    let mut shelf = MemShelf::new(alloc, numbers)?;
+    shelf.store(alloc, "f", octets)?;
+    let mut sink = MemSink::new(alloc, room, List::new(alloc))?;
+    let mut given = Vec::new(alloc);
+    for word in words.split_whitespace() {
+        given.push(String::from_str(alloc, word)?)?;
+    }
+    let finish = run(alloc, given.as_slice(), &mut shelf, &mut sink);
+    Ok((finish, sink))
+}
+
+// The line on standard error; empty where there is none.
+fn line_of(alloc: Global, outcome: &Outcome) -> Result<String, NoMemory> {
+    if matches!(outcome, Outcome::Done) {
+        Ok(String::new(alloc))
+    } else {
+        finish_line(alloc, outcome)
+    }
+}
+
+// Decodes octets in a sound surrounding: the lines that are taken, and the line on standard error, empty where the
+// stream is whole.
+fn decodes(
+    rt: &impl Abort,
+    alloc: Global,
+    octets: &str,
+    lines: &str,
+    line: &str,
+) -> Result<(), Fail> {
+    let octets = octets_of(alloc, octets)?;
+    let (finish, sink) = call(alloc, "decode f", octets.as_slice(), 0, 200)?;
+    assert_eq!(rt; finish.status, if line.is_empty() { 0 } else { 6 });
+    assert_eq!(rt; finish.trace.len(), 0);
+    assert_eq!(rt; sink.taken(), lines.as_bytes());
+    let told = line_of(alloc, &finish.outcome)?;
+    assert_eq!(rt; told.as_str(), line);
+    Ok(())
+}
+
+// How a call ends for a KeepAlive and a PDU with a wrong length, over a shelf of which a call may fail and a sink with
+// this room: the status, and how much is taken.
+fn ends(
+    rt: &impl Abort,
+    alloc: Global,
+    words: &str,
+    around: (u64, usize),
+    status: u8,
+    taken: usize,
+) -> Result<(), Fail> {
+    let octets = octets_of(alloc, "0001000e0a00000100000201000400000001 0001000d")?;
+    let (fails, room) = around;
+    let (finish, sink) = call(alloc, words, octets.as_slice(), fails, room)?;
+    assert_eq!(rt; finish.status, status);
+    assert_eq!(rt; sink.taken().len(), taken);
+    assert!(rt; b"0 KeepAlive id=1\n".starts_with(sink.taken()));
+    Ok(())
+}
+
+#[test]
+fn writes_a_keep_alive(rt: HostRuntime) -> Result<(), Fail> {
+    decodes(
+        &rt,
+        rt.alloc(),
+        "0001000e0a00000100000201000400000001",
+        "0 KeepAlive id=1\n",
+        "",
+    )?;
+    decodes(&rt, rt.alloc(), "", "", "")?;
+    Ok(())
+}
+
+#[test]
+fn writes_notifications(rt: HostRuntime) -> Result<(), Fail> {
+    decodes(
+        &rt,
+        rt.alloc(),
+        "0001001c0a0000010000 0001001200000001 0300000a 80000010 00000001 0200",
+        "0 Notification id=1 code=1/0/16/1/512\n",
+        "",
+    )?;
+    decodes(
+        &rt,
+        rt.alloc(),
+        "0001001c0a0000010000 000100120000000a 0300000a 7fffffff ffffffff ffff",
+        "0 Notification id=10 code=0/1/1073741823/4294967295/65535\n",
+        "",
+    )?;
+    Ok(())
+}
+
+#[test]
+fn writes_hellos(rt: HostRuntime) -> Result<(), Fail> {
+    decodes(
+        &rt,
+        rt.alloc(),
+        "0001001e0a0000010000 0100001400000007 04000004002dc000 040100040a000002",
+        "0 Hello id=7 hold=45/1/1 transport=10.0.0.2\n",
+        "",
+    )?;
+    decodes(
+        &rt,
+        rt.alloc(),
+        "000100160a0000010000 0100000c00000008 04000004ffff4000",
+        "0 Hello id=8 hold=65535/0/1\n",
+        "",
+    )?;
+    Ok(())
+}
+
+#[test]
+fn writes_initializations(rt: HostRuntime) -> Result<(), Fail> {
+    decodes(
+        &rt,
+        rt.alloc(),
+        "000100340a0000020000 0200002a00000001 0500000e000100b4000010000a0000010000 850300080000000000000000 0501000400000000",
+        "0 Initialization id=1 session=1/180/0/0/0/4096/10.0.0.1:0\n",
+        "",
+    )?;
+    decodes(
+        &rt,
+        rt.alloc(),
+        "000100200a0000010000 02000016ffffffff 0500000e0001000fc0050100c0a801ff0007",
+        "0 Initialization id=4294967295 session=1/15/1/1/5/256/192.168.1.255:7\n",
+        "",
+    )?;
+    Ok(())
+}
+
+#[test]
+fn writes_addresses(rt: HostRuntime) -> Result<(), Fail> {
+    decodes(
+        &rt,
+        rt.alloc(),
+        "000100180a0000010000 0300000e00000003 0101000600010a000001",
+        "0 Address id=3 addresses=1/0a000001\n",
+        "",
+    )?;
+    decodes(
+        &rt,
+        rt.alloc(),
+        "000100140a0000010000 0300000a00000003 010100020019",
+        "0 Address id=3 addresses=25/\n",
+        "",
+    )?;
+    decodes(
+        &rt,
+        rt.alloc(),
+        "000100180a0000010000 0301000e00000004 010100060001c0a801fe",
+        "0 AddressWithdraw id=4 addresses=1/c0a801fe\n",
+        "",
+    )?;
+    Ok(())
+}
+
+#[test]
+fn writes_what_is_not_processed(rt: HostRuntime) -> Result<(), Fail> {
+    decodes(
+        &rt,
+        rt.alloc(),
+        "0001000e0a0000010000 bf00000400000009",
+        "0 Other id=9 type=16128\n",
+        "",
+    )?;
+    decodes(
+        &rt,
+        rt.alloc(),
+        "000100160a0000010000 0201000c00000002 3f000000 3f010000",
+        "0 Unprocessed id=2 type=513 why=UnknownTlv:16128\n",
+        "",
+    )?;
+    decodes(
+        &rt,
+        rt.alloc(),
+        "0001000e0a0000010000 0001000400000005",
+        "0 Unprocessed id=5 type=1 why=Missing:Status\n",
+        "",
+    )?;
+    Ok(())
+}
+
+#[test]
+fn tells_where_each_pdu_begins(rt: HostRuntime) -> Result<(), Fail> {
+    decodes(
+        &rt,
+        rt.alloc(),
+        "000100160a0000010000 0201000400000001 0201000400000002 0001000e0a00000100000201000400000001",
+        "0 KeepAlive id=1\n0 KeepAlive id=2\n26 KeepAlive id=1\n",
+        "",
+    )?;
+    Ok(())
+}
+
+#[test]
+fn tells_where_the_last_pdu_is_cut(rt: HostRuntime) -> Result<(), Fail> {
+    decodes(
+        &rt,
+        rt.alloc(),
+        "0001000e0a000001000002010004000000",
+        "",
+        "vplsnet: stream ends at 0",
+    )?;
+    decodes(
+        &rt,
+        rt.alloc(),
+        "0001000e0a00000100000201000400000001 00",
+        "0 KeepAlive id=1\n",
+        "vplsnet: stream ends at 18",
+    )?;
+    decodes(
+        &rt,
+        rt.alloc(),
+        "000100160a0000010000 0201000400000001 0201000400000002 0001000e0a00",
+        "0 KeepAlive id=1\n0 KeepAlive id=2\n",
+        "vplsnet: stream ends at 26",
+    )?;
+    Ok(())
+}
+
+#[test]
+fn refuses_a_header(rt: HostRuntime) -> Result<(), Fail> {
+    decodes(
+        &rt,
+        rt.alloc(),
+        "0001000d",
+        "",
+        "vplsnet: stream: 0 PduLength 2",
+    )?;
+    decodes(
+        &rt,
+        rt.alloc(),
+        "00011001",
+        "",
+        "vplsnet: stream: 0 PduLength 2",
+    )?;
+    decodes(&rt, rt.alloc(), "0002", "", "vplsnet: stream: 0 Version 0")?;
+    decodes(
+        &rt,
+        rt.alloc(),
+        "0001000e0a00000100000201000400000001 0001000d",
+        "0 KeepAlive id=1\n",
+        "vplsnet: stream: 18 PduLength 2",
+    )?;
+    Ok(())
+}
+
+#[test]
+fn refuses_a_message(rt: HostRuntime) -> Result<(), Fail> {
+    decodes(
+        &rt,
+        rt.alloc(),
+        "0001000e0a00000100000201000400000001 0001000e0a0000010000 0201000300000001",
+        "0 KeepAlive id=1\n",
+        "vplsnet: stream: 18 MessageLength 12",
+    )?;
+    decodes(
+        &rt,
+        rt.alloc(),
+        "0001000f0a0000010000 020100050000000100",
+        "",
+        "vplsnet: stream: 0 TlvLength 18",
+    )?;
+    decodes(
+        &rt,
+        rt.alloc(),
+        "0001001b0a0000010000 0001001100000001 03000009 800000100000000102",
+        "",
+        "vplsnet: stream: 0 TlvValue 20 Status",
+    )?;
+    decodes(
+        &rt,
+        rt.alloc(),
+        "0001001e0a0000010000 0100001400000007 04000004002dc000 04000004002dc000",
+        "",
+        "vplsnet: stream: 0 Repeated 26 Hello",
+    )?;
+    Ok(())
+}
+
+#[test]
+fn refuses_other_words(rt: HostRuntime) -> Result<(), Fail> {
+    ends(&rt, rt.alloc(), "decode", (0, 200), 2, 0)?;
+    ends(&rt, rt.alloc(), "decode f f", (0, 200), 2, 0)?;
+    ends(&rt, rt.alloc(), "decode -f", (0, 200), 2, 0)?;
+    ends(&rt, rt.alloc(), "decoded f", (0, 200), 2, 0)?;
+    Ok(())
+}
+
+#[test]
+fn stops_where_the_shelf_fails(rt: HostRuntime) -> Result<(), Fail> {
+    ends(&rt, rt.alloc(), "decode g", (0, 200), 3, 0)?;
+    ends(&rt, rt.alloc(), "decode f", (1, 200), 3, 0)?;
+    ends(&rt, rt.alloc(), "decode f", (2, 200), 3, 0)?;
+    ends(&rt, rt.alloc(), "decode f", (3, 200), 6, 17)?;
+    Ok(())
+}
+
+#[test]
+fn stops_where_the_sink_fails(rt: HostRuntime) -> Result<(), Fail> {
+    ends(&rt, rt.alloc(), "decode f", (0, 17), 6, 17)?;
+    ends(&rt, rt.alloc(), "decode f", (0, 16), 4, 16)?;
+    ends(&rt, rt.alloc(), "decode f", (0, 0), 4, 0)?;
+    Ok(())
+}
+
+#[test]
+fn decodes_more_than_a_stream_holds(rt: HostRuntime) -> Result<(), Fail> {
+    let alloc = rt.alloc();
+    let one = octets_of(alloc, "0001000e0a00000100000201000400000001")?;
+    let mut octets = Vec::new(alloc);
+    for _ in 0..1000u32 {
+        octets.extend_from_slice(one.as_slice())?;
+    }
+    let (finish, sink) = call(alloc, "decode f", octets.as_slice(), 0, 30_000)?;
+    assert_eq!(rt; finish.status, 0);
+    // The digits of 0, 18, 36 and so on to 17982, and 16 characters behind each.
+    assert_eq!(rt; sink.taken().len(), 4_381 + 16_000);
+    assert!(rt;
+        sink.taken()
+            .ends_with(b"\n17964 KeepAlive id=1\n17982 KeepAlive id=1\n")
+    );
+    Ok(())
+}
+
+#[test]
+fn tells_a_stream_that_is_too_long(rt: HostRuntime) -> Result<(), Fail> {
+    let octets = Vec::from_elem(rt.alloc(), 7u8, 67_108_865)?;
+    let (finish, sink) = call(rt.alloc(), "decode f", octets.as_slice(), 0, 10)?;
+    assert_eq!(rt; finish.status, 5);
+    assert_eq!(rt; sink.taken().len(), 0);
+    let told = line_of(rt.alloc(), &finish.outcome)?;
+    assert_eq!(rt; told.as_str(), "vplsnet: f is longer than 67108864");
+    Ok(())
+}
