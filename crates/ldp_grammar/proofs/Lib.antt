@@ -2,6 +2,7 @@ pub mod ItemLemmas
 pub mod OctetLemmas
 pub mod SpellingLemmas
 pub mod TlvLemmas
+pub mod ForeignLemmas
 pub mod MessageLemmas
 pub mod PduLemmas
 pub mod MeaningLemmas

@@ -9,7 +9,8 @@ use Rattle.ldp_grammar.specs.declared.cause.Cause.TheVariants as cause
 use Rattle.ldp_grammar.specs.declared.pdu.Pdu.{Pdu}
 use Rattle.ldp_grammar.specs.Octets.{two, two_at}
 use Rattle.ldp_grammar.specs.Spells.{spell, IsFramed, Spells}
-use Rattle.ldp_grammar.specs.FirstFault.{IsFirst, FirstFault, Names, HeaderFault, IsInside, Precedes, NamesMessages, moved, rank, field_rank}
+use Rattle.ldp_grammar.specs.FirstFault.{IsFirst, FirstFault, Names, HeaderFault, IsInside, Precedes, NamesMessages, moved, rank}
+use Rattle.pw_tlvs.specs.Faults.{field_rank}
 use Rattle.ldp_grammar.proofs.ItemLemmas.{moved_after}
 use Rattle.ldp_grammar.proofs.SpellingLemmas.{same_front}
 use Rattle.ldp_grammar.proofs.MessageLemmas.{messages_faultless}

@@ -1,17 +1,33 @@
 -- What is written is read.
-use Rattle.std.proofs.Common.{◌≡◌, inl, inr, ◌≤◌, ◌<◌, ◌+◌, ◌-◌, ◌%◌, ◌++◌, ℕ, Bool, true, false, List, [], ◌∷◌, Option, Some, None, length, take, nat_eq, nat_le, eq-eqb, eqb-true, refl, sym, ap, ◌∙◌, arith}
+use Rattle.std.proofs.Common.{◌≡◌, inl, inr, ◌≤◌, ◌<◌, ◌+◌, ◌-◌, ◌%◌, ◌++◌, ◌&&◌, ℕ, Bool, true, false, List, [], ◌∷◌, Option, Some, None, zero, suc, length, take, drop, flat_map, nat_eq, nat_le, eq-eqb, eqb-true, refl, sym, ap, subst, ◌∙◌, arith}
+use Rattle.std.specs.Prelude.{is_some, is_none, slice_get, IfSome, IfNone}
+use Rattle.std.specs.List.{AllByRecursion}
 use Rattle.std.proofs.lemmas.Bool.{cases_Bool, ne_eqb}
 use Rattle.std.proofs.lemmas.Bool.Decides.{nat_tests}
 use Rattle.net_base.specs.declared.field.Field.{Field}
 use Rattle.net_base.specs.declared.field.Field.TheVariants as field
+use Rattle.net_base.specs.Label.{IsLabel}
+use Rattle.net_base.specs.declared.mac.Mac.{Mac}
+use Rattle.pw_tlvs.specs.declared.fec_value.FecValue.TheVariants.{Pw}
+use Rattle.pw_tlvs.specs.declared.if_params.IfParams.{IfParams}
+use Rattle.pw_tlvs.specs.declared.point.Point.{Point}
+use Rattle.pw_tlvs.specs.declared.pw_fec.PwFec.{PwFec}
+use Rattle.pw_tlvs.specs.Fec.{no_params}
+use Rattle.pw_tlvs.specs.Macs.{mac_octets}
+use Rattle.pw_tlvs.specs.Written.{written_fec, written_point, IsWritable, IsFecInRange, IsPointInRange}
+use Rattle.pw_tlvs.proofs.LawLemmas.{fec_again, point_again}
+use Rattle.pw_tlvs.proofs.MacLemmas.{length_macs}
+use Rattle.ldp_grammar.specs.declared.message_kind.MessageKind.TheVariants.{LabelMapping}
 use Rattle.ldp_grammar.specs.declared.session_params.SessionParams.{SessionParams}
 use Rattle.ldp_grammar.specs.declared.status_code.StatusCode.{StatusCode}
 use Rattle.ldp_grammar.specs.Octets.{two, four, two_at, four_at, bit}
-use Rattle.ldp_grammar.specs.Layouts.{fits, most}
-use Rattle.ldp_grammar.specs.Tlvs.{Tlv, type_in, count_of, KeepsTo}
-use Rattle.ldp_grammar.specs.Values.{IsStatus, IsHello, IsSession}
-use Rattle.ldp_grammar.specs.Written.{bit_as, status_octets, hello_octets, session_octets, id_octets, addresses_octets, are_whole, AreParams}
+use Rattle.ldp_grammar.specs.Layouts.{fits, most, listed}
+use Rattle.ldp_grammar.specs.Rows.{row_of, fec, label, switching_point}
+use Rattle.ldp_grammar.specs.Tlvs.{Tlv, IsTlv, spell_tlv, type_in, count_of, values_of, first_unknown, missing, needs_pw_id, IsFitting, IsFec, KeepsTo}
+use Rattle.ldp_grammar.specs.Values.{IsStatus, IsHello, IsSession, ArePoints}
+use Rattle.ldp_grammar.specs.Written.{bit_as, status_octets, hello_octets, session_octets, id_octets, addresses_octets, are_whole, AreParams, has_vlan, may_tell, tells_nothing, writable_fec, point_tlvs, tlv, ignorable}
 use Rattle.ldp_grammar.proofs.OctetLemmas.{read_two, read_four}
+use Rattle.ldp_grammar.proofs.TlvLemmas.{size_of, count-append}
 
 -- the two high bits of a word, and what is below them
 first_bit : (f g : Bool) (n : ℕ) → n < 1073741824 → f ≡ bit 31 (bit_as 31 f + bit_as 30 g + n)
@@ -150,3 +166,145 @@ count_two kind t u differ = elim (cases_Bool (nat_eq (type_in t.word) kind)) [
 
 pub keeps_two : (o : Option Field) (kind : ℕ) (t u : Tlv) → (type_in t.word ≡ type_in u.word → ⊥) → KeepsTo o (count_of kind (t ∷ u ∷ []))
 keeps_two o kind t u differ = keeps_one o _ (count_two kind t u differ)
+
+-- no two of the TLVs are of one type
+abbrev pub AreDistinct : List Tlv → Type 0
+AreDistinct [] = Unit {0}
+AreDistinct (t ∷ ts) = (count_of (type_in t.word) ts ≡ 0) × AreDistinct ts
+
+count_distinct : (kind : ℕ) (ts : List Tlv) → AreDistinct ts → count_of kind ts ≤ 1
+count_distinct kind [] distinct = omega arith
+count_distinct kind (t ∷ ts) distinct = elim (cases_Bool (nat_eq (type_in t.word) kind)) [
+  | inl same ↦ (let none : count_of kind ts ≡ 0 = subst (λ (k : ℕ). count_of k ts ≡ 0) (eqb-true _ _ same) distinct.0 in rw same (omega (arith, none)))
+  | inr other ↦ rw other (count_distinct kind ts distinct.1)
+]
+
+pub keeps_distinct : (o : Option Field) (kind : ℕ) (ts : List Tlv) → AreDistinct ts → KeepsTo o (count_of kind ts)
+keeps_distinct o kind ts distinct = keeps_one o _ (count_distinct kind ts distinct)
+
+-- TLVs whose octets are few are TLVs
+abbrev pub HaveWords : List Tlv → Type 0
+HaveWords [] = Unit {0}
+HaveWords (t ∷ ts) = (t.word < 65536) × HaveWords ts
+
+pub all_fit : (ts : List Tlv) → HaveWords ts → length (flat_map spell_tlv ts) < 65536 → AllByRecursion IsTlv ts
+all_fit [] words few = tt
+all_fit (t ∷ ts) words few =
+    let size = size_of t (flat_map spell_tlv ts) in
+    ((words.0, omega (arith, few, size)), all_fit ts words.1 (omega (arith, few, size)))
+
+-- a FEC that can be written
+pub and_both : (a b : Bool) → (a && b) ≡ true → (a ≡ true) × (b ≡ true)
+and_both true b e = (refl, e)
+and_both false b e = absurd (cc)
+
+none_is : {A : Type 0} (o : Option A) → is_none o ≡ true → o ≡ None
+none_is None e = refl
+none_is (Some x) e = absurd (cc)
+
+empty_is : (xs : List ℕ) → nat_eq (length xs) 0 ≡ true → xs ≡ []
+empty_is [] e = refl
+empty_is (x ∷ xs) e = absurd (omega (arith, eqb-true _ _ e))
+
+untold : (params : IfParams) → tells_nothing params ≡ true → params ≡ no_params
+untold params e =
+    let front = and_both (is_none params.mtu && nat_eq (length params.description) 0) (is_none params.vlan && is_none params.vccv) e in
+    let left = and_both (is_none params.mtu) (nat_eq (length params.description) 0) front.0 in
+    let right = and_both (is_none params.vlan) (is_none params.vccv) front.1 in
+    let mtu = none_is params.mtu left.0 in
+    let description = empty_is params.description left.1 in
+    let vlan = none_is params.vlan right.0 in
+    let vccv = none_is params.vccv right.1 in
+    λ i. record { mtu = mtu i; description = description i; vlan = vlan i; vccv = vccv i }
+
+vlan_fits : (o : Option ℕ) → has_vlan o ≡ true → IfSome o (λ vlan. vlan ≤ 4095)
+vlan_fits None e = tt
+vlan_fits (Some vlan) e = grind (arith, nat_tests)
+
+params_fit : (o : Option ℕ) (params : IfParams) → may_tell o params ≡ true → IfNone o (params ≡ no_params)
+params_fit None params e = untold params e
+params_fit (Some pw_id) params e = tt
+
+kind_fits : (n : ℕ) → nat_le n 32767 ≡ true → n ≤ 32767
+kind_fits n e = grind (arith, nat_tests)
+
+pub fec_can : (pw : PwFec) → writable_fec pw ≡ true → IsWritable pw
+fec_can pw e =
+    let front = and_both (nat_le pw.kind 32767) (has_vlan pw.params.vlan && may_tell pw.pw_id pw.params) e in
+    let back = and_both (has_vlan pw.params.vlan) (may_tell pw.pw_id pw.params) front.1 in
+    record { kind = kind_fits pw.kind front.0; vlan = vlan_fits pw.params.vlan back.0; params = params_fit pw.pw_id pw.params back.1 }
+
+pub fec_told : (pw : PwFec) → writable_fec pw ≡ true → IsFecInRange pw → IsFec (written_fec pw)
+fec_told pw can within = record { told = Pw pw; is = fec_again pw (fec_can pw can) within }
+
+pub has_pw_id : (o : Option ℕ) → is_some o ≡ true → needs_pw_id LabelMapping o ≡ None
+has_pw_id None e = absurd (cc)
+has_pw_id (Some pw_id) e = refl
+
+-- a label that is written
+pub label_back : (n : ℕ) → IsLabel n → n ≡ four_at 0 (four n)
+label_back n is = sym (read_four n [] (omega (arith, is.below)))
+
+pub number_back : (n : ℕ) → n < 4294967296 → n ≡ four_at 0 (four n)
+number_back n small = sym (read_four n [] small)
+
+-- MAC addresses that are written
+pub macs_fit : (macs : List Mac) → AllByRecursion (λ mac. length mac.0 ≡ 6) macs → fits field.MacList (mac_octets macs) ≡ true
+macs_fit macs six = eq-eqb _ _ (omega (arith, length_macs macs six))
+
+-- switching points that are written
+pub points_words : (points : List Point) → HaveWords (point_tlvs points)
+points_words [] = tt
+points_words (p ∷ points) = (omega arith, points_words points)
+
+pub points_fitting : (body : List ℕ) (points : List Point) → AllByRecursion IsPointInRange points → AllByRecursion (IsFitting (row_of LabelMapping) body) (point_tlvs points)
+points_fitting body [] within = tt
+points_fitting body (p ∷ points) within = ((refl, record { point = p; is = point_again p within.0 }), points_fitting body points within.1)
+
+pub points_back : (points : List Point) → AllByRecursion IsPointInRange points → ArePoints (values_of switching_point (point_tlvs points)) points
+points_back [] within = tt
+points_back (p ∷ points) within = (point_again p within.0, points_back points within.1)
+
+pub points_known : (points : List Point) → first_unknown (row_of LabelMapping) (point_tlvs points) ≡ None
+points_known [] = refl
+points_known (p ∷ points) = points_known points
+
+pub points_count : (points : List Point) → count_of switching_point (point_tlvs points) ≡ length points
+points_count [] = refl
+points_count (p ∷ points) = omega (arith, points_count points)
+
+pub points_alone : (kind : ℕ) (points : List Point) → nat_eq 2413 kind ≡ false → count_of kind (point_tlvs points) ≡ 0
+points_alone kind [] other = refl
+points_alone kind (p ∷ points) other = rw other (points_alone kind points other)
+
+-- TLVs of different types, and at most three switching points behind them
+pub keeps_points : (kind : ℕ) (front : List Tlv) (points : List Point) → AreDistinct front → count_of switching_point front ≡ 0 → length points ≤ 3 → KeepsTo (listed (row_of LabelMapping) kind) (count_of kind (front ++ point_tlvs points))
+keeps_points kind front points distinct none few =
+    let sum = count-append kind front (point_tlvs points) in
+    elim (cases_Bool (nat_eq 2413 kind)) [
+      | inl same ↦ subst (λ (k : ℕ). KeepsTo (listed (row_of LabelMapping) k) (count_of k (front ++ point_tlvs points))) (eqb-true _ _ same) (omega (arith, count-append switching_point front (point_tlvs points), none, points_count points, few))
+      | inr other ↦ keeps_one _ _ (omega (arith, sum, points_alone kind points other, count_distinct kind front distinct))
+    ]
+
+-- a mapping with a FEC and a label misses nothing
+not_zero : (n : ℕ) → nat_eq (1 + n) 0 ≡ false
+not_zero n = grind (arith, nat_tests)
+
+pub none_missing : (v w : List ℕ) (more : List Tlv) → missing (row_of LabelMapping) (tlv fec v ∷ tlv label w ∷ more) ≡ None
+none_missing v w more = rw (not_zero (count_of fec more), not_zero (count_of label more)) refl
+
+-- one point more stands in front of the others
+drop_some : {A : Type 0} (xs : List A) (n : ℕ) (x : A) → slice_get xs n ≡ Some x → drop n xs ≡ x ∷ drop (n + 1) xs
+drop_some [] n x e = absurd (cc)
+drop_some (y ∷ xs) zero x e = λ i. unsome (Some y) y x refl e i ∷ xs
+  where
+    unsome : {A : Type 0} (o : Option A) (a b : A) → o ≡ Some a → o ≡ Some b → a ≡ b
+    unsome o a b is_a is_b = cc
+drop_some (y ∷ xs) (suc n) x e =
+    let next : suc (n + 1) ≡ suc n + 1 = omega arith in
+    drop_some xs n x e ∙ ap (λ (k : ℕ). x ∷ drop k (y ∷ xs)) next
+
+pub points_more : (points : List Point) (index : ℕ) (point : Point) → slice_get points index ≡ Some point
+    → length (flat_map spell_tlv (point_tlvs (drop index points))) ≡ (4 + length (written_point point)) + length (flat_map spell_tlv (point_tlvs (drop (index + 1) points)))
+points_more points index point e =
+    ap (λ (l : List Point). length (flat_map spell_tlv (point_tlvs l))) (drop_some points index point e) ∙ omega (arith, size_of (ignorable switching_point (written_point point)) (flat_map spell_tlv (point_tlvs (drop (index + 1) points))))

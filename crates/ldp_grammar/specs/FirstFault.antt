@@ -4,38 +4,24 @@ use Rattle.std.specs.Prelude.{◌≡◌, ◌≢◌, ◌<◌, ◌≤◌, ◌+◌,
 use Rattle.std.specs.List.{AllByRecursion}
 use Rattle.net_base.specs.declared.field.Field.{Field}
 use Rattle.net_base.specs.declared.field.Field.TheVariants as field
+use Rattle.net_base.specs.Label.{IsLabel}
+use Rattle.pw_tlvs.specs.declared.field_fault.FieldFault.{FieldFault}
+use Rattle.pw_tlvs.specs.declared.field_fault.FieldFault.TheVariants.{Size, Value, Repeated}
+use Rattle.pw_tlvs.specs.Faults.{field_rank}
+use Rattle.pw_tlvs.specs.Fec.{IsFecFault}
+use Rattle.pw_tlvs.specs.Point.{IsPointFault}
 use Rattle.ldp_grammar.specs.declared.fault.Fault.{Fault}
 use Rattle.ldp_grammar.specs.declared.cause.Cause.{Cause}
 use Rattle.ldp_grammar.specs.declared.cause.Cause.TheVariants as cause
 use Rattle.ldp_grammar.specs.declared.message_kind.MessageKind.{MessageKind}
 use Rattle.ldp_grammar.specs.declared.pdu.Pdu.{Pdu}
-use Rattle.ldp_grammar.specs.Octets.{two_at}
+use Rattle.ldp_grammar.specs.Octets.{two_at, four_at}
 use Rattle.ldp_grammar.specs.Rows.{Row, kind_of, row_of}
 use Rattle.ldp_grammar.specs.Layouts.{fits, most, listed}
-use Rattle.ldp_grammar.specs.Tlvs.{Tlv, type_in, spell_tlv, IsTlv, count_of}
+use Rattle.ldp_grammar.specs.Tlvs.{Tlv, type_in, spell_tlv, IsTlv, count_of, IsForeign}
 use Rattle.ldp_grammar.specs.Spells.{Spelling, spell, IsSpelling, IsFramed, Spells}
 
--- the fields in the order in which their rules are stated
-abbrev pub field_rank : Field → ℕ
-field_rank field.Fec = 0
-field_rank field.AddressList = 1
-field_rank field.Label = 2
-field_rank field.Status = 3
-field_rank field.Hello = 4
-field_rank field.Transport = 5
-field_rank field.MacList = 6
-field_rank field.Session = 7
-field_rank field.RequestId = 8
-field_rank field.PwStatus = 9
-field_rank field.Point = 10
-field_rank field.InfoLength = 11
-field_rank field.Parameter = 12
-field_rank field.Mtu = 13
-field_rank field.Description = 14
-field_rank field.Vlan = 15
-field_rank field.Vccv = 16
-
--- the causes in the order in which their rules are stated
+-- the causes in the order in which their rules are stated, and under one cause the fields in their order
 abbrev pub rank : Cause → ℕ
 rank cause.Version = 0
 rank cause.PduLength = 1
@@ -87,7 +73,7 @@ pub record IsRepeated (row : Row) (before : List Tlv) (rest : List ℕ) (field :
   pub is_listed : listed row (type_in (two_at 0 rest)) ≡ Some field
   pub full : most field ≤ count_of (type_in (two_at 0 rest)) before
 
--- the TLV here is listed, and its value does not fit
+-- the TLV here is listed, and its Length does not fit
 pub record IsMisfit (row : Row) (rest : List ℕ) (field : Field) : Type 0 where
   pub tlv : Tlv
   pub more : List ℕ
@@ -102,15 +88,42 @@ TlvFault row before rest (cause.Repeated field) place = (place ≡ 0) × IsRepea
 TlvFault row before rest (cause.TlvValue field) place = (place ≡ 2) × IsMisfit row rest field
 TlvFault row before rest other place = ⊥
 
-abbrev pub IsTlvFault : Row → List Tlv → List ℕ → Fault → Type 0
-IsTlvFault row before rest f = TlvFault row before rest f.cause f.place
+-- What can be wrong in a value of the right Length, in a message with these octets: what a FEC or a switching point is at
+-- fault with, or a label that is none, which is not looked at where the first FEC is no single PWid element.
+abbrev pub ContentFault : List ℕ → Field → List ℕ → FieldFault → Type 0
+ContentFault body field.Fec value fault = IsFecFault value fault
+ContentFault body field.Label value fault = (length value ≡ 4) × (IsForeign body → ⊥) × (IsLabel (four_at 0 value) → ⊥) × (fault ≡ Value 0 field.Label)
+ContentFault body field.Point value fault = IsPointFault value fault
+ContentFault body other value fault = ⊥
 
-abbrev pub IsFirstTlvFault : Row → List Tlv → List ℕ → Fault → Type 0
-IsFirstTlvFault row = IsFirstHere spell_tlv IsTlv (IsTlvFault row)
+-- the fault of the value of a TLV, counted from the TLV: a wrong size is told at the Length
+abbrev pub fault_in : Field → FieldFault → Fault
+fault_in field Size = record { place = 2; cause = cause.TlvValue field }
+fault_in field (Value at inner) = record { place = 4 + at; cause = cause.TlvValue inner }
+fault_in field (Repeated at inner) = record { place = 4 + at; cause = cause.Repeated inner }
+
+-- the TLV here is listed, and the fault is one of its value
+pub record IsWrongContent (row : Row) (body rest : List ℕ) (fault : Fault) : Type 0 where
+  pub tlv : Tlv
+  pub more : List ℕ
+  pub split : rest ≡ spell_tlv tlv ++ more
+  pub is_tlv : IsTlv tlv
+  pub field : Field
+  pub is_listed : listed row (type_in tlv.word) ≡ Some field
+  pub here : FieldFault
+  pub names : ContentFault body field tlv.value here
+  pub is : fault ≡ fault_in field here
+
+-- the faults that are named behind some TLVs of a message with this row and these octets
+abbrev pub IsTlvFault : Row → List ℕ → List Tlv → List ℕ → Fault → Type 0
+IsTlvFault row body before rest f = TlvFault row before rest f.cause f.place ⊎ IsWrongContent row body rest f
+
+abbrev pub IsFirstTlvFault : Row → List ℕ → List Tlv → List ℕ → Fault → Type 0
+IsFirstTlvFault row body = IsFirstHere spell_tlv IsTlv (IsTlvFault row body)
 
 -- the faults of the TLVs of a message with this row
 abbrev pub NamesTlvs : Row → List ℕ → Fault → Type 0
-NamesTlvs row body = IsNamedIn spell_tlv IsTlv (IsTlvFault row) body
+NamesTlvs row body = IsNamedIn spell_tlv IsTlv (IsTlvFault row body) body
 
 -- no whole message stands here: one to three octets are left, or the Message Length is below 4 or past the end
 abbrev pub CutsMessage : List ℕ → ℕ → Type 0
@@ -144,11 +157,14 @@ IsFirstMessageFault = IsFirstHere spell IsSpelling IsMessageFault
 abbrev pub NamesMessages : List ℕ → Fault → Type 0
 NamesMessages body = IsNamedIn spell IsSpelling IsMessageFault body
 
+-- no PDU Length is there, or it is out of range, or it does not count the octets behind it
+abbrev pub IsMiscounted : List ℕ → ℕ → Type 0
+IsMiscounted bytes max = (length bytes < 4) ⊎ (two_at 2 bytes < 14) ⊎ (max < two_at 2 bytes) ⊎ (length bytes ≢ 4 + two_at 2 bytes)
+
 -- the faults of a PDU's header
 abbrev pub HeaderFault : List ℕ → ℕ → Cause → ℕ → Type 0
 HeaderFault bytes max cause.Version place = (place ≡ 0) × (2 ≤ length bytes) × (two_at 0 bytes ≢ 1)
-HeaderFault bytes max cause.PduLength place =
-    (place ≡ 2) × ((length bytes < 4) ⊎ (two_at 2 bytes < 14) ⊎ (max < two_at 2 bytes) ⊎ (length bytes ≢ 4 + two_at 2 bytes))
+HeaderFault bytes max cause.PduLength place = (place ≡ 2) × IsMiscounted bytes max
 HeaderFault bytes max other place = ⊥
 
 -- the fault is one of the messages of a PDU with a right header

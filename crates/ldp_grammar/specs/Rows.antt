@@ -1,7 +1,8 @@
--- The messages that are known, and the TLVs that each may have (RFC 5036 section 3.5).
+-- The messages that are known, and the TLVs that each may have (RFC 5036 section 3.5, RFC 8077 sections 6 and 7, RFC 4762
+-- section 6.2, RFC 6073 section 7.4).
 use Rattle.std.specs.Prelude.{◌==◌, ◌||◌, ℕ, Bool, true, false, List, [], ◌∷◌, Option, Some, None, if◌then◌else◌}
 use Rattle.ldp_grammar.specs.declared.message_kind.MessageKind.{MessageKind}
-use Rattle.ldp_grammar.specs.declared.message_kind.MessageKind.TheVariants.{Notification, Hello, Initialization, KeepAlive, Address, AddressWithdraw}
+use Rattle.ldp_grammar.specs.declared.message_kind.MessageKind.TheVariants.{Notification, Hello, Initialization, KeepAlive, Address, AddressWithdraw, LabelMapping, LabelRequest, LabelWithdraw, LabelRelease, LabelAbort}
 use Rattle.ldp_grammar.specs.declared.tlv_part.TlvPart.{TlvPart}
 use Rattle.ldp_grammar.specs.declared.tlv_part.TlvPart.TheVariants.{Needed, Further, PassedOver, Unknown}
 
@@ -13,6 +14,11 @@ type_of Initialization = 512
 type_of KeepAlive = 513
 type_of Address = 768
 type_of AddressWithdraw = 769
+type_of LabelMapping = 1024
+type_of LabelRequest = 1025
+type_of LabelWithdraw = 1026
+type_of LabelRelease = 1027
+type_of LabelAbort = 1028
 
 -- the message of a type
 abbrev pub kind_of : ℕ → Option MessageKind
@@ -23,11 +29,22 @@ kind_of number =
     else if number == type_of KeepAlive then Some KeepAlive
     else if number == type_of Address then Some Address
     else if number == type_of AddressWithdraw then Some AddressWithdraw
+    else if number == type_of LabelMapping then Some LabelMapping
+    else if number == type_of LabelRequest then Some LabelRequest
+    else if number == type_of LabelWithdraw then Some LabelWithdraw
+    else if number == type_of LabelRelease then Some LabelRelease
+    else if number == type_of LabelAbort then Some LabelAbort
     else None
 
 -- the types of the TLVs that are read
+abbrev pub fec : ℕ
+fec = 256
+
 abbrev pub address_list : ℕ
 address_list = 257
+
+abbrev pub label : ℕ
+label = 512
 
 abbrev pub status : ℕ
 status = 768
@@ -38,24 +55,43 @@ hello_parameters = 1024
 abbrev pub transport_address : ℕ
 transport_address = 1025
 
+abbrev pub mac_list : ℕ
+mac_list = 1028
+
 abbrev pub session_parameters : ℕ
 session_parameters = 1280
 
--- The row of a message: the types of the TLVs that it needs, in the order in which they are written, of those that it
--- may have, also in that order, and of those that are passed over; in the last case also whether all others are.
+abbrev pub request_id : ℕ
+request_id = 1536
+
+abbrev pub pw_status : ℕ
+pw_status = 2410
+
+abbrev pub switching_point : ℕ
+switching_point = 2413
+
+-- The row of a message: the types of the TLVs that it needs, in the order in which they are written, of those that all
+-- together may stand instead of the needed ones, of those that it may have, also in that order, and of those that are
+-- passed over; in the last case also whether all others are.
 pub record Row : Type 0 where
   pub needed : List ℕ
+  pub instead : List ℕ
   pub further : List ℕ
   pub passed : List ℕ
   pub passes_rest : Bool
 
 abbrev pub row_of : MessageKind → Row
-row_of Notification = record { needed = status ∷ []; further = []; passed = 769 ∷ 770 ∷ 771 ∷ []; passes_rest = false }
-row_of Hello = record { needed = hello_parameters ∷ []; further = transport_address ∷ []; passed = 1026 ∷ []; passes_rest = false }
-row_of Initialization = record { needed = session_parameters ∷ []; further = []; passed = []; passes_rest = true }
-row_of KeepAlive = record { needed = []; further = []; passed = []; passes_rest = false }
-row_of Address = record { needed = address_list ∷ []; further = []; passed = []; passes_rest = false }
-row_of AddressWithdraw = record { needed = address_list ∷ []; further = []; passed = []; passes_rest = false }
+row_of Notification = record { needed = status ∷ []; instead = []; further = pw_status ∷ fec ∷ []; passed = 769 ∷ 770 ∷ 771 ∷ []; passes_rest = false }
+row_of Hello = record { needed = hello_parameters ∷ []; instead = []; further = transport_address ∷ []; passed = 1026 ∷ []; passes_rest = false }
+row_of Initialization = record { needed = session_parameters ∷ []; instead = []; further = []; passed = []; passes_rest = true }
+row_of KeepAlive = record { needed = []; instead = []; further = []; passed = []; passes_rest = false }
+row_of Address = record { needed = address_list ∷ []; instead = []; further = []; passed = []; passes_rest = false }
+row_of AddressWithdraw = record { needed = address_list ∷ []; instead = fec ∷ mac_list ∷ []; further = fec ∷ mac_list ∷ []; passed = []; passes_rest = false }
+row_of LabelMapping = record { needed = fec ∷ label ∷ []; instead = []; further = pw_status ∷ switching_point ∷ []; passed = 259 ∷ 260 ∷ 1536 ∷ []; passes_rest = false }
+row_of LabelRequest = record { needed = fec ∷ []; instead = []; further = []; passed = 259 ∷ 260 ∷ []; passes_rest = false }
+row_of LabelWithdraw = record { needed = fec ∷ []; instead = []; further = label ∷ []; passed = []; passes_rest = false }
+row_of LabelRelease = record { needed = fec ∷ []; instead = []; further = label ∷ status ∷ []; passed = []; passes_rest = false }
+row_of LabelAbort = record { needed = fec ∷ request_id ∷ []; instead = []; further = []; passed = []; passes_rest = false }
 
 -- the number is in the list
 abbrev pub is_in : ℕ → List ℕ → Bool

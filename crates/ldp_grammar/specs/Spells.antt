@@ -1,6 +1,9 @@
--- Which octets spell a PDU (RFC 5036 sections 3.1 and 3.3 to 3.5).
+-- Which octets spell a PDU (RFC 5036 sections 3.1 and 3.3 to 3.5, RFC 8077, RFC 4762 section 6.2, RFC 6073).
 use Rattle.std.specs.Prelude.{◌≡◌, ◌<◌, ◌≤◌, ◌+◌, ◌^◌, ◌%◌, ◌++◌, ℕ, List, [], ◌∷◌, length, flat_map, Option, Some, None}
 use Rattle.std.specs.List.{AllByRecursion}
+use Rattle.pw_tlvs.specs.Fec.{IsPwFec}
+use Rattle.pw_tlvs.specs.Macs.{AreMacs}
+use Rattle.pw_tlvs.specs.Status.{IsStatus as IsPwStatus}
 use Rattle.ldp_grammar.specs.declared.message.Message.{Message}
 use Rattle.ldp_grammar.specs.declared.message.Message.TheVariants as message
 use Rattle.ldp_grammar.specs.declared.message_kind.MessageKind.{MessageKind}
@@ -8,9 +11,9 @@ use Rattle.ldp_grammar.specs.declared.message_kind.MessageKind.TheVariants as ki
 use Rattle.ldp_grammar.specs.declared.pdu.Pdu.{Pdu}
 use Rattle.ldp_grammar.specs.declared.why.Why.{Why}
 use Rattle.ldp_grammar.specs.Octets.{two, four, bit}
-use Rattle.ldp_grammar.specs.Rows.{address_list, status, hello_parameters, transport_address, session_parameters, kind_of, type_of, row_of}
-use Rattle.ldp_grammar.specs.Tlvs.{Tlv, IsJoined, IsFaultless, value_of, reason}
-use Rattle.ldp_grammar.specs.Values.{IsStatus, IsHello, IsSession, IsAddresses, IsAddressList, IsAddress}
+use Rattle.ldp_grammar.specs.Rows.{fec, address_list, label, status, hello_parameters, transport_address, mac_list, session_parameters, request_id, pw_status, switching_point, kind_of, type_of, row_of}
+use Rattle.ldp_grammar.specs.Tlvs.{Tlv, IsJoined, IsFaultless, OfBoth, IsReason, value_of, values_of}
+use Rattle.ldp_grammar.specs.Values.{IsStatus, IsHello, IsSession, IsAddresses, IsAddressList, IsAddress, IsNumber, ArePoints}
 
 -- a message by the word with U bit and type, by its Message ID and by the octets behind that
 pub record Spelling : Type 0 where
@@ -30,23 +33,30 @@ abbrev pub OfValue : Option (List ℕ) → (List ℕ → Type 0) → Type 0
 OfValue None P = ⊥
 OfValue (Some value) P = P value
 
--- the field has what the TLV of the type stands for, and nothing where there is none
-abbrev pub OfBoth : {A : Type 0} → Option (List ℕ) → Option A → (List ℕ → A → Type 0) → Type 0
-OfBoth None None P = Unit {0}
-OfBoth (Some value) (Some x) P = P value x
-OfBoth None (Some x) P = ⊥
-OfBoth (Some value) None P = ⊥
-
 -- a processed message of a kind with this Message ID and these TLVs
 abbrev pub Means : MessageKind → ℕ → List Tlv → Message → Type 0
-Means kind.Notification id ts (message.Notification number code) = (number ≡ id) × OfValue (value_of status ts) (λ v. IsStatus v code)
+Means kind.Notification id ts (message.Notification number code state pw) =
+    (number ≡ id) × OfValue (value_of status ts) (λ v. IsStatus v code)
+    × OfBoth (value_of pw_status ts) state IsPwStatus × OfBoth (value_of fec ts) pw IsPwFec
 Means kind.Hello id ts (message.Hello number hold targeted request transport) =
     (number ≡ id) × OfValue (value_of hello_parameters ts) (λ v. IsHello v hold targeted request)
     × OfBoth (value_of transport_address ts) transport IsAddress
 Means kind.Initialization id ts (message.Initialization number params) = (number ≡ id) × OfValue (value_of session_parameters ts) (λ v. IsSession v params)
 Means kind.KeepAlive id ts (message.KeepAlive number) = number ≡ id
 Means kind.Address id ts (message.Address number family octets) = (number ≡ id) × OfValue (value_of address_list ts) (λ v. IsAddresses v family octets)
-Means kind.AddressWithdraw id ts (message.AddressWithdraw number addresses) = (number ≡ id) × OfBoth (value_of address_list ts) addresses IsAddressList
+Means kind.AddressWithdraw id ts (message.AddressWithdraw number addresses pw macs) =
+    (number ≡ id) × OfBoth (value_of address_list ts) addresses IsAddressList
+    × OfBoth (value_of fec ts) pw IsPwFec × OfBoth (value_of mac_list ts) macs AreMacs
+Means kind.LabelMapping id ts (message.LabelMapping number pw given state points) =
+    (number ≡ id) × OfValue (value_of fec ts) (λ v. IsPwFec v pw) × OfValue (value_of label ts) (λ v. IsNumber v given)
+    × OfBoth (value_of pw_status ts) state IsPwStatus × ArePoints (values_of switching_point ts) points
+Means kind.LabelRequest id ts (message.LabelRequest number pw) = (number ≡ id) × OfValue (value_of fec ts) (λ v. IsPwFec v pw)
+Means kind.LabelWithdraw id ts (message.LabelWithdraw number pw given) =
+    (number ≡ id) × OfValue (value_of fec ts) (λ v. IsPwFec v pw) × OfBoth (value_of label ts) given IsNumber
+Means kind.LabelRelease id ts (message.LabelRelease number pw given) =
+    (number ≡ id) × OfValue (value_of fec ts) (λ v. IsPwFec v pw) × OfBoth (value_of label ts) given IsNumber
+Means kind.LabelAbort id ts (message.LabelAbort number pw request) =
+    (number ≡ id) × OfValue (value_of fec ts) (λ v. IsPwFec v pw) × OfValue (value_of request_id ts) (λ v. IsNumber v request)
 Means other id ts m = ⊥
 
 -- a message of a kind: processed, or not processed for the first reason that holds
@@ -58,8 +68,10 @@ Tells (Some why) kind id ts m = m ≡ message.Unprocessed id (type_of kind) why
 pub record IsRead (kind : MessageKind) (id : ℕ) (body : List ℕ) (m : Message) : Type 0 where
   pub tlvs : List Tlv
   pub joined : IsJoined body tlvs
-  pub faultless : IsFaultless (row_of kind) tlvs
-  pub tells : Tells (reason (row_of kind) tlvs) kind id tlvs m
+  pub faultless : IsFaultless (row_of kind) body tlvs
+  pub why : Option Why
+  pub reason : IsReason kind tlvs why
+  pub tells : Tells why kind id tlvs m
 
 -- a message of a known type is read; the parameters of another one are not looked at
 abbrev pub StandsAs : Option MessageKind → Spelling → Message → Type 0

@@ -1,14 +1,23 @@
 -- TLVs one after another (RFC 5036 section 3.3).
-use Rattle.std.specs.Prelude.{◌≡◌, ◌<◌, ◌≤◌, ◌+◌, ◌==◌, ◌^◌, ◌%◌, ◌++◌, ℕ, true, List, [], ◌∷◌, length, flat_map, Option, Some, None, if◌then◌else◌}
+use Rattle.std.specs.Prelude.{◌≡◌, ◌<◌, ◌≤◌, ◌+◌, ◌==◌, ◌&&◌, ◌^◌, ◌%◌, ◌++◌, ◌⊎◌, not, ℕ, Bool, true, false, List, [], ◌∷◌, length, flat_map, Option, Some, None, if◌then◌else◌}
 use Rattle.std.specs.List.{AllByRecursion}
 use Rattle.std.specs.Option.{option_or}
+use Rattle.net_base.specs.Label.{IsLabel}
 use Rattle.net_base.specs.declared.field.Field.{Field}
+use Rattle.net_base.specs.declared.field.Field.TheVariants as field
+use Rattle.pw_tlvs.specs.declared.fec_value.FecValue.{FecValue}
+use Rattle.pw_tlvs.specs.declared.fec_value.FecValue.TheVariants.{Pw, Foreign}
+use Rattle.pw_tlvs.specs.declared.point.Point.{Point}
+use Rattle.pw_tlvs.specs.Fec.{IsFecValue}
+use Rattle.pw_tlvs.specs.Point.{IsPoint}
+use Rattle.ldp_grammar.specs.declared.message_kind.MessageKind.{MessageKind}
+use Rattle.ldp_grammar.specs.declared.message_kind.MessageKind.TheVariants.{LabelMapping}
 use Rattle.ldp_grammar.specs.declared.tlv_part.TlvPart.{TlvPart}
 use Rattle.ldp_grammar.specs.declared.tlv_part.TlvPart.TheVariants.{Unknown, Needed, Further, PassedOver}
 use Rattle.ldp_grammar.specs.declared.why.Why.{Why}
-use Rattle.ldp_grammar.specs.declared.why.Why.TheVariants.{UnknownTlv, Missing}
-use Rattle.ldp_grammar.specs.Octets.{two, bit}
-use Rattle.ldp_grammar.specs.Rows.{Row, part_of}
+use Rattle.ldp_grammar.specs.declared.why.Why.TheVariants.{UnknownTlv, Missing, UnknownFec}
+use Rattle.ldp_grammar.specs.Octets.{two, four_at, bit}
+use Rattle.ldp_grammar.specs.Rows.{Row, fec, part_of, row_of}
 use Rattle.ldp_grammar.specs.Layouts.{field_of, fits, most, listed}
 
 -- a TLV by the word with U bit, F bit and type, and by its value
@@ -41,13 +50,54 @@ abbrev pub value_of : ℕ → List Tlv → Option (List ℕ)
 value_of kind [] = None
 value_of kind (t ∷ ts) = if type_in t.word == kind then Some t.value else value_of kind ts
 
--- a TLV that the row lists has a value that fits
-abbrev pub HasValue : Option Field → List ℕ → Type 0
-HasValue (Some field) value = fits field value ≡ true
-HasValue None value = Unit {0}
+-- the values of the TLVs of a type, in order
+abbrev pub values_of : ℕ → List Tlv → List (List ℕ)
+values_of kind [] = []
+values_of kind (t ∷ ts) = if type_in t.word == kind then t.value ∷ values_of kind ts else values_of kind ts
 
-abbrev pub IsFitting : Row → Tlv → Type 0
-IsFitting row t = HasValue (listed row (type_in t.word)) t.value
+-- by the structure of the TLVs alone, this is the value of the first TLV of the type
+pub record StandsFirst (kind : ℕ) (octets value : List ℕ) : Type 0 where
+  pub before : List Tlv
+  pub tlv : Tlv
+  pub more : List ℕ
+  pub split : octets ≡ flat_map spell_tlv before ++ (spell_tlv tlv ++ more)
+  pub items : AllByRecursion IsTlv before
+  pub is_tlv : IsTlv tlv
+  pub none_before : count_of kind before ≡ 0
+  pub is_kind : type_in tlv.word ≡ kind
+  pub is : value ≡ tlv.value
+
+-- the first FEC TLV in a message's octets is no single PWid element
+pub record IsForeign (body : List ℕ) : Type 0 where
+  pub value : List ℕ
+  pub first : ℕ
+  pub stands : StandsFirst fec body value
+  pub foreign : IsFecValue value (Foreign first)
+
+-- the value of a FEC TLV is one, and that of a Switching Point PE TLV
+pub record IsFec (value : List ℕ) : Type 0 where
+  pub told : FecValue
+  pub is : IsFecValue value told
+
+pub record IsSwitchingPoint (value : List ℕ) : Type 0 where
+  pub point : Point
+  pub is : IsPoint value point
+
+-- What a value of the right Length holds is in order. In a message with these octets whose first FEC is no single PWid
+-- element a label is not looked at.
+abbrev pub HasContent : List ℕ → Field → List ℕ → Type 0
+HasContent body field.Fec value = IsFec value
+HasContent body field.Label value = IsForeign body ⊎ IsLabel (four_at 0 value)
+HasContent body field.Point value = IsSwitchingPoint value
+HasContent body other value = Unit {0}
+
+-- a TLV that the row lists, in a message with these octets, has a value that fits
+abbrev pub HasValue : List ℕ → Option Field → List ℕ → Type 0
+HasValue body (Some field) value = (fits field value ≡ true) × HasContent body field value
+HasValue body None value = Unit {0}
+
+abbrev pub IsFitting : Row → List ℕ → Tlv → Type 0
+IsFitting row body t = HasValue body (listed row (type_in t.word)) t.value
 
 -- a TLV that the row lists stands no more often than it may
 abbrev pub KeepsTo : Option Field → ℕ → Type 0
@@ -59,9 +109,9 @@ abbrev pub HasRoom : Option Field → ℕ → Type 0
 HasRoom (Some field) count = count < most field
 HasRoom None count = Unit {0}
 
--- the TLVs of a message with this row are without fault
-pub record IsFaultless (row : Row) (tlvs : List Tlv) : Type 0 where
-  pub values : AllByRecursion (IsFitting row) tlvs
+-- the TLVs of a message with this row and these octets are without fault
+pub record IsFaultless (row : Row) (body : List ℕ) (tlvs : List Tlv) : Type 0 where
+  pub values : AllByRecursion (IsFitting row body) tlvs
   pub counts : (kind : ℕ) → KeepsTo (listed row kind) (count_of kind tlvs)
 
 -- the type in the word of a TLV, where it is unknown in a message with this row and has U = 0
@@ -84,11 +134,53 @@ abbrev pub first_absent : List ℕ → List Tlv → Option Field
 first_absent [] ts = None
 first_absent (kind ∷ kinds) ts = if count_of kind ts == 0 then field_of kind else first_absent kinds ts
 
--- The first reason why a message with this row is not processed: an unknown TLV, or a needed one that is absent.
-abbrev pub reason_of : Option ℕ → Option Field → Option Why
-reason_of (Some kind) absent = Some (UnknownTlv kind)
-reason_of None (Some field) = Some (Missing field)
-reason_of None None = None
+-- whether there is a list of types, and TLVs of all of them
+abbrev pub all_there : List ℕ → List Tlv → Bool
+all_there [] ts = true
+all_there (kind ∷ kinds) ts = not (count_of kind ts == 0) && all_there kinds ts
 
-abbrev pub reason : Row → List Tlv → Option Why
-reason row ts = reason_of (first_unknown row ts) (first_absent row.needed ts)
+abbrev pub stands_instead : List ℕ → List Tlv → Bool
+stands_instead [] ts = false
+stands_instead (kind ∷ kinds) ts = all_there (kind ∷ kinds) ts
+
+-- the first TLV that is missing: the first needed one that is absent, unless others stand instead
+abbrev pub missing : Row → List Tlv → Option Field
+missing row ts = if stands_instead row.instead ts then None else first_absent row.needed ts
+
+-- the value of the FEC TLV of a message that lists one
+abbrev pub where_listed : Option Field → Option (List ℕ) → Option (List ℕ)
+where_listed None value = None
+where_listed (Some field) value = value
+
+abbrev pub fec_value : Row → List Tlv → Option (List ℕ)
+fec_value row ts = where_listed (listed row fec) (value_of fec ts)
+
+-- The field has what the TLV of the type stands for, and nothing where there is none.
+abbrev pub OfBoth : {A : Type 0} → Option (List ℕ) → Option A → (List ℕ → A → Type 0) → Type 0
+OfBoth None None P = Unit {0}
+OfBoth (Some value) (Some x) P = P value x
+OfBoth None (Some x) P = ⊥
+OfBoth (Some value) None P = ⊥
+
+-- a mapping needs a PW ID
+abbrev pub needs_pw_id : MessageKind → Option ℕ → Option Why
+needs_pw_id LabelMapping None = Some (Missing field.Fec)
+needs_pw_id other pw_id = None
+
+-- why a message with this FEC is not processed
+abbrev pub fec_reason : MessageKind → Option FecValue → Option Why
+fec_reason k (Some (Pw pw)) = needs_pw_id k pw.pw_id
+fec_reason k (Some (Foreign first)) = Some (UnknownFec first)
+fec_reason k None = None
+
+-- The first reason why a message is not processed: an unknown TLV, one that is missing, or the FEC.
+abbrev pub reason_of : Option ℕ → Option Field → Option Why → Option Why
+reason_of (Some tlv) absent why = Some (UnknownTlv tlv)
+reason_of None (Some field) why = Some (Missing field)
+reason_of None None why = why
+
+-- this is the first reason why the message is not processed, or there is none
+pub record IsReason (k : MessageKind) (ts : List Tlv) (why : Option Why) : Type 0 where
+  pub told : Option FecValue
+  pub is_told : OfBoth (fec_value (row_of k) ts) told IsFecValue
+  pub is : why ≡ reason_of (first_unknown (row_of k) ts) (missing (row_of k) ts) (fec_reason k told)

@@ -1,6 +1,9 @@
--- What the values of TLVs stand for (RFC 5036 sections 3.4 and 3.5). Each bit or octet that is not named is ignored.
-use Rattle.std.specs.Prelude.{◌≡◌, ◌%◌, ◌^◌, ℕ, Bool, List, drop, take, slice_index}
+-- What the values of TLVs stand for (RFC 5036 sections 3.4 and 3.5), beside those of pseudowire TLVs, which
+-- `pw_tlvs` has. Each bit or octet that is not named is ignored.
+use Rattle.std.specs.Prelude.{◌≡◌, ◌%◌, ◌^◌, ℕ, Bool, List, [], ◌∷◌, drop, take, slice_index}
 use Rattle.net_base.specs.declared.addr.Addr.{Addr}
+use Rattle.pw_tlvs.specs.declared.point.Point.{Point}
+use Rattle.pw_tlvs.specs.Point.{IsPoint}
 use Rattle.ldp_grammar.specs.declared.status_code.StatusCode.{StatusCode}
 use Rattle.ldp_grammar.specs.declared.session_params.SessionParams.{SessionParams}
 use Rattle.ldp_grammar.specs.declared.address_list.AddressList.{AddressList}
@@ -42,3 +45,14 @@ IsAddressList value a = IsAddresses value a.family a.octets
 -- an IPv4 Transport Address (section 3.5.2)
 abbrev pub IsAddress : List ℕ → Addr → Type 0
 IsAddress value a = a.0 ≡ value
+
+-- a Generic Label and a Label Request Message ID: a number in four octets (sections 3.4.2.1 and 3.5.9)
+abbrev pub IsNumber : List ℕ → ℕ → Type 0
+IsNumber value number = number ≡ four_at 0 value
+
+-- switching points, one a value, in order (RFC 6073 section 7.4)
+abbrev pub ArePoints : List (List ℕ) → List Point → Type 0
+ArePoints [] [] = Unit {0}
+ArePoints (value ∷ values) (point ∷ points) = IsPoint value point × ArePoints values points
+ArePoints [] (point ∷ points) = ⊥
+ArePoints (value ∷ values) [] = ⊥

@@ -1,16 +1,27 @@
--- The one spelling that an edge writes: U = 0 and F = 0, and the TLVs in the order of the message's row (RFC 5036
--- sections 3.1 to 3.5). Bits that are ignored are written 0.
-use Rattle.std.specs.Prelude.{◌≡◌, ◌≤◌, ◌<◌, ◌+◌, ◌^◌, ◌%◌, ◌==◌, ◌&&◌, ◌++◌, not, nat_lt, ℕ, Bool, true, false, List, [], ◌∷◌, length, flat_map, Option, Some, None, if◌then◌else◌}
+-- The one spelling that an edge writes: the TLVs in the order of the message's row, with F = 0, and with U = 0 but for PW
+-- Status, MAC List and Switching Point PE, which a receiver may ignore (RFC 5036 sections 3.1 to 3.5, RFC 8077 section
+-- 6.3.2, RFC 4762 section 6.2, RFC 6073 section 7.4). Bits that are ignored are written 0.
+use Rattle.std.specs.Prelude.{◌≡◌, ◌≤◌, ◌<◌, ◌+◌, ◌^◌, ◌%◌, ◌==◌, ◌&&◌, ◌++◌, not, nat_lt, nat_le, is_some, is_none, IfSome, ℕ, Bool, true, false, List, [], ◌∷◌, length, flat_map, Option, Some, None, if◌then◌else◌}
+use Rattle.std.specs.List.{AllByRecursion}
+use Rattle.net_base.specs.Label.{IsLabel}
 use Rattle.net_base.specs.declared.addr.Addr.{Addr}
+use Rattle.net_base.specs.declared.mac.Mac.{Mac}
+use Rattle.pw_tlvs.specs.declared.if_params.IfParams.{IfParams}
+use Rattle.pw_tlvs.specs.declared.point.Point.{Point}
+use Rattle.pw_tlvs.specs.declared.pw_fec.PwFec.{PwFec}
+use Rattle.pw_tlvs.specs.declared.pw_status.PwStatus.{PwStatus}
+use Rattle.pw_tlvs.specs.Macs.{mac_octets}
+use Rattle.pw_tlvs.specs.Status.{written_status}
+use Rattle.pw_tlvs.specs.Written.{written_fec, written_point, IsFecInRange, IsPointInRange}
 use Rattle.ldp_grammar.specs.declared.address_list.AddressList.{AddressList}
 use Rattle.ldp_grammar.specs.declared.ldp_id.LdpId.{LdpId}
 use Rattle.ldp_grammar.specs.declared.message.Message.{Message}
-use Rattle.ldp_grammar.specs.declared.message.Message.TheVariants.{Notification, Hello, Initialization, KeepAlive, Address, AddressWithdraw, Other, Unprocessed}
+use Rattle.ldp_grammar.specs.declared.message.Message.TheVariants.{Notification, Hello, Initialization, KeepAlive, Address, AddressWithdraw, LabelMapping, LabelRequest, LabelWithdraw, LabelRelease, LabelAbort, Other, Unprocessed}
 use Rattle.ldp_grammar.specs.declared.session_params.SessionParams.{SessionParams}
 use Rattle.ldp_grammar.specs.declared.status_code.StatusCode.{StatusCode}
 use Rattle.ldp_grammar.specs.declared.message_kind.MessageKind.TheVariants as kind
 use Rattle.ldp_grammar.specs.Octets.{two, four}
-use Rattle.ldp_grammar.specs.Rows.{address_list, status, hello_parameters, transport_address, session_parameters, type_of}
+use Rattle.ldp_grammar.specs.Rows.{fec, address_list, label, status, hello_parameters, transport_address, mac_list, session_parameters, request_id, pw_status, switching_point, type_of}
 use Rattle.ldp_grammar.specs.Tlvs.{Tlv, spell_tlv}
 use Rattle.ldp_grammar.specs.declared.pdu.Pdu.{Pdu}
 use Rattle.ldp_grammar.specs.Spells.{Spelling, spell, Spells}
@@ -39,6 +50,10 @@ addresses_octets family octets = two family ++ octets
 abbrev pub tlv : ℕ → List ℕ → Tlv
 tlv number value = record { word = number; value = value }
 
+-- the same with U = 1
+abbrev pub ignorable : ℕ → List ℕ → Tlv
+ignorable number value = record { word = 32768 + number; value = value }
+
 abbrev pub transport_tlvs : Option Addr → List Tlv
 transport_tlvs None = []
 transport_tlvs (Some a) = tlv transport_address a.0 ∷ []
@@ -47,34 +62,69 @@ abbrev pub withdrawn_tlvs : Option AddressList → List Tlv
 withdrawn_tlvs None = []
 withdrawn_tlvs (Some a) = tlv address_list (addresses_octets a.family a.octets) ∷ []
 
+abbrev pub fec_tlvs : Option PwFec → List Tlv
+fec_tlvs None = []
+fec_tlvs (Some pw) = tlv fec (written_fec pw) ∷ []
+
+abbrev pub label_tlvs : Option ℕ → List Tlv
+label_tlvs None = []
+label_tlvs (Some given) = tlv label (four given) ∷ []
+
+abbrev pub status_tlvs : Option PwStatus → List Tlv
+status_tlvs None = []
+status_tlvs (Some state) = ignorable pw_status (written_status state) ∷ []
+
+abbrev pub mac_tlvs : Option (List Mac) → List Tlv
+mac_tlvs None = []
+mac_tlvs (Some macs) = ignorable mac_list (mac_octets macs) ∷ []
+
+abbrev pub point_tlvs : List Point → List Tlv
+point_tlvs [] = []
+point_tlvs (point ∷ points) = ignorable switching_point (written_point point) ∷ point_tlvs points
+
 -- the TLVs of a message in the order of its row
 abbrev pub written_tlvs : Message → List Tlv
-written_tlvs (Notification id code) = tlv status (status_octets code) ∷ []
+written_tlvs (Notification id code state pw) = tlv status (status_octets code) ∷ (status_tlvs state ++ fec_tlvs pw)
 written_tlvs (Hello id hold targeted request transport) = tlv hello_parameters (hello_octets hold targeted request) ∷ transport_tlvs transport
 written_tlvs (Initialization id params) = tlv session_parameters (session_octets params) ∷ []
 written_tlvs (KeepAlive id) = []
 written_tlvs (Address id family octets) = tlv address_list (addresses_octets family octets) ∷ []
-written_tlvs (AddressWithdraw id addresses) = withdrawn_tlvs addresses
+written_tlvs (AddressWithdraw id addresses pw macs) = withdrawn_tlvs addresses ++ (fec_tlvs pw ++ mac_tlvs macs)
+written_tlvs (LabelMapping id pw given state points) = tlv fec (written_fec pw) ∷ tlv label (four given) ∷ (status_tlvs state ++ point_tlvs points)
+written_tlvs (LabelRequest id pw) = tlv fec (written_fec pw) ∷ []
+written_tlvs (LabelWithdraw id pw given) = tlv fec (written_fec pw) ∷ label_tlvs given
+written_tlvs (LabelRelease id pw given) = tlv fec (written_fec pw) ∷ label_tlvs given
+written_tlvs (LabelAbort id pw request) = tlv fec (written_fec pw) ∷ tlv request_id (four request) ∷ []
 written_tlvs (Other id u number) = []
 written_tlvs (Unprocessed id number why) = []
 
 abbrev pub written_type : Message → ℕ
-written_type (Notification id code) = type_of kind.Notification
+written_type (Notification id code state pw) = type_of kind.Notification
 written_type (Hello id hold targeted request transport) = type_of kind.Hello
 written_type (Initialization id params) = type_of kind.Initialization
 written_type (KeepAlive id) = type_of kind.KeepAlive
 written_type (Address id family octets) = type_of kind.Address
-written_type (AddressWithdraw id addresses) = type_of kind.AddressWithdraw
+written_type (AddressWithdraw id addresses pw macs) = type_of kind.AddressWithdraw
+written_type (LabelMapping id pw given state points) = type_of kind.LabelMapping
+written_type (LabelRequest id pw) = type_of kind.LabelRequest
+written_type (LabelWithdraw id pw given) = type_of kind.LabelWithdraw
+written_type (LabelRelease id pw given) = type_of kind.LabelRelease
+written_type (LabelAbort id pw request) = type_of kind.LabelAbort
 written_type (Other id u number) = number
 written_type (Unprocessed id number why) = number
 
 abbrev pub id_of : Message → ℕ
-id_of (Notification id code) = id
+id_of (Notification id code state pw) = id
 id_of (Hello id hold targeted request transport) = id
 id_of (Initialization id params) = id
 id_of (KeepAlive id) = id
 id_of (Address id family octets) = id
-id_of (AddressWithdraw id addresses) = id
+id_of (AddressWithdraw id addresses pw macs) = id
+id_of (LabelMapping id pw given state points) = id
+id_of (LabelRequest id pw) = id
+id_of (LabelWithdraw id pw given) = id
+id_of (LabelRelease id pw given) = id
+id_of (LabelAbort id pw request) = id
 id_of (Other id u number) = id
 id_of (Unprocessed id number why) = id
 
@@ -95,19 +145,46 @@ written m id = header_octets (length (message_octets m)) id ++ message_octets m
 abbrev pub are_whole : ℕ → List ℕ → Bool
 are_whole family octets = not (family == 1 && not (length octets % 4 == 0))
 
-abbrev pub is_whole_list : Option AddressList → Bool
-is_whole_list None = false
-is_whole_list (Some a) = are_whole a.family a.octets
+-- no interface parameter is told
+abbrev pub tells_nothing : IfParams → Bool
+tells_nothing params = is_none params.mtu && (length params.description == 0) && (is_none params.vlan && is_none params.vccv)
+
+abbrev pub has_vlan : Option ℕ → Bool
+has_vlan None = true
+has_vlan (Some vlan) = nat_le vlan 4095
+
+abbrev pub may_tell : Option ℕ → IfParams → Bool
+may_tell None params = tells_nothing params
+may_tell (Some pw_id) params = true
+
+-- a FEC with a PW type of 15 bits and a VLAN ID of 12 bits, and without parameters where there is no PW ID
+abbrev pub writable_fec : PwFec → Bool
+writable_fec pw = nat_le pw.kind 32767 && (has_vlan pw.params.vlan && may_tell pw.pw_id pw.params)
+
+abbrev pub writable_fecs : Option PwFec → Bool
+writable_fecs None = true
+writable_fecs (Some pw) = writable_fec pw
+
+-- what is withdrawn: whole addresses, or what was learned on a pseudowire
+abbrev pub withdraws : Option AddressList → Option PwFec → Option (List Mac) → Bool
+withdraws (Some a) pw macs = are_whole a.family a.octets
+withdraws None pw macs = is_some pw && is_some macs
 
 -- The messages that can be written: not those of unknown types and those that are not processed, none with status data
--- above 30 bits or with a part of an address, and no withdrawal without addresses.
+-- above 30 bits, with a part of an address or with a FEC that cannot be written, no mapping without a PW ID, and no
+-- withdrawal without addresses, or without a FEC and a MAC list.
 abbrev pub writable : Message → Bool
-writable (Notification id code) = nat_lt code.code (2 ^ 30)
+writable (Notification id code state pw) = nat_lt code.code (2 ^ 30) && writable_fecs pw
 writable (Hello id hold targeted request transport) = true
 writable (Initialization id params) = true
 writable (KeepAlive id) = true
 writable (Address id family octets) = are_whole family octets
-writable (AddressWithdraw id addresses) = is_whole_list addresses
+writable (AddressWithdraw id addresses pw macs) = withdraws addresses pw macs && writable_fecs pw
+writable (LabelMapping id pw given state points) = is_some pw.pw_id && writable_fec pw
+writable (LabelRequest id pw) = writable_fec pw
+writable (LabelWithdraw id pw given) = writable_fec pw
+writable (LabelRelease id pw given) = writable_fec pw
+writable (LabelAbort id pw request) = writable_fec pw
 writable (Other id u number) = false
 writable (Unprocessed id number why) = false
 
@@ -118,10 +195,20 @@ list_length (Some a) = length a.octets
 
 abbrev pub address_octets : Message → ℕ
 address_octets (Address id family octets) = length octets
-address_octets (AddressWithdraw id addresses) = list_length addresses
+address_octets (AddressWithdraw id addresses pw macs) = list_length addresses
 address_octets other = 0
 
--- the numbers of a message fit the fields that they are written in, and its addresses have four octets
+-- how many MAC addresses a message has
+abbrev pub macs_length : Option (List Mac) → ℕ
+macs_length None = 0
+macs_length (Some macs) = length macs
+
+abbrev pub mac_count : Message → ℕ
+mac_count (AddressWithdraw id addresses pw macs) = macs_length macs
+mac_count other = 0
+
+-- the numbers of a message fit the fields that they are written in, its addresses have four octets, and its MAC addresses
+-- six
 abbrev pub IsAddress4 : Option Addr → Type 0
 IsAddress4 None = Unit {0}
 IsAddress4 (Some a) = length a.0 ≡ 4
@@ -129,6 +216,14 @@ IsAddress4 (Some a) = length a.0 ≡ 4
 abbrev pub HasFamily : Option AddressList → Type 0
 HasFamily None = Unit {0}
 HasFamily (Some a) = a.family < 2 ^ 16
+
+abbrev pub IsState : Option PwStatus → Type 0
+IsState None = Unit {0}
+IsState (Some state) = state.0 < 2 ^ 32
+
+abbrev pub AreSixOctets : Option (List Mac) → Type 0
+AreSixOctets None = Unit {0}
+AreSixOctets (Some macs) = AllByRecursion (λ mac. length mac.0 ≡ 6) macs
 
 pub record IsId (id : LdpId) : Type 0 where
   pub router : length id.router.0 ≡ 4
@@ -142,12 +237,18 @@ pub record AreParams (p : SessionParams) : Type 0 where
   pub receiver : IsId p.receiver
 
 abbrev pub Fits : Message → Type 0
-Fits (Notification id code) = (id < 2 ^ 32) × (code.message < 2 ^ 32) × (code.kind < 2 ^ 16)
+Fits (Notification id code state pw) = (id < 2 ^ 32) × (code.message < 2 ^ 32) × (code.kind < 2 ^ 16) × IsState state × IfSome pw IsFecInRange
 Fits (Hello id hold targeted request transport) = (id < 2 ^ 32) × (hold < 2 ^ 16) × IsAddress4 transport
 Fits (Initialization id params) = (id < 2 ^ 32) × AreParams params
 Fits (KeepAlive id) = id < 2 ^ 32
 Fits (Address id family octets) = (id < 2 ^ 32) × (family < 2 ^ 16)
-Fits (AddressWithdraw id addresses) = (id < 2 ^ 32) × HasFamily addresses
+Fits (AddressWithdraw id addresses pw macs) = (id < 2 ^ 32) × HasFamily addresses × IfSome pw IsFecInRange × AreSixOctets macs
+Fits (LabelMapping id pw given state points) =
+    (id < 2 ^ 32) × IsFecInRange pw × IsLabel given × IsState state × (length points ≤ 3) × AllByRecursion IsPointInRange points
+Fits (LabelRequest id pw) = (id < 2 ^ 32) × IsFecInRange pw
+Fits (LabelWithdraw id pw given) = (id < 2 ^ 32) × IsFecInRange pw × IfSome given IsLabel
+Fits (LabelRelease id pw given) = (id < 2 ^ 32) × IsFecInRange pw × IfSome given IsLabel
+Fits (LabelAbort id pw request) = (id < 2 ^ 32) × IsFecInRange pw × (request < 2 ^ 32)
 Fits (Other id u number) = id < 2 ^ 32
 Fits (Unprocessed id number why) = id < 2 ^ 32
 

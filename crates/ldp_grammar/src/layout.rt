@@ -3,7 +3,8 @@ ghost use Rattle.std.specs.Prelude.{◌≡◌};
 ghost use Rattle.ldp_grammar.specs.Layouts.{field_of, fits, most};
 
 use crate::tlv_type::{
-    ADDRESS_LIST, HELLO_PARAMETERS, SESSION_PARAMETERS, STATUS, TRANSPORT_ADDRESS,
+    ADDRESS_LIST, FEC, HELLO_PARAMETERS, LABEL, MAC_LIST, PW_STATUS, REQUEST_ID,
+    SESSION_PARAMETERS, STATUS, SWITCHING_POINT, TRANSPORT_ADDRESS,
 };
 use byteorder::{BigEndian, ByteOrder};
 use net_base::Field;
@@ -13,11 +14,17 @@ pub fn field_of_type(tlv: u16) -> Option<Field>
     ensures { result ≡ field_of tlv }
 {
     match tlv {
+        FEC => Some(Field::Fec),
         ADDRESS_LIST => Some(Field::AddressList),
+        LABEL => Some(Field::Label),
         STATUS => Some(Field::Status),
         HELLO_PARAMETERS => Some(Field::Hello),
         TRANSPORT_ADDRESS => Some(Field::Transport),
+        MAC_LIST => Some(Field::MacList),
         SESSION_PARAMETERS => Some(Field::Session),
+        REQUEST_ID => Some(Field::RequestId),
+        PW_STATUS => Some(Field::PwStatus),
+        SWITCHING_POINT => Some(Field::Point),
         _ => None,
     }
 }
@@ -32,15 +39,17 @@ fn are_addresses(value: &[u8]) -> bool
     !(BigEndian::read_u16(value) == 1 && (value.len() - 2) % 4 != 0)
 }
 
-/// Whether the value fits the layout of its TLV (RFC 5036 sections 3.4 and 3.5). The TLVs that are not read yet take
-/// any value.
+/// Whether the Length of a value fits the layout of its TLV (RFC 5036 sections 3.4 and 3.5, RFC 8077 section 6.3.2, RFC
+/// 4762 section 6.2). It does of every FEC and switching point: `pw_tlvs` says what they may hold.
 pub fn is_fitting(field: Field, value: &[u8]) -> bool
     ensures { result ≡ fits field value.now }
 {
     match field {
         Field::AddressList => are_addresses(value),
         Field::Status => value.len() == 10,
-        Field::Hello | Field::Transport => value.len() == 4,
+        Field::Label | Field::Hello | Field::Transport => value.len() == 4,
+        Field::RequestId | Field::PwStatus => value.len() == 4,
+        Field::MacList => value.len() % 6 == 0,
         Field::Session => value.len() == 14,
         _ => true,
     }

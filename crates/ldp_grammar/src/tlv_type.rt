@@ -1,7 +1,13 @@
 //! The types of the TLVs that are read, without U and F bit.
 
+/// FEC (RFC 5036 section 3.4.1).
+pub const FEC: u16 = 0x0100;
+
 /// Address List (RFC 5036 section 3.4.3).
 pub const ADDRESS_LIST: u16 = 0x0101;
+
+/// Generic Label (RFC 5036 section 3.4.2.1).
+pub const LABEL: u16 = 0x0200;
 
 /// Status (RFC 5036 section 3.4.6).
 pub const STATUS: u16 = 0x0300;
@@ -12,5 +18,17 @@ pub const HELLO_PARAMETERS: u16 = 0x0400;
 /// IPv4 Transport Address (RFC 5036 section 3.5.2).
 pub const TRANSPORT_ADDRESS: u16 = 0x0401;
 
+/// MAC List (RFC 4762 section 6.2).
+pub const MAC_LIST: u16 = 0x0404;
+
 /// Common Session Parameters (RFC 5036 section 3.5.3).
 pub const SESSION_PARAMETERS: u16 = 0x0500;
+
+/// Label Request Message ID (RFC 5036 section 3.5.9).
+pub const REQUEST_ID: u16 = 0x0600;
+
+/// PW Status (RFC 8077 section 6.3.2).
+pub const PW_STATUS: u16 = 0x096a;
+
+/// Switching Point PE (RFC 6073 section 7.4).
+pub const SWITCHING_POINT: u16 = 0x096d;

@@ -1,16 +1,22 @@
 //! Which messages can be written, and how long they are.
-ghost use Rattle.std.specs.Prelude.{◌≡◌, ◌≤◌, ◌<◌, ◌+◌, true, length};
-ghost use Rattle.ldp_grammar.specs.Written.{address_octets, are_whole, is_whole_list, message_octets, session_octets, transport_tlvs, withdrawn_tlvs, writable, written_tlvs};
+ghost use Rattle.std.specs.Prelude.{◌≡◌, ◌≤◌, ◌<◌, ◌+◌, ◌*◌, ◌++◌, ◌∷◌, ℕ, true, length, flat_map};
+ghost use Rattle.pw_tlvs.specs.Macs.{mac_octets};
 ghost use Rattle.ldp_grammar.specs.Tlvs.{spell_tlv};
-ghost use Rattle.std.specs.Prelude.{flat_map};
-ghost use Rattle.ldp_grammar.specs.Written.{list_length};
+ghost use Rattle.ldp_grammar.specs.Written.{address_octets, are_whole, fec_tlvs, has_vlan, label_tlvs, list_length, mac_count, mac_tlvs, macs_length, may_tell, message_octets, point_tlvs, session_octets, status_tlvs, tells_nothing, transport_tlvs, withdrawn_tlvs, withdraws, writable, writable_fec, writable_fecs, written_tlvs};
 
-use crate::sizes::{MESSAGE_HEADER, TLV_HEADER};
+use crate::headers::{MESSAGE_HEADER, TLV_HEADER};
 use crate::{AddressList, Message, SessionParams};
-use net_base::{Addr, Octets};
+use net_base::{Addr, Label, List, Mac, Octets};
+use pw_tlvs::{IfParams, Points, PwFec, PwStatus, fec_size, point_size};
 
 // Status data has 30 bits.
 const CODE_LIMIT: u32 = 0x4000_0000;
+
+// A PW type has 15 bits.
+const KIND_LIMIT: u16 = 0x8000;
+
+// A VLAN ID has 12 bits.
+const VLAN_LIMIT: u16 = 4096;
 
 // Whether the octets are whole addresses of their family.
 fn is_whole(family: u16, octets: &Octets) -> bool
@@ -19,25 +25,78 @@ fn is_whole(family: u16, octets: &Octets) -> bool
     !(family == 1 && octets.len() % 4 != 0)
 }
 
-// Whether there are addresses, all of them whole.
-fn has_whole(addresses: &Option<AddressList>) -> bool
-    ensures { result ≡ is_whole_list addresses.now }
+// Whether no interface parameter is told.
+fn tells_none(params: &IfParams) -> bool
+    ensures { result ≡ tells_nothing params.now }
 {
-    match addresses {
-        Some(list) => is_whole(list.family, &list.octets),
-        None => false,
+    let begin = params.mtu.is_none() && params.description.len() == 0;
+    begin && (params.vlan.is_none() && params.vccv.is_none())
+}
+
+// Whether a VLAN ID, where it is told, has 12 bits.
+fn is_vlan(vlan: Option<u16>) -> bool
+    ensures { result ≡ has_vlan vlan }
+{
+    match vlan {
+        Some(vlan) => vlan < VLAN_LIMIT,
+        None => true,
     }
 }
 
-/// Whether a message can be written: false exactly for `Other`, for `Unprocessed`, for status data above 30 bits, for
-/// addresses of family 1 whose octets are not a multiple of 4, and for an `AddressWithdraw` without addresses.
+// Whether a FEC can be written.
+fn is_fec(fec: &PwFec) -> bool
+    ensures { result ≡ writable_fec fec.now }
+{
+    let params = match fec.pw_id {
+        Some(_) => true,
+        None => tells_none(&fec.params),
+    };
+    fec.kind < KIND_LIMIT && (is_vlan(fec.params.vlan) && params)
+}
+
+// Whether a FEC, where it is told, can be written.
+fn is_fec_told(fec: &Option<PwFec>) -> bool
+    ensures { result ≡ writable_fecs fec.now }
+{
+    match fec {
+        Some(fec) => is_fec(fec),
+        None => true,
+    }
+}
+
+// Whether whole addresses are withdrawn, or what was learned on a pseudowire.
+fn is_withdrawal(
+    addresses: &Option<AddressList>,
+    fec: &Option<PwFec>,
+    macs: &Option<List<Mac>>,
+) -> bool
+    ensures { result ≡ withdraws addresses.now fec.now macs.now }
+{
+    match addresses {
+        Some(list) => is_whole(list.family, &list.octets),
+        None => fec.is_some() && macs.is_some(),
+    }
+}
+
+/// Whether a message can be written: false exactly for `Other`; for `Unprocessed`; for status data above 30 bits; for a
+/// PW type above 15 bits; for a VLAN ID above 4095; for a FEC without PW ID that has parameters; for a `LabelMapping`
+/// whose FEC has no PW ID; for addresses of family 1 whose octets are not a multiple of 4; and for an `AddressWithdraw`
+/// that has neither an address list nor both a FEC and a MAC list.
 pub fn is_writable(message: &Message) -> bool
     ensures { result ≡ writable message.now }
 {
     match message {
-        Message::Notification { status, .. } => status.code < CODE_LIMIT,
+        Message::Notification { status, fec, .. } => status.code < CODE_LIMIT && is_fec_told(fec),
         Message::Address { family, octets, .. } => is_whole(*family, octets),
-        Message::AddressWithdraw { addresses, .. } => has_whole(addresses),
+        Message::AddressWithdraw {
+            addresses,
+            fec,
+            macs,
+            ..
+        } => is_withdrawal(addresses, fec, macs) && is_fec_told(fec),
+        Message::LabelMapping { fec, .. } => fec.pw_id.is_some() && is_fec(fec),
+        Message::LabelRequest { fec, .. } | Message::LabelAbort { fec, .. } => is_fec(fec),
+        Message::LabelWithdraw { fec, .. } | Message::LabelRelease { fec, .. } => is_fec(fec),
         Message::Hello { .. } | Message::Initialization { .. } | Message::KeepAlive { .. } => true,
         Message::Other { .. } | Message::Unprocessed { .. } => false,
     }
@@ -83,27 +142,144 @@ fn transport_size(transport: &Option<Addr>) -> usize
     }
 }
 
+// The octets of a FEC TLV, where there is a FEC.
+fn fec_told_size(fec: &Option<PwFec>) -> usize
+    ensures size { result ≡ length (flat_map spell_tlv (fec_tlvs fec.now)) }
+    ensures most { result ≤ 110 }
+{
+    match fec {
+        Some(fec) => TLV_HEADER + fec_size(fec),
+        None => 0,
+    }
+}
+
+// The octets of a PW Status TLV, where there is a status.
+fn status_size(status: Option<PwStatus>) -> usize
+    ensures size { result ≡ length (flat_map spell_tlv (status_tlvs status)) }
+    ensures most { result ≤ 8 }
+{
+    match status {
+        Some(_) => TLV_HEADER + 4,
+        None => 0,
+    }
+}
+
+// The octets of a Generic Label TLV, where there is a label.
+fn label_size(label: Option<Label>) -> usize
+    ensures size { result ≡ length (flat_map spell_tlv (label_tlvs label)) }
+    ensures most { result ≤ 8 }
+{
+    match label {
+        Some(_) => TLV_HEADER + 4,
+        None => 0,
+    }
+}
+
+// The octets of a MAC address.
+fn mac_size(mac: Mac) -> usize
+    ensures size { result ≡ length mac.0 }
+    ensures six { result ≡ 6 }
+{
+    mac.0.len()
+}
+
+// The octets of MAC addresses.
+fn macs_octets(list: &List<Mac>) -> usize
+    requires few { length list.now ≤ 65535 }
+    ensures size { result ≡ length (mac_octets list.now) }
+    ensures most { result ≤ 393210 }
+{
+    let mut size = 0;
+    for mac in list.as_slice() {
+        size += mac_size(*mac);
+    }
+    size
+}
+
+// The octets of a MAC List TLV, where there are addresses.
+fn macs_size(macs: &Option<List<Mac>>) -> usize
+    requires few { macs_length macs.now ≤ 65535 }
+    ensures size { result ≡ length (flat_map spell_tlv (mac_tlvs macs.now)) }
+    ensures most { result ≤ 393214 }
+{
+    match macs {
+        Some(list) => TLV_HEADER + macs_octets(list),
+        None => 0,
+    }
+}
+
+// The octets of Switching Point PE TLVs.
+fn points_size(points: &Points) -> usize
+    ensures size { result ≡ length (flat_map spell_tlv (point_tlvs points.now)) }
+    ensures most { result ≤ 66 }
+{
+    let mut size = 0;
+    let mut index = 0;
+    'adding: while index < points.len() {
+        let point = points.get(index).unwrap();
+        size += TLV_HEADER + point_size(&point);
+        index += 1;
+    }
+    size
+}
+
+// The octets of the TLVs of a withdrawal.
+fn withdrawal_size(
+    addresses: &Option<AddressList>,
+    fec: &Option<PwFec>,
+    macs: &Option<List<Mac>>,
+) -> usize
+    requires few { list_length addresses.now ≤ 65535 }
+    requires few_macs { macs_length macs.now ≤ 65535 }
+    ensures size { result ≡ length (flat_map spell_tlv (withdrawn_tlvs addresses.now ++ (fec_tlvs fec.now ++ mac_tlvs macs.now))) }
+    ensures most { result ≤ 458865 }
+{
+    list_size(addresses) + (fec_told_size(fec) + macs_size(macs))
+}
+
 // The octets of the TLVs of a message.
 fn tlvs_size(message: &Message) -> usize
     requires few { address_octets message.now ≤ 65535 }
+    requires few_macs { mac_count message.now ≤ 65535 }
     ensures size { result ≡ length (flat_map spell_tlv (written_tlvs message.now)) }
-    ensures most { result ≤ 65541 }
+    ensures most { result ≤ 458865 }
 {
     match message {
-        Message::Notification { .. } => TLV_HEADER + 10,
+        Message::Notification { pw_status, fec, .. } => TLV_HEADER
+            + 10
+            + (status_size(*pw_status) + fec_told_size(fec)),
         Message::Hello { transport, .. } => TLV_HEADER + 4 + transport_size(transport),
         Message::Initialization { params, .. } => params_size(*params),
         Message::Address { octets, .. } => TLV_HEADER + 2 + octets.len(),
-        Message::AddressWithdraw { addresses, .. } => list_size(addresses),
+        Message::AddressWithdraw {
+            addresses,
+            fec,
+            macs,
+            ..
+        } => withdrawal_size(addresses, fec, macs),
+        Message::LabelMapping {
+            fec,
+            pw_status,
+            points,
+            ..
+        } => {
+            let front = TLV_HEADER + fec_size(fec);
+            front + (TLV_HEADER + 4 + (status_size(*pw_status) + points_size(points)))
+        }
+        Message::LabelRequest { fec, .. } => TLV_HEADER + fec_size(fec),
+        Message::LabelWithdraw { fec, label, .. } | Message::LabelRelease { fec, label, .. } =>
+            TLV_HEADER + fec_size(fec) + label_size(*label),
+        Message::LabelAbort { fec, .. } => TLV_HEADER + fec_size(fec) + (TLV_HEADER + 4),
         Message::KeepAlive { .. } | Message::Other { .. } | Message::Unprocessed { .. } => 0,
     }
 }
 
-/// The octets of a message as it is written, with its header (RFC 5036 section 3.5). The message can be written and has
-/// at most 65,535 octets of addresses.
+/// The octets of a message as it is written, with its header (RFC 5036 section 3.5). The message can be written, and has
+/// at most 65,535 octets of addresses and at most 65,535 MAC addresses.
 pub fn message_size(message: &Message) -> usize
     requires writable { writable message.now ≡ true }
     requires few { address_octets message.now ≤ 65535 }
+    requires few_macs { mac_count message.now ≤ 65535 }
     ensures size { result ≡ length (message_octets message.now) }
 {
     MESSAGE_HEADER + tlvs_size(message)

@@ -1,9 +1,10 @@
 -- The value of a FEC TLV is one, or its octets have one first fault.
-use Rattle.std.proofs.Common.{◌≡◌, ◌≤◌, ◌<◌, ◌+◌, ℕ, List, length, take, drop, get_or, length-drop, refl, sym, ap, ◌∙◌, subst, arith, inl, inr, Some, None}
+use Rattle.std.proofs.Common.{◌≡◌, ◌≤◌, ◌<◌, ◌+◌, ◌⊎◌, ℕ, List, length, take, drop, get_or, length-drop, refl, sym, ap, ◌∙◌, subst, arith, inl, inr, Some, None}
 use Rattle.std.specs.Prelude.{slice_index, Option, option_map}
 use Rattle.std.proofs.lemmas.List.{drop-drop, get_or-take}
 use Rattle.byteorder.specs.Endian.{big_number}
 use Rattle.pw_tlvs.specs.declared.field_fault.FieldFault.{FieldFault}
+use Rattle.pw_tlvs.specs.declared.field_fault.FieldFault.TheVariants.{Size}
 use Rattle.pw_tlvs.specs.declared.fec_value.FecValue.{FecValue}
 use Rattle.pw_tlvs.specs.declared.fec_value.FecValue.TheVariants.{Pw, Foreign}
 use Rattle.pw_tlvs.specs.declared.holder.Holder.TheVariants as holder
@@ -43,7 +44,8 @@ one_information octets None (Some n) a b one other = let len = ap length one.0 i
 one_information octets (Some m) None a b one other = let len = ap length other.0 in let four = one.0 in absurd (omega arith)
 one_information octets (Some m) (Some n) a b one other = (ap Some (one.1 ∙ sym other.1), one_params (drop 4 octets) a b one.2 other.2)
 
-one_pw : (octets : List ℕ) (a b : PwFec) → IsPwFec octets a → IsPwFec octets b → a ≡ b
+-- the octets are one element at most
+pub one_pw : (octets : List ℕ) (a b : PwFec) → IsPwFec octets a → IsPwFec octets b → a ≡ b
 one_pw octets a b one other =
     let (pw_id, params) = one_information (drop 8 octets) a.pw_id b.pw_id a.params b.params one.information other.information in
     let c = one.c ∙ sym other.c in
@@ -121,4 +123,18 @@ fec_within octets f (parameter begun long some whole named) =
     elim (cases_lt (information_length octets) 4) [
       | inl few ↦ absurd (long (some, omega arith))
       | inr more ↦ omega arith
+    ]
+
+-- a fault that can be named is within the octets, but for a wrong size
+pub fec_inside : (octets : List ℕ) (f : FieldFault) → IsFecFault octets f → (f ≡ Size) ⊎ (place_of f < length octets)
+fec_inside octets f (empty none e) = inl e
+fec_inside octets f (short some first few e) = inl e
+fec_inside octets f (too_short begun few e) = inr (let p = ap place_of e in let h = begun.header in omega arith)
+fec_inside octets f (past_end begun far e) = inr (let p = ap place_of e in let h = begun.header in omega arith)
+fec_inside octets f (parameter begun long some whole named) =
+    let close = named_within holder.Fec 12 (drop 12 octets) f named in
+    let rest = length-drop 12 octets in
+    elim (cases_lt (information_length octets) 4) [
+      | inl few ↦ absurd (long (some, omega arith))
+      | inr more ↦ inr (omega arith)
     ]

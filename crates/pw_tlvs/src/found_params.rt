@@ -9,7 +9,7 @@ use crate::IfParams;
 use byteorder::{BigEndian, ByteOrder};
 use net_base::Text;
 
-// What the known interface parameters before a place say. An empty description that was told is told.
+/// What the known interface parameters before a place say. An empty description that was told is told.
 #[derive(Clone, Copy, Debug, PartialEq, Eq)]
 pub struct FoundParams {
     pub mtu: Option<u16>,
@@ -19,7 +19,7 @@ pub struct FoundParams {
 }
 
 impl FoundParams {
-    // Nothing was told.
+    /// Nothing was told.
     pub fn none() -> FoundParams
         ensures { FoundSays result [] }
     {
@@ -31,7 +31,7 @@ impl FoundParams {
         }
     }
 
-    // Whether a parameter of the known type was told.
+    /// Whether a parameter of the known type was told.
     pub fn has(&self, kind: u8) -> bool
         ensures { (subs : List SubTlv) → FoundSays self.now subs → Stood held.Fec subs kind result }
     {
@@ -44,7 +44,7 @@ impl FoundParams {
         }
     }
 
-    // The same with one more parameter, of which none of a known type was told.
+    /// The same with one more parameter, of which none of a known type was told.
     pub fn with(self, kind: u8, value: &[u8]) -> FoundParams
         requires { IsGood held.Fec (record { kind = kind; value = value.now }) }
         ensures { (subs : List SubTlv) → FoundSays self subs → (IsSome (row_of held.Fec kind) → values kind subs ≡ []) → FoundSays result (subs ++ record { kind = kind; value = value.now } ∷ []) }
@@ -70,7 +70,7 @@ impl FoundParams {
         }
     }
 
-    // The parameters that were told.
+    /// The parameters that were told.
     pub fn params(self) -> IfParams
         ensures { result ≡ record { mtu = self.mtu; description = text_of self.description; vlan = self.vlan; vccv = self.vccv } }
     {
@@ -87,7 +87,7 @@ impl FoundParams {
     }
 }
 
-// The empty description.
+/// The empty description.
 pub fn no_text() -> Text<80>
     ensures { result ≡ [] }
 {

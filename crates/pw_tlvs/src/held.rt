@@ -2,7 +2,7 @@
 
 use crate::Point;
 
-// At most three points, held inline.
+/// At most three points, held inline.
 #[derive(Clone, Copy, Debug, PartialEq, Eq)]
 pub enum Held {
     None,

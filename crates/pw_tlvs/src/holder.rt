@@ -1,6 +1,6 @@
 //! What holds sub-TLVs.
 
-// The value whose sub-TLVs are read or written.
+/// The value whose sub-TLVs are read or written.
 #[derive(Clone, Copy, Debug, PartialEq, Eq)]
 pub enum Holder {
     // A PWid FEC element; its sub-TLVs are interface parameters (RFC 8077 section 6.4).

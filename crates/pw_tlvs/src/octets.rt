@@ -5,7 +5,7 @@ ghost use Rattle.pw_tlvs.specs.SubTlvs.{counted as counted_in, spell};
 use crate::holder::Holder;
 use crate::sub_tlv::counted;
 
-// Writes the piece at the place, and answers the place behind it.
+/// Writes the piece at the place, and answers the place behind it.
 pub fn put(out: &mut [u8], at: usize, piece: &[u8]) -> usize
     requires { at + length piece.now ≤ length out.old }
     ensures end { result ≡ at + length piece.now }
@@ -16,7 +16,7 @@ pub fn put(out: &mut [u8], at: usize, piece: &[u8]) -> usize
     end
 }
 
-// Writes a sub-TLV at the place, and answers the place behind it.
+/// Writes a sub-TLV at the place, and answers the place behind it.
 #[tactic(auto, using(crate::proofs::WrittenLemmas::added_at))]
 pub fn put_sub_tlv(holder: Holder, out: &mut [u8], at: usize, kind: u8, value: &[u8]) -> usize
     requires fits { counted_in holder + length value.now ≤ 255 }

@@ -5,8 +5,8 @@ ghost use Rattle.pw_tlvs.specs.SubTlvs.{fits as row_fits, parameter_row, part_ro
 use crate::holder::Holder;
 use net_base::Field;
 
-// What a sub-TLV of a known type has to be: the field that its faults name, and the least and the most that
-// its length may be.
+/// What a sub-TLV of a known type has to be: the field that its faults name, and the least and the most that
+/// its length may be.
 #[derive(Clone, Copy, Debug, PartialEq, Eq)]
 pub struct Row {
     pub field: Field,
@@ -15,7 +15,7 @@ pub struct Row {
 }
 
 impl Row {
-    // Whether the length is one that the row has.
+    /// Whether the length is one that the row has.
     pub fn fits(self, length: u8) -> bool
         ensures { result ≡ row_fits self length }
     {
@@ -51,7 +51,7 @@ fn row_of_part(kind: u8) -> Option<Row>
     }
 }
 
-// The row of a known type.
+/// The row of a known type.
 pub fn row_of(holder: Holder, kind: u8) -> Option<Row>
     ensures { result ≡ the_row holder kind }
 {

@@ -9,7 +9,7 @@ use crate::row::{Row, row_of};
 use byteorder::{BigEndian, ByteOrder};
 use net_base::Field;
 
-// How many octets a length counts beside the value.
+/// How many octets a length counts beside the value.
 pub fn counted(holder: Holder) -> usize
     ensures { result ≡ counted_in holder }
 {
@@ -145,8 +145,8 @@ fn fault_at(holder: Holder, at: u16, again: bool, rest: &[u8]) -> Option<FieldFa
     }
 }
 
-// The type and the value of the sub-TLV at the front, or its first fault. The octets begin at a place of the
-// value, and `again` says whether a sub-TLV of the type of the first octet stands before.
+/// The type and the value of the sub-TLV at the front, or its first fault. The octets begin at a place of the
+/// value, and `again` says whether a sub-TLV of the type of the first octet stands before.
 pub fn first_sub_tlv(
     holder: Holder,
     at: u16,

@@ -11,7 +11,7 @@ use crate::octets::put_sub_tlv;
 use byteorder::{BigEndian, ByteOrder};
 use net_base::{Addr, Text};
 
-// The two octets of a number.
+/// The two octets of a number.
 pub fn two(number: u16) -> [u8; 2]
     ensures { result ≡ big_bytes 2 number }
 {
@@ -20,7 +20,7 @@ pub fn two(number: u16) -> [u8; 2]
     octets
 }
 
-// The four octets of a number.
+/// The four octets of a number.
 pub fn four(number: u32) -> [u8; 4]
     ensures { result ≡ big_bytes 4 number }
 {
@@ -29,7 +29,7 @@ pub fn four(number: u32) -> [u8; 4]
     octets
 }
 
-// Writes the parameter of a number that is told.
+/// Writes the parameter of a number that is told.
 pub fn put_pair(out: &mut [u8], at: usize, kind: u8, number: Option<u16>) -> usize
     requires room { at + length (flat_map (spell held.Fec) (told kind (option_map (λ n. big_bytes 2 n) number))) ≤ length out.old }
     ensures end { result ≡ at + length (flat_map (spell held.Fec) (told kind (option_map (λ n. big_bytes 2 n) number))) }
@@ -41,7 +41,7 @@ pub fn put_pair(out: &mut [u8], at: usize, kind: u8, number: Option<u16>) -> usi
     }
 }
 
-// Writes the parameter of what VCCV can do, where it is told.
+/// Writes the parameter of what VCCV can do, where it is told.
 pub fn put_vccv(out: &mut [u8], at: usize, kind: u8, types: Option<(u8, u8)>) -> usize
     requires room { at + length (flat_map (spell held.Fec) (told kind (option_map pair_octets types))) ≤ length out.old }
     ensures end { result ≡ at + length (flat_map (spell held.Fec) (told kind (option_map pair_octets types))) }
@@ -53,7 +53,7 @@ pub fn put_vccv(out: &mut [u8], at: usize, kind: u8, types: Option<(u8, u8)>) ->
     }
 }
 
-// Writes the parameter of a description that is not empty.
+/// Writes the parameter of a description that is not empty.
 pub fn put_description(out: &mut [u8], at: usize, kind: u8, text: &Text<80>) -> usize
     requires room { at + length (flat_map (spell held.Fec) (told kind (description_value text.now))) ≤ length out.old }
     ensures end { result ≡ at + length (flat_map (spell held.Fec) (told kind (description_value text.now))) }
@@ -65,7 +65,7 @@ pub fn put_description(out: &mut [u8], at: usize, kind: u8, text: &Text<80>) -> 
     put_sub_tlv(Holder::Fec, out, at, kind, text.as_slice())
 }
 
-// Writes the part of a number that is told.
+/// Writes the part of a number that is told.
 pub fn put_number(out: &mut [u8], at: usize, kind: u8, number: Option<u32>) -> usize
     requires room { at + length (flat_map (spell held.Point) (told kind (option_map (λ n. big_bytes 4 n) number))) ≤ length out.old }
     ensures end { result ≡ at + length (flat_map (spell held.Point) (told kind (option_map (λ n. big_bytes 4 n) number))) }
@@ -77,7 +77,7 @@ pub fn put_number(out: &mut [u8], at: usize, kind: u8, number: Option<u32>) -> u
     }
 }
 
-// Writes the part of an address that is told.
+/// Writes the part of an address that is told.
 pub fn put_address(out: &mut [u8], at: usize, kind: u8, address: Option<Addr>) -> usize
     requires room { at + length (flat_map (spell held.Point) (told kind (option_map (λ a. a.0) address))) ≤ length out.old }
     ensures end { result ≡ at + length (flat_map (spell held.Point) (told kind (option_map (λ a. a.0) address))) }
