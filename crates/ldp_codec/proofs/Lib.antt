@@ -2,7 +2,10 @@ pub mod PlaceLemmas
 pub mod SearchLemmas
 pub mod TlvSplit
 pub mod WalkLemmas
+pub mod ContentLemmas
 pub mod MessageSplit
+pub mod ReasonLemmas
+pub mod PointLemmas
 pub mod BodyLemmas
 pub mod HeaderLemmas
 pub mod MessageWalkLemmas

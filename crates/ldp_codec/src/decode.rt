@@ -27,10 +27,11 @@ fn decode(alloc: Global, bytes: &[u8], max: u16) -> Result<Pdu, DecodeFault>
     }
 }
 
-/// The PDU that the octets spell, all of them, where its PDU Length is at most `max` (RFC 5036 sections 3.1 and 3.3
-/// to 3.5). `max` is the session's Max PDU Length, in octets. TLVs may stand in any order, and messages of other types
-/// are not looked into. Where no PDU is spelled, the answer is the first fault: of all that can be named for these
-/// octets the one of least place, and of two at one octet the one that `FirstFault` ranks before.
+/// The PDU that the octets spell, all of them, where its PDU Length is at most `max` (RFC 5036 sections 3.1 and 3.3 to
+/// 3.5, RFC 8077, RFC 4762 section 6.2, RFC 6073 section 7.4). `max` is the session's Max PDU Length, in octets. TLVs
+/// may stand in any order, and messages of other types are not looked into. Where no PDU is spelled, the answer is the
+/// first fault: of all that can be named for these octets the one of least place, and of two at one octet the one that
+/// `FirstFault` ranks before.
 pub fn decode_pdu(alloc: Global, bytes: &[u8], max: u16) -> Result<Pdu, DecodeFault>
     requires least { 256 ≤ max }
     requires most { max ≤ 4096 }

@@ -2,7 +2,7 @@
 
 use crate::stop::Stop;
 use ldp_grammar::{Cause, Fault};
-use net_base::{Field, NoMemory};
+use net_base::Field;
 use thiserror::Error;
 
 /// Why octets are no PDU: their first fault in reading order, where `at` counts from the PDU's first octet; or want
@@ -24,26 +24,18 @@ pub enum DecodeFault {
     /// `at` is at that field, or at the first of those octets.
     #[error("a wrong TLV Length at {at}")]
     TlvLength { at: u16 },
-    /// The value does not fit the layout of its TLV (RFC 5036 section 3.4). `at` is at its Length.
+    /// The value does not fit the layout of its TLV (RFC 5036 section 3.4). `at` is at its Length, or at the octet at
+    /// fault within a label, a FEC or a switching point, whose field it then has (RFC 8077 section 6, RFC 6073 section
+    /// 7.4).
     #[error("a wrong value at {at}")]
     TlvValue { at: u16, field: Field },
-    /// A TLV comes once more than its message may have it. `at` is its first octet.
-    #[error("a repeated TLV at {at}")]
+    /// A TLV comes once more than its message may have it, or a known part of a FEC or a switching point comes again.
+    /// `at` is its first octet.
+    #[error("a repeated TLV or part at {at}")]
     Repeated { at: u16, field: Field },
     /// Memory was refused.
     #[error("out of memory")]
     NoMemory,
-}
-
-impl From<NoMemory> for DecodeFault {
-    ghost use Rattle.std.specs.Prelude.{◌≡◌};
-    ghost use Rattle.ldp_codec.specs.declared.decode_fault.DecodeFault.TheVariants as refusal;
-
-    ghost from_gives = { λ _ e. e ≡ refusal.NoMemory };
-
-    fn from(_: NoMemory) -> DecodeFault {
-        DecodeFault::NoMemory
-    }
 }
 
 impl From<Fault> for DecodeFault {

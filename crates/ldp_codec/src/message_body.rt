@@ -1,21 +1,27 @@
 //! The message that its octets behind the Message ID tell.
-ghost use Rattle.std.specs.Prelude.{◌≡◌, ◌<◌, true, None, List, option_copied, IfOk, IfSome};
-ghost use Rattle.std.specs.Prelude.{Some};
+ghost use Rattle.std.specs.Prelude.{◌≡◌, ◌≤◌, ◌<◌, ◌%◌, ◌++◌, ◌∷◌, ℕ, [], true, false, Some, None, List, length, option_copied, IfOk, IfSome};
+ghost use Rattle.pw_tlvs.specs.declared.fec_value.FecValue.{FecValue as FecValueOf};
+ghost use Rattle.pw_tlvs.specs.Fec.{IsFecValue, IsPwFec};
+ghost use Rattle.pw_tlvs.specs.Macs.{AreMacs};
+ghost use Rattle.pw_tlvs.specs.Status.{IsStatus as IsPwStatus};
 ghost use Rattle.ldp_grammar.specs.declared.message_kind.MessageKind.{MessageKind};
-ghost use Rattle.ldp_grammar.specs.Rows.{row_of, is_in, status, transport_address, address_list};
+ghost use Rattle.ldp_grammar.specs.Rows.{row_of, is_in, fec, label, mac_list, pw_status, transport_address, address_list};
 ghost use Rattle.ldp_grammar.specs.Layouts.{listed};
-ghost use Rattle.ldp_grammar.specs.Tlvs.{Tlv, IsJoined, HasValue, first_absent, first_unknown, value_of, reason};
-ghost use Rattle.ldp_grammar.specs.Spells.{Means, OfBoth};
-ghost use Rattle.ldp_grammar.specs.Values.{IsAddress, IsAddressList};
+ghost use Rattle.ldp_grammar.specs.Tlvs.{Tlv, IsFaultless, IsJoined, IsReason, HasValue, OfBoth, all_there, fec_reason, fec_value, first_absent, first_unknown, missing as missing_in, needs_pw_id, value_of};
+ghost use Rattle.ldp_grammar.specs.Spells.{Means, OfValue};
+ghost use Rattle.ldp_grammar.specs.Values.{IsAddress, IsAddressList, IsNumber};
 ghost use Rattle.ldp_codec.specs.Walk.{IsComplete};
 
+use crate::numbers::four;
+use crate::points::points;
 use crate::tlv_search::{count_tlvs, find_value};
 use crate::values::{address_list, addresses, hello_params, session_params, status_code};
 use ldp_grammar::{
-    ADDRESS_LIST, AddressList, HELLO_PARAMETERS, Message, MessageKind, SESSION_PARAMETERS, STATUS,
-    TRANSPORT_ADDRESS, Why, field_of_type,
+    ADDRESS_LIST, AddressList, FEC, HELLO_PARAMETERS, LABEL, MAC_LIST, Message, MessageKind,
+    PW_STATUS, REQUEST_ID, SESSION_PARAMETERS, STATUS, TRANSPORT_ADDRESS, Why, field_of_type,
 };
-use net_base::{Addr, Field, NoMemory};
+use net_base::{Addr, Field, Label, List as Items, Mac, NoMemory};
+use pw_tlvs::{FecValue, MacsFault, PwFec, PwStatus, read_fec, read_macs, read_status};
 use std::alloc::Global;
 
 // The first of the TLVs that is absent.
@@ -30,25 +36,99 @@ fn first_missing(needed: &[u16], body: &[u8]) -> Option<Field>
     None
 }
 
-// The first reason why the message is not processed.
-pub fn reason_not(unknown: Option<u16>, kind: MessageKind, body: &[u8]) -> Option<Why>
-    ensures first { (ts : List Tlv) → IsJoined body.now ts → unknown ≡ first_unknown (row_of kind) ts → result ≡ reason (row_of kind) ts }
+// Whether there are TLVs of all these types.
+fn has_all(kinds: &[u16], body: &[u8]) -> bool
+    ensures all { (ts : List Tlv) → IsJoined body.now ts → result ≡ all_there kinds.now ts }
 {
+    'looking: for tlv in kinds {
+        if count_tlvs(*tlv, body) == 0 {
+            return false;
+        }
+    }
+    true
+}
+
+// The first TLV that is missing.
+#[tactic(auto, using(crate::proofs::ReasonLemmas::instead_is, crate::proofs::ReasonLemmas::missing_none, crate::proofs::ReasonLemmas::missing_first))]
+fn missing(kind: MessageKind, body: &[u8]) -> Option<Field>
+    ensures missing { (ts : List Tlv) → IsJoined body.now ts → result ≡ missing_in (row_of kind) ts }
+{
+    let instead = kind.instead();
+    if !instead.is_empty() && has_all(instead, body) {
+        return None;
+    }
+    first_missing(kind.needed(), body)
+}
+
+// The value of a FEC TLV without fault.
+fn fec_in(value: &[u8]) -> Option<FecValue>
+    requires { length value.now ≤ 65535 }
+    ensures told { (told : FecValueOf) → IsFecValue value.now told → result ≡ Some told }
+{
+    match read_fec(value) {
+        Ok(fec) => Some(fec),
+        Err(_) => None,
+    }
+}
+
+// The FEC of a message without fault that lists one.
+#[tactic(auto, using(crate::proofs::ReasonLemmas::fec_unlisted, crate::proofs::ReasonLemmas::fec_absent, crate::proofs::ReasonLemmas::fec_there))]
+fn fec_of(kind: MessageKind, body: &[u8]) -> Option<FecValue>
+    ensures told { (ts : List Tlv) → IsJoined body.now ts → IsFaultless (row_of kind) body.now ts → OfBoth (fec_value (row_of kind) ts) result IsFecValue }
+{
+    if kind.listed(FEC).is_none() {
+        return None;
+    }
+    match find_value(FEC, body) {
+        Some(value) => fec_in(value),
+        None => None,
+    }
+}
+
+// Why a message of an element with this PW ID is not processed.
+fn pw_id_reason(kind: MessageKind, pw_id: Option<u32>) -> Option<Why>
+    ensures { result ≡ needs_pw_id kind pw_id }
+{
+    match (kind, pw_id) {
+        (MessageKind::LabelMapping, None) => Some(Why::Missing(Field::Fec)),
+        _ => None,
+    }
+}
+
+// Why a message with this FEC is not processed.
+fn reason_of_fec(kind: MessageKind, fec: Option<FecValue>) -> Option<Why>
+    ensures { result ≡ fec_reason kind fec }
+{
+    match fec {
+        Some(FecValue::Pw(fec)) => pw_id_reason(kind, fec.pw_id),
+        Some(FecValue::Foreign(first)) => Some(Why::UnknownFec(first)),
+        None => None,
+    }
+}
+
+/// The first reason why the message is not processed.
+#[tactic(auto, using(crate::proofs::ReasonLemmas::reason_unknown, crate::proofs::ReasonLemmas::reason_missing, crate::proofs::ReasonLemmas::reason_last))]
+pub fn reason_not(unknown: Option<u16>, kind: MessageKind, body: &[u8]) -> Option<Why>
+    ensures first { (ts : List Tlv) → IsJoined body.now ts → IsFaultless (row_of kind) body.now ts → unknown ≡ first_unknown (row_of kind) ts → IsReason kind ts result }
+{
+    let fec = fec_of(kind, body);
     if let Some(tlv) = unknown {
         return Some(Why::UnknownTlv(tlv));
     }
-    match first_missing(kind.needed(), body) {
-        Some(field) => Some(Why::Missing(field)),
-        None => None,
+    if let Some(field) = missing(kind, body) {
+        return Some(Why::Missing(field));
     }
+    reason_of_fec(kind, fec)
 }
 
 // The value of a TLV that the message needs.
 fn needed_value(kind: MessageKind, tlv: u16, body: &[u8]) -> &[u8]
     requires complete { IsComplete kind body.now }
     requires needed { is_in tlv (row_of kind).needed ≡ true }
+    requires alone { (row_of kind).instead ≡ [] }
     ensures value { (ts : List Tlv) → IsJoined body.now ts → value_of tlv ts ≡ Some result.now }
-    ensures fits { HasValue (listed (row_of kind) tlv) result.now }
+    ensures fits { HasValue body.now (listed (row_of kind) tlv) result.now }
+    ensures few { length result.now ≤ 65535 }
 {
     find_value(tlv, body).unwrap()
 }
@@ -57,9 +137,73 @@ fn needed_value(kind: MessageKind, tlv: u16, body: &[u8]) -> &[u8]
 fn further_value(kind: MessageKind, tlv: u16, body: &[u8]) -> Option<&[u8]>
     requires complete { IsComplete kind body.now }
     ensures value { (ts : List Tlv) → IsJoined body.now ts → option_copied result ≡ value_of tlv ts }
-    ensures fits { IfSome result (λ value. HasValue (listed (row_of kind) tlv) value.now) }
+    ensures fits { IfSome result (λ value. HasValue body.now (listed (row_of kind) tlv) value.now) }
+    ensures few { IfSome result (λ value. length value.now ≤ 65535) }
 {
     find_value(tlv, body)
+}
+
+// The PWid element that a processed message has, where it has a FEC.
+fn pw_fec(kind: MessageKind, body: &[u8]) -> Option<PwFec>
+    requires complete { IsComplete kind body.now }
+    requires is_listed { listed (row_of kind) fec ≡ Some Field.Fec }
+    ensures pw { (ts : List Tlv) → IsJoined body.now ts → OfBoth (value_of fec ts) result IsPwFec }
+{
+    match fec_of(kind, body) {
+        Some(FecValue::Pw(fec)) => Some(fec),
+        Some(FecValue::Foreign(_)) => None,
+        None => None,
+    }
+}
+
+// The PWid element that a processed message needs.
+#[tactic(auto, using(crate::proofs::ReasonLemmas::of_value))]
+fn needed_fec(kind: MessageKind, body: &[u8]) -> PwFec
+    requires complete { IsComplete kind body.now }
+    requires is_listed { listed (row_of kind) fec ≡ Some Field.Fec }
+    requires needed { is_in fec (row_of kind).needed ≡ true }
+    requires alone { (row_of kind).instead ≡ [] }
+    ensures pw { (ts : List Tlv) → IsJoined body.now ts → OfValue (value_of fec ts) (λ v. IsPwFec v result) }
+{
+    pw_fec(kind, body).unwrap()
+}
+
+// The PW status, where it is told.
+#[tactic(auto, using(crate::proofs::ReasonLemmas::state_length))]
+fn state(kind: MessageKind, body: &[u8]) -> Option<PwStatus>
+    requires complete { IsComplete kind body.now }
+    requires is_listed { listed (row_of kind) pw_status ≡ Some Field.PwStatus }
+    ensures status { (ts : List Tlv) → IsJoined body.now ts → OfBoth (value_of pw_status ts) result IsPwStatus }
+{
+    match further_value(kind, PW_STATUS, body) {
+        Some(value) => Some(state_in(value)),
+        None => None,
+    }
+}
+
+// The PW status of four octets.
+fn state_in(value: &[u8]) -> PwStatus
+    requires { length value.now ≡ 4 }
+    ensures { IsPwStatus value.now result }
+{
+    match read_status(value) {
+        Ok(status) => status,
+        Err(_) => unreachable!(),
+    }
+}
+
+// The label, where there is one.
+#[tactic(auto, using(crate::proofs::ReasonLemmas::label_is, crate::proofs::ReasonLemmas::label_length))]
+fn label_of(kind: MessageKind, body: &[u8]) -> Option<Label>
+    requires complete { IsComplete kind body.now }
+    requires is_listed { listed (row_of kind) label ≡ Some Field.Label }
+    requires with_fec { listed (row_of kind) fec ≡ Some Field.Fec }
+    ensures label { (ts : List Tlv) → IsJoined body.now ts → OfBoth (value_of label ts) result IsNumber }
+{
+    match further_value(kind, LABEL, body) {
+        Some(value) => Label::new(four(value, 0)),
+        None => None,
+    }
 }
 
 // The processed Notification.
@@ -71,6 +215,8 @@ fn notification(id: u32, body: &[u8]) -> Message
     Message::Notification {
         id,
         status: status_code(value),
+        pw_status: state(MessageKind::Notification, body),
+        fec: pw_fec(MessageKind::Notification, body),
     }
 }
 
@@ -134,16 +280,117 @@ fn withdrawn(alloc: Global, body: &[u8]) -> Result<Option<AddressList>, NoMemory
     }
 }
 
+// The MAC addresses of a multiple of six octets.
+fn macs_in(alloc: Global, value: &[u8]) -> Result<Items<Mac>, NoMemory>
+    requires few { length value.now ≤ 65535 }
+    requires sixes { length value.now % 6 ≡ 0 }
+    ensures macs { IfOk result (AreMacs value.now) }
+{
+    match read_macs(alloc, value) {
+        Ok(list) => Ok(list),
+        Err(MacsFault::NoMemory) => Err(NoMemory),
+        Err(MacsFault::Field(_)) => unreachable!(),
+    }
+}
+
+// The MAC addresses that are withdrawn, where they are told.
+fn withdrawn_macs(alloc: Global, body: &[u8]) -> Result<Option<Items<Mac>>, NoMemory>
+    requires { IsComplete MessageKind.AddressWithdraw body.now }
+    ensures macs { IfOk result (λ macs. (ts : List Tlv) → IsJoined body.now ts → OfBoth (value_of mac_list ts) macs AreMacs) }
+{
+    match further_value(MessageKind::AddressWithdraw, MAC_LIST, body) {
+        Some(value) => Ok(Some(macs_in(alloc, value)?)),
+        None => Ok(None),
+    }
+}
+
 // The processed Address Withdraw.
 fn address_withdraw(alloc: Global, id: u32, body: &[u8]) -> Result<Message, NoMemory>
     requires { IsComplete MessageKind.AddressWithdraw body.now }
     ensures means { IfOk result (λ m. (ts : List Tlv) → IsJoined body.now ts → Means MessageKind.AddressWithdraw id ts m) }
 {
     let addresses = withdrawn(alloc, body)?;
-    Ok(Message::AddressWithdraw { id, addresses })
+    let macs = withdrawn_macs(alloc, body)?;
+    Ok(Message::AddressWithdraw {
+        id,
+        addresses,
+        fec: pw_fec(MessageKind::AddressWithdraw, body),
+        macs,
+    })
 }
 
-// The processed message.
+// The label of a Label Mapping.
+#[tactic(auto, using(crate::proofs::ReasonLemmas::of_value))]
+fn mapped_label(body: &[u8]) -> Label
+    requires { IsComplete MessageKind.LabelMapping body.now }
+    ensures label { (ts : List Tlv) → IsJoined body.now ts → OfValue (value_of label ts) (λ v. IsNumber v result) }
+{
+    label_of(MessageKind::LabelMapping, body).unwrap()
+}
+
+// The processed Label Mapping.
+fn label_mapping(id: u32, body: &[u8]) -> Message
+    requires { IsComplete MessageKind.LabelMapping body.now }
+    ensures means { (ts : List Tlv) → IsJoined body.now ts → Means MessageKind.LabelMapping id ts result }
+{
+    Message::LabelMapping {
+        id,
+        fec: needed_fec(MessageKind::LabelMapping, body),
+        label: mapped_label(body),
+        pw_status: state(MessageKind::LabelMapping, body),
+        points: points(body),
+    }
+}
+
+// The processed Label Withdraw.
+fn label_withdraw(id: u32, body: &[u8]) -> Message
+    requires { IsComplete MessageKind.LabelWithdraw body.now }
+    ensures means { (ts : List Tlv) → IsJoined body.now ts → Means MessageKind.LabelWithdraw id ts result }
+{
+    Message::LabelWithdraw {
+        id,
+        fec: needed_fec(MessageKind::LabelWithdraw, body),
+        label: label_of(MessageKind::LabelWithdraw, body),
+    }
+}
+
+// The processed Label Release.
+fn label_release(id: u32, body: &[u8]) -> Message
+    requires { IsComplete MessageKind.LabelRelease body.now }
+    ensures means { (ts : List Tlv) → IsJoined body.now ts → Means MessageKind.LabelRelease id ts result }
+{
+    Message::LabelRelease {
+        id,
+        fec: needed_fec(MessageKind::LabelRelease, body),
+        label: label_of(MessageKind::LabelRelease, body),
+    }
+}
+
+// The processed Label Abort Request.
+fn label_abort(id: u32, body: &[u8]) -> Message
+    requires { IsComplete MessageKind.LabelAbort body.now }
+    ensures means { (ts : List Tlv) → IsJoined body.now ts → Means MessageKind.LabelAbort id ts result }
+{
+    let value = needed_value(MessageKind::LabelAbort, REQUEST_ID, body);
+    Message::LabelAbort {
+        id,
+        fec: needed_fec(MessageKind::LabelAbort, body),
+        request: four(value, 0),
+    }
+}
+
+// The processed Label Request.
+fn label_request(id: u32, body: &[u8]) -> Message
+    requires { IsComplete MessageKind.LabelRequest body.now }
+    ensures means { (ts : List Tlv) → IsJoined body.now ts → Means MessageKind.LabelRequest id ts result }
+{
+    Message::LabelRequest {
+        id,
+        fec: needed_fec(MessageKind::LabelRequest, body),
+    }
+}
+
+/// The processed message.
 pub fn processed(
     alloc: Global,
     kind: MessageKind,
@@ -160,5 +407,10 @@ pub fn processed(
         MessageKind::KeepAlive => Ok(Message::KeepAlive { id }),
         MessageKind::Address => address(alloc, id, body),
         MessageKind::AddressWithdraw => address_withdraw(alloc, id, body),
+        MessageKind::LabelMapping => Ok(label_mapping(id, body)),
+        MessageKind::LabelRequest => Ok(label_request(id, body)),
+        MessageKind::LabelWithdraw => Ok(label_withdraw(id, body)),
+        MessageKind::LabelRelease => Ok(label_release(id, body)),
+        MessageKind::LabelAbort => Ok(label_abort(id, body)),
     }
 }

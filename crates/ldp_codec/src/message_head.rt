@@ -21,7 +21,7 @@ fn length_fault(place: u16) -> Fault
     }
 }
 
-// The word with U bit and type, the Message ID, and the octets behind it, of the message in front.
+/// The word with U bit and type, the Message ID, and the octets behind it, of the message in front.
 #[tactic(auto, using(crate::proofs::MessageSplit::split_here))]
 pub fn split_message(rest: &[u8]) -> Result<(u16, u32, &[u8]), Fault>
     requires { 0 < length rest.now }

@@ -10,12 +10,9 @@ use crate::message_body::{processed, reason_not};
 use crate::message_head::split_message;
 use crate::stop::Stop;
 use crate::tlv_walk::walk_tlvs;
-use ldp_grammar::{Fault, MESSAGE_HEADER, Message, MessageKind};
+use ldp_grammar::{Fault, MESSAGE_HEADER, Message, MessageKind, U_BIT};
 use net_base::{List, NoMemory};
 use std::alloc::Global;
-
-// The U bit of a message's word.
-const U_BIT: u16 = 0x8000;
 
 // The type of the first unknown TLV of a message of a known kind, or its first fault.
 fn walk_body(kind: Option<MessageKind>, body: &[u8]) -> Result<Option<u16>, Fault>
@@ -38,7 +35,7 @@ fn read_body(
     id: u32,
     body: &[u8],
 ) -> Result<Message, NoMemory>
-    requires walked { IsWalked (row_of kind) body.now unknown }
+    requires walked { IsWalked (row_of kind) body.now body.now unknown }
     ensures read { IfOk result (IsRead kind id body.now) }
 {
     if let Some(why) = reason_not(unknown, kind, body) {
@@ -90,7 +87,7 @@ fn take_message(alloc: Global, rest: &[u8]) -> Result<(Message, usize), Stop>
     Ok((message, MESSAGE_HEADER + body.len()))
 }
 
-// The messages that the octets spell, one after another.
+/// The messages that the octets spell, one after another.
 #[tactic(auto, using(crate::proofs::MessageWalkLemmas::messages_more, crate::proofs::MessageWalkLemmas::messages_fault, crate::proofs::MessageWalkLemmas::messages_all, crate::proofs::MessageWalkLemmas::messages_none))]
 pub fn read_messages(alloc: Global, body: &[u8]) -> Result<List<Message>, Stop>
     requires few { length body.now < 65536 }

@@ -1,23 +1,13 @@
 //! The header of a PDU.
-ghost use Rattle.std.specs.Prelude.{◌≡◌, ◌≤◌, ◌++◌, length, drop, take, IfOk, IfErr};
+ghost use Rattle.std.specs.Prelude.{◌≡◌, ◌≢◌, ◌≤◌, ◌++◌, true, false, length, drop, take, IfOk, IfErr};
 ghost use Rattle.ldp_grammar.specs.Octets.{two as two_of, two_at};
 ghost use Rattle.ldp_grammar.specs.Spells.{IsFramed};
-ghost use Rattle.std.specs.Prelude.{true, false, ◌≢◌};
-ghost use Rattle.ldp_grammar.specs.FirstFault.{FirstFault};
-ghost use Rattle.ldp_codec.specs.Walk.{IsCounted, HasWrongLength};
+ghost use Rattle.ldp_grammar.specs.FirstFault.{FirstFault, IsMiscounted};
+ghost use Rattle.ldp_codec.specs.Walk.{IsCounted};
 
 use crate::numbers::two;
-use ldp_grammar::{Cause, Fault, LdpId};
+use ldp_grammar::{Cause, Fault, LEAST_LENGTH, LENGTH_HEADER, LdpId, VERSION};
 use net_base::Addr;
-
-// The only version.
-const VERSION: u16 = 1;
-
-// The octets of a PDU that its PDU Length does not count.
-const LENGTH_HEADER: usize = 4;
-
-// The least PDU Length: an identifier and a message without TLVs.
-const LEAST: u16 = 14;
 
 // The identifier of the sender.
 fn sender(bytes: &[u8]) -> LdpId
@@ -42,16 +32,16 @@ fn has_other_version(bytes: &[u8]) -> bool
 // Whether the PDU Length is in range and counts the octets behind it.
 fn has_length(bytes: &[u8], max: u16) -> bool
     ensures right { result ≡ true → IsCounted bytes.now max }
-    ensures wrong { result ≡ false → HasWrongLength bytes.now max }
+    ensures wrong { result ≡ false → IsMiscounted bytes.now max }
 {
     if bytes.len() < LENGTH_HEADER {
         return false;
     }
     let len = two(bytes, 2);
-    LEAST <= len && len <= max && bytes.len() == LENGTH_HEADER + len as usize
+    LEAST_LENGTH <= len && len <= max && bytes.len() == LENGTH_HEADER + len as usize
 }
 
-// The sender of a PDU whose header is right.
+/// The sender of a PDU whose header is right.
 #[tactic(auto, using(crate::proofs::HeaderLemmas::framed))]
 pub fn read_header(bytes: &[u8], max: u16) -> Result<LdpId, Fault>
     requires { max ≤ 4096 }

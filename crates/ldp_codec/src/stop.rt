@@ -5,7 +5,7 @@ ghost use Rattle.ldp_codec.specs.Stop.{StopsAt, stop_behind};
 use ldp_grammar::Fault;
 use net_base::NoMemory;
 
-// Why the reading of messages stopped.
+/// Why the reading of messages stopped.
 #[derive(Clone, Copy, Debug)]
 pub enum Stop {
     // A fault, its place counted from the first octet that was read.
@@ -15,7 +15,7 @@ pub enum Stop {
 }
 
 impl Stop {
-    // The same stop, counted from so many octets before.
+    /// The same stop, counted from so many octets before.
     pub fn behind(self, count: u16) -> Stop
         requires { StopsAt (λ fault. count + fault.place < 65536) self }
         ensures { result ≡ stop_behind count self }

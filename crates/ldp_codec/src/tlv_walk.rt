@@ -1,16 +1,17 @@
 //! The walk over the TLVs of a message.
-ghost use Rattle.std.specs.Prelude.{◌≡◌, ◌≤◌, ◌<◌, ◌+◌, List, Some, None, false, length, IfOk, IfErr, IfSome};
+ghost use Rattle.std.specs.Prelude.{◌≡◌, ◌≤◌, ◌<◌, ◌+◌, ℕ, List, Some, None, false, length, IfOk, IfErr, IfSome};
 ghost use Rattle.net_base.specs.declared.field.Field.{Field};
 ghost use Rattle.ldp_grammar.specs.Layouts.{fits, listed, most};
 ghost use Rattle.ldp_grammar.specs.FirstFault.{IsFirst, IsFirstTlvFault, NamesTlvs};
 ghost use Rattle.ldp_grammar.specs.Rows.{row_of};
-ghost use Rattle.ldp_grammar.specs.Tlvs.{Tlv, IsJoined, HasRoom, HasValue, count_of, unknown_in};
-ghost use Rattle.ldp_codec.specs.Walk.{IsTaken, IsWalked};
+ghost use Rattle.ldp_grammar.specs.Tlvs.{Tlv, IsJoined, HasRoom, count_of, unknown_in};
+ghost use Rattle.ldp_codec.specs.Walk.{HasLength, IsTaken, IsWalked, ReadsForeign};
 
+use crate::content::{has_foreign, wrong_content};
 use crate::numbers::two;
 use crate::tlv::{TYPE_LIMIT, split_tlv};
 use crate::tlv_search::count_tlvs;
-use ldp_grammar::{Cause, Fault, MessageKind, TLV_HEADER, TlvPart, is_fitting, most_of};
+use ldp_grammar::{Cause, Fault, MessageKind, TLV_HEADER, TlvPart, U_BIT, is_fitting, most_of};
 use net_base::Field;
 
 // The TLV of this type, where the message lists it and has as many before as it may.
@@ -25,10 +26,10 @@ fn repeated(kind: MessageKind, tlv: u16, before: &[u8]) -> Option<Field>
     Some(field)
 }
 
-// The TLV of this type, where the message lists it and the value does not fit.
+// The TLV of this type, where the message lists it and its Length does not fit.
 fn misfit(kind: MessageKind, tlv: u16, value: &[u8]) -> Option<Field>
     ensures misfit { IfSome result (λ field. (listed (row_of kind) tlv ≡ Some field) × (fits field value.now ≡ false)) }
-    ensures value { result ≡ None → HasValue (listed (row_of kind) tlv) value.now }
+    ensures len { result ≡ None → HasLength (listed (row_of kind) tlv) value.now }
 {
     let field = kind.listed(tlv)?;
     if is_fitting(field, value) {
@@ -42,17 +43,26 @@ fn unknown(kind: MessageKind, word: u16) -> Option<u16>
     ensures { result ≡ unknown_in (row_of kind) word }
 {
     match kind.part(word % TYPE_LIMIT) {
-        TlvPart::Unknown if word < 0x8000 => Some(word % TYPE_LIMIT),
+        TlvPart::Unknown if word < U_BIT => Some(word % TYPE_LIMIT),
         _ => None,
     }
 }
 
-// The word and the size of the TLV in front, behind others of its message.
+// The word and the size of the TLV in front, behind others of its message. A label is not looked at where the first FEC
+// is foreign.
 #[tactic(auto, using(crate::proofs::WalkLemmas::taken_here, crate::proofs::WalkLemmas::misfit_here, ldp_grammar::proofs::TlvLemmas::short_tlv, ldp_grammar::proofs::TlvLemmas::long_tlv, ldp_grammar::proofs::TlvLemmas::repeated_tlv))]
-fn take_tlv(kind: MessageKind, before: &[u8], rest: &[u8]) -> Result<(u16, usize), Fault>
+fn take_tlv(
+    kind: MessageKind,
+    foreign: bool,
+    before: &[u8],
+    rest: &[u8],
+) -> Result<(u16, usize), Fault>
     requires some { 0 < length rest.now }
-    ensures taken { (ts : List Tlv) → IsJoined before.now ts → IfOk result (λ r. IsTaken (row_of kind) ts rest.now r.0 r.1) }
-    ensures fault { (ts : List Tlv) → IsJoined before.now ts → IfErr result (IsFirstTlvFault (row_of kind) ts rest.now) }
+    requires few { length rest.now < 65536 }
+    ensures taken { (body : List ℕ) → ReadsForeign body foreign → (ts : List Tlv) → IsJoined before.now ts → IfOk result (λ r. IsTaken (row_of kind) body ts rest.now r.0 r.1) }
+    ensures some { IfOk result (λ r. 0 < r.1) }
+    ensures within { IfOk result (λ r. r.1 ≤ length rest.now) }
+    ensures fault { (body : List ℕ) → ReadsForeign body foreign → (ts : List Tlv) → IsJoined before.now ts → IfErr result (IsFirstTlvFault (row_of kind) body ts rest.now) }
     ensures near { IfErr result (λ fault. fault.place < length rest.now) }
 {
     if rest.len() < TLV_HEADER {
@@ -68,6 +78,9 @@ fn take_tlv(kind: MessageKind, before: &[u8], rest: &[u8]) -> Result<(u16, usize
     if let Some(field) = misfit(kind, tlv, value) {
         return Err(fault(2, Cause::TlvValue(field)));
     }
+    if let Some(fault) = wrong_content(kind, foreign, tlv, value) {
+        return Err(fault);
+    }
     Ok((word, TLV_HEADER + value.len()))
 }
 
@@ -78,20 +91,21 @@ fn fault(place: u16, cause: Cause) -> Fault
     Fault { place, cause }
 }
 
-// The type of the first TLV that is unknown in the message and not to be ignored, where the octets behind the Message
-// ID are TLVs without fault; or else their first fault, its place counted from the first of them.
+/// The type of the first TLV that is unknown in the message and not to be ignored, where the octets behind the Message
+/// ID are TLVs without fault; or else their first fault, its place counted from the first of them.
 #[tactic(auto, using(crate::proofs::WalkLemmas::walked_more, crate::proofs::WalkLemmas::walk_fault, crate::proofs::WalkLemmas::walked_all, crate::proofs::WalkLemmas::walked_none))]
 pub fn walk_tlvs(kind: MessageKind, body: &[u8]) -> Result<Option<u16>, Fault>
     requires { length body.now < 65536 }
-    ensures walked { IfOk result (IsWalked (row_of kind) body.now) }
+    ensures walked { IfOk result (IsWalked (row_of kind) body.now body.now) }
     ensures fault { IfErr result (IsFirst (NamesTlvs (row_of kind) body.now)) }
     ensures near { IfErr result (λ fault. fault.place < length body.now) }
 {
+    let foreign = has_foreign(body);
     let mut first = None;
     let mut at = 0;
     'walking: while at < body.len() {
         let (before, rest) = body.split_at(at);
-        let (word, size) = match take_tlv(kind, before, rest) {
+        let (word, size) = match take_tlv(kind, foreign, before, rest) {
             Ok(taken) => taken,
             Err(fault) => return Err(fault.behind(at as u16)),
         };

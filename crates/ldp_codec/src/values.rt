@@ -25,7 +25,7 @@ fn address_at(octets: &[u8], place: usize) -> Addr
     Addr([rest[0], rest[1], rest[2], rest[3]])
 }
 
-// The status that a value of 10 octets stands for.
+/// The status that a value of 10 octets stands for.
 pub fn status_code(value: &[u8]) -> StatusCode
     requires { length value.now ≡ 10 }
     ensures { IsStatus value.now result }
@@ -40,7 +40,7 @@ pub fn status_code(value: &[u8]) -> StatusCode
     }
 }
 
-// The hold time, the T bit and the R bit that a value of 4 octets stands for.
+/// The hold time, the T bit and the R bit that a value of 4 octets stands for.
 pub fn hello_params(value: &[u8]) -> (u16, bool, bool)
     requires { length value.now ≡ 4 }
     ensures { IsHello value.now result.0 result.1 result.2 }
@@ -49,7 +49,7 @@ pub fn hello_params(value: &[u8]) -> (u16, bool, bool)
     (two(value, 0), bit_of(15, flags), bit_of(14, flags))
 }
 
-// The parameters that a value of 14 octets stands for.
+/// The parameters that a value of 14 octets stands for.
 pub fn session_params(value: &[u8]) -> SessionParams
     requires { length value.now ≡ 14 }
     ensures { IsSession value.now result }
@@ -69,7 +69,7 @@ pub fn session_params(value: &[u8]) -> SessionParams
     }
 }
 
-// The address family, and the octets of the addresses, that a value of 2 octets or more stands for.
+/// The address family, and the octets of the addresses, that a value of 2 octets or more stands for.
 pub fn addresses(alloc: Global, value: &[u8]) -> Result<(u16, Octets), NoMemory>
     requires { 2 ≤ length value.now }
     ensures { IfOk result (λ r. IsAddresses value.now r.0 r.1) }
@@ -79,7 +79,7 @@ pub fn addresses(alloc: Global, value: &[u8]) -> Result<(u16, Octets), NoMemory>
     Ok((two(value, 0), octets))
 }
 
-// The same as an address list.
+/// The same as an address list.
 pub fn address_list(alloc: Global, value: &[u8]) -> Result<AddressList, NoMemory>
     requires { 2 ≤ length value.now }
     ensures { IfOk result (IsAddressList value.now) }

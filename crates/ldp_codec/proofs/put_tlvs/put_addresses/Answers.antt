@@ -1,12 +1,12 @@
 -- The header, the family behind it, and the addresses behind that.
-use Rattle.std.proofs.Common.{◌≡◌, ◌+◌, ◌++◌, List, ℕ, length, subst, ap, ◌∙◌, arith}
+use Rattle.std.proofs.Common.{◌≡◌, ◌+◌, ◌++◌, List, [], ℕ, length, length-append, subst, ap, ◌∙◌, arith}
 use Rattle.ldp_grammar.specs.Octets.{two}
 use Rattle.ldp_codec.specs.Put.{IsPut}
-use Rattle.ldp_codec.proofs.PutLemmas.{put_both}
-use Rattle.ldp_codec.proofs.encode.put_addresses.Goals as goal
+use Rattle.ldp_codec.proofs.PutLemmas.{put_both, put_alone}
+use Rattle.ldp_codec.proofs.put_tlvs.put_addresses.Goals as goal
 
-pub returns-clause-put : goal.returns-clause-put
-returns-clause-put c =
+pub returns : goal.returns
+returns c =
     let octets = c.args.octets.now in
     let old = c.args.out.now in
     let at = c.args.at in
@@ -19,4 +19,6 @@ returns-clause-put c =
     let both : IsPut old c.put-behind-2.new.out at (header ++ two c.args.family) = put_both old c.put-behind.new.out c.put-behind-2.new.out header (two c.args.family) at c.put-behind.result (omega (arith, c.requires.room)) next first family in
     let last : IsPut c.put-behind-2.new.out c.put.new.out c.put-behind-2.result octets = subst (IsPut c.put-behind-2.new.out c.put.new.out c.put-behind-2.result) c.as_slice.ensures c.put.ensures.put in
     let then : c.put-behind-2.result ≡ at + length (header ++ two c.args.family) = c.put-behind-2.ensures.end ∙ ap (λ (l : List ℕ). c.put-behind.result + length l) c.two_bytes.ensures ∙ omega (arith, next) in
-    put_both old c.put-behind-2.new.out c.put.new.out (header ++ two c.args.family) octets at c.put-behind-2.result (omega (arith, c.requires.room)) then both last
+    let whole = put_both old c.put-behind-2.new.out c.put.new.out (header ++ two c.args.family) octets at c.put-behind-2.result (omega (arith, c.requires.room)) then both last in
+    let end = c.put.ensures.end ∙ ap (λ (l : List ℕ). c.put-behind-2.result + length l) c.as_slice.ensures in
+    record { put = record { behind = omega (arith, end, then, length-append octets []); put = put_alone old c.put.new.out ((header ++ two c.args.family) ++ octets) at whole } }

@@ -1,0 +1,16 @@
+-- The header, and the value behind it.
+use Rattle.std.proofs.Common.{◌+◌, ◌++◌, List, ℕ, length, refl, subst, ap, ◌∙◌, arith}
+use Rattle.ldp_grammar.specs.Octets.{two}
+use Rattle.ldp_codec.specs.Put.{IsPut}
+use Rattle.ldp_codec.proofs.PutLemmas.{put_part}
+use Rattle.pw_tlvs.specs.Macs.{mac_octets}
+use Rattle.ldp_codec.proofs.put_tlvs.put_macs.Goals as goal
+
+pub returns : goal.returns
+returns c =
+    let value = mac_octets c.args.list.now in
+    let old = c.args.out.now in
+    let head = c.tlv_header.ensures ∙ ap (λ (n : ℕ). two 33796 ++ two n) c.macs_size.ensures.size in
+    let first : IsPut old c.put-behind.new.out c.args.at (two 33796 ++ two (length value)) = subst (IsPut old c.put-behind.new.out c.args.at) head c.put-behind.ensures.put in
+    let next = c.put-behind.ensures.end ∙ ap (λ (l : List ℕ). c.args.at + length l) head in
+    record { put = put_part old c.put-behind.new.out c.write_macs.new.out value 33796 c.args.at c.put-behind.result (c.put-behind.result + c.write_macs.result) c.write_macs.result (omega (arith, c.requires.room)) next refl c.write_macs.ensures.length first c.write_macs.ensures.octets }

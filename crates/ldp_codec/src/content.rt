@@ -1,0 +1,132 @@
+//! What the values of TLVs hold, and the first fault of it.
+ghost use Rattle.std.specs.Prelude.{◌≡◌, ◌≤◌, ◌<◌, ◌+◌, ◌^◌, ℕ, List, None, true, false, length, Ok, Err, IfSome};
+ghost use Rattle.pw_tlvs.specs.Faults.{IsFirst as IsFirstIn, place_of};
+ghost use Rattle.pw_tlvs.specs.Fec.{IsFecFault};
+ghost use Rattle.pw_tlvs.specs.Point.{IsPointFault};
+ghost use Rattle.ldp_grammar.specs.FirstFault.{ContentFault, fault_in};
+ghost use Rattle.ldp_grammar.specs.Layouts.{fits, listed};
+ghost use Rattle.ldp_grammar.specs.Rows.{row_of};
+ghost use Rattle.ldp_grammar.specs.Tlvs.{HasContent, IsFec, IsSwitchingPoint};
+ghost use Rattle.ldp_codec.specs.Walk.{HasContents, HasLength, IsFirstContent, IsForeignValue, IsNear, ReadsForeign};
+
+use crate::numbers::four;
+use crate::tlv_search::find_value;
+use ldp_grammar::{Cause, FEC, Fault, MessageKind, TLV_HEADER};
+use net_base::{Field, Label};
+use pw_tlvs::{FecValue, FieldFault, read_fec, read_point};
+
+// Whether the value of a FEC TLV is no single PWid element.
+fn is_foreign(value: &[u8]) -> bool
+    requires { length value.now ≤ 65535 }
+    ensures yes { result ≡ true → IsForeignValue value.now }
+    ensures no { result ≡ false → IsForeignValue value.now → ⊥ }
+{
+    match read_fec(value) {
+        Ok(FecValue::Foreign(_)) => true,
+        Ok(FecValue::Pw(_)) => false,
+        Err(_) => false,
+    }
+}
+
+/// Whether the first FEC in a message's octets is no single PWid element.
+pub fn has_foreign(body: &[u8]) -> bool
+    ensures { ReadsForeign body.now result }
+{
+    match find_value(FEC, body) {
+        Some(value) => is_foreign(value),
+        None => false,
+    }
+}
+
+// The first fault of the value of a FEC TLV.
+fn fec_fault(value: &[u8]) -> Option<FieldFault>
+    requires { length value.now ≤ 65535 }
+    ensures fault { IfSome result (IsFirstIn (IsFecFault value.now)) }
+    ensures none { result ≡ None → IsFec value.now }
+    ensures near { IfSome result (IsNear value.now) }
+{
+    match read_fec(value) {
+        Ok(_) => None,
+        Err(fault) => Some(fault),
+    }
+}
+
+// The first fault of the value of a Switching Point PE TLV.
+fn point_fault(value: &[u8]) -> Option<FieldFault>
+    requires { length value.now ≤ 65535 }
+    ensures fault { IfSome result (IsFirstIn (IsPointFault value.now)) }
+    ensures none { result ≡ None → IsSwitchingPoint value.now }
+    ensures near { IfSome result (IsNear value.now) }
+{
+    match read_point(value) {
+        Ok(_) => None,
+        Err(fault) => Some(fault),
+    }
+}
+
+// The fault of the value of a Generic Label TLV, which is not looked at where the first FEC is foreign.
+#[tactic(auto, using(crate::proofs::ContentLemmas::label_first))]
+fn label_fault(foreign: bool, value: &[u8]) -> Option<FieldFault>
+    requires { length value.now ≡ 4 }
+    ensures fault { (body : List ℕ) → ReadsForeign body foreign → IfSome result (IsFirstIn (ContentFault body Field.Label value.now)) }
+    ensures none { (body : List ℕ) → ReadsForeign body foreign → result ≡ None → HasContent body Field.Label value.now }
+    ensures near { IfSome result (IsNear value.now) }
+{
+    if foreign || Label::new(four(value, 0)).is_some() {
+        return None;
+    }
+    Some(FieldFault::Value {
+        at: 0,
+        field: Field::Label,
+    })
+}
+
+// The first fault of the value of a TLV, whose Length fits.
+fn content_fault(foreign: bool, field: Field, value: &[u8]) -> Option<FieldFault>
+    requires few { length value.now ≤ 65535 }
+    requires fitting { fits field value.now ≡ true }
+    ensures fault { (body : List ℕ) → ReadsForeign body foreign → IfSome result (IsFirstIn (ContentFault body field value.now)) }
+    ensures none { (body : List ℕ) → ReadsForeign body foreign → result ≡ None → HasContent body field value.now }
+    ensures near { IfSome result (IsNear value.now) }
+{
+    match field {
+        Field::Fec => fec_fault(value),
+        Field::Label => label_fault(foreign, value),
+        Field::Point => point_fault(value),
+        _ => None,
+    }
+}
+
+// The fault of the value of a TLV, counted from the TLV.
+fn placed(field: Field, fault: FieldFault) -> Fault
+    requires { 4 + place_of fault < 2 ^ 16 }
+    ensures { result ≡ fault_in field fault }
+{
+    match fault {
+        FieldFault::Size => Fault {
+            place: 2,
+            cause: Cause::TlvValue(field),
+        },
+        FieldFault::Value { at, field } => Fault {
+            place: TLV_HEADER as u16 + at,
+            cause: Cause::TlvValue(field),
+        },
+        FieldFault::Repeated { at, field } => Fault {
+            place: TLV_HEADER as u16 + at,
+            cause: Cause::Repeated(field),
+        },
+    }
+}
+
+/// The first fault of the value of a TLV of this type, where the message lists it; its Length fits.
+pub fn wrong_content(kind: MessageKind, foreign: bool, tlv: u16, value: &[u8]) -> Option<Fault>
+    requires few { 4 + length value.now < 65536 }
+    requires fitting { HasLength (listed (row_of kind) tlv) value.now }
+    ensures fault { (body : List ℕ) → ReadsForeign body foreign → IfSome result (IsFirstContent body (listed (row_of kind) tlv) value.now) }
+    ensures none { (body : List ℕ) → ReadsForeign body foreign → result ≡ None → HasContents body (listed (row_of kind) tlv) value.now }
+    ensures near { IfSome result (λ fault. fault.place < 4 + length value.now) }
+{
+    let field = kind.listed(tlv)?;
+    let fault = content_fault(foreign, field, value)?;
+    Some(placed(field, fault))
+}
