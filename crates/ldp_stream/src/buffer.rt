@@ -5,11 +5,11 @@ use net_base::NoMemory;
 use std::alloc::Global;
 use std::marker::Model;
 
-// The octets of the longest PDU.
+/// The octets of the longest PDU.
 pub const ROOM: usize = 4100;
 
-// The octets that are not passed yet, at most 4,100. Those that are passed stay in front of them until their room is
-// needed, so that to pass some moves none.
+/// The octets that are not passed yet, at most 4,100. Those that are passed stay in front of them until their room is
+/// needed, so that to pass some moves none.
 #[derive(Debug, Drop)]
 pub struct Buffer {
     octets: Vec<u8>,
@@ -27,7 +27,7 @@ impl Model for Buffer {
 }
 
 impl Buffer {
-    // An empty buffer with all its memory.
+    /// An empty buffer with all its memory.
     pub fn new(alloc: Global) -> Result<Buffer, NoMemory>
         ensures { IfOk result (λ b. b ≡ []) }
     {
@@ -37,7 +37,7 @@ impl Buffer {
         })
     }
 
-    // How many octets there are.
+    /// How many octets there are.
     pub fn len(&self) -> usize
         ensures count { result ≡ length self.now }
         ensures within { result ≤ 4100 }
@@ -45,7 +45,7 @@ impl Buffer {
         self.octets.len() - self.front
     }
 
-    // The octets.
+    /// The octets.
     pub fn as_slice(&self) -> &[u8]
         ensures { result.now ≡ self.now }
     {
@@ -53,7 +53,7 @@ impl Buffer {
         octets
     }
 
-    // Takes as many octets of the piece as there is room for, and answers their number.
+    /// Takes as many octets of the piece as there is room for, and answers their number.
     pub fn take(&mut self, piece: &[u8]) -> usize
         ensures count { result ≡ min (length piece.now) (4100 - length self.old) }
         ensures octets { self.new ≡ self.old ++ take result piece.now }
@@ -68,7 +68,7 @@ impl Buffer {
         count
     }
 
-    // Passes the first octets.
+    /// Passes the first octets.
     pub fn pass(&mut self, count: usize)
         requires { count ≤ length self.old }
         ensures { self.new ≡ drop count self.old }

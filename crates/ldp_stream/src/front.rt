@@ -7,17 +7,8 @@ ghost use Rattle.ldp_stream.specs.Halt.{Halts, IsSpelledBy};
 use crate::halt::Halt;
 use byteorder::{BigEndian, ByteOrder};
 use ldp_codec::decode_pdu;
-use ldp_grammar::{Cause, Fault, Pdu};
+use ldp_grammar::{Cause, Fault, LEAST_LENGTH, LENGTH_HEADER, Pdu, VERSION};
 use std::alloc::Global;
-
-// The only version.
-const VERSION: u16 = 1;
-
-// The octets of a PDU that its PDU Length does not count.
-const LENGTH_HEADER: usize = 4;
-
-// The least PDU Length: an identifier and a message without TLVs.
-const LEAST: u16 = 14;
 
 // The number in the two octets at a place.
 fn two(octets: &[u8], place: usize) -> u16
@@ -47,7 +38,7 @@ fn read_size(held: &[u8], max: u16) -> Result<Option<usize>, Fault>
         return Ok(None);
     }
     let len = two(held, 2);
-    if len < LEAST || max < len {
+    if len < LEAST_LENGTH || max < len {
         return Err(Fault {
             place: 2,
             cause: Cause::PduLength,
@@ -72,7 +63,7 @@ fn decode_first(alloc: Global, held: &[u8], size: usize, max: u16) -> Result<Pdu
     }
 }
 
-// The PDU in front and its size in octets, or nothing where the octets are a proper prefix of a PDU.
+/// The PDU in front and its size in octets, or nothing where the octets are a proper prefix of a PDU.
 pub fn decode_front(alloc: Global, held: &[u8], max: u16) -> Result<Option<(Pdu, usize)>, Halt>
     requires least { 256 ≤ max }
     requires most { max ≤ 4096 }

@@ -4,7 +4,7 @@ ghost use Rattle.std.specs.Prelude.{◌≡◌};
 use ldp_codec::DecodeFault;
 use ldp_grammar::{Cause, Fault};
 
-// A fault of the octets, or want of memory.
+/// A fault of the octets, or want of memory.
 #[derive(Clone, Copy, Debug, PartialEq, Eq)]
 pub enum Halt {
     // The octets have this fault in front.

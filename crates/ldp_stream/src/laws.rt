@@ -23,7 +23,7 @@ pub fn passes_are_parsed()
 
 /// However octets are cut into pieces, and whenever a stream is asked, the PDUs that it answers are those of all the
 /// octets that it took, in order and each with its place: all of them where a proper prefix of a PDU is held, and all
-/// before the fault where one is in front.
+/// before the fault where one is in front. The maximum stays what it is meanwhile; that of a new stream is 4096.
 pub fn however_cut()
     ensures { HoweverCut }
 {}
