@@ -7,3 +7,4 @@ pub mod PromiseLemmas
 pub mod ReplayLemmas
 pub mod SingleEdgeLemmas
 pub mod StreamLemmas
+pub mod WordLemmas

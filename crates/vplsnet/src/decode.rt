@@ -10,6 +10,7 @@ mod line;
 pub mod names;
 mod parts;
 mod pieces;
+mod pseudowire;
 mod stream;
 #[cfg(test)]
 mod tests;

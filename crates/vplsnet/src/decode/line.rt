@@ -5,7 +5,7 @@ ghost use Rattle.ldp_grammar.specs.Written.{id_of};
 ghost use Rattle.vplsnet.specs.MessageLine.{decoded_line, decoded_lines};
 ghost use Rattle.vplsnet.specs.MessageWords.{message_name};
 
-use crate::decode::names::{message_id, message_text};
+use crate::decode::names::message_text;
 use crate::decode::parts::put_parts;
 use crate::report::pieces::{put_number, put_text, put_word};
 use ldp_grammar::Message;
@@ -18,7 +18,7 @@ fn put_head(text: &mut Vec<u8>, base: u64, message: &Message) -> Result<(), NoMe
     put_number(text, base)?;
     put_word(text, message_text(message).as_bytes())?;
     put_text(text, b" id=")?;
-    put_number(text, u64::from(message_id(message)))?;
+    put_number(text, u64::from(message.id()))?;
     Ok(())
 }
 

@@ -1,6 +1,5 @@
 //! The names that a decoded stream tells.
 ghost use Rattle.std.specs.Prelude.{◌≡◌};
-ghost use Rattle.ldp_grammar.specs.Written.{id_of};
 ghost use Rattle.vplsnet.specs.MessageWords.{field_name, message_name};
 
 use ldp_grammar::Message;
@@ -17,24 +16,13 @@ pub fn message_text(message: &Message) -> &'static str
         Message::KeepAlive { .. } => "KeepAlive",
         Message::Address { .. } => "Address",
         Message::AddressWithdraw { .. } => "AddressWithdraw",
+        Message::LabelMapping { .. } => "LabelMapping",
+        Message::LabelRequest { .. } => "LabelRequest",
+        Message::LabelWithdraw { .. } => "LabelWithdraw",
+        Message::LabelRelease { .. } => "LabelRelease",
+        Message::LabelAbort { .. } => "LabelAbort",
         Message::Other { .. } => "Other",
         Message::Unprocessed { .. } => "Unprocessed",
-    }
-}
-
-/// The Message ID (RFC 5036 section 3.5).
-pub fn message_id(message: &Message) -> u32
-    ensures { result ≡ id_of message.now }
-{
-    match message {
-        Message::Notification { id, .. }
-        | Message::Hello { id, .. }
-        | Message::Initialization { id, .. }
-        | Message::KeepAlive { id }
-        | Message::Address { id, .. }
-        | Message::AddressWithdraw { id, .. }
-        | Message::Other { id, .. }
-        | Message::Unprocessed { id, .. } => *id,
     }
 }
 

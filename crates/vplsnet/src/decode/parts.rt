@@ -2,18 +2,24 @@
 ghost use Rattle.std.specs.Prelude.{◌≡◌, ◌++◌, ◌∷◌, [], codes, OnOk};
 ghost use Rattle.std.specs.Fmt.{decimal};
 ghost use Rattle.vplsnet.specs.FaultText.{spaced};
-ghost use Rattle.vplsnet.specs.MessageWords.{addresses_word, dotted, flag, hello_word, marked, part_words, session_word, status_word, transport_words, type_word, why_word, withdrawn_words};
+ghost use Rattle.vplsnet.specs.MessageWords.{addresses_word, dotted, fec_words, flag, hello_word, label_word, label_words, macs_words, marked, part_words, point_words, pw_status_words, request_word, session_word, status_word, told_fec_words, transport_words, type_word, why_word, withdrawn_words};
 
 use crate::decode::names::field_text;
-use crate::decode::pieces::{put_dotted, put_flag, put_id, put_slash_flag, put_slash_number};
+use crate::decode::pieces::{
+    put_dotted, put_flag, put_id, put_slash_flag, put_slash_number, put_told,
+};
+use crate::decode::pseudowire::{
+    put_fec, put_label, put_macs, put_points, put_pw_status, put_request, put_told_fec,
+    put_told_label,
+};
 use crate::report::pieces::{put_digits, put_number, put_text, put_word};
-use itoa::Buffer;
 use ldp_grammar::{AddressList, Message, SessionParams, StatusCode, Why};
-use net_base::{Addr, NoMemory, Octets};
+use net_base::{Addr, Label, List, Mac, NoMemory, Octets};
+use pw_tlvs::{Points, PwFec, PwStatus};
 
 // Adds a status.
 fn put_status(text: &mut Vec<u8>, status: StatusCode) -> Result<(), NoMemory>
-    ensures { OnOk result (text.new.items ≡ text.old.items ++ spaced (status_word status ∷ [])) }
+    ensures { OnOk result (text.new.items ≡ text.old.items ++ (codes " " ++ status_word status)) }
 {
     put_text(text, b" code=")?;
     put_flag(text, status.fatal)?;
@@ -111,16 +117,14 @@ fn put_withdrawn(text: &mut Vec<u8>, addresses: &Option<AddressList>) -> Result<
 fn put_type(text: &mut Vec<u8>, kind: u16) -> Result<(), NoMemory>
     ensures { OnOk result (text.new.items ≡ text.old.items ++ spaced (type_word kind ∷ [])) }
 {
-    put_text(text, b" type=")?;
-    put_number(text, u64::from(kind))?;
-    Ok(())
+    put_told(text, b"type=", u64::from(kind))
 }
 
-// Adds why a message is not processed: the reason, and what it names.
-fn put_reason(text: &mut Vec<u8>, reason: &[u8], named: &[u8]) -> Result<(), NoMemory>
-    ensures { OnOk result (text.new.items ≡ text.old.items ++ spaced ((reason.now ++ named.now) ∷ [])) }
+// Adds a name and what it names.
+fn put_named(text: &mut Vec<u8>, name: &[u8], named: &[u8]) -> Result<(), NoMemory>
+    ensures { OnOk result (text.new.items ≡ text.old.items ++ spaced ((name.now ++ named.now) ∷ [])) }
 {
-    put_word(text, reason)?;
+    put_word(text, name)?;
     put_text(text, named)?;
     Ok(())
 }
@@ -129,16 +133,82 @@ fn put_reason(text: &mut Vec<u8>, reason: &[u8], named: &[u8]) -> Result<(), NoM
 fn put_why(text: &mut Vec<u8>, why: Why) -> Result<(), NoMemory>
     ensures { OnOk result (text.new.items ≡ text.old.items ++ spaced (why_word why ∷ [])) }
 {
-    let mut buffer = Buffer::new();
     match why {
-        Why::UnknownTlv(kind) => {
-            put_reason(text, b"why=UnknownTlv:", buffer.format(kind).as_bytes())
-        }
-        Why::Missing(field) => put_reason(text, b"why=Missing:", field_text(field).as_bytes()),
-        Why::UnknownFec(octet) => {
-            put_reason(text, b"why=UnknownFec:", buffer.format(octet).as_bytes())
-        }
+        Why::UnknownTlv(kind) => put_told(text, b"why=UnknownTlv:", u64::from(kind)),
+        Why::Missing(field) => put_named(text, b"why=Missing:", field_text(field).as_bytes()),
+        Why::UnknownFec(octet) => put_told(text, b"why=UnknownFec:", u64::from(octet)),
     }
+}
+
+// Adds the parts of a Notification behind its status.
+fn put_notified(
+    text: &mut Vec<u8>,
+    fec: &Option<PwFec>,
+    pw_status: Option<PwStatus>,
+) -> Result<(), NoMemory>
+    ensures { OnOk result (text.new.items ≡ text.old.items ++ spaced (told_fec_words fec.now ++ pw_status_words pw_status)) }
+{
+    put_told_fec(text, fec)?;
+    put_pw_status(text, pw_status)?;
+    Ok(())
+}
+
+// Adds the parts of an Address Withdraw.
+fn put_withdrawal(
+    text: &mut Vec<u8>,
+    addresses: &Option<AddressList>,
+    fec: &Option<PwFec>,
+    macs: &Option<List<Mac>>,
+) -> Result<(), NoMemory>
+    ensures { OnOk result (text.new.items ≡ text.old.items ++ spaced ((withdrawn_words addresses.now ++ told_fec_words fec.now) ++ macs_words macs.now)) }
+{
+    put_withdrawn(text, addresses)?;
+    put_told_fec(text, fec)?;
+    put_macs(text, macs)?;
+    Ok(())
+}
+
+// Adds the FEC of a binding and its label.
+fn put_bound(text: &mut Vec<u8>, fec: &PwFec, label: Label) -> Result<(), NoMemory>
+    ensures { OnOk result (text.new.items ≡ text.old.items ++ spaced (fec_words fec.now ++ (label_word label ∷ []))) }
+{
+    put_fec(text, fec)?;
+    put_label(text, label)?;
+    Ok(())
+}
+
+// Adds the parts of a Label Mapping.
+fn put_mapping(
+    text: &mut Vec<u8>,
+    fec: &PwFec,
+    label: Label,
+    pw_status: Option<PwStatus>,
+    points: &Points,
+) -> Result<(), NoMemory>
+    ensures { OnOk result (text.new.items ≡ text.old.items ++ spaced (((fec_words fec.now ++ (label_word label ∷ [])) ++ pw_status_words pw_status) ++ point_words points.now)) }
+{
+    put_bound(text, fec, label)?;
+    put_pw_status(text, pw_status)?;
+    put_points(text, points)?;
+    Ok(())
+}
+
+// Adds the FEC of a binding, and the label where it is told.
+fn put_unbound(text: &mut Vec<u8>, fec: &PwFec, label: Option<Label>) -> Result<(), NoMemory>
+    ensures { OnOk result (text.new.items ≡ text.old.items ++ spaced (fec_words fec.now ++ label_words label)) }
+{
+    put_fec(text, fec)?;
+    put_told_label(text, label)?;
+    Ok(())
+}
+
+// Adds the parts of a Label Abort Request.
+fn put_abort(text: &mut Vec<u8>, fec: &PwFec, request: u32) -> Result<(), NoMemory>
+    ensures { OnOk result (text.new.items ≡ text.old.items ++ spaced (fec_words fec.now ++ (request_word request ∷ []))) }
+{
+    put_fec(text, fec)?;
+    put_request(text, request)?;
+    Ok(())
 }
 
 /// Adds the parts of a message.
@@ -146,7 +216,15 @@ pub fn put_parts(text: &mut Vec<u8>, message: &Message) -> Result<(), NoMemory>
     ensures { OnOk result (text.new.items ≡ text.old.items ++ spaced (part_words message.now)) }
 {
     match message {
-        Message::Notification { status, .. } => put_status(text, *status),
+        Message::Notification {
+            status,
+            pw_status,
+            fec,
+            ..
+        } => {
+            put_status(text, *status)?;
+            put_notified(text, fec, *pw_status)
+        }
         Message::Hello {
             hold,
             targeted,
@@ -160,7 +238,23 @@ pub fn put_parts(text: &mut Vec<u8>, message: &Message) -> Result<(), NoMemory>
         Message::Initialization { params, .. } => put_session(text, *params),
         Message::KeepAlive { .. } => Ok(()),
         Message::Address { family, octets, .. } => put_addresses(text, *family, octets),
-        Message::AddressWithdraw { addresses, .. } => put_withdrawn(text, addresses),
+        Message::AddressWithdraw {
+            addresses,
+            fec,
+            macs,
+            ..
+        } => put_withdrawal(text, addresses, fec, macs),
+        Message::LabelMapping {
+            fec,
+            label,
+            pw_status,
+            points,
+            ..
+        } => put_mapping(text, fec, *label, *pw_status, points),
+        Message::LabelRequest { fec, .. } => put_fec(text, fec),
+        Message::LabelWithdraw { fec, label, .. } => put_unbound(text, fec, *label),
+        Message::LabelRelease { fec, label, .. } => put_unbound(text, fec, *label),
+        Message::LabelAbort { fec, request, .. } => put_abort(text, fec, *request),
         Message::Other { kind, .. } => put_type(text, *kind),
         Message::Unprocessed { kind, why, .. } => {
             put_type(text, *kind)?;

@@ -2,9 +2,10 @@
 //! stand there.
 ghost use Rattle.std.specs.Prelude.{◌≡◌, ◌++◌, ◌∷◌, [], codes, OnOk};
 ghost use Rattle.std.specs.Fmt.{decimal};
+ghost use Rattle.vplsnet.specs.FaultText.{spaced};
 ghost use Rattle.vplsnet.specs.MessageWords.{dotted, flag, id_word, parted};
 
-use crate::report::pieces::{put_number, put_text};
+use crate::report::pieces::{put_number, put_text, put_word};
 use ldp_grammar::LdpId;
 use net_base::{Addr, NoMemory};
 
@@ -20,6 +21,15 @@ pub fn put_flag(text: &mut Vec<u8>, set: bool) -> Result<(), NoMemory>
     ensures { OnOk result (text.new.items ≡ text.old.items ++ flag set) }
 {
     put_text(text, flag_text(set).as_bytes())
+}
+
+/// Adds a number under its name, with a blank before it.
+pub fn put_told(text: &mut Vec<u8>, name: &[u8], number: u64) -> Result<(), NoMemory>
+    ensures { OnOk result (text.new.items ≡ text.old.items ++ spaced ((name.now ++ decimal number) ∷ [])) }
+{
+    put_word(text, name)?;
+    put_number(text, number)?;
+    Ok(())
 }
 
 /// Adds a slash and a bit as a digit.

@@ -79,7 +79,7 @@ fn decodes(
     line: &str,
 ) -> Result<(), Fail> {
     let octets = octets_of(alloc, octets)?;
-    let (finish, sink) = call(alloc, "decode f", octets.as_slice(), 0, 200)?;
+    let (finish, sink) = call(alloc, "decode f", octets.as_slice(), 0, 1000)?;
     assert_eq!(rt; finish.status, if line.is_empty() { 0 } else { 6 });
     assert_eq!(rt; finish.trace.len(), 0);
     assert_eq!(rt; sink.taken(), lines.as_bytes());
@@ -227,6 +227,164 @@ fn writes_what_is_not_processed(rt: HostRuntime) -> Result<(), Fail> {
         "",
     )?;
     Ok(())
+}
+
+#[test]
+fn writes_a_label_mapping(rt: HostRuntime) -> Result<(), Fail> {
+    decodes(
+        &rt,
+        rt.alloc(),
+        "000100320a0000010000 0400002800000003 01000010 80800508 00000000 00000064 010405dc 0200000400000010 896a000400000000",
+        "0 LabelMapping id=3 fec=1/5/0/100 mtu=1500 label=16 status=0\n",
+        "",
+    )?;
+    // A parameter that is not known is passed over.
+    decodes(
+        &rt,
+        rt.alloc(),
+        "000100340a0000010000 0400002a00000003 01000012 8080050a 00000000 00000064 010405dc 7f02 0200000400000010 896a000400000000",
+        "0 LabelMapping id=3 fec=1/5/0/100 mtu=1500 label=16 status=0\n",
+        "",
+    )?;
+    Ok(())
+}
+
+#[test]
+fn writes_every_part_of_a_mapping(rt: HostRuntime) -> Result<(), Fail> {
+    decodes(
+        &rt,
+        rt.alloc(),
+        "0001005e0a0000010000 0400005400000003 0100001c 80000414 00000007 00000064 010405dc 03046162 06040fff 0c040102 02000004000fffff 896a00040000003f 896d0012 010400000064 03040a000002 04040a000003 896d0006 03040a000003",
+        "0 LabelMapping id=3 fec=0/4/7/100 mtu=1500 description=6162 vlan=4095 vccv=1/2 label=1048575 status=63 point=100/10.0.0.2/10.0.0.3 point=-/10.0.0.3/-\n",
+        "",
+    )
+}
+
+#[test]
+fn refuses_parameters(rt: HostRuntime) -> Result<(), Fail> {
+    decodes(
+        &rt,
+        rt.alloc(),
+        "000100340a0000010000 0400002a00000003 01000012 8080050a 00000000 00000064 010405dc 7f01 0200000400000010 896a000400000000",
+        "",
+        "vplsnet: stream: 0 TlvValue 39 Parameter",
+    )?;
+    decodes(
+        &rt,
+        rt.alloc(),
+        "000100320a0000010000 0400002800000003 01000010 80800514 00000000 00000064 010405dc 0200000400000010 896a000400000000",
+        "",
+        "vplsnet: stream: 0 TlvValue 25 InfoLength",
+    )?;
+    Ok(())
+}
+
+#[test]
+fn writes_a_fec_that_is_not_known(rt: HostRuntime) -> Result<(), Fail> {
+    // A second element behind the first.
+    decodes(
+        &rt,
+        rt.alloc(),
+        "0001003a0a0000010000 0400003000000003 01000018 80800508 00000000 00000064 010405dc 8080050000000007 0200000400000010 896a000400000000",
+        "0 Unprocessed id=3 type=1024 why=UnknownFec:128\n",
+        "",
+    )?;
+    // The prefix 10.0.0.3/32 with the label 3.
+    decodes(
+        &rt,
+        rt.alloc(),
+        "000100220a0000010000 0400001800000003 01000008 02000120 0a000003 0200000400000003",
+        "0 Unprocessed id=3 type=1024 why=UnknownFec:2\n",
+        "",
+    )?;
+    Ok(())
+}
+
+#[test]
+fn writes_requests_and_withdrawals(rt: HostRuntime) -> Result<(), Fail> {
+    // An empty description is none.
+    decodes(
+        &rt,
+        rt.alloc(),
+        "000100200a0000010000 0401001600000004 0100000e 80800506 00000000 00000064 0302",
+        "0 LabelRequest id=4 fec=1/5/0/100\n",
+        "",
+    )?;
+    decodes(
+        &rt,
+        rt.alloc(),
+        "0001001a0a0000010000 0402001000000004 01000008 80800500 00000007",
+        "0 LabelWithdraw id=4 fec=1/5/7/*\n",
+        "",
+    )?;
+    decodes(
+        &rt,
+        rt.alloc(),
+        "000100260a0000010000 0403001c00000009 0100000c 80800504 00000000 00000064 0200000400000010",
+        "0 LabelRelease id=9 fec=1/5/0/100 label=16\n",
+        "",
+    )?;
+    decodes(
+        &rt,
+        rt.alloc(),
+        "000100260a0000010000 0404001c0000000a 0100000c 80800504 00000000 00000064 0600000400000009",
+        "0 LabelAbort id=10 fec=1/5/0/100 request=9\n",
+        "",
+    )?;
+    Ok(())
+}
+
+#[test]
+fn writes_the_status_of_a_pseudowire(rt: HostRuntime) -> Result<(), Fail> {
+    decodes(
+        &rt,
+        rt.alloc(),
+        "000100340a0000010000 0001002a0000000b 0300000a 00000028 00000000 0000 896a000400000010 0100000c 80800504 00000000 00000064",
+        "0 Notification id=11 code=0/0/40/0/0 fec=1/5/0/100 status=16\n",
+        "",
+    )
+}
+
+#[test]
+fn writes_withdrawn_mac_addresses(rt: HostRuntime) -> Result<(), Fail> {
+    decodes(
+        &rt,
+        rt.alloc(),
+        "000100220a000001000003010018000000050100000c8080050400000000000000ca84040000",
+        "0 AddressWithdraw id=5 fec=1/5/0/202 macs=0/\n",
+        "",
+    )?;
+    decodes(
+        &rt,
+        rt.alloc(),
+        "0001002e0a0000010000 0301002400000006 0100000c 80800504 00000000 00000064 8404000c 020000000001 0200000000ff",
+        "0 AddressWithdraw id=6 fec=1/5/0/100 macs=2/0200000000010200000000ff\n",
+        "",
+    )?;
+    Ok(())
+}
+
+#[test]
+fn writes_the_messages_of_a_session(rt: HostRuntime) -> Result<(), Fail> {
+    decodes(
+        &rt,
+        rt.alloc(),
+        "000100200a0000010000 0200001600000001 0500000e 000100b4000010000a0000020000 \
+         0001000e0a0000010000 0201000400000002 \
+         000100320a0000010000 0400002800000003 01000010 80800508 00000000 00000064 010405dc 0200000400000010 896a000400000000 \
+         000100340a0000010000 0001002a00000004 0300000a 00000028 00000000 0000 896a000400000006 0100000c 80800504 00000000 00000064 \
+         0001002e0a0000010000 0301002400000005 0100000c 80800504 00000000 00000064 8404000c 02000000000a 02000000000b \
+         000100260a0000010000 0402001c00000006 0100000c 80800504 00000000 00000064 0200000400000010 \
+         000100260a0000010000 0403001c00000007 0100000c 80800504 00000000 00000064 0200000400000011",
+        "0 Initialization id=1 session=1/180/0/0/0/4096/10.0.0.2:0\n\
+         36 KeepAlive id=2\n\
+         54 LabelMapping id=3 fec=1/5/0/100 mtu=1500 label=16 status=0\n\
+         108 Notification id=4 code=0/0/40/0/0 fec=1/5/0/100 status=6\n\
+         164 AddressWithdraw id=5 fec=1/5/0/100 macs=2/02000000000a02000000000b\n\
+         214 LabelWithdraw id=6 fec=1/5/0/100 label=16\n\
+         256 LabelRelease id=7 fec=1/5/0/100 label=17\n",
+        "",
+    )
 }
 
 #[test]
