@@ -5,18 +5,14 @@ use Rattle.net_base.specs.declared.field.Field.TheVariants as field
 use Rattle.pw_tlvs.specs.declared.fec_value.FecValue.TheVariants.{Foreign}
 use Rattle.pw_tlvs.specs.declared.field_fault.FieldFault.{FieldFault}
 use Rattle.pw_tlvs.specs.declared.field_fault.FieldFault.TheVariants.{Value}
-use Rattle.pw_tlvs.specs.Faults.{IsFirst as IsFirstIn, place_of}
-use Rattle.pw_tlvs.specs.declared.holder.Holder.TheVariants as holder
-use Rattle.pw_tlvs.specs.Fec.{IsFecValue, IsFecFault}
-use Rattle.pw_tlvs.specs.Point.{IsPointFault}
-use Rattle.pw_tlvs.proofs.FecLemmas.{fec_inside}
-use Rattle.pw_tlvs.proofs.WrongLemmas.{named_within}
+use Rattle.pw_tlvs.specs.Faults.{IsFirst as IsFirstIn, IsInside, place_of}
+use Rattle.pw_tlvs.specs.Fec.{IsFecValue}
 use Rattle.pw_tlvs.proofs.FaultLemmas.{first_alone}
 use Rattle.ldp_grammar.specs.FirstFault.{ContentFault}
 use Rattle.ldp_grammar.specs.Octets.{four_at}
 use Rattle.ldp_grammar.specs.Rows.{fec}
 use Rattle.ldp_grammar.specs.Tlvs.{StandsFirst, IsForeign}
-use Rattle.ldp_codec.specs.Walk.{IsForeignValue, IsNear, ReadsForeign}
+use Rattle.ldp_codec.specs.Walk.{IsForeignValue, ReadsForeign}
 use Rattle.ldp_grammar.proofs.ForeignLemmas.{stands_once}
 
 -- where there is no FEC, none is foreign
@@ -32,16 +28,10 @@ not_foreign_value body value stands never f =
 pub label_first : (body value : List ℕ) → length value ≡ 4 → (IsForeign body → ⊥) → (IsLabel (four_at 0 value) → ⊥) → IsFirstIn (ContentFault body field.Label value) (Value 0 field.Label)
 label_first body value len never is_none = first_alone (Value 0 field.Label) (len, never, is_none, refl) (λ g names. names.3)
 
--- the first fault of a value is near
-pub fec_near : (value : List ℕ) (fault : FieldFault) → IsFirstIn (IsFecFault value) fault → IsNear value fault
-fec_near value fault first = fec_inside value fault first.named
-
-pub point_near : (value : List ℕ) (fault : FieldFault) → IsFirstIn (IsPointFault value) fault → IsNear value fault
-point_near value fault first = inr (omega (arith, named_within holder.Point 0 value fault first.named))
-
-pub near_fits : (value : List ℕ) (fault : FieldFault) → 4 + length value < 65536 → IsNear value fault → 4 + place_of fault < 65536
-near_fits value fault few (inl e) = omega (arith, ap place_of e)
-near_fits value fault few (inr less) = omega (arith, less, few)
+-- the place of a fault of a value fits, counted from the TLV
+pub inside_fits : (value : List ℕ) (fault : FieldFault) → 4 + length value < 65536 → IsInside value fault → 4 + place_of fault < 65536
+inside_fits value fault few (inl e) = omega (arith, ap place_of e)
+inside_fits value fault few (inr less) = omega (arith, less, few)
 
 -- the first FEC is foreign
 pub foreign_value : (body value : List ℕ) → StandsFirst fec body value → IsForeignValue value → IsForeign body

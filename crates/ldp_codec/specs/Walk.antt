@@ -5,8 +5,7 @@ use Rattle.std.specs.Option.{option_or}
 use Rattle.net_base.specs.declared.field.Field.{Field}
 use Rattle.pw_tlvs.specs.declared.field_fault.FieldFault.{FieldFault}
 use Rattle.pw_tlvs.specs.declared.fec_value.FecValue.TheVariants.{Foreign}
-use Rattle.pw_tlvs.specs.declared.field_fault.FieldFault.TheVariants.{Size}
-use Rattle.pw_tlvs.specs.Faults.{IsFirst as IsFirstIn, place_of}
+use Rattle.pw_tlvs.specs.Faults.{IsFirst as IsFirstIn}
 use Rattle.pw_tlvs.specs.Fec.{IsFecValue}
 use Rattle.ldp_grammar.specs.declared.fault.Fault.{Fault}
 use Rattle.ldp_grammar.specs.declared.message.Message.{Message}
@@ -45,10 +44,6 @@ HasLength None value = Unit {0}
 abbrev pub HasContents : List ℕ → Option Field → List ℕ → Type 0
 HasContents body (Some field) value = HasContent body field value
 HasContents body None value = Unit {0}
-
--- a fault of a value is within it, but for a wrong size
-abbrev pub IsNear : List ℕ → FieldFault → Type 0
-IsNear value fault = (fault ≡ Size) ⊎ (place_of fault < length value)
 
 -- the TLV is listed, and this fault is the first of its value
 pub record IsFirstContent (body : List ℕ) (list : Option Field) (value : List ℕ) (fault : Fault) : Type 0 where

@@ -1,13 +1,13 @@
 //! What the values of TLVs hold, and the first fault of it.
 ghost use Rattle.std.specs.Prelude.{◌≡◌, ◌≤◌, ◌<◌, ◌+◌, ◌^◌, ℕ, List, None, true, false, length, Ok, Err, IfSome};
-ghost use Rattle.pw_tlvs.specs.Faults.{IsFirst as IsFirstIn, place_of};
+ghost use Rattle.pw_tlvs.specs.Faults.{IsFirst as IsFirstIn, IsInside, place_of};
 ghost use Rattle.pw_tlvs.specs.Fec.{IsFecFault};
 ghost use Rattle.pw_tlvs.specs.Point.{IsPointFault};
 ghost use Rattle.ldp_grammar.specs.FirstFault.{ContentFault, fault_in};
 ghost use Rattle.ldp_grammar.specs.Layouts.{fits, listed};
 ghost use Rattle.ldp_grammar.specs.Rows.{row_of};
 ghost use Rattle.ldp_grammar.specs.Tlvs.{HasContent, IsFec, IsSwitchingPoint};
-ghost use Rattle.ldp_codec.specs.Walk.{HasContents, HasLength, IsFirstContent, IsForeignValue, IsNear, ReadsForeign};
+ghost use Rattle.ldp_codec.specs.Walk.{HasContents, HasLength, IsFirstContent, IsForeignValue, ReadsForeign};
 
 use crate::numbers::four;
 use crate::tlv_search::find_value;
@@ -43,7 +43,7 @@ fn fec_fault(value: &[u8]) -> Option<FieldFault>
     requires { length value.now ≤ 65535 }
     ensures fault { IfSome result (IsFirstIn (IsFecFault value.now)) }
     ensures none { result ≡ None → IsFec value.now }
-    ensures near { IfSome result (IsNear value.now) }
+    ensures near { IfSome result (IsInside value.now) }
 {
     match read_fec(value) {
         Ok(_) => None,
@@ -56,7 +56,7 @@ fn point_fault(value: &[u8]) -> Option<FieldFault>
     requires { length value.now ≤ 65535 }
     ensures fault { IfSome result (IsFirstIn (IsPointFault value.now)) }
     ensures none { result ≡ None → IsSwitchingPoint value.now }
-    ensures near { IfSome result (IsNear value.now) }
+    ensures near { IfSome result (IsInside value.now) }
 {
     match read_point(value) {
         Ok(_) => None,
@@ -70,7 +70,7 @@ fn label_fault(foreign: bool, value: &[u8]) -> Option<FieldFault>
     requires { length value.now ≡ 4 }
     ensures fault { (body : List ℕ) → ReadsForeign body foreign → IfSome result (IsFirstIn (ContentFault body Field.Label value.now)) }
     ensures none { (body : List ℕ) → ReadsForeign body foreign → result ≡ None → HasContent body Field.Label value.now }
-    ensures near { IfSome result (IsNear value.now) }
+    ensures near { IfSome result (IsInside value.now) }
 {
     if foreign || Label::new(four(value, 0)).is_some() {
         return None;
@@ -87,7 +87,7 @@ fn content_fault(foreign: bool, field: Field, value: &[u8]) -> Option<FieldFault
     requires fitting { fits field value.now ≡ true }
     ensures fault { (body : List ℕ) → ReadsForeign body foreign → IfSome result (IsFirstIn (ContentFault body field value.now)) }
     ensures none { (body : List ℕ) → ReadsForeign body foreign → result ≡ None → HasContent body field value.now }
-    ensures near { IfSome result (IsNear value.now) }
+    ensures near { IfSome result (IsInside value.now) }
 {
     match field {
         Field::Fec => fec_fault(value),

@@ -1,18 +1,16 @@
 -- TLVs of a message: what is walked, and the fault where the walk ends.
-use Rattle.std.proofs.Common.{◌≡◌, ◌≤◌, ◌<◌, ◌+◌, ◌++◌, ◌⊎◌, inl, inr, ℕ, true, false, List, [], ◌∷◌, Option, Some, None, length, flat_map, nat_eq, eq-eqb, eqb-true, refl, sym, ap, subst, ◌∙◌, append-nil, length-append, arith}
+use Rattle.std.proofs.Common.{◌≡◌, ◌≤◌, ◌<◌, ◌+◌, ◌++◌, inl, inr, ℕ, true, false, List, [], ◌∷◌, Option, Some, None, length, flat_map, nat_eq, eq-eqb, eqb-true, refl, sym, ap, subst, ◌∙◌, append-nil, length-append, arith}
 use Rattle.std.proofs.lemmas.Bool.{cases_Bool}
 use Rattle.std.proofs.lemmas.Grind.{flat_map-append}
 use Rattle.std.specs.List.{AllByRecursion}
 use Rattle.net_base.specs.declared.field.Field.{Field}
 use Rattle.net_base.specs.declared.field.Field.TheVariants as field
 use Rattle.pw_tlvs.specs.declared.field_fault.FieldFault.{FieldFault}
-use Rattle.pw_tlvs.specs.declared.holder.Holder.TheVariants as holder
 use Rattle.pw_tlvs.specs.declared.field_fault.FieldFault.TheVariants.{Size, Value, Repeated}
-use Rattle.pw_tlvs.specs.Faults.{IsFirst as IsFirstIn, Precedes as PrecedesIn, place_of}
+use Rattle.pw_tlvs.specs.Faults.{IsFirst as IsFirstIn, IsInside, Precedes as PrecedesIn, place_of}
 use Rattle.pw_tlvs.proofs.FaultLemmas.{field_rank_below}
 use Rattle.pw_tlvs.proofs.FecLemmas.{never_fec, fec_inside}
-use Rattle.pw_tlvs.proofs.PointLemmas.{never_point}
-use Rattle.pw_tlvs.proofs.WrongLemmas.{named_within}
+use Rattle.pw_tlvs.proofs.PointLemmas.{never_point, point_inside}
 use Rattle.ldp_grammar.specs.declared.fault.Fault.{Fault}
 use Rattle.ldp_grammar.specs.declared.cause.Cause.{Cause}
 use Rattle.ldp_grammar.specs.declared.cause.Cause.TheVariants as cause
@@ -336,7 +334,7 @@ content_before row body ts rest more t field here is e is_listed room fitting fi
     subst (Precedes (fault_in field here)) (sym s.is) (in_order field here s.here (first.first s.here s.names))
 
 -- a fault of a value is within its TLV
-pub content_inside : (body : List ℕ) (f : Field) (value : List ℕ) (fault : FieldFault) → ContentFault body f value fault → (fault ≡ Size) ⊎ (place_of fault < length value)
+pub content_inside : (body : List ℕ) (f : Field) (value : List ℕ) (fault : FieldFault) → ContentFault body f value fault → IsInside value fault
 content_inside body field.Fec value fault names = fec_inside value fault names
 content_inside body field.AddressList value fault names = absurd names
 content_inside body field.Label value fault names = inr (omega (arith, names.0, ap place_of names.3))
@@ -347,7 +345,7 @@ content_inside body field.MacList value fault names = absurd names
 content_inside body field.Session value fault names = absurd names
 content_inside body field.RequestId value fault names = absurd names
 content_inside body field.PwStatus value fault names = absurd names
-content_inside body field.Point value fault names = inr (omega (arith, named_within holder.Point 0 value fault names))
+content_inside body field.Point value fault names = point_inside value fault names
 content_inside body field.InfoLength value fault names = absurd names
 content_inside body field.Parameter value fault names = absurd names
 content_inside body field.Mtu value fault names = absurd names
@@ -355,7 +353,7 @@ content_inside body field.Description value fault names = absurd names
 content_inside body field.Vlan value fault names = absurd names
 content_inside body field.Vccv value fault names = absurd names
 
-pub near_of : (f : Field) (value : List ℕ) (fault : FieldFault) → (fault ≡ Size) ⊎ (place_of fault < length value) → (fault_in f fault).place < 4 + length value
+pub near_of : (f : Field) (value : List ℕ) (fault : FieldFault) → IsInside value fault → (fault_in f fault).place < 4 + length value
 near_of f value Size near = omega arith
 near_of f value (Value at inner) (inl e) = absurd (cc)
 near_of f value (Value at inner) (inr less) = omega (arith, less)

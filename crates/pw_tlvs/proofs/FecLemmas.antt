@@ -1,16 +1,15 @@
 -- The value of a FEC TLV is one, or its octets have one first fault.
-use Rattle.std.proofs.Common.{◌≡◌, ◌≤◌, ◌<◌, ◌+◌, ◌⊎◌, ℕ, List, length, take, drop, get_or, length-drop, refl, sym, ap, ◌∙◌, subst, arith, inl, inr, Some, None}
+use Rattle.std.proofs.Common.{◌≡◌, ◌≤◌, ◌<◌, ◌+◌, ℕ, List, length, take, drop, get_or, length-drop, refl, sym, ap, ◌∙◌, subst, arith, inl, inr, Some, None}
 use Rattle.std.specs.Prelude.{slice_index, Option, option_map}
 use Rattle.std.proofs.lemmas.List.{drop-drop, get_or-take}
 use Rattle.byteorder.specs.Endian.{big_number}
 use Rattle.pw_tlvs.specs.declared.field_fault.FieldFault.{FieldFault}
-use Rattle.pw_tlvs.specs.declared.field_fault.FieldFault.TheVariants.{Size}
 use Rattle.pw_tlvs.specs.declared.fec_value.FecValue.{FecValue}
 use Rattle.pw_tlvs.specs.declared.fec_value.FecValue.TheVariants.{Pw, Foreign}
 use Rattle.pw_tlvs.specs.declared.holder.Holder.TheVariants as holder
 use Rattle.pw_tlvs.specs.declared.if_params.IfParams.{IfParams}
 use Rattle.pw_tlvs.specs.declared.pw_fec.PwFec.{PwFec}
-use Rattle.pw_tlvs.specs.Faults.{place_of, Precedes, IsFirst}
+use Rattle.pw_tlvs.specs.Faults.{place_of, IsInside, Precedes, IsFirst}
 use Rattle.pw_tlvs.specs.SubTlvs.{SubTlv, IsNamed, said}
 use Rattle.pw_tlvs.specs.Fec.{AreParameters, IsPwid, information_length, IsTooShort, IsInformation, IsPwFec, IsFollowed, IsFecValue, IsFecFault, empty, short, too_short, past_end, parameter, text_of, vccv_of}
 use Rattle.pw_tlvs.proofs.SubTlvLemmas.{never_both, one_joining}
@@ -111,22 +110,8 @@ followed_again octets other first is same len =
       more = omega arith;
     }
 
--- a fault that can be named is within the octets
-pub fec_within : (octets : List ℕ) (f : FieldFault) → IsFecFault octets f → place_of f ≤ length octets
-fec_within octets f (empty none e) = let p = ap place_of e in omega arith
-fec_within octets f (short some first few e) = let p = ap place_of e in omega arith
-fec_within octets f (too_short begun few e) = let p = ap place_of e in let h = begun.header in omega arith
-fec_within octets f (past_end begun far e) = let p = ap place_of e in let h = begun.header in omega arith
-fec_within octets f (parameter begun long some whole named) =
-    let close = named_within holder.Fec 12 (drop 12 octets) f named in
-    let rest = length-drop 12 octets in
-    elim (cases_lt (information_length octets) 4) [
-      | inl few ↦ absurd (long (some, omega arith))
-      | inr more ↦ omega arith
-    ]
-
 -- a fault that can be named is within the octets, but for a wrong size
-pub fec_inside : (octets : List ℕ) (f : FieldFault) → IsFecFault octets f → (f ≡ Size) ⊎ (place_of f < length octets)
+pub fec_inside : (octets : List ℕ) (f : FieldFault) → IsFecFault octets f → IsInside octets f
 fec_inside octets f (empty none e) = inl e
 fec_inside octets f (short some first few e) = inl e
 fec_inside octets f (too_short begun few e) = inr (let p = ap place_of e in let h = begun.header in omega arith)

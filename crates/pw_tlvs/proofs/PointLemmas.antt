@@ -1,5 +1,5 @@
 -- A switching point's octets are one point, or have one first fault.
-use Rattle.std.proofs.Common.{◌≡◌, ◌≤◌, ◌+◌, ◌++◌, ◌∙◌, ℕ, List, [], ◌∷◌, length, length-append, refl, sym, ap, arith}
+use Rattle.std.proofs.Common.{◌≡◌, ◌+◌, ◌++◌, ◌∙◌, ℕ, List, [], ◌∷◌, length, length-append, refl, sym, ap, arith, inr}
 use Rattle.std.specs.Prelude.{slice_index, option_map}
 use Rattle.std.specs.List.{flat_map}
 use Rattle.std.proofs.lemmas.Grind.{flat_map-append}
@@ -11,7 +11,7 @@ use Rattle.pw_tlvs.specs.declared.point.Point.{Point}
 use Rattle.pw_tlvs.specs.SubTlvs.{SubTlv, said, spell}
 use Rattle.pw_tlvs.specs.Written.{told, written_point}
 use Rattle.pw_tlvs.specs.Point.{IsPoint, IsPointFault, address_of}
-use Rattle.pw_tlvs.specs.Faults.{place_of}
+use Rattle.pw_tlvs.specs.Faults.{IsInside}
 use Rattle.pw_tlvs.proofs.WrongLemmas.{named_within}
 use Rattle.pw_tlvs.proofs.SubTlvLemmas.{never_both, one_joining}
 
@@ -62,5 +62,5 @@ point_length point =
     omega (arith, parts, two, one)
 
 -- a fault that can be named is within the octets
-pub point_within : (octets : List ℕ) (f : FieldFault) → IsPointFault octets f → place_of f ≤ length octets
-point_within octets f named = let close = named_within holder.Point 0 octets f named in omega arith
+pub point_inside : (octets : List ℕ) (f : FieldFault) → IsPointFault octets f → IsInside octets f
+point_inside octets f named = inr (let close = named_within holder.Point 0 octets f named in omega arith)

@@ -1,5 +1,5 @@
 -- Faults of a value, and the first of those that can be named.
-use Rattle.std.specs.Prelude.{◌≡◌, ◌<◌, ◌≤◌, ◌+◌, ◌⊎◌, ℕ}
+use Rattle.std.specs.Prelude.{◌≡◌, ◌<◌, ◌≤◌, ◌+◌, ◌⊎◌, ℕ, List, length}
 use Rattle.net_base.specs.declared.field.Field.{Field}
 use Rattle.net_base.specs.declared.field.Field.TheVariants as field
 use Rattle.pw_tlvs.specs.declared.field_fault.FieldFault.{FieldFault}
@@ -40,6 +40,10 @@ rank_of (Repeated at field) = 18 + field_rank field
 -- one fault comes before another, or is at the same octet and not behind it
 abbrev pub Precedes : FieldFault → FieldFault → Type 0
 Precedes one other = (place_of one < place_of other) ⊎ ((place_of one ≡ place_of other) × (rank_of one ≤ rank_of other))
+
+-- a fault is at one of the octets of the value, but for a wrong size
+abbrev pub IsInside : List ℕ → FieldFault → Type 0
+IsInside octets fault = (fault ≡ Size) ⊎ (place_of fault < length octets)
 
 -- of all faults that can be named this is the first
 pub record IsFirst (Named : FieldFault → Type 0) (fault : FieldFault) : Type 0 where

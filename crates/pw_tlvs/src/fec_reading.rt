@@ -3,7 +3,7 @@ ghost use Rattle.std.specs.Prelude.{◌≡◌, ◌≤◌, ◌<◌, ◌+◌, ◌�
 ghost use Rattle.pw_tlvs.specs.declared.holder.Holder.TheVariants as held;
 ghost use Rattle.pw_tlvs.specs.declared.fec_value.FecValue.{FecValue};
 ghost use Rattle.pw_tlvs.specs.declared.field_fault.FieldFault.{FieldFault};
-ghost use Rattle.pw_tlvs.specs.Faults.{IsFirst, place_of};
+ghost use Rattle.pw_tlvs.specs.Faults.{IsFirst, IsInside};
 ghost use Rattle.pw_tlvs.specs.SubTlvs.{IsNamed};
 ghost use Rattle.pw_tlvs.specs.Fec.{IsFecValue, IsFecFault, IsPwFec, IsPwid, IsInformation, IsTooShort, information_length, no_params as nothing_told};
 
@@ -106,7 +106,7 @@ pub fn read_fec(value: &[u8]) -> Result<FecValue, FieldFault>
     requires { length value.now ≤ 65535 }
     ensures value { (fec : FecValue) → (result ≡ Ok fec) ↔ IsFecValue value.now fec }
     ensures fault { (fault : FieldFault) → (result ≡ Err fault) ↔ IsFirst (IsFecFault value.now) fault }
-    ensures place { IfErr result (λ fault. place_of fault ≤ length value.now) }
+    ensures place { IfErr result (IsInside value.now) }
 {
     fec_of(value)
 }

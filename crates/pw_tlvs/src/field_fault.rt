@@ -3,7 +3,7 @@
 use net_base::Field;
 use thiserror::Error;
 
-/// Why octets are no value of a TLV. A place counts from the first octet of the value.
+/// Why octets are no value of a TLV. A place counts from the first octet of the value, and is below its length.
 #[derive(Clone, Copy, Debug, PartialEq, Eq, Error)]
 pub enum FieldFault {
     /// The number of octets does not fit the layout.

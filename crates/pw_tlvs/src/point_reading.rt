@@ -3,7 +3,7 @@ ghost use Rattle.std.specs.Prelude.{◌≡◌, ◌≤◌, ◌++◌, ◌∷◌, �
 ghost use Rattle.pw_tlvs.specs.declared.holder.Holder.TheVariants as held;
 ghost use Rattle.pw_tlvs.specs.declared.point.Point.{Point};
 ghost use Rattle.pw_tlvs.specs.declared.field_fault.FieldFault.{FieldFault};
-ghost use Rattle.pw_tlvs.specs.Faults.{IsFirst, place_of};
+ghost use Rattle.pw_tlvs.specs.Faults.{IsFirst, IsInside};
 ghost use Rattle.pw_tlvs.specs.SubTlvs.{SubTlv, IsGood, Stood, row_of, values};
 ghost use Rattle.pw_tlvs.specs.Point.{IsPoint, IsPointFault, address_of};
 ghost use Rattle.pw_tlvs.specs.Found.{PointSays};
@@ -89,7 +89,7 @@ pub fn read_point(value: &[u8]) -> Result<Point, FieldFault>
     requires { length value.now ≤ 65535 }
     ensures value { (point : Point) → (result ≡ Ok point) ↔ IsPoint value.now point }
     ensures fault { (fault : FieldFault) → (result ≡ Err fault) ↔ IsFirst (IsPointFault value.now) fault }
-    ensures place { IfErr result (λ fault. place_of fault ≤ length value.now) }
+    ensures place { IfErr result (IsInside value.now) }
 {
     point_of(value)
 }

@@ -2,7 +2,7 @@
 ghost use Rattle.std.specs.Prelude.{◌≡◌, ◌≤◌, ◌++◌, ◌↔◌, length, drop, Ok, Err, IfOk, IfErr};
 ghost use Rattle.pw_tlvs.specs.declared.pw_status.PwStatus.{PwStatus};
 ghost use Rattle.pw_tlvs.specs.declared.field_fault.FieldFault.{FieldFault};
-ghost use Rattle.pw_tlvs.specs.Faults.{IsFirst, place_of};
+ghost use Rattle.pw_tlvs.specs.Faults.{IsFirst, IsInside};
 ghost use Rattle.pw_tlvs.specs.Status.{IsStatus, IsStatusFault, written_status};
 
 use crate::FieldFault;
@@ -20,7 +20,7 @@ pub fn read_status(value: &[u8]) -> Result<PwStatus, FieldFault>
     requires { length value.now ≤ 65535 }
     ensures value { (status : PwStatus) → (result ≡ Ok status) ↔ IsStatus value.now status }
     ensures fault { (fault : FieldFault) → (result ≡ Err fault) ↔ IsFirst (IsStatusFault value.now) fault }
-    ensures place { IfErr result (λ fault. place_of fault ≤ length value.now) }
+    ensures place { IfErr result (IsInside value.now) }
 {
     status_of(value)
 }

@@ -2,11 +2,11 @@
 use Rattle.std.proofs.Common.{◌<◌, ◌+◌, length, sym, subst, ◌∙◌}
 use Rattle.ldp_grammar.specs.declared.fault.Fault.{Fault}
 use Rattle.ldp_grammar.proofs.TlvLemmas.{near_of}
-use Rattle.ldp_codec.proofs.ContentLemmas.{near_fits}
+use Rattle.ldp_codec.proofs.ContentLemmas.{inside_fits}
 use Rattle.ldp_codec.proofs.content.wrong_content.Goals as goal
 
 pub placed-requires : goal.placed-requires
-placed-requires c = near_fits c.args.value.now c.in_ok-fault.fault c.requires.few c.in_ok-fault.ensures.near
+placed-requires c = inside_fits c.args.value.now c.in_ok-fault.fault c.requires.few c.in_ok-fault.ensures.near
 
 pub returns-clause-fault : goal.returns-clause-fault
 returns-clause-fault c = λ body reads. record {

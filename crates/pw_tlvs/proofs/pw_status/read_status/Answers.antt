@@ -1,9 +1,7 @@
 -- Each answer comes exactly where it is so.
-use Rattle.std.proofs.Common.{◌≤◌, length}
-use Rattle.pw_tlvs.specs.declared.field_fault.FieldFault.{FieldFault}
-use Rattle.pw_tlvs.specs.Faults.{place_of}
+use Rattle.pw_tlvs.specs.Faults.{IsInside}
 use Rattle.pw_tlvs.specs.Status.{IsStatus, IsStatusFault}
-use Rattle.pw_tlvs.proofs.StatusLemmas.{one_status, never_status, status_within}
+use Rattle.pw_tlvs.proofs.StatusLemmas.{one_status, never_status, status_inside}
 use Rattle.pw_tlvs.proofs.ExactLemmas.{exact_ok, exact_err, err_of_named}
 use Rattle.pw_tlvs.proofs.pw_status.read_status.Goals as goal
 
@@ -14,4 +12,4 @@ pub returns-clause-fault : goal.returns-clause-fault
 returns-clause-fault c = exact_err (IsStatus c.args.value.now) (IsStatusFault c.args.value.now) (never_status c.args.value.now) c.status_of.result c.status_of.ensures.ok c.status_of.ensures.fault
 
 pub returns-clause-place : goal.returns-clause-place
-returns-clause-place c = err_of_named (IsStatusFault c.args.value.now) (λ (f : FieldFault). place_of f ≤ length c.args.value.now) c.status_of.result c.status_of.ensures.fault (status_within c.args.value.now)
+returns-clause-place c = err_of_named (IsStatusFault c.args.value.now) (IsInside c.args.value.now) c.status_of.result c.status_of.ensures.fault (status_inside c.args.value.now)
