@@ -10,9 +10,9 @@ ghost use Rattle.pw_tlvs.specs.declared.pw_status.PwStatus.{PwStatus};
 ghost use Rattle.pw_tlvs.specs.declared.point.Point.{Point};
 ghost use Rattle.pw_tlvs.specs.Faults.{IsFirst};
 ghost use Rattle.pw_tlvs.specs.Fec.{IsFecValue, IsFecFault, IsFollowed};
-ghost use Rattle.pw_tlvs.specs.Macs.{AreMacs, mac_octets};
+ghost use Rattle.pw_tlvs.specs.Macs.{AreMacs, IsMacsFault, mac_octets};
 ghost use Rattle.pw_tlvs.specs.Point.{IsPoint, IsPointFault};
-ghost use Rattle.pw_tlvs.specs.Status.{IsStatus, written_status};
+ghost use Rattle.pw_tlvs.specs.Status.{IsStatus, IsStatusFault, written_status};
 ghost use Rattle.pw_tlvs.specs.Written.{IsFecInRange, IsPointInRange, IsWritable, written_fec, written_point};
 
 /// What is written is a value, and the one that was written; so the read call answers it. It holds of all
@@ -35,8 +35,12 @@ pub fn one_value()
 /// Octets that are a value have no fault, and other octets have one first fault at most.
 pub fn one_fault()
     ensures fec { (octets : List ℕ) (value : FecValue) (fault : FieldFault) → IsFecValue octets value → IsFecFault octets fault → ⊥ }
+    ensures status { (octets : List ℕ) (status : PwStatus) (fault : FieldFault) → IsStatus octets status → IsStatusFault octets fault → ⊥ }
+    ensures macs { (octets : List ℕ) (list : List Mac) (fault : FieldFault) → AreMacs octets list → IsMacsFault octets fault → ⊥ }
     ensures point { (octets : List ℕ) (point : Point) (fault : FieldFault) → IsPoint octets point → IsPointFault octets fault → ⊥ }
     ensures first_of_fec { (octets : List ℕ) (a b : FieldFault) → IsFirst (IsFecFault octets) a → IsFirst (IsFecFault octets) b → a ≡ b }
+    ensures first_of_status { (octets : List ℕ) (a b : FieldFault) → IsFirst (IsStatusFault octets) a → IsFirst (IsStatusFault octets) b → a ≡ b }
+    ensures first_of_macs { (octets : List ℕ) (a b : FieldFault) → IsFirst (IsMacsFault octets) a → IsFirst (IsMacsFault octets) b → a ≡ b }
     ensures first_of_point { (octets : List ℕ) (a b : FieldFault) → IsFirst (IsPointFault octets) a → IsFirst (IsPointFault octets) b → a ≡ b }
 {}
 
