@@ -10,8 +10,8 @@ use crate::holder::Holder;
 use crate::sub_tlv::first_sub_tlv;
 use crate::{FieldFault, IfParams};
 
-/// The interface parameters that the octets are, or their first fault. They begin at the twelfth octet of the
-/// value.
+/// The interface parameters that the octets are, or their first fault (RFC 8077 section 6.4). Twelve octets of the
+/// value stand before them, so they begin at place 12.
 pub fn read_parameters(octets: &[u8]) -> Result<IfParams, FieldFault>
     requires { length octets.now ≤ 65523 }
     ensures ok { IfOk result (AreParameters octets.now) }
