@@ -47,10 +47,7 @@ pub fn read_macs(alloc: Global, value: &[u8]) -> Result<Items<Mac>, MacsFault>
     if value.len() % 6 != 0 {
         return Err(MacsFault::Field(FieldFault::Size));
     }
-    match macs_of(alloc, value) {
-        Ok(list) => Ok(list),
-        Err(NoMemory) => Err(MacsFault::NoMemory),
-    }
+    Ok(macs_of(alloc, value)?)
 }
 
 // Writes the six octets of the address at the place, and answers the place behind them.
