@@ -18,8 +18,8 @@ use ldp_grammar::{
 };
 use net_base::{Addr, Label, List as Items, Mac, Octets};
 use pw_tlvs::{
-    Point, Points, PwFec, PwStatus, fec_size, point_size, write_fec, write_macs, write_point,
-    write_status,
+    Point, Points, PwFec, PwStatus, fec_size, macs_size, point_size, write_fec, write_macs,
+    write_point, write_status,
 };
 
 // Writes a TLV with this word at the place, and answers the place behind it.
@@ -53,27 +53,6 @@ fn put_fec(out: &mut [u8], at: usize, pw: &PwFec) -> usize
 {
     let behind = put(out, at, &tlv_header(FEC, fec_size(pw) as u16));
     behind + write_fec(pw, &mut out[behind..])
-}
-
-// The octets of a MAC address.
-fn mac_size(mac: Mac) -> usize
-    ensures size { result ≡ length mac.0 }
-    ensures six { result ≡ 6 }
-{
-    mac.0.len()
-}
-
-// The octets of MAC addresses.
-fn macs_size(list: &Items<Mac>) -> usize
-    requires few { length (mac_octets list.now) ≤ 4096 }
-    ensures size { result ≡ length (mac_octets list.now) }
-    ensures count { result ≡ 6 * length list.now }
-{
-    let mut size = 0;
-    for mac in list.as_slice() {
-        size += mac_size(*mac);
-    }
-    size
 }
 
 // Writes MAC addresses.

@@ -1,13 +1,12 @@
 //! Which messages can be written, and how long they are.
 ghost use Rattle.std.specs.Prelude.{◌≡◌, ◌≤◌, ◌<◌, ◌+◌, ◌*◌, ◌++◌, ◌∷◌, ℕ, true, length, flat_map};
-ghost use Rattle.pw_tlvs.specs.Macs.{mac_octets};
 ghost use Rattle.ldp_grammar.specs.Tlvs.{spell_tlv};
 ghost use Rattle.ldp_grammar.specs.Written.{address_octets, are_whole, fec_tlvs, has_vlan, label_tlvs, list_length, mac_count, mac_tlvs, macs_length, may_tell, message_octets, point_tlvs, session_octets, status_tlvs, tells_nothing, transport_tlvs, withdrawn_tlvs, withdraws, writable, writable_fec, writable_fecs, written_tlvs};
 
 use crate::headers::{MESSAGE_HEADER, TLV_HEADER};
 use crate::{AddressList, Message, SessionParams};
 use net_base::{Addr, Label, List, Mac, Octets};
-use pw_tlvs::{IfParams, Points, PwFec, PwStatus, fec_size, point_size};
+use pw_tlvs::{IfParams, Points, PwFec, PwStatus, fec_size, macs_size, point_size};
 
 // Status data has 30 bits.
 const CODE_LIMIT: u32 = 0x4000_0000;
@@ -175,35 +174,14 @@ fn label_size(label: Option<Label>) -> usize
     }
 }
 
-// The octets of a MAC address.
-fn mac_size(mac: Mac) -> usize
-    ensures size { result ≡ length mac.0 }
-    ensures six { result ≡ 6 }
-{
-    mac.0.len()
-}
-
-// The octets of MAC addresses.
-fn macs_octets(list: &List<Mac>) -> usize
-    requires few { length list.now ≤ 65535 }
-    ensures size { result ≡ length (mac_octets list.now) }
-    ensures most { result ≤ 393210 }
-{
-    let mut size = 0;
-    for mac in list.as_slice() {
-        size += mac_size(*mac);
-    }
-    size
-}
-
 // The octets of a MAC List TLV, where there are addresses.
-fn macs_size(macs: &Option<List<Mac>>) -> usize
+fn macs_told_size(macs: &Option<List<Mac>>) -> usize
     requires few { macs_length macs.now ≤ 65535 }
     ensures size { result ≡ length (flat_map spell_tlv (mac_tlvs macs.now)) }
     ensures most { result ≤ 393214 }
 {
     match macs {
-        Some(list) => TLV_HEADER + macs_octets(list),
+        Some(list) => TLV_HEADER + macs_size(list),
         None => 0,
     }
 }
@@ -234,7 +212,7 @@ fn withdrawal_size(
     ensures size { result ≡ length (flat_map spell_tlv (withdrawn_tlvs addresses.now ++ (fec_tlvs fec.now ++ mac_tlvs macs.now))) }
     ensures most { result ≤ 458865 }
 {
-    list_size(addresses) + (fec_told_size(fec) + macs_size(macs))
+    list_size(addresses) + (fec_told_size(fec) + macs_told_size(macs))
 }
 
 // The octets of the TLVs of a message.

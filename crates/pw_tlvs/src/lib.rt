@@ -35,7 +35,7 @@ pub use fec_writing::{fec_size, write_fec};
 pub use field_fault::FieldFault;
 pub use if_params::IfParams;
 pub use laws::{followed_is_not_looked_into, one_fault, one_value, written_is_read};
-pub use macs::{read_macs, write_macs};
+pub use macs::{macs_size, read_macs, write_macs};
 pub use macs_fault::MacsFault;
 pub use point::Point;
 pub use point_reading::read_point;

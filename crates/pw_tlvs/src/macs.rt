@@ -50,6 +50,26 @@ pub fn read_macs(alloc: Global, value: &[u8]) -> Result<Items<Mac>, MacsFault>
     Ok(macs_of(alloc, value)?)
 }
 
+// The number of octets of the address.
+fn mac_size(mac: Mac) -> usize
+    ensures size { result ≡ length mac.0 }
+    ensures six { result ≡ 6 }
+{
+    mac.0.len()
+}
+
+/// The number of octets that `write_macs` writes: six for each address.
+pub fn macs_size(list: &Items<Mac>) -> usize
+    ensures size { result ≡ length (mac_octets list.now) }
+    ensures six { result ≡ 6 * length list.now }
+{
+    let mut size = 0;
+    for mac in list.as_slice() {
+        size += mac_size(*mac);
+    }
+    size
+}
+
 // Writes the six octets of the address at the place, and answers the place behind them.
 fn put_mac(out: &mut [u8], at: usize, mac: Mac) -> usize
     requires { at + 6 ≤ length out.old }

@@ -1,7 +1,7 @@
 //! Values with octets that were worked out by hand.
 
 use crate::{
-    FecValue, FieldFault, IfParams, MacsFault, Point, Points, PwFec, PwStatus, fec_size,
+    FecValue, FieldFault, IfParams, MacsFault, Point, Points, PwFec, PwStatus, fec_size, macs_size,
     point_size, read_fec, read_macs, read_point, read_status, write_fec, write_macs, write_point,
     write_status,
 };
@@ -237,6 +237,7 @@ fn reads_and_writes_status_and_addresses(rt: HostRuntime) {
     let list = read_macs(rt.alloc(), &octets).expect(&rt, "addresses");
     let addresses = [Mac([2, 0, 0, 0, 0, 1]), Mac([2, 0, 0, 0, 0, 2])];
     assert!(rt; list.as_slice() == &addresses[..]);
+    assert_eq!(rt; macs_size(&list), 12);
     assert_eq!(rt; write_macs(&list, &mut out), 12);
     assert!(rt; out == octets);
     assert_eq!(rt; write_macs(&List::new(rt.alloc()), &mut out), 0);

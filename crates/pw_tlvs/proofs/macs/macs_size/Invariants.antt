@@ -1,6 +1,7 @@
+-- The addresses before the index are counted.
 use Rattle.std.proofs.Common.{◌≡◌, ◌+◌, ◌*◌, length, drop}
 use Rattle.pw_tlvs.specs.Macs.{mac_octets}
-use Rattle.ldp_codec.proofs.put_tlvs.macs_size.Given as goal
+use Rattle.pw_tlvs.proofs.macs.macs_size.Given as goal
 
 abbrev pub invariant-loop-mac : goal.invariant-loop-mac
 invariant-loop-mac l = record {

@@ -1,9 +1,0 @@
-use Rattle.std.proofs.Common.{◌≡◌, ◌≤◌, ◌+◌, ◌*◌, length, drop}
-use Rattle.pw_tlvs.specs.Macs.{mac_octets}
-use Rattle.ldp_grammar.proofs.writable.macs_octets.Given as goal
-
-abbrev pub invariant-loop-mac : goal.invariant-loop-mac
-invariant-loop-mac l = record {
-  few : l.size ≤ 6 * l.mac-index;
-  size : l.size + length (mac_octets (drop l.mac-index l.list)) ≡ length (mac_octets l.fn.list);
-}
