@@ -1,11 +1,11 @@
 //! The TLVs of a message, written into octets.
 ghost use Rattle.std.specs.Prelude.{◌≡◌, ◌≤◌, ◌<◌, ◌+◌, ◌*◌, ◌++◌, ◌∷◌, [], true, length, flat_map};
 ghost use Rattle.pw_tlvs.specs.Macs.{mac_octets};
-ghost use Rattle.pw_tlvs.specs.Written.{written_fec, written_point};
+ghost use Rattle.pw_tlvs.specs.Written.{writable_fec, written_fec, written_point};
 ghost use Rattle.ldp_grammar.specs.Octets.{four as four_of};
 ghost use Rattle.ldp_grammar.specs.Rows.{address_list, fec, hello_parameters, label, mac_list, request_id, status, switching_point};
 ghost use Rattle.ldp_grammar.specs.Tlvs.{spell_tlv};
-ghost use Rattle.ldp_grammar.specs.Written.{addresses_octets, fec_tlvs, hello_octets, ignorable, label_tlvs, mac_tlvs, point_tlvs, status_octets, status_tlvs, tlv, transport_tlvs, withdrawn_tlvs, writable, writable_fec, writable_fecs, written_tlvs};
+ghost use Rattle.ldp_grammar.specs.Written.{addresses_octets, fec_tlvs, hello_octets, ignorable, label_tlvs, mac_tlvs, point_tlvs, status_octets, status_tlvs, tlv, transport_tlvs, withdrawn_tlvs, writable, writable_fecs, written_tlvs};
 ghost use Rattle.ldp_codec.specs.Put.{ArePut};
 
 use crate::put::put;
@@ -45,7 +45,6 @@ fn put_addresses(out: &mut [u8], at: usize, family: u16, octets: &Octets) -> usi
 }
 
 // Writes a FEC.
-#[tactic(auto, using(ldp_grammar::proofs::WrittenLemmas::fec_can))]
 fn put_fec(out: &mut [u8], at: usize, pw: &PwFec) -> usize
     requires writable { writable_fec pw.now ≡ true }
     requires room { at + 4 + length (written_fec pw.now) ≤ length out.old }
@@ -322,7 +321,7 @@ fn put_abort(out: &mut [u8], at: usize, pw: &PwFec, request: u32) -> usize
 }
 
 /// Writes the TLVs of a message at the place, and answers the place behind them.
-#[tactic(auto, using(crate::proofs::PutLemmas::none_put, ldp_grammar::proofs::WrittenLemmas::and_both))]
+#[tactic(auto, using(crate::proofs::PutLemmas::none_put, std::proofs::lemmas::Bool::and_parts))]
 pub fn put_tlvs(out: &mut [u8], at: usize, message: &Message) -> usize
     requires writable { writable message.now ≡ true }
     requires few { length (flat_map spell_tlv (written_tlvs message.now)) ≤ 4096 }

@@ -2,6 +2,7 @@
 use Rattle.std.proofs.Common.{◌≡◌, inr, ◌≤◌, ◌<◌, ◌+◌, ◌++◌, ℕ, Bool, true, List, [], ◌∷◌, Option, Some, None, length, flat_map, nat_lt, refl, sym, ap, subst, ◌∙◌, append-nil, length-append, arith}
 use Rattle.std.specs.Prelude.{is_some, IfSome}
 use Rattle.std.specs.List.{AllByRecursion}
+use Rattle.std.proofs.lemmas.Bool.{and_parts}
 use Rattle.std.proofs.lemmas.Bool.Decides.{nat_tests}
 use Rattle.net_base.specs.declared.addr.Addr.{Addr}
 use Rattle.net_base.specs.Label.{IsLabel}
@@ -13,7 +14,7 @@ use Rattle.pw_tlvs.specs.declared.pw_status.PwStatus.{PwStatus}
 use Rattle.pw_tlvs.specs.Fec.{IsPwFec}
 use Rattle.pw_tlvs.specs.Macs.{mac_octets}
 use Rattle.pw_tlvs.specs.Status.{written_status, IsStatus as IsPwStatus}
-use Rattle.pw_tlvs.specs.Written.{written_fec, IsFecInRange, IsPointInRange}
+use Rattle.pw_tlvs.specs.Written.{written_fec, writable_fec, IsFecInRange, IsPointInRange}
 use Rattle.pw_tlvs.proofs.LawLemmas.{fec_again, status_again}
 use Rattle.ldp_grammar.specs.declared.address_list.AddressList.{AddressList}
 use Rattle.ldp_grammar.specs.declared.ldp_id.LdpId.{LdpId}
@@ -29,8 +30,8 @@ use Rattle.ldp_grammar.specs.Rows.{row_of, fec, label, mac_list, request_id, pw_
 use Rattle.ldp_grammar.specs.Layouts.{listed}
 use Rattle.ldp_grammar.specs.Tlvs.{Tlv, spell_tlv, count_of, value_of, reason_of, OfBoth, KeepsTo, IsFitting, IsReason}
 use Rattle.ldp_grammar.specs.Spells.{IsSpelling, IsRead, Means, StandsFor, Spells}
-use Rattle.ldp_grammar.specs.Written.{message_octets, written_spelling, written, writable, Fits, IsId, AreParams, IsAddress4, are_whole, tlv, status_octets, hello_octets, session_octets, addresses_octets, id_octets, transport_tlvs, written_tlvs, ignorable, point_tlvs, writable_fec, writable_fecs, withdraws, IsState, AreSixOctets, HasFamily, WrittenIsRead}
-use Rattle.ldp_grammar.proofs.WrittenLemmas.{status_back, hello_back, session_back, addresses_fit, and_both, keeps_none, keeps_alone, keeps_two, keeps_distinct, keeps_points, AreDistinct, HaveWords, all_fit, fec_can, fec_told, has_pw_id, label_back, number_back, macs_fit, points_words, points_fitting, points_back, points_known, none_missing}
+use Rattle.ldp_grammar.specs.Written.{message_octets, written_spelling, written, writable, Fits, IsId, AreParams, IsAddress4, are_whole, tlv, status_octets, hello_octets, session_octets, addresses_octets, id_octets, transport_tlvs, written_tlvs, ignorable, point_tlvs, writable_fecs, withdraws, IsState, AreSixOctets, HasFamily, WrittenIsRead}
+use Rattle.ldp_grammar.proofs.WrittenLemmas.{status_back, hello_back, session_back, addresses_fit, keeps_none, keeps_alone, keeps_two, keeps_distinct, keeps_points, AreDistinct, HaveWords, all_fit, fec_told, has_pw_id, label_back, number_back, macs_fit, points_words, points_fitting, points_back, points_known, none_missing}
 use Rattle.ldp_grammar.proofs.OctetLemmas.{read_two}
 use Rattle.ldp_grammar.proofs.PduLemmas.{length_of, count_of as size_of_pdu}
 
@@ -74,7 +75,7 @@ is_told k id ts m words few fitting distinct none means = is_read k id ts m word
 
 -- the FEC that was written is told
 pw_told : (pw : PwFec) → writable_fec pw ≡ true → IsFecInRange pw → IsPwFec (written_fec pw) pw
-pw_told pw can within = fec_again pw (fec_can pw can) within
+pw_told pw can within = fec_again pw can within
 
 -- the TLVs of each message tell it
 read_notification : (id : ℕ) (s : StatusCode) (state : Option PwStatus) (pw : Option PwFec) → s.code < 1073741824 → s.message < 4294967296 → s.kind < 65536 → IsState state → writable_fecs pw ≡ true → IfSome pw IsFecInRange
@@ -228,7 +229,7 @@ record IsTold (m : Message) : Type 0 where
 
 told : (m : Message) → writable m ≡ true → Fits m → 6 + length (message_octets m) ≤ 4096 → IsTold m
 told (message.Notification id s state pw) can fits size =
-    let both = and_both (nat_lt s.code 1073741824) (writable_fecs pw) can in
+    let both = and_parts (nat_lt s.code 1073741824) (writable_fecs pw) can in
     record {
       spelling = (omega arith, omega (arith, size), fits.0);
       stands = read_notification id s state pw (small_code s.code both.0) fits.1 fits.2 fits.3 both.1 fits.4 (omega (arith, size));
@@ -250,13 +251,13 @@ told (message.Address id family octets) can fits size = record {
   stands = read_address id family octets fits.1 can (omega (arith, size, length-append octets []));
 }
 told (message.AddressWithdraw id addresses pw macs) can fits size =
-    let both = and_both (withdraws addresses pw macs) (writable_fecs pw) can in
+    let both = and_parts (withdraws addresses pw macs) (writable_fecs pw) can in
     record {
       spelling = (omega arith, omega (arith, size), fits.0);
       stands = read_withdraw id addresses pw macs fits.1 both.0 both.1 fits.2 fits.3 (omega (arith, size));
     }
 told (message.LabelMapping id pw given state points) can fits size =
-    let both = and_both (is_some pw.pw_id) (writable_fec pw) can in
+    let both = and_parts (is_some pw.pw_id) (writable_fec pw) can in
     record {
       spelling = (omega arith, omega (arith, size), fits.0);
       stands = read_mapping id pw given state points both.0 both.1 fits.1 fits.2 fits.3 fits.4 fits.5 (omega (arith, size));

@@ -1,6 +1,6 @@
 -- What is written is read.
-use Rattle.std.proofs.Common.{◌≡◌, inl, inr, ◌≤◌, ◌<◌, ◌+◌, ◌-◌, ◌%◌, ◌++◌, ◌&&◌, ℕ, Bool, true, false, List, [], ◌∷◌, Option, Some, None, zero, suc, length, take, drop, flat_map, nat_eq, nat_le, eq-eqb, eqb-true, refl, sym, ap, subst, ◌∙◌, arith}
-use Rattle.std.specs.Prelude.{is_some, is_none, slice_get, IfSome, IfNone}
+use Rattle.std.proofs.Common.{◌≡◌, inl, inr, ◌≤◌, ◌<◌, ◌+◌, ◌-◌, ◌%◌, ◌++◌, ℕ, Bool, true, false, List, [], ◌∷◌, Option, Some, None, zero, suc, length, take, drop, flat_map, nat_eq, nat_le, eq-eqb, eqb-true, refl, sym, ap, subst, ◌∙◌, arith}
+use Rattle.std.specs.Prelude.{is_some, slice_get}
 use Rattle.std.specs.List.{AllByRecursion}
 use Rattle.std.proofs.lemmas.Bool.{cases_Bool, ne_eqb}
 use Rattle.std.proofs.lemmas.Bool.Decides.{nat_tests}
@@ -9,12 +9,10 @@ use Rattle.net_base.specs.declared.field.Field.TheVariants as field
 use Rattle.net_base.specs.Label.{IsLabel}
 use Rattle.net_base.specs.declared.mac.Mac.{Mac}
 use Rattle.pw_tlvs.specs.declared.fec_value.FecValue.TheVariants.{Pw}
-use Rattle.pw_tlvs.specs.declared.if_params.IfParams.{IfParams}
 use Rattle.pw_tlvs.specs.declared.point.Point.{Point}
 use Rattle.pw_tlvs.specs.declared.pw_fec.PwFec.{PwFec}
-use Rattle.pw_tlvs.specs.Fec.{no_params}
 use Rattle.pw_tlvs.specs.Macs.{mac_octets}
-use Rattle.pw_tlvs.specs.Written.{written_fec, written_point, IsWritable, IsFecInRange, IsPointInRange}
+use Rattle.pw_tlvs.specs.Written.{written_fec, written_point, writable_fec, IsFecInRange, IsPointInRange}
 use Rattle.pw_tlvs.proofs.LawLemmas.{fec_again, point_again}
 use Rattle.pw_tlvs.proofs.MacLemmas.{length_macs}
 use Rattle.ldp_grammar.specs.declared.message_kind.MessageKind.TheVariants.{LabelMapping}
@@ -25,7 +23,7 @@ use Rattle.ldp_grammar.specs.Layouts.{fits, most, listed}
 use Rattle.ldp_grammar.specs.Rows.{row_of, fec, label, switching_point}
 use Rattle.ldp_grammar.specs.Tlvs.{Tlv, IsTlv, spell_tlv, type_in, count_of, values_of, first_unknown, missing, needs_pw_id, IsFitting, IsFec, KeepsTo}
 use Rattle.ldp_grammar.specs.Values.{IsStatus, IsHello, IsSession, ArePoints}
-use Rattle.ldp_grammar.specs.Written.{bit_as, status_octets, hello_octets, session_octets, id_octets, addresses_octets, are_whole, AreParams, has_vlan, may_tell, tells_nothing, writable_fec, point_tlvs, tlv, ignorable}
+use Rattle.ldp_grammar.specs.Written.{bit_as, status_octets, hello_octets, session_octets, id_octets, addresses_octets, are_whole, AreParams, point_tlvs, tlv, ignorable}
 use Rattle.ldp_grammar.proofs.OctetLemmas.{read_two, read_four}
 use Rattle.ldp_grammar.proofs.TlvLemmas.{size_of, count-append}
 
@@ -194,48 +192,8 @@ all_fit (t ∷ ts) words few =
     ((words.0, omega (arith, few, size)), all_fit ts words.1 (omega (arith, few, size)))
 
 -- a FEC that can be written
-pub and_both : (a b : Bool) → (a && b) ≡ true → (a ≡ true) × (b ≡ true)
-and_both true b e = (refl, e)
-and_both false b e = absurd (cc)
-
-none_is : {A : Type 0} (o : Option A) → is_none o ≡ true → o ≡ None
-none_is None e = refl
-none_is (Some x) e = absurd (cc)
-
-empty_is : (xs : List ℕ) → nat_eq (length xs) 0 ≡ true → xs ≡ []
-empty_is [] e = refl
-empty_is (x ∷ xs) e = absurd (omega (arith, eqb-true _ _ e))
-
-untold : (params : IfParams) → tells_nothing params ≡ true → params ≡ no_params
-untold params e =
-    let front = and_both (is_none params.mtu && nat_eq (length params.description) 0) (is_none params.vlan && is_none params.vccv) e in
-    let left = and_both (is_none params.mtu) (nat_eq (length params.description) 0) front.0 in
-    let right = and_both (is_none params.vlan) (is_none params.vccv) front.1 in
-    let mtu = none_is params.mtu left.0 in
-    let description = empty_is params.description left.1 in
-    let vlan = none_is params.vlan right.0 in
-    let vccv = none_is params.vccv right.1 in
-    λ i. record { mtu = mtu i; description = description i; vlan = vlan i; vccv = vccv i }
-
-vlan_fits : (o : Option ℕ) → has_vlan o ≡ true → IfSome o (λ vlan. vlan ≤ 4095)
-vlan_fits None e = tt
-vlan_fits (Some vlan) e = grind (arith, nat_tests)
-
-params_fit : (o : Option ℕ) (params : IfParams) → may_tell o params ≡ true → IfNone o (params ≡ no_params)
-params_fit None params e = untold params e
-params_fit (Some pw_id) params e = tt
-
-kind_fits : (n : ℕ) → nat_le n 32767 ≡ true → n ≤ 32767
-kind_fits n e = grind (arith, nat_tests)
-
-pub fec_can : (pw : PwFec) → writable_fec pw ≡ true → IsWritable pw
-fec_can pw e =
-    let front = and_both (nat_le pw.kind 32767) (has_vlan pw.params.vlan && may_tell pw.pw_id pw.params) e in
-    let back = and_both (has_vlan pw.params.vlan) (may_tell pw.pw_id pw.params) front.1 in
-    record { kind = kind_fits pw.kind front.0; vlan = vlan_fits pw.params.vlan back.0; params = params_fit pw.pw_id pw.params back.1 }
-
 pub fec_told : (pw : PwFec) → writable_fec pw ≡ true → IsFecInRange pw → IsFec (written_fec pw)
-fec_told pw can within = record { told = Pw pw; is = fec_again pw (fec_can pw can) within }
+fec_told pw can within = record { told = Pw pw; is = fec_again pw can within }
 
 pub has_pw_id : (o : Option ℕ) → is_some o ≡ true → needs_pw_id LabelMapping o ≡ None
 has_pw_id None e = absurd (cc)

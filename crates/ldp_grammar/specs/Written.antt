@@ -1,18 +1,17 @@
 -- The one spelling that an edge writes: the TLVs in the order of the message's row, with F = 0, and with U = 0 but for PW
 -- Status, MAC List and Switching Point PE, which a receiver may ignore (RFC 5036 sections 3.1 to 3.5, RFC 8077 section
 -- 6.3.2, RFC 4762 section 6.2, RFC 6073 section 7.4). Bits that are ignored are written 0.
-use Rattle.std.specs.Prelude.{◌≡◌, ◌≤◌, ◌<◌, ◌+◌, ◌^◌, ◌%◌, ◌==◌, ◌&&◌, ◌++◌, not, nat_lt, nat_le, is_some, is_none, IfSome, ℕ, Bool, true, false, List, [], ◌∷◌, length, flat_map, Option, Some, None, if◌then◌else◌}
+use Rattle.std.specs.Prelude.{◌≡◌, ◌≤◌, ◌<◌, ◌+◌, ◌^◌, ◌%◌, ◌==◌, ◌&&◌, ◌++◌, not, nat_lt, is_some, IfSome, ℕ, Bool, true, false, List, [], ◌∷◌, length, flat_map, Option, Some, None, if◌then◌else◌}
 use Rattle.std.specs.List.{AllByRecursion}
 use Rattle.net_base.specs.Label.{IsLabel}
 use Rattle.net_base.specs.declared.addr.Addr.{Addr}
 use Rattle.net_base.specs.declared.mac.Mac.{Mac}
-use Rattle.pw_tlvs.specs.declared.if_params.IfParams.{IfParams}
 use Rattle.pw_tlvs.specs.declared.point.Point.{Point}
 use Rattle.pw_tlvs.specs.declared.pw_fec.PwFec.{PwFec}
 use Rattle.pw_tlvs.specs.declared.pw_status.PwStatus.{PwStatus}
 use Rattle.pw_tlvs.specs.Macs.{mac_octets}
 use Rattle.pw_tlvs.specs.Status.{written_status}
-use Rattle.pw_tlvs.specs.Written.{written_fec, written_point, IsFecInRange, IsPointInRange}
+use Rattle.pw_tlvs.specs.Written.{written_fec, written_point, writable_fec, IsFecInRange, IsPointInRange}
 use Rattle.ldp_grammar.specs.declared.address_list.AddressList.{AddressList}
 use Rattle.ldp_grammar.specs.declared.ldp_id.LdpId.{LdpId}
 use Rattle.ldp_grammar.specs.declared.message.Message.{Message}
@@ -144,22 +143,6 @@ written m id = header_octets (length (message_octets m)) id ++ message_octets m
 -- the octets of addresses of this family are whole addresses; those of other families are not looked at
 abbrev pub are_whole : ℕ → List ℕ → Bool
 are_whole family octets = not (family == 1 && not (length octets % 4 == 0))
-
--- no interface parameter is told
-abbrev pub tells_nothing : IfParams → Bool
-tells_nothing params = is_none params.mtu && (length params.description == 0) && (is_none params.vlan && is_none params.vccv)
-
-abbrev pub has_vlan : Option ℕ → Bool
-has_vlan None = true
-has_vlan (Some vlan) = nat_le vlan 4095
-
-abbrev pub may_tell : Option ℕ → IfParams → Bool
-may_tell None params = tells_nothing params
-may_tell (Some pw_id) params = true
-
--- a FEC with a PW type of 15 bits and a VLAN ID of 12 bits, and without parameters where there is no PW ID
-abbrev pub writable_fec : PwFec → Bool
-writable_fec pw = nat_le pw.kind 32767 && (has_vlan pw.params.vlan && may_tell pw.pw_id pw.params)
 
 abbrev pub writable_fecs : Option PwFec → Bool
 writable_fecs None = true

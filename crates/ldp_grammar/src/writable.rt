@@ -1,21 +1,15 @@
 //! Which messages can be written, and how long they are.
 ghost use Rattle.std.specs.Prelude.{◌≡◌, ◌≤◌, ◌<◌, ◌+◌, ◌*◌, ◌++◌, ◌∷◌, ℕ, true, length, flat_map};
 ghost use Rattle.ldp_grammar.specs.Tlvs.{spell_tlv};
-ghost use Rattle.ldp_grammar.specs.Written.{address_octets, are_whole, fec_tlvs, has_vlan, label_tlvs, list_length, mac_count, mac_tlvs, macs_length, may_tell, message_octets, point_tlvs, session_octets, status_tlvs, tells_nothing, transport_tlvs, withdrawn_tlvs, withdraws, writable, writable_fec, writable_fecs, written_tlvs};
+ghost use Rattle.ldp_grammar.specs.Written.{address_octets, are_whole, fec_tlvs, label_tlvs, list_length, mac_count, mac_tlvs, macs_length, message_octets, point_tlvs, session_octets, status_tlvs, transport_tlvs, withdrawn_tlvs, withdraws, writable, writable_fecs, written_tlvs};
 
 use crate::headers::{MESSAGE_HEADER, TLV_HEADER};
 use crate::{AddressList, Message, SessionParams};
 use net_base::{Addr, Label, List, Mac, Octets};
-use pw_tlvs::{IfParams, Points, PwFec, PwStatus, fec_size, macs_size, point_size};
+use pw_tlvs::{Points, PwFec, PwStatus, fec_size, is_writable_fec, macs_size, point_size};
 
 // Status data has 30 bits.
 const CODE_LIMIT: u32 = 0x4000_0000;
-
-// A PW type has 15 bits.
-const KIND_LIMIT: u16 = 0x8000;
-
-// A VLAN ID has 12 bits.
-const VLAN_LIMIT: u16 = 4096;
 
 // Whether the octets are whole addresses of their family.
 fn is_whole(family: u16, octets: &Octets) -> bool
@@ -24,41 +18,12 @@ fn is_whole(family: u16, octets: &Octets) -> bool
     !(family == 1 && octets.len() % 4 != 0)
 }
 
-// Whether no interface parameter is told.
-fn tells_none(params: &IfParams) -> bool
-    ensures { result ≡ tells_nothing params.now }
-{
-    let begin = params.mtu.is_none() && params.description.len() == 0;
-    begin && (params.vlan.is_none() && params.vccv.is_none())
-}
-
-// Whether a VLAN ID, where it is told, has 12 bits.
-fn is_vlan(vlan: Option<u16>) -> bool
-    ensures { result ≡ has_vlan vlan }
-{
-    match vlan {
-        Some(vlan) => vlan < VLAN_LIMIT,
-        None => true,
-    }
-}
-
-// Whether a FEC can be written.
-fn is_fec(fec: &PwFec) -> bool
-    ensures { result ≡ writable_fec fec.now }
-{
-    let params = match fec.pw_id {
-        Some(_) => true,
-        None => tells_none(&fec.params),
-    };
-    fec.kind < KIND_LIMIT && (is_vlan(fec.params.vlan) && params)
-}
-
 // Whether a FEC, where it is told, can be written.
 fn is_fec_told(fec: &Option<PwFec>) -> bool
     ensures { result ≡ writable_fecs fec.now }
 {
     match fec {
-        Some(fec) => is_fec(fec),
+        Some(fec) => is_writable_fec(fec),
         None => true,
     }
 }
@@ -93,9 +58,11 @@ pub fn is_writable(message: &Message) -> bool
             macs,
             ..
         } => is_withdrawal(addresses, fec, macs) && is_fec_told(fec),
-        Message::LabelMapping { fec, .. } => fec.pw_id.is_some() && is_fec(fec),
-        Message::LabelRequest { fec, .. } | Message::LabelAbort { fec, .. } => is_fec(fec),
-        Message::LabelWithdraw { fec, .. } | Message::LabelRelease { fec, .. } => is_fec(fec),
+        Message::LabelMapping { fec, .. } => fec.pw_id.is_some() && is_writable_fec(fec),
+        Message::LabelRequest { fec, .. }
+        | Message::LabelWithdraw { fec, .. }
+        | Message::LabelRelease { fec, .. }
+        | Message::LabelAbort { fec, .. } => is_writable_fec(fec),
         Message::Hello { .. } | Message::Initialization { .. } | Message::KeepAlive { .. } => true,
         Message::Other { .. } | Message::Unprocessed { .. } => false,
     }

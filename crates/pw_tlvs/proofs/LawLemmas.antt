@@ -15,8 +15,9 @@ use Rattle.pw_tlvs.specs.SubTlvs.{IsGood, row_of}
 use Rattle.pw_tlvs.specs.Fec.{AreParameters, IsFecValue, IsInformation, no_params, text_of, vccv_of}
 use Rattle.pw_tlvs.specs.Point.{IsPoint, address_of}
 use Rattle.pw_tlvs.specs.Status.{IsStatus, written_status}
-use Rattle.pw_tlvs.specs.Written.{told, description_value, pair_octets, parameter_sub_tlvs, written_parameters, information, control_and_kind, written_fec, IsWritable, IsFecInRange, part_sub_tlvs, written_point, IsPointInRange}
+use Rattle.pw_tlvs.specs.Written.{told, description_value, pair_octets, parameter_sub_tlvs, written_parameters, information, control_and_kind, written_fec, writable_fec, IsFecInRange, part_sub_tlvs, written_point, IsPointInRange}
 use Rattle.pw_tlvs.proofs.ToldLemmas.{values_told, values_both, said_told, said_past, good_none, good_told, number_two, number_four, numbers_two, numbers_four}
+use Rattle.pw_tlvs.proofs.WritableLemmas.{fec_can}
 
 good_number : (o : Option ℕ) → IfSome (option_map (λ (n : ℕ). big_bytes 4 n) o) (λ value. IsGood holder.Point (record { kind = 0x01; value = value }))
 good_number None = tt
@@ -137,8 +138,9 @@ information_again None params below none are = (refl, none)
 information_again (Some pw_id) params below none are = (omega arith, sym (number_four pw_id (written_parameters params) below), are)
 
 -- a written FEC is that FEC
-pub fec_again : (fec : PwFec) → IsWritable fec → IsFecInRange fec → IsFecValue (written_fec fec) (Pw fec)
-fec_again fec writable within =
+pub fec_again : (fec : PwFec) → writable_fec fec ≡ true → IsFecInRange fec → IsFecValue (written_fec fec) (Pw fec)
+fec_again fec can within =
+    let writable = fec_can fec can in
     let inner = information fec.pw_id fec.params in
     let behind = length inner ∷ (big_bytes 4 fec.group ++ inner) in
     record {

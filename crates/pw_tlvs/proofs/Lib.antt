@@ -11,5 +11,6 @@ pub mod ReadLemmas
 pub mod StatusLemmas
 pub mod SubTlvLemmas
 pub mod ToldLemmas
+pub mod WritableLemmas
 pub mod WrittenLemmas
 pub mod WrongLemmas

@@ -1,5 +1,5 @@
 -- The one spelling of a value that an edge writes.
-use Rattle.std.specs.Prelude.{◌≡◌, ◌<◌, ◌≤◌, ◌+◌, ◌^◌, ◌++◌, ℕ, Bool, true, false, List, [], ◌∷◌, length, Option, Some, None, option_map, IfSome, IfNone}
+use Rattle.std.specs.Prelude.{◌≡◌, ◌<◌, ◌≤◌, ◌+◌, ◌^◌, ◌++◌, ◌==◌, ◌&&◌, nat_le, is_none, ℕ, Bool, true, false, List, [], ◌∷◌, length, Option, Some, None, option_map, IfSome}
 use Rattle.std.specs.List.{flat_map}
 use Rattle.byteorder.specs.Endian.{big_bytes}
 use Rattle.pw_tlvs.specs.declared.holder.Holder.TheVariants as holder
@@ -7,7 +7,6 @@ use Rattle.pw_tlvs.specs.declared.if_params.IfParams.{IfParams}
 use Rattle.pw_tlvs.specs.declared.point.Point.{Point}
 use Rattle.pw_tlvs.specs.declared.pw_fec.PwFec.{PwFec}
 use Rattle.pw_tlvs.specs.SubTlvs.{SubTlv, spell}
-use Rattle.pw_tlvs.specs.Fec.{no_params}
 
 -- the sub-TLV of a type, where there is something to tell
 abbrev pub told : ℕ → Option (List ℕ) → List SubTlv
@@ -47,11 +46,23 @@ written_fec fec =
     0x80 ∷ (big_bytes 2 (control_and_kind fec.c fec.kind) ++ (length (information fec.pw_id fec.params)
     ∷ (big_bytes 4 fec.group ++ information fec.pw_id fec.params)))
 
--- what can be written
-pub record IsWritable (fec : PwFec) : Type 0 where
-  pub kind : fec.kind ≤ 0x7FFF
-  pub vlan : IfSome fec.params.vlan (λ vlan. vlan ≤ 4095)
-  pub params : IfNone fec.pw_id (fec.params ≡ no_params)
+-- no interface parameter is told
+abbrev pub tells_nothing : IfParams → Bool
+tells_nothing params = is_none params.mtu && (length params.description == 0) && (is_none params.vlan && is_none params.vccv)
+
+-- a VLAN ID has 12 bits (IEEE 802.1Q clause 9.6)
+abbrev pub has_vlan : Option ℕ → Bool
+has_vlan None = true
+has_vlan (Some vlan) = nat_le vlan 4095
+
+-- parameters stand behind a PW ID alone
+abbrev pub may_tell : Option ℕ → IfParams → Bool
+may_tell None params = tells_nothing params
+may_tell (Some pw_id) params = true
+
+-- a FEC with a PW type of 15 bits and a VLAN ID of 12 bits, and without parameters where there is no PW ID
+abbrev pub writable_fec : PwFec → Bool
+writable_fec fec = nat_le fec.kind 0x7FFF && (has_vlan fec.params.vlan && may_tell fec.pw_id fec.params)
 
 -- the parts that are told by rising type
 abbrev pub part_sub_tlvs : Point → List SubTlv

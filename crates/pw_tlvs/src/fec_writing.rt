@@ -1,10 +1,10 @@
 //! Writing the value of a FEC TLV.
-ghost use Rattle.std.specs.Prelude.{◌≡◌, ◌≤◌, ◌+◌, ◌++◌, ◌∷◌, ℕ, length, take, drop, Option, option_map};
+ghost use Rattle.std.specs.Prelude.{◌≡◌, ◌≤◌, ◌+◌, ◌++◌, ◌∷◌, ℕ, true, length, take, drop, Option, option_map};
 ghost use Rattle.std.specs.List.{flat_map};
 ghost use Rattle.byteorder.specs.Endian.{big_bytes};
 ghost use Rattle.pw_tlvs.specs.declared.holder.Holder.TheVariants as held;
 ghost use Rattle.pw_tlvs.specs.SubTlvs.{spell};
-ghost use Rattle.pw_tlvs.specs.Written.{IsWritable, written_fec, written_parameters, information, control_and_kind, told, description_value, pair_octets};
+ghost use Rattle.pw_tlvs.specs.Written.{writable_fec, written_fec, written_parameters, information, control_and_kind, told, description_value, pair_octets};
 
 use crate::fec_reading::PWID;
 use crate::octets::put;
@@ -119,10 +119,10 @@ fn put_information(out: &mut [u8], at: usize, fec: &PwFec) -> usize
 /// Writes the PWid FEC element to the front of `out`, which has room for it, and answers the number of octets
 /// (RFC 8077 section 6.1). Where there is a PW ID, the parameters that are told follow it by rising type; an
 /// empty description is not told. The PW type is at most 0x7FFF, a VLAN ID at most 4095, and an element without
-/// a PW ID has no parameters.
-#[tactic(auto, using(crate::proofs::WrittenLemmas::added_at))]
+/// a PW ID has no parameters, as `is_writable_fec` says.
+#[tactic(auto, using(crate::proofs::WritableLemmas::fec_can, crate::proofs::WrittenLemmas::added_at))]
 pub fn write_fec(fec: &PwFec, out: &mut [u8]) -> usize
-    requires writable { IsWritable fec.now }
+    requires writable { writable_fec fec.now ≡ true }
     requires room { length (written_fec fec.now) ≤ length out.old }
     ensures count { result ≡ length (written_fec fec.now) }
     ensures octets { out.new ≡ written_fec fec.now ++ drop result out.old }

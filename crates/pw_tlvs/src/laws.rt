@@ -1,5 +1,5 @@
 //! Laws of the layouts.
-ghost use Rattle.std.specs.Prelude.{◌≡◌, ◌<◌, ◌^◌, ℕ, List, length, take};
+ghost use Rattle.std.specs.Prelude.{◌≡◌, ◌<◌, ◌^◌, ℕ, List, true, length, take};
 ghost use Rattle.std.specs.List.{AllByRecursion};
 ghost use Rattle.net_base.specs.declared.mac.Mac.{Mac};
 ghost use Rattle.pw_tlvs.specs.declared.fec_value.FecValue.{FecValue};
@@ -13,12 +13,12 @@ ghost use Rattle.pw_tlvs.specs.Fec.{IsFecValue, IsFecFault, IsFollowed};
 ghost use Rattle.pw_tlvs.specs.Macs.{AreMacs, IsMacsFault, mac_octets};
 ghost use Rattle.pw_tlvs.specs.Point.{IsPoint, IsPointFault};
 ghost use Rattle.pw_tlvs.specs.Status.{IsStatus, IsStatusFault, written_status};
-ghost use Rattle.pw_tlvs.specs.Written.{IsFecInRange, IsPointInRange, IsWritable, written_fec, written_point};
+ghost use Rattle.pw_tlvs.specs.Written.{IsFecInRange, IsPointInRange, writable_fec, written_fec, written_point};
 
 /// What is written is a value, and the one that was written; so the read call answers it. It holds of all
 /// numbers that the types hold.
 pub fn written_is_read()
-    ensures fec { (fec : PwFec) → IsWritable fec → IsFecInRange fec → IsFecValue (written_fec fec) (Pw fec) }
+    ensures fec { (fec : PwFec) → writable_fec fec ≡ true → IsFecInRange fec → IsFecValue (written_fec fec) (Pw fec) }
     ensures status { (status : PwStatus) → status.0 < 2 ^ 32 → IsStatus (written_status status) status }
     ensures macs { (list : List Mac) → AllByRecursion (λ mac. length mac.0 ≡ 6) list → AreMacs (mac_octets list) list }
     ensures point { (point : Point) → IsPointInRange point → IsPoint (written_point point) point }

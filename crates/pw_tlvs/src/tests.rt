@@ -1,9 +1,9 @@
 //! Values with octets that were worked out by hand.
 
 use crate::{
-    FecValue, FieldFault, IfParams, MacsFault, Point, Points, PwFec, PwStatus, fec_size, macs_size,
-    point_size, read_fec, read_macs, read_point, read_status, write_fec, write_macs, write_point,
-    write_status,
+    FecValue, FieldFault, IfParams, MacsFault, Point, Points, PwFec, PwStatus, fec_size,
+    is_writable_fec, macs_size, point_size, read_fec, read_macs, read_point, read_status,
+    write_fec, write_macs, write_point, write_status,
 };
 use net_base::{Addr, Field, List, Mac, Text};
 
@@ -184,10 +184,41 @@ fn writes_and_reads_a_pseudowire(rt: HostRuntime) {
         params,
     };
     let mut out = [0u8; 28];
+    assert!(rt; is_writable_fec(&full));
     assert_eq!(rt; fec_size(&full), 28);
     assert_eq!(rt; write_fec(&full, &mut out), 28);
     assert!(rt; out == FULL);
     assert!(rt; read_fec(&FULL) == Ok(FecValue::Pw(full)));
+}
+
+#[test]
+fn writes_no_other_elements(rt: HostRuntime) {
+    let description = Text::read(&[]).expect(&rt, "short");
+    let none = IfParams {
+        mtu: None,
+        description,
+        vlan: None,
+        vccv: None,
+    };
+    let mtu = IfParams {
+        mtu: Some(1500),
+        ..none
+    };
+    // A PW type of 16 bits, a VLAN ID of 13 bits, and a parameter without a PW ID.
+    assert!(rt; is_writable_fec(&fec(true, 0x7fff, 7, None, none)));
+    assert!(rt; !is_writable_fec(&fec(true, 0x8000, 7, None, none)));
+    for (vlan, writable) in [(4095, true), (4096, false)] {
+        let params = IfParams {
+            vlan: Some(vlan),
+            ..none
+        };
+        assert_eq!(rt;
+            is_writable_fec(&fec(true, 5, 7, Some(100), params)),
+            writable
+        );
+    }
+    assert!(rt; is_writable_fec(&fec(true, 5, 7, Some(100), mtu)));
+    assert!(rt; !is_writable_fec(&fec(true, 5, 7, None, mtu)));
 }
 
 #[test]
