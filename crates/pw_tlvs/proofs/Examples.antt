@@ -3,7 +3,7 @@ use Rattle.std.proofs.Common.{◌≡◌, ℕ, true, List, [], ◌∷◌, Some, N
 use Rattle.net_base.specs.declared.field.Field.TheVariants as field
 use Rattle.pw_tlvs.specs.declared.field_fault.FieldFault.TheVariants.{Value, Repeated}
 use Rattle.pw_tlvs.specs.declared.fec_value.FecValue.TheVariants.{Pw, Foreign}
-use Rattle.pw_tlvs.specs.declared.holder.Holder.TheVariants as holder
+use Rattle.pw_tlvs.specs.declared.registry.Registry.TheVariants.{InterfaceParameter}
 use Rattle.pw_tlvs.specs.declared.if_params.IfParams.{IfParams}
 use Rattle.pw_tlvs.specs.declared.point.Point.{Point}
 use Rattle.pw_tlvs.specs.declared.pw_fec.PwFec.{PwFec}
@@ -33,8 +33,8 @@ begun count more = record { element = refl; header = omega arith }
 written : written_fec the_fec ≡ fec_octets 8 []
 written = refl
 
-good_mtu : AreGood holder.Fec (an_mtu ∷ [])
-good_mtu = good_more holder.Fec [] an_mtu (good_none holder.Fec) (record { fit = refl; allowed = refl }) (λ known. refl)
+good_mtu : AreGood InterfaceParameter (an_mtu ∷ [])
+good_mtu = good_more InterfaceParameter [] an_mtu (good_none InterfaceParameter) (record { fit = refl; allowed = refl }) (λ known. refl)
 
 read : IsFecValue (fec_octets 8 []) (Pw the_fec)
 read = record {
@@ -59,7 +59,7 @@ unknown_ignored = record {
     refl,
     record {
       subs = an_mtu ∷ record { kind = 0x7F; value = [] } ∷ [];
-      are = record { joined = refl; good = good_more holder.Fec (an_mtu ∷ []) (record { kind = 0x7F; value = [] }) good_mtu (record { fit = tt; allowed = refl }) (λ known. refl) };
+      are = record { joined = refl; good = good_more InterfaceParameter (an_mtu ∷ []) (record { kind = 0x7F; value = [] }) good_mtu (record { fit = tt; allowed = refl }) (λ known. refl) };
       mtu = refl;
       description = refl;
       vlan = refl;

@@ -6,7 +6,7 @@ use Rattle.byteorder.specs.Endian.{big_number}
 use Rattle.pw_tlvs.specs.declared.field_fault.FieldFault.{FieldFault}
 use Rattle.pw_tlvs.specs.declared.fec_value.FecValue.{FecValue}
 use Rattle.pw_tlvs.specs.declared.fec_value.FecValue.TheVariants.{Pw, Foreign}
-use Rattle.pw_tlvs.specs.declared.holder.Holder.TheVariants as holder
+use Rattle.pw_tlvs.specs.declared.registry.Registry.TheVariants.{InterfaceParameter}
 use Rattle.pw_tlvs.specs.declared.if_params.IfParams.{IfParams}
 use Rattle.pw_tlvs.specs.declared.pw_fec.PwFec.{PwFec}
 use Rattle.pw_tlvs.specs.Faults.{place_of, IsInside, Precedes, IsFirst}
@@ -17,7 +17,7 @@ use Rattle.pw_tlvs.proofs.WrongLemmas.{named_within}
 use Rattle.std.proofs.lemmas.Bool.{cases_lt}
 
 pub parameter_first : (octets : List ℕ) (f : FieldFault) → IsPwid octets → (IsTooShort (information_length octets) → ⊥) → 1 ≤ information_length octets → length octets ≡ 8 + information_length octets
-    → IsFirst (IsNamed holder.Fec 12 (drop 12 octets)) f → IsFirst (IsFecFault octets) f
+    → IsFirst (IsNamed InterfaceParameter 12 (drop 12 octets)) f → IsFirst (IsFecFault octets) f
 parameter_first octets f begun long some whole inner = record { named = parameter begun long some whole inner.named; first = first }
   where
     first : (g : FieldFault) → IsFecFault octets g → Precedes f g
@@ -30,7 +30,7 @@ parameter_first octets f begun long some whole inner = record { named = paramete
 -- the parameters of some octets are one
 one_params : (octets : List ℕ) (a b : IfParams) → AreParameters octets a → AreParameters octets b → a ≡ b
 one_params octets a b one other =
-    let same = one_joining holder.Fec octets one.subs other.subs one.are other.are in
+    let same = one_joining InterfaceParameter octets one.subs other.subs one.are other.are in
     let mtu = one.mtu ∙ (ap (λ (l : List SubTlv). option_map (λ (value : List ℕ). big_number 2 value) (said 0x01 l)) same ∙ sym other.mtu) in
     let description = one.description ∙ (ap (λ (l : List SubTlv). text_of (said 0x03 l)) same ∙ sym other.description) in
     let vlan = one.vlan ∙ (ap (λ (l : List SubTlv). option_map (λ (value : List ℕ). big_number 2 value) (said 0x06 l)) same ∙ sym other.vlan) in
@@ -77,7 +77,7 @@ pw_no_fault octets a f is (parameter begun long some whole named) = by a.pw_id i
   where
     by : (n : Option ℕ) → IsInformation (drop 8 octets) n a.params → ⊥
     by None inf = let len = ap length inf.0 in let d = length-drop 8 octets in omega arith
-    by (Some n) inf = never_both holder.Fec 12 (drop 4 (drop 8 octets)) inf.2.subs f inf.2.are (subst (λ (l : List ℕ). IsNamed holder.Fec 12 l f) (sym (drop-drop 4 8 octets)) named)
+    by (Some n) inf = never_both InterfaceParameter 12 (drop 4 (drop 8 octets)) inf.2.subs f inf.2.are (subst (λ (l : List ℕ). IsNamed InterfaceParameter 12 l f) (sym (drop-drop 4 8 octets)) named)
 
 -- octets that are a value have no fault
 pub never_fec : (octets : List ℕ) (a : FecValue) (f : FieldFault) → IsFecValue octets a → IsFecFault octets f → ⊥
@@ -117,7 +117,7 @@ fec_inside octets f (short some first few e) = inl e
 fec_inside octets f (too_short begun few e) = inr (let p = ap place_of e in let h = begun.header in omega arith)
 fec_inside octets f (past_end begun far e) = inr (let p = ap place_of e in let h = begun.header in omega arith)
 fec_inside octets f (parameter begun long some whole named) =
-    let close = named_within holder.Fec 12 (drop 12 octets) f named in
+    let close = named_within InterfaceParameter 12 (drop 12 octets) f named in
     let rest = length-drop 12 octets in
     elim (cases_lt (information_length octets) 4) [
       | inl few ↦ absurd (long (some, omega arith))

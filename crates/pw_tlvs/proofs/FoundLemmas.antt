@@ -3,7 +3,7 @@ use Rattle.std.proofs.Common.{◌≡◌, ◌≤◌, ◌++◌, ◌==◌, ℕ, Boo
 use Rattle.std.specs.Prelude.{slice_get, option_map, is_some, Option}
 use Rattle.std.proofs.lemmas.List.{append-nil}
 use Rattle.std.proofs.lemmas.Bool.{eq-eqb}
-use Rattle.pw_tlvs.specs.declared.holder.Holder.{Holder}
+use Rattle.pw_tlvs.specs.declared.registry.Registry.{Registry}
 use Rattle.pw_tlvs.specs.SubTlvs.{SubTlv, values, said, Stood}
 use Rattle.pw_tlvs.proofs.SubTlvLemmas.{values-append}
 
@@ -42,6 +42,6 @@ is_some_map f None = refl
 is_some_map f (Some x) = refl
 
 -- whether a type says something is whether one stood before
-pub stood_by : (h : Holder) (k kind : ℕ) (subs : List SubTlv) (b : Bool) → kind ≡ k → b ≡ is_some (said k subs) → Stood h subs kind b
-stood_by h k kind subs true is e = subst (λ (n : ℕ). 1 ≤ length (values n subs)) (sym is) (said_some k subs (sym e))
-stood_by h k kind subs false is e = λ known. subst (λ (n : ℕ). values n subs ≡ []) (sym is) (said_none k subs (sym e))
+pub stood_by : (registry : Registry) (k kind : ℕ) (subs : List SubTlv) (b : Bool) → kind ≡ k → b ≡ is_some (said k subs) → Stood registry subs kind b
+stood_by registry k kind subs true is e = subst (λ (n : ℕ). 1 ≤ length (values n subs)) (sym is) (said_some k subs (sym e))
+stood_by registry k kind subs false is e = λ known. subst (λ (n : ℕ). values n subs ≡ []) (sym is) (said_none k subs (sym e))

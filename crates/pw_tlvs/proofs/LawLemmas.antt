@@ -6,7 +6,7 @@ use Rattle.byteorder.specs.Endian.{big_number, big_bytes}
 use Rattle.net_base.specs.declared.addr.Addr.{Addr}
 use Rattle.net_base.specs.declared.field.Field.TheVariants as field
 use Rattle.pw_tlvs.specs.declared.fec_value.FecValue.TheVariants.{Pw}
-use Rattle.pw_tlvs.specs.declared.holder.Holder.TheVariants as holder
+use Rattle.pw_tlvs.specs.declared.registry.Registry.TheVariants.{InterfaceParameter, SwitchingPointPart}
 use Rattle.pw_tlvs.specs.declared.if_params.IfParams.{IfParams}
 use Rattle.pw_tlvs.specs.declared.point.Point.{Point}
 use Rattle.pw_tlvs.specs.declared.pw_fec.PwFec.{PwFec}
@@ -19,12 +19,12 @@ use Rattle.pw_tlvs.specs.Written.{told, description_value, pair_octets, paramete
 use Rattle.pw_tlvs.proofs.ToldLemmas.{values_told, values_both, said_told, said_past, good_none, good_told, number_two, number_four, numbers_two, numbers_four}
 use Rattle.pw_tlvs.proofs.WritableLemmas.{fec_can}
 
-good_number : (o : Option ℕ) → IfSome (option_map (λ (n : ℕ). big_bytes 4 n) o) (λ value. IsGood holder.Point (record { kind = 0x01; value = value }))
+good_number : (o : Option ℕ) → IfSome (option_map (λ (n : ℕ). big_bytes 4 n) o) (λ value. IsGood SwitchingPointPart (record { kind = 0x01; value = value }))
 good_number None = tt
 good_number (Some n) = record { fit = refl; allowed = refl }
 
-good_address : (kind : ℕ) (o : Option Addr) → row_of holder.Point kind ≡ Some (record { field = field.Point; least = 4; most = 4 }) → IfSome o (λ address. length address.0 ≡ 4)
-    → IfSome (option_map (λ (a : Addr). a.0) o) (λ value. IsGood holder.Point (record { kind = kind; value = value }))
+good_address : (kind : ℕ) (o : Option Addr) → row_of SwitchingPointPart kind ≡ Some (record { field = field.Point; least = 4; most = 4 }) → IfSome o (λ address. length address.0 ≡ 4)
+    → IfSome (option_map (λ (a : Addr). a.0) o) (λ value. IsGood SwitchingPointPart (record { kind = kind; value = value }))
 good_address kind None known four = tt
 good_address kind (Some address) known four = record { fit = rw known (rw four refl); allowed = refl }
 
@@ -38,11 +38,11 @@ point_again point within =
     let a = told 0x01 (option_map (λ (n : ℕ). big_bytes 4 n) point.pw_id) in
     let b = told 0x03 (option_map (λ (x : Addr). x.0) point.local) in
     let d = told 0x04 (option_map (λ (x : Addr). x.0) point.remote) in
-    let one = good_told holder.Point [] 0x01 (option_map (λ (n : ℕ). big_bytes 4 n) point.pw_id) (good_none holder.Point) refl (good_number point.pw_id) in
+    let one = good_told SwitchingPointPart [] 0x01 (option_map (λ (n : ℕ). big_bytes 4 n) point.pw_id) (good_none SwitchingPointPart) refl (good_number point.pw_id) in
     let none3 = values_told 0x03 0x01 (option_map (λ (n : ℕ). big_bytes 4 n) point.pw_id) refl in
-    let two = good_told holder.Point a 0x03 (option_map (λ (x : Addr). x.0) point.local) one none3 (good_address 0x03 point.local refl within.local) in
+    let two = good_told SwitchingPointPart a 0x03 (option_map (λ (x : Addr). x.0) point.local) one none3 (good_address 0x03 point.local refl within.local) in
     let none4 = values_both 0x04 a b (values_told 0x04 0x01 (option_map (λ (n : ℕ). big_bytes 4 n) point.pw_id) refl) (values_told 0x04 0x03 (option_map (λ (x : Addr). x.0) point.local) refl) in
-    let three = good_told holder.Point (a ++ b) 0x04 (option_map (λ (x : Addr). x.0) point.remote) two none4 (good_address 0x04 point.remote refl within.remote) in
+    let three = good_told SwitchingPointPart (a ++ b) 0x04 (option_map (λ (x : Addr). x.0) point.remote) two none4 (good_address 0x04 point.remote refl within.remote) in
     let says1 = said_past 0x01 0x04 (a ++ b) (option_map (λ (x : Addr). x.0) point.remote) refl ∙ (said_past 0x01 0x03 a (option_map (λ (x : Addr). x.0) point.local) refl ∙ said_told 0x01 [] (option_map (λ (n : ℕ). big_bytes 4 n) point.pw_id) refl) in
     let says3 = said_past 0x03 0x04 (a ++ b) (option_map (λ (x : Addr). x.0) point.remote) refl ∙ said_told 0x03 a (option_map (λ (x : Addr). x.0) point.local) none3 in
     let says4 = said_told 0x04 (a ++ b) (option_map (λ (x : Addr). x.0) point.remote) none4 in
@@ -54,15 +54,15 @@ point_again point within =
       remote = same_address point.remote ∙ ap (λ (o : Option (List ℕ)). option_map address_of o) (sym says4);
     }
 
-good_mtu : (o : Option ℕ) → IfSome (option_map (λ (n : ℕ). big_bytes 2 n) o) (λ value. IsGood holder.Fec (record { kind = 0x01; value = value }))
+good_mtu : (o : Option ℕ) → IfSome (option_map (λ (n : ℕ). big_bytes 2 n) o) (λ value. IsGood InterfaceParameter (record { kind = 0x01; value = value }))
 good_mtu None = tt
 good_mtu (Some n) = record { fit = refl; allowed = refl }
 
-good_description : (text : List ℕ) → length text ≤ 80 → IfSome (description_value text) (λ value. IsGood holder.Fec (record { kind = 0x03; value = value }))
+good_description : (text : List ℕ) → length text ≤ 80 → IfSome (description_value text) (λ value. IsGood InterfaceParameter (record { kind = 0x03; value = value }))
 good_description [] few = tt
 good_description (x ∷ xs) few = record { fit = grind (arith, nat_tests, few); allowed = refl }
 
-good_vlan : (o : Option ℕ) → IfSome o (λ n. n ≤ 4095) → IfSome (option_map (λ (n : ℕ). big_bytes 2 n) o) (λ value. IsGood holder.Fec (record { kind = 0x06; value = value }))
+good_vlan : (o : Option ℕ) → IfSome o (λ n. n ≤ 4095) → IfSome (option_map (λ (n : ℕ). big_bytes 2 n) o) (λ value. IsGood InterfaceParameter (record { kind = 0x06; value = value }))
 good_vlan None below = tt
 good_vlan (Some n) below = record {
   fit = refl;
@@ -72,7 +72,7 @@ good_vlan (Some n) below = record {
       subst (λ (k : ℕ). nat_le k 4095 ≡ true) (sym same) within;
 }
 
-good_vccv : (o : Option (ℕ × ℕ)) → IfSome (option_map pair_octets o) (λ value. IsGood holder.Fec (record { kind = 0x0C; value = value }))
+good_vccv : (o : Option (ℕ × ℕ)) → IfSome (option_map pair_octets o) (λ value. IsGood InterfaceParameter (record { kind = 0x0C; value = value }))
 good_vccv None = tt
 good_vccv (Some pair) = record { fit = refl; allowed = refl }
 
@@ -95,13 +95,13 @@ parameters_again params mtu description vlan =
     let o3 = description_value params.description in
     let o6 = option_map (λ (n : ℕ). big_bytes 2 n) params.vlan in
     let o12 = option_map pair_octets params.vccv in
-    let g1 = good_told holder.Fec [] 0x01 o1 (good_none holder.Fec) refl (good_mtu params.mtu) in
+    let g1 = good_told InterfaceParameter [] 0x01 o1 (good_none InterfaceParameter) refl (good_mtu params.mtu) in
     let n3 = values_told 0x03 0x01 o1 refl in
-    let g3 = good_told holder.Fec (told 0x01 o1) 0x03 o3 g1 n3 (good_description params.description description) in
+    let g3 = good_told InterfaceParameter (told 0x01 o1) 0x03 o3 g1 n3 (good_description params.description description) in
     let n6 = values_both 0x06 (told 0x01 o1) (told 0x03 o3) (values_told 0x06 0x01 o1 refl) (values_told 0x06 0x03 o3 refl) in
-    let g6 = good_told holder.Fec (told 0x01 o1 ++ told 0x03 o3) 0x06 o6 g3 n6 (good_vlan params.vlan vlan) in
+    let g6 = good_told InterfaceParameter (told 0x01 o1 ++ told 0x03 o3) 0x06 o6 g3 n6 (good_vlan params.vlan vlan) in
     let n12 = values_both 0x0C (told 0x01 o1 ++ told 0x03 o3) (told 0x06 o6) (values_both 0x0C (told 0x01 o1) (told 0x03 o3) (values_told 0x0C 0x01 o1 refl) (values_told 0x0C 0x03 o3 refl)) (values_told 0x0C 0x06 o6 refl) in
-    let g12 = good_told holder.Fec ((told 0x01 o1 ++ told 0x03 o3) ++ told 0x06 o6) 0x0C o12 g6 n12 (good_vccv params.vccv) in
+    let g12 = good_told InterfaceParameter ((told 0x01 o1 ++ told 0x03 o3) ++ told 0x06 o6) 0x0C o12 g6 n12 (good_vccv params.vccv) in
     let says1 = said_past 0x01 0x0C ((told 0x01 o1 ++ told 0x03 o3) ++ told 0x06 o6) o12 refl ∙ (said_past 0x01 0x06 (told 0x01 o1 ++ told 0x03 o3) o6 refl ∙ (said_past 0x01 0x03 (told 0x01 o1) o3 refl ∙ said_told 0x01 [] o1 refl)) in
     let says3 = said_past 0x03 0x0C ((told 0x01 o1 ++ told 0x03 o3) ++ told 0x06 o6) o12 refl ∙ (said_past 0x03 0x06 (told 0x01 o1 ++ told 0x03 o3) o6 refl ∙ said_told 0x03 (told 0x01 o1) o3 n3) in
     let says6 = said_past 0x06 0x0C ((told 0x01 o1 ++ told 0x03 o3) ++ told 0x06 o6) o12 refl ∙ said_told 0x06 (told 0x01 o1 ++ told 0x03 o3) o6 n6 in

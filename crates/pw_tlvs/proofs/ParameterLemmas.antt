@@ -4,28 +4,28 @@ use Rattle.std.specs.Prelude.{option_map}
 use Rattle.std.specs.List.{flat_map}
 use Rattle.std.proofs.lemmas.Grind.{flat_map-append}
 use Rattle.byteorder.specs.Endian.{big_bytes}
-use Rattle.pw_tlvs.specs.declared.holder.Holder.TheVariants as holder
+use Rattle.pw_tlvs.specs.declared.registry.Registry.TheVariants.{InterfaceParameter}
 use Rattle.pw_tlvs.specs.declared.if_params.IfParams.{IfParams}
 use Rattle.pw_tlvs.specs.SubTlvs.{SubTlv, spell}
 use Rattle.pw_tlvs.specs.Written.{told, description_value, pair_octets, written_parameters}
 
 abbrev pub mtu_octets : IfParams → List ℕ
-mtu_octets params = flat_map (spell holder.Fec) (told 0x01 (option_map (λ mtu. big_bytes 2 mtu) params.mtu))
+mtu_octets params = flat_map (spell InterfaceParameter) (told 0x01 (option_map (λ mtu. big_bytes 2 mtu) params.mtu))
 
 abbrev pub description_octets : IfParams → List ℕ
-description_octets params = flat_map (spell holder.Fec) (told 0x03 (description_value params.description))
+description_octets params = flat_map (spell InterfaceParameter) (told 0x03 (description_value params.description))
 
 abbrev pub vlan_octets : IfParams → List ℕ
-vlan_octets params = flat_map (spell holder.Fec) (told 0x06 (option_map (λ vlan. big_bytes 2 vlan) params.vlan))
+vlan_octets params = flat_map (spell InterfaceParameter) (told 0x06 (option_map (λ vlan. big_bytes 2 vlan) params.vlan))
 
 abbrev pub vccv_octets : IfParams → List ℕ
-vccv_octets params = flat_map (spell holder.Fec) (told 0x0C (option_map pair_octets params.vccv))
+vccv_octets params = flat_map (spell InterfaceParameter) (told 0x0C (option_map pair_octets params.vccv))
 
-joined_four : (a b c d : List SubTlv) → flat_map (spell holder.Fec) (((a ++ b) ++ c) ++ d) ≡ ((flat_map (spell holder.Fec) a ++ flat_map (spell holder.Fec) b) ++ flat_map (spell holder.Fec) c) ++ flat_map (spell holder.Fec) d
+joined_four : (a b c d : List SubTlv) → flat_map (spell InterfaceParameter) (((a ++ b) ++ c) ++ d) ≡ ((flat_map (spell InterfaceParameter) a ++ flat_map (spell InterfaceParameter) b) ++ flat_map (spell InterfaceParameter) c) ++ flat_map (spell InterfaceParameter) d
 joined_four a b c d =
-    flat_map-append (spell holder.Fec) ((a ++ b) ++ c) d
-    ∙ (ap (λ (l : List ℕ). l ++ flat_map (spell holder.Fec) d) (flat_map-append (spell holder.Fec) (a ++ b) c)
-    ∙ ap (λ (l : List ℕ). (l ++ flat_map (spell holder.Fec) c) ++ flat_map (spell holder.Fec) d) (flat_map-append (spell holder.Fec) a b))
+    flat_map-append (spell InterfaceParameter) ((a ++ b) ++ c) d
+    ∙ (ap (λ (l : List ℕ). l ++ flat_map (spell InterfaceParameter) d) (flat_map-append (spell InterfaceParameter) (a ++ b) c)
+    ∙ ap (λ (l : List ℕ). (l ++ flat_map (spell InterfaceParameter) c) ++ flat_map (spell InterfaceParameter) d) (flat_map-append (spell InterfaceParameter) a b))
 
 pub parameter_parts : (params : IfParams) → written_parameters params ≡ ((mtu_octets params ++ description_octets params) ++ vlan_octets params) ++ vccv_octets params
 parameter_parts params =

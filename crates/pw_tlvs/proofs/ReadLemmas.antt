@@ -6,8 +6,8 @@ use Rattle.std.proofs.lemmas.Grind.{flat_map-append}
 use Rattle.std.proofs.lemmas.List.{append-nil, take-append-drop, length-take-le, take_at}
 use Rattle.std.proofs.Math.Seq.{take-add}
 use Rattle.pw_tlvs.specs.declared.field_fault.FieldFault.{FieldFault}
-use Rattle.pw_tlvs.specs.declared.holder.Holder.{Holder}
-use Rattle.pw_tlvs.specs.declared.holder.Holder.TheVariants as holder
+use Rattle.pw_tlvs.specs.declared.registry.Registry.{Registry}
+use Rattle.pw_tlvs.specs.declared.registry.Registry.TheVariants.{InterfaceParameter, SwitchingPointPart}
 use Rattle.pw_tlvs.specs.declared.found_params.FoundParams.{FoundParams}
 use Rattle.pw_tlvs.specs.declared.point.Point.{Point}
 use Rattle.pw_tlvs.specs.Found.{FoundSays, PointSays}
@@ -17,49 +17,49 @@ use Rattle.pw_tlvs.proofs.SubTlvLemmas.{first_named}
 use Rattle.pw_tlvs.proofs.WrongLemmas.{stood_no}
 
 -- good sub-TLVs stand before the place
-pub record AreReadUpTo (h : Holder) (octets : List ℕ) (at : ℕ) (subs : List SubTlv) : Type 0 where
+pub record AreReadUpTo (registry : Registry) (octets : List ℕ) (at : ℕ) (subs : List SubTlv) : Type 0 where
   pub within : at ≤ length octets
-  pub front : take at octets ≡ flat_map (spell h) subs
-  pub good : AreGood h subs
+  pub front : take at octets ≡ flat_map (spell registry) subs
+  pub good : AreGood registry subs
 
-split_at : (h : Holder) (octets : List ℕ) (at : ℕ) (subs : List SubTlv) → AreReadUpTo h octets at subs → octets ≡ flat_map (spell h) subs ++ drop at octets
-split_at h octets at subs upto = sym (take-append-drop at octets) ∙ ap (λ (l : List ℕ). l ++ drop at octets) upto.front
+split_at : (registry : Registry) (octets : List ℕ) (at : ℕ) (subs : List SubTlv) → AreReadUpTo registry octets at subs → octets ≡ flat_map (spell registry) subs ++ drop at octets
+split_at registry octets at subs upto = sym (take-append-drop at octets) ∙ ap (λ (l : List ℕ). l ++ drop at octets) upto.front
 
-length_of : (h : Holder) (octets : List ℕ) (at : ℕ) (subs : List SubTlv) → AreReadUpTo h octets at subs → length (flat_map (spell h) subs) ≡ at
-length_of h octets at subs upto = sym (ap length upto.front) ∙ length-take-le at octets upto.within
+length_of : (registry : Registry) (octets : List ℕ) (at : ℕ) (subs : List SubTlv) → AreReadUpTo registry octets at subs → length (flat_map (spell registry) subs) ≡ at
+length_of registry octets at subs upto = sym (ap length upto.front) ∙ length-take-le at octets upto.within
 
 -- what is first wrong at the place is the first fault of all
-pub read_fault : (h : Holder) (begin : ℕ) (octets : List ℕ) (at place : ℕ) (subs : List SubTlv) (f : FieldFault) → AreReadUpTo h octets at subs → place ≡ begin + at
-    → IsFirstWrong h subs (drop at octets) place f → IsFirst (IsNamed h begin octets) f
-read_fault h begin octets at place subs f upto is wrong =
-    let there : place ≡ begin + length (flat_map (spell h) subs) = omega (arith, length_of h octets at subs upto, is) in
-    first_named h begin octets subs (drop at octets) f (split_at h octets at subs upto) upto.good (subst (λ (n : ℕ). IsFirstWrong h subs (drop at octets) n f) there wrong)
+pub read_fault : (registry : Registry) (begin : ℕ) (octets : List ℕ) (at place : ℕ) (subs : List SubTlv) (f : FieldFault) → AreReadUpTo registry octets at subs → place ≡ begin + at
+    → IsFirstWrong registry subs (drop at octets) place f → IsFirst (IsNamed registry begin octets) f
+read_fault registry begin octets at place subs f upto is wrong =
+    let there : place ≡ begin + length (flat_map (spell registry) subs) = omega (arith, length_of registry octets at subs upto, is) in
+    first_named registry begin octets subs (drop at octets) f (split_at registry octets at subs upto) upto.good (subst (λ (n : ℕ). IsFirstWrong registry subs (drop at octets) n f) there wrong)
 
 -- one more stands before a later place
-pub read_more : (h : Holder) (octets : List ℕ) (at size : ℕ) (subs : List SubTlv) (s : SubTlv) (more : List ℕ) → AreReadUpTo h octets at subs → drop at octets ≡ spell h s ++ more
-    → size ≡ 2 + length s.value → AreGood h (subs ++ s ∷ []) → AreReadUpTo h octets (at + size) (subs ++ s ∷ [])
-read_more h octets at size subs s more upto next is good = record {
+pub read_more : (registry : Registry) (octets : List ℕ) (at size : ℕ) (subs : List SubTlv) (s : SubTlv) (more : List ℕ) → AreReadUpTo registry octets at subs → drop at octets ≡ spell registry s ++ more
+    → size ≡ 2 + length s.value → AreGood registry (subs ++ s ∷ []) → AreReadUpTo registry octets (at + size) (subs ++ s ∷ [])
+read_more registry octets at size subs s more upto next is good = record {
   within = omega (arith, length-drop at octets, ap length next, length-append s.value more, is, upto.within);
   front =
-      let here : take size (drop at octets) ≡ spell h s = ap (take size) next ∙ take_at (spell h s) more size (omega (arith, is)) in
-      take-add at size octets ∙ ((λ i. upto.front i ++ here i) ∙ (ap (λ (l : List ℕ). flat_map (spell h) subs ++ l) (sym (append-nil (spell h s))) ∙ sym (flat_map-append (spell h) subs (s ∷ []))));
+      let here : take size (drop at octets) ≡ spell registry s = ap (take size) next ∙ take_at (spell registry s) more size (omega (arith, is)) in
+      take-add at size octets ∙ ((λ i. upto.front i ++ here i) ∙ (ap (λ (l : List ℕ). flat_map (spell registry) subs ++ l) (sym (append-nil (spell registry s))) ∙ sym (flat_map-append (spell registry) subs (s ∷ []))));
   good = good;
 }
 
 -- parameters were read up to a place, and this is what they say
 pub record AreFoundUpTo (octets : List ℕ) (at : ℕ) (found : FoundParams) : Type 0 where
   pub subs : List SubTlv
-  pub upto : AreReadUpTo holder.Fec octets at subs
+  pub upto : AreReadUpTo InterfaceParameter octets at subs
   pub says : FoundSays found subs
 
 -- parts of a point were read up to a place, and this is what they say
 pub record IsPointUpTo (octets : List ℕ) (at : ℕ) (point : Point) : Type 0 where
   pub subs : List SubTlv
-  pub upto : AreReadUpTo holder.Point octets at subs
+  pub upto : AreReadUpTo SwitchingPointPart octets at subs
   pub says : PointSays point subs
 
 -- of a known type none stood before
-pub fresh_of : (h : Holder) (before : List SubTlv) (kind octet : ℕ) (stood : Bool) → kind ≡ octet → Stood h before octet stood
-    → (IsSome (row_of h kind) → stood ≡ false) → IsSome (row_of h kind) → values kind before ≡ []
-fresh_of h before kind octet stood is fact no_other known =
-    stood_no h before kind stood (no_other known) (subst (λ (k : ℕ). Stood h before k stood) (sym is) fact) known
+pub fresh_of : (registry : Registry) (before : List SubTlv) (kind octet : ℕ) (stood : Bool) → kind ≡ octet → Stood registry before octet stood
+    → (IsSome (row_of registry kind) → stood ≡ false) → IsSome (row_of registry kind) → values kind before ≡ []
+fresh_of registry before kind octet stood is fact no_other known =
+    stood_no registry before kind stood (no_other known) (subst (λ (k : ℕ). Stood registry before k stood) (sym is) fact) known

@@ -3,7 +3,7 @@ use Rattle.std.proofs.Common.{◌≡◌, ◌<◌, ◌++◌, ◌==◌, ◌^◌, �
 use Rattle.std.specs.Prelude.{IfSome, Option, slice_get, option_map}
 use Rattle.std.proofs.lemmas.List.{append-nil}
 use Rattle.byteorder.specs.Endian.{big_number, big_bytes}
-use Rattle.pw_tlvs.specs.declared.holder.Holder.{Holder}
+use Rattle.pw_tlvs.specs.declared.registry.Registry.{Registry}
 use Rattle.pw_tlvs.specs.SubTlvs.{SubTlv, IsGood, values, said, AreGood}
 use Rattle.pw_tlvs.specs.Written.{told}
 use Rattle.pw_tlvs.proofs.SubTlvLemmas.{values-append, good_more}
@@ -25,12 +25,12 @@ pub said_past : (k kind : ℕ) (subs : List SubTlv) (o : Option (List ℕ)) → 
 said_past k kind subs None other = ap (λ (l : List SubTlv). said k l) (append-nil subs)
 said_past k kind subs (Some value) other = said_other k kind subs value other
 
-pub good_none : (h : Holder) → AreGood h []
-good_none h = record { good = tt; once = λ kind known. omega arith }
+pub good_none : (registry : Registry) → AreGood registry []
+good_none registry = record { good = tt; once = λ kind known. omega arith }
 
-pub good_told : (h : Holder) (subs : List SubTlv) (kind : ℕ) (o : Option (List ℕ)) → AreGood h subs → values kind subs ≡ [] → IfSome o (λ value. IsGood h (record { kind = kind; value = value })) → AreGood h (subs ++ told kind o)
-good_told h subs kind None good none one = subst (AreGood h) (sym (append-nil subs)) good
-good_told h subs kind (Some value) good none one = good_more h subs (record { kind = kind; value = value }) good one (λ known. none)
+pub good_told : (registry : Registry) (subs : List SubTlv) (kind : ℕ) (o : Option (List ℕ)) → AreGood registry subs → values kind subs ≡ [] → IfSome o (λ value. IsGood registry (record { kind = kind; value = value })) → AreGood registry (subs ++ told kind o)
+good_told registry subs kind None good none one = subst (AreGood registry) (sym (append-nil subs)) good
+good_told registry subs kind (Some value) good none one = good_more registry subs (record { kind = kind; value = value }) good one (λ known. none)
 
 -- a number comes back from its octets, whatever follows
 pub number_two : (n : ℕ) (more : List ℕ) → n < 2 ^ 16 → big_number 2 (big_bytes 2 n ++ more) ≡ n

@@ -6,7 +6,7 @@ use Rattle.pw_tlvs.specs.declared.field_fault.FieldFault.{FieldFault}
 use Rattle.pw_tlvs.specs.declared.field_fault.FieldFault.TheVariants.{Size, Value}
 use Rattle.pw_tlvs.specs.declared.fec_value.FecValue.{FecValue}
 use Rattle.pw_tlvs.specs.declared.fec_value.FecValue.TheVariants.{Pw, Foreign}
-use Rattle.pw_tlvs.specs.declared.holder.Holder.TheVariants as holder
+use Rattle.pw_tlvs.specs.declared.registry.Registry.TheVariants.{InterfaceParameter}
 use Rattle.pw_tlvs.specs.declared.if_params.IfParams.{IfParams}
 use Rattle.pw_tlvs.specs.declared.pw_fec.PwFec.{PwFec}
 use Rattle.pw_tlvs.specs.SubTlvs.{SubTlv, AreSubTlvs, IsNamed, said}
@@ -27,7 +27,7 @@ vccv_of value = (slice_index value 0, slice_index value 1)
 -- the octets are interface parameters, and these are what the known ones say
 pub record AreParameters (octets : List ℕ) (params : IfParams) : Type 0 where
   pub subs : List SubTlv
-  pub are : AreSubTlvs holder.Fec octets subs
+  pub are : AreSubTlvs InterfaceParameter octets subs
   pub mtu : params.mtu ≡ option_map (λ value. big_number 2 value) (said 0x01 subs)
   pub description : params.description ≡ text_of (said 0x03 subs)
   pub vlan : params.vlan ≡ option_map (λ value. big_number 2 value) (said 0x06 subs)
@@ -86,4 +86,4 @@ pub data IsFecFault (octets : List ℕ) (fault : FieldFault) : Type 0 where
   too_short : IsPwid octets → IsTooShort (information_length octets) → fault ≡ Value 3 field.InfoLength → IsFecFault octets fault
   past_end : IsPwid octets → length octets < 8 + information_length octets → fault ≡ Value 3 field.InfoLength → IsFecFault octets fault
   parameter : IsPwid octets → (IsTooShort (information_length octets) → ⊥) → 1 ≤ information_length octets
-      → length octets ≡ 8 + information_length octets → IsNamed holder.Fec 12 (drop 12 octets) fault → IsFecFault octets fault
+      → length octets ≡ 8 + information_length octets → IsNamed InterfaceParameter 12 (drop 12 octets) fault → IsFecFault octets fault

@@ -2,7 +2,7 @@
 use Rattle.std.specs.Prelude.{◌≡◌, ◌<◌, ◌≤◌, ◌+◌, ◌^◌, ◌++◌, ◌==◌, ◌&&◌, nat_le, is_none, ℕ, Bool, true, false, List, [], ◌∷◌, length, Option, Some, None, option_map, IfSome}
 use Rattle.std.specs.List.{flat_map}
 use Rattle.byteorder.specs.Endian.{big_bytes}
-use Rattle.pw_tlvs.specs.declared.holder.Holder.TheVariants as holder
+use Rattle.pw_tlvs.specs.declared.registry.Registry.TheVariants.{InterfaceParameter, SwitchingPointPart}
 use Rattle.pw_tlvs.specs.declared.if_params.IfParams.{IfParams}
 use Rattle.pw_tlvs.specs.declared.point.Point.{Point}
 use Rattle.pw_tlvs.specs.declared.pw_fec.PwFec.{PwFec}
@@ -28,7 +28,7 @@ parameter_sub_tlvs params =
     ++ told 0x06 (option_map (λ vlan. big_bytes 2 vlan) params.vlan)) ++ told 0x0C (option_map pair_octets params.vccv)
 
 abbrev pub written_parameters : IfParams → List ℕ
-written_parameters params = flat_map (spell holder.Fec) (parameter_sub_tlvs params)
+written_parameters params = flat_map (spell InterfaceParameter) (parameter_sub_tlvs params)
 
 -- what the information length counts
 abbrev pub information : Option ℕ → IfParams → List ℕ
@@ -72,7 +72,7 @@ part_sub_tlvs point =
 
 -- a Switching Point PE TLV's value (RFC 6073 section 7.4)
 abbrev pub written_point : Point → List ℕ
-written_point point = flat_map (spell holder.Point) (part_sub_tlvs point)
+written_point point = flat_map (spell SwitchingPointPart) (part_sub_tlvs point)
 
 -- the numbers of a FEC are those that its type holds
 pub record IsFecInRange (fec : PwFec) : Type 0 where

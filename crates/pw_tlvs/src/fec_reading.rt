@@ -1,6 +1,6 @@
 //! Reading the value of a FEC TLV.
 ghost use Rattle.std.specs.Prelude.{◌≡◌, ◌≤◌, ◌<◌, ◌+◌, ◌⊎◌, ◌↔◌, length, drop, slice_index, Ok, Err, IfOk, IfErr};
-ghost use Rattle.pw_tlvs.specs.declared.holder.Holder.TheVariants as held;
+ghost use Rattle.pw_tlvs.specs.declared.registry.Registry.TheVariants.{InterfaceParameter};
 ghost use Rattle.pw_tlvs.specs.declared.fec_value.FecValue.{FecValue};
 ghost use Rattle.pw_tlvs.specs.declared.field_fault.FieldFault.{FieldFault};
 ghost use Rattle.pw_tlvs.specs.Faults.{IsFirst, IsInside};
@@ -33,7 +33,7 @@ fn information_of(information: &[u8]) -> Result<(Option<u32>, IfParams), FieldFa
     requires size { (length information.now ≡ 0) ⊎ (4 ≤ length information.now) }
     requires within { length information.now ≤ 255 }
     ensures ok { IfOk result (λ told. IsInformation information.now told.0 told.1) }
-    ensures fault { IfErr result (IsFirst (IsNamed held.Fec 12 (drop 4 information.now))) }
+    ensures fault { IfErr result (IsFirst (IsNamed InterfaceParameter 12 (drop 4 information.now))) }
     ensures some { IfErr result (λ _. 4 ≤ length information.now) }
 {
     if information.is_empty() {

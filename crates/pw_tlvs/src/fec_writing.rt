@@ -2,7 +2,7 @@
 ghost use Rattle.std.specs.Prelude.{◌≡◌, ◌≤◌, ◌+◌, ◌++◌, ◌∷◌, ℕ, true, length, take, drop, Option, option_map};
 ghost use Rattle.std.specs.List.{flat_map};
 ghost use Rattle.byteorder.specs.Endian.{big_bytes};
-ghost use Rattle.pw_tlvs.specs.declared.holder.Holder.TheVariants as held;
+ghost use Rattle.pw_tlvs.specs.declared.registry.Registry.TheVariants.{InterfaceParameter};
 ghost use Rattle.pw_tlvs.specs.SubTlvs.{spell};
 ghost use Rattle.pw_tlvs.specs.Written.{writable_fec, written_fec, written_parameters, information, control_and_kind, told, description_value, pair_octets};
 
@@ -14,7 +14,7 @@ use net_base::Text;
 
 // The octets of the parameter of a number, where it is told.
 fn pair_size(number: Option<u16>) -> usize
-    ensures size { (kind : ℕ) → result ≡ length (flat_map (spell held.Fec) (told kind (option_map (λ n. big_bytes 2 n) number))) }
+    ensures size { (kind : ℕ) → result ≡ length (flat_map (spell InterfaceParameter) (told kind (option_map (λ n. big_bytes 2 n) number))) }
     ensures within { result ≤ 4 }
 {
     match number {
@@ -25,7 +25,7 @@ fn pair_size(number: Option<u16>) -> usize
 
 // The octets of the parameter of a description, where it is not empty.
 fn description_size(text: &Text<80>) -> usize
-    ensures size { (kind : ℕ) → result ≡ length (flat_map (spell held.Fec) (told kind (description_value text.now))) }
+    ensures size { (kind : ℕ) → result ≡ length (flat_map (spell InterfaceParameter) (told kind (description_value text.now))) }
     ensures within { result ≤ 82 }
 {
     match text.len() {
@@ -36,7 +36,7 @@ fn description_size(text: &Text<80>) -> usize
 
 // The octets of the parameter of what VCCV can do, where it is told.
 fn vccv_size(types: Option<(u8, u8)>) -> usize
-    ensures size { (kind : ℕ) → result ≡ length (flat_map (spell held.Fec) (told kind (option_map pair_octets types))) }
+    ensures size { (kind : ℕ) → result ≡ length (flat_map (spell InterfaceParameter) (told kind (option_map pair_octets types))) }
     ensures within { result ≤ 4 }
 {
     match types {

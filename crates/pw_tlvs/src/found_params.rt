@@ -1,6 +1,6 @@
 //! What interface parameters say, as far as they were read.
 ghost use Rattle.std.specs.Prelude.{◌≡◌, ◌++◌, ◌∷◌, [], List, None, IsSome};
-ghost use Rattle.pw_tlvs.specs.declared.holder.Holder.TheVariants as held;
+ghost use Rattle.pw_tlvs.specs.declared.registry.Registry.TheVariants.{InterfaceParameter};
 ghost use Rattle.pw_tlvs.specs.SubTlvs.{SubTlv, IsGood, Stood, row_of, values};
 ghost use Rattle.pw_tlvs.specs.Fec.{text_of};
 ghost use Rattle.pw_tlvs.specs.Found.{FoundSays};
@@ -33,7 +33,7 @@ impl FoundParams {
 
     /// Whether a parameter of the known type was told.
     pub fn has(&self, kind: u8) -> bool
-        ensures { (subs : List SubTlv) → FoundSays self.now subs → Stood held.Fec subs kind result }
+        ensures { (subs : List SubTlv) → FoundSays self.now subs → Stood InterfaceParameter subs kind result }
     {
         match kind {
             0x01 => self.mtu.is_some(),
@@ -46,8 +46,8 @@ impl FoundParams {
 
     /// The same with one more parameter, of which none of a known type was told.
     pub fn with(self, kind: u8, value: &[u8]) -> FoundParams
-        requires { IsGood held.Fec (record { kind = kind; value = value.now }) }
-        ensures { (subs : List SubTlv) → FoundSays self subs → (IsSome (row_of held.Fec kind) → values kind subs ≡ []) → FoundSays result (subs ++ record { kind = kind; value = value.now } ∷ []) }
+        requires { IsGood InterfaceParameter (record { kind = kind; value = value.now }) }
+        ensures { (subs : List SubTlv) → FoundSays self subs → (IsSome (row_of InterfaceParameter kind) → values kind subs ≡ []) → FoundSays result (subs ++ record { kind = kind; value = value.now } ∷ []) }
     {
         match kind {
             0x01 => FoundParams {

@@ -1,12 +1,12 @@
 //! Reading interface parameters.
 ghost use Rattle.std.specs.Prelude.{◌≤◌, length, IfOk, IfErr};
-ghost use Rattle.pw_tlvs.specs.declared.holder.Holder.TheVariants as held;
+ghost use Rattle.pw_tlvs.specs.declared.registry.Registry.TheVariants.{InterfaceParameter};
 ghost use Rattle.pw_tlvs.specs.Faults.{IsFirst};
 ghost use Rattle.pw_tlvs.specs.SubTlvs.{IsNamed};
 ghost use Rattle.pw_tlvs.specs.Fec.{AreParameters};
 
 use crate::found_params::FoundParams;
-use crate::holder::Holder;
+use crate::registry::Registry;
 use crate::sub_tlv::first_sub_tlv;
 use crate::{FieldFault, IfParams};
 
@@ -15,14 +15,19 @@ use crate::{FieldFault, IfParams};
 pub fn read_parameters(octets: &[u8]) -> Result<IfParams, FieldFault>
     requires { length octets.now ≤ 65523 }
     ensures ok { IfOk result (AreParameters octets.now) }
-    ensures fault { IfErr result (IsFirst (IsNamed held.Fec 12 octets.now)) }
+    ensures fault { IfErr result (IsFirst (IsNamed InterfaceParameter 12 octets.now)) }
 {
     let mut found = FoundParams::none();
     let mut at = 0;
     'reading: while at < octets.len() {
         let (_, rest) = octets.split_at(at);
         let again = found.has(rest[0]);
-        let (kind, value) = first_sub_tlv(Holder::Fec, 12 + at as u16, again, rest)?;
+        let (kind, value) = first_sub_tlv(
+            Registry::InterfaceParameter,
+            12 + at as u16,
+            again,
+            rest,
+        )?;
         found = found.with(kind, value);
         at += 2 + value.len();
     }

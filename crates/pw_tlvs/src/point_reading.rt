@@ -1,6 +1,6 @@
 //! Reading switching points.
 ghost use Rattle.std.specs.Prelude.{◌≡◌, ◌≤◌, ◌++◌, ◌∷◌, ◌↔◌, [], List, length, Ok, Err, IfOk, IfErr, IsSome};
-ghost use Rattle.pw_tlvs.specs.declared.holder.Holder.TheVariants as held;
+ghost use Rattle.pw_tlvs.specs.declared.registry.Registry.TheVariants.{SwitchingPointPart};
 ghost use Rattle.pw_tlvs.specs.declared.point.Point.{Point};
 ghost use Rattle.pw_tlvs.specs.declared.field_fault.FieldFault.{FieldFault};
 ghost use Rattle.pw_tlvs.specs.Faults.{IsFirst, IsInside};
@@ -8,7 +8,7 @@ ghost use Rattle.pw_tlvs.specs.SubTlvs.{SubTlv, IsGood, Stood, row_of, values};
 ghost use Rattle.pw_tlvs.specs.Point.{IsPoint, IsPointFault, address_of};
 ghost use Rattle.pw_tlvs.specs.Found.{PointSays};
 
-use crate::holder::Holder;
+use crate::registry::Registry;
 use crate::sub_tlv::first_sub_tlv;
 use crate::{FieldFault, Point};
 use byteorder::{BigEndian, ByteOrder};
@@ -25,7 +25,7 @@ fn address(value: &[u8]) -> Addr
 
 // Whether a part of the known type was told.
 fn has(point: &Point, kind: u8) -> bool
-    ensures { (subs : List SubTlv) → PointSays point.now subs → Stood held.Point subs kind result }
+    ensures { (subs : List SubTlv) → PointSays point.now subs → Stood SwitchingPointPart subs kind result }
 {
     match kind {
         0x01 => point.pw_id.is_some(),
@@ -37,8 +37,8 @@ fn has(point: &Point, kind: u8) -> bool
 
 // The same point with one more part, of which none of a known type was told.
 fn with(point: Point, kind: u8, value: &[u8]) -> Point
-    requires { IsGood held.Point (record { kind = kind; value = value.now }) }
-    ensures { (subs : List SubTlv) → PointSays point subs → (IsSome (row_of held.Point kind) → values kind subs ≡ []) → PointSays result (subs ++ record { kind = kind; value = value.now } ∷ []) }
+    requires { IsGood SwitchingPointPart (record { kind = kind; value = value.now }) }
+    ensures { (subs : List SubTlv) → PointSays point subs → (IsSome (row_of SwitchingPointPart kind) → values kind subs ≡ []) → PointSays result (subs ++ record { kind = kind; value = value.now } ∷ []) }
 {
     match kind {
         0x01 => Point {
@@ -72,7 +72,7 @@ fn point_of(value: &[u8]) -> Result<Point, FieldFault>
     'reading: while at < value.len() {
         let (_, rest) = value.split_at(at);
         let again = has(&point, rest[0]);
-        let (kind, octets) = first_sub_tlv(Holder::Point, at as u16, again, rest)?;
+        let (kind, octets) = first_sub_tlv(Registry::SwitchingPointPart, at as u16, again, rest)?;
         point = with(point, kind, octets);
         at += 2 + octets.len();
     }

@@ -2,7 +2,7 @@
 ghost use Rattle.std.specs.Prelude.{◌≡◌, ◌≤◌, ◌++◌, length, drop, option_map, ℕ};
 ghost use Rattle.std.specs.List.{flat_map};
 ghost use Rattle.byteorder.specs.Endian.{big_bytes};
-ghost use Rattle.pw_tlvs.specs.declared.holder.Holder.TheVariants as held;
+ghost use Rattle.pw_tlvs.specs.declared.registry.Registry.TheVariants.{SwitchingPointPart};
 ghost use Rattle.pw_tlvs.specs.SubTlvs.{spell};
 ghost use Rattle.pw_tlvs.specs.Written.{written_point, told};
 
@@ -12,7 +12,7 @@ use net_base::Addr;
 
 // The octets of the part of a number, where it is told.
 fn number_size(number: Option<u32>) -> usize
-    ensures size { (kind : ℕ) → result ≡ length (flat_map (spell held.Point) (told kind (option_map (λ n. big_bytes 4 n) number))) }
+    ensures size { (kind : ℕ) → result ≡ length (flat_map (spell SwitchingPointPart) (told kind (option_map (λ n. big_bytes 4 n) number))) }
     ensures within { result ≤ 6 }
 {
     match number {
@@ -23,7 +23,7 @@ fn number_size(number: Option<u32>) -> usize
 
 // The octets of the part of an address, where it is told.
 fn address_size(address: Option<Addr>) -> usize
-    ensures size { (kind : ℕ) → result ≡ length (flat_map (spell held.Point) (told kind (option_map (λ a. a.0) address))) }
+    ensures size { (kind : ℕ) → result ≡ length (flat_map (spell SwitchingPointPart) (told kind (option_map (λ a. a.0) address))) }
     ensures within { result ≤ 6 }
 {
     match address {

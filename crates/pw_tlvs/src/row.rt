@@ -2,7 +2,7 @@
 ghost use Rattle.std.specs.Prelude.{◌≡◌};
 ghost use Rattle.pw_tlvs.specs.SubTlvs.{fits as row_fits, parameter_row, part_row, row_of as the_row};
 
-use crate::holder::Holder;
+use crate::registry::Registry;
 use net_base::Field;
 
 /// What a sub-TLV of a known type has to be: the field that its faults name, and the least and the most that
@@ -52,11 +52,11 @@ fn row_of_part(kind: u8) -> Option<Row>
 }
 
 /// The row of a known type.
-pub fn row_of(holder: Holder, kind: u8) -> Option<Row>
-    ensures { result ≡ the_row holder kind }
+pub fn row_of(registry: Registry, kind: u8) -> Option<Row>
+    ensures { result ≡ the_row registry kind }
 {
-    match holder {
-        Holder::Fec => row_of_parameter(kind),
-        Holder::Point => row_of_part(kind),
+    match registry {
+        Registry::InterfaceParameter => row_of_parameter(kind),
+        Registry::SwitchingPointPart => row_of_part(kind),
     }
 }

@@ -1,7 +1,7 @@
 -- A fault is the first, and one more parameter is found.
 use Rattle.std.proofs.Common.{◌+◌, ◌++◌, ◌∷◌, ◌∙◌, ℕ, List, [], length, drop, slice_index, sym, refl, subst}
 use Rattle.std.proofs.lemmas.Result.{err_from_is_err_and}
-use Rattle.pw_tlvs.specs.declared.holder.Holder.TheVariants as held
+use Rattle.pw_tlvs.specs.declared.registry.Registry.TheVariants.{InterfaceParameter}
 use Rattle.pw_tlvs.specs.SubTlvs.{SubTlv, IsFirstWrong, row_of, values}
 use Rattle.std.specs.Prelude.{◌≡◌, IsSome}
 use Rattle.pw_tlvs.proofs.SubTlvLemmas.{good_more}
@@ -14,17 +14,17 @@ returns-in_err-kind-clause-fault c =
     let upto = c.reading.invariant.upto in
     let subs = c.reading.invariant.subs in
     let wrong = c.in_err-kind.ensures.fault subs (c.has-again.ensures subs c.reading.invariant.says) in
-    rw (p.1, p.2) (read_fault held.Fec 12 c.args.octets.now c.reading.at (12 + c.reading.at) subs c.in_err-kind.field-0.0 upto refl (subst (λ (l : List ℕ). IsFirstWrong held.Fec subs l (12 + c.reading.at) c.in_err-kind.field-0.0) c.split_at.ensures.back wrong))
+    rw (p.1, p.2) (read_fault InterfaceParameter 12 c.args.octets.now c.reading.at (12 + c.reading.at) subs c.in_err-kind.field-0.0 upto refl (subst (λ (l : List ℕ). IsFirstWrong InterfaceParameter subs l (12 + c.reading.at) c.in_err-kind.field-0.0) c.split_at.ensures.back wrong))
 
 pub reading-preserved : goal.reading-preserved
 reading-preserved c =
     let upto = c.reading.invariant.upto in
     let subs = c.reading.invariant.subs in
     let s : SubTlv = record { kind = c.in_ok-kind.kind; value = c.in_ok-kind.value.now } in
-    let fresh : IsSome (row_of held.Fec c.in_ok-kind.kind) → values c.in_ok-kind.kind subs ≡ [] =
-    fresh_of held.Fec subs c.in_ok-kind.kind (slice_index c.split_at.result.1.now 0) c.has-again.result c.in_ok-kind.ensures.kind (c.has-again.ensures subs c.reading.invariant.says) c.in_ok-kind.ensures.fresh in
+    let fresh : IsSome (row_of InterfaceParameter c.in_ok-kind.kind) → values c.in_ok-kind.kind subs ≡ [] =
+    fresh_of InterfaceParameter subs c.in_ok-kind.kind (slice_index c.split_at.result.1.now 0) c.has-again.result c.in_ok-kind.ensures.kind (c.has-again.ensures subs c.reading.invariant.says) c.in_ok-kind.ensures.fresh in
     record {
       subs = subs ++ s ∷ [];
-      upto = read_more held.Fec c.args.octets.now c.reading.at (2 + length c.in_ok-kind.value.now) subs s (drop (2 + length c.in_ok-kind.value.now) c.split_at.result.1.now) upto (sym c.split_at.ensures.back ∙ c.in_ok-kind.ensures.spelled) refl (good_more held.Fec subs s upto.good c.in_ok-kind.ensures.good fresh);
+      upto = read_more InterfaceParameter c.args.octets.now c.reading.at (2 + length c.in_ok-kind.value.now) subs s (drop (2 + length c.in_ok-kind.value.now) c.split_at.result.1.now) upto (sym c.split_at.ensures.back ∙ c.in_ok-kind.ensures.spelled) refl (good_more InterfaceParameter subs s upto.good c.in_ok-kind.ensures.good fresh);
       says = c.with-found.ensures subs c.reading.invariant.says fresh;
     }

@@ -1,7 +1,7 @@
 -- A fault is the first, and one more part is read.
 use Rattle.std.proofs.Common.{◌+◌, ◌++◌, ◌∷◌, ◌∙◌, ℕ, List, [], length, drop, slice_index, sym, refl, subst, arith}
 use Rattle.std.proofs.lemmas.Result.{err_from_is_err_and}
-use Rattle.pw_tlvs.specs.declared.holder.Holder.TheVariants as held
+use Rattle.pw_tlvs.specs.declared.registry.Registry.TheVariants.{SwitchingPointPart}
 use Rattle.pw_tlvs.specs.SubTlvs.{SubTlv, IsFirstWrong, row_of, values}
 use Rattle.std.specs.Prelude.{◌≡◌, IsSome}
 use Rattle.pw_tlvs.proofs.SubTlvLemmas.{good_more}
@@ -14,17 +14,17 @@ returns-in_err-kind-clause-fault c =
     let upto = c.reading.invariant.upto in
     let subs = c.reading.invariant.subs in
     let wrong = c.in_err-kind.ensures.fault subs (c.has-again.ensures subs c.reading.invariant.says) in
-    rw (p.1, p.2) (read_fault held.Point 0 c.args.value.now c.reading.at c.reading.at subs c.in_err-kind.field-0.0 upto (omega arith) (subst (λ (l : List ℕ). IsFirstWrong held.Point subs l c.reading.at c.in_err-kind.field-0.0) c.split_at.ensures.back wrong))
+    rw (p.1, p.2) (read_fault SwitchingPointPart 0 c.args.value.now c.reading.at c.reading.at subs c.in_err-kind.field-0.0 upto (omega arith) (subst (λ (l : List ℕ). IsFirstWrong SwitchingPointPart subs l c.reading.at c.in_err-kind.field-0.0) c.split_at.ensures.back wrong))
 
 pub reading-preserved : goal.reading-preserved
 reading-preserved c =
     let upto = c.reading.invariant.upto in
     let subs = c.reading.invariant.subs in
     let s : SubTlv = record { kind = c.in_ok-kind.kind; value = c.in_ok-kind.octets.now } in
-    let fresh : IsSome (row_of held.Point c.in_ok-kind.kind) → values c.in_ok-kind.kind subs ≡ [] =
-    fresh_of held.Point subs c.in_ok-kind.kind (slice_index c.split_at.result.1.now 0) c.has-again.result c.in_ok-kind.ensures.kind (c.has-again.ensures subs c.reading.invariant.says) c.in_ok-kind.ensures.fresh in
+    let fresh : IsSome (row_of SwitchingPointPart c.in_ok-kind.kind) → values c.in_ok-kind.kind subs ≡ [] =
+    fresh_of SwitchingPointPart subs c.in_ok-kind.kind (slice_index c.split_at.result.1.now 0) c.has-again.result c.in_ok-kind.ensures.kind (c.has-again.ensures subs c.reading.invariant.says) c.in_ok-kind.ensures.fresh in
     record {
       subs = subs ++ s ∷ [];
-      upto = read_more held.Point c.args.value.now c.reading.at (2 + length c.in_ok-kind.octets.now) subs s (drop (2 + length c.in_ok-kind.octets.now) c.split_at.result.1.now) upto (sym c.split_at.ensures.back ∙ c.in_ok-kind.ensures.spelled) refl (good_more held.Point subs s upto.good c.in_ok-kind.ensures.good fresh);
+      upto = read_more SwitchingPointPart c.args.value.now c.reading.at (2 + length c.in_ok-kind.octets.now) subs s (drop (2 + length c.in_ok-kind.octets.now) c.split_at.result.1.now) upto (sym c.split_at.ensures.back ∙ c.in_ok-kind.ensures.spelled) refl (good_more SwitchingPointPart subs s upto.good c.in_ok-kind.ensures.good fresh);
       says = c.with-point.ensures subs c.reading.invariant.says fresh;
     }
