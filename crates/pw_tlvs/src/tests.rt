@@ -1,5 +1,6 @@
 //! Values with octets that were worked out by hand.
 
+use crate::found_params::no_text;
 use crate::{
     FecValue, FieldFault, IfParams, MacsFault, Point, Points, PwFec, PwStatus, fec_size,
     is_writable_fec, macs_size, point_size, read_fec, read_macs, read_point, read_status,
@@ -101,6 +102,15 @@ fn names_the_first_fault_of_an_element(rt: HostRuntime) {
     for (octets, fault) in [
         (&[][..], FieldFault::Size),
         (&[0x80, 0x80, 5, 0, 0, 0, 0][..], FieldFault::Size),
+        // An information length of 1 to 3 is too short for a PW ID, and one of 20 counts past the end.
+        (
+            &[0x80, 0, 5, 1, 0, 0, 0, 0, 0][..],
+            value(3, Field::InfoLength),
+        ),
+        (
+            &[0x80, 0, 5, 2, 0, 0, 0, 0, 0, 0][..],
+            value(3, Field::InfoLength),
+        ),
         (
             &[0x80, 0, 5, 3, 0, 0, 0, 0, 0, 0, 0][..],
             value(3, Field::InfoLength),
@@ -191,34 +201,31 @@ fn writes_and_reads_a_pseudowire(rt: HostRuntime) {
     assert!(rt; read_fec(&FULL) == Ok(FecValue::Pw(full)));
 }
 
+// No description and no VCCV.
+fn params(mtu: Option<u16>, vlan: Option<u16>) -> IfParams {
+    IfParams {
+        mtu,
+        description: no_text(),
+        vlan,
+        vccv: None,
+    }
+}
+
 #[test]
 fn writes_no_other_elements(rt: HostRuntime) {
-    let description = Text::read(&[]).expect(&rt, "short");
-    let none = IfParams {
-        mtu: None,
-        description,
-        vlan: None,
-        vccv: None,
-    };
-    let mtu = IfParams {
-        mtu: Some(1500),
-        ..none
-    };
-    // A PW type of 16 bits, a VLAN ID of 13 bits, and a parameter without a PW ID.
-    assert!(rt; is_writable_fec(&fec(true, 0x7fff, 7, None, none)));
-    assert!(rt; !is_writable_fec(&fec(true, 0x8000, 7, None, none)));
-    for (vlan, writable) in [(4095, true), (4096, false)] {
-        let params = IfParams {
-            vlan: Some(vlan),
-            ..none
-        };
-        assert_eq!(rt;
-            is_writable_fec(&fec(true, 5, 7, Some(100), params)),
-            writable
-        );
+    for (element, writable) in [
+        // A PW type of 15 bits and of 16.
+        (fec(true, 0x7fff, 7, None, params(None, None)), true),
+        (fec(true, 0x8000, 7, None, params(None, None)), false),
+        // A VLAN ID of 12 bits and of 13.
+        (fec(true, 4, 7, Some(100), params(None, Some(4095))), true),
+        (fec(true, 4, 7, Some(100), params(None, Some(4096))), false),
+        // An MTU with a PW ID and without.
+        (fec(true, 5, 7, Some(100), params(Some(1500), None)), true),
+        (fec(true, 5, 7, None, params(Some(1500), None)), false),
+    ] {
+        assert_eq!(rt; is_writable_fec(&element), writable);
     }
-    assert!(rt; is_writable_fec(&fec(true, 5, 7, Some(100), mtu)));
-    assert!(rt; !is_writable_fec(&fec(true, 5, 7, None, mtu)));
 }
 
 #[test]
@@ -237,13 +244,53 @@ fn reads_a_switching_point(rt: HostRuntime) {
 }
 
 #[test]
+fn writes_the_parts_that_are_told(rt: HostRuntime) {
+    let none = Point {
+        pw_id: None,
+        local: None,
+        remote: None,
+    };
+    let remote = Point {
+        remote: Some(Addr([10, 0, 0, 3])),
+        ..none
+    };
+    let ends = Point {
+        pw_id: Some(100),
+        ..remote
+    };
+    for (point, octets) in [
+        (none, &[][..]),
+        (remote, &[4, 4, 10, 0, 0, 3][..]),
+        (ends, &[1, 4, 0, 0, 0, 100, 4, 4, 10, 0, 0, 3][..]),
+    ] {
+        let mut out = [0xee; 18];
+        let size = point_size(&point);
+        assert_eq!(rt; size, octets.len());
+        assert_eq!(rt; write_point(&point, &mut out), size);
+        let (front, rest) = out.split_at(size);
+        assert!(rt; front == octets);
+        assert!(rt; rest.iter().all(|octet| *octet == 0xee));
+    }
+}
+
+#[test]
 fn names_the_first_fault_of_a_switching_point(rt: HostRuntime) {
     for (octets, fault) in [
         // No length, a length past the end, a wrong length, a part that comes again.
         (&[3][..], value(0, Field::Point)),
         (&[2, 0, 3, 5, 10, 0, 0, 2][..], value(2, Field::Point)),
         (&[1, 3, 0, 0, 0][..], value(1, Field::Point)),
+        (&[3, 3, 10, 0, 0][..], value(1, Field::Point)),
+        (&[3, 5, 10, 0, 0, 2, 0][..], value(1, Field::Point)),
         (&[4, 5, 10, 0, 0, 3, 0][..], value(1, Field::Point)),
+        (
+            &[1, 4, 0, 0, 0, 100, 1, 4, 0, 0, 0, 101][..],
+            repeated(6, Field::Point),
+        ),
+        (
+            &[4, 4, 10, 0, 0, 3, 1, 4, 0, 0, 0, 100, 4, 4, 10, 0, 0, 4][..],
+            repeated(12, Field::Point),
+        ),
         (
             &[3, 4, 10, 0, 0, 2, 2, 0, 2, 0, 3, 0][..],
             repeated(10, Field::Point),
@@ -276,17 +323,43 @@ fn reads_and_writes_status_and_addresses(rt: HostRuntime) {
 
 #[test]
 fn holds_points(rt: HostRuntime) {
-    let point = Point {
-        pw_id: Some(1),
-        local: None,
-        remote: None,
-    };
     let mut points = Points::empty();
     assert!(rt; points.is_empty());
-    points.add(point);
-    points.add(point);
-    points.add(point);
+    points.add(numbered(1));
+    points.add(numbered(2));
+    points.add(numbered(3));
+    assert!(rt; !points.is_empty());
     assert_eq!(rt; points.len(), 3);
-    assert!(rt; points.get(2) == Some(point));
+    assert!(rt; points.get(0) == Some(numbered(1)));
+    assert!(rt; points.get(1) == Some(numbered(2)));
+    assert!(rt; points.get(2) == Some(numbered(3)));
     assert!(rt; points.get(3).is_none());
+}
+
+// A point with this PW ID alone.
+fn numbered(pw_id: u32) -> Point {
+    Point {
+        pw_id: Some(pw_id),
+        local: None,
+        remote: None,
+    }
+}
+
+#[test]
+fn tells_faults(rt: HostRuntime) {
+    for (fault, text) in [
+        (FieldFault::Size, "a length that does not fit the layout"),
+        (value(13, Field::Mtu), "a wrong octet at 13"),
+        (repeated(16, Field::Vlan), "a field that comes again at 16"),
+    ] {
+        let told = format!(in rt.alloc(); "{fault}").expect(&rt, "memory");
+        assert!(rt; told.as_str() == text);
+    }
+    for (fault, text) in [
+        (MacsFault::Field(FieldFault::Size), "no list of addresses"),
+        (MacsFault::NoMemory, "out of memory"),
+    ] {
+        let told = format!(in rt.alloc(); "{fault}").expect(&rt, "memory");
+        assert!(rt; told.as_str() == text);
+    }
 }
