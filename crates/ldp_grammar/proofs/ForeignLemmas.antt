@@ -1,20 +1,18 @@
 -- The first TLV of a type, by the structure of the TLVs alone.
-use Rattle.std.proofs.Common.{◌≡◌, ◌≤◌, ◌<◌, ◌+◌, ◌++◌, inl, inr, ℕ, true, false, List, [], ◌∷◌, Option, Some, None, length, flat_map, nat_eq, eq-eqb, eqb-true, refl, sym, ap, subst, ◌∙◌, append_assoc, arith}
-use Rattle.std.proofs.lemmas.Bool.{cases_Bool, ne_eqb}
+use Rattle.std.proofs.Common.{◌≡◌, ◌+◌, ◌++◌, inl, inr, ℕ, true, false, List, [], ◌∷◌, Option, Some, None, length, flat_map, nat_eq, eq-eqb, eqb-true, refl, sym, ap, subst, ◌∙◌, append_assoc, arith}
+use Rattle.std.proofs.lemmas.Bool.{cases_Bool}
 use Rattle.std.specs.List.{AllByRecursion}
 use Rattle.net_base.specs.declared.field.Field.{Field}
 use Rattle.net_base.specs.declared.field.Field.TheVariants as field
 use Rattle.pw_tlvs.specs.declared.fec_value.FecValue.{FecValue}
-use Rattle.pw_tlvs.specs.declared.fec_value.FecValue.TheVariants.{Pw, Foreign}
-use Rattle.pw_tlvs.specs.declared.pw_fec.PwFec.{PwFec}
-use Rattle.pw_tlvs.specs.Fec.{IsFecValue, IsPwFec}
+use Rattle.pw_tlvs.specs.declared.fec_value.FecValue.TheVariants.{Foreign}
+use Rattle.pw_tlvs.specs.Fec.{IsFecValue}
 use Rattle.pw_tlvs.proofs.FecLemmas.{one_fec}
 use Rattle.ldp_grammar.specs.declared.message_kind.MessageKind.{MessageKind}
 use Rattle.ldp_grammar.specs.declared.why.Why.{Why}
-use Rattle.ldp_grammar.specs.declared.why.Why.TheVariants.{UnknownTlv, Missing, UnknownFec}
-use Rattle.ldp_grammar.specs.Rows.{Row, fec, row_of, is_in}
-use Rattle.ldp_grammar.specs.Layouts.{listed, field_of}
-use Rattle.ldp_grammar.specs.Tlvs.{Tlv, IsTlv, IsJoined, StandsFirst, IsForeign, IsReason, OfBoth, spell_tlv, type_in, count_of, value_of, fec_value, where_listed, fec_reason, reason_of, needs_pw_id}
+use Rattle.ldp_grammar.specs.Rows.{fec, row_of}
+use Rattle.ldp_grammar.specs.Layouts.{listed}
+use Rattle.ldp_grammar.specs.Tlvs.{Tlv, IsTlv, IsJoined, StandsFirst, IsForeign, IsReason, OfBoth, spell_tlv, type_in, count_of, value_of, fec_value, where_listed, fec_reason, reason_of}
 use Rattle.ldp_grammar.proofs.SpellingLemmas.{tlvs_apart}
 use Rattle.ldp_grammar.proofs.TlvLemmas.{size_of}
 
