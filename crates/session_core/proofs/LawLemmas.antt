@@ -1,0 +1,127 @@
+-- The laws of the table.
+use Rattle.std.proofs.Common.{rules, ◌≡◌, ◌<◌, ◌==◌, ℕ, true, false, not, nat_lt, List, [], ◌∷◌, Option, Some, None, refl, ap, ◌∙◌, subst, arith}
+use Rattle.ldp_grammar.specs.declared.message.Message.{Message}
+use Rattle.ldp_grammar.specs.declared.message.Message.TheVariants.{Notification, Initialization, KeepAlive}
+use Rattle.ldp_grammar.specs.declared.session_params.SessionParams.{SessionParams}
+use Rattle.ldp_grammar.specs.declared.status_code.StatusCode.{StatusCode}
+use Rattle.net_base.specs.declared.state_name.Reason.{Reason}
+use Rattle.session_core.specs.declared.peers.Peers.{Peers}
+use Rattle.session_core.specs.declared.reply.Reply.{Reply}
+use Rattle.session_core.specs.Laws.{tells_end, IsFarewell, OneNotice, NeverSilent, next_of, next_put, run_by, IsWithin, WithinProposals, IsAddress, IsFacing, EndsAgree}
+use Rattle.session_core.proofs.AddressLemmas.{numbers_apart, one_larger}
+use Rattle.session_core.specs.Parameters.{proposal, refusal_of}
+use Rattle.session_core.specs.Phase.{Phase}
+use Rattle.session_core.specs.Phase as phase
+use Rattle.session_core.specs.State.{SessionState, SessionView, Stands, EndedBy, IsProper, is_active, opened, number_of}
+use Rattle.session_core.specs.StatusCodes.{about}
+use Rattle.session_core.specs.Table.{SessionEvent, Start, Heard, Received, Refused, Spoke, Ticked, Closed, Ends, is_agreed, outcome_of, third, view_after, notified, judged, reason_in, data_refusing}
+
+-- a Notification that ends a session is answered where it is a shutdown and the session is up
+told : (s : SessionState) (message : Message) (status : StatusCode) (why : Reason) (replies : List Reply) → notified (reason_in status) s message ≡ Ends why replies → IsFarewell (tells_end s.phase why) replies
+told s message status why replies is = grind (arith)
+
+-- the refusals are told
+refusal_told : (state : Phase) (peers : Peers) (params : SessionParams) (why : Reason) → refusal_of peers params ≡ Some why → tells_end state why ≡ true
+refusal_told phase.Initialized peers params why is = grind (arith)
+refusal_told phase.OpenSent peers params why is = grind (arith)
+refusal_told phase.OpenRec peers params why is = grind (arith)
+refusal_told phase.Operational peers params why is = grind (arith)
+
+-- a proposal that is refused is answered
+refused : (s : SessionState) (message : Message) (params : SessionParams) (others : List Reply) (why : Reason) (replies : List Reply) → judged (refusal_of s.peers params) s message params others ≡ Ends why replies
+    → IsFarewell (tells_end s.phase why) replies
+refused s message params others why replies is = so (refusal_of s.peers params) refl is
+  where
+    so : (given : Option Reason) → refusal_of s.peers params ≡ given → judged given s message params others ≡ Ends why replies → IsFarewell (tells_end s.phase why) replies
+    so None none ends = grind (arith)
+    so (Some given) some ends =
+        let same : given ≡ why = grind (arith) in
+        let one : about message (data_refusing given) ∷ [] ≡ replies = grind (arith) in
+        let told : tells_end s.phase why ≡ true = refusal_told s.phase s.peers params why (some ∙ ap (λ (r : Reason). Some r) same) in
+        rw (told, ← one) refl
+
+-- a message that ends a session is answered as its reason says
+answered : (s : SessionState) (message : Message) (why : Reason) (replies : List Reply) → outcome_of s (Received message) ≡ Ends why replies → IsFarewell (tells_end s.phase why) replies
+answered s (Notification id status pw_status fec) why replies is = grind (arith, told)
+answered s (Initialization id params) why replies is = grind (arith, refused)
+answered s (KeepAlive id) why replies is = grind (arith)
+answered s message why replies is = grind (arith)
+
+pub one_notice : OneNotice
+one_notice s Start why replies may is = grind (arith)
+one_notice s (Heard sender) why replies may is = grind (arith)
+one_notice s (Received message) why replies may is = answered s message why replies is
+one_notice s (Refused wrong) why replies may is = grind (arith)
+one_notice s Spoke why replies may is = grind (arith)
+one_notice s Ticked why replies may is = grind (arith)
+one_notice s (Closed lost) why replies may is = grind (arith)
+
+-- what an event makes of a session keeps within the proposals
+kept : (ends : Peers) (s next : SessionState) (event : SessionEvent) → IsProper ends → IsWithin ends s → view_after s (outcome_of s event) ≡ Stands next → IsWithin ends next
+kept ends s next Start proper within is = grind (arith)
+kept ends s next (Heard sender) proper within is = grind (arith)
+kept ends s next (Received message) proper within is = grind (arith)
+kept ends s next (Refused wrong) proper within is = grind (arith)
+kept ends s next Spoke proper within is = grind (arith)
+kept ends s next Ticked proper within is = grind (arith)
+kept ends s next (Closed lost) proper within is = grind (arith)
+
+-- a session that ended does not go on
+ended_stays : (why : Reason) (last : SessionState) → EndedBy why ≡ Stands last → ⊥
+ended_stays why last is = grind (arith)
+
+stands_same : (s last : SessionState) → Stands s ≡ Stands last → s ≡ last
+stands_same s last is = grind (arith)
+
+-- what holds at first, and is kept by each event, holds of every run
+ran : (next : SessionState → SessionEvent → SessionView) (Holds : SessionState → Type 0) → ((s t : SessionState) (event : SessionEvent) → Holds s → next s event ≡ Stands t → Holds t)
+    → (events : List SessionEvent) (s last : SessionState) → Holds s → run_by next s events ≡ Stands last → Holds last
+ran next Holds keeps [] s last holds is = subst Holds (stands_same s last is) holds
+ran next Holds keeps (event ∷ events) s last holds is = goes_on (λ t here rest. ran next Holds keeps events t last here rest) (next s event) refl is
+  where
+    goes_on : ((t : SessionState) → Holds t → run_by next t events ≡ Stands last → Holds last) → (view : SessionView) → next s event ≡ view
+        → elim view [ Stands then_on ↦ run_by next then_on events | EndedBy why ↦ EndedBy why ] ≡ Stands last → Holds last
+    goes_on others (Stands t) after rest = others t (keeps s t event holds after) rest
+    goes_on others (EndedBy why) after rest = absurd (ended_stays why last rest)
+
+pub within_proposals : WithinProposals
+within_proposals ends events s proper is = ran next_of (IsWithin ends) (λ t u event within after. kept ends t u event proper within after) events (opened ends) s (grind (arith)) is
+
+-- a third of a hold time is at least a tick
+third_some : (hold : ℕ) → 0 < third hold
+third_some hold = grind (arith)
+
+-- silence is short once an Initialization was accepted
+abbrev IsShort : SessionState → Type 0
+IsShort s = is_agreed s.phase ≡ true → s.silence < third s.hold
+
+short_kept : (s t : SessionState) (event : SessionEvent) → IsShort s → next_put s event ≡ Stands t → IsShort t
+short_kept s t Start short is = grind (arith, third_some)
+short_kept s t (Heard sender) short is = grind (arith, third_some)
+short_kept s t (Received message) short is = grind (arith, third_some)
+short_kept s t (Refused wrong) short is = grind (arith, third_some)
+short_kept s t Spoke short is = grind (arith, third_some)
+short_kept s t Ticked short is = grind (arith, third_some)
+short_kept s t (Closed lost) short is = grind (arith, third_some)
+
+pub never_silent : NeverSilent
+never_silent ends events s is = ran next_put IsShort short_kept events (opened ends) s (grind (arith)) is
+
+-- of two ends that face each other one is active
+one_active : (one other : Peers) → IsFacing one other → IsAddress one.me → IsAddress one.peer → IsProper one → is_active other ≡ not (is_active one)
+one_active one other facing me peer proper =
+    let apart : (number_of one.me == number_of one.peer) ≡ false = numbers_apart one.me.0 one.peer.0 me.four peer.four me.octets peer.octets proper.apart in
+    let larger : nat_lt (number_of one.me) (number_of one.peer) ≡ not (nat_lt (number_of one.peer) (number_of one.me)) = one_larger (number_of one.me) (number_of one.peer) apart in
+    rw (facing.back, ← facing.there) larger
+
+-- an end accepts what the other one proposes
+accepted : (one other : Peers) → IsFacing one other → IsProper one → refusal_of other (proposal one) ≡ None
+accepted one other facing proper = search rules
+
+pub ends_agree : EndsAgree
+ends_agree = record {
+  one_active = one_active;
+  acceptable = accepted;
+  active_up = λ one other first second facing proper proper' active. search rules;
+  passive_up = λ one other first second facing proper proper' active. search rules;
+}

@@ -1,0 +1,5 @@
+pub mod AddressLemmas
+mod Examples
+pub mod LawLemmas
+pub mod ReasonLemmas
+pub mod TickLemmas

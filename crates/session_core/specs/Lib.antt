@@ -1,0 +1,9 @@
+pub mod Phase
+pub mod Replies
+pub mod State
+pub mod StatusCodes
+pub mod Session
+pub mod Parameters
+pub mod Table
+pub mod Reasons
+pub mod Laws

@@ -1,0 +1,23 @@
+-- At most two replies, and the list of them.
+use Rattle.std.specs.Prelude.{◌≡◌, List, [], ◌∷◌, refl}
+use Rattle.session_core.specs.declared.reply.Reply.{Reply}
+use Rattle.session_core.specs.declared.held.Held.{Held}
+use Rattle.session_core.specs.declared.held.Held.TheVariants as held
+
+-- the replies in order
+abbrev pub replies_in : Held → List Reply
+replies_in held.None = []
+replies_in (held.One a) = a ∷ []
+replies_in (held.Two a b) = a ∷ b ∷ []
+
+-- how the first two replies of a list are held
+abbrev pub held_of : List Reply → Held
+held_of [] = held.None
+held_of (a ∷ []) = held.One a
+held_of (a ∷ b ∷ rest) = held.Two a b
+
+-- held replies come back from their list
+pub held_again : (h : Held) → held_of (replies_in h) ≡ h
+held_again held.None = refl
+held_again (held.One a) = refl
+held_again (held.Two a b) = refl

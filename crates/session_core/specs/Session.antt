@@ -1,0 +1,26 @@
+-- What contracts see of a session of any state.
+use Rattle.net_base.specs.declared.state_name.StateName.{StateName}
+use Rattle.net_base.specs.declared.state_name.StateName.TheVariants as name
+use Rattle.session_core.specs.declared.session.Session.{Session}
+use Rattle.session_core.specs.declared.session.Session.TheVariants as session
+use Rattle.session_core.specs.Phase.{Phase}
+use Rattle.session_core.specs.Phase as phase
+use Rattle.session_core.specs.State.{SessionView, Stands, EndedBy, in_phase}
+
+abbrev pub view_of : Session → SessionView
+view_of (session.Initialized s) = Stands (in_phase phase.Initialized s)
+view_of (session.OpenSent s) = Stands (in_phase phase.OpenSent s)
+view_of (session.OpenRec s) = Stands (in_phase phase.OpenRec s)
+view_of (session.Operational s) = Stands (in_phase phase.Operational s)
+view_of (session.Ended reason) = EndedBy reason
+
+-- the name by which a state is told
+abbrev pub phase_name : Phase → StateName
+phase_name phase.Initialized = name.Initialized
+phase_name phase.OpenSent = name.OpenSent
+phase_name phase.OpenRec = name.OpenRec
+phase_name phase.Operational = name.Operational
+
+abbrev pub name_of : SessionView → StateName
+name_of (Stands s) = phase_name s.phase
+name_of (EndedBy reason) = name.Ended reason

@@ -1,0 +1,64 @@
+-- What contracts see of a session (RFC 5036 sections 2.5.3 to 2.5.6).
+use Rattle.std.specs.Prelude.{◌≡◌, ◌≤◌, ◌<◌, ℕ, Bool, false, nat_lt, bytes_eq}
+use Rattle.byteorder.specs.Endian.{big_number}
+use Rattle.net_base.specs.declared.addr.Addr.{Addr}
+use Rattle.net_base.specs.declared.state_name.Reason.{Reason}
+use Rattle.session_core.specs.declared.peers.Peers.{Peers}
+use Rattle.session_core.specs.Phase.{Phase}
+use Rattle.session_core.specs.Phase as phase
+use Rattle.session_core.specs.declared.standing.Standing.{Standing}
+
+-- A session that stands: its state and its two ends; the hold time and the longest PDU in force; and the ticks since the
+-- last PDU was heard, and since the last one was put.
+pub record SessionState : Type 0 where
+  pub phase : Phase
+  pub peers : Peers
+  pub hold : ℕ
+  pub max_pdu : ℕ
+  pub wait : ℕ
+  pub silence : ℕ
+
+-- a session stands, or it ended for a reason
+pub data SessionView : Type 0 where
+  Stands : SessionState → SessionView
+  EndedBy : Reason → SessionView
+
+-- the session of a state that has this
+abbrev pub in_phase : Phase → Standing → SessionState
+in_phase state s = record { phase = state; peers = s.peers; hold = s.hold; max_pdu = s.max_pdu; wait = s.wait; silence = s.silence }
+
+-- an address as an unsigned number
+abbrev pub number_of : Addr → ℕ
+number_of address = big_number 4 address.0
+
+-- the end with the larger address is the active one: it opens the connection and speaks first (RFC 5036 section 2.5.2)
+abbrev pub is_active : Peers → Bool
+is_active peers = nat_lt (number_of peers.peer) (number_of peers.me)
+
+-- The two ends are apart, and what this one proposes is in range: a KeepAlive Time of at least 3, and a Max PDU Length from
+-- 256 to 4096.
+pub record IsProper (ends : Peers) : Type 0 where
+  pub apart : bytes_eq ends.me.0 ends.peer.0 ≡ false
+  pub keepalive : 3 ≤ ends.keepalive
+  pub least : 256 ≤ ends.max_pdu
+  pub most : ends.max_pdu ≤ 4096
+
+-- a connection of which nothing came yet: the hold time is the own proposal, and a PDU has at most 4096 octets
+abbrev pub opened : Peers → SessionState
+opened peers = record { phase = phase.Initialized; peers = peers; hold = peers.keepalive; max_pdu = 4096; wait = 0; silence = 0 }
+
+-- what is so as long as no Initialization was accepted
+pub record IsOpening (s : Standing) : Type 0 where
+  pub proper : IsProper s.peers
+  pub own : s.hold ≡ s.peers.keepalive
+  pub longest : s.max_pdu ≡ 4096
+  pub waiting : s.wait < s.peers.keepalive
+
+-- what is so once an Initialization was accepted: neither number is larger than the own proposal
+pub record IsAgreed (s : Standing) : Type 0 where
+  pub proper : IsProper s.peers
+  pub some : 1 ≤ s.hold
+  pub within : s.hold ≤ s.peers.keepalive
+  pub least : 256 ≤ s.max_pdu
+  pub most : s.max_pdu ≤ s.peers.max_pdu
+  pub waiting : s.wait < s.peers.keepalive

@@ -1,0 +1,11 @@
+//! How replies are held.
+
+use crate::Reply;
+
+/// At most two replies, held inline.
+#[derive(Clone, Copy, Debug, PartialEq, Eq)]
+pub enum Held {
+    None,
+    One(Reply),
+    Two(Reply, Reply),
+}

@@ -1,0 +1,38 @@
+//! LDP sessions as machines with no input or output in them (RFC 5036 sections 2.5.3 to 2.5.6, 3.5.1.1 and 3.5.3).
+//!
+//! Each state is a type, and a call that moves a session takes its state and gives the next one, with what is to be put to
+//! the peer. `specs/Table.antt` has the table of all states; it is the same for both ends.
+#![tactic(auto)]
+
+mod ended;
+mod endings;
+mod held;
+mod initialized;
+mod laws;
+mod notice;
+mod open_rec;
+mod open_sent;
+mod operational;
+mod parameters;
+mod peers;
+mod replies;
+mod reply;
+mod session;
+mod standing;
+
+pub use ended::Ended;
+pub use initialized::Initialized;
+pub use laws::{
+    ends_agree, entered_by_messages, never_silent, one_notice_at_most, reasons_by_cause,
+    within_proposals,
+};
+pub use open_rec::OpenRec;
+pub use open_sent::OpenSent;
+pub use operational::Operational;
+pub use peers::Peers;
+pub use replies::Replies;
+pub use reply::Reply;
+pub use session::Session;
+
+#[cfg(test)]
+mod tests;

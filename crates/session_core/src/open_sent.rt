@@ -1,0 +1,178 @@
+//! The state in which the active end waits for the peer's Initialization.
+ghost use Rattle.std.specs.Prelude.{◌≡◌, ◌≢◌, ◌↔◌, ◌⊎◌, ◌≤◌, ◌+◌, [], ◌∷◌, false, IsTrue};
+ghost use Rattle.net_base.specs.declared.state_name.StateName.TheVariants as name;
+ghost use Rattle.session_core.specs.declared.reply.Reply.TheVariants as reply;
+ghost use Rattle.ldp_grammar.specs.declared.message.Message.{Message};
+ghost use Rattle.session_core.specs.Phase as phase;
+ghost use Rattle.session_core.specs.Parameters.{is_platform, refusal_of};
+ghost use Rattle.session_core.specs.Reasons.{expects, has_bad_receiver, has_bad_version, has_zero_time, HasEnded, is_acceptable, IsIn, proposes, tells_error, tells_shutdown};
+ghost use Rattle.session_core.specs.Session.{view_of};
+ghost use Rattle.session_core.specs.State.{EndedBy, Stands, in_phase, IsOpening, is_active};
+ghost use Rattle.session_core.specs.StatusCodes.{about_none, data_of};
+ghost use Rattle.session_core.specs.Table.{after, Closed, Heard, judged, notified, reason_in, Received, Refused, replies_of, said, Spoke, Ticked, view_after};
+
+use crate::endings::{bad_identifier, ended, expired, reason_in, refused_proposal, unexpected};
+use crate::notice::{about_none, data_of};
+use crate::parameters::refusal_of;
+use crate::standing::Standing;
+use crate::{Ended, OpenRec, Replies, Reply, Session};
+use ldp_codec::DecodeFault;
+use ldp_grammar::{LdpId, Message, SessionParams, StatusCode};
+use net_base::Reason;
+use std::marker::Model;
+
+/// The active end sent its Initialization (RFC 5036 section 2.5.4). Contracts see what the session has.
+#[derive(Debug, Drop)]
+pub struct OpenSent {
+    standing: Standing,
+}
+
+impl Model for OpenSent {
+    ghost use Rattle.session_core.specs.State.{IsOpening};
+    ghost use Rattle.session_core.specs.declared.standing.Standing.{Standing};
+
+    ghost Value = { Standing };
+
+    ghost view = { λ s. s.standing };
+
+    ghost invariant = { λ s. IsOpening s.standing };
+}
+
+impl OpenSent {
+    // The session that has this, in this state.
+    pub(crate) fn entered(standing: Standing) -> OpenSent
+        requires { IsOpening standing }
+        ensures { result ≡ standing }
+    {
+        OpenSent { standing }
+    }
+
+    /// What comes of a message (RFC 5036 sections 2.5.4, 3.5.1.1 and 3.5.3). An acceptable Initialization is answered by a
+    /// KeepAlive, and the session is then OpenRec; another one is refused by a fatal Notification. A fatal Notification ends
+    /// the session, and nothing is put; another one is passed over. Any other message is not expected: it is refused by a
+    /// fatal Notification.
+    pub fn on_message(self, message: &Message) -> (Session, Replies)
+        ensures session { view_of result.0 ≡ after phase.OpenSent self (Received message.now) }
+        ensures replies { result.1 ≡ said phase.OpenSent self (Received message.now) }
+        ensures accepts { IsIn result.0 name.OpenRec ↔ IsTrue (proposes (is_acceptable self.peers) message.now) }
+        ensures bad_version { HasEnded result.0 Reason.BadVersion ↔ IsTrue (proposes has_bad_version message.now) }
+        ensures bad_receiver { HasEnded result.0 Reason.BadReceiver ↔ IsTrue (proposes (has_bad_receiver self.peers) message.now) }
+        ensures zero_keep_alive { HasEnded result.0 Reason.ZeroKeepAlive ↔ IsTrue (proposes (has_zero_time self.peers) message.now) }
+        ensures unexpected { HasEnded result.0 Reason.Unexpected ↔ (expects phase.OpenSent (is_active self.peers) message.now ≡ false) }
+        ensures peer_shutdown { HasEnded result.0 Reason.PeerShutdown ↔ IsTrue (tells_shutdown message.now) }
+        ensures peer_fatal { HasEnded result.0 Reason.PeerFatal ↔ IsTrue (tells_error message.now) }
+    {
+        self.by_row(message)
+    }
+
+    /// A PDU of the sender came. The session ends by a fatal Notification exactly where the sender is not the peer with
+    /// label space 0 (RFC 5036 section 3.5.1.2.1); else no tick has passed since.
+    pub fn heard(self, sender: LdpId) -> (Session, Replies)
+        ensures session { view_of result.0 ≡ after phase.OpenSent self (Heard sender) }
+        ensures replies { result.1 ≡ said phase.OpenSent self (Heard sender) }
+        ensures bad_identifier { HasEnded result.0 Reason.BadIdentifier ↔ (is_platform self.peers.peer sender ≡ false) }
+    {
+        match self.standing.heard(sender) {
+            Some(standing) => (Session::OpenSent(OpenSent { standing }), Replies::none()),
+            None => bad_identifier(),
+        }
+    }
+
+    /// What came from the peer is no PDU: the session ends, and a fatal Notification tells the fault (RFC 5036 section
+    /// 3.5.1.2). The fault is not want of memory.
+    pub fn refused(self, fault: DecodeFault) -> (Ended, Replies)
+        requires { fault ≢ DecodeFault.NoMemory }
+        ensures decode { result.0 ≡ Reason.Decode }
+        ensures session { EndedBy result.0 ≡ after phase.OpenSent self (Refused fault) }
+        ensures replies { result.1 ≡ about_none (data_of fault) ∷ [] }
+    {
+        (
+            Ended::by(Reason::Decode),
+            Replies::one(about_none(data_of(fault))),
+        )
+    }
+
+    /// Something was put to the peer: no tick has passed since.
+    pub fn spoke(self) -> Self
+        ensures { Stands (in_phase phase.OpenSent result) ≡ after phase.OpenSent self Spoke }
+    {
+        OpenSent {
+            standing: self.standing.spoke(),
+        }
+    }
+
+    /// A tick passes. The session ends by a fatal Notification exactly where nothing was then heard for the hold time (RFC
+    /// 5036 section 2.5.6); else nothing is put.
+    pub fn tick(self) -> (Session, Replies)
+        ensures session { view_of result.0 ≡ after phase.OpenSent self Ticked }
+        ensures replies { result.1 ≡ said phase.OpenSent self Ticked }
+        ensures expired { HasEnded result.0 Reason.Expired ↔ (self.hold ≤ self.wait + 1) }
+    {
+        match self.standing.later() {
+            Some(standing) => (Session::OpenSent(OpenSent { standing }), Replies::none()),
+            None => expired(),
+        }
+    }
+
+    /// The connection was lost, or the link did not take a PDU, as the reason says. Nothing is put.
+    pub fn closed(self, reason: Reason) -> Ended
+        requires { (reason ≡ Reason.Closed) ⊎ (reason ≡ Reason.LinkFault) }
+        ensures reason { result ≡ reason }
+        ensures session { EndedBy result ≡ after phase.OpenSent self (Closed reason) }
+    {
+        Ended::by(reason)
+    }
+
+    /// The most that a PDU Length may be: 4096 octets, as none was agreed on yet (RFC 5036 section 3.5.3).
+    pub fn max_pdu(&self) -> u16
+        ensures value { result ≡ self.now.max_pdu }
+        ensures longest { result ≡ 4096 }
+    {
+        self.standing.max_pdu
+    }
+
+    /// The hold time in ticks: the KeepAlive Time that this end proposes, as none was agreed on yet.
+    pub fn hold(&self) -> u16
+        ensures value { result ≡ self.now.hold }
+        ensures own { result ≡ self.now.peers.keepalive }
+    {
+        self.standing.hold
+    }
+
+    // The row of a message.
+    fn by_row(self, message: &Message) -> (Session, Replies)
+        ensures session { view_of result.0 ≡ after phase.OpenSent self (Received message.now) }
+        ensures replies { result.1 ≡ said phase.OpenSent self (Received message.now) }
+    {
+        match message {
+            Message::Notification { status, .. } => self.on_notification(status),
+            Message::Initialization { params, .. } => self.on_proposal(message, params),
+            _ => unexpected(message),
+        }
+    }
+
+    // What comes of a Notification.
+    fn on_notification(self, status: &StatusCode) -> (Session, Replies)
+        ensures session { (message : Message) → view_of result.0 ≡ view_after (in_phase phase.OpenSent self) (notified (reason_in status.now) (in_phase phase.OpenSent self) message) }
+        ensures replies { result.1 ≡ [] }
+    {
+        match reason_in(status) {
+            None => (Session::OpenSent(self), Replies::none()),
+            Some(reason) => ended(reason),
+        }
+    }
+
+    // What comes of a proposal in the message.
+    fn on_proposal(self, message: &Message, params: &SessionParams) -> (Session, Replies)
+        ensures session { view_of result.0 ≡ view_after (in_phase phase.OpenSent self) (judged (refusal_of self.peers params.now) (in_phase phase.OpenSent self) message.now params.now (reply.KeepAlive ∷ [])) }
+        ensures replies { result.1 ≡ replies_of (judged (refusal_of self.peers params.now) (in_phase phase.OpenSent self) message.now params.now (reply.KeepAlive ∷ [])) }
+    {
+        match refusal_of(&self.standing.peers, params) {
+            Some(reason) => refused_proposal(reason, message),
+            None => (
+                Session::OpenRec(OpenRec::entered(self.standing.agreed(params))),
+                Replies::one(Reply::KeepAlive),
+            ),
+        }
+    }
+}

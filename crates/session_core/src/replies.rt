@@ -1,0 +1,84 @@
+//! What a call of a session puts.
+ghost use Rattle.std.specs.Prelude.{◌≡◌, ◌∷◌, ◌≤◌, ◌==◌, [], length, slice_get};
+
+use crate::Reply;
+use crate::held::Held;
+use std::marker::Model;
+
+/// What is to be put to the peer, in this order: at most two replies. They are held inline. Contracts see them as the list
+/// of the replies.
+#[derive(Clone, Copy, Debug, PartialEq, Eq)]
+pub struct Replies {
+    held: Held,
+}
+
+impl Model for Replies {
+    ghost use Rattle.std.specs.Prelude.{List};
+    ghost use Rattle.session_core.specs.declared.reply.Reply.{Reply};
+    ghost use Rattle.session_core.specs.Replies.{replies_in, held_of, held_again};
+
+    ghost Value = { List Reply };
+
+    ghost view = { λ r. replies_in r.held };
+
+    ghost inverse = { λ replies. record { held = held_of replies } };
+
+    ghost inverse_ok = { λ a h i. record { held = held_again a.held i } };
+}
+
+impl Replies {
+    // No replies.
+    pub(crate) fn none() -> Replies
+        ensures { result ≡ [] }
+    {
+        Replies { held: Held::None }
+    }
+
+    // One reply.
+    pub(crate) fn one(reply: Reply) -> Replies
+        ensures { result ≡ reply ∷ [] }
+    {
+        Replies {
+            held: Held::One(reply),
+        }
+    }
+
+    // Two replies in order.
+    pub(crate) fn two(first: Reply, second: Reply) -> Replies
+        ensures { result ≡ first ∷ second ∷ [] }
+    {
+        Replies {
+            held: Held::Two(first, second),
+        }
+    }
+
+    /// The number of replies, at most two.
+    pub fn len(&self) -> usize
+        ensures count { result ≡ length self.now }
+        ensures within { result ≤ 2 }
+    {
+        match self.held {
+            Held::None => 0,
+            Held::One(..) => 1,
+            Held::Two(..) => 2,
+        }
+    }
+
+    /// Whether there is no reply.
+    pub fn is_empty(&self) -> bool
+        ensures { result ≡ (length self.now == 0) }
+    {
+        matches!(self.held, Held::None)
+    }
+
+    /// The reply at an index from 0; `None` exactly where the index is not below the number of replies.
+    pub fn get(&self, index: usize) -> Option<Reply>
+        ensures { result ≡ slice_get self.now index }
+    {
+        match (self.held, index) {
+            (Held::One(reply), 0) | (Held::Two(reply, _), 0) => Some(reply),
+            (Held::Two(_, reply), 1) => Some(reply),
+            _ => None,
+        }
+    }
+}

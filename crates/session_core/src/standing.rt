@@ -1,0 +1,104 @@
+//! What a session that stands has, in each of its states.
+ghost use Rattle.std.specs.Prelude.{◌≡◌, ◌<◌, ◌+◌, ◌^◌, ◌↔◌, [], ◌∷◌, IfSome, IfNone, None, min, false, true, nat_le, if◌then◌else◌};
+ghost use Rattle.session_core.specs.Parameters.{is_platform, longest, refusal_of};
+ghost use Rattle.session_core.specs.Phase as phase;
+ghost use Rattle.session_core.specs.State.{IsAgreed, IsOpening, IsProper, in_phase, opened};
+ghost use Rattle.session_core.specs.Table.{one_more, third};
+ghost use Rattle.session_core.specs.declared.reply.Reply.TheVariants as reply;
+
+use crate::parameters::{LONGEST_PDU, is_platform, longest};
+use crate::{Peers, Replies, Reply};
+use ldp_grammar::{LdpId, SessionParams};
+
+/// What a session that stands has: its two ends; the hold time and the longest PDU in force; and the ticks since the last PDU
+/// was heard, and since the last one was put.
+#[derive(Clone, Copy, Debug, PartialEq, Eq)]
+pub struct Standing {
+    pub peers: Peers,
+    pub hold: u16,
+    pub max_pdu: u16,
+    pub wait: u64,
+    pub silence: u64,
+}
+
+impl Standing {
+    /// A connection of which nothing came yet.
+    pub fn opened(peers: Peers) -> Standing
+        requires { IsProper peers }
+        ensures state { in_phase phase.Initialized result ≡ opened peers }
+        ensures opening { IsOpening result }
+    {
+        Standing {
+            peers,
+            hold: peers.keepalive,
+            max_pdu: LONGEST_PDU,
+            wait: 0,
+            silence: 0,
+        }
+    }
+
+    /// What the two proposals agree on: the smaller of both, of the KeepAlive Time and of the Max PDU Length. The proposal
+    /// is acceptable.
+    pub fn agreed(self, params: &SessionParams) -> Standing
+        requires opening { IsOpening self }
+        requires acceptable { refusal_of self.peers params.now ≡ None }
+        ensures state { result ≡ record self { hold = min self.peers.keepalive params.now.keepalive; max_pdu = min self.peers.max_pdu (longest params.now.max_pdu) } }
+        ensures agreed { IsAgreed result }
+    {
+        Standing {
+            hold: self.peers.keepalive.min(params.keepalive),
+            max_pdu: self.peers.max_pdu.min(longest(params.max_pdu)),
+            ..self
+        }
+    }
+
+    /// The same, once a PDU of the sender came; `None` exactly where the sender is not the peer with label space 0.
+    pub fn heard(self, sender: LdpId) -> Option<Standing>
+        ensures other { (result ≡ None) ↔ (is_platform self.peers.peer sender ≡ false) }
+        ensures some { IfSome result (λ next. next ≡ record self { wait = 0 }) }
+    {
+        if !is_platform(self.peers.peer, sender) {
+            return None;
+        }
+        Some(Standing { wait: 0, ..self })
+    }
+
+    /// The same, once something was put.
+    pub fn spoke(self) -> Standing
+        ensures { result ≡ record self { silence = 0 } }
+    {
+        Standing { silence: 0, ..self }
+    }
+
+    /// The same a tick later; `None` exactly where nothing was then heard for the hold time.
+    #[tactic(auto, unfolding(crate::specs::Table::one_more), using(crate::proofs::TickLemmas::quiet_by_count))]
+    pub fn later(self) -> Option<Standing>
+        requires { self.wait < 2 ^ 16 }
+        ensures expired { IfNone result (nat_le self.hold (self.wait + 1) ≡ true) }
+        ensures going { IfSome result (λ next. nat_le self.hold (self.wait + 1) ≡ false) }
+        ensures state { IfSome result (λ next. next ≡ record self { wait = self.wait + 1; silence = one_more self.silence }) }
+        ensures quiet { IfSome result (λ next. nat_le (third next.hold) next.silence ≡ nat_le (third self.hold) (self.silence + 1)) }
+    {
+        let wait = self.wait + 1;
+        if self.hold as u64 <= wait {
+            return None;
+        }
+        let silence = self.silence.saturating_add(1);
+        Some(Standing {
+            wait,
+            silence,
+            ..self
+        })
+    }
+
+    /// A KeepAlive, where nothing was put for a third of the hold time, and for one tick at least (RFC 5036 section 2.5.6).
+    pub fn keep_alive(&self) -> Replies
+        ensures { result ≡ (if nat_le (third self.now.hold) self.now.silence then reply.KeepAlive ∷ [] else []) }
+    {
+        let third = (self.hold / 3).max(1);
+        if third as u64 <= self.silence {
+            return Replies::one(Reply::KeepAlive);
+        }
+        Replies::none()
+    }
+}
