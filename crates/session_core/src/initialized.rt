@@ -23,7 +23,7 @@ use net_base::Reason;
 use std::marker::Model;
 
 /// There is a connection, and no Initialization was sent or accepted (RFC 5036 section 2.5.4). Contracts see what
-/// the session has.
+/// the session has, a `Standing`.
 #[derive(Debug, Drop)]
 pub struct Initialized {
     standing: Standing,
@@ -111,7 +111,7 @@ impl Initialized {
 
     /// Something was put to the peer: no tick has passed since.
     pub fn spoke(self) -> Self
-        ensures { Stands (in_phase phase.Initialized result) ≡ after phase.Initialized self Spoke }
+        ensures session { Stands (in_phase phase.Initialized result) ≡ after phase.Initialized self Spoke }
     {
         Initialized {
             standing: self.standing.spoke(),

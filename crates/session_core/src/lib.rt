@@ -2,6 +2,9 @@
 //!
 //! Each state is a type, and a call that moves a session takes its state and gives the next one, with what is to be put to
 //! the peer. `specs/Table.antt` has the table of all states; it is the same for both ends.
+//!
+//! A caller tells a session each PDU that came (`heard`) and then each of its messages (`on_message`), octets that are no PDU
+//! (`refused`), each time that it put something (`spoke`), each tick (`tick`), and that the connection is gone (`closed`).
 #![tactic(auto)]
 
 mod ended;

@@ -21,7 +21,7 @@ use net_base::Reason;
 use std::marker::Model;
 
 /// The peer's Initialization was accepted, and a KeepAlive is awaited (RFC 5036 section 2.5.4). Contracts see what the
-/// session has.
+/// session has, a `Standing`.
 #[derive(Debug, Drop)]
 pub struct OpenRec {
     standing: Standing,
@@ -90,7 +90,7 @@ impl OpenRec {
 
     /// Something was put to the peer: no tick has passed since.
     pub fn spoke(self) -> Self
-        ensures { Stands (in_phase phase.OpenRec result) ≡ after phase.OpenRec self Spoke }
+        ensures session { Stands (in_phase phase.OpenRec result) ≡ after phase.OpenRec self Spoke }
     {
         OpenRec {
             standing: self.standing.spoke(),

@@ -21,7 +21,8 @@ use ldp_grammar::{LdpId, Message, SessionParams, StatusCode};
 use net_base::Reason;
 use std::marker::Model;
 
-/// The active end sent its Initialization (RFC 5036 section 2.5.4). Contracts see what the session has.
+/// The active end sent its Initialization (RFC 5036 section 2.5.4). Contracts see what the session has, a
+/// `Standing`.
 #[derive(Debug, Drop)]
 pub struct OpenSent {
     standing: Standing,
@@ -94,7 +95,7 @@ impl OpenSent {
 
     /// Something was put to the peer: no tick has passed since.
     pub fn spoke(self) -> Self
-        ensures { Stands (in_phase phase.OpenSent result) ≡ after phase.OpenSent self Spoke }
+        ensures session { Stands (in_phase phase.OpenSent result) ≡ after phase.OpenSent self Spoke }
     {
         OpenSent {
             standing: self.standing.spoke(),

@@ -18,7 +18,8 @@ use ldp_grammar::{LdpId, Message, StatusCode};
 use net_base::Reason;
 use std::marker::Model;
 
-/// The session is up (RFC 5036 section 2.5.4). Contracts see what the session has.
+/// The session is up (RFC 5036 section 2.5.4). Contracts see what the session has, a
+/// `Standing`.
 #[derive(Debug, Drop)]
 pub struct Operational {
     standing: Standing,
@@ -88,7 +89,7 @@ impl Operational {
 
     /// Something was put to the peer: no tick has passed since.
     pub fn spoke(self) -> Self
-        ensures { Stands (in_phase phase.Operational result) ≡ after phase.Operational self Spoke }
+        ensures session { Stands (in_phase phase.Operational result) ≡ after phase.Operational self Spoke }
     {
         Operational {
             standing: self.standing.spoke(),

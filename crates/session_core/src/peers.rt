@@ -7,7 +7,8 @@ use byteorder::{BigEndian, ByteOrder};
 use ldp_grammar::{LdpId, SessionParams};
 use net_base::Addr;
 
-/// The two ends of a session, and what this one proposes. The two addresses differ.
+/// The two ends of a session, and what this one proposes. A session asks that the two addresses differ, and that both
+/// proposals are in range.
 #[derive(Clone, Copy, Debug, PartialEq, Eq)]
 pub struct Peers {
     /// The address of this end, its LSR identifier (RFC 5036 section 2.2.2).

@@ -163,6 +163,15 @@ fn receive_octets(
     }
 }
 
+// What the octets of an Initialization propose.
+fn proposal_in(alloc: Global, octets: &[u8]) -> Result<Option<SessionParams>, Fail> {
+    let pdu = decode_pdu(alloc, octets, 4096)?;
+    match pdu.messages.get(0) {
+        Some(Message::Initialization { params, .. }) => Ok(Some(*params)),
+        _ => Ok(None),
+    }
+}
+
 // An Initialization with Message ID 7.
 fn proposing(params: SessionParams) -> Message {
     Message::Initialization { id: 7, params }
@@ -212,6 +221,8 @@ fn both_ends_come_up(rt: HostRuntime) -> Result<(), Fail> {
     let alloc = rt.alloc();
     assert!(rt; ACTIVE.is_active());
     assert!(rt; !PASSIVE.is_active());
+    assert!(rt; proposal_in(alloc, &ACTIVE_INIT)? == Some(ACTIVE.proposal()));
+    assert!(rt; proposal_in(alloc, &PASSIVE_INIT)? == Some(PASSIVE.proposal()));
     let (active, replies) = Initialized::new(ACTIVE).start();
     let active = Session::OpenSent(active);
     assert!(rt; summary(&active, &replies) == goes(StateName::OpenSent, Some(Reply::Init), None));
@@ -244,46 +255,53 @@ fn refuses(rt: &impl Abort, passive: SessionParams, active: SessionParams, told:
     assert!(rt; summary(&session, &replies) == told);
 }
 
+// The proposal with another version and KeepAlive Time.
+fn changed(params: SessionParams, version: u16, keepalive: u16) -> SessionParams {
+    SessionParams {
+        version,
+        keepalive,
+        ..params
+    }
+}
+
 #[test]
 fn refuses_proposals_in_order(rt: HostRuntime) {
     let to_passive = ACTIVE.proposal();
     let to_active = PASSIVE.proposal();
-    // Another version, and all else wrong too.
-    let wrong = SessionParams {
-        version: 2,
-        keepalive: 0,
-        ..to_passive
-    };
+    // Version, receiver and KeepAlive Time are wrong: each end gets what is for the other one.
     let told = ends_about(Reason::BadVersion, 0x02, 7, 0x0200);
-    refuses(&rt, wrong, wrong, told);
-    // The receiver is the sender itself, and the KeepAlive Time is 0.
-    let wrong = SessionParams {
-        keepalive: 0,
-        ..to_passive
-    };
-    let other = SessionParams {
-        keepalive: 0,
-        ..to_active
-    };
+    refuses(
+        &rt,
+        changed(to_active, 2, 0),
+        changed(to_passive, 0, 0),
+        told,
+    );
+    // Receiver and KeepAlive Time are wrong.
     let told = ends_about(Reason::BadReceiver, 0x10, 7, 0x0200);
-    refuses(&rt, other, wrong, told);
-    // Another label space.
-    let spaced = LdpId {
-        router: Addr([10, 0, 0, 1]),
+    refuses(
+        &rt,
+        changed(to_active, 1, 0),
+        changed(to_passive, 1, 0),
+        told,
+    );
+    // The receiver's label space alone is wrong.
+    let receiver = LdpId {
+        router: PASSIVE.me,
         space: 1,
     };
-    let other = SessionParams {
-        receiver: spaced,
+    let spaced = SessionParams {
+        receiver,
         ..to_passive
     };
-    refuses(&rt, other, wrong, told);
-    // KeepAlive Time 0.
+    refuses(&rt, spaced, to_passive, told);
+    // The KeepAlive Time alone is wrong.
     let told = ends_about(Reason::ZeroKeepAlive, 0x18, 7, 0x0200);
-    let zero = SessionParams {
-        keepalive: 0,
-        ..to_active
-    };
-    refuses(&rt, wrong, zero, told);
+    refuses(
+        &rt,
+        changed(to_passive, 1, 0),
+        changed(to_active, 1, 0),
+        told,
+    );
 }
 
 // The longest PDU that is agreed on with a peer that proposes so many octets.
