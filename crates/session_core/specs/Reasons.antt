@@ -58,6 +58,11 @@ abbrev pub is_keep_alive : Message → Bool
 is_keep_alive (KeepAlive id) = true
 is_keep_alive message = false
 
+-- the message is a fatal Notification
+abbrev pub is_fatal : Message → Bool
+is_fatal (Notification id status pw_status fec) = status.fatal
+is_fatal message = false
+
 -- the message is a fatal Notification with the data of a shutdown
 abbrev pub tells_shutdown : Message → Bool
 tells_shutdown (Notification id status pw_status fec) = status.fatal && status.code == shutdown

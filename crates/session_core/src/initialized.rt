@@ -22,8 +22,8 @@ use ldp_grammar::{LdpId, Message, SessionParams, StatusCode};
 use net_base::Reason;
 use std::marker::Model;
 
-/// There is a connection, and no Initialization was sent or accepted (RFC 5036 section 2.5.4). Contracts see what
-/// the session has, a `Standing`.
+/// There is a connection, and no Initialization was sent or accepted (RFC 5036 section 2.5.4). Contracts see it as what the
+/// session has, a `Standing`.
 #[derive(Debug, Drop)]
 pub struct Initialized {
     standing: Standing,

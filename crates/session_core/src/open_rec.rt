@@ -20,7 +20,7 @@ use ldp_grammar::{LdpId, Message, StatusCode};
 use net_base::Reason;
 use std::marker::Model;
 
-/// The peer's Initialization was accepted, and a KeepAlive is awaited (RFC 5036 section 2.5.4). Contracts see what the
+/// The peer's Initialization was accepted, and a KeepAlive is awaited (RFC 5036 section 2.5.4). Contracts see it as what the
 /// session has, a `Standing`.
 #[derive(Debug, Drop)]
 pub struct OpenRec {

@@ -21,8 +21,7 @@ use ldp_grammar::{LdpId, Message, SessionParams, StatusCode};
 use net_base::Reason;
 use std::marker::Model;
 
-/// The active end sent its Initialization (RFC 5036 section 2.5.4). Contracts see what the session has, a
-/// `Standing`.
+/// The active end sent its Initialization (RFC 5036 section 2.5.4). Contracts see it as what the session has, a `Standing`.
 #[derive(Debug, Drop)]
 pub struct OpenSent {
     standing: Standing,

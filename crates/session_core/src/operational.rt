@@ -1,9 +1,10 @@
 //! The state in which the session is up.
 ghost use Rattle.std.specs.Prelude.{◌≡◌, ◌≢◌, ◌↔◌, ◌⊎◌, ◌≤◌, ◌+◌, [], ◌∷◌, false, IsTrue, ◌<◌};
+ghost use Rattle.net_base.specs.declared.state_name.StateName.TheVariants as name;
 ghost use Rattle.session_core.specs.declared.reply.Reply.TheVariants as reply;
 ghost use Rattle.session_core.specs.Phase as phase;
 ghost use Rattle.session_core.specs.Parameters.{is_platform};
-ghost use Rattle.session_core.specs.Reasons.{HasEnded, tells_error, tells_shutdown};
+ghost use Rattle.session_core.specs.Reasons.{HasEnded, is_fatal, IsIn, tells_error, tells_shutdown};
 ghost use Rattle.session_core.specs.Session.{view_of};
 ghost use Rattle.session_core.specs.State.{EndedBy, Stands, in_phase, IsAgreed};
 ghost use Rattle.session_core.specs.StatusCodes.{about_none, data_of};
@@ -18,8 +19,7 @@ use ldp_grammar::{LdpId, Message, StatusCode};
 use net_base::Reason;
 use std::marker::Model;
 
-/// The session is up (RFC 5036 section 2.5.4). Contracts see what the session has, a
-/// `Standing`.
+/// The session is up (RFC 5036 section 2.5.4). Contracts see it as what the session has, a `Standing`.
 #[derive(Debug, Drop)]
 pub struct Operational {
     standing: Standing,
@@ -51,6 +51,7 @@ impl Operational {
     pub fn on_message(self, message: &Message) -> (Session, Replies)
         ensures session { view_of result.0 ≡ after phase.Operational self (Received message.now) }
         ensures replies { result.1 ≡ said phase.Operational self (Received message.now) }
+        ensures stays { IsIn result.0 name.Operational ↔ (is_fatal message.now ≡ false) }
         ensures peer_shutdown { HasEnded result.0 Reason.PeerShutdown ↔ IsTrue (tells_shutdown message.now) }
         ensures peer_fatal { HasEnded result.0 Reason.PeerFatal ↔ IsTrue (tells_error message.now) }
     {
