@@ -1,11 +1,10 @@
 //! The notifications that a session puts (RFC 5036 sections 3.4.6 and 3.9).
 ghost use Rattle.std.specs.Prelude.{◌≡◌};
-ghost use Rattle.ldp_grammar.specs.Written.{id_of, written_type};
 ghost use Rattle.session_core.specs.StatusCodes.{about, about_none, data_of};
 
 use crate::Reply;
 use ldp_codec::DecodeFault;
-use ldp_grammar::{Message, MessageKind, StatusCode};
+use ldp_grammar::{Message, StatusCode};
 
 /// The PDU is of another sender.
 pub const BAD_LDP_IDENTIFIER: u32 = 0x01;
@@ -40,39 +39,16 @@ pub const BAD_KEEP_ALIVE_TIME: u32 = 0x18;
 /// Memory was refused.
 pub const INTERNAL_ERROR: u32 = 0x19;
 
-// The Message ID of a message, and its type without U bit.
-fn id_and_kind(message: &Message) -> (u32, u16)
-    ensures id { result.0 ≡ id_of message.now }
-    ensures kind { result.1 ≡ written_type message.now }
-{
-    match message {
-        Message::Notification { id, .. } => (*id, MessageKind::Notification.number()),
-        Message::Hello { id, .. } => (*id, MessageKind::Hello.number()),
-        Message::Initialization { id, .. } => (*id, MessageKind::Initialization.number()),
-        Message::KeepAlive { id } => (*id, MessageKind::KeepAlive.number()),
-        Message::Address { id, .. } => (*id, MessageKind::Address.number()),
-        Message::AddressWithdraw { id, .. } => (*id, MessageKind::AddressWithdraw.number()),
-        Message::LabelMapping { id, .. } => (*id, MessageKind::LabelMapping.number()),
-        Message::LabelRequest { id, .. } => (*id, MessageKind::LabelRequest.number()),
-        Message::LabelWithdraw { id, .. } => (*id, MessageKind::LabelWithdraw.number()),
-        Message::LabelRelease { id, .. } => (*id, MessageKind::LabelRelease.number()),
-        Message::LabelAbort { id, .. } => (*id, MessageKind::LabelAbort.number()),
-        Message::Other { id, kind, .. } => (*id, *kind),
-        Message::Unprocessed { id, kind, .. } => (*id, *kind),
-    }
-}
-
 /// A fatal Notification about the message: its Message ID and its type without U bit tell which (RFC 5036 section 3.4.6).
 pub fn about(message: &Message, code: u32) -> Reply
     ensures { result ≡ about message.now code }
 {
-    let (id, kind) = id_and_kind(message);
     Reply::Notice(StatusCode {
         fatal: true,
         forward: false,
         code,
-        message: id,
-        kind,
+        message: message.id(),
+        kind: message.message_type(),
     })
 }
 
