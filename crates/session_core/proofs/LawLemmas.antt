@@ -1,5 +1,6 @@
 -- The laws of the table.
 use Rattle.std.proofs.Common.{rules, ◌≡◌, ◌<◌, ◌==◌, ℕ, true, false, not, nat_lt, List, [], ◌∷◌, Option, Some, None, refl, ap, ◌∙◌, subst, arith}
+use Rattle.std.specs.List.{AllByRecursion}
 use Rattle.ldp_grammar.specs.declared.message.Message.{Message}
 use Rattle.ldp_grammar.specs.declared.message.Message.TheVariants.{Notification, Initialization, KeepAlive}
 use Rattle.ldp_grammar.specs.declared.session_params.SessionParams.{SessionParams}
@@ -7,14 +8,14 @@ use Rattle.ldp_grammar.specs.declared.status_code.StatusCode.{StatusCode}
 use Rattle.net_base.specs.declared.state_name.Reason.{Reason}
 use Rattle.session_core.specs.declared.peers.Peers.{Peers}
 use Rattle.session_core.specs.declared.reply.Reply.{Reply}
-use Rattle.session_core.specs.Laws.{tells_end, IsFarewell, OneNotice, NeverSilent, next_of, next_put, run_by, IsWithin, WithinProposals, IsAddress, IsFacing, EndsAgree}
+use Rattle.session_core.specs.Laws.{tells_end, IsFarewell, OneNotice, NeverSilent, next_put, run_by, IsWithin, WithinProposals, IsAddress, IsFacing, IsAgreement, Proposes, run, EndsAgree}
 use Rattle.session_core.proofs.AddressLemmas.{numbers_apart, one_larger}
-use Rattle.session_core.specs.Parameters.{proposal, refusal_of}
+use Rattle.session_core.specs.Parameters.{longest, proposal, refusal_of}
 use Rattle.session_core.specs.Phase.{Phase}
 use Rattle.session_core.specs.Phase as phase
 use Rattle.session_core.specs.State.{SessionState, SessionView, Stands, EndedBy, IsProper, is_active, opened, number_of}
 use Rattle.session_core.specs.StatusCodes.{about}
-use Rattle.session_core.specs.Table.{SessionEvent, Start, Heard, Received, Refused, Spoke, Ticked, Closed, Ends, is_agreed, outcome_of, third, view_after, notified, judged, reason_in, data_refusing}
+use Rattle.session_core.specs.Table.{SessionEvent, Start, Heard, Received, Refused, Spoke, Ticked, Closed, Ends, is_agreed, next_of, outcome_of, third, view_after, notified, judged, reason_in, data_refusing}
 
 -- a Notification that ends a session is answered where it is a shutdown and the session is up
 told : (s : SessionState) (message : Message) (status : StatusCode) (why : Reason) (replies : List Reply) → notified (reason_in status) s message ≡ Ends why replies → IsFarewell (tells_end s.phase why) replies
@@ -73,16 +74,25 @@ ended_stays why last is = grind (arith)
 stands_same : (s last : SessionState) → Stands s ≡ Stands last → s ≡ last
 stands_same s last is = grind (arith)
 
--- what holds at first, and is kept by each event, holds of every run
-ran : (next : SessionState → SessionEvent → SessionView) (Holds : SessionState → Type 0) → ((s t : SessionState) (event : SessionEvent) → Holds s → next s event ≡ Stands t → Holds t)
-    → (events : List SessionEvent) (s last : SessionState) → Holds s → run_by next s events ≡ Stands last → Holds last
-ran next Holds keeps [] s last holds is = subst Holds (stands_same s last is) holds
-ran next Holds keeps (event ∷ events) s last holds is = goes_on (λ t here rest. ran next Holds keeps events t last here rest) (next s event) refl is
+-- what holds at first, and is kept by each event of a kind, holds of every run of such events
+ran_by : (next : SessionState → SessionEvent → SessionView) (May : SessionEvent → Type 0) (Holds : SessionState → Type 0) → ((s t : SessionState) (event : SessionEvent) → May event → Holds s → next s event ≡ Stands t → Holds t)
+    → (events : List SessionEvent) (s last : SessionState) → AllByRecursion May events → Holds s → run_by next s events ≡ Stands last → Holds last
+ran_by next May Holds keeps [] s last may holds is = subst Holds (stands_same s last is) holds
+ran_by next May Holds keeps (event ∷ events) s last may holds is = goes_on (λ t here rest. ran_by next May Holds keeps events t last may.1 here rest) (next s event) refl is
   where
     goes_on : ((t : SessionState) → Holds t → run_by next t events ≡ Stands last → Holds last) → (view : SessionView) → next s event ≡ view
         → elim view [ Stands then_on ↦ run_by next then_on events | EndedBy why ↦ EndedBy why ] ≡ Stands last → Holds last
-    goes_on others (Stands t) after rest = others t (keeps s t event holds after) rest
+    goes_on others (Stands t) after rest = others t (keeps s t event may.0 holds after) rest
     goes_on others (EndedBy why) after rest = absurd (ended_stays why last rest)
+
+every_event : (events : List SessionEvent) → AllByRecursion (λ event. Unit {0}) events
+every_event [] = tt
+every_event (event ∷ events) = (tt, every_event events)
+
+-- the same of every run
+ran : (next : SessionState → SessionEvent → SessionView) (Holds : SessionState → Type 0) → ((s t : SessionState) (event : SessionEvent) → Holds s → next s event ≡ Stands t → Holds t)
+    → (events : List SessionEvent) (s last : SessionState) → Holds s → run_by next s events ≡ Stands last → Holds last
+ran next Holds keeps events s last holds is = ran_by next (λ event. Unit {0}) Holds (λ t u event may here after. keeps t u event here after) events s last (every_event events) holds is
 
 pub within_proposals : WithinProposals
 within_proposals ends events s proper is = ran next_of (IsWithin ends) (λ t u event within after. kept ends t u event proper within after) events (opened ends) s (grind (arith)) is
@@ -118,10 +128,33 @@ one_active one other facing me peer proper =
 accepted : (one other : Peers) → IsFacing one other → IsProper one → refusal_of other (proposal one) ≡ None
 accepted one other facing proper = search rules
 
+-- as long as each Initialization is the other end's, what was accepted are the smaller numbers of the two
+record Agrees (one other : Peers) (s : SessionState) : Type 0 where
+  same : s.peers ≡ one
+  numbers : is_agreed s.phase ≡ true → IsAgreement one other s
+
+-- a Max PDU Length that an end may propose means itself
+meant : (other : Peers) → IsProper other → longest other.max_pdu ≡ other.max_pdu
+meant other proper = grind (arith, proper.least, proper.most)
+
+agree_kept : (one other : Peers) (s next : SessionState) (event : SessionEvent) → IsProper other → Proposes (proposal other) event → Agrees one other s → next_of s event ≡ Stands next → Agrees one other next
+agree_kept one other s next Start proper may agrees is = grind (arith)
+agree_kept one other s next (Heard sender) proper may agrees is = grind (arith)
+agree_kept one other s next (Received message) proper may agrees is = grind (arith, meant)
+agree_kept one other s next (Refused wrong) proper may agrees is = grind (arith)
+agree_kept one other s next Spoke proper may agrees is = grind (arith)
+agree_kept one other s next Ticked proper may agrees is = grind (arith)
+agree_kept one other s next (Closed lost) proper may agrees is = grind (arith)
+
+agreed_by : (one other : Peers) (events : List SessionEvent) (s : SessionState) → IsProper other → AllByRecursion (Proposes (proposal other)) events → run (opened one) events ≡ Stands s → Agrees one other s
+agreed_by one other events s proper may is =
+    ran_by next_of (Proposes (proposal other)) (Agrees one other) (λ t u event may' agrees after. agree_kept one other t u event proper may' agrees after) events (opened one) s may (grind (arith)) is
+
 pub ends_agree : EndsAgree
 ends_agree = record {
   one_active = one_active;
   acceptable = accepted;
+  agreed = λ one other events s facing proper proper' may is. (agreed_by one other events s proper' may is).numbers;
   active_up = λ one other first second facing proper proper' active. search rules;
   passive_up = λ one other first second facing proper proper' active. search rules;
 }

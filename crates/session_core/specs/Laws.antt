@@ -2,8 +2,8 @@
 use Rattle.std.specs.Prelude.{◌≡◌, ◌≢◌, ◌≤◌, ◌<◌, ◌⊎◌, ℕ, Bool, true, false, not, min, List, [], ◌∷◌, length, None}
 use Rattle.std.specs.List.{AllByRecursion}
 use Rattle.net_base.specs.declared.addr.Addr.{Addr}
-use Rattle.ldp_codec.specs.declared.decode_fault.DecodeFault.TheVariants as fault
 use Rattle.ldp_grammar.specs.declared.message.Message.TheVariants.{Initialization, KeepAlive}
+use Rattle.ldp_grammar.specs.declared.session_params.SessionParams.{SessionParams}
 use Rattle.net_base.specs.declared.state_name.Reason.{Reason}
 use Rattle.net_base.specs.declared.state_name.Reason.TheVariants as reason
 use Rattle.session_core.specs.declared.peers.Peers.{Peers}
@@ -13,12 +13,10 @@ use Rattle.session_core.specs.Parameters.{proposal, refusal_of}
 use Rattle.session_core.specs.Phase.{Phase}
 use Rattle.session_core.specs.Phase as phase
 use Rattle.session_core.specs.State.{SessionState, SessionView, Stands, EndedBy, IsProper, is_active, opened}
-use Rattle.session_core.specs.Table.{SessionEvent, Start, Heard, Received, Refused, Spoke, Ticked, Closed, Goes, Ends, is_agreed, outcome_of, replies_of, third, view_after}
+use Rattle.session_core.specs.Table.{SessionEvent, Start, Heard, Received, Refused, Spoke, Ticked, Closed, Goes, Ends, is_agreed, next_of, outcome_of, replies_of, third}
 
--- the calls that make an event ask for this: octets are refused by a fault of theirs, and a connection closes because it was
--- lost, or because the link did not take a PDU
+-- the calls that make an event ask for this: a connection closes because it was lost, or because the link did not take a PDU
 abbrev pub MayCome : SessionEvent → Type 0
-MayCome (Refused why) = why ≢ fault.NoMemory
 MayCome (Closed why) = (why ≡ reason.Closed) ⊎ (why ≡ reason.LinkFault)
 MayCome event = Unit {0}
 
@@ -88,10 +86,6 @@ pub record EnteredByMessages : Type 0 where
   pub open_rec : (s next : SessionState) (event : SessionEvent) (replies : List Reply) → outcome_of s event ≡ Goes next replies → next.phase ≡ phase.OpenRec
       → (s.phase ≡ phase.OpenRec) ⊎ IsAcceptable s event
 
--- what an event makes of a session
-abbrev pub next_of : SessionState → SessionEvent → SessionView
-next_of s event = view_after s (outcome_of s event)
-
 -- what events make of a session, one after another, until it ends
 abbrev pub run_by : (SessionState → SessionEvent → SessionView) → SessionState → List SessionEvent → SessionView
 run_by next s [] = Stands s
@@ -100,8 +94,9 @@ run_by next s (event ∷ events) = elim (next s event) [ Stands then_on ↦ run_
 abbrev pub run : SessionState → List SessionEvent → SessionView
 run s events = run_by next_of s events
 
--- the hold time and the longest PDU of a session between these ends: no more than this one proposed, and a PDU of 256 octets
--- always has room; fewer ticks than the own KeepAlive Time have passed since the last PDU was heard
+-- The hold time of a session between these ends is no more than this one proposed, and so is the longest PDU once an
+-- Initialization was accepted; a PDU of 256 octets always has room, and one of more than 4096 never; fewer ticks than the own
+-- KeepAlive Time have passed since the last PDU was heard.
 pub record IsWithin (ends : Peers) (s : SessionState) : Type 0 where
   pub same : s.peers ≡ ends
   pub some : 1 ≤ s.hold
@@ -111,7 +106,7 @@ pub record IsWithin (ends : Peers) (s : SessionState) : Type 0 where
   pub own : is_agreed s.phase ≡ true → s.max_pdu ≤ ends.max_pdu
   pub waiting : s.wait < ends.keepalive
 
--- Whatever comes, a session keeps within what its end proposed.
+-- Whatever comes, a session keeps within this.
 abbrev pub WithinProposals : Type 0
 WithinProposals = (ends : Peers) (events : List SessionEvent) (s : SessionState) → IsProper ends → run (opened ends) events ≡ Stands s → IsWithin ends s
 
@@ -147,12 +142,25 @@ pub record IsUp (view : SessionView) (hold max_pdu : ℕ) : Type 0 where
   pub time : state.hold ≡ hold
   pub longest : state.max_pdu ≡ max_pdu
 
--- Of two ends that face each other one is active; each accepts what the other proposes; and once each has had the other's
--- Initialization and a KeepAlive, both are up with the same hold time and the same longest PDU, the smaller of the two that
--- were proposed (RFC 5036 sections 2.5.2 to 2.5.4 and 3.5.3).
+-- where the event is an Initialization, it proposes this
+abbrev pub Proposes : SessionParams → SessionEvent → Type 0
+Proposes params (Received (Initialization id given)) = given ≡ params
+Proposes params event = Unit {0}
+
+-- the smaller of what two ends propose is in force
+pub record IsAgreement (one other : Peers) (s : SessionState) : Type 0 where
+  pub time : s.hold ≡ min one.keepalive other.keepalive
+  pub longest : s.max_pdu ≡ min one.max_pdu other.max_pdu
+
+-- Of two ends that face each other one is active; each accepts what the other proposes; and whatever events come to an end,
+-- if each Initialization among them is the other's, then once one was accepted the hold time and the longest PDU are the
+-- smaller of the two that were proposed, so the same at both. The other's Initialization and a KeepAlive bring an end up (RFC
+-- 5036 sections 2.5.2 to 2.5.4 and 3.5.3).
 pub record EndsAgree : Type 0 where
   pub one_active : (one other : Peers) → IsFacing one other → IsAddress one.me → IsAddress one.peer → IsProper one → is_active other ≡ not (is_active one)
   pub acceptable : (one other : Peers) → IsFacing one other → IsProper one → refusal_of other (proposal one) ≡ None
+  pub agreed : (one other : Peers) (events : List SessionEvent) (s : SessionState) → IsFacing one other → IsProper one → IsProper other → AllByRecursion (Proposes (proposal other)) events
+      → run (opened one) events ≡ Stands s → is_agreed s.phase ≡ true → IsAgreement one other s
   pub active_up : (one other : Peers) (first second : ℕ) → IsFacing one other → IsProper one → IsProper other → is_active one ≡ true
       → IsUp (run (opened one) (Start ∷ Received (Initialization first (proposal other)) ∷ Received (KeepAlive second) ∷ [])) (min one.keepalive other.keepalive) (min one.max_pdu other.max_pdu)
   pub passive_up : (one other : Peers) (first second : ℕ) → IsFacing one other → IsProper one → IsProper other → is_active one ≡ true

@@ -22,8 +22,8 @@ HasEnded session why = view_of session ≡ EndedBy why
 abbrev pub IsIn : Session → StateName → Type 0
 IsIn session name = name_of (view_of session) ≡ name
 
--- a state expects the message: an Initialization as long as this end may not have had one, then a KeepAlive; every message
--- once the session is up; and a Notification always
+-- a state expects the message: an Initialization in Initialized at the passive end, and in OpenSent; a KeepAlive in OpenRec;
+-- every message once the session is up; and a Notification always
 abbrev pub expects : Phase → Bool → Message → Bool
 expects state active (Notification id status pw_status fec) = true
 expects phase.Operational active message = true

@@ -1,4 +1,4 @@
--- What contracts see of a session (RFC 5036 sections 2.5.3 to 2.5.6).
+-- What contracts see of a session (RFC 5036 sections 2.5.3, 2.5.4 and 2.5.6).
 use Rattle.std.specs.Prelude.{◌≡◌, ◌≤◌, ◌<◌, ℕ, Bool, false, nat_lt, bytes_eq}
 use Rattle.byteorder.specs.Endian.{big_number}
 use Rattle.net_base.specs.declared.addr.Addr.{Addr}
@@ -31,7 +31,8 @@ in_phase state s = record { phase = state; peers = s.peers; hold = s.hold; max_p
 abbrev pub number_of : Addr → ℕ
 number_of address = big_number 4 address.0
 
--- the end with the larger address is the active one: it opens the connection and speaks first (RFC 5036 section 2.5.2)
+-- the end with the larger address is the active one: it opens the connection and speaks first (RFC 5036 sections 2.5.2 and
+-- 2.5.3)
 abbrev pub is_active : Peers → Bool
 is_active peers = nat_lt (number_of peers.peer) (number_of peers.me)
 

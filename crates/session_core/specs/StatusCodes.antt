@@ -8,38 +8,38 @@ use Rattle.session_core.specs.declared.reply.Reply.{Reply}
 use Rattle.session_core.specs.declared.reply.Reply.TheVariants.{Notice}
 
 abbrev pub bad_ldp_identifier : ℕ
-bad_ldp_identifier = 1
+bad_ldp_identifier = 0x01
 
 abbrev pub bad_protocol_version : ℕ
-bad_protocol_version = 2
+bad_protocol_version = 0x02
 
 abbrev pub bad_pdu_length : ℕ
-bad_pdu_length = 3
+bad_pdu_length = 0x03
 
 abbrev pub bad_message_length : ℕ
-bad_message_length = 5
+bad_message_length = 0x05
 
 abbrev pub bad_tlv_length : ℕ
-bad_tlv_length = 7
+bad_tlv_length = 0x07
 
 abbrev pub malformed_tlv_value : ℕ
-malformed_tlv_value = 8
+malformed_tlv_value = 0x08
 
 abbrev pub shutdown : ℕ
-shutdown = 10
+shutdown = 0x0a
 
 -- "Session Rejected/No Hello": the Initialization is for another receiver
 abbrev pub no_hello : ℕ
-no_hello = 16
+no_hello = 0x10
 
 abbrev pub keep_alive_timer_expired : ℕ
-keep_alive_timer_expired = 20
+keep_alive_timer_expired = 0x14
 
 abbrev pub bad_keep_alive_time : ℕ
-bad_keep_alive_time = 24
+bad_keep_alive_time = 0x18
 
 abbrev pub internal_error : ℕ
-internal_error = 25
+internal_error = 0x19
 
 -- a fatal Notification about a message; its Message ID and its type without U bit tell which
 abbrev pub about : Message → ℕ → Reply

@@ -142,9 +142,13 @@ replies_of Stay = []
 replies_of (Goes next replies) = replies
 replies_of (Ends why replies) = replies
 
+-- what an event makes of a session
+abbrev pub next_of : SessionState → SessionEvent → SessionView
+next_of s event = view_after s (outcome_of s event)
+
 -- the session after an event, and what is put, for a session of a state that has this
 abbrev pub after : Phase → Standing → SessionEvent → SessionView
-after state s event = view_after (in_phase state s) (outcome_of (in_phase state s) event)
+after state s event = next_of (in_phase state s) event
 
 abbrev pub said : Phase → Standing → SessionEvent → List Reply
 said state s event = replies_of (outcome_of (in_phase state s) event)

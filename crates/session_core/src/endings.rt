@@ -1,14 +1,15 @@
 //! How a session of any state ends.
 ghost use Rattle.std.specs.Prelude.{◌≡◌, [], ◌∷◌, Some};
 ghost use Rattle.session_core.specs.Reasons.{HasEnded};
-ghost use Rattle.session_core.specs.StatusCodes.{about, about_none, bad_ldp_identifier, keep_alive_timer_expired, shutdown};
+ghost use Rattle.session_core.specs.StatusCodes.{about, about_none, bad_ldp_identifier, data_of, keep_alive_timer_expired, shutdown};
 ghost use Rattle.session_core.specs.Table.{data_refusing, reason_in};
 
 use crate::notice::{
     BAD_KEEP_ALIVE_TIME, BAD_LDP_IDENTIFIER, BAD_PROTOCOL_VERSION, KEEP_ALIVE_TIMER_EXPIRED,
-    NO_HELLO, SHUTDOWN, about, about_none,
+    NO_HELLO, SHUTDOWN, about, about_none, data_of,
 };
 use crate::{Ended, Replies, Reply, Session};
+use ldp_codec::DecodeFault;
 use ldp_grammar::{Message, StatusCode};
 use net_base::Reason;
 
@@ -50,6 +51,17 @@ pub fn expired() -> (Session, Replies)
     ensures replies { result.1 ≡ about_none keep_alive_timer_expired ∷ [] }
 {
     ended_with(Reason::Expired, about_none(KEEP_ALIVE_TIMER_EXPIRED))
+}
+
+/// It ends as what came is no PDU (RFC 5036 section 3.5.1.2).
+pub fn refused(fault: DecodeFault) -> (Ended, Replies)
+    ensures reason { result.0 ≡ Reason.Decode }
+    ensures replies { result.1 ≡ about_none (data_of fault) ∷ [] }
+{
+    (
+        Ended::by(Reason::Decode),
+        Replies::one(about_none(data_of(fault))),
+    )
 }
 
 /// It ends as the message proposes what is refused for this reason (RFC 5036 section 3.5.3).

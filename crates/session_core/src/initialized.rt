@@ -12,8 +12,9 @@ ghost use Rattle.session_core.specs.State.{EndedBy, Stands, in_phase, IsProper, 
 ghost use Rattle.session_core.specs.StatusCodes.{about_none, data_of};
 ghost use Rattle.session_core.specs.Table.{after, Closed, Heard, notified, reason_in, Received, Refused, said, Spoke, Start, Ticked, view_after};
 
-use crate::endings::{bad_identifier, ended, expired, reason_in, refused_proposal, unexpected};
-use crate::notice::{about_none, data_of};
+use crate::endings::{
+    bad_identifier, ended, expired, reason_in, refused, refused_proposal, unexpected,
+};
 use crate::parameters::refusal_of;
 use crate::standing::Standing;
 use crate::{Ended, OpenRec, OpenSent, Peers, Replies, Reply, Session};
@@ -103,10 +104,7 @@ impl Initialized {
         ensures session { EndedBy result.0 ≡ after phase.Initialized self (Refused fault) }
         ensures replies { result.1 ≡ about_none (data_of fault) ∷ [] }
     {
-        (
-            Ended::by(Reason::Decode),
-            Replies::one(about_none(data_of(fault))),
-        )
+        refused(fault)
     }
 
     /// Something was put to the peer: no tick has passed since.

@@ -2,7 +2,7 @@
 ghost use Rattle.session_core.specs.Laws.{EndsAgree, EnteredByMessages, NeverSilent, OneNotice, ReasonsByCause, WithinProposals};
 
 /// A session that ends puts one fatal Notification, or nothing: nothing where the peer ended it or the connection is lost,
-/// except that a shutdown is answered where the session is up (RFC 5036 section 3.5.1.1).
+/// except that a shutdown is answered where the session is up (RFC 5036 sections 2.5.4 and 3.5.1.1).
 pub fn one_notice_at_most()
     ensures { OneNotice }
 {}
@@ -31,9 +31,9 @@ pub fn never_silent()
     ensures { NeverSilent }
 {}
 
-/// Two ends that face each other agree: one of them is active, each accepts what the other proposes, and once each has had
-/// the other's Initialization and a KeepAlive, both are up with the same hold time and the same longest PDU (RFC 5036
-/// sections 2.5.2 to 2.5.4 and 3.5.3).
+/// Two ends that face each other agree: one of them is active, each accepts what the other proposes, and whatever comes, as
+/// long as each Initialization is the other's, once one was accepted both have the same hold time and the same longest PDU.
+/// The other's Initialization and a KeepAlive bring an end up (RFC 5036 sections 2.5.2 to 2.5.4 and 3.5.3).
 pub fn ends_agree()
     ensures { EndsAgree }
 {}

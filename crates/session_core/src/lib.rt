@@ -1,4 +1,4 @@
-//! LDP sessions as machines with no input or output in them (RFC 5036 sections 2.5.3 to 2.5.6, 3.5.1.1 and 3.5.3).
+//! LDP sessions as machines with no input or output in them (RFC 5036 sections 2.5.3, 2.5.4, 2.5.6, 3.5.1.1 and 3.5.3).
 //!
 //! Each state is a type, and a call that moves a session takes its state and gives the next one, with what is to be put to
 //! the peer. `specs/Table.antt` has the table of all states; it is the same for both ends.
@@ -36,6 +36,7 @@ pub use peers::Peers;
 pub use replies::Replies;
 pub use reply::Reply;
 pub use session::Session;
+pub use standing::Standing;
 
 #[cfg(test)]
 mod tests;

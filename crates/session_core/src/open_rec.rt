@@ -11,8 +11,7 @@ ghost use Rattle.session_core.specs.State.{EndedBy, Stands, in_phase, IsAgreed, 
 ghost use Rattle.session_core.specs.StatusCodes.{about_none, data_of};
 ghost use Rattle.session_core.specs.Table.{after, Closed, Heard, notified, reason_in, Received, Refused, said, Spoke, third, Ticked, view_after};
 
-use crate::endings::{bad_identifier, ended, expired, reason_in, unexpected};
-use crate::notice::{about_none, data_of};
+use crate::endings::{bad_identifier, ended, expired, reason_in, refused, unexpected};
 use crate::standing::Standing;
 use crate::{Ended, Operational, Replies, Session};
 use ldp_codec::DecodeFault;
@@ -82,10 +81,7 @@ impl OpenRec {
         ensures session { EndedBy result.0 ≡ after phase.OpenRec self (Refused fault) }
         ensures replies { result.1 ≡ about_none (data_of fault) ∷ [] }
     {
-        (
-            Ended::by(Reason::Decode),
-            Replies::one(about_none(data_of(fault))),
-        )
+        refused(fault)
     }
 
     /// Something was put to the peer: no tick has passed since.

@@ -4,14 +4,14 @@ ghost use Rattle.net_base.specs.declared.state_name.StateName.TheVariants as nam
 ghost use Rattle.session_core.specs.declared.reply.Reply.TheVariants as reply;
 ghost use Rattle.session_core.specs.Phase as phase;
 ghost use Rattle.session_core.specs.Parameters.{is_platform};
-ghost use Rattle.session_core.specs.Reasons.{HasEnded, is_fatal, IsIn, tells_error, tells_shutdown};
+ghost use Rattle.session_core.specs.Reasons.{expects, HasEnded, is_fatal, IsIn, tells_error, tells_shutdown};
 ghost use Rattle.session_core.specs.Session.{view_of};
-ghost use Rattle.session_core.specs.State.{EndedBy, Stands, in_phase, IsAgreed};
+ghost use Rattle.session_core.specs.State.{EndedBy, Stands, in_phase, is_active, IsAgreed};
 ghost use Rattle.session_core.specs.StatusCodes.{about_none, data_of};
 ghost use Rattle.session_core.specs.Table.{after, Closed, Heard, notified, reason_in, Received, Refused, replies_of, said, Spoke, third, Ticked, view_after};
 
-use crate::endings::{bad_identifier, ended, ended_with, expired, reason_in};
-use crate::notice::{SHUTDOWN, about, about_none, data_of};
+use crate::endings::{bad_identifier, ended, ended_with, expired, reason_in, refused};
+use crate::notice::{SHUTDOWN, about};
 use crate::standing::Standing;
 use crate::{Ended, Replies, Session};
 use ldp_codec::DecodeFault;
@@ -51,6 +51,7 @@ impl Operational {
     pub fn on_message(self, message: &Message) -> (Session, Replies)
         ensures session { view_of result.0 ≡ after phase.Operational self (Received message.now) }
         ensures replies { result.1 ≡ said phase.Operational self (Received message.now) }
+        ensures unexpected { HasEnded result.0 Reason.Unexpected ↔ (expects phase.Operational (is_active self.peers) message.now ≡ false) }
         ensures stays { IsIn result.0 name.Operational ↔ (is_fatal message.now ≡ false) }
         ensures peer_shutdown { HasEnded result.0 Reason.PeerShutdown ↔ IsTrue (tells_shutdown message.now) }
         ensures peer_fatal { HasEnded result.0 Reason.PeerFatal ↔ IsTrue (tells_error message.now) }
@@ -82,10 +83,7 @@ impl Operational {
         ensures session { EndedBy result.0 ≡ after phase.Operational self (Refused fault) }
         ensures replies { result.1 ≡ about_none (data_of fault) ∷ [] }
     {
-        (
-            Ended::by(Reason::Decode),
-            Replies::one(about_none(data_of(fault))),
-        )
+        refused(fault)
     }
 
     /// Something was put to the peer: no tick has passed since.

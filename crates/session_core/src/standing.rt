@@ -10,20 +10,24 @@ use crate::parameters::{LONGEST_PDU, is_platform, longest};
 use crate::{Peers, Replies, Reply};
 use ldp_grammar::{LdpId, SessionParams};
 
-/// What a session that stands has: its two ends; the hold time and the longest PDU in force; and the ticks since the last PDU
-/// was heard, and since the last one was put.
+/// What a session that stands has, in each of its states.
 #[derive(Clone, Copy, Debug, PartialEq, Eq)]
 pub struct Standing {
+    /// The two ends, and what this one proposes.
     pub peers: Peers,
+    /// The hold time in force, in ticks (RFC 5036 section 2.5.6).
     pub hold: u16,
+    /// The most that a PDU Length may be, in octets (RFC 5036 section 3.5.3).
     pub max_pdu: u16,
+    /// The ticks since the last PDU was heard.
     pub wait: u64,
+    /// The ticks since something was put, up to 2^64 - 1.
     pub silence: u64,
 }
 
 impl Standing {
-    /// A connection of which nothing came yet.
-    pub fn opened(peers: Peers) -> Standing
+    // A connection of which nothing came yet.
+    pub(crate) fn opened(peers: Peers) -> Standing
         requires { IsProper peers }
         ensures state { in_phase phase.Initialized result ≡ opened peers }
         ensures opening { IsOpening result }
@@ -37,9 +41,9 @@ impl Standing {
         }
     }
 
-    /// What the two proposals agree on: the smaller of both, of the KeepAlive Time and of the Max PDU Length. The proposal
-    /// is acceptable.
-    pub fn agreed(self, params: &SessionParams) -> Standing
+    // What the two proposals agree on: the smaller of both, of the KeepAlive Time and of the Max PDU Length. The proposal
+    // is acceptable.
+    pub(crate) fn agreed(self, params: &SessionParams) -> Standing
         requires opening { IsOpening self }
         requires acceptable { refusal_of self.peers params.now ≡ None }
         ensures state { result ≡ record self { hold = min self.peers.keepalive params.now.keepalive; max_pdu = min self.peers.max_pdu (longest params.now.max_pdu) } }
@@ -52,8 +56,8 @@ impl Standing {
         }
     }
 
-    /// The same, once a PDU of the sender came; `None` exactly where the sender is not the peer with label space 0.
-    pub fn heard(self, sender: LdpId) -> Option<Standing>
+    // The same, once a PDU of the sender came; `None` exactly where the sender is not the peer with label space 0.
+    pub(crate) fn heard(self, sender: LdpId) -> Option<Standing>
         ensures other { (result ≡ None) ↔ (is_platform self.peers.peer sender ≡ false) }
         ensures some { IfSome result (λ next. next ≡ record self { wait = 0 }) }
     {
@@ -63,16 +67,16 @@ impl Standing {
         Some(Standing { wait: 0, ..self })
     }
 
-    /// The same, once something was put.
-    pub fn spoke(self) -> Standing
+    // The same, once something was put.
+    pub(crate) fn spoke(self) -> Standing
         ensures { result ≡ record self { silence = 0 } }
     {
         Standing { silence: 0, ..self }
     }
 
-    /// The same a tick later; `None` exactly where nothing was then heard for the hold time.
+    // The same a tick later; `None` exactly where nothing was then heard for the hold time.
     #[tactic(auto, unfolding(crate::specs::Table::one_more), using(crate::proofs::TickLemmas::quiet_by_count))]
-    pub fn later(self) -> Option<Standing>
+    pub(crate) fn later(self) -> Option<Standing>
         requires { self.wait < 2 ^ 16 }
         ensures expired { IfNone result (nat_le self.hold (self.wait + 1) ≡ true) }
         ensures going { IfSome result (λ next. nat_le self.hold (self.wait + 1) ≡ false) }
@@ -91,8 +95,8 @@ impl Standing {
         })
     }
 
-    /// A KeepAlive, where nothing was put for a third of the hold time, and for one tick at least (RFC 5036 section 2.5.6).
-    pub fn keep_alive(&self) -> Replies
+    // A KeepAlive, where nothing was put for a third of the hold time, and for one tick at least (RFC 5036 section 2.5.6).
+    pub(crate) fn keep_alive(&self) -> Replies
         ensures { result ≡ (if nat_le (third self.now.hold) self.now.silence then reply.KeepAlive ∷ [] else []) }
     {
         let third = (self.hold / 3).max(1);

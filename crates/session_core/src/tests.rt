@@ -1,4 +1,5 @@
 //! Sessions through their calls: a set-up of both ends in octets that were worked out by hand, each reason, and the ticks.
+ghost use Rattle.std.specs.Prelude.{◌≡◌, ◌≢◌, ◌⊎◌};
 
 use crate::{Initialized, Peers, Replies, Reply, Session};
 use ldp_codec::{DecodeFault, decode_pdu};
@@ -136,6 +137,34 @@ fn speak(session: Session) -> Session {
         Session::Operational(state) => Session::Operational(state.spoke()),
         Session::Ended(ended) => Session::Ended(ended),
     }
+}
+
+// What came is no PDU.
+fn refuse(session: Session, fault: DecodeFault) -> (Session, Replies)
+    requires { fault ≢ DecodeFault.NoMemory }
+{
+    let (ended, replies) = match session {
+        Session::Initialized(state) => state.refused(fault),
+        Session::OpenSent(state) => state.refused(fault),
+        Session::OpenRec(state) => state.refused(fault),
+        Session::Operational(state) => state.refused(fault),
+        Session::Ended(ended) => (ended, Replies::none()),
+    };
+    (Session::Ended(ended), replies)
+}
+
+// The connection closes.
+fn close(session: Session, reason: Reason) -> Session
+    requires { (reason ≡ Reason.Closed) ⊎ (reason ≡ Reason.LinkFault) }
+{
+    let ended = match session {
+        Session::Initialized(state) => state.closed(reason),
+        Session::OpenSent(state) => state.closed(reason),
+        Session::OpenRec(state) => state.closed(reason),
+        Session::Operational(state) => state.closed(reason),
+        Session::Ended(ended) => ended,
+    };
+    Session::Ended(ended)
 }
 
 // The hold time and the longest PDU in force.
@@ -360,6 +389,15 @@ fn refuses_the_unexpected(rt: HostRuntime) {
     };
     let told = ends_about(Reason::Unexpected, 0x0a, 6, 0x0001);
     answers(&rt, accepted(60), &broken, told);
+    // Nor is such an Initialization one.
+    let broken_init = Message::Unprocessed {
+        id: 6,
+        kind: 0x0200,
+        why: Why::Missing(Field::Session),
+    };
+    let told = ends_about(Reason::Unexpected, 0x0a, 6, 0x0200);
+    answers(&rt, opened(), &broken_init, told);
+    answers(&rt, started(), &broken_init, told);
     let stays = goes(StateName::Operational, None, None);
     answers(&rt, up(), &keep_alive, stays);
     answers(&rt, up(), &init, stays);
@@ -380,6 +418,8 @@ fn is_ended_by_the_peer(rt: HostRuntime) {
     answers(&rt, started(), &error, ends(Reason::PeerFatal));
     answers(&rt, accepted(60), &error, ends(Reason::PeerFatal));
     answers(&rt, up(), &error, ends(Reason::PeerFatal));
+    let status = notification(true, 0x28);
+    answers(&rt, up(), &status, ends(Reason::PeerFatal));
     let advice = notification(false, 0x0a);
     answers(
         &rt,
@@ -452,76 +492,110 @@ fn expires_and_keeps_alive(rt: HostRuntime) {
     assert!(rt; summary(&session, &replies) == expired);
 }
 
-#[test]
-fn waits_for_the_own_proposal(rt: HostRuntime) {
+// So many ticks pass, and the session stays in its state.
+fn waits(rt: &impl Abort, session: Session, count: u16) -> Session {
+    let name = session.state();
+    let mut session = session;
+    for _ in 0..count {
+        session = tick(session).0;
+        assert!(rt; session.state() == name);
+    }
+    session
+}
+
+// The session expires at the last of so many ticks, and begins anew where its peer is heard before.
+fn expires(rt: &impl Abort, session: Session, count: u16, peer: Addr) {
     let sender = LdpId {
-        router: Addr([10, 0, 0, 1]),
+        router: peer,
         space: 0,
     };
-    let mut session = started();
-    for _ in 0..59 {
-        session = tick(session).0;
-    }
-    session = hear(session, sender).0;
-    for _ in 0..59 {
-        let (next, replies) = tick(session);
-        assert!(rt; summary(&next, &replies) == goes(StateName::OpenSent, None, None));
-        session = next;
-    }
+    let session = waits(rt, session, count.saturating_sub(1));
+    let (session, replies) = hear(session, sender);
+    assert!(rt; replies.is_empty());
+    let session = waits(rt, session, count.saturating_sub(1));
     let (session, replies) = tick(session);
     assert!(rt; summary(&session, &replies) == ends_about(Reason::Expired, 0x14, 0, 0));
-    let (session, replies) = tick(opened());
+}
+
+#[test]
+fn expires_in_each_state(rt: HostRuntime) {
+    // Before an Initialization was accepted the hold time is the own proposal.
+    expires(&rt, opened(), 180, PASSIVE.peer);
+    expires(&rt, started(), 60, ACTIVE.peer);
+    expires(&rt, accepted(9), 9, PASSIVE.peer);
+    expires(&rt, up(), 60, PASSIVE.peer);
+}
+
+#[test]
+fn keeps_alive_where_it_is_up(rt: HostRuntime) {
+    // The hold time is 60, so a third of it is 20.
+    let quiet = goes(StateName::Operational, None, None);
+    let alive = goes(StateName::Operational, Some(Reply::KeepAlive), None);
+    let session = waits(&rt, up(), 18);
+    let (session, replies) = tick(session);
+    assert!(rt; summary(&session, &replies) == quiet);
+    let (session, replies) = tick(session);
+    assert!(rt; summary(&session, &replies) == alive);
+    let session = waits(&rt, speak(session), 18);
+    let (session, replies) = tick(session);
+    assert!(rt; summary(&session, &replies) == quiet);
+    let (session, replies) = tick(session);
+    assert!(rt; summary(&session, &replies) == alive);
+}
+
+#[test]
+fn puts_nothing_before_it_agreed(rt: HostRuntime) {
+    let session = speak(waits(&rt, speak(opened()), 100));
+    let (session, replies) = tick(session);
     assert!(rt; summary(&session, &replies) == goes(StateName::Initialized, None, None));
-    let (session, replies) = tick(up());
-    assert!(rt; summary(&speak(session), &replies) == goes(StateName::Operational, None, None));
+    let session = speak(waits(&rt, speak(started()), 40));
+    let (session, replies) = tick(session);
+    assert!(rt; summary(&session, &replies) == goes(StateName::OpenSent, None, None));
+}
+
+// A session is refused a PDU, and this is told.
+fn is_refused(rt: &impl Abort, session: Session, fault: DecodeFault, told: Told)
+    requires { fault ≢ DecodeFault.NoMemory }
+{
+    let (session, replies) = refuse(session, fault);
+    assert!(rt; summary(&session, &replies) == told);
 }
 
 #[test]
 fn tells_what_is_no_pdu(rt: HostRuntime) {
-    let faults = [
-        (DecodeFault::Version { at: 0 }, 0x02),
-        (DecodeFault::PduLength { at: 2 }, 0x03),
-        (DecodeFault::MessageLength { at: 12 }, 0x05),
-        (DecodeFault::TlvLength { at: 20 }, 0x07),
-    ];
-    for (fault, code) in faults {
-        let (ended, replies) = Initialized::new(PASSIVE).refused(fault);
-        let told = ends_about(Reason::Decode, code, 0, 0);
-        assert!(rt; summary(&Session::Ended(ended), &replies) == told);
-    }
+    let version = DecodeFault::Version { at: 0 };
+    let told = ends_about(Reason::Decode, 0x02, 0, 0);
+    is_refused(&rt, opened(), version, told);
+    let length = DecodeFault::PduLength { at: 2 };
+    let told = ends_about(Reason::Decode, 0x03, 0, 0);
+    is_refused(&rt, started(), length, told);
+    let length = DecodeFault::MessageLength { at: 12 };
+    let told = ends_about(Reason::Decode, 0x05, 0, 0);
+    is_refused(&rt, accepted(60), length, told);
+    let length = DecodeFault::TlvLength { at: 20 };
+    let told = ends_about(Reason::Decode, 0x07, 0, 0);
+    is_refused(&rt, up(), length, told);
     let value = DecodeFault::TlvValue {
         at: 20,
         field: Field::Status,
     };
+    let told = ends_about(Reason::Decode, 0x08, 0, 0);
+    is_refused(&rt, opened(), value, told);
     let repeated = DecodeFault::Repeated {
         at: 18,
         field: Field::Fec,
     };
-    let told = ends_about(Reason::Decode, 0x08, 0, 0);
-    let (open_sent, _) = Initialized::new(ACTIVE).start();
-    let (ended, replies) = open_sent.refused(value);
-    assert!(rt; summary(&Session::Ended(ended), &replies) == told);
-    if let Session::OpenRec(state) = accepted(60) {
-        let (ended, replies) = state.refused(repeated);
-        assert!(rt; summary(&Session::Ended(ended), &replies) == told);
-    }
-    if let Session::Operational(state) = up() {
-        let (ended, replies) = state.refused(value);
-        assert!(rt; summary(&Session::Ended(ended), &replies) == told);
-    }
+    is_refused(&rt, up(), repeated, told);
 }
 
 #[test]
 fn closes_without_a_word(rt: HostRuntime) {
+    let closed = StateName::Ended(Reason::Closed);
+    assert!(rt; close(opened(), Reason::Closed).state() == closed);
+    assert!(rt; close(accepted(60), Reason::Closed).state() == closed);
+    let failed = StateName::Ended(Reason::LinkFault);
+    assert!(rt; close(started(), Reason::LinkFault).state() == failed);
+    assert!(rt; close(up(), Reason::LinkFault).state() == failed);
     let ended = Initialized::new(PASSIVE).closed(Reason::Closed);
     assert!(rt; ended.reason() == Reason::Closed);
-    let (open_sent, _) = Initialized::new(ACTIVE).start();
-    let ended = Session::Ended(open_sent.closed(Reason::LinkFault));
-    assert!(rt; ended.state() == StateName::Ended(Reason::LinkFault));
-    if let Session::OpenRec(state) = accepted(60) {
-        assert!(rt; state.closed(Reason::Closed).reason() == Reason::Closed);
-    }
-    if let Session::Operational(state) = up() {
-        assert!(rt; state.closed(Reason::LinkFault).reason() == Reason::LinkFault);
-    }
 }
