@@ -4,6 +4,7 @@ use Rattle.ldp_grammar.specs.declared.message.Message.TheVariants.{Notification,
 use Rattle.ldp_grammar.specs.declared.status_code.StatusCode.{StatusCode}
 use Rattle.net_base.specs.declared.state_name.Reason.TheVariants as reason
 use Rattle.session_core.specs.declared.peers.Peers.{Peers}
+use Rattle.session_core.specs.declared.refusal.Refusal.TheVariants as refusal
 use Rattle.session_core.specs.Parameters.{longest, proposal, refusal_of}
 use Rattle.session_core.specs.Phase as phase
 use Rattle.session_core.specs.State.{EndedBy, Stands, is_active, opened}
@@ -30,13 +31,13 @@ lengths : (longest 0 ∷ longest 255 ∷ longest 256 ∷ longest 4096 ∷ longes
 lengths = refl
 
 -- of three refusals that hold the first counts
-first_refusal : refusal_of passive (record (proposal passive) { version = 2; keepalive = 0 }) ≡ Some reason.BadVersion
+first_refusal : refusal_of passive (record (proposal passive) { version = 2; keepalive = 0 }) ≡ Some refusal.Version
 first_refusal = refl
 
-second_refusal : refusal_of passive (record (proposal passive) { keepalive = 0 }) ≡ Some reason.BadReceiver
+second_refusal : refusal_of passive (record (proposal passive) { keepalive = 0 }) ≡ Some refusal.Receiver
 second_refusal = refl
 
-third_refusal : refusal_of passive (record (proposal active) { keepalive = 0 }) ≡ Some reason.ZeroKeepAlive
+third_refusal : refusal_of passive (record (proposal active) { keepalive = 0 }) ≡ Some refusal.KeepAliveTime
 third_refusal = refl
 
 -- a set-up, and the session that it leaves

@@ -1,5 +1,5 @@
 -- The laws of the table.
-use Rattle.std.proofs.Common.{rules, ◌≡◌, ◌<◌, ◌==◌, ℕ, true, false, not, nat_lt, List, [], ◌∷◌, Option, Some, None, refl, ap, ◌∙◌, subst, arith}
+use Rattle.std.proofs.Common.{rules, ◌≡◌, ◌<◌, ◌==◌, ℕ, true, false, not, nat_lt, List, [], ◌∷◌, Option, Some, None, refl, sym, ap, ◌∙◌, subst, arith}
 use Rattle.std.specs.List.{AllByRecursion}
 use Rattle.ldp_grammar.specs.declared.message.Message.{Message}
 use Rattle.ldp_grammar.specs.declared.message.Message.TheVariants.{Notification, Initialization, KeepAlive}
@@ -7,10 +7,12 @@ use Rattle.ldp_grammar.specs.declared.session_params.SessionParams.{SessionParam
 use Rattle.ldp_grammar.specs.declared.status_code.StatusCode.{StatusCode}
 use Rattle.net_base.specs.declared.state_name.Reason.{Reason}
 use Rattle.session_core.specs.declared.peers.Peers.{Peers}
+use Rattle.session_core.specs.declared.refusal.Refusal.{Refusal}
+use Rattle.session_core.specs.declared.refusal.Refusal.TheVariants as refusal
 use Rattle.session_core.specs.declared.reply.Reply.{Reply}
 use Rattle.session_core.specs.Laws.{tells_end, IsFarewell, OneNotice, NeverSilent, next_put, run_by, IsWithin, WithinProposals, IsAddress, IsFacing, IsAgreement, Proposes, run, EndsAgree}
 use Rattle.session_core.proofs.AddressLemmas.{numbers_apart, one_larger}
-use Rattle.session_core.specs.Parameters.{longest, proposal, refusal_of}
+use Rattle.session_core.specs.Parameters.{longest, proposal, reason_of, refusal_of}
 use Rattle.session_core.specs.Phase.{Phase}
 use Rattle.session_core.specs.Phase as phase
 use Rattle.session_core.specs.State.{SessionState, SessionView, Stands, EndedBy, IsProper, is_active, opened, number_of}
@@ -22,23 +24,22 @@ told : (s : SessionState) (message : Message) (status : StatusCode) (why : Reaso
 told s message status why replies is = grind (arith)
 
 -- the refusals are told
-refusal_told : (state : Phase) (peers : Peers) (params : SessionParams) (why : Reason) → refusal_of peers params ≡ Some why → tells_end state why ≡ true
-refusal_told phase.Initialized peers params why is = grind (arith)
-refusal_told phase.OpenSent peers params why is = grind (arith)
-refusal_told phase.OpenRec peers params why is = grind (arith)
-refusal_told phase.Operational peers params why is = grind (arith)
+refusal_told : (state : Phase) (why : Refusal) → tells_end state (reason_of why) ≡ true
+refusal_told state refusal.Version = grind (arith)
+refusal_told state refusal.Receiver = grind (arith)
+refusal_told state refusal.KeepAliveTime = grind (arith)
 
 -- a proposal that is refused is answered
 refused : (s : SessionState) (message : Message) (params : SessionParams) (others : List Reply) (why : Reason) (replies : List Reply) → judged (refusal_of s.peers params) s message params others ≡ Ends why replies
     → IsFarewell (tells_end s.phase why) replies
-refused s message params others why replies is = so (refusal_of s.peers params) refl is
+refused s message params others why replies is = so (refusal_of s.peers params) is
   where
-    so : (given : Option Reason) → refusal_of s.peers params ≡ given → judged given s message params others ≡ Ends why replies → IsFarewell (tells_end s.phase why) replies
-    so None none ends = grind (arith)
-    so (Some given) some ends =
-        let same : given ≡ why = grind (arith) in
+    so : (given : Option Refusal) → judged given s message params others ≡ Ends why replies → IsFarewell (tells_end s.phase why) replies
+    so None ends = grind (arith)
+    so (Some given) ends =
+        let same : reason_of given ≡ why = grind (arith) in
         let one : about message (data_refusing given) ∷ [] ≡ replies = grind (arith) in
-        let told : tells_end s.phase why ≡ true = refusal_told s.phase s.peers params why (some ∙ ap (λ (r : Reason). Some r) same) in
+        let told : tells_end s.phase why ≡ true = ap (λ (r : Reason). tells_end s.phase r) (sym same) ∙ refusal_told s.phase given in
         rw (told, ← one) refl
 
 -- a message that ends a session is answered as its reason says

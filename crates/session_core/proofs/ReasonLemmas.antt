@@ -5,6 +5,7 @@ use Rattle.ldp_grammar.specs.declared.session_params.SessionParams.{SessionParam
 use Rattle.net_base.specs.declared.state_name.Reason.TheVariants as reason
 use Rattle.net_base.specs.declared.state_name.StateName.TheVariants as name
 use Rattle.session_core.specs.declared.peers.Peers.{Peers}
+use Rattle.session_core.specs.declared.refusal.Refusal.TheVariants as refusal
 use Rattle.session_core.specs.declared.standing.Standing.{Standing}
 use Rattle.session_core.specs.Parameters.{refusal_of}
 use Rattle.session_core.specs.Phase as phase
@@ -18,10 +19,10 @@ pub acceptable : (peers : Peers) (p : SessionParams) → (refusal_of peers p ≡
 acceptable peers p = grind (arith)
 
 -- the second and the third of the refusals
-pub bad_receiver : (peers : Peers) (p : SessionParams) → (refusal_of peers p ≡ Some reason.BadReceiver) ↔ IsTrue (has_bad_receiver peers p)
+pub bad_receiver : (peers : Peers) (p : SessionParams) → (refusal_of peers p ≡ Some refusal.Receiver) ↔ IsTrue (has_bad_receiver peers p)
 bad_receiver peers p = grind (arith)
 
-pub zero_time : (peers : Peers) (p : SessionParams) → (refusal_of peers p ≡ Some reason.ZeroKeepAlive) ↔ IsTrue (has_zero_time peers p)
+pub zero_time : (peers : Peers) (p : SessionParams) → (refusal_of peers p ≡ Some refusal.KeepAliveTime) ↔ IsTrue (has_zero_time peers p)
 zero_time peers p = grind (arith)
 
 -- what a message makes of a session in Initialized, of the passive or of the active end

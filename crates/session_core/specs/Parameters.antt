@@ -7,6 +7,8 @@ use Rattle.net_base.specs.declared.state_name.Reason.TheVariants as reason
 use Rattle.ldp_grammar.specs.declared.ldp_id.LdpId.{LdpId}
 use Rattle.ldp_grammar.specs.declared.session_params.SessionParams.{SessionParams}
 use Rattle.session_core.specs.declared.peers.Peers.{Peers}
+use Rattle.session_core.specs.declared.refusal.Refusal.{Refusal}
+use Rattle.session_core.specs.declared.refusal.Refusal.TheVariants as refusal
 use Rattle.session_core.specs.Phase as phase
 use Rattle.session_core.specs.State.{SessionState}
 
@@ -28,12 +30,18 @@ proposal peers = record {
 
 -- why a proposal is refused: of the three the first that holds. The A bit refuses nothing: as one end proposes labels
 -- unasked, they are used so.
-abbrev pub refusal_of : Peers → SessionParams → Option Reason
+abbrev pub refusal_of : Peers → SessionParams → Option Refusal
 refusal_of peers p =
-    if not (p.version == 1) then Some reason.BadVersion
-    else if not (is_platform peers.me p.receiver) then Some reason.BadReceiver
-    else if p.keepalive == 0 then Some reason.ZeroKeepAlive
+    if not (p.version == 1) then Some refusal.Version
+    else if not (is_platform peers.me p.receiver) then Some refusal.Receiver
+    else if p.keepalive == 0 then Some refusal.KeepAliveTime
     else None
+
+-- the reason for which a session ends by a refusal
+abbrev pub reason_of : Refusal → Reason
+reason_of refusal.Version = reason.BadVersion
+reason_of refusal.Receiver = reason.BadReceiver
+reason_of refusal.KeepAliveTime = reason.ZeroKeepAlive
 
 -- the longest PDU that a proposal means: 255 or less stands for 4096, and no more than that is taken
 abbrev pub longest : ℕ → ℕ

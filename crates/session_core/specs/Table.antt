@@ -8,6 +8,8 @@ use Rattle.ldp_grammar.specs.declared.message.Message.{Message}
 use Rattle.ldp_grammar.specs.declared.message.Message.TheVariants.{Notification, Initialization, KeepAlive}
 use Rattle.ldp_grammar.specs.declared.session_params.SessionParams.{SessionParams}
 use Rattle.ldp_grammar.specs.declared.status_code.StatusCode.{StatusCode}
+use Rattle.session_core.specs.declared.refusal.Refusal.{Refusal}
+use Rattle.session_core.specs.declared.refusal.Refusal.TheVariants as refusal
 use Rattle.session_core.specs.declared.reply.Reply.{Reply}
 use Rattle.session_core.specs.declared.reply.Reply.TheVariants as reply
 use Rattle.session_core.specs.Phase.{Phase}
@@ -15,7 +17,7 @@ use Rattle.session_core.specs.Phase as phase
 use Rattle.session_core.specs.declared.standing.Standing.{Standing}
 use Rattle.session_core.specs.State.{SessionState, SessionView, Stands, EndedBy, in_phase, is_active}
 use Rattle.session_core.specs.StatusCodes.{about, about_none, data_of, bad_ldp_identifier, bad_protocol_version, shutdown, no_hello, keep_alive_timer_expired, bad_keep_alive_time}
-use Rattle.session_core.specs.Parameters.{is_platform, refusal_of, agreed}
+use Rattle.session_core.specs.Parameters.{is_platform, refusal_of, reason_of, agreed}
 
 -- what happens to a session that stands: its active end starts it; a PDU of a sender came; a message of it is processed; the
 -- octets that came are no PDU; something was put to the peer; a tick passed; the connection closed
@@ -39,15 +41,15 @@ abbrev pub enters : Phase → SessionState → SessionState
 enters state s = record s { phase = state }
 
 -- the status data that refuses a proposal
-abbrev pub data_refusing : Reason → ℕ
-data_refusing reason.BadVersion = bad_protocol_version
-data_refusing reason.BadReceiver = no_hello
-data_refusing why = bad_keep_alive_time
+abbrev pub data_refusing : Refusal → ℕ
+data_refusing refusal.Version = bad_protocol_version
+data_refusing refusal.Receiver = no_hello
+data_refusing refusal.KeepAliveTime = bad_keep_alive_time
 
 -- a proposal in a message: it is accepted with these replies, or refused for the reason
-abbrev pub judged : Option Reason → SessionState → Message → SessionParams → List Reply → Outcome
+abbrev pub judged : Option Refusal → SessionState → Message → SessionParams → List Reply → Outcome
 judged None s message params replies = Goes (agreed s params) replies
-judged (Some why) s message params replies = Ends why (about message (data_refusing why) ∷ [])
+judged (Some why) s message params replies = Ends (reason_of why) (about message (data_refusing why) ∷ [])
 
 -- the proposal of an Initialization
 abbrev pub proposed : SessionState → ℕ → SessionParams → List Reply → Outcome

@@ -1,13 +1,14 @@
 //! How a session of any state ends.
 ghost use Rattle.std.specs.Prelude.{◌≡◌, [], ◌∷◌, Some};
+ghost use Rattle.session_core.specs.Parameters.{reason_of};
 ghost use Rattle.session_core.specs.Reasons.{HasEnded};
 ghost use Rattle.session_core.specs.StatusCodes.{about, about_none, bad_ldp_identifier, data_of, keep_alive_timer_expired, shutdown};
 ghost use Rattle.session_core.specs.Table.{data_refusing, reason_in};
 
 use crate::notice::{
-    BAD_KEEP_ALIVE_TIME, BAD_LDP_IDENTIFIER, BAD_PROTOCOL_VERSION, KEEP_ALIVE_TIMER_EXPIRED,
-    NO_HELLO, SHUTDOWN, about, about_none, data_of,
+    BAD_LDP_IDENTIFIER, KEEP_ALIVE_TIMER_EXPIRED, SHUTDOWN, about, about_none, data_of,
 };
+use crate::refusal::Refusal;
 use crate::{Ended, Replies, Reply, Session};
 use ldp_codec::DecodeFault;
 use ldp_grammar::{Message, StatusCode};
@@ -64,17 +65,12 @@ pub fn refused(fault: DecodeFault) -> (Ended, Replies)
     )
 }
 
-/// It ends as the message proposes what is refused for this reason (RFC 5036 section 3.5.3).
-pub fn refused_proposal(reason: Reason, message: &Message) -> (Session, Replies)
-    ensures session { HasEnded result.0 reason }
-    ensures replies { result.1 ≡ about message.now (data_refusing reason) ∷ [] }
+/// It ends as the message proposes what is refused (RFC 5036 section 3.5.3).
+pub fn refused_proposal(refusal: Refusal, message: &Message) -> (Session, Replies)
+    ensures session { HasEnded result.0 (reason_of refusal) }
+    ensures replies { result.1 ≡ about message.now (data_refusing refusal) ∷ [] }
 {
-    let data = match reason {
-        Reason::BadVersion => BAD_PROTOCOL_VERSION,
-        Reason::BadReceiver => NO_HELLO,
-        _ => BAD_KEEP_ALIVE_TIME,
-    };
-    ended_with(reason, about(message, data))
+    ended_with(refusal.reason(), about(message, refusal.data()))
 }
 
 /// Why a Notification ends a session; `None` where it is not fatal (RFC 5036 section 3.5.1.1).

@@ -189,7 +189,7 @@ impl Initialized {
             return unexpected(message);
         }
         match refusal_of(&self.standing.peers, params) {
-            Some(reason) => refused_proposal(reason, message),
+            Some(refusal) => refused_proposal(refusal, message),
             None => (
                 Session::OpenRec(OpenRec::entered(self.standing.agreed(params))),
                 Replies::two(Reply::Init, Reply::KeepAlive),

@@ -18,6 +18,7 @@ mod open_sent;
 mod operational;
 mod parameters;
 mod peers;
+mod refusal;
 mod replies;
 mod reply;
 mod session;

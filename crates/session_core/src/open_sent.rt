@@ -166,7 +166,7 @@ impl OpenSent {
         ensures replies { result.1 ≡ replies_of (judged (refusal_of self.peers params.now) (in_phase phase.OpenSent self) message.now params.now (reply.KeepAlive ∷ [])) }
     {
         match refusal_of(&self.standing.peers, params) {
-            Some(reason) => refused_proposal(reason, message),
+            Some(refusal) => refused_proposal(refusal, message),
             None => (
                 Session::OpenRec(OpenRec::entered(self.standing.agreed(params))),
                 Replies::one(Reply::KeepAlive),

@@ -3,8 +3,9 @@ ghost use Rattle.std.specs.Prelude.{◌≡◌, ◌≤◌};
 ghost use Rattle.session_core.specs.Parameters.{is_platform, longest, refusal_of};
 
 use crate::Peers;
+use crate::refusal::Refusal;
 use ldp_grammar::{LdpId, SessionParams};
-use net_base::{Addr, Reason};
+use net_base::Addr;
 
 /// The longest PDU as long as no Initialization was accepted, and at any time, in octets.
 pub const LONGEST_PDU: u16 = 4096;
@@ -20,17 +21,17 @@ pub fn is_platform(router: Addr, id: LdpId) -> bool
 }
 
 /// Why the proposal is refused, the first of the three that holds; `None` where it is acceptable (RFC 5036 section 3.5.3).
-pub fn refusal_of(peers: &Peers, params: &SessionParams) -> Option<Reason>
+pub fn refusal_of(peers: &Peers, params: &SessionParams) -> Option<Refusal>
     ensures { result ≡ refusal_of peers.now params.now }
 {
     if params.version != 1 {
-        return Some(Reason::BadVersion);
+        return Some(Refusal::Version);
     }
     if !is_platform(peers.me, params.receiver) {
-        return Some(Reason::BadReceiver);
+        return Some(Refusal::Receiver);
     }
     if params.keepalive == 0 {
-        return Some(Reason::ZeroKeepAlive);
+        return Some(Refusal::KeepAliveTime);
     }
     None
 }
