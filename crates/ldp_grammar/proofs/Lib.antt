@@ -1,11 +1,15 @@
 pub mod ItemLemmas
 pub mod OctetLemmas
 pub mod SpellingLemmas
+pub mod FrontLemmas
 pub mod TlvLemmas
 pub mod ForeignLemmas
 pub mod MessageLemmas
 pub mod PduLemmas
 pub mod MeaningLemmas
+pub mod ReadingLemmas
+pub mod TellingLemmas
+pub mod PduReading
 pub mod WrittenLemmas
 pub mod RoundTripLemmas
 pub mod Examples

@@ -1,6 +1,7 @@
 pub mod FirstFault
 pub mod Layouts
 pub mod Octets
+pub mod Reading
 pub mod Rows
 pub mod Spells
 pub mod Tlvs

@@ -1,11 +1,18 @@
 //! What holds of the octets of every PDU.
 ghost use Rattle.ldp_grammar.specs.FirstFault.{OneReading};
+ghost use Rattle.ldp_grammar.specs.Reading.{EachIsRead};
 ghost use Rattle.ldp_grammar.specs.Written.{WrittenIsRead};
 
 /// Octets spell one PDU at most, have one first fault at most, and never both. The maximum is one of a session, at
 /// most 4096.
 pub fn one_reading()
     ensures { OneReading }
+{}
+
+/// Octets spell a PDU or have a first fault: of all octets the law tells one of the two, for each maximum of a session,
+/// at most 4096 (RFC 5036 section 3.1).
+pub fn each_is_read()
+    ensures { EachIsRead }
 {}
 
 /// A message that can be written, and whose fields fit, is what its written octets spell, for each maximum that they

@@ -1,5 +1,6 @@
 pub mod FrontLemmas
 pub mod ParsedLemmas
 pub mod StreamLemmas
+pub mod ReadingLemmas
 pub mod CallLemmas
 pub mod Examples

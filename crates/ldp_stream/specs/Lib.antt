@@ -4,3 +4,4 @@ pub mod Halt
 pub mod Parsed
 pub mod State
 pub mod Laws
+pub mod Reading

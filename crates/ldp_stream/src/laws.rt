@@ -1,11 +1,19 @@
 //! What holds of every stream of octets.
 ghost use Rattle.ldp_stream.specs.Calls.{HoweverCut};
 ghost use Rattle.ldp_stream.specs.Laws.{OneFront, OneParsing, PassesAreParsed};
+ghost use Rattle.ldp_stream.specs.Reading.{EachHasFront};
 
 /// Octets are a proper prefix of a PDU, or they have a fault in front, or a PDU stands in front: one at most of these,
 /// and one fault or PDU at most. The maximum is one of a session, at most 4096.
 pub fn one_front()
     ensures { OneFront }
+{}
+
+/// Octets are a proper prefix of a PDU, or they have a fault in front, or a PDU stands in front: of all octets the law
+/// tells one of these, and the list of PDUs and the ending that they have. The maximum is one of a session, at most 4096
+/// (RFC 5036 section 3.1).
+pub fn each_has_front()
+    ensures { EachHasFront }
 {}
 
 /// A stream has one list of PDUs, each with its place, and one ending. Where a PDU stands in front, it comes first, and

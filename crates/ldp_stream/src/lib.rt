@@ -11,7 +11,7 @@ mod laws;
 mod stream;
 mod stream_fault;
 
-pub use laws::{however_cut, one_front, one_parsing, passes_are_parsed};
+pub use laws::{each_has_front, however_cut, one_front, one_parsing, passes_are_parsed};
 pub use stream::Stream;
 pub use stream_fault::StreamFault;
 

@@ -8,6 +8,7 @@ pub mod MacLemmas
 pub mod ParameterLemmas
 pub mod PointLemmas
 pub mod ReadLemmas
+pub mod ReadingLemmas
 pub mod StatusLemmas
 pub mod SubTlvLemmas
 pub mod ToldLemmas

@@ -1,0 +1,19 @@
+-- What octets come to: each octets spell a PDU or have a first fault (RFC 5036 sections 3.1 and 3.3 to 3.5).
+use Rattle.std.specs.Prelude.{◌<◌, ◌≤◌, ℕ, List, slice_index}
+use Rattle.ldp_grammar.specs.declared.fault.Fault.{Fault}
+use Rattle.ldp_grammar.specs.declared.pdu.Pdu.{Pdu}
+use Rattle.ldp_grammar.specs.Spells.{Spells}
+use Rattle.ldp_grammar.specs.FirstFault.{FirstFault}
+
+-- each number is one that an octet holds
+abbrev pub AreOctets : List ℕ → Type 0
+AreOctets bytes = (at : ℕ) → slice_index bytes at < 256
+
+-- the PDU that octets spell, or their first fault, with what shows it
+pub data Reading (bytes : List ℕ) (max : ℕ) : Type 0 where
+  spelled : (pdu : Pdu) → Spells bytes max pdu → Reading bytes max
+  refused : (fault : Fault) → FirstFault bytes max fault → Reading bytes max
+
+-- of all octets one of the two can be told, for each maximum of a session
+pub record EachIsRead : Type 0 where
+  pub reading : (bytes : List ℕ) (max : ℕ) → AreOctets bytes → max ≤ 4096 → Reading bytes max
