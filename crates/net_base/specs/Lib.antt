@@ -4,7 +4,9 @@ pub mod Faults
 pub mod Frame
 pub mod Isolated
 pub mod Label
+pub mod Link
 pub mod Mac
+pub mod MemLink
 pub mod MemShelf
 pub mod MemSink
 pub mod Name
