@@ -1,6 +1,6 @@
 -- Faults of frames and packets as causes of a drop.
-use Rattle.net_base.specs.declared.drop_cause.DropCause.{DropCause}
-use Rattle.net_base.specs.declared.drop_cause.DropCause.TheVariants as cause
+use Rattle.net_base.specs.declared.trace.drop_cause.DropCause.{DropCause}
+use Rattle.net_base.specs.declared.trace.drop_cause.DropCause.TheVariants as cause
 use Rattle.eth_encap.specs.declared.frame_fault.FrameFault.{FrameFault}
 use Rattle.eth_encap.specs.declared.frame_fault.FrameFault.TheVariants as fault
 

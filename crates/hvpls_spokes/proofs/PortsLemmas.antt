@@ -5,10 +5,10 @@ use Rattle.std.proofs.lemmas.List.Quantifiers.{position-Some}
 use Rattle.std.proofs.lemmas.Option.{slice_get-get_or}
 use Rattle.std.specs.List.{position_or_len}
 use Rattle.net_base.specs.declared.plan.Plan.{Plan}
-use Rattle.net_base.specs.declared.circuit_plan.CircuitPlan.{CircuitPlan}
-use Rattle.net_base.specs.declared.places.CircuitId.{CircuitId}
-use Rattle.net_base.specs.declared.places.EdgeId.{EdgeId}
-use Rattle.net_base.specs.declared.places.ServiceId.{ServiceId}
+use Rattle.net_base.specs.declared.plan.circuit_plan.CircuitPlan.{CircuitPlan}
+use Rattle.net_base.specs.declared.plan.places.CircuitId.{CircuitId}
+use Rattle.net_base.specs.declared.plan.places.EdgeId.{EdgeId}
+use Rattle.net_base.specs.declared.plan.places.ServiceId.{ServiceId}
 use Rattle.hvpls_spokes.specs.declared.port.Port.{Port}
 use Rattle.hvpls_spokes.specs.declared.port.Port.TheVariants as port
 use Rattle.hvpls_spokes.specs.Port.{circuit_ports, ports_of, serves, is_circuit_port}

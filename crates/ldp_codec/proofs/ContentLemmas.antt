@@ -1,7 +1,7 @@
 -- What the values of TLVs hold.
 use Rattle.std.proofs.Common.{◌≡◌, ◌<◌, ◌+◌, inl, inr, ℕ, Bool, true, false, List, length, refl, ap, subst, arith}
-use Rattle.net_base.specs.Label.{IsLabel}
-use Rattle.net_base.specs.declared.field.Field.TheVariants as field
+use Rattle.net_base.specs.values.Label.{IsLabel}
+use Rattle.net_base.specs.declared.values.field.Field.TheVariants as field
 use Rattle.pw_tlvs.specs.declared.fec_value.FecValue.TheVariants.{Foreign}
 use Rattle.pw_tlvs.specs.declared.field_fault.FieldFault.{FieldFault}
 use Rattle.pw_tlvs.specs.declared.field_fault.FieldFault.TheVariants.{Value}

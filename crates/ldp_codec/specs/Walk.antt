@@ -2,7 +2,7 @@
 use Rattle.std.specs.Prelude.{◌≡◌, ◌≢◌, ◌⊎◌, ◌<◌, ◌++◌, ◌+◌, ◌≤◌, ℕ, Bool, true, false, List, length, drop, flat_map, Option, Some, None}
 use Rattle.std.specs.List.{AllByRecursion}
 use Rattle.std.specs.Option.{option_or}
-use Rattle.net_base.specs.declared.field.Field.{Field}
+use Rattle.net_base.specs.declared.values.field.Field.{Field}
 use Rattle.pw_tlvs.specs.declared.field_fault.FieldFault.{FieldFault}
 use Rattle.pw_tlvs.specs.declared.fec_value.FecValue.TheVariants.{Foreign}
 use Rattle.pw_tlvs.specs.Faults.{IsFirst as IsFirstIn}

@@ -1,6 +1,6 @@
 -- The addresses that a bridge has learned (RFC 4762 section 4.2).
 use Rattle.std.specs.Prelude.{◌≡◌, ◌≤◌, ◌+◌, ◌-◌, ◌==◌, ◌&&◌, ◌||◌, ◌++◌, not, nat_lt, ℕ, Bool, false, List, [], ◌∷◌, length, All, Option, Some, None, option_map, if◌then◌else◌, bytes_eq}
-use Rattle.net_base.specs.declared.mac.Mac.{Mac}
+use Rattle.net_base.specs.declared.values.mac.Mac.{Mac}
 use Rattle.mac_table.specs.declared.mac_entry.MacEntry.{MacEntry}
 use Rattle.mac_table.specs.declared.learned.Learned.{Learned}
 use Rattle.mac_table.specs.declared.learned.Learned.TheVariants.{New, Kept, NotLearned}

@@ -9,17 +9,17 @@ use Rattle.std.proofs.lemmas.List.Elements.{All-nil, All-cons}
 use Rattle.std.proofs.lemmas.List.Kept.{AllPairs-cons}
 use Rattle.std.proofs.lemmas.List.Folds.{list_any-append}
 use Rattle.net_base.specs.declared.plan.Plan.{Plan}
-use Rattle.net_base.specs.declared.plan_fault.PlanFault.{PlanFault}
-use Rattle.net_base.specs.declared.circuit_plan.CircuitPlan.{CircuitPlan}
-use Rattle.net_base.specs.declared.wire_plan.WirePlan.{WirePlan}
-use Rattle.net_base.specs.Accepted.{IsAccepted, IsCircuitOf, IsWireOf, NonePair, plan_names}
-use Rattle.net_base.specs.Faults.{first_fault, first_clash, clash_after}
-use Rattle.net_base.specs.NameFaults.{edge_names, service_names, circuit_names, wire_names, have_same_address, address_clash, repeat_fault}
-use Rattle.net_base.specs.Paths.{has_repeat}
-use Rattle.net_base.specs.PlanFault.{plan_fault}
-use Rattle.net_base.specs.PortFaults.{any_place, port_count, is_crowded, crowd_fault, ports_fault}
-use Rattle.net_base.specs.RowFaults.{circuit_fault, wire_fault, is_edge_of}
-use Rattle.net_base.specs.WireFaults.{path_fault, repeats_pw_id, are_two_mesh_wires, is_spoke_in_mesh}
+use Rattle.net_base.specs.declared.plan.plan_fault.PlanFault.{PlanFault}
+use Rattle.net_base.specs.declared.plan.circuit_plan.CircuitPlan.{CircuitPlan}
+use Rattle.net_base.specs.declared.plan.wire_plan.WirePlan.{WirePlan}
+use Rattle.net_base.specs.plan.Accepted.{IsAccepted, IsCircuitOf, IsWireOf, NonePair, plan_names}
+use Rattle.net_base.specs.plan.Faults.{first_fault, first_clash, clash_after}
+use Rattle.net_base.specs.plan.NameFaults.{edge_names, service_names, circuit_names, wire_names, have_same_address, address_clash, repeat_fault}
+use Rattle.net_base.specs.plan.Paths.{has_repeat}
+use Rattle.net_base.specs.plan.PlanFault.{plan_fault}
+use Rattle.net_base.specs.plan.PortFaults.{any_place, port_count, is_crowded, crowd_fault, ports_fault}
+use Rattle.net_base.specs.plan.RowFaults.{circuit_fault, wire_fault, is_edge_of}
+use Rattle.net_base.specs.plan.WireFaults.{path_fault, repeats_pw_id, are_two_mesh_wires, is_spoke_in_mesh}
 
 -- neither of two comes where none does
 neither : {A : Type 0} (a b : Option A) → option_or a b ≡ None → (a ≡ None) × (b ≡ None)

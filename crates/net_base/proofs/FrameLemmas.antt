@@ -3,9 +3,9 @@ use Rattle.std.proofs.Common.{◌≡◌, ◌≤◌, ◌<◌, ◌+◌, ◌*◌, �
 use Rattle.std.proofs.lemmas.Bool.Decides.{nat_tests}
 use Rattle.std.proofs.lemmas.List.{get_or-append-add, take-append-drop, length-take-le}
 use Rattle.std.proofs.Math.Seq.{take-append_seam, drop-append_seam}
-use Rattle.net_base.specs.declared.drop_cause.DropCause.{DropCause}
-use Rattle.net_base.specs.declared.drop_cause.DropCause.TheVariants.{Short}
-use Rattle.net_base.specs.Frame.{inner, untagged, of_size, dress, pair_at, vlan_id_of, tag_octets}
+use Rattle.net_base.specs.declared.trace.drop_cause.DropCause.{DropCause}
+use Rattle.net_base.specs.declared.trace.drop_cause.DropCause.TheVariants.{Short}
+use Rattle.net_base.specs.values.Frame.{inner, untagged, of_size, dress, pair_at, vlan_id_of, tag_octets}
 
 -- the tag is a VLAN ID
 abbrev pub IsVlanId : Option ℕ → Type 0

@@ -1,7 +1,7 @@
 -- The last edge of a path by its place.
 use Rattle.std.proofs.Common.{◌≡◌, ◌-◌, suc, List, [], ◌∷◌, length, slice_get, refl, arith}
-use Rattle.net_base.specs.declared.places.EdgeId.{EdgeId}
-use Rattle.net_base.specs.Paths.{last_edge}
+use Rattle.net_base.specs.declared.plan.places.EdgeId.{EdgeId}
+use Rattle.net_base.specs.plan.Paths.{last_edge}
 
 pub last_edge_is : (path : List EdgeId) → slice_get path (length path - 1) ≡ last_edge path
 last_edge_is [] = refl

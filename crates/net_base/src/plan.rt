@@ -1,16 +1,34 @@
 //! The plan of a network.
 ghost use Rattle.std.specs.Prelude.{◌≡◌, ◌≤◌, Some, None, length, IfOk, MatchResult};
 ghost use Rattle.std.specs.Str.{bytes_eq};
-ghost use Rattle.net_base.specs.Accepted.{IsAccepted, plan_names};
-ghost use Rattle.net_base.specs.Faults.{first_clash};
-ghost use Rattle.net_base.specs.Paths.{are_joined};
-ghost use Rattle.net_base.specs.PlanFault.{plan_fault, later_fault};
+ghost use Rattle.net_base.specs.plan.Accepted.{IsAccepted, plan_names};
+ghost use Rattle.net_base.specs.plan.Faults.{first_clash};
+ghost use Rattle.net_base.specs.plan.Paths.{are_joined};
+ghost use Rattle.net_base.specs.plan.PlanFault.{plan_fault, later_fault};
 
-use crate::name_faults::{first_address_fault, first_repeat_fault};
-use crate::paths::has_segment;
-use crate::port_faults::first_port_fault;
-use crate::row_faults::first_row_fault;
-use crate::wire_faults::first_wire_fault;
+pub mod circuit_plan;
+pub mod edge_plan;
+pub mod fault_place;
+pub mod name_faults;
+pub mod named;
+pub mod offer;
+pub mod paths;
+pub mod place;
+pub mod places;
+pub mod plan_fault;
+pub mod port_faults;
+pub mod row_faults;
+pub mod service_plan;
+pub mod table;
+pub mod wire_faults;
+pub mod wire_plan;
+pub mod wire_rule;
+
+use crate::plan::name_faults::{first_address_fault, first_repeat_fault};
+use crate::plan::paths::has_segment;
+use crate::plan::port_faults::first_port_fault;
+use crate::plan::row_faults::first_row_fault;
+use crate::plan::wire_faults::first_wire_fault;
 use crate::{CircuitPlan, EdgeId, EdgePlan, List, NoMemory, PlanFault, ServicePlan, WirePlan};
 use std::alloc::Global;
 

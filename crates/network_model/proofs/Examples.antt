@@ -2,14 +2,14 @@
 use Rattle.std.proofs.Common.{◌≡◌, ℕ, true, false, List, [], ◌∷◌, None, refl}
 use Rattle.std.specs.Prelude.{codes}
 use Rattle.net_base.specs.declared.plan.Plan.{Plan}
-use Rattle.net_base.specs.declared.edge_plan.EdgePlan.{EdgePlan}
-use Rattle.net_base.specs.declared.service_plan.ServicePlan.{ServicePlan}
-use Rattle.net_base.specs.declared.circuit_plan.CircuitPlan.{CircuitPlan}
-use Rattle.net_base.specs.declared.drop_cause.DropCause.TheVariants.{Short}
-use Rattle.net_base.specs.declared.entry.Entry.TheVariants.{Did, Idle, In, Left, Dropped}
-use Rattle.net_base.specs.declared.event.Event.TheVariants.{Tick, Frame, Circuit}
-use Rattle.net_base.specs.declared.places.CircuitId.{CircuitId}
-use Rattle.net_base.specs.declared.places.ServiceId.{ServiceId}
+use Rattle.net_base.specs.declared.plan.edge_plan.EdgePlan.{EdgePlan}
+use Rattle.net_base.specs.declared.plan.service_plan.ServicePlan.{ServicePlan}
+use Rattle.net_base.specs.declared.plan.circuit_plan.CircuitPlan.{CircuitPlan}
+use Rattle.net_base.specs.declared.trace.drop_cause.DropCause.TheVariants.{Short}
+use Rattle.net_base.specs.declared.trace.entry.Entry.TheVariants.{Did, Idle, In, Left, Dropped}
+use Rattle.net_base.specs.declared.trace.event.Event.TheVariants.{Tick, Frame, Circuit}
+use Rattle.net_base.specs.declared.plan.places.CircuitId.{CircuitId}
+use Rattle.net_base.specs.declared.plan.places.ServiceId.{ServiceId}
 use Rattle.hvpls_spokes.specs.declared.port.Port.TheVariants as port
 use Rattle.network_model.specs.State.{empty_network}
 use Rattle.network_model.specs.Step.{step}

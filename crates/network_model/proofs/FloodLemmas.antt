@@ -5,16 +5,16 @@ use Rattle.std.specs.Prelude.{option_map}
 use Rattle.std.specs.List.{list_any}
 use Rattle.std.specs.Str.{bytes_eq}
 use Rattle.net_base.specs.declared.plan.Plan.{Plan}
-use Rattle.net_base.specs.declared.circuit_plan.CircuitPlan.{CircuitPlan}
-use Rattle.net_base.specs.declared.event.Event.{Event}
-use Rattle.net_base.specs.declared.event.Event.TheVariants.{Frame}
-use Rattle.net_base.specs.declared.mac.Mac.{Mac}
-use Rattle.net_base.specs.declared.places.CircuitId.{CircuitId}
-use Rattle.net_base.specs.declared.places.ServiceId.{ServiceId}
-use Rattle.net_base.specs.Frame.{destination_of, source_of, goes_to_group}
-use Rattle.net_base.specs.Isolated.{inner_at}
-use Rattle.net_base.specs.Mac.{is_group_address}
-use Rattle.net_base.specs.Places.{circuit_row}
+use Rattle.net_base.specs.declared.plan.circuit_plan.CircuitPlan.{CircuitPlan}
+use Rattle.net_base.specs.declared.trace.event.Event.{Event}
+use Rattle.net_base.specs.declared.trace.event.Event.TheVariants.{Frame}
+use Rattle.net_base.specs.declared.values.mac.Mac.{Mac}
+use Rattle.net_base.specs.declared.plan.places.CircuitId.{CircuitId}
+use Rattle.net_base.specs.declared.plan.places.ServiceId.{ServiceId}
+use Rattle.net_base.specs.values.Frame.{destination_of, source_of, goes_to_group}
+use Rattle.net_base.specs.trace.Isolated.{inner_at}
+use Rattle.net_base.specs.values.Mac.{is_group_address}
+use Rattle.net_base.specs.plan.Places.{circuit_row}
 use Rattle.mac_table.specs.Addresses.{has_address}
 use Rattle.mac_table.specs.declared.mac_entry.MacEntry.{MacEntry}
 use Rattle.mac_table.proofs.AddressLemmas.{entry_of-absent, port_of-learned_other}

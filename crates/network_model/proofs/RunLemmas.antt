@@ -1,8 +1,8 @@
 -- Runs of joined lists of events.
 use Rattle.std.proofs.Common.{◌≡◌, ◌++◌, ◌∙◌, List, [], ◌∷◌, refl, ap, sym, append_assoc}
 use Rattle.net_base.specs.declared.plan.Plan.{Plan}
-use Rattle.net_base.specs.declared.entry.Entry.{Entry}
-use Rattle.net_base.specs.declared.event.Event.{Event}
+use Rattle.net_base.specs.declared.trace.entry.Entry.{Entry}
+use Rattle.net_base.specs.declared.trace.event.Event.{Event}
 use Rattle.network_model.specs.State.{NetworkState}
 use Rattle.network_model.specs.Step.{step}
 use Rattle.network_model.specs.Run.{state_after, entries_along}

@@ -2,9 +2,9 @@
 use Rattle.std.specs.Prelude.{◌==◌, ◌&&◌, ◌||◌, not, ℕ, Bool, true, false, List, [], ◌∷◌, length}
 use Rattle.std.specs.List.{list_any}
 use Rattle.net_base.specs.declared.plan.Plan.{Plan}
-use Rattle.net_base.specs.declared.wire_plan.WirePlan.{WirePlan}
-use Rattle.net_base.specs.declared.places.EdgeId.{EdgeId}
-use Rattle.net_base.specs.declared.places.ServiceId.{ServiceId}
+use Rattle.net_base.specs.declared.plan.wire_plan.WirePlan.{WirePlan}
+use Rattle.net_base.specs.declared.plan.places.EdgeId.{EdgeId}
+use Rattle.net_base.specs.declared.plan.places.ServiceId.{ServiceId}
 use Rattle.network_model.specs.State.{NetworkState, Direction, end_forwards, is_stitched}
 use Rattle.network_model.specs.Roles.{all_below, joins, is_first, is_last, is_wire_of, is_mesh_of, is_spoke_from, any_wire, count_wires, is_core_edge, is_spoke_edge}
 

@@ -1,13 +1,13 @@
 -- A frame to a known station leaves by one port at most (RFC 4762 section 4.1).
 use Rattle.std.specs.Prelude.{◌≡◌, ◌≤◌, ◌+◌, ◌==◌, ◌++◌, ℕ, true, false, List, ◌∷◌, Option, Some, Ok}
-use Rattle.net_base.specs.declared.circuit_plan.CircuitPlan.{CircuitPlan}
-use Rattle.net_base.specs.declared.entry.Entry.{Entry}
-use Rattle.net_base.specs.declared.event.Event.{Event}
-use Rattle.net_base.specs.declared.event.Event.TheVariants.{Frame}
-use Rattle.net_base.specs.declared.places.CircuitId.{CircuitId}
+use Rattle.net_base.specs.declared.plan.circuit_plan.CircuitPlan.{CircuitPlan}
+use Rattle.net_base.specs.declared.trace.entry.Entry.{Entry}
+use Rattle.net_base.specs.declared.trace.event.Event.{Event}
+use Rattle.net_base.specs.declared.trace.event.Event.TheVariants.{Frame}
+use Rattle.net_base.specs.declared.plan.places.CircuitId.{CircuitId}
 use Rattle.net_base.specs.declared.plan.Plan.{Plan}
-use Rattle.net_base.specs.Isolated.{inner_at}
-use Rattle.net_base.specs.Places.{circuit_row}
+use Rattle.net_base.specs.trace.Isolated.{inner_at}
+use Rattle.net_base.specs.plan.Places.{circuit_row}
 use Rattle.vsi_bridge.specs.Targets.{known_port}
 use Rattle.network_model.specs.State.{NetworkState, addresses_of, at_edge, empty_network, is_on}
 use Rattle.network_model.specs.Enter.{destination, hearing, port_at}

@@ -2,12 +2,12 @@
 -- service exactly once, within twelve segments.
 use Rattle.std.specs.Prelude.{◌≡◌, ◌≤◌, ◌+◌, ◌++◌, ◌==◌, ◌&&◌, not, ℕ, List, [], ◌∷◌, if◌then◌else◌}
 use Rattle.net_base.specs.declared.plan.Plan.{Plan}
-use Rattle.net_base.specs.declared.event.Event.{Event}
-use Rattle.net_base.specs.declared.event.Event.TheVariants.{Frame}
-use Rattle.net_base.specs.declared.entry.Entry.{Entry}
-use Rattle.net_base.specs.declared.entry.Entry.TheVariants.{Left}
-use Rattle.net_base.specs.declared.places.CircuitId.{CircuitId}
-use Rattle.net_base.specs.declared.places.ServiceId.{ServiceId}
+use Rattle.net_base.specs.declared.trace.event.Event.{Event}
+use Rattle.net_base.specs.declared.trace.event.Event.TheVariants.{Frame}
+use Rattle.net_base.specs.declared.trace.entry.Entry.{Entry}
+use Rattle.net_base.specs.declared.trace.entry.Entry.TheVariants.{Left}
+use Rattle.net_base.specs.declared.plan.places.CircuitId.{CircuitId}
+use Rattle.net_base.specs.declared.plan.places.ServiceId.{ServiceId}
 use Rattle.network_model.specs.State.{empty_network}
 use Rattle.network_model.specs.Run.{run, state_after}
 use Rattle.network_model.specs.Reach.{is_site}

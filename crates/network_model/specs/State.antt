@@ -1,9 +1,9 @@
 -- The network at one moment: maps from places in the plan, and what is under way between them.
 use Rattle.std.specs.Prelude.{◌==◌, ◌+◌, nat_lt, ℕ, Bool, true, false, List, [], if◌then◌else◌}
-use Rattle.net_base.specs.declared.places.EdgeId.{EdgeId}
-use Rattle.net_base.specs.declared.places.ServiceId.{ServiceId}
-use Rattle.net_base.specs.declared.places.CircuitId.{CircuitId}
-use Rattle.net_base.specs.declared.places.WireId.{WireId}
+use Rattle.net_base.specs.declared.plan.places.EdgeId.{EdgeId}
+use Rattle.net_base.specs.declared.plan.places.ServiceId.{ServiceId}
+use Rattle.net_base.specs.declared.plan.places.CircuitId.{CircuitId}
+use Rattle.net_base.specs.declared.plan.places.WireId.{WireId}
 use Rattle.mac_table.specs.declared.mac_entry.MacEntry.{MacEntry}
 
 -- what an edge holds

@@ -1,10 +1,10 @@
 -- One event of the network.
 use Rattle.std.specs.Prelude.{[], ◌∷◌}
 use Rattle.net_base.specs.declared.plan.Plan.{Plan}
-use Rattle.net_base.specs.declared.event.Event.{Event}
-use Rattle.net_base.specs.declared.event.Event.TheVariants.{Tick, Frame, Circuit}
-use Rattle.net_base.specs.declared.entry.Entry.TheVariants.{Did}
-use Rattle.net_base.specs.Places.{circuit_row}
+use Rattle.net_base.specs.declared.trace.event.Event.{Event}
+use Rattle.net_base.specs.declared.trace.event.Event.TheVariants.{Tick, Frame, Circuit}
+use Rattle.net_base.specs.declared.trace.entry.Entry.TheVariants.{Did}
+use Rattle.net_base.specs.plan.Places.{circuit_row}
 use Rattle.network_model.specs.State.{NetworkState}
 use Rattle.network_model.specs.Enter.{Stepped, frame_row}
 use Rattle.network_model.specs.Tick.{tick_row}

@@ -1,7 +1,7 @@
 -- A tick passes at every edge.
 use Rattle.std.specs.Prelude.{filter, ℕ, List, [], Option, Some, None, slice_get}
 use Rattle.net_base.specs.declared.plan.Plan.{Plan}
-use Rattle.net_base.specs.declared.service_plan.ServicePlan.{ServicePlan}
+use Rattle.net_base.specs.declared.plan.service_plan.ServicePlan.{ServicePlan}
 use Rattle.mac_table.specs.Addresses.{is_young}
 use Rattle.mac_table.specs.declared.mac_entry.MacEntry.{MacEntry}
 use Rattle.network_model.specs.State.{EdgeState, NetworkState, later}

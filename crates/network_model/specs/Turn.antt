@@ -1,9 +1,9 @@
 -- A circuit is turned on or off.
 use Rattle.std.specs.Prelude.{◌==◌, not, filter, ℕ, Bool, true, false, List, [], ◌∷◌, Option, Some, None}
 use Rattle.net_base.specs.declared.plan.Plan.{Plan}
-use Rattle.net_base.specs.declared.circuit_plan.CircuitPlan.{CircuitPlan}
-use Rattle.net_base.specs.declared.entry.Entry.TheVariants.{Idle}
-use Rattle.net_base.specs.declared.places.CircuitId.{CircuitId}
+use Rattle.net_base.specs.declared.plan.circuit_plan.CircuitPlan.{CircuitPlan}
+use Rattle.net_base.specs.declared.trace.entry.Entry.TheVariants.{Idle}
+use Rattle.net_base.specs.declared.plan.places.CircuitId.{CircuitId}
 use Rattle.mac_table.specs.declared.mac_entry.MacEntry.{MacEntry}
 use Rattle.network_model.specs.State.{EdgeState, NetworkState, at_edge, addresses_of, is_on, with_addresses, with_circuit, with_edge}
 use Rattle.network_model.specs.Enter.{Stepped, port_at}

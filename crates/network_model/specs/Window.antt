@@ -3,15 +3,15 @@ use Rattle.std.specs.Prelude.{◌≡◌, ◌+◌, ◌==◌, ◌&&◌, ◌||◌, 
 use Rattle.std.specs.List.{list_any}
 use Rattle.std.specs.Str.{bytes_eq}
 use Rattle.net_base.specs.declared.plan.Plan.{Plan}
-use Rattle.net_base.specs.declared.drop_cause.DropCause.{DropCause}
-use Rattle.net_base.specs.declared.wire_plan.WirePlan.{WirePlan}
-use Rattle.net_base.specs.declared.event.Event.{Event}
-use Rattle.net_base.specs.declared.event.Event.TheVariants.{Frame, Arrive, Discard, Again}
-use Rattle.net_base.specs.declared.places.CircuitId.{CircuitId}
-use Rattle.net_base.specs.declared.places.ServiceId.{ServiceId}
-use Rattle.net_base.specs.Frame.{destination_of, source_of, goes_to_group}
-use Rattle.net_base.specs.Isolated.{inner_at}
-use Rattle.net_base.specs.Places.{service_of, wire_row}
+use Rattle.net_base.specs.declared.trace.drop_cause.DropCause.{DropCause}
+use Rattle.net_base.specs.declared.plan.wire_plan.WirePlan.{WirePlan}
+use Rattle.net_base.specs.declared.trace.event.Event.{Event}
+use Rattle.net_base.specs.declared.trace.event.Event.TheVariants.{Frame, Arrive, Discard, Again}
+use Rattle.net_base.specs.declared.plan.places.CircuitId.{CircuitId}
+use Rattle.net_base.specs.declared.plan.places.ServiceId.{ServiceId}
+use Rattle.net_base.specs.values.Frame.{destination_of, source_of, goes_to_group}
+use Rattle.net_base.specs.trace.Isolated.{inner_at}
+use Rattle.net_base.specs.plan.Places.{service_of, wire_row}
 use Rattle.mac_table.specs.Addresses.{has_address}
 use Rattle.network_model.specs.State.{NetworkState, Packet, empty_network}
 use Rattle.network_model.specs.Step.{step}

@@ -4,7 +4,7 @@ use Rattle.std.specs.List.{find}
 use Rattle.std.specs.Map.{keys_of}
 use Rattle.toml.specs.View.{members_view}
 use Rattle.toml.specs.declared.value.Value.{Value}
-use Rattle.net_base.specs.declared.table.Table.{Table}
+use Rattle.net_base.specs.declared.plan.table.Table.{Table}
 use Rattle.scenario_text.specs.Keys.{is_known_key, unknown_key}
 
 chosen : (known : Bool) (key : String Global) (found : Option (String Global)) (rest : Option (List ℕ)) → option_map string_bytes found ≡ rest

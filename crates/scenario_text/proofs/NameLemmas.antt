@@ -10,7 +10,7 @@ use Rattle.std.specs.List.{position_or_len, list_any}
 use Rattle.std.specs.Map.{lookup}
 use Rattle.std.specs.Str.{bytes_eq}
 use Rattle.std.specs.Cmp.Lexicographic.{nat_list_eq_equiv}
-use Rattle.net_base.specs.Faults.{clash_after}
+use Rattle.net_base.specs.plan.Faults.{clash_after}
 use Rattle.net_base.proofs.ClashLemmas.{clash_passed}
 use Rattle.scenario_text.specs.Names.{place_in, Finds}
 use denote.Ref.{Bor}

@@ -4,8 +4,8 @@ use Rattle.std.specs.Str.{is_utf8}
 use Rattle.toml.specs.Data.{Members}
 use Rattle.toml.specs.Parse.{parse_document}
 use Rattle.net_base.specs.declared.plan.Plan.{Plan}
-use Rattle.net_base.specs.declared.table.Table.TheVariants.{Edge, Service, Circuit, Wire}
-use Rattle.net_base.specs.NameFaults.{edge_names, circuit_names, wire_names}
+use Rattle.net_base.specs.declared.plan.table.Table.TheVariants.{Edge, Service, Circuit, Wire}
+use Rattle.net_base.specs.plan.NameFaults.{edge_names, circuit_names, wire_names}
 use Rattle.scenario_text.specs.declared.plan_names.PlanNames.{PlanNames}
 use Rattle.scenario_text.specs.declared.scenario.Scenario.{Scenario}
 use Rattle.scenario_text.specs.declared.scenario_fault.ScenarioFault.{ScenarioFault}

@@ -2,8 +2,8 @@
 use Rattle.std.specs.Prelude.{◌+◌, nat_lt, codes, ℕ, List, [], ◌∷◌, is_some, Result, Ok, Err, if◌then◌else◌}
 use Rattle.std.specs.Str.{bytes_eq}
 use Rattle.toml.specs.Data.{Data, Items, no_items, item, as_str}
-use Rattle.net_base.specs.declared.event.Event.{Event}
-use Rattle.net_base.specs.declared.event.Event.TheVariants.{Connect, Deliver, Lose, Restart, Tick, Frame, Arrive, Discard, Again, Wire, Circuit, Status, Priority, Ping}
+use Rattle.net_base.specs.declared.trace.event.Event.{Event}
+use Rattle.net_base.specs.declared.trace.event.Event.TheVariants.{Connect, Deliver, Lose, Restart, Tick, Frame, Arrive, Discard, Again, Wire, Circuit, Status, Priority, Ping}
 use Rattle.scenario_text.specs.declared.command.Command.{Command}
 use Rattle.scenario_text.specs.declared.command.Command.TheVariants.{One, Settle, Flow, Ticks, Play}
 use Rattle.scenario_text.specs.declared.plan_names.PlanNames.{PlanNames}

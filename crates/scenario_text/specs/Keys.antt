@@ -2,8 +2,8 @@
 use Rattle.std.specs.Prelude.{◌||◌, not, codes, ℕ, Bool, true, false, List, Result, Ok, Err, Option, Some, None, if◌then◌else◌}
 use Rattle.std.specs.Str.{bytes_eq}
 use Rattle.toml.specs.Data.{Members, no_members, member}
-use Rattle.net_base.specs.declared.table.Table.{Table}
-use Rattle.net_base.specs.declared.table.Table.TheVariants.{Top, Events, Edge, Service, Circuit, Wire}
+use Rattle.net_base.specs.declared.plan.table.Table.{Table}
+use Rattle.net_base.specs.declared.plan.table.Table.TheVariants.{Top, Events, Edge, Service, Circuit, Wire}
 use Rattle.scenario_text.specs.declared.row_place.RowPlace.{RowPlace}
 use Rattle.scenario_text.specs.declared.scenario_fault.ScenarioFault.{ScenarioFault}
 use Rattle.scenario_text.specs.declared.scenario_fault.ScenarioFault.TheVariants.{UnknownKey}

@@ -3,7 +3,7 @@ use Rattle.std.specs.Prelude.{◌≡◌, position, ℕ, Bool, List, Option}
 use Rattle.std.specs.Map.{lookup}
 use Rattle.std.specs.Option.{is_none}
 use Rattle.std.specs.Str.{bytes_eq}
-use Rattle.net_base.specs.Faults.{first_clash}
+use Rattle.net_base.specs.plan.Faults.{first_clash}
 use denote.Ref.{Bor}
 
 -- the place of the first such name

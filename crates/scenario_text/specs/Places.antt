@@ -1,7 +1,7 @@
 -- The place of a fault in a document.
 use Rattle.std.specs.Prelude.{◌||◌, nat_lt, ℕ, List, map, min, length, take, if◌then◌else◌}
-use Rattle.net_base.specs.declared.place.Place.{Place}
-use Rattle.net_base.specs.declared.table.Table.TheVariants.{Top}
+use Rattle.net_base.specs.declared.plan.place.Place.{Place}
+use Rattle.net_base.specs.declared.plan.table.Table.TheVariants.{Top}
 use Rattle.scenario_text.specs.declared.row_place.RowPlace.{RowPlace}
 
 -- a graphic octet, or a question mark in its place

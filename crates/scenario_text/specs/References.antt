@@ -1,17 +1,17 @@
 -- What the rows name: edges and services by their places.
 use Rattle.std.specs.Prelude.{◌+◌, ◌==◌, codes, ℕ, List, [], ◌∷◌, Option, Some, None, Result, Ok, Err, slice_get, unwrap_or, if◌then◌else◌}
 use Rattle.net_base.specs.declared.plan.Plan.{Plan}
-use Rattle.net_base.specs.declared.places.EdgeId.{EdgeId}
-use Rattle.net_base.specs.declared.edge_plan.EdgePlan.{EdgePlan}
-use Rattle.net_base.specs.declared.service_plan.ServicePlan.{ServicePlan}
-use Rattle.net_base.specs.declared.circuit_plan.CircuitPlan.{CircuitPlan}
-use Rattle.net_base.specs.declared.wire_plan.WirePlan.{WirePlan}
-use Rattle.net_base.specs.declared.offer.Offer.{Offer}
-use Rattle.net_base.specs.declared.plan_fault.PlanFault.{PlanFault}
-use Rattle.net_base.specs.declared.plan_fault.PlanFault.TheVariants.{UnknownName}
-use Rattle.net_base.specs.declared.table.Table.TheVariants.{Circuit, Wire}
-use Rattle.net_base.specs.NameFaults.{edge_names, service_names}
-use Rattle.net_base.specs.PlanFault.{plan_fault}
+use Rattle.net_base.specs.declared.plan.places.EdgeId.{EdgeId}
+use Rattle.net_base.specs.declared.plan.edge_plan.EdgePlan.{EdgePlan}
+use Rattle.net_base.specs.declared.plan.service_plan.ServicePlan.{ServicePlan}
+use Rattle.net_base.specs.declared.plan.circuit_plan.CircuitPlan.{CircuitPlan}
+use Rattle.net_base.specs.declared.plan.wire_plan.WirePlan.{WirePlan}
+use Rattle.net_base.specs.declared.plan.offer.Offer.{Offer}
+use Rattle.net_base.specs.declared.plan.plan_fault.PlanFault.{PlanFault}
+use Rattle.net_base.specs.declared.plan.plan_fault.PlanFault.TheVariants.{UnknownName}
+use Rattle.net_base.specs.declared.plan.table.Table.TheVariants.{Circuit, Wire}
+use Rattle.net_base.specs.plan.NameFaults.{edge_names, service_names}
+use Rattle.net_base.specs.plan.PlanFault.{plan_fault}
 use Rattle.scenario_text.specs.declared.row_place.RowPlace.{RowPlace}
 use Rattle.scenario_text.specs.declared.scenario_fault.ScenarioFault.{ScenarioFault}
 use Rattle.scenario_text.specs.declared.scenario_fault.ScenarioFault.TheVariants as fault

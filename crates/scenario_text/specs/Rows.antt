@@ -1,10 +1,10 @@
 -- The rows of the document's tables: each key with its kind, its range and its default.
 use Rattle.std.specs.Prelude.{◌+◌, codes, suc, ℕ, true, false, List, [], ◌∷◌, None, Result, Ok}
 use Rattle.toml.specs.Data.{Data, Items, no_items, item, Members, as_table}
-use Rattle.net_base.specs.declared.edge_plan.EdgePlan.{EdgePlan}
-use Rattle.net_base.specs.declared.service_plan.ServicePlan.{ServicePlan}
-use Rattle.net_base.specs.declared.table.Table.{Table}
-use Rattle.net_base.specs.declared.table.Table.TheVariants.{Edge, Service, Circuit, Wire}
+use Rattle.net_base.specs.declared.plan.edge_plan.EdgePlan.{EdgePlan}
+use Rattle.net_base.specs.declared.plan.service_plan.ServicePlan.{ServicePlan}
+use Rattle.net_base.specs.declared.plan.table.Table.{Table}
+use Rattle.net_base.specs.declared.plan.table.Table.TheVariants.{Edge, Service, Circuit, Wire}
 use Rattle.scenario_text.specs.declared.row_place.RowPlace.{RowPlace}
 use Rattle.scenario_text.specs.declared.scenario_fault.ScenarioFault.{ScenarioFault}
 use Rattle.scenario_text.specs.declared.scenario_fault.ScenarioFault.TheVariants.{WrongKind}

@@ -2,10 +2,10 @@
 use Rattle.std.specs.Prelude.{◌<◌, ◌≤◌, ℕ, List, length, Option, IfSome}
 use Rattle.std.specs.List.{All}
 use Rattle.net_base.specs.declared.plan.Plan.{Plan}
-use Rattle.net_base.specs.declared.circuit_plan.CircuitPlan.{CircuitPlan}
-use Rattle.net_base.specs.declared.service_plan.ServicePlan.{ServicePlan}
-use Rattle.net_base.specs.declared.event.Event.{Event}
-use Rattle.net_base.specs.declared.event.Event.TheVariants.{Connect, Deliver, Lose, Restart, Tick, Frame, Arrive, Discard, Again, Wire, Circuit, Status, Priority, Ping}
+use Rattle.net_base.specs.declared.plan.circuit_plan.CircuitPlan.{CircuitPlan}
+use Rattle.net_base.specs.declared.plan.service_plan.ServicePlan.{ServicePlan}
+use Rattle.net_base.specs.declared.trace.event.Event.{Event}
+use Rattle.net_base.specs.declared.trace.event.Event.TheVariants.{Connect, Deliver, Lose, Restart, Tick, Frame, Arrive, Discard, Again, Wire, Circuit, Status, Priority, Ping}
 use Rattle.scenario_text.specs.declared.command.Command.{Command}
 use Rattle.scenario_text.specs.declared.command.Command.TheVariants.{One, Settle, Flow, Ticks, Play}
 use Rattle.scenario_text.specs.declared.plan_names.PlanNames.{PlanNames}

@@ -1,9 +1,9 @@
 -- The top of a document: its version and its arrays.
 use Rattle.std.specs.Prelude.{◌==◌, nat_le, codes, ℕ, ℤ, pos, negsuc, Bool, false, is_some, Result, Ok}
 use Rattle.toml.specs.Data.{Data, Items, no_items, Members, as_table, as_integer}
-use Rattle.net_base.specs.declared.place.Place.{Place}
-use Rattle.net_base.specs.declared.table.Table.{Table}
-use Rattle.net_base.specs.declared.table.Table.TheVariants.{Top, Events, Edge, Service, Circuit, Wire}
+use Rattle.net_base.specs.declared.plan.place.Place.{Place}
+use Rattle.net_base.specs.declared.plan.table.Table.{Table}
+use Rattle.net_base.specs.declared.plan.table.Table.TheVariants.{Top, Events, Edge, Service, Circuit, Wire}
 use Rattle.scenario_text.specs.declared.scenario_fault.ScenarioFault.{ScenarioFault}
 use Rattle.scenario_text.specs.declared.scenario_fault.ScenarioFault.TheVariants.{WrongKind, TooMany, Version}
 use Rattle.scenario_text.specs.Reading.{◌>>=◌, checked, found}

@@ -1,8 +1,8 @@
 //! Whole documents.
 ghost use Rattle.std.specs.Prelude.{◌≡◌, ◌≤◌, None, length, IfOk};
 ghost use Rattle.std.specs.List.{All};
-ghost use Rattle.net_base.specs.NameFaults.{edge_names, circuit_names, wire_names};
-ghost use Rattle.net_base.specs.PlanFault.{plan_fault};
+ghost use Rattle.net_base.specs.plan.NameFaults.{edge_names, circuit_names, wire_names};
+ghost use Rattle.net_base.specs.plan.PlanFault.{plan_fault};
 ghost use Rattle.toml.specs.Parse.{parse_document};
 ghost use Rattle.toml.specs.View.{items_view, table_view};
 ghost use Rattle.scenario_text.specs.Arrays.{arrays_of, HasLimits};

@@ -1,7 +1,7 @@
 //! The names of rows in order.
 ghost use Rattle.std.specs.Prelude.{◌≡◌, IfOk};
-ghost use Rattle.net_base.specs.Accepted.{plan_names};
-ghost use Rattle.net_base.specs.NameFaults.{edge_names, service_names, circuit_names, wire_names};
+ghost use Rattle.net_base.specs.plan.Accepted.{plan_names};
+ghost use Rattle.net_base.specs.plan.NameFaults.{edge_names, service_names, circuit_names, wire_names};
 
 use net_base::{CircuitPlan, EdgePlan, Name, Plan, ServicePlan, WirePlan};
 use std::alloc::{AllocError, Global};

@@ -1,9 +1,9 @@
 //! The plan of a document.
 ghost use Rattle.std.specs.Prelude.{◌≡◌, ◌≤◌, None, length, IfOk};
 ghost use Rattle.std.specs.List.{All};
-ghost use Rattle.net_base.specs.Accepted.{plan_names};
-ghost use Rattle.net_base.specs.NameFaults.{edge_names, service_names};
-ghost use Rattle.net_base.specs.PlanFault.{plan_fault};
+ghost use Rattle.net_base.specs.plan.Accepted.{plan_names};
+ghost use Rattle.net_base.specs.plan.NameFaults.{edge_names, service_names};
+ghost use Rattle.net_base.specs.plan.PlanFault.{plan_fault};
 ghost use Rattle.scenario_text.specs.Names.{are_distinct};
 ghost use Rattle.scenario_text.specs.Reading.{Gives};
 ghost use Rattle.scenario_text.specs.References.{sound, circuits_in, plan_of};

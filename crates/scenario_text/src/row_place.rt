@@ -1,6 +1,6 @@
 //! Places of rows, and the faults that have one.
 ghost use Rattle.std.specs.Prelude.{◌≡◌};
-ghost use Rattle.net_base.specs.declared.plan_fault.PlanFault.{PlanFault};
+ghost use Rattle.net_base.specs.declared.plan.plan_fault.PlanFault.{PlanFault};
 ghost use Rattle.scenario_text.specs.Places.{place_at, top_row};
 
 use crate::ScenarioFault;

@@ -1,6 +1,6 @@
 //! The wires of a plan.
 ghost use Rattle.std.specs.Prelude.{◌≡◌, ◌≤◌, length, IfOk};
-ghost use Rattle.net_base.specs.NameFaults.{service_names};
+ghost use Rattle.net_base.specs.plan.NameFaults.{service_names};
 ghost use Rattle.scenario_text.specs.Reading.{Gives};
 ghost use Rattle.scenario_text.specs.References.{told, offer_of, mtu_at, path_in, wire_in, wires_in};
 

@@ -2,7 +2,7 @@
 use Rattle.std.proofs.Common.{◌≡◌, true, false, [], ◌∷◌, Some, None, refl}
 use Rattle.ldp_grammar.specs.declared.message.Message.TheVariants.{Notification, Initialization, KeepAlive}
 use Rattle.ldp_grammar.specs.declared.status_code.StatusCode.{StatusCode}
-use Rattle.net_base.specs.declared.state_name.Reason.TheVariants as reason
+use Rattle.net_base.specs.declared.trace.state_name.Reason.TheVariants as reason
 use Rattle.session_core.specs.declared.peers.Peers.{Peers}
 use Rattle.session_core.specs.declared.refusal.Refusal.TheVariants as refusal
 use Rattle.session_core.specs.Parameters.{longest, proposal, refusal_of}

@@ -2,8 +2,8 @@
 use Rattle.std.proofs.Common.{◌≡◌, ◌↔◌, ◌&&◌, Bool, true, false, not, IsTrue, Some, None, arith}
 use Rattle.ldp_grammar.specs.declared.message.Message.{Message}
 use Rattle.ldp_grammar.specs.declared.session_params.SessionParams.{SessionParams}
-use Rattle.net_base.specs.declared.state_name.Reason.TheVariants as reason
-use Rattle.net_base.specs.declared.state_name.StateName.TheVariants as name
+use Rattle.net_base.specs.declared.trace.state_name.Reason.TheVariants as reason
+use Rattle.net_base.specs.declared.trace.state_name.StateName.TheVariants as name
 use Rattle.session_core.specs.declared.peers.Peers.{Peers}
 use Rattle.session_core.specs.declared.refusal.Refusal.TheVariants as refusal
 use Rattle.session_core.specs.declared.standing.Standing.{Standing}

@@ -3,8 +3,8 @@ use Rattle.std.specs.Prelude.{◌≡◌, ◌==◌, ◌&&◌, Bool, true, false, 
 use Rattle.ldp_grammar.specs.declared.message.Message.{Message}
 use Rattle.ldp_grammar.specs.declared.message.Message.TheVariants.{Notification, Initialization, KeepAlive}
 use Rattle.ldp_grammar.specs.declared.session_params.SessionParams.{SessionParams}
-use Rattle.net_base.specs.declared.state_name.Reason.{Reason}
-use Rattle.net_base.specs.declared.state_name.StateName.{StateName}
+use Rattle.net_base.specs.declared.trace.state_name.Reason.{Reason}
+use Rattle.net_base.specs.declared.trace.state_name.StateName.{StateName}
 use Rattle.session_core.specs.declared.session.Session.{Session}
 use Rattle.session_core.specs.declared.peers.Peers.{Peers}
 use Rattle.session_core.specs.Parameters.{is_platform}

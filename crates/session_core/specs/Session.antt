@@ -1,6 +1,6 @@
 -- What contracts see of a session of any state.
-use Rattle.net_base.specs.declared.state_name.StateName.{StateName}
-use Rattle.net_base.specs.declared.state_name.StateName.TheVariants as name
+use Rattle.net_base.specs.declared.trace.state_name.StateName.{StateName}
+use Rattle.net_base.specs.declared.trace.state_name.StateName.TheVariants as name
 use Rattle.session_core.specs.declared.session.Session.{Session}
 use Rattle.session_core.specs.declared.session.Session.TheVariants as session
 use Rattle.session_core.specs.Phase.{Phase}

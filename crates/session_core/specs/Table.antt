@@ -1,7 +1,7 @@
 -- The table of a session (RFC 5036 sections 2.5.4 and 2.5.6): from its state and what happens to what comes of it.
 use Rattle.std.specs.Prelude.{◌+◌, ◌-◌, ◌^◌, ◌/◌, ◌==◌, ◌&&◌, ℕ, Bool, true, false, not, min, max, nat_le, List, [], ◌∷◌, Option, Some, None, if◌then◌else◌}
-use Rattle.net_base.specs.declared.state_name.Reason.{Reason}
-use Rattle.net_base.specs.declared.state_name.Reason.TheVariants as reason
+use Rattle.net_base.specs.declared.trace.state_name.Reason.{Reason}
+use Rattle.net_base.specs.declared.trace.state_name.Reason.TheVariants as reason
 use Rattle.ldp_codec.specs.declared.decode_fault.DecodeFault.{DecodeFault}
 use Rattle.ldp_grammar.specs.declared.ldp_id.LdpId.{LdpId}
 use Rattle.ldp_grammar.specs.declared.message.Message.{Message}

@@ -11,7 +11,7 @@ pub struct Ended {
 }
 
 impl Model for Ended {
-    ghost use Rattle.net_base.specs.declared.state_name.Reason.{Reason};
+    ghost use Rattle.net_base.specs.declared.trace.state_name.Reason.{Reason};
 
     ghost Value = { Reason };
 

@@ -1,6 +1,6 @@
 //! The state in which no Initialization was sent or accepted.
 ghost use Rattle.std.specs.Prelude.{◌≡◌, ◌≢◌, ◌↔◌, ◌⊎◌, ◌≤◌, ◌+◌, [], ◌∷◌, false, true, IsTrue, ◌&&◌, not, ℕ};
-ghost use Rattle.net_base.specs.declared.state_name.StateName.TheVariants as name;
+ghost use Rattle.net_base.specs.declared.trace.state_name.StateName.TheVariants as name;
 ghost use Rattle.session_core.specs.declared.reply.Reply.TheVariants as reply;
 ghost use Rattle.ldp_grammar.specs.declared.message.Message.{Message};
 ghost use Rattle.ldp_grammar.specs.declared.message.Message.TheVariants.{Initialization};

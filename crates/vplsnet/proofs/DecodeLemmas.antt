@@ -1,6 +1,6 @@
 -- What a decoding answers of a file that is told, where no fault is counted.
 use Rattle.std.proofs.Common.{◌≡◌, ◌⊎◌, ◌∙◌, ℕ, List, length, inl, inr, refl, ap, subst, arith}
-use Rattle.net_base.specs.Outside.{Rose}
+use Rattle.net_base.specs.outside.Outside.{Rose}
 use Rattle.ldp_stream.specs.Parsed.{Ending, IsParsed}
 use Rattle.ldp_stream.proofs.ParsedLemmas.{one_parsing}
 use Rattle.vplsnet.specs.declared.outcome.Outcome.{Outcome}

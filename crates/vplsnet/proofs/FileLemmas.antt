@@ -2,7 +2,7 @@
 use Rattle.std.proofs.Common.{◌≡◌, ◌≤◌, ◌<◌, ◌+◌, ◌-◌, ◌++◌, ℕ, List, [], Option, Some, None, IfSome, length, take, drop, refl, sym, ap, ◌∙◌, subst, arith, append_assoc, length-append, length-take, length-drop}
 use Rattle.std.proofs.Math.Seq.{take-add}
 use Rattle.std.proofs.lemmas.List.{take_all, take-append-le}
-use Rattle.net_base.specs.Outside.{Appends, ReadsFrom}
+use Rattle.net_base.specs.outside.Outside.{Appends, ReadsFrom}
 use Rattle.vplsnet.specs.Files.{IsFrontOf}
 
 -- what was taken goes on, piece by piece

@@ -1,7 +1,7 @@
 -- What a replay answers of a file that is told, where no fault is counted.
 use Rattle.std.proofs.Common.{true, false, ◌≡◌, ◌<◌, ◌≤◌, ◌⊎◌, ◌∙◌, ℕ, List, Option, Some, None, Ok, Err, IfSome, length, inl, inr, refl, ap, sym, arith}
-use Rattle.net_base.specs.declared.entry.Entry.{Entry}
-use Rattle.net_base.specs.Outside.{Rose}
+use Rattle.net_base.specs.declared.trace.entry.Entry.{Entry}
+use Rattle.net_base.specs.outside.Outside.{Rose}
 use Rattle.scenario_text.specs.declared.scenario.Scenario.{Scenario}
 use Rattle.scenario_text.specs.declared.scenario_fault.ScenarioFault.{ScenarioFault}
 use Rattle.scenario_text.specs.Document.{document}

@@ -3,9 +3,9 @@ use Rattle.std.proofs.Common.{◌≡◌, ◌<◌, ◌≤◌, ◌+◌, ◌++◌, 
 use Rattle.std.proofs.lemmas.Bool.Decides.{nat_tests}
 use Rattle.std.proofs.lemmas.List.{append-nil}
 use Rattle.std.specs.List.{list_all}
-use Rattle.net_base.specs.declared.entry.Entry.{Entry}
-use Rattle.net_base.specs.declared.event.Event.{Event}
-use Rattle.net_base.specs.declared.event.Event.TheVariants.{Tick}
+use Rattle.net_base.specs.declared.trace.entry.Entry.{Entry}
+use Rattle.net_base.specs.declared.trace.event.Event.{Event}
+use Rattle.net_base.specs.declared.trace.event.Event.TheVariants.{Tick}
 use Rattle.net_base.specs.declared.plan.Plan.{Plan}
 use Rattle.network_model.proofs.CalmLemmas.{and_left, and_right}
 use Rattle.network_model.specs.State.{NetworkState}

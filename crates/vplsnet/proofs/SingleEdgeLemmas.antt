@@ -4,16 +4,16 @@ use Rattle.std.proofs.lemmas.Bool.{eq-eqb}
 use Rattle.std.proofs.lemmas.List.{append-nil}
 use Rattle.std.proofs.lemmas.Option.{slice_get-get_or}
 use Rattle.std.specs.Prelude.{All}
-use Rattle.net_base.specs.declared.circuit_plan.CircuitPlan.{CircuitPlan}
-use Rattle.net_base.specs.declared.drop_cause.DropCause.{DropCause}
-use Rattle.net_base.specs.declared.entry.Entry.{Entry}
-use Rattle.net_base.specs.declared.entry.Entry.TheVariants.{Did, Idle, In}
-use Rattle.net_base.specs.declared.event.Event.{Event}
-use Rattle.net_base.specs.declared.places.CircuitId.{CircuitId}
-use Rattle.net_base.specs.declared.places.EdgeId.{EdgeId}
+use Rattle.net_base.specs.declared.plan.circuit_plan.CircuitPlan.{CircuitPlan}
+use Rattle.net_base.specs.declared.trace.drop_cause.DropCause.{DropCause}
+use Rattle.net_base.specs.declared.trace.entry.Entry.{Entry}
+use Rattle.net_base.specs.declared.trace.entry.Entry.TheVariants.{Did, Idle, In}
+use Rattle.net_base.specs.declared.trace.event.Event.{Event}
+use Rattle.net_base.specs.declared.plan.places.CircuitId.{CircuitId}
+use Rattle.net_base.specs.declared.plan.places.EdgeId.{EdgeId}
 use Rattle.net_base.specs.declared.plan.Plan.{Plan}
-use Rattle.net_base.specs.Isolated.{inner_at}
-use Rattle.net_base.specs.Places.{circuit_row}
+use Rattle.net_base.specs.trace.Isolated.{inner_at}
+use Rattle.net_base.specs.plan.Places.{circuit_row}
 use Rattle.mac_table.specs.Addresses.{NoneAfter}
 use Rattle.mac_table.proofs.AddressLemmas.{none_after_later}
 use Rattle.scenario_text.specs.Runnable.{IsPlaced}

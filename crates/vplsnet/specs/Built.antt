@@ -1,8 +1,8 @@
 -- Which accepted scenarios can be run so far.
 use Rattle.std.specs.Prelude.{◌==◌, ◌&&◌, nat_le, Bool, true, false, length}
 use Rattle.std.specs.List.{list_all}
-use Rattle.net_base.specs.declared.event.Event.{Event}
-use Rattle.net_base.specs.declared.event.Event.TheVariants.{Tick, Frame, Circuit}
+use Rattle.net_base.specs.declared.trace.event.Event.{Event}
+use Rattle.net_base.specs.declared.trace.event.Event.TheVariants.{Tick, Frame, Circuit}
 use Rattle.scenario_text.specs.declared.command.Command.{Command}
 use Rattle.scenario_text.specs.declared.command.Command.TheVariants.{One, Ticks}
 use Rattle.scenario_text.specs.declared.scenario.Scenario.{Scenario}

@@ -1,6 +1,6 @@
 -- What the decoding of a named file does, by its outcome.
 use Rattle.std.specs.Prelude.{◌≡◌, ◌≤◌, ◌<◌, ℕ, List, length, Some, IfSome}
-use Rattle.net_base.specs.Outside.{Rose, Appends}
+use Rattle.net_base.specs.outside.Outside.{Rose, Appends}
 use Rattle.ldp_stream.specs.Parsed.{PlacedPdu, Ending, IsParsed}
 use Rattle.vplsnet.specs.declared.outcome.Outcome.{Outcome}
 use Rattle.vplsnet.specs.declared.outcome.Outcome.TheVariants.{Done, Usage, ReadFault, WriteFault, TooLong, ScenarioRefused, NotBuilt, DecodeRefused, Unfinished, NoMemory}

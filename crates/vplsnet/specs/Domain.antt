@@ -1,6 +1,6 @@
 -- A bridged domain: a service at the edge that a replay drives.
 use Rattle.std.specs.Prelude.{◌==◌, ℕ, Bool, true, false, List, [], Option, Some, None}
-use Rattle.net_base.specs.declared.entry.Entry.{Entry}
+use Rattle.net_base.specs.declared.trace.entry.Entry.{Entry}
 use Rattle.net_base.specs.declared.plan.Plan.{Plan}
 use Rattle.hvpls_spokes.specs.declared.port.Port.{Port}
 use Rattle.hvpls_spokes.specs.PortSet.{has}

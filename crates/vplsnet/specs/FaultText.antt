@@ -1,11 +1,11 @@
 -- A scenario's fault in words.
 use Rattle.std.specs.Prelude.{◌++◌, codes, map, ℕ, List, [], ◌∷◌}
 use Rattle.std.specs.Fmt.{decimal}
-use Rattle.net_base.specs.declared.place.Place.{Place}
-use Rattle.net_base.specs.declared.plan_fault.PlanFault.{PlanFault}
-use Rattle.net_base.specs.declared.plan_fault.PlanFault.TheVariants as plan_fault
-use Rattle.net_base.specs.declared.table.Table.{Table}
-use Rattle.net_base.specs.declared.table.Table.TheVariants as table
+use Rattle.net_base.specs.declared.plan.place.Place.{Place}
+use Rattle.net_base.specs.declared.plan.plan_fault.PlanFault.{PlanFault}
+use Rattle.net_base.specs.declared.plan.plan_fault.PlanFault.TheVariants as plan_fault
+use Rattle.net_base.specs.declared.plan.table.Table.{Table}
+use Rattle.net_base.specs.declared.plan.table.Table.TheVariants as table
 use Rattle.scenario_text.specs.Places.{masked}
 use Rattle.scenario_text.specs.declared.scenario_fault.ScenarioFault.{ScenarioFault}
 use Rattle.scenario_text.specs.declared.scenario_fault.ScenarioFault.TheVariants as fault

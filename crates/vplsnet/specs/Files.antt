@@ -1,6 +1,6 @@
 -- Whole files and whole texts.
 use Rattle.std.specs.Prelude.{◌≡◌, ◌<◌, ◌+◌, ℕ, List, length, take, Option, Some, Result, Ok, Err}
-use Rattle.net_base.specs.Outside.{Appends, raised}
+use Rattle.net_base.specs.outside.Outside.{Appends, raised}
 
 -- the octets are the first of the file: all of them, or one more than the limit
 pub record IsFrontOf (limit : ℕ) (file : Option (List ℕ)) (octets : List ℕ) : Type 0 where

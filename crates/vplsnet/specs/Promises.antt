@@ -1,9 +1,9 @@
 -- What holds of the run of an accepted scenario.
 use Rattle.std.specs.Prelude.{List}
 use Rattle.net_base.specs.declared.plan.Plan.{Plan}
-use Rattle.net_base.specs.declared.event.Event.{Event}
-use Rattle.net_base.specs.Isolated.{Isolated}
-use Rattle.net_base.specs.Split.{Split}
+use Rattle.net_base.specs.declared.trace.event.Event.{Event}
+use Rattle.net_base.specs.trace.Isolated.{Isolated}
+use Rattle.net_base.specs.trace.Split.{Split}
 use Rattle.network_model.specs.KnownOnce.{KnownOnce}
 use Rattle.network_model.specs.OnceEach.{OnceEach}
 use Rattle.network_model.specs.Run.{run}

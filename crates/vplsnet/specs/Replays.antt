@@ -1,9 +1,9 @@
 -- What the replay of a named file does, by its outcome.
 use Rattle.std.specs.Prelude.{◌≡◌, ◌≢◌, ◌≤◌, ◌<◌, ℕ, true, false, List, [], length, Option, Some, Ok, Err, IfSome}
-use Rattle.net_base.specs.declared.entry.Entry.{Entry}
-use Rattle.net_base.specs.Isolated.{Isolated}
-use Rattle.net_base.specs.Outside.{Rose, Appends}
-use Rattle.net_base.specs.Split.{Split}
+use Rattle.net_base.specs.declared.trace.entry.Entry.{Entry}
+use Rattle.net_base.specs.trace.Isolated.{Isolated}
+use Rattle.net_base.specs.outside.Outside.{Rose, Appends}
+use Rattle.net_base.specs.trace.Split.{Split}
 use Rattle.network_model.specs.KnownOnce.{KnownOnce}
 use Rattle.network_model.specs.OnceEach.{OnceEach}
 use Rattle.network_model.specs.Run.{run}

@@ -1,8 +1,8 @@
 -- The report of a run: a first line, a line for each entry, and a last line.
 use Rattle.std.specs.Prelude.{◌++◌, ℕ, codes, Bool, true, false, List, [], ◌∷◌, count_by}
 use Rattle.std.specs.Fmt.{decimal}
-use Rattle.net_base.specs.declared.entry.Entry.{Entry}
-use Rattle.net_base.specs.declared.entry.Entry.TheVariants.{Did, Idle, Said, In, Sent, Copied, Left, Dropped, Session, Wire, Pong}
+use Rattle.net_base.specs.declared.trace.entry.Entry.{Entry}
+use Rattle.net_base.specs.declared.trace.entry.Entry.TheVariants.{Did, Idle, Said, In, Sent, Copied, Left, Dropped, Session, Wire, Pong}
 use Rattle.net_base.specs.declared.plan.Plan.{Plan}
 use Rattle.vplsnet.specs.declared.ending.Ending.{Ending}
 use Rattle.vplsnet.specs.declared.ending.Ending.TheVariants.{End, Crowded, TooMuch}

@@ -1,22 +1,22 @@
 -- The words of a report: names, numbers, octets and events.
 use Rattle.std.specs.Prelude.{◌+◌, ◌/◌, ◌%◌, ◌++◌, nat_lt, ℕ, codes, Bool, List, [], ◌∷◌, Option, Some, None, slice_get, option_map, if◌then◌else◌}
 use Rattle.std.specs.Fmt.{decimal}
-use Rattle.net_base.specs.declared.arrival.Arrival.{Arrival}
-use Rattle.net_base.specs.declared.arrival.Arrival.TheVariants as arrival
-use Rattle.net_base.specs.declared.down.Down.{Down}
-use Rattle.net_base.specs.declared.down.Down.TheVariants as down
-use Rattle.net_base.specs.declared.drop_cause.DropCause.{DropCause}
-use Rattle.net_base.specs.declared.drop_cause.DropCause.TheVariants as cause
-use Rattle.net_base.specs.declared.event.Event.{Event}
-use Rattle.net_base.specs.declared.event.Event.TheVariants as event
-use Rattle.net_base.specs.declared.places.CircuitId.{CircuitId}
-use Rattle.net_base.specs.declared.places.EdgeId.{EdgeId}
-use Rattle.net_base.specs.declared.places.WireId.{WireId}
+use Rattle.net_base.specs.declared.trace.arrival.Arrival.{Arrival}
+use Rattle.net_base.specs.declared.trace.arrival.Arrival.TheVariants as arrival
+use Rattle.net_base.specs.declared.trace.down.Down.{Down}
+use Rattle.net_base.specs.declared.trace.down.Down.TheVariants as down
+use Rattle.net_base.specs.declared.trace.drop_cause.DropCause.{DropCause}
+use Rattle.net_base.specs.declared.trace.drop_cause.DropCause.TheVariants as cause
+use Rattle.net_base.specs.declared.trace.event.Event.{Event}
+use Rattle.net_base.specs.declared.trace.event.Event.TheVariants as event
+use Rattle.net_base.specs.declared.plan.places.CircuitId.{CircuitId}
+use Rattle.net_base.specs.declared.plan.places.EdgeId.{EdgeId}
+use Rattle.net_base.specs.declared.plan.places.WireId.{WireId}
 use Rattle.net_base.specs.declared.plan.Plan.{Plan}
-use Rattle.net_base.specs.declared.state_name.Reason.{Reason}
-use Rattle.net_base.specs.declared.state_name.Reason.TheVariants as reason
-use Rattle.net_base.specs.declared.state_name.StateName.{StateName}
-use Rattle.net_base.specs.declared.state_name.StateName.TheVariants as state
+use Rattle.net_base.specs.declared.trace.state_name.Reason.{Reason}
+use Rattle.net_base.specs.declared.trace.state_name.Reason.TheVariants as reason
+use Rattle.net_base.specs.declared.trace.state_name.StateName.{StateName}
+use Rattle.net_base.specs.declared.trace.state_name.StateName.TheVariants as state
 
 -- words behind the first one: a blank before each, and a line feed after the last
 abbrev pub line_end : List (List ℕ) → List ℕ

@@ -1,6 +1,6 @@
 //! The command `decode`: the lines of a stream of LDP messages.
 ghost use Rattle.std.specs.Prelude.{◌≡◌, ◌⊎◌, ◌≤◌, [], length, IfErr, IfOk};
-ghost use Rattle.net_base.specs.Outside.{Rose};
+ghost use Rattle.net_base.specs.outside.Outside.{Rose};
 ghost use Rattle.ldp_stream.specs.Parsed.{Ending};
 ghost use Rattle.vplsnet.specs.Decodes.{Decodes, IsStream, IsToldLongStream, IsToldStream, PreventsStream, stream_limit};
 ghost use Rattle.vplsnet.specs.Finish.{status_of};

@@ -1,6 +1,6 @@
 //! A bridged domain: a service at the edge that a replay drives.
 ghost use Rattle.std.specs.Prelude.{◌≡◌, ◌≤◌, ◌<◌, ◌+◌, ◌++◌, ◌&&◌, nat_lt, [], filter, ℕ, true, length, take, drop, position, slice_get, All, IfOk, IfSome, OnOk, if◌then◌else◌};
-ghost use Rattle.net_base.specs.Frame.{dress as dressed_frame};
+ghost use Rattle.net_base.specs.values.Frame.{dress as dressed_frame};
 ghost use Rattle.hvpls_spokes.specs.Port.{ports_of, is_circuit_port};
 ghost use Rattle.hvpls_spokes.specs.PortSet.{has};
 ghost use Rattle.mac_table.specs.Addresses.{NoneAfter, is_young};

@@ -1,8 +1,8 @@
 //! The domains of the edge that a replay drives, one for each service.
 ghost use Rattle.std.specs.Prelude.{◌≡◌, ◌≤◌, map, ℕ, List, Some, Ok, Err, length, All, IfOk, MatchResult, OnOk};
-ghost use Rattle.net_base.specs.Frame.{inner as inner_of};
-ghost use Rattle.net_base.specs.Isolated.{inner_at};
-ghost use Rattle.net_base.specs.Places.{circuit_row};
+ghost use Rattle.net_base.specs.values.Frame.{inner as inner_of};
+ghost use Rattle.net_base.specs.trace.Isolated.{inner_at};
+ghost use Rattle.net_base.specs.plan.Places.{circuit_row};
 ghost use Rattle.eth_encap.specs.Fault.{cause_of};
 ghost use Rattle.mac_table.specs.Addresses.{NoneAfter};
 ghost use Rattle.network_model.specs.State.{EdgeState, empty_edge, is_on};

@@ -1,6 +1,6 @@
 //! The shelf of the system's files.
 ghost use Rattle.std.specs.Prelude.{◌≡◌, ◌≤◌, length, IfOk};
-ghost use Rattle.net_base.specs.Outside.{HasCause, NeverFall};
+ghost use Rattle.net_base.specs.outside.Outside.{HasCause, NeverFall};
 ghost use Rattle.vplsnet.specs.Files.{count_after};
 
 use net_base::{Failed, Shelf};

@@ -1,6 +1,6 @@
 //! Whole files and whole texts, read and written in pieces.
 ghost use Rattle.std.specs.Prelude.{◌≡◌, ◌<◌, ◌≤◌, ◌+◌, ◌^◌, length, IfSome, IfOk, OnOk, OnErr, IsErrOf, Some};
-ghost use Rattle.net_base.specs.Outside.{Rose, NeverFall, Appends};
+ghost use Rattle.net_base.specs.outside.Outside.{Rose, NeverFall, Appends};
 ghost use Rattle.vplsnet.specs.Files.{IsFrontOf, IsLonger, AppendsFront};
 
 use net_base::{Failed, List, NoMemory, Octets, Shelf, Sink};

@@ -4,7 +4,7 @@ ghost use Rattle.ldp_codec.specs.Decoded.{refusal_of};
 ghost use Rattle.ldp_grammar.specs.declared.fault.Fault.{Fault};
 ghost use Rattle.ldp_stream.specs.Parsed.{Pending, Refused};
 ghost use Rattle.ldp_stream.specs.declared.stream_fault.StreamFault.TheVariants as stop;
-ghost use Rattle.net_base.specs.Outside.{Rose};
+ghost use Rattle.net_base.specs.outside.Outside.{Rose};
 ghost use Rattle.scenario_text.specs.declared.scenario_fault.ScenarioFault.{ScenarioFault};
 ghost use Rattle.scenario_text.specs.declared.scenario.Scenario.{Scenario};
 ghost use Rattle.scenario_text.specs.Runnable.{IsRunnable};

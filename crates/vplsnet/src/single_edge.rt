@@ -1,6 +1,6 @@
 //! The one edge that a replay drives.
 ghost use Rattle.std.specs.Prelude.{◌≡◌, ◌≤◌, ◌<◌, ◌+◌, ◌^◌, Some, true, length, All, IfOk, OnOk};
-ghost use Rattle.net_base.specs.Places.{circuit_row};
+ghost use Rattle.net_base.specs.plan.Places.{circuit_row};
 ghost use Rattle.mac_table.specs.Addresses.{NoneAfter};
 ghost use Rattle.network_model.specs.State.{NetworkState, empty_network, later};
 ghost use Rattle.network_model.specs.Enter.{entering, frame_row};

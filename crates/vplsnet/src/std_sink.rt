@@ -1,6 +1,6 @@
 //! The sink over a writer of the system.
 ghost use Rattle.std.specs.Prelude.{◌≡◌, ◌<◌, ◌≤◌, length, IfOk, IsOkAnd};
-ghost use Rattle.net_base.specs.Outside.{HasCause};
+ghost use Rattle.net_base.specs.outside.Outside.{HasCause};
 ghost use Rattle.vplsnet.specs.Files.{count_after};
 
 use net_base::{Failed, Sink};

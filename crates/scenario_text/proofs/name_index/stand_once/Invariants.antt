@@ -1,7 +1,7 @@
 -- No name before the place stood before its own.
 use Rattle.std.proofs.Common.{◌≡◌, take, drop}
 use Rattle.std.specs.Str.{bytes_eq}
-use Rattle.net_base.specs.Faults.{first_clash, clash_after}
+use Rattle.net_base.specs.plan.Faults.{first_clash, clash_after}
 use Rattle.scenario_text.proofs.name_index.stand_once.Given as goal
 
 abbrev pub invariant-loop-at : goal.invariant-loop-at

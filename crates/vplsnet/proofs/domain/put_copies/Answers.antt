@@ -1,5 +1,5 @@
 use Rattle.std.proofs.Common.{◌≡◌, ◌<◌, ◌++◌, ◌+◌, ◌∙◌, ℕ, Bool, List, [], Option, cond, drop, length, slice_get, ap, sym, arith, append_assoc}
-use Rattle.net_base.specs.declared.entry.Entry.{Entry}
+use Rattle.net_base.specs.declared.trace.entry.Entry.{Entry}
 use Rattle.hvpls_spokes.specs.declared.port.Port.{Port}
 use Rattle.hvpls_spokes.specs.PortSet.{has}
 use Rattle.network_model.specs.Enter.{copies, copy_by}

@@ -1,7 +1,7 @@
 use Rattle.std.proofs.Common.{◌≡◌, ◌∙◌, ℕ, List, Result, Ok, ap, subst, sym}
 use Rattle.std.proofs.lemmas.Result.{on_ok_weaker}
-use Rattle.net_base.specs.declared.drop_cause.DropCause.{DropCause}
-use Rattle.net_base.specs.Isolated.{inner_at}
+use Rattle.net_base.specs.declared.trace.drop_cause.DropCause.{DropCause}
+use Rattle.net_base.specs.trace.Isolated.{inner_at}
 use Rattle.network_model.specs.Enter.{received}
 use Rattle.vplsnet.specs.SingleEdge.{HasWorked}
 use Rattle.vplsnet.proofs.domains.receive.Goals as goal

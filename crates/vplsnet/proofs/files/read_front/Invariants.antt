@@ -1,5 +1,5 @@
 use Rattle.std.proofs.Common.{◌≡◌, ◌≤◌, ◌+◌, ◌-◌, length}
-use Rattle.net_base.specs.Outside.{NeverFall}
+use Rattle.net_base.specs.outside.Outside.{NeverFall}
 use Rattle.vplsnet.proofs.FileLemmas.{IsRead}
 use Rattle.vplsnet.proofs.files.read_front.Given as goal
 

@@ -1,5 +1,5 @@
 use Rattle.std.proofs.Common.{◌≤◌, ◌-◌, length, take}
-use Rattle.net_base.specs.Outside.{Appends}
+use Rattle.net_base.specs.outside.Outside.{Appends}
 use Rattle.vplsnet.proofs.files.write_text.Given as goal
 
 abbrev pub invariant-writing : goal.invariant-writing

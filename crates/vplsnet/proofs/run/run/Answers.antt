@@ -3,7 +3,7 @@ use Rattle.ldp_codec.specs.Decoded.{refusal_of}
 use Rattle.ldp_grammar.specs.declared.fault.Fault.{Fault}
 use Rattle.ldp_stream.specs.Parsed.{Pending, Refused}
 use Rattle.ldp_stream.specs.declared.stream_fault.StreamFault.TheVariants as stop
-use Rattle.net_base.specs.Outside.{Rose}
+use Rattle.net_base.specs.outside.Outside.{Rose}
 use Rattle.scenario_text.specs.declared.scenario.Scenario.{Scenario}
 use Rattle.vplsnet.specs.declared.outcome.Outcome.TheVariants.{Done, NotBuilt, DecodeRefused, Unfinished, NoMemory}
 use Rattle.vplsnet.specs.Built.{is_built}

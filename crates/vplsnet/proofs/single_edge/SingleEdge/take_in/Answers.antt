@@ -1,6 +1,6 @@
 use Rattle.std.proofs.Common.{◌+◌, ◌++◌, ◌∙◌, ℕ, List, [], ◌∷◌, ap, refl}
 use Rattle.std.proofs.lemmas.Result.{on_ok_weaker}
-use Rattle.net_base.specs.declared.entry.Entry.TheVariants.{In}
+use Rattle.net_base.specs.declared.trace.entry.Entry.TheVariants.{In}
 use Rattle.vplsnet.proofs.SingleEdgeLemmas.{mirror_entered}
 use Rattle.vplsnet.proofs.DomainsLemmas.{at_first}
 use Rattle.vplsnet.proofs.single_edge.SingleEdge.take_in.Goals as goal

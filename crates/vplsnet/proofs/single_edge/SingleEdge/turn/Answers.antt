@@ -1,7 +1,7 @@
 use Rattle.std.proofs.Common.{◌≡◌, Bool, true, false, Some, List, refl, subst, sym}
 use Rattle.std.proofs.Math.Bool.{beq}
-use Rattle.net_base.specs.declared.circuit_plan.CircuitPlan.{CircuitPlan}
-use Rattle.net_base.specs.Places.{circuit_row}
+use Rattle.net_base.specs.declared.plan.circuit_plan.CircuitPlan.{CircuitPlan}
+use Rattle.net_base.specs.plan.Places.{circuit_row}
 use Rattle.vplsnet.specs.SingleEdge.{AreDomains}
 use Rattle.vplsnet.specs.declared.domain.Domain.{Domain}
 use Rattle.vplsnet.proofs.DomainsLemmas.{stands_at}
