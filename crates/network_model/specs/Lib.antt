@@ -1,5 +1,7 @@
+pub mod Absorb
 pub mod Calm
-pub mod Enter
+pub mod Circuit
+pub mod Frame
 pub mod KnownOnce
 pub mod Laws
 pub mod OnceEach
@@ -9,5 +11,4 @@ pub mod Run
 pub mod State
 pub mod Step
 pub mod Tick
-pub mod Turn
 pub mod Window

@@ -11,7 +11,8 @@ use Rattle.net_base.specs.declared.plan.places.ServiceId.{ServiceId}
 use Rattle.network_model.specs.State.{empty_network}
 use Rattle.network_model.specs.Run.{run, state_after}
 use Rattle.network_model.specs.Reach.{is_site}
-use Rattle.network_model.specs.Window.{Window, next_origin}
+use Rattle.network_model.specs.Frame.{next_origin}
+use Rattle.network_model.specs.Window.{Window}
 
 -- how often a copy of the frame left at the circuit
 abbrev pub times_left : ℕ → CircuitId → List Entry → ℕ

@@ -9,7 +9,8 @@ use Rattle.net_base.specs.declared.plan.places.ServiceId.{ServiceId}
 use Rattle.net_base.specs.plan.Places.{circuit_row, wire_row}
 use Rattle.hvpls_spokes.specs.declared.port.Port.{Port}
 use Rattle.hvpls_spokes.specs.declared.port.Port.TheVariants as port
-use Rattle.network_model.specs.State.{NetworkState, at_edge, is_on}
+use Rattle.edge_model.specs.State.{is_on}
+use Rattle.network_model.specs.State.{NetworkState, at_edge}
 use Rattle.network_model.specs.Roles.{is_spoke_edge}
 use Rattle.network_model.specs.Calm.{is_live_spoke}
 
@@ -47,14 +48,14 @@ last_of (last ∷ []) = Some last.0
 last_of (first ∷ next ∷ rest) = last_of (next ∷ rest)
 
 -- the core edge of the first of these wires that is a live spoke of the edge
-abbrev pub home_among : NetworkState → ServiceId → ℕ → ℕ → List WirePlan → Option ℕ
-home_among network service edge place [] = None
-home_among network service edge place (row ∷ rows) =
-    if is_live_spoke network service edge place row then last_of row.path else home_among network service edge (place + 1) rows
+abbrev pub home_among : Plan → NetworkState → ServiceId → ℕ → ℕ → List WirePlan → Option ℕ
+home_among plan network service edge place [] = None
+home_among plan network service edge place (row ∷ rows) =
+    if is_live_spoke plan network service edge place row then last_of row.path else home_among plan network service edge (place + 1) rows
 
 -- the home of a spoke edge: the core edge of its spoke that carries frames
 abbrev pub home_of : Plan → NetworkState → ServiceId → ℕ → Option ℕ
-home_of plan network service edge = home_among network service edge 0 plan.wires
+home_of plan network service edge = home_among plan network service edge 0 plan.wires
 
 abbrev pub is_home : ℕ → Option ℕ → Bool
 is_home core None = false
@@ -97,8 +98,8 @@ ahead_spoke plan service edge [] circuit = false
 ahead_spoke plan service edge (first ∷ rest) circuit =
     if edge == first.0 then at_edge_of plan service edge circuit else elsewhere_of plan service first.0 circuit
 
-abbrev pub is_live : NetworkState → ServiceId → ℕ → WirePlan → Bool
-is_live network service place row = is_live_spoke network service (first_place row.path) place row where
+abbrev pub is_live : Plan → NetworkState → ServiceId → ℕ → WirePlan → Bool
+is_live plan network service place row = is_live_spoke plan network service (first_place row.path) place row where
   first_place : List EdgeId → ℕ
   first_place [] = 0
   first_place (first ∷ rest) = first.0
@@ -106,12 +107,12 @@ is_live network service place row = is_live_spoke network service (first_place r
 abbrev pub behind_wire : Plan → NetworkState → ServiceId → ℕ → ℕ → Bool → Option WirePlan → CircuitId → Bool
 behind_wire plan network service edge place mesh None circuit = false
 behind_wire plan network service edge place true (Some row) circuit = beside_far plan network service (far_of edge row.path) circuit
-behind_wire plan network service edge place false (Some row) circuit = is_live network service place row && behind_spoke plan service edge row.path circuit
+behind_wire plan network service edge place false (Some row) circuit = is_live plan network service place row && behind_spoke plan service edge row.path circuit
 
 abbrev pub ahead_wire : Plan → NetworkState → ServiceId → ℕ → ℕ → Bool → Option WirePlan → CircuitId → Bool
 ahead_wire plan network service edge place mesh None circuit = false
 ahead_wire plan network service edge place true (Some row) circuit = is_beside plan network service edge circuit
-ahead_wire plan network service edge place false (Some row) circuit = is_live network service place row && ahead_spoke plan service edge row.path circuit
+ahead_wire plan network service edge place false (Some row) circuit = is_live plan network service place row && ahead_spoke plan service edge row.path circuit
 
 -- Reach: the circuits behind a port of the service at an edge
 abbrev pub reach : Plan → NetworkState → ServiceId → ℕ → Port → CircuitId → Bool

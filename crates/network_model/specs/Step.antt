@@ -5,21 +5,19 @@ use Rattle.net_base.specs.declared.trace.event.Event.{Event}
 use Rattle.net_base.specs.declared.trace.event.Event.TheVariants.{Tick, Frame, Circuit}
 use Rattle.net_base.specs.declared.trace.entry.Entry.TheVariants.{Did}
 use Rattle.net_base.specs.plan.Places.{circuit_row}
+use Rattle.network_model.specs.Absorb.{Stepped, stays}
+use Rattle.network_model.specs.Circuit.{circuit_event}
+use Rattle.network_model.specs.Frame.{frame_event}
 use Rattle.network_model.specs.State.{NetworkState}
-use Rattle.network_model.specs.Enter.{Stepped, frame_row}
-use Rattle.network_model.specs.Tick.{tick_row}
-use Rattle.network_model.specs.Turn.{turn_row}
+use Rattle.network_model.specs.Tick.{tick_event}
 
--- the row of an event. Those of the other events are to come; no scenario that is run makes them yet
-abbrev pub event_row : Plan → NetworkState → Event → Stepped
-event_row plan network Tick = tick_row plan network
-event_row plan network (Frame circuit octets) = frame_row plan network circuit octets (circuit_row plan circuit)
-event_row plan network (Circuit circuit on) = turn_row plan network circuit on (circuit_row plan circuit)
-event_row plan network event = record { state = network; entries = [] }
+-- one definition an event. Those of the other events are to come; no scenario that is run makes them yet
+abbrev pub brings : Plan → Event → NetworkState → Stepped
+brings plan Tick network = tick_event plan network
+brings plan (Frame circuit octets) network = frame_event plan circuit octets (circuit_row plan circuit) network
+brings plan (Circuit circuit on) network = circuit_event plan circuit on (circuit_row plan circuit) network
+brings plan event network = stays network
 
 -- an event is told first, and then what it brings about
 abbrev pub step : Plan → NetworkState → Event → Stepped
-step plan network event = record {
-  state = (event_row plan network event).state;
-  entries = Did event ∷ (event_row plan network event).entries;
-}
+step plan network event = record { state = (brings plan event network).state; entries = Did event ∷ (brings plan event network).entries }

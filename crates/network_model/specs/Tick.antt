@@ -1,24 +1,19 @@
--- A tick passes at every edge.
-use Rattle.std.specs.Prelude.{filter, ℕ, List, [], Option, Some, None, slice_get}
+-- A tick passes at each edge of the plan, in the plan's order, and nowhere else.
+use Rattle.std.specs.Prelude.{◌+◌, ℕ, zero, suc, length}
 use Rattle.net_base.specs.declared.plan.Plan.{Plan}
-use Rattle.net_base.specs.declared.plan.service_plan.ServicePlan.{ServicePlan}
-use Rattle.mac_table.specs.Addresses.{is_young}
-use Rattle.mac_table.specs.declared.mac_entry.MacEntry.{MacEntry}
-use Rattle.network_model.specs.State.{EdgeState, NetworkState, later}
-use Rattle.network_model.specs.Enter.{Stepped}
+use Rattle.net_base.specs.declared.plan.places.EdgeId.{EdgeId}
+use Rattle.edge_model.specs.Tick.{tick_input}
+use Rattle.network_model.specs.Absorb.{Stepped, absorb, and_then, begin_at, stays}
+use Rattle.network_model.specs.State.{NetworkState}
 
--- the addresses of a service that came less than its age limit ago (RFC 4762 section 4.2)
-abbrev pub aged : ℕ → Option ServicePlan → List MacEntry → List MacEntry
-aged now None entries = entries
-aged now (Some row) entries = filter (is_young now row.age) entries
+-- the tick of one edge
+abbrev pub tick_at : Plan → EdgeId → NetworkState → Stepped
+tick_at plan me network = absorb me 0 0 (tick_input plan (begin_at network me)) network
 
--- an edge counts the tick, and then its bridges forget
-abbrev pub ticked : Plan → EdgeState → EdgeState
-ticked plan edge = record edge {
-  learned = λ service. aged (later edge.ticks) (slice_get plan.services service) (edge.learned service);
-  ticks = later edge.ticks;
-}
+-- so many edges from a place on
+abbrev pub ticks_from : Plan → ℕ → ℕ → NetworkState → Stepped
+ticks_from plan place zero network = stays network
+ticks_from plan place (suc count) network = and_then (tick_at plan (record { 0 = place }) network) (ticks_from plan (place + 1) count)
 
--- the row of the event `tick`
-abbrev pub tick_row : Plan → NetworkState → Stepped
-tick_row plan network = record { state = record network { edges = λ edge. ticked plan (network.edges edge) }; entries = [] }
+abbrev pub tick_event : Plan → NetworkState → Stepped
+tick_event plan network = ticks_from plan 0 (length plan.edges) network

@@ -13,12 +13,14 @@ use Rattle.net_base.specs.values.Frame.{destination_of, source_of, goes_to_group
 use Rattle.net_base.specs.trace.Isolated.{inner_at}
 use Rattle.net_base.specs.plan.Places.{service_of, wire_row}
 use Rattle.mac_table.specs.Addresses.{has_address}
-use Rattle.network_model.specs.State.{NetworkState, Packet, empty_network}
+use Rattle.network_model.specs.declared.packet.Packet.{Packet}
+use Rattle.network_model.specs.Frame.{next_origin}
+use Rattle.network_model.specs.State.{NetworkState, empty_network}
 use Rattle.network_model.specs.Step.{step}
 use Rattle.network_model.specs.Run.{state_after}
 use Rattle.network_model.specs.Roles.{all_below, is_wire_of}
 use Rattle.network_model.specs.Calm.{is_calm}
-use Rattle.network_model.specs.Reach.{is_circuit_of, is_circuit_on}
+use Rattle.network_model.specs.Reach.{is_circuit_on, is_site}
 
 -- a packet under way has this number, and carries a copy of the frame that entered as `origin`
 abbrev pub is_copy : ℕ → ℕ → Packet → Bool
@@ -53,33 +55,36 @@ abbrev pub is_sourced : List ℕ → Result (List ℕ) DropCause → Bool
 is_sourced address (Ok frame) = bytes_eq (source_of frame) address
 is_sourced address (Err cause) = false
 
--- a frame that enters the service has the address as its source
-abbrev pub teaches : Plan → ServiceId → List ℕ → Event → Bool
-teaches plan service address (Frame circuit octets) = is_circuit_of plan service circuit && is_sourced address (inner_at plan circuit octets)
-teaches plan service address event = false
+-- a frame that enters the service in this state, at a circuit that is on, has the address as its source
+abbrev pub teaches : Plan → NetworkState → ServiceId → List ℕ → Event → Bool
+teaches plan network service address (Frame circuit octets) =
+    is_site plan network service circuit && is_sourced address (inner_at plan circuit octets)
+teaches plan network service address event = false
 
--- the inner frame of a packet of the service; what packets carry is to come, since none is sent yet
-abbrev pub carried : Packet → Result (List ℕ) DropCause
-carried packet = Ok packet.octets
+-- some event teaches the address in the state in which it comes
+abbrev pub some_teach : Plan → NetworkState → ServiceId → List ℕ → List Event → Bool
+some_teach plan network service address [] = false
+some_teach plan network service address (e ∷ es) =
+    teaches plan network service address e || some_teach plan (step plan network e).state service address es
+
+-- the inner frame of a packet of a wire; what packets carry is to come, since none is sent yet
+abbrev pub carried : Plan → Packet → Result (List ℕ) DropCause
+carried plan packet = Ok packet.bytes
 
 abbrev pub is_row_of_service : ServiceId → Option WirePlan → Bool
 is_row_of_service service None = false
 is_row_of_service service (Some row) = is_wire_of service row
 
 abbrev pub packet_teaches : Plan → ServiceId → List ℕ → Packet → Bool
-packet_teaches plan service address packet = is_row_of_service service (wire_row plan packet.wire) && is_sourced address (carried packet)
+packet_teaches plan service address packet = is_row_of_service service (wire_row plan packet.wire) && is_sourced address (carried plan packet)
 
 -- the frame is flooded: it goes to a group, or to an address that no bridge of the service has learned and nothing
--- teaches in the window
-abbrev pub is_flooded : Plan → NetworkState → ServiceId → List ℕ → List Event → Bool
-is_flooded plan network service frame events =
+-- teaches in the window. The events begin with the frame itself, and the state is the one in which it comes
+abbrev pub is_flooded_frame : Plan → NetworkState → ServiceId → List ℕ → List Event → Bool
+is_flooded_frame plan network service frame events =
     goes_to_group frame
     || ((is_unlearned plan network service (destination_of frame) && not (list_any (packet_teaches plan service (destination_of frame)) network.under_way))
-    && not (list_any (teaches plan service (destination_of frame)) events))
-
--- the number of the next frame that enters
-abbrev pub next_origin : NetworkState → ℕ
-next_origin network = network.entered + 1
+    && not (some_teach plan network service (destination_of frame) events))
 
 -- the window of a frame that enters after the events `before`, up to the last event of `during`
 pub record Window (plan : Plan) (before : List Event) (circuit : CircuitId) (octets : List ℕ) (during : List Event) (service : ServiceId) : Type 0 where
@@ -88,6 +93,6 @@ pub record Window (plan : Plan) (before : List Event) (circuit : CircuitId) (oct
   pub frame : List ℕ
   pub formed : inner_at plan circuit octets ≡ Ok frame
   pub calm : is_calm plan (state_after plan empty_network before) service ≡ true
-  pub flooded : is_flooded plan (state_after plan empty_network before) service frame (Frame circuit octets ∷ during) ≡ true
+  pub flooded : is_flooded_frame plan (state_after plan empty_network before) service frame (Frame circuit octets ∷ during) ≡ true
   pub spared : all_spare plan (next_origin (state_after plan empty_network before)) (step plan (state_after plan empty_network before) (Frame circuit octets)).state during ≡ true
   pub over : has_copies (state_after plan (step plan (state_after plan empty_network before) (Frame circuit octets)).state during) (next_origin (state_after plan empty_network before)) ≡ false

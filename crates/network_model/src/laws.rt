@@ -3,13 +3,11 @@ ghost use Rattle.network_model.specs.Laws.{RunsAreIsolated, RunsAreSplit, RunsSe
 
 /// Customers stay apart: whatever leaves at a circuit entered before at a circuit of the same service, as the
 /// same inner frame.
-#[tactic(auto, using(crate::proofs::IsolatedLemmas::run_isolated))]
 pub fn runs_are_isolated()
     ensures { RunsAreIsolated }
 {}
 
 /// Split horizon: whatever is sent on a mesh wire came by no other mesh wire (RFC 4762 section 4.4).
-#[tactic(auto, using(crate::proofs::SplitLemmas::run_split))]
 pub fn runs_are_split()
     ensures { RunsAreSplit }
 {}
@@ -20,8 +18,8 @@ pub fn runs_serve_once()
     ensures { RunsServeOnce }
 {}
 
-/// A frame to a station whose port the bridge of its circuit knows leaves by one port at most (RFC 4762 section
-/// 4.1).
+/// A frame to a station whose port the bridge of its circuit knows, once it has heard the frame, goes out by one port at
+/// most: what the step of its entry tells of it is at most one copy (RFC 4762 section 4.1).
 pub fn runs_serve_known_once()
     ensures { RunsServeKnownOnce }
 {}

@@ -1,0 +1,48 @@
+-- An edge at work on one input: the edge, the calls that it made on its link, and what it gives out. An edge's work knows
+-- no number of a packet, no origin and no hops; the network gives them.
+use Rattle.std.specs.Prelude.{◌≡◌, ◌<◌, ◌≤◌, ◌++◌, ℕ, Bool, true, false, List, [], ◌∷◌, length, slice_index_or}
+use Rattle.net_base.specs.declared.outside.link_call.LinkCall.{LinkCall}
+use Rattle.edge_model.specs.declared.effect.Effect.{Effect}
+use Rattle.edge_model.specs.State.{EdgeState}
+
+pub record Work : Type 0 where
+  pub edge : EdgeState
+  -- the calls of the link, those of earlier inputs among them
+  pub calls : List LinkCall
+  -- what was given out on this input
+  pub effects : List Effect
+  -- the input does not apply
+  pub idle : Bool
+
+-- what the link makes of each of its calls: whether the call with a number, counted from 0, is taken
+abbrev pub Answers : Type 0
+Answers = ℕ → Bool
+
+-- before an input, over the calls that the link has taken so far
+abbrev pub beginning : EdgeState → List LinkCall → Work
+beginning edge calls = record { edge = edge; calls = calls; effects = []; idle = false }
+
+-- ---- what an edge at work does
+
+-- another state of the edge
+unfoldable pub changes : (EdgeState → EdgeState) → Work → Work
+changes change work = record work { edge = change work.edge }
+
+-- one more thing is given out
+unfoldable pub gives : Effect → Work → Work
+gives effect work = record work { effects = work.effects ++ effect ∷ [] }
+
+-- the input does not apply
+unfoldable pub idles : Work → Work
+idles work = record work { idle = true }
+
+-- ---- what contracts say
+
+-- a link's calls go on: those before stay
+pub record GoesOn (old new : List LinkCall) : Type 0 where
+  pub more : List LinkCall
+  pub joined : new ≡ old ++ more
+
+-- the link answered its calls like this
+pub record Agrees (told : Answers) (calls : List LinkCall) : Type 0 where
+  pub each : (k : ℕ) (other : LinkCall) → k < length calls → (slice_index_or calls k other).taken ≡ told k

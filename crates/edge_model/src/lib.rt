@@ -1,0 +1,14 @@
+//! One provider edge as definitions: what it holds, what it takes, and what it makes of it. This crate runs nothing: the
+//! types have what an edge is given and gives out, the definitions stand in `specs/`, and each function of `laws` has an
+//! empty body and a law as its contract.
+#![tactic(auto)]
+
+mod effect;
+mod effects;
+mod input;
+mod laws;
+
+pub use effect::Effect;
+pub use effects::Effects;
+pub use input::Input;
+pub use laws::frames_stay_local;

@@ -1,0 +1,12 @@
+-- A circuit is turned on or off at its edge.
+use Rattle.std.specs.Prelude.{Bool, Option, Some, None}
+use Rattle.net_base.specs.declared.plan.Plan.{Plan}
+use Rattle.net_base.specs.declared.plan.circuit_plan.CircuitPlan.{CircuitPlan}
+use Rattle.net_base.specs.declared.plan.places.CircuitId.{CircuitId}
+use Rattle.edge_model.specs.Circuit.{circuit_input}
+use Rattle.network_model.specs.Absorb.{Stepped, answer, begin_at, idle}
+use Rattle.network_model.specs.State.{NetworkState}
+
+abbrev pub circuit_event : Plan → CircuitId → Bool → Option CircuitPlan → NetworkState → Stepped
+circuit_event plan circuit on None network = idle network
+circuit_event plan circuit on (Some row) network = answer row.edge 0 0 (circuit_input plan circuit on (Some row) (begin_at network row.edge)) network
