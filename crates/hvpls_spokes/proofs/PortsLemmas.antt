@@ -11,7 +11,8 @@ use Rattle.net_base.specs.declared.plan.places.EdgeId.{EdgeId}
 use Rattle.net_base.specs.declared.plan.places.ServiceId.{ServiceId}
 use Rattle.hvpls_spokes.specs.declared.port.Port.{Port}
 use Rattle.hvpls_spokes.specs.declared.port.Port.TheVariants as port
-use Rattle.hvpls_spokes.specs.Port.{circuit_ports, ports_of, serves, is_circuit_port}
+use Rattle.net_base.specs.plan.Roles.{is_circuit_at}
+use Rattle.hvpls_spokes.specs.Port.{circuit_ports, ports_of, is_circuit_port}
 
 pub slice_get-seam : {X : Type 0} (front : List X) (x : X) (rest : List X) → slice_get (front ++ x ∷ rest) (length front) ≡ Some x
 slice_get-seam [] x rest = refl
@@ -43,7 +44,7 @@ place_from_if false k rest p c later leads = omega (arith, later p leads)
 pub place_from : (k : ℕ) (rows : List CircuitPlan) (service : ServiceId) (edge : EdgeId) (p c : ℕ) → LeadsTo (circuit_ports k rows service edge) p c → k ≤ c
 place_from k [] service edge p c leads = absurd (cc (leads.is))
 place_from k (row ∷ rows) service edge p c leads =
-    place_from_if (serves service edge row) k (circuit_ports (k + 1) rows service edge) p c (λ q later. place_from (k + 1) rows service edge q c later) leads
+    place_from_if (is_circuit_at service edge.0 row) k (circuit_ports (k + 1) rows service edge) p c (λ q later. place_from (k + 1) rows service edge q c later) leads
 
 -- a later port leads to a later circuit
 rising_if : (serve : Bool) (k : ℕ) (rest : List Port) (p q c d : ℕ) → ((i : ℕ) (e : ℕ) → LeadsTo rest i e → k + 1 ≤ e) → ((i j : ℕ) → i < j → LeadsTo rest i c → LeadsTo rest j d → c < d)
@@ -59,7 +60,7 @@ pub rising : (k : ℕ) (rows : List CircuitPlan) (service : ServiceId) (edge : E
     → LeadsTo (circuit_ports k rows service edge) p c → LeadsTo (circuit_ports k rows service edge) q d → c < d
 rising k [] service edge p q c d below at_p at_q = absurd (cc (at_p.is))
 rising k (row ∷ rows) service edge p q c d below at_p at_q =
-    rising_if (serves service edge row) k (circuit_ports (k + 1) rows service edge) p q c d
+    rising_if (is_circuit_at service edge.0 row) k (circuit_ports (k + 1) rows service edge) p q c d
     (λ i e later. place_from (k + 1) rows service edge i e later)
     (λ i j under at_i at_j. rising (k + 1) rows service edge i j c d under at_i at_j)
     below at_p at_q
@@ -91,15 +92,15 @@ has_port_if : (serve : Bool) (k c : ℕ) (rest : List Port) → HasPort rest c �
 has_port_if true k c rest has = record { p = suc has.p; leads = record { is = has.leads.is } }
 has_port_if false k c rest has = has
 
-pub has_port : (k j c : ℕ) (rows : List CircuitPlan) (row : CircuitPlan) (service : ServiceId) (edge : EdgeId) → c ≡ k + j → slice_get rows j ≡ Some row → serves service edge row ≡ true → HasPort (circuit_ports k rows service edge) c
+pub has_port : (k j c : ℕ) (rows : List CircuitPlan) (row : CircuitPlan) (service : ServiceId) (edge : EdgeId) → c ≡ k + j → slice_get rows j ≡ Some row → is_circuit_at service edge.0 row ≡ true → HasPort (circuit_ports k rows service edge) c
 has_port k j c [] row service edge is found serve = absurd (cc (found))
 has_port k zero c (first ∷ rows) row service edge is found serve =
     let same : first ≡ row = cc (found) in
-    let here : serves service edge first ≡ true = ap (λ (r : CircuitPlan). serves service edge r) same ∙ serve in
+    let here : is_circuit_at service edge.0 first ≡ true = ap (λ (r : CircuitPlan). is_circuit_at service edge.0 r) same ∙ serve in
     let place : k ≡ c = omega arith in
     rw here (record { p = 0; leads = record { is = ap (λ (n : ℕ). Some (port.Circuit (record { 0 = n }))) place } })
 has_port k (suc j) c (first ∷ rows) row service edge is found serve =
-    has_port_if (serves service edge first) k c (circuit_ports (k + 1) rows service edge) (has_port (k + 1) j c rows row service edge (omega arith) found serve)
+    has_port_if (is_circuit_at service edge.0 first) k c (circuit_ports (k + 1) rows service edge) (has_port (k + 1) j c rows row service edge (omega arith) found serve)
 
 -- the port that is found for a circuit leads to it
 pub found_port : (circuit : CircuitId) (ports : List Port) (p : ℕ) → position (is_circuit_port circuit) ports ≡ Some p → LeadsTo ports p circuit.0
@@ -133,7 +134,7 @@ finds_port circuit ports has =
 pub record IsServed (rows : List CircuitPlan) (service : ServiceId) (edge : EdgeId) (circuit : ℕ) : Type 0 where
   pub row : CircuitPlan
   pub is : slice_get rows circuit ≡ Some row
-  pub serve : serves service edge row ≡ true
+  pub serve : is_circuit_at service edge.0 row ≡ true
 
 abbrev pub AreServed : List CircuitPlan → ServiceId → EdgeId → List Port → Type 0
 AreServed rows service edge [] = Unit {0}
@@ -142,7 +143,7 @@ AreServed rows service edge (port.Mesh wire ∷ ports) = ⊥
 AreServed rows service edge (port.Spoke wire ∷ ports) = ⊥
 
 served_if : (serve : Bool) (all : List CircuitPlan) (service : ServiceId) (edge : EdgeId) (k : ℕ) (row : CircuitPlan) (rest : List Port)
-    → serves service edge row ≡ serve → slice_get all k ≡ Some row → AreServed all service edge rest
+    → is_circuit_at service edge.0 row ≡ serve → slice_get all k ≡ Some row → AreServed all service edge rest
     → AreServed all service edge (cond serve (port.Circuit (record { 0 = k }) ∷ rest) rest)
 served_if true all service edge k row rest test is later = (record { row = row; is = is; serve = test }, later)
 served_if false all service edge k row rest test is later = later
@@ -152,7 +153,7 @@ served_from front [] service edge k len = tt
 served_from front (row ∷ rows) service edge k len =
     let here : slice_get (front ++ row ∷ rows) k ≡ Some row = ap (λ (n : ℕ). slice_get (front ++ row ∷ rows) n) len ∙ slice_get-seam front row rows in
     let next = served_from (front ++ row ∷ []) rows service edge (k + 1) (omega (arith, length-append front (row ∷ []), len)) in
-    served_if (serves service edge row) (front ++ row ∷ rows) service edge k row (circuit_ports (k + 1) rows service edge) refl here
+    served_if (is_circuit_at service edge.0 row) (front ++ row ∷ rows) service edge k row (circuit_ports (k + 1) rows service edge) refl here
     (subst (λ (all : List CircuitPlan). AreServed all service edge (circuit_ports (k + 1) rows service edge)) (append_assoc front (row ∷ []) rows) next)
 
 pub ports_served : (plan : Plan) (service : ServiceId) (edge : EdgeId) → AreServed plan.circuits service edge (ports_of plan service edge)

@@ -1,10 +1,11 @@
 -- The ports of a service at an edge.
-use Rattle.std.specs.Prelude.{◌==◌, ◌&&◌, ◌+◌, ℕ, Bool, true, false, List, [], ◌∷◌, Option, Some, None, slice_get, if◌then◌else◌}
+use Rattle.std.specs.Prelude.{◌==◌, ◌+◌, ℕ, Bool, true, false, List, [], ◌∷◌, Option, Some, None, slice_get, if◌then◌else◌}
 use Rattle.net_base.specs.declared.plan.circuit_plan.CircuitPlan.{CircuitPlan}
 use Rattle.net_base.specs.declared.plan.places.CircuitId.{CircuitId}
 use Rattle.net_base.specs.declared.plan.places.EdgeId.{EdgeId}
 use Rattle.net_base.specs.declared.plan.places.ServiceId.{ServiceId}
 use Rattle.net_base.specs.declared.plan.Plan.{Plan}
+use Rattle.net_base.specs.plan.Roles.{is_circuit_at}
 use Rattle.hvpls_spokes.specs.declared.port.Port.{Port}
 use Rattle.hvpls_spokes.specs.declared.port.Port.TheVariants as port
 use Rattle.hvpls_spokes.specs.declared.port_kind.PortKind.{PortKind}
@@ -31,15 +32,11 @@ is_mesh (Some (port.Spoke wire)) = false
 abbrev pub is_mesh_port : List Port → ℕ → Bool
 is_mesh_port ports p = is_mesh (slice_get ports p)
 
--- the circuit is one of the service at the edge
-abbrev pub serves : ServiceId → EdgeId → CircuitPlan → Bool
-serves service edge row = row.service.0 == service.0 && row.edge.0 == edge.0
-
 -- the circuits of the service at the edge, of the rows from a place on
 abbrev pub circuit_ports : ℕ → List CircuitPlan → ServiceId → EdgeId → List Port
 circuit_ports place [] service edge = []
 circuit_ports place (row ∷ rows) service edge =
-    if serves service edge row
+    if is_circuit_at service edge.0 row
     then port.Circuit (record { 0 = place }) ∷ circuit_ports (place + 1) rows service edge
     else circuit_ports (place + 1) rows service edge
 

@@ -2,7 +2,7 @@
 ghost use Rattle.std.specs.Prelude.{◌≡◌, ◌<◌, ◌≤◌, ◌&&◌, not, ℕ, length};
 ghost use Rattle.hvpls_spokes.specs.PortSet.{has};
 ghost use Rattle.hvpls_spokes.specs.Port.{is_mesh_port};
-ghost use Rattle.hvpls_spokes.specs.Flood.{is_flooded};
+ghost use Rattle.hvpls_spokes.specs.Flood.{is_in_flood};
 
 use crate::{PortSet, Ports};
 
@@ -10,7 +10,7 @@ use crate::{PortSet, Ports};
 /// and to no mesh wire where it came by one (RFC 4762 sections 4.1 and 4.4).
 pub fn flood_set(ports: &Ports, forwarding: &PortSet, arrival: u16) -> PortSet
     requires { arrival < length ports.now }
-    ensures { (p : ℕ) → has result p ≡ is_flooded ports.now (has forwarding.now) arrival p }
+    ensures { (p : ℕ) → has result p ≡ is_in_flood ports.now (has forwarding.now) arrival p }
 {
     let len = ports.len();
     let mut others = *forwarding;

@@ -6,10 +6,10 @@ pub mod Keys
 pub mod Names
 pub mod Offers
 pub mod Places
+pub mod Planned
 pub mod Reading
 pub mod References
 pub mod Rows
-pub mod Runnable
 pub mod Top
 pub mod Values
 pub mod Words

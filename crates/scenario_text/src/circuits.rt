@@ -1,9 +1,7 @@
 //! The circuits of a plan.
-ghost use Rattle.std.specs.Prelude.{◌≡◌, ◌≤◌, ◌<◌, length, IfOk};
-ghost use Rattle.std.specs.List.{All};
+ghost use Rattle.std.specs.Prelude.{◌≡◌, ◌≤◌, length, IfOk};
 ghost use Rattle.scenario_text.specs.Reading.{Gives};
 ghost use Rattle.scenario_text.specs.References.{circuit_in, circuits_in};
-ghost use Rattle.scenario_text.specs.Runnable.{IsPlaced, HasTag};
 
 use crate::ScenarioFault;
 use crate::circuit_row::CircuitRow;
@@ -21,9 +19,7 @@ fn circuit(
     place: RowPlace,
     row: &CircuitRow,
 ) -> Result<CircuitPlan, ScenarioFault>
-    requires { HasTag row.now.tag }
-    ensures exact { result ≡ circuit_in edges.now services.now place row.now }
-    ensures placed { IfOk result (IsPlaced (length edges.now) (length services.now)) }
+    ensures { result ≡ circuit_in edges.now services.now place row.now }
 {
     let edge = named_place(place, "edge", edges, &row.edge)?;
     match named_place(place, "service", services, &row.service) {
@@ -45,11 +41,9 @@ pub fn circuits(
     services: &NameIndex<'_>,
     rows: &[CircuitRow],
 ) -> Result<List<CircuitPlan>, ScenarioFault>
-    requires few { length rows.now ≤ 512 }
-    requires tagged { All (λ row. HasTag row.tag) rows.now }
+    requires { length rows.now ≤ 512 }
     ensures exact { Gives result (circuits_in edges.now services.now 1 rows.now) }
     ensures many { IfOk result (λ circuits. length circuits ≡ length rows.now) }
-    ensures placed { IfOk result (λ circuits. All (IsPlaced (length edges.now) (length services.now)) circuits) }
 {
     let mut circuits = List::new(alloc);
     for (i, row) in rows.iter().enumerate() {

@@ -4,7 +4,7 @@ ghost use Rattle.std.specs.List.{All};
 ghost use Rattle.toml.specs.View.{view, items_view};
 ghost use Rattle.scenario_text.specs.Events.{repeats_in, tick_in, play_in, command_of, command_in, event_in, plays_after, commands_in};
 ghost use Rattle.scenario_text.specs.Reading.{Gives};
-ghost use Rattle.scenario_text.specs.Runnable.{IsCount, IsNamed};
+ghost use Rattle.scenario_text.specs.Planned.{IsCount, IsNamed};
 
 use crate::events::{
     circuit_switch, connect, deliver, frame, lose, packet, ping, priority, restart, status,

@@ -1,15 +1,15 @@
 //! Whole documents.
-ghost use Rattle.std.specs.Prelude.{◌≡◌, ◌≤◌, None, length, IfOk};
+ghost use Rattle.std.specs.Prelude.{◌≡◌, ◌≤◌, length, IfOk};
 ghost use Rattle.std.specs.List.{All};
+ghost use Rattle.net_base.specs.plan.Accepted.{IsWithinLimits, IsChecked};
 ghost use Rattle.net_base.specs.plan.NameFaults.{edge_names, circuit_names, wire_names};
-ghost use Rattle.net_base.specs.plan.PlanFault.{plan_fault};
 ghost use Rattle.toml.specs.Parse.{parse_document};
 ghost use Rattle.toml.specs.View.{items_view, table_view};
 ghost use Rattle.scenario_text.specs.Arrays.{arrays_of, HasLimits};
 ghost use Rattle.scenario_text.specs.Document.{names_of, plan_in, scenario_in, scenario_or, document};
 ghost use Rattle.scenario_text.specs.Events.{commands_in};
 ghost use Rattle.scenario_text.specs.Reading.{Gives};
-ghost use Rattle.scenario_text.specs.Runnable.{IsPlanned, IsRunnablePlan, IsRunnable};
+ghost use Rattle.scenario_text.specs.Planned.{IsPlanned};
 
 use crate::arrays::{Arrays, document_arrays};
 use crate::circuit_row::CircuitRow;
@@ -36,7 +36,7 @@ fn planned_commands(
     requires few { length events.now ≤ 100000 }
     ensures exact { Gives result (commands_in (names_of plan.now) 1 0 (items_view events.now)) }
     ensures many { IfOk result (λ commands. length commands ≡ length events.now) }
-    ensures planned { IfOk result (λ commands. All (IsPlanned (length plan.now.edges) (length plan.now.circuits) (length plan.now.wires)) commands) }
+    ensures planned { IfOk result (λ commands. All (IsPlanned plan.now) commands) }
 {
     let _plan = plan;
     commands(alloc, names, events)
@@ -51,14 +51,14 @@ fn named_commands(
     wires: &[Name],
     events: &[Value],
 ) -> Result<List<Command>, ScenarioFault>
-    requires runnable { IsRunnablePlan plan.now }
+    requires limits { IsWithinLimits plan.now }
     requires edges { edges.now ≡ edge_names plan.now.edges }
     requires circuits { circuits.now ≡ circuit_names plan.now.circuits }
     requires wires { wires.now ≡ wire_names plan.now.wires }
     requires few { length events.now ≤ 100000 }
     ensures exact { Gives result (commands_in (names_of plan.now) 1 0 (items_view events.now)) }
     ensures many { IfOk result (λ commands. length commands ≡ length events.now) }
-    ensures planned { IfOk result (λ commands. All (IsPlanned (length plan.now.edges) (length plan.now.circuits) (length plan.now.wires)) commands) }
+    ensures planned { IfOk result (λ commands. All (IsPlanned plan.now) commands) }
 {
     let edge_index = NameIndex::of(alloc, edges)?;
     let circuit_index = NameIndex::of(alloc, circuits)?;
@@ -77,11 +77,11 @@ fn plan_commands(
     plan: &Plan,
     events: &[Value],
 ) -> Result<List<Command>, ScenarioFault>
-    requires runnable { IsRunnablePlan plan.now }
+    requires limits { IsWithinLimits plan.now }
     requires few { length events.now ≤ 100000 }
     ensures exact { Gives result (commands_in (names_of plan.now) 1 0 (items_view events.now)) }
     ensures many { IfOk result (λ commands. length commands ≡ length events.now) }
-    ensures planned { IfOk result (λ commands. All (IsPlanned (length plan.now.edges) (length plan.now.circuits) (length plan.now.wires)) commands) }
+    ensures planned { IfOk result (λ commands. All (IsPlanned plan.now) commands) }
 {
     let edges = names_of_edges(alloc, plan.edges.as_slice())?;
     let circuits = names_of_circuits(alloc, plan.circuits.as_slice())?;
@@ -101,8 +101,7 @@ fn plan_commands(
 fn arrays_plan(alloc: Global, arrays: &Arrays<'_>) -> Result<Plan, ScenarioFault>
     requires { HasLimits arrays.now }
     ensures exact { Gives result (plan_in (arrays_of arrays.now)) }
-    ensures checked { IfOk result (λ plan. plan_fault plan ≡ None) }
-    ensures runnable { IfOk result IsRunnablePlan }
+    ensures checked { IfOk result IsChecked }
 {
     let edges = rows::<EdgePlan>(alloc, TableKind::Edge, arrays.edges)?;
     let services = rows::<ServicePlan>(alloc, TableKind::Service, arrays.services)?;
@@ -121,8 +120,9 @@ fn arrays_plan(alloc: Global, arrays: &Arrays<'_>) -> Result<Plan, ScenarioFault
 #[tactic(auto, unfolding(crate::specs::Document::scenario_in))]
 fn scenario(alloc: Global, table: &Table) -> Result<Scenario, ScenarioFault>
     ensures exact { Gives result (scenario_in (table_view table.now)) }
-    ensures checked { IfOk result (λ scenario. plan_fault scenario.plan ≡ None) }
-    ensures runnable { IfOk result IsRunnable }
+    ensures checked { IfOk result (λ scenario. IsChecked scenario.plan) }
+    ensures few { IfOk result (λ scenario. length scenario.commands ≤ 100000) }
+    ensures planned { IfOk result (λ scenario. All (IsPlanned scenario.plan) scenario.commands) }
 {
     let arrays = document_arrays(table)?;
     let plan = arrays_plan(alloc, &arrays)?;
@@ -133,8 +133,9 @@ fn scenario(alloc: Global, table: &Table) -> Result<Scenario, ScenarioFault>
 // The scenario of a text.
 fn read_text(alloc: Global, text: &str) -> Result<Scenario, ScenarioFault>
     ensures exact { Gives result (scenario_or (parse_document text.now)) }
-    ensures checked { IfOk result (λ scenario. plan_fault scenario.plan ≡ None) }
-    ensures runnable { IfOk result IsRunnable }
+    ensures checked { IfOk result (λ scenario. IsChecked scenario.plan) }
+    ensures few { IfOk result (λ scenario. length scenario.commands ≤ 100000) }
+    ensures planned { IfOk result (λ scenario. All (IsPlanned scenario.plan) scenario.commands) }
 {
     match toml::table_from_str(alloc, text) {
         Ok(table) => scenario(alloc, &table),
@@ -159,8 +160,9 @@ fn read_text(alloc: Global, text: &str) -> Result<Scenario, ScenarioFault>
 /// of the bytes.
 pub fn read_scenario(alloc: Global, bytes: &[u8]) -> Result<Scenario, ScenarioFault>
     ensures document { Gives result (document bytes.now) }
-    ensures checked { IfOk result (λ scenario. plan_fault scenario.plan ≡ None) }
-    ensures runnable { IfOk result IsRunnable }
+    ensures checked { IfOk result (λ scenario. IsChecked scenario.plan) }
+    ensures few { IfOk result (λ scenario. length scenario.commands ≤ 100000) }
+    ensures planned { IfOk result (λ scenario. All (IsPlanned scenario.plan) scenario.commands) }
 {
     match str::from_utf8(bytes) {
         Ok(text) => read_text(alloc, text),

@@ -2,7 +2,7 @@
 ghost use Rattle.std.specs.Prelude.{◌≡◌, ◌≤◌, length, IfOk};
 ghost use Rattle.scenario_text.specs.Events.{connect_in, deliver_in, lose_in, restart_in, frame_in, packet_in, wire_switch_in, circuit_switch_in, status_in, priority_in, ping_in};
 ghost use Rattle.scenario_text.specs.Reading.{Gives};
-ghost use Rattle.scenario_text.specs.Runnable.{IsAmong};
+ghost use Rattle.scenario_text.specs.Planned.{IsAmong};
 
 use crate::ScenarioFault;
 use crate::plan_names::PlanNames;

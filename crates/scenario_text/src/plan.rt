@@ -1,13 +1,9 @@
 //! The plan of a document.
-ghost use Rattle.std.specs.Prelude.{◌≡◌, ◌≤◌, None, length, IfOk};
-ghost use Rattle.std.specs.List.{All};
-ghost use Rattle.net_base.specs.plan.Accepted.{plan_names};
-ghost use Rattle.net_base.specs.plan.NameFaults.{edge_names, service_names};
-ghost use Rattle.net_base.specs.plan.PlanFault.{plan_fault};
+ghost use Rattle.std.specs.Prelude.{◌≡◌, ◌≤◌, length, IfOk};
+ghost use Rattle.net_base.specs.plan.Accepted.{IsWithinLimits, IsChecked, plan_names};
 ghost use Rattle.scenario_text.specs.Names.{are_distinct};
 ghost use Rattle.scenario_text.specs.Reading.{Gives};
-ghost use Rattle.scenario_text.specs.References.{sound, circuits_in, plan_of};
-ghost use Rattle.scenario_text.specs.Runnable.{HasTag, IsPlaced, IsSized, IsRunnablePlan};
+ghost use Rattle.scenario_text.specs.References.{sound, plan_of};
 
 use crate::ScenarioFault;
 use crate::circuit_row::CircuitRow;
@@ -16,32 +12,12 @@ use crate::name_index::NameIndex;
 use crate::names::{names_of_edges, names_of_plan, names_of_services};
 use crate::wire_row::WireRow;
 use crate::wires::wires;
-use net_base::{CircuitPlan, EdgePlan, List, NoMemory, Plan, ServicePlan};
+use net_base::{EdgePlan, List, NoMemory, Plan, ServicePlan};
 use std::alloc::Global;
-
-// The circuits of the rows, at these edges and services.
-fn placed_circuits(
-    alloc: Global,
-    edges: &[EdgePlan],
-    services: &[ServicePlan],
-    edge_index: &NameIndex<'_>,
-    service_index: &NameIndex<'_>,
-    rows: &[CircuitRow],
-) -> Result<List<CircuitPlan>, ScenarioFault>
-    requires edges { edge_index.now ≡ edge_names edges.now }
-    requires services { service_index.now ≡ service_names services.now }
-    requires few { length rows.now ≤ 512 }
-    requires tagged { All (λ row. HasTag row.tag) rows.now }
-    ensures exact { Gives result (circuits_in (edge_names edges.now) (service_names services.now) 1 rows.now) }
-    ensures many { IfOk result (λ circuits. length circuits ≡ length rows.now) }
-    ensures placed { IfOk result (λ circuits. All (IsPlaced (length edges.now) (length services.now)) circuits) }
-{
-    circuits(alloc, edge_index, service_index, rows)
-}
 
 // Whether the names of a plan differ, over all its lists.
 fn have_distinct_names(alloc: Global, plan: &Plan) -> Result<bool, NoMemory>
-    requires { IsRunnablePlan plan.now }
+    requires { IsWithinLimits plan.now }
     ensures { IfOk result (λ distinct. distinct ≡ are_distinct (plan_names plan.now)) }
 {
     let names = names_of_plan(alloc, plan)?;
@@ -51,10 +27,9 @@ fn have_distinct_names(alloc: Global, plan: &Plan) -> Result<bool, NoMemory>
 
 // The plan, where it has no fault. Names are compared with each other only where one stands twice.
 fn sound_plan(alloc: Global, plan: Plan) -> Result<Plan, ScenarioFault>
-    requires { IsRunnablePlan plan }
+    requires { IsWithinLimits plan }
     ensures exact { Gives result (sound plan) }
-    ensures checked { IfOk result (λ sound. plan_fault sound ≡ None) }
-    ensures runnable { IfOk result IsRunnablePlan }
+    ensures checked { IfOk result IsChecked }
 {
     let checked = if have_distinct_names(alloc, &plan)? {
         plan.check_distinct()
@@ -80,24 +55,14 @@ pub fn plan(
     requires few_services { length services ≤ 64 }
     requires few_circuits { length circuit_rows.now ≤ 512 }
     requires few_wires { length wire_rows.now ≤ 1024 }
-    requires sized { All IsSized services }
-    requires tagged { All (λ row. HasTag row.tag) circuit_rows.now }
     ensures exact { Gives result (plan_of edges services circuit_rows.now wire_rows.now) }
-    ensures checked { IfOk result (λ plan. plan_fault plan ≡ None) }
-    ensures runnable { IfOk result IsRunnablePlan }
+    ensures checked { IfOk result IsChecked }
 {
     let edge_names = names_of_edges(alloc, edges.as_slice())?;
     let service_names = names_of_services(alloc, services.as_slice())?;
     let edge_index = NameIndex::of(alloc, edge_names.as_slice())?;
     let service_index = NameIndex::of(alloc, service_names.as_slice())?;
-    let circuits = placed_circuits(
-        alloc,
-        edges.as_slice(),
-        services.as_slice(),
-        &edge_index,
-        &service_index,
-        circuit_rows,
-    )?;
+    let circuits = circuits(alloc, &edge_index, &service_index, circuit_rows)?;
     let wires = wires(
         alloc,
         &edge_index,

@@ -1,5 +1,5 @@
 //! What a row of a table is read as.
-ghost use Rattle.std.specs.Prelude.{◌≡◌, IfOk};
+ghost use Rattle.std.specs.Prelude.{◌≡◌};
 ghost use Rattle.toml.specs.View.{table_view};
 ghost use Rattle.scenario_text.specs.Reading.{Gives};
 
@@ -26,21 +26,15 @@ pub trait Row: Sized + Drop {
     /// What the members of a row say.
     ghost row_of: { RowPlace → Members → Result Self ScenarioFault };
 
-    /// What each row keeps.
-    ghost keeps: { Self → Type 0 };
-
     /// The row that a table is.
     fn read(alloc: Global, row: RowPlace, table: &Table) -> Result<Self, ScenarioFault>
-        ensures exact { Gives result (row_of row (table_view table.now)) }
-        ensures kept { IfOk result keeps };
+        ensures { Gives result (row_of row (table_view table.now)) };
 }
 
 impl Row for EdgePlan {
     ghost use Rattle.scenario_text.specs.Rows.{edge_in};
 
     ghost row_of = { edge_in };
-
-    ghost keeps = { λ _. Unit {0} };
 
     #[tactic(auto, unfolding(crate::specs::Rows::edge_in))]
     fn read(_alloc: Global, row: RowPlace, table: &Table) -> Result<EdgePlan, ScenarioFault> {
@@ -64,11 +58,8 @@ impl Row for EdgePlan {
 
 impl Row for ServicePlan {
     ghost use Rattle.scenario_text.specs.Rows.{service_in};
-    ghost use Rattle.scenario_text.specs.Runnable.{IsSized};
 
     ghost row_of = { service_in };
-
-    ghost keeps = { IsSized };
 
     #[tactic(auto, unfolding(crate::specs::Rows::service_in))]
     fn read(_alloc: Global, row: RowPlace, table: &Table) -> Result<ServicePlan, ScenarioFault> {
@@ -84,11 +75,8 @@ impl Row for ServicePlan {
 
 impl Row for CircuitRow {
     ghost use Rattle.scenario_text.specs.Rows.{circuit_row_in};
-    ghost use Rattle.scenario_text.specs.Runnable.{HasTag};
 
     ghost row_of = { circuit_row_in };
-
-    ghost keeps = { λ row. HasTag row.tag };
 
     #[tactic(auto, unfolding(crate::specs::Rows::circuit_row_in))]
     fn read(_alloc: Global, row: RowPlace, table: &Table) -> Result<CircuitRow, ScenarioFault> {
@@ -112,8 +100,6 @@ impl Row for WireRow {
     ghost use Rattle.scenario_text.specs.Rows.{wire_row_in};
 
     ghost row_of = { wire_row_in };
-
-    ghost keeps = { λ _. Unit {0} };
 
     #[tactic(auto, unfolding(crate::specs::Rows::wire_row_in))]
     fn read(alloc: Global, row: RowPlace, table: &Table) -> Result<WireRow, ScenarioFault> {

@@ -1,6 +1,5 @@
 //! Rows of the document's tables.
 ghost use Rattle.std.specs.Prelude.{◌≡◌, ◌≤◌, length, IfOk};
-ghost use Rattle.std.specs.List.{All};
 ghost use Rattle.toml.specs.View.{view, items_view, table_view};
 ghost use Rattle.scenario_text.specs.Reading.{Gives, MapsTo};
 ghost use Rattle.scenario_text.specs.Rows.{row_members, rows_in};
@@ -31,7 +30,6 @@ pub fn rows<T: Row>(
     requires { length array.now ≤ 1024 }
     ensures exact { Gives result (rows_in table T.row_of 1 (items_view array.now)) }
     ensures many { IfOk result (λ rows. length rows ≡ length array.now) }
-    ensures kept { IfOk result (λ rows. All T.keeps rows) }
 {
     let mut rows = List::new(alloc);
     for (i, value) in array.iter().enumerate() {

@@ -3,7 +3,7 @@ ghost use Rattle.std.specs.Prelude.{◌≡◌, ◌<◌, ◌≤◌, true, length,
 ghost use Rattle.scenario_text.specs.Hex.{frame_of, of_frame_size};
 ghost use Rattle.scenario_text.specs.Names.{place_in};
 ghost use Rattle.scenario_text.specs.Reading.{Gives, MapsTo};
-ghost use Rattle.scenario_text.specs.Runnable.{IsFrame};
+ghost use Rattle.net_base.specs.plan.Planned.{IsFrame};
 ghost use Rattle.scenario_text.specs.Words.{said, ends, decimal_from, switch_of, some_word};
 
 use crate::ScenarioFault;

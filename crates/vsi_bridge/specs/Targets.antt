@@ -3,7 +3,7 @@ use Rattle.std.specs.Prelude.{◌==◌, ◌&&◌, ℕ, Bool, List, Option, Some,
 use Rattle.net_base.specs.declared.values.mac.Mac.{Mac}
 use Rattle.net_base.specs.values.Mac.{is_group_address}
 use Rattle.hvpls_spokes.specs.declared.port.Port.{Port}
-use Rattle.hvpls_spokes.specs.Flood.{is_flooded}
+use Rattle.hvpls_spokes.specs.Flood.{is_in_flood}
 use Rattle.mac_table.specs.Addresses.{learned, port_of}
 use Rattle.mac_table.specs.declared.mac_entry.MacEntry.{MacEntry}
 use Rattle.vsi_bridge.specs.BridgeState.{table_of}
@@ -19,5 +19,5 @@ known_port entries destination = if is_group_address destination.0 then None els
 
 -- a port to which a frame goes: a port of the flood set, and for a known station its port alone
 abbrev pub is_target : List Port → (ℕ → Bool) → ℕ → Option ℕ → ℕ → Bool
-is_target ports forwarding arrival None p = is_flooded ports forwarding arrival p
-is_target ports forwarding arrival (Some known) p = is_flooded ports forwarding arrival p && p == known
+is_target ports forwarding arrival None p = is_in_flood ports forwarding arrival p
+is_target ports forwarding arrival (Some known) p = is_in_flood ports forwarding arrival p && p == known

@@ -1,8 +1,11 @@
 -- Paths of wires: the edges that a wire passes, of which each two neighbours are joined by a segment (RFC 6073).
-use Rattle.std.specs.Prelude.{◌==◌, ◌&&◌, ◌||◌, ℕ, Bool, false, List, [], ◌∷◌, Option, Some, None}
+use Rattle.std.specs.Prelude.{◌==◌, ◌&&◌, ◌||◌, ℕ, Bool, false, List, [], ◌∷◌, Option, Some, None, slice_get, option_map, reverse, if◌then◌else◌}
 use Rattle.std.specs.List.{list_any}
 use Rattle.net_base.specs.declared.plan.Plan.{Plan}
+use Rattle.net_base.specs.declared.plan.offer.Offer.{Offer}
 use Rattle.net_base.specs.declared.plan.places.EdgeId.{EdgeId}
+use Rattle.net_base.specs.declared.plan.wire_plan.WirePlan.{WirePlan}
+use Rattle.net_base.specs.declared.values.addr.Addr.{Addr}
 
 -- the terminal edges of a path, its first and its last
 abbrev pub first_edge : List EdgeId → Option EdgeId
@@ -13,6 +16,16 @@ abbrev pub last_edge : List EdgeId → Option EdgeId
 last_edge [] = None
 last_edge (last ∷ []) = Some last
 last_edge (first ∷ next ∷ rest) = last_edge (next ∷ rest)
+
+-- the edge is the first of a path, or its last
+abbrev pub is_first : ℕ → List EdgeId → Bool
+is_first edge [] = false
+is_first edge (first ∷ rest) = edge == first.0
+
+abbrev pub is_last : ℕ → List EdgeId → Bool
+is_last edge [] = false
+is_last edge (last ∷ []) = edge == last.0
+is_last edge (first ∷ next ∷ rest) = is_last edge (next ∷ rest)
 
 -- a segment of the path joins the two edges, in either direction
 abbrev pub joins : ℕ → ℕ → List EdgeId → Bool
@@ -45,3 +58,70 @@ abbrev pub have_same_ends : List EdgeId → List EdgeId → Bool
 have_same_ends p q =
     (is_same_edge (first_edge p) (first_edge q) && is_same_edge (last_edge p) (last_edge q))
     || (is_same_edge (first_edge p) (last_edge q) && is_same_edge (last_edge p) (first_edge q))
+
+-- the two edges are neighbours on the wire
+abbrev pub are_neighbours : WirePlan → ℕ → ℕ → Bool
+are_neighbours wire a b = joins a b wire.path
+
+-- of three edges one after another, `me` is the middle one and `from` an outer one: the other outer one
+abbrev pub mate_on : List EdgeId → ℕ → ℕ → Option EdgeId
+mate_on [] me from = None
+mate_on (a ∷ []) me from = None
+mate_on (a ∷ b ∷ []) me from = None
+mate_on (a ∷ b ∷ c ∷ rest) me from =
+    if me == b.0 && from == a.0 then Some c
+    else if me == b.0 && from == c.0 then Some a
+    else mate_on (b ∷ c ∷ rest) me from
+
+-- the other neighbour of a switching point, to which it passes on what it has from one; none at a terminal edge (RFC 6073
+-- section 4)
+abbrev pub mate : WirePlan → ℕ → ℕ → Option EdgeId
+mate wire me from = mate_on wire.path me from
+
+-- the offer of a terminal edge
+abbrev pub offer_of : WirePlan → ℕ → Offer
+offer_of wire edge = if is_first edge wire.path then wire.near else wire.far
+
+-- b comes next after a
+abbrev pub follows : List EdgeId → ℕ → ℕ → Bool
+follows [] a b = false
+follows (last ∷ []) a b = false
+follows (first ∷ next ∷ rest) a b = (a == first.0 && b == next.0) || follows (next ∷ rest) a b
+
+-- the edges up to this one
+abbrev pub up_to : List EdgeId → ℕ → List EdgeId
+up_to [] edge = []
+up_to (first ∷ rest) edge = if edge == first.0 then first ∷ [] else first ∷ up_to rest edge
+
+-- the edges that speak before `to`, from the terminal edge on, where `from` is its neighbour and the last of them
+abbrev pub way_from : List EdgeId → ℕ → ℕ → List EdgeId
+way_from path from to = if follows path from to then up_to path from else up_to (reverse path) from
+
+-- what a switching point tells of itself: the PW ID of the segment before it, its address, and that of the edge before it
+-- (RFC 6073 section 7.4)
+pub record PassedPoint : Type 0 where
+  pub pw_id : ℕ
+  pub local : Option Addr
+  pub remote : Option Addr
+
+abbrev pub address_of : Plan → EdgeId → Option Addr
+address_of plan edge = option_map (λ row. row.address) (slice_get plan.edges edge.0)
+
+-- each edge of the way but the first has passed on what the one before it told
+abbrev pub points_on : Plan → WirePlan → List EdgeId → List PassedPoint
+points_on plan wire [] = []
+points_on plan wire (last ∷ []) = []
+points_on plan wire (before ∷ point ∷ rest) =
+    record { pw_id = wire.pw_id; local = address_of plan point; remote = address_of plan before } ∷ points_on plan wire (point ∷ rest)
+
+-- what an edge is expected to tell a neighbour of a wire: the offer of the terminal edge on its side, and the switching
+-- points that have passed it on, itself among them where it is one (RFC 6073 section 7)
+pub record Expected : Type 0 where
+  pub offer : Offer
+  pub points : List PassedPoint
+
+abbrev pub expected : Plan → WirePlan → ℕ → ℕ → Expected
+expected plan wire from to = record {
+  offer = if follows wire.path from to then wire.near else wire.far;
+  points = points_on plan wire (way_from wire.path from to);
+}

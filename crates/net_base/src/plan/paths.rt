@@ -1,7 +1,7 @@
 //! Paths of wires.
 ghost use Rattle.std.specs.Prelude.{◌≡◌, ◌==◌, ◌&&◌, ◌||◌};
 ghost use Rattle.std.specs.List.{list_any};
-ghost use Rattle.net_base.specs.plan.Paths.{first_edge, last_edge, joins, has_repeat, share_segment, is_same_edge, have_same_ends};
+ghost use Rattle.net_base.specs.plan.Paths.{first_edge, last_edge, is_first, is_last, joins, has_repeat, share_segment, is_same_edge, have_same_ends};
 
 use crate::EdgeId;
 
@@ -21,6 +21,27 @@ pub(crate) fn last_of(path: &[EdgeId]) -> Option<EdgeId>
     ensures { result ≡ last_edge path.now }
 {
     path.last().copied()
+}
+
+/// Whether the path starts at the edge.
+pub(crate) fn is_first_of(path: &[EdgeId], edge: usize) -> bool
+    ensures { result ≡ is_first edge path.now }
+{
+    match path {
+        [first, ..] => edge == first.0 as usize,
+        [] => false,
+    }
+}
+
+/// Whether the path ends at the edge.
+#[tactic(auto, using(crate::proofs::PathLemmas::is_last_edge))]
+pub(crate) fn is_last_of(path: &[EdgeId], edge: usize) -> bool
+    ensures { result ≡ is_last edge path.now }
+{
+    match last_of(path) {
+        Some(last) => edge == last.0 as usize,
+        None => false,
+    }
 }
 
 /// Whether a segment of the path joins the two edges.

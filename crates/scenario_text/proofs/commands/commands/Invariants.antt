@@ -4,7 +4,7 @@ use Rattle.std.specs.List.{All}
 use Rattle.toml.specs.View.{items_view}
 use Rattle.scenario_text.specs.Reading.{with_front}
 use Rattle.scenario_text.specs.Events.{commands_in}
-use Rattle.scenario_text.specs.Runnable.{IsNamed}
+use Rattle.scenario_text.specs.Planned.{IsNamed}
 use Rattle.scenario_text.proofs.commands.commands.Given as goal
 
 abbrev pub invariant-loop-i : goal.invariant-loop-i

@@ -1,6 +1,5 @@
 -- What is read so far, and then the rest, is what the definition reads.
 use Rattle.std.proofs.Common.{◌≡◌, ◌+◌, length, drop}
-use Rattle.std.specs.List.{All}
 use Rattle.toml.specs.View.{items_view}
 use Rattle.scenario_text.specs.Reading.{with_front}
 use Rattle.scenario_text.specs.Rows.{rows_in}
@@ -10,4 +9,3 @@ abbrev pub invariant-loop-i : goal.invariant-loop-i
 invariant-loop-i g l =
     (with_front l.rows (rows_in l.table g.T.Row.row_of (l.i + 1) (items_view (drop l.i l.array))) ≡ rows_in l.table g.T.Row.row_of 1 (items_view l.array))
     × (length l.rows ≡ l.i)
-    × All g.T.Row.keeps l.rows
