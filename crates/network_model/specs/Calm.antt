@@ -7,11 +7,8 @@ use Rattle.net_base.specs.declared.plan.places.EdgeId.{EdgeId}
 use Rattle.net_base.specs.declared.plan.places.ServiceId.{ServiceId}
 use Rattle.edge_model.specs.Ends.{end_forwards, is_stitched}
 use Rattle.network_model.specs.State.{NetworkState, held, stands}
-use Rattle.network_model.specs.Roles.{all_below, joins, is_first, is_last, is_wire_of, is_mesh_of, is_spoke_from, any_wire, count_wires, is_core_edge, is_spoke_edge}
-
--- a segment of a wire of the service joins the two edges
-abbrev pub are_joined : Plan → ServiceId → ℕ → ℕ → Bool
-are_joined plan service a b = list_any (λ row. is_wire_of service row && joins a b row.path) plan.wires
+use Rattle.net_base.specs.plan.Paths.{is_first, is_last}
+use Rattle.net_base.specs.plan.Roles.{all_below, are_joined_by, is_mesh_of, is_spoke_from, any_wire, count_wires, is_core_edge, is_spoke_edge}
 
 -- nothing is on its way from an edge to another one, and the other one holds no rest
 abbrev pub is_drained : NetworkState → ℕ → ℕ → Bool
@@ -27,7 +24,7 @@ is_settled network a b =
 abbrev pub is_quiet : Plan → NetworkState → ServiceId → Bool
 is_quiet plan network service =
     all_below (length plan.edges) (λ a. all_below (length plan.edges) (λ b.
-    not (are_joined plan service a b) || is_settled network a b))
+    not (are_joined_by plan service a b) || is_settled network a b))
 
 -- the switching points of a path, those between its ends, have both sides advertised and bound
 abbrev pub inner_stitched : Plan → NetworkState → ℕ → List EdgeId → Bool

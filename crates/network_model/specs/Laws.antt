@@ -2,7 +2,7 @@
 use Rattle.std.specs.Prelude.{List}
 use Rattle.net_base.specs.declared.plan.Plan.{Plan}
 use Rattle.net_base.specs.declared.trace.event.Event.{Event}
-use Rattle.net_base.specs.plan.Accepted.{IsAccepted}
+use Rattle.net_base.specs.plan.Accepted.{IsChecked}
 use Rattle.net_base.specs.trace.Isolated.{Isolated}
 use Rattle.net_base.specs.trace.Split.{Split}
 use Rattle.network_model.specs.KnownOnce.{KnownOnce}
@@ -10,13 +10,13 @@ use Rattle.network_model.specs.OnceEach.{OnceEach}
 use Rattle.network_model.specs.Run.{run}
 
 abbrev pub RunsAreIsolated : Type 0
-RunsAreIsolated = (plan : Plan) (events : List Event) → IsAccepted plan → Isolated plan (run plan events).entries
+RunsAreIsolated = (plan : Plan) (events : List Event) → IsChecked plan → Isolated plan (run plan events).entries
 
 abbrev pub RunsAreSplit : Type 0
-RunsAreSplit = (plan : Plan) (events : List Event) → IsAccepted plan → Split plan (run plan events).entries
+RunsAreSplit = (plan : Plan) (events : List Event) → IsChecked plan → Split plan (run plan events).entries
 
 abbrev pub RunsServeOnce : Type 0
-RunsServeOnce = (plan : Plan) (events : List Event) → IsAccepted plan → OnceEach plan events
+RunsServeOnce = (plan : Plan) (events : List Event) → IsChecked plan → OnceEach plan events
 
 abbrev pub RunsServeKnownOnce : Type 0
-RunsServeKnownOnce = (plan : Plan) (events : List Event) → IsAccepted plan → KnownOnce plan events
+RunsServeKnownOnce = (plan : Plan) (events : List Event) → IsChecked plan → KnownOnce plan events

@@ -6,7 +6,6 @@ pub mod KnownOnce
 pub mod Laws
 pub mod OnceEach
 pub mod Reach
-pub mod Roles
 pub mod Run
 pub mod State
 pub mod Step

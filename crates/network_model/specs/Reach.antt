@@ -1,5 +1,5 @@
 -- Which circuits are behind a port, and which a copy that arrives by it has still to serve, in a calm state.
-use Rattle.std.specs.Prelude.{◌==◌, ◌&&◌, ◌||◌, ◌+◌, not, ℕ, Bool, true, false, List, [], ◌∷◌, Option, Some, None, if◌then◌else◌}
+use Rattle.std.specs.Prelude.{◌==◌, ◌&&◌, ◌||◌, ◌+◌, not, ℕ, Bool, true, false, List, [], ◌∷◌, Option, Some, None, option_map, if◌then◌else◌}
 use Rattle.net_base.specs.declared.plan.Plan.{Plan}
 use Rattle.net_base.specs.declared.plan.circuit_plan.CircuitPlan.{CircuitPlan}
 use Rattle.net_base.specs.declared.plan.wire_plan.WirePlan.{WirePlan}
@@ -11,7 +11,8 @@ use Rattle.hvpls_spokes.specs.declared.port.Port.{Port}
 use Rattle.hvpls_spokes.specs.declared.port.Port.TheVariants as port
 use Rattle.edge_model.specs.State.{is_on}
 use Rattle.network_model.specs.State.{NetworkState, at_edge}
-use Rattle.network_model.specs.Roles.{is_spoke_edge}
+use Rattle.net_base.specs.plan.Paths.{last_edge}
+use Rattle.net_base.specs.plan.Roles.{is_spoke_edge}
 use Rattle.network_model.specs.Calm.{is_live_spoke}
 
 abbrev pub is_row_of : ServiceId → Option CircuitPlan → Bool
@@ -41,17 +42,15 @@ is_row_at edge (Some row) = row.edge.0 == edge
 abbrev pub is_at : Plan → ℕ → CircuitId → Bool
 is_at plan edge circuit = is_row_at edge (circuit_row plan circuit)
 
--- the last edge of a path
-abbrev pub last_of : List EdgeId → Option ℕ
-last_of [] = None
-last_of (last ∷ []) = Some last.0
-last_of (first ∷ next ∷ rest) = last_of (next ∷ rest)
+-- the place of the last edge of a path
+abbrev pub last_place : List EdgeId → Option ℕ
+last_place path = option_map (λ edge. edge.0) (last_edge path)
 
 -- the core edge of the first of these wires that is a live spoke of the edge
 abbrev pub home_among : Plan → NetworkState → ServiceId → ℕ → ℕ → List WirePlan → Option ℕ
 home_among plan network service edge place [] = None
 home_among plan network service edge place (row ∷ rows) =
-    if is_live_spoke plan network service edge place row then last_of row.path else home_among plan network service edge (place + 1) rows
+    if is_live_spoke plan network service edge place row then last_place row.path else home_among plan network service edge (place + 1) rows
 
 -- the home of a spoke edge: the core edge of its spoke that carries frames
 abbrev pub home_of : Plan → NetworkState → ServiceId → ℕ → Option ℕ
@@ -74,7 +73,7 @@ is_beside plan network service core circuit =
 -- the terminal edge of a wire that is not this one
 abbrev pub far_of : ℕ → List EdgeId → Option ℕ
 far_of edge [] = None
-far_of edge (first ∷ rest) = if edge == first.0 then last_of (first ∷ rest) else Some first.0
+far_of edge (first ∷ rest) = if edge == first.0 then last_place (first ∷ rest) else Some first.0
 
 -- the circuits of the service at an edge, and all others of the service
 abbrev pub at_edge_of : Plan → ServiceId → ℕ → CircuitId → Bool

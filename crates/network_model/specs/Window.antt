@@ -18,7 +18,7 @@ use Rattle.network_model.specs.Frame.{next_origin}
 use Rattle.network_model.specs.State.{NetworkState, empty_network}
 use Rattle.network_model.specs.Step.{step}
 use Rattle.network_model.specs.Run.{state_after}
-use Rattle.network_model.specs.Roles.{all_below, is_wire_of}
+use Rattle.net_base.specs.plan.Roles.{all_below, is_wire_of}
 use Rattle.network_model.specs.Calm.{is_calm}
 use Rattle.network_model.specs.Reach.{is_circuit_on, is_site}
 
