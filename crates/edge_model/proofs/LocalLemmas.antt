@@ -1,6 +1,6 @@
 -- What an edge gives out on a frame stays beside the circuit of the frame.
-use Rattle.std.proofs.Common.{◌≡◌, ◌==◌, ◌&&◌, ◌+◌, ◌++◌, ◌∙◌, ℕ, zero, suc, Bool, true, false, List, [], ◌∷◌, Option, Some, None, Result, Ok, Err, slice_get, position, option_map, refl, ap, sym, subst, not, nat_eq, arith, inl, inr, zero-add, add-zero, cond}
-use Rattle.std.proofs.lemmas.Bool.{cases_Bool, eqb-true}
+use Rattle.std.proofs.Common.{◌≡◌, ◌&&◌, ◌+◌, ◌++◌, ◌∙◌, ℕ, zero, suc, Bool, true, false, List, [], ◌∷◌, Option, Some, None, Result, Ok, Err, position, option_map, refl, ap, sym, subst, not, nat_eq, arith, zero-add, add-zero, cond}
+use Rattle.std.proofs.lemmas.Bool.{eqb-true}
 use Rattle.net_base.specs.declared.outside.link_call.LinkCall.{LinkCall}
 use Rattle.net_base.specs.declared.plan.Plan.{Plan}
 use Rattle.net_base.specs.declared.plan.circuit_plan.CircuitPlan.{CircuitPlan}
@@ -9,16 +9,17 @@ use Rattle.net_base.specs.declared.plan.places.EdgeId.{EdgeId}
 use Rattle.net_base.specs.declared.plan.places.ServiceId.{ServiceId}
 use Rattle.net_base.specs.declared.trace.drop_cause.DropCause.{DropCause}
 use Rattle.net_base.specs.plan.Places.{circuit_row, service_of}
+use Rattle.net_base.specs.plan.Roles.{is_circuit_at}
 use Rattle.net_base.specs.trace.Isolated.{inner_at}
 use Rattle.net_base.specs.values.Frame.{dress}
 use Rattle.hvpls_spokes.specs.declared.port.Port.{Port}
 use Rattle.hvpls_spokes.specs.declared.port.Port.TheVariants as port
-use Rattle.hvpls_spokes.specs.Port.{ports_of, serves, is_mesh_port, is_circuit_port}
+use Rattle.hvpls_spokes.specs.Port.{ports_of, is_mesh_port, is_circuit_port}
 use Rattle.hvpls_spokes.proofs.PortsLemmas.{LeadsTo, IsServed, AreServed, ports_served, same_port, found_port}
 use Rattle.vsi_bridge.specs.Targets.{is_target}
 use Rattle.edge_model.specs.declared.effect.Effect.{Effect}
 use Rattle.edge_model.specs.declared.effect.Effect.TheVariants.{Left}
-use Rattle.edge_model.specs.Frame.{tag_of, copy_by, copies, targets_of, hearing, bridged, forwarded, received, port_at, is_own, frame_input}
+use Rattle.edge_model.specs.Frame.{tag_of, copy_by, copies, targets_of, hearing, forwarded, received, port_at, is_own, frame_input}
 use Rattle.edge_model.specs.Local.{LeavesBeside, StaysBeside, AllStayBeside, FramesStayLocal}
 use Rattle.edge_model.specs.State.{EdgeState, is_on, with_addresses}
 use Rattle.edge_model.specs.Work.{Work, Answers, beginning, changes, gives, idles}
@@ -47,7 +48,7 @@ served_at rows service edge (port.Mesh wire ∷ ports) p c served leads = absurd
 served_at rows service edge (port.Spoke wire ∷ ports) p c served leads = absurd served
 
 -- the circuit of a row that serves a service is one of the service
-pub row_service : (plan : Plan) (service : ServiceId) (edge : EdgeId) (circuit : CircuitId) (row : CircuitPlan) → circuit_row plan circuit ≡ Some row → serves service edge row ≡ true → service_of plan circuit ≡ Some service
+pub row_service : (plan : Plan) (service : ServiceId) (edge : EdgeId) (circuit : CircuitId) (row : CircuitPlan) → circuit_row plan circuit ≡ Some row → is_circuit_at service edge.0 row ≡ true → service_of plan circuit ≡ Some service
 row_service plan service edge circuit row is serve =
     let same : row.service.0 ≡ service.0 = eqb-true row.service.0 service.0 (and_left (nat_eq row.service.0 service.0) (nat_eq row.edge.0 edge.0) serve) in
     ap (λ (r : Option CircuitPlan). option_map (λ (row : CircuitPlan). row.service) r) is ∙ ap (λ (n : ℕ). Some (record { 0 = n })) same
