@@ -1,0 +1,5 @@
+pub mod IsolatedLemmas
+pub mod PlanLemmas
+pub mod QuietLemmas
+pub mod RunLemmas
+pub mod SplitLemmas

@@ -3,11 +3,13 @@ ghost use Rattle.network_model.specs.Laws.{RunsAreIsolated, RunsAreSplit, RunsSe
 
 /// Customers stay apart: whatever leaves at a circuit entered before at a circuit of the same service, as the
 /// same inner frame.
+#[tactic(auto, using(crate::proofs::IsolatedLemmas::run_isolated))]
 pub fn runs_are_isolated()
     ensures { RunsAreIsolated }
 {}
 
 /// Split horizon: whatever is sent on a mesh wire came by no other mesh wire (RFC 4762 section 4.4).
+#[tactic(auto, using(crate::proofs::SplitLemmas::run_split))]
 pub fn runs_are_split()
     ensures { RunsAreSplit }
 {}
