@@ -1,4 +1,5 @@
 pub mod IsolatedLemmas
+pub mod KnownLemmas
 pub mod PlanLemmas
 pub mod QuietLemmas
 pub mod RunLemmas
