@@ -1,5 +1,10 @@
+pub mod AbsorbLemmas
+pub mod CalmLemmas
+pub mod FloodLemmas
 pub mod IsolatedLemmas
 pub mod KnownLemmas
+pub mod OtherLemmas
+pub mod PlaceLemmas
 pub mod PlanLemmas
 pub mod QuietLemmas
 pub mod RunLemmas

@@ -1,0 +1,223 @@
+-- Steps in which a frame does not enter: they tell nothing of it, and leave its copies under way.
+use Rattle.std.proofs.Common.{◌≡◌, ◌<◌, ◌≤◌, ◌+◌, ◌++◌, ◌&&◌, ◌∙◌, ℕ, zero, suc, Bool, true, false, List, [], ◌∷◌, Option, Some, None, cond, refl, ap, sym, not, nat_eq, length, arith}
+use Rattle.std.proofs.lemmas.Bool.{ne_eqb}
+use Rattle.net_base.specs.declared.plan.Plan.{Plan}
+use Rattle.net_base.specs.declared.plan.circuit_plan.CircuitPlan.{CircuitPlan}
+use Rattle.net_base.specs.declared.plan.places.CircuitId.{CircuitId}
+use Rattle.net_base.specs.declared.plan.places.EdgeId.{EdgeId}
+use Rattle.net_base.specs.declared.plan.places.ServiceId.{ServiceId}
+use Rattle.net_base.specs.declared.trace.event.Event.{Event}
+use Rattle.net_base.specs.declared.trace.event.Event.TheVariants.{Tick, Frame, Circuit}
+use Rattle.net_base.specs.plan.Places.{circuit_row}
+use Rattle.edge_model.specs.Circuit.{circuit_input}
+use Rattle.edge_model.specs.Tick.{tick_input}
+use Rattle.edge_model.specs.Work.{Work}
+use Rattle.edge_model.proofs.LocalLemmas.{and_left, and_right}
+use Rattle.network_model.specs.Absorb.{Stepped, absorb, answer, begin_at, idle}
+use Rattle.network_model.specs.Circuit.{circuit_event}
+use Rattle.network_model.specs.Frame.{entering, frame_event, frame_work, next_origin}
+use Rattle.network_model.specs.OnceEach.{LeftWithin, times_left}
+use Rattle.network_model.specs.Run.{entries_along, state_after}
+use Rattle.network_model.specs.State.{NetworkState, with_edge, with_frame}
+use Rattle.network_model.specs.Step.{step}
+use Rattle.network_model.specs.Tick.{tick_at, tick_event, ticks_from}
+use Rattle.network_model.specs.Window.{all_spare, spares}
+use Rattle.network_model.proofs.AbsorbLemmas.{all_keep, all_leave, awaited, due, of_origin, others_tell, own_within, times_left-append, within-append}
+
+-- nothing is told of the frame, and its copies under way stay
+pub record IsApart (origin : ℕ) (circuit : CircuitId) (network : NetworkState) (stepped : Stepped) : Type 0 where
+  pub left : times_left origin circuit stepped.entries ≡ 0
+  pub under_way : of_origin origin stepped.state.under_way ≡ of_origin origin network.under_way
+
+absorb_apart : (origin : ℕ) (circuit : CircuitId) (me : EdgeId) (other hops : ℕ) (work : Work) (network : NetworkState) → nat_eq other origin ≡ false → IsApart origin circuit network (absorb me other hops work network)
+unfolding with_edge
+absorb_apart origin circuit me other hops work network apart = record {
+  left = others_tell origin circuit me other hops work.effects (with_edge me work.edge network) apart;
+  under_way = all_leave origin me other hops work.effects (with_edge me work.edge network) apart;
+}
+
+answer_apart : (origin : ℕ) (circuit : CircuitId) (me : EdgeId) (other hops : ℕ) (work : Work) (network : NetworkState) → nat_eq other origin ≡ false → IsApart origin circuit network (answer me other hops work network)
+answer_apart origin circuit me other hops work network apart = answered work.idle where
+  answered : (idles : Bool) → IsApart origin circuit network (cond idles (idle network) (absorb me other hops work network))
+  answered true = record { left = refl; under_way = refl }
+  answered false = absorb_apart origin circuit me other hops work network apart
+
+entering_apart : (origin : ℕ) (circuit at : CircuitId) (octets : List ℕ) (row : CircuitPlan) (work : Work) (network : NetworkState) → nat_eq (next_origin network) origin ≡ false → IsApart origin circuit network (entering network at octets row work)
+unfolding with_frame
+entering_apart origin circuit at octets row work network apart =
+    let same = absorb_apart origin circuit row.edge (next_origin network) 0 work (with_frame network) apart in
+    record { left = same.left; under_way = same.under_way }
+
+-- an event's own count of frames
+entering_counts : (at : CircuitId) (octets : List ℕ) (row : CircuitPlan) (work : Work) (network : NetworkState) → (entering network at octets row work).state.entered ≡ network.entered + 1
+unfolding with_edge with_frame
+entering_counts at octets row work network = (all_keep row.edge (next_origin network) 0 work.effects (with_edge row.edge work.edge (with_frame network))).entered
+
+frame_apart : (plan : Plan) (origin : ℕ) (circuit at : CircuitId) (octets : List ℕ) (row : Option CircuitPlan) (network : NetworkState)
+    → (network.entered + 1 ≡ origin → (frame_event plan at octets row network).state.entered ≡ network.entered + 1 → ⊥)
+    → IsApart origin circuit network (frame_event plan at octets row network)
+frame_apart plan origin circuit at octets None network apart = record { left = refl; under_way = refl }
+frame_apart plan origin circuit at octets (Some row) network apart = taken (frame_work plan network at octets row).idle apart where
+  taken : (idles : Bool)
+      → (network.entered + 1 ≡ origin → (cond idles (idle network) (entering network at octets row (frame_work plan network at octets row))).state.entered ≡ network.entered + 1 → ⊥)
+      → IsApart origin circuit network (cond idles (idle network) (entering network at octets row (frame_work plan network at octets row)))
+  taken true apart = record { left = refl; under_way = refl }
+  taken false apart =
+      entering_apart origin circuit at octets row (frame_work plan network at octets row) network
+      (ne_eqb (network.entered + 1) origin (λ same. apart same (entering_counts at octets row (frame_work plan network at octets row) network)))
+
+circuit_apart : (plan : Plan) (origin : ℕ) (circuit at : CircuitId) (on : Bool) (row : Option CircuitPlan) (network : NetworkState) → nat_eq 0 origin ≡ false → IsApart origin circuit network (circuit_event plan at on row network)
+circuit_apart plan origin circuit at on None network apart = record { left = refl; under_way = refl }
+circuit_apart plan origin circuit at on (Some row) network apart = answer_apart origin circuit row.edge 0 0 (circuit_input plan at on (Some row) (begin_at network row.edge)) network apart
+
+-- one step after another
+apart_then : (origin : ℕ) (circuit : CircuitId) (network : NetworkState) (first next : Stepped) → IsApart origin circuit network first → IsApart origin circuit first.state next
+    → IsApart origin circuit network (record { state = next.state; entries = first.entries ++ next.entries })
+apart_then origin circuit network first next here later = record {
+  left = omega (arith, times_left-append origin circuit first.entries next.entries, here.left, later.left);
+  under_way = later.under_way ∙ here.under_way;
+}
+
+ticks_apart : (plan : Plan) (origin : ℕ) (circuit : CircuitId) (place count : ℕ) (network : NetworkState) → nat_eq 0 origin ≡ false → IsApart origin circuit network (ticks_from plan place count network)
+ticks_apart plan origin circuit place zero network apart = record { left = refl; under_way = refl }
+ticks_apart plan origin circuit place (suc count) network apart =
+    let me : EdgeId = record { 0 = place } in
+    let first : Stepped = tick_at plan me network in
+    apart_then origin circuit network first (ticks_from plan (place + 1) count first.state)
+    (absorb_apart origin circuit me 0 0 (tick_input plan (begin_at network me)) network apart) (ticks_apart plan origin circuit (place + 1) count first.state apart)
+
+step_apart : (plan : Plan) (origin : ℕ) (circuit : CircuitId) (network : NetworkState) (event : Event)
+    → 0 < origin → (network.entered + 1 ≡ origin → (step plan network event).state.entered ≡ network.entered + 1 → ⊥) → IsApart origin circuit network (step plan network event)
+step_apart plan origin circuit network Tick some apart =
+    let same = ticks_apart plan origin circuit 0 (length plan.edges) network (ne_eqb 0 origin (λ e. absurd (omega arith))) in
+    record { left = same.left; under_way = same.under_way }
+step_apart plan origin circuit network (Frame at octets) some apart =
+    let same = frame_apart plan origin circuit at octets (circuit_row plan at) network apart in
+    record { left = same.left; under_way = same.under_way }
+step_apart plan origin circuit network (Circuit at on) some apart =
+    let same = circuit_apart plan origin circuit at on (circuit_row plan at) network (ne_eqb 0 origin (λ e. absurd (omega arith))) in
+    record { left = same.left; under_way = same.under_way }
+step_apart plan origin circuit network event some apart = record { left = refl; under_way = refl }
+
+-- the count of frames never falls
+frame_counts : (plan : Plan) (at : CircuitId) (octets : List ℕ) (row : Option CircuitPlan) (network : NetworkState) → network.entered ≤ (frame_event plan at octets row network).state.entered
+frame_counts plan at octets None network = omega arith
+frame_counts plan at octets (Some row) network = taken (frame_work plan network at octets row).idle where
+  taken : (idles : Bool) → network.entered ≤ (cond idles (idle network) (entering network at octets row (frame_work plan network at octets row))).state.entered
+  taken true = omega arith
+  taken false = omega (arith, entering_counts at octets row (frame_work plan network at octets row) network)
+
+absorb_counts : (me : EdgeId) (origin hops : ℕ) (work : Work) (network : NetworkState) → (absorb me origin hops work network).state.entered ≡ network.entered
+unfolding with_edge
+absorb_counts me origin hops work network = (all_keep me origin hops work.effects (with_edge me work.edge network)).entered
+
+answer_counts : (me : EdgeId) (origin hops : ℕ) (work : Work) (network : NetworkState) → (answer me origin hops work network).state.entered ≡ network.entered
+answer_counts me origin hops work network = answered work.idle where
+  answered : (idles : Bool) → (cond idles (idle network) (absorb me origin hops work network)).state.entered ≡ network.entered
+  answered true = refl
+  answered false = absorb_counts me origin hops work network
+
+circuit_counts : (plan : Plan) (at : CircuitId) (on : Bool) (row : Option CircuitPlan) (network : NetworkState) → (circuit_event plan at on row network).state.entered ≡ network.entered
+circuit_counts plan at on None network = refl
+circuit_counts plan at on (Some row) network = answer_counts row.edge 0 0 (circuit_input plan at on (Some row) (begin_at network row.edge)) network
+
+ticks_count : (plan : Plan) (place count : ℕ) (network : NetworkState) → (ticks_from plan place count network).state.entered ≡ network.entered
+ticks_count plan place zero network = refl
+ticks_count plan place (suc count) network =
+    let me : EdgeId = record { 0 = place } in
+    ticks_count plan (place + 1) count (tick_at plan me network).state ∙ absorb_counts me 0 0 (tick_input plan (begin_at network me)) network
+
+pub step_counts : (plan : Plan) (network : NetworkState) (event : Event) → network.entered ≤ (step plan network event).state.entered
+step_counts plan network Tick = omega (arith, ticks_count plan 0 (length plan.edges) network)
+step_counts plan network (Frame at octets) = frame_counts plan at octets (circuit_row plan at) network
+step_counts plan network (Circuit at on) = omega (arith, circuit_counts plan at on (circuit_row plan at) network)
+step_counts plan network event = omega arith
+
+counts_rise : (plan : Plan) (network : NetworkState) (events : List Event) → network.entered ≤ (state_after plan network events).entered
+counts_rise plan network [] = omega arith
+counts_rise plan network (e ∷ es) = omega (arith, step_counts plan network e, counts_rise plan (step plan network e).state es)
+
+-- events of a run as one step
+abbrev pub along : Plan → NetworkState → List Event → Stepped
+along plan network events = record { state = state_after plan network events; entries = entries_along plan network events }
+
+-- before a frame enters
+pub apart_before : (plan : Plan) (origin : ℕ) (circuit : CircuitId) (network : NetworkState) (events : List Event) → (state_after plan network events).entered < origin → IsApart origin circuit network (along plan network events)
+apart_before plan origin circuit network [] later = record { left = refl; under_way = refl }
+apart_before plan origin circuit network (e ∷ es) later =
+    let first : Stepped = step plan network e in
+    let rise = counts_rise plan first.state es in
+    apart_then origin circuit network first (along plan first.state es)
+    (step_apart plan origin circuit network e (omega arith) (λ same entered. omega arith)) (apart_before plan origin circuit first.state es later)
+
+-- after it entered, as long as its copies stay where they are
+later_apart : (plan : Plan) (origin : ℕ) (circuit : CircuitId) (network : NetworkState) (event : Event) → 0 < origin → origin ≤ network.entered → IsApart origin circuit network (step plan network event)
+later_apart plan origin circuit network event some entered = step_apart plan origin circuit network event some (λ same count. omega arith)
+
+-- once no copy of the frame is under way, none comes back, and nothing more is told of it
+pub apart_after : (plan : Plan) (origin : ℕ) (circuit : CircuitId) (network : NetworkState) (events : List Event) → 0 < origin → origin ≤ network.entered → of_origin origin network.under_way ≡ [] → IsApart origin circuit network (along plan network events)
+apart_after plan origin circuit network [] some entered none = record { left = refl; under_way = refl }
+apart_after plan origin circuit network (e ∷ es) some entered none =
+    let first : Stepped = step plan network e in
+    let here = later_apart plan origin circuit network e some entered in
+    apart_then origin circuit network first (along plan first.state es) here
+    (apart_after plan origin circuit first.state es some (omega (arith, step_counts plan network e)) (here.under_way ∙ none))
+
+-- an event of a window: what it tells of the frame, and what is due after it, were due before it
+window_step : (plan : Plan) (calm : NetworkState) (service : ServiceId) (circuit : CircuitId) (origin : ℕ) (network : NetworkState) (event : Event)
+    → 0 < origin → origin ≤ network.entered → spares network origin event ≡ true
+    → times_left origin circuit (step plan network event).entries + due plan calm service circuit origin (step plan network event).state ≡ due plan calm service circuit origin network
+window_step plan calm service circuit origin network event some entered spared =
+    let same = later_apart plan origin circuit network event some entered in
+    omega (arith, same.left, ap (awaited plan calm service circuit) same.under_way)
+
+-- of a window's events: what was told, and what is due at its end, were due at its beginning
+pub window_due : (plan : Plan) (calm : NetworkState) (service : ServiceId) (circuit : CircuitId) (origin : ℕ) (network : NetworkState) (events : List Event)
+    → 0 < origin → origin ≤ network.entered → all_spare plan origin network events ≡ true
+    → times_left origin circuit (entries_along plan network events) + due plan calm service circuit origin (state_after plan network events) ≡ due plan calm service circuit origin network
+window_due plan calm service circuit origin network [] some entered spared = omega arith
+window_due plan calm service circuit origin network (e ∷ es) some entered spared =
+    let next : NetworkState = (step plan network e).state in
+    let here = window_step plan calm service circuit origin network e some entered (and_left (spares network origin e) (all_spare plan origin next es) spared) in
+    let later = window_due plan calm service circuit origin next es some (omega (arith, step_counts plan network e)) (and_right (spares network origin e) (all_spare plan origin next es) spared) in
+    omega (arith, times_left-append origin circuit (step plan network e).entries (entries_along plan next es), here, later)
+
+-- ---- what leaves has passed no segment, since no packet arrives yet
+
+frame_within : (plan : Plan) (number : ℕ) (at : CircuitId) (octets : List ℕ) (row : Option CircuitPlan) (network : NetworkState) → LeftWithin number (frame_event plan at octets row network).entries
+frame_within plan number at octets None network = tt
+frame_within plan number at octets (Some row) network = taken (frame_work plan network at octets row).idle where
+  taken : (idles : Bool) → LeftWithin number (cond idles (idle network) (entering network at octets row (frame_work plan network at octets row))).entries
+  taken true = tt
+  taken false =
+      let work : Work = frame_work plan network at octets row in
+      own_within number row.edge (next_origin network) work.effects (with_edge row.edge work.edge (with_frame network))
+
+answer_within : (number : ℕ) (me : EdgeId) (origin : ℕ) (work : Work) (network : NetworkState) → LeftWithin number (answer me origin 0 work network).entries
+answer_within number me origin work network = answered work.idle where
+  answered : (idles : Bool) → LeftWithin number (cond idles (idle network) (absorb me origin 0 work network)).entries
+  answered true = tt
+  answered false = own_within number me origin work.effects (with_edge me work.edge network)
+
+circuit_within : (plan : Plan) (number : ℕ) (at : CircuitId) (on : Bool) (row : Option CircuitPlan) (network : NetworkState) → LeftWithin number (circuit_event plan at on row network).entries
+circuit_within plan number at on None network = tt
+circuit_within plan number at on (Some row) network = answer_within number row.edge 0 (circuit_input plan at on (Some row) (begin_at network row.edge)) network
+
+ticks_within : (plan : Plan) (number place count : ℕ) (network : NetworkState) → LeftWithin number (ticks_from plan place count network).entries
+ticks_within plan number place zero network = tt
+ticks_within plan number place (suc count) network =
+    let me : EdgeId = record { 0 = place } in
+    let first : Stepped = tick_at plan me network in
+    let work : Work = tick_input plan (begin_at network me) in
+    within-append number first.entries (ticks_from plan (place + 1) count first.state).entries (own_within number me 0 work.effects (with_edge me work.edge network)) (ticks_within plan number (place + 1) count first.state)
+
+step_within : (plan : Plan) (number : ℕ) (network : NetworkState) (event : Event) → LeftWithin number (step plan network event).entries
+step_within plan number network Tick = ticks_within plan number 0 (length plan.edges) network
+step_within plan number network (Frame at octets) = frame_within plan number at octets (circuit_row plan at) network
+step_within plan number network (Circuit at on) = circuit_within plan number at on (circuit_row plan at) network
+step_within plan number network event = tt
+
+pub along_within : (plan : Plan) (number : ℕ) (network : NetworkState) (events : List Event) → LeftWithin number (entries_along plan network events)
+along_within plan number network [] = tt
+along_within plan number network (e ∷ es) =
+    within-append number (step plan network e).entries (entries_along plan (step plan network e).state es) (step_within plan number network e) (along_within plan number (step plan network e).state es)

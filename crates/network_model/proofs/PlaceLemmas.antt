@@ -1,0 +1,151 @@
+-- In every state of a run the edge at a place is the edge of that place.
+use Rattle.std.proofs.Common.{◌≡◌, ◌+◌, ◌&&◌, ◌∙◌, ℕ, zero, suc, Bool, true, false, List, [], ◌∷◌, Option, Some, None, Result, Ok, Err, cond, refl, ap, sym, not, nat_eq, length, inl, inr}
+use Rattle.std.proofs.lemmas.Bool.{cases_Bool, eqb-true}
+use Rattle.net_base.specs.declared.plan.Plan.{Plan}
+use Rattle.net_base.specs.declared.plan.circuit_plan.CircuitPlan.{CircuitPlan}
+use Rattle.net_base.specs.declared.plan.places.CircuitId.{CircuitId}
+use Rattle.net_base.specs.declared.plan.places.EdgeId.{EdgeId}
+use Rattle.net_base.specs.declared.plan.places.ServiceId.{ServiceId}
+use Rattle.net_base.specs.declared.trace.drop_cause.DropCause.{DropCause}
+use Rattle.net_base.specs.declared.trace.event.Event.{Event}
+use Rattle.net_base.specs.declared.trace.event.Event.TheVariants.{Tick, Frame, Circuit}
+use Rattle.net_base.specs.plan.Places.{circuit_row}
+use Rattle.net_base.specs.trace.Isolated.{inner_at}
+use Rattle.hvpls_spokes.specs.declared.port.Port.{Port}
+use Rattle.hvpls_spokes.specs.declared.port.Port.TheVariants as port
+use Rattle.hvpls_spokes.specs.Port.{ports_of}
+use Rattle.edge_model.specs.Circuit.{circuit_input, is_same, turned}
+use Rattle.edge_model.specs.Frame.{copies, copy_by, forwarded, frame_input, hearing, is_own, port_at, received, targets_of}
+use Rattle.edge_model.specs.State.{EdgeState, is_on, with_addresses, with_circuit, with_learned, with_ticks}
+use Rattle.edge_model.specs.Tick.{tick_input}
+use Rattle.edge_model.specs.Work.{Work, Answers, changes, gives, idles}
+use Rattle.network_model.specs.Absorb.{absorb, answer, begin_at, idle, taken_all}
+use Rattle.network_model.specs.Circuit.{circuit_event}
+use Rattle.network_model.specs.Frame.{entering, frame_event, frame_work, next_origin}
+use Rattle.network_model.specs.Run.{state_after}
+use Rattle.network_model.specs.State.{NetworkState, at_edge, empty_network, with_edge, with_frame}
+use Rattle.network_model.specs.Step.{step}
+use Rattle.network_model.specs.Tick.{tick_at, tick_event, ticks_from}
+use Rattle.network_model.proofs.AbsorbLemmas.{all_keep}
+
+-- the work has the same edge, and applies where it did
+pub record IsSameEdge (old new : Work) : Type 0 where
+  pub edge : new.edge ≡ old.edge
+  pub idle : new.idle ≡ old.idle
+
+copy_same : (plan : Plan) (told : Answers) (frame : List ℕ) (x : Port) (b : Bool) (work : Work) → IsSameEdge work (cond b (copy_by plan told frame x work) work)
+unfolding gives
+copy_same plan told frame x false work = record { edge = refl; idle = refl }
+copy_same plan told frame (port.Circuit at) true work = record { edge = refl; idle = refl }
+copy_same plan told frame (port.Mesh wire) true work = record { edge = refl; idle = refl }
+copy_same plan told frame (port.Spoke wire) true work = record { edge = refl; idle = refl }
+
+copies_same : (plan : Plan) (told : Answers) (frame : List ℕ) (targets : ℕ → Bool) (p : ℕ) (ports : List Port) (work : Work) → IsSameEdge work (copies targets (copy_by plan told frame) p ports work)
+copies_same plan told frame targets p [] work = record { edge = refl; idle = refl }
+copies_same plan told frame targets p (x ∷ ports) work =
+    let here = copy_same plan told frame x (targets p) work in
+    let later = copies_same plan told frame targets (p + 1) ports (cond (targets p) (copy_by plan told frame x work) work) in
+    record { edge = later.edge ∙ here.edge; idle = later.idle ∙ here.idle }
+
+-- the work is that of the same place, and applies where it did
+pub record IsSamePlace (old new : Work) : Type 0 where
+  pub me : new.edge.me ≡ old.edge.me
+  pub idle : new.idle ≡ old.idle
+
+forwarded_same : (plan : Plan) (told : Answers) (service : ServiceId) (frame : List ℕ) (arrival : Option ℕ) (work : Work) → IsSamePlace work (forwarded plan told service frame arrival work)
+unfolding changes with_addresses
+forwarded_same plan told service frame None work = record { me = refl; idle = refl }
+forwarded_same plan told service frame (Some arrival) work =
+    let heard : Work = changes (hearing service frame arrival) work in
+    let ports : List Port = ports_of plan service heard.edge.me in
+    let same = copies_same plan told frame (targets_of plan heard.edge service ports frame arrival) 0 ports heard in
+    record { me = ap (λ (e : EdgeState). e.me) same.edge; idle = same.idle }
+
+pub received_same : (plan : Plan) (told : Answers) (service : ServiceId) (arrival : Option ℕ) (read : Result (List ℕ) DropCause) (work : Work) → IsSamePlace work (received plan told service arrival read work)
+unfolding gives
+received_same plan told service arrival (Ok frame) work = forwarded_same plan told service frame arrival work
+received_same plan told service arrival (Err cause) work = record { me = refl; idle = refl }
+
+frame_me : (plan : Plan) (told : Answers) (circuit : CircuitId) (octets : List ℕ) (row : CircuitPlan) (work : Work) → (frame_input plan told circuit octets (Some row) work).edge.me ≡ work.edge.me
+unfolding idles
+frame_me plan told circuit octets row work = taken (is_own work.edge row && is_on work.edge circuit) where
+  taken : (b : Bool) → (cond b (received plan told row.service (port_at plan work.edge circuit row) (inner_at plan circuit octets) work) (idles work)).edge.me ≡ work.edge.me
+  taken true = (received_same plan told row.service (port_at plan work.edge circuit row) (inner_at plan circuit octets) work).me
+  taken false = refl
+
+turned_me : (plan : Plan) (circuit : CircuitId) (row : CircuitPlan) (on : Bool) (edge : EdgeState) → (turned plan circuit row on edge).me ≡ edge.me
+unfolding with_addresses with_circuit
+turned_me plan circuit row true edge = refl
+turned_me plan circuit row false edge = refl
+
+circuit_me : (plan : Plan) (circuit : CircuitId) (on : Bool) (row : CircuitPlan) (work : Work) → (circuit_input plan circuit on (Some row) work).edge.me ≡ work.edge.me
+unfolding changes idles
+circuit_me plan circuit on row work = taken (is_own work.edge row && not (is_same on (is_on work.edge circuit))) where
+  taken : (b : Bool) → (cond b (changes (turned plan circuit row on) work) (idles work)).edge.me ≡ work.edge.me
+  taken true = turned_me plan circuit row on work.edge
+  taken false = refl
+
+tick_me : (plan : Plan) (work : Work) → (tick_input plan work).edge.me ≡ work.edge.me
+unfolding changes with_learned with_ticks
+tick_me plan work = refl
+
+-- each edge of the network has its own place
+pub record IsPlaced (network : NetworkState) : Type 0 where
+  pub me : (k : ℕ) → (network.edges k).me ≡ record { 0 = k }
+
+-- one edge's work keeps the places
+absorb_placed : (me : EdgeId) (origin hops : ℕ) (work : Work) (network : NetworkState) → IsPlaced network → work.edge.me ≡ (at_edge network me).me → IsPlaced (absorb me origin hops work network).state
+unfolding with_edge
+absorb_placed me origin hops work network placed same = record {
+  me = λ k.
+      ap (λ (edges : ℕ → EdgeState). (edges k).me) (all_keep me origin hops work.effects (with_edge me work.edge network)).edges
+      ∙ elim (cases_Bool (nat_eq k me.0)) [
+        | inl here ↦ rw here (same ∙ (placed.me me.0 ∙ ap (λ (n : ℕ). record { 0 = n }) (sym (eqb-true k me.0 here))))
+        | inr away ↦ rw away (placed.me k)
+      ];
+}
+
+answer_placed : (me : EdgeId) (origin hops : ℕ) (work : Work) (network : NetworkState) → IsPlaced network → work.edge.me ≡ (at_edge network me).me → IsPlaced (answer me origin hops work network).state
+answer_placed me origin hops work network placed same = answered work.idle where
+  answered : (idles : Bool) → IsPlaced (cond idles (idle network) (absorb me origin hops work network)).state
+  answered true = placed
+  answered false = absorb_placed me origin hops work network placed same
+
+entered_placed : (network : NetworkState) → IsPlaced network → IsPlaced (with_frame network)
+unfolding with_frame
+entered_placed network placed = record { me = placed.me }
+
+frame_placed : (plan : Plan) (network : NetworkState) (circuit : CircuitId) (octets : List ℕ) (row : Option CircuitPlan) → IsPlaced network → IsPlaced (frame_event plan circuit octets row network).state
+unfolding with_frame
+frame_placed plan network circuit octets None placed = placed
+frame_placed plan network circuit octets (Some row) placed = taken (frame_work plan network circuit octets row).idle where
+  taken : (idles : Bool) → IsPlaced (cond idles (idle network) (entering network circuit octets row (frame_work plan network circuit octets row))).state
+  taken true = placed
+  taken false =
+      absorb_placed row.edge (next_origin network) 0 (frame_work plan network circuit octets row) (with_frame network) (entered_placed network placed)
+      (frame_me plan taken_all circuit octets row (begin_at network row.edge))
+
+circuit_placed : (plan : Plan) (network : NetworkState) (circuit : CircuitId) (on : Bool) (row : Option CircuitPlan) → IsPlaced network → IsPlaced (circuit_event plan circuit on row network).state
+circuit_placed plan network circuit on None placed = placed
+circuit_placed plan network circuit on (Some row) placed =
+    answer_placed row.edge 0 0 (circuit_input plan circuit on (Some row) (begin_at network row.edge)) network placed (circuit_me plan circuit on row (begin_at network row.edge))
+
+ticks_placed : (plan : Plan) (place count : ℕ) (network : NetworkState) → IsPlaced network → IsPlaced (ticks_from plan place count network).state
+ticks_placed plan place zero network placed = placed
+ticks_placed plan place (suc count) network placed =
+    let me : EdgeId = record { 0 = place } in
+    ticks_placed plan (place + 1) count (tick_at plan me network).state
+    (absorb_placed me 0 0 (tick_input plan (begin_at network me)) network placed (tick_me plan (begin_at network me)))
+
+step_placed : (plan : Plan) (network : NetworkState) (event : Event) → IsPlaced network → IsPlaced (step plan network event).state
+step_placed plan network Tick placed = ticks_placed plan 0 (length plan.edges) network placed
+step_placed plan network (Frame circuit octets) placed = frame_placed plan network circuit octets (circuit_row plan circuit) placed
+step_placed plan network (Circuit circuit on) placed = circuit_placed plan network circuit on (circuit_row plan circuit) placed
+step_placed plan network event placed = placed
+
+after_placed : (plan : Plan) (network : NetworkState) (events : List Event) → IsPlaced network → IsPlaced (state_after plan network events)
+after_placed plan network [] placed = placed
+after_placed plan network (e ∷ es) placed = after_placed plan (step plan network e).state es (step_placed plan network e placed)
+
+pub run_placed : (plan : Plan) (events : List Event) → IsPlaced (state_after plan empty_network events)
+run_placed plan events = after_placed plan empty_network events (record { me = λ k. refl })
