@@ -1,8 +1,7 @@
 -- Customers stay apart in every run.
-use Rattle.std.proofs.Common.{◌≡◌, ◌++◌, ◌+◌, ◌&&◌, ◌∙◌, ℕ, Bool, true, false, List, [], ◌∷◌, Option, Some, None, Result, Ok, Err, cond, refl, inl, inr, ap, sym, option_map, option_and_then}
+use Rattle.std.proofs.Common.{◌≡◌, ◌++◌, ◌∙◌, ℕ, Bool, true, false, List, [], ◌∷◌, Option, Some, None, Ok, cond, refl, inl, inr, ap, sym, option_map, option_and_then}
 use Rattle.net_base.specs.declared.plan.Plan.{Plan}
 use Rattle.net_base.specs.declared.plan.circuit_plan.CircuitPlan.{CircuitPlan}
-use Rattle.net_base.specs.declared.trace.drop_cause.DropCause.{DropCause}
 use Rattle.net_base.specs.declared.trace.entry.Entry.{Entry}
 use Rattle.net_base.specs.declared.trace.entry.Entry.TheVariants.{Did, In}
 use Rattle.net_base.specs.declared.trace.event.Event.{Event}
@@ -21,11 +20,11 @@ use Rattle.edge_model.specs.declared.effect.Effect.TheVariants as effect
 use Rattle.edge_model.specs.Frame.{tag_of}
 use Rattle.edge_model.specs.Local.{LeavesBeside, AllStayBeside}
 use Rattle.edge_model.proofs.LocalLemmas.{input_stays}
-use Rattle.network_model.specs.Absorb.{Stepped, absorb_one, all_entries_of, begin_at, idle, taken_all}
+use Rattle.network_model.specs.Absorb.{absorb_one, all_entries_of, idle, taken_all}
 use Rattle.network_model.specs.Frame.{entering, frame_event, frame_work, next_origin}
 use Rattle.network_model.specs.Laws.{RunsAreIsolated}
 use Rattle.network_model.specs.Run.{entries_along}
-use Rattle.network_model.specs.State.{NetworkState, at_edge, empty_network, with_edge, with_frame}
+use Rattle.network_model.specs.State.{NetworkState, at_edge, empty_network}
 use Rattle.network_model.specs.Step.{step}
 use Rattle.network_model.proofs.PlanLemmas.{circuit_of, vlan_of}
 use Rattle.network_model.proofs.QuietLemmas.{Tells, circuit_tells, tick_tells}

@@ -1,5 +1,5 @@
 -- What the step of a frame to a known station tells of the frame is one copy at most.
-use Rattle.std.proofs.Common.{◌≡◌, ◌≤◌, ◌+◌, ◌++◌, ◌&&◌, ◌||◌, ◌∙◌, ℕ, Bool, true, false, List, [], ◌∷◌, Option, Some, None, Result, Ok, cond, refl, ap, sym, subst, nat_eq, nat_le, zero-add, arith}
+use Rattle.std.proofs.Common.{◌≡◌, ◌≤◌, ◌+◌, ◌++◌, ◌&&◌, ◌||◌, ℕ, Bool, true, false, List, [], ◌∷◌, Option, Some, None, Result, Ok, cond, sym, subst, nat_eq, nat_le, zero-add, arith}
 use Rattle.std.proofs.lemmas.Bool.Decides.{nat_tests}
 use Rattle.net_base.specs.declared.plan.Plan.{Plan}
 use Rattle.net_base.specs.declared.plan.circuit_plan.CircuitPlan.{CircuitPlan}
@@ -7,8 +7,6 @@ use Rattle.net_base.specs.declared.plan.places.CircuitId.{CircuitId}
 use Rattle.net_base.specs.declared.plan.places.EdgeId.{EdgeId}
 use Rattle.net_base.specs.declared.plan.places.ServiceId.{ServiceId}
 use Rattle.net_base.specs.declared.trace.drop_cause.DropCause.{DropCause}
-use Rattle.net_base.specs.declared.trace.event.Event.TheVariants.{Frame}
-use Rattle.net_base.specs.plan.Places.{circuit_row}
 use Rattle.net_base.specs.trace.Isolated.{inner_at}
 use Rattle.net_base.specs.values.Frame.{dress}
 use Rattle.hvpls_spokes.specs.declared.port.Port.{Port}
@@ -18,8 +16,8 @@ use Rattle.hvpls_spokes.specs.Port.{ports_of}
 use Rattle.vsi_bridge.specs.Targets.{is_target, known_port}
 use Rattle.edge_model.specs.declared.effect.Effect.{Effect}
 use Rattle.edge_model.specs.declared.effect.Effect.TheVariants as effect
-use Rattle.edge_model.specs.Frame.{bridged, copies, copy_by, destination, forwarded, frame_input, hearing, is_own, port_at, port_forwards, received, tag_of}
-use Rattle.edge_model.specs.State.{EdgeState, addresses_of, is_on, with_addresses}
+use Rattle.edge_model.specs.Frame.{bridged, copies, copy_by, destination, forwarded, hearing, is_own, port_at, port_forwards, received, tag_of}
+use Rattle.edge_model.specs.State.{addresses_of, is_on}
 use Rattle.edge_model.specs.Work.{Work, Answers, changes, gives, idles}
 use Rattle.network_model.specs.Absorb.{absorb_one, all_entries_of, begin_at, idle, taken_all}
 use Rattle.network_model.specs.Frame.{entering, frame_event, frame_work, next_origin}
@@ -27,7 +25,6 @@ use Rattle.network_model.specs.KnownOnce.{known_after, known_to, times_out}
 use Rattle.network_model.specs.Laws.{RunsServeKnownOnce}
 use Rattle.network_model.specs.Run.{state_after}
 use Rattle.network_model.specs.State.{NetworkState, at_edge, empty_network, with_edge, with_frame}
-use Rattle.network_model.specs.Step.{step}
 
 -- how many copies of a frame an edge gives out
 outs : List Effect → ℕ

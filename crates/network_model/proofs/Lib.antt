@@ -3,6 +3,7 @@ pub mod CalmLemmas
 pub mod FloodLemmas
 pub mod IsolatedLemmas
 pub mod KnownLemmas
+pub mod OnceLemmas
 pub mod OtherLemmas
 pub mod PlaceLemmas
 pub mod PlanLemmas

@@ -1,5 +1,5 @@
 -- Steps in which a frame does not enter: they tell nothing of it, and leave its copies under way.
-use Rattle.std.proofs.Common.{◌≡◌, ◌<◌, ◌≤◌, ◌+◌, ◌++◌, ◌&&◌, ◌∙◌, ℕ, zero, suc, Bool, true, false, List, [], ◌∷◌, Option, Some, None, cond, refl, ap, sym, not, nat_eq, length, arith}
+use Rattle.std.proofs.Common.{◌≡◌, ◌<◌, ◌≤◌, ◌+◌, ◌++◌, ◌∙◌, ℕ, zero, suc, Bool, true, false, List, [], ◌∷◌, Option, Some, None, cond, refl, ap, nat_eq, length, arith}
 use Rattle.std.proofs.lemmas.Bool.{ne_eqb}
 use Rattle.net_base.specs.declared.plan.Plan.{Plan}
 use Rattle.net_base.specs.declared.plan.circuit_plan.CircuitPlan.{CircuitPlan}
@@ -20,7 +20,7 @@ use Rattle.network_model.specs.OnceEach.{LeftWithin, times_left}
 use Rattle.network_model.specs.Run.{entries_along, state_after}
 use Rattle.network_model.specs.State.{NetworkState, with_edge, with_frame}
 use Rattle.network_model.specs.Step.{step}
-use Rattle.network_model.specs.Tick.{tick_at, tick_event, ticks_from}
+use Rattle.network_model.specs.Tick.{tick_at, ticks_from}
 use Rattle.network_model.specs.Window.{all_spare, spares}
 use Rattle.network_model.proofs.AbsorbLemmas.{all_keep, all_leave, awaited, due, of_origin, others_tell, own_within, times_left-append, within-append}
 
@@ -49,7 +49,7 @@ entering_apart origin circuit at octets row work network apart =
     record { left = same.left; under_way = same.under_way }
 
 -- an event's own count of frames
-entering_counts : (at : CircuitId) (octets : List ℕ) (row : CircuitPlan) (work : Work) (network : NetworkState) → (entering network at octets row work).state.entered ≡ network.entered + 1
+pub entering_counts : (at : CircuitId) (octets : List ℕ) (row : CircuitPlan) (work : Work) (network : NetworkState) → (entering network at octets row work).state.entered ≡ network.entered + 1
 unfolding with_edge with_frame
 entering_counts at octets row work network = (all_keep row.edge (next_origin network) 0 work.effects (with_edge row.edge work.edge (with_frame network))).entered
 
@@ -133,7 +133,7 @@ step_counts plan network (Frame at octets) = frame_counts plan at octets (circui
 step_counts plan network (Circuit at on) = omega (arith, circuit_counts plan at on (circuit_row plan at) network)
 step_counts plan network event = omega arith
 
-counts_rise : (plan : Plan) (network : NetworkState) (events : List Event) → network.entered ≤ (state_after plan network events).entered
+pub counts_rise : (plan : Plan) (network : NetworkState) (events : List Event) → network.entered ≤ (state_after plan network events).entered
 counts_rise plan network [] = omega arith
 counts_rise plan network (e ∷ es) = omega (arith, step_counts plan network e, counts_rise plan (step plan network e).state es)
 

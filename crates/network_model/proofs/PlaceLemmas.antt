@@ -25,7 +25,7 @@ use Rattle.network_model.specs.Frame.{entering, frame_event, frame_work, next_or
 use Rattle.network_model.specs.Run.{state_after}
 use Rattle.network_model.specs.State.{NetworkState, at_edge, empty_network, with_edge, with_frame}
 use Rattle.network_model.specs.Step.{step}
-use Rattle.network_model.specs.Tick.{tick_at, tick_event, ticks_from}
+use Rattle.network_model.specs.Tick.{tick_at, ticks_from}
 use Rattle.network_model.proofs.AbsorbLemmas.{all_keep}
 
 -- the work has the same edge, and applies where it did
