@@ -1,0 +1,4 @@
+pub mod EmptyLemmas
+pub mod PacketLemmas
+pub mod PipeLemmas
+pub mod WeightLemmas
