@@ -1,1 +1,2 @@
 pub mod LocalLemmas
+pub mod StillLemmas

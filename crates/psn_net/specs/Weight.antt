@@ -46,6 +46,10 @@ pub record IsCounted (trace : List Entry) (weight events : ℕ) : Type 0 where
   pub weighs : weight ≡ weight_of trace
   pub counts : events ≡ min (events_in trace) (2 ^ 64 - 1)
 
--- the limit that stops the next event, where there is one: its number is one more than that of the last
+-- the number of the event after those of a trace, counted up to 2^64 - 1
+abbrev pub next_event : List Entry → ℕ
+next_event trace = min (events_in trace + 1) (2 ^ 64 - 1)
+
+-- the limit that stops the next event, where there is one
 unfoldable pub stop_at : List Entry → Option NetStop
-stop_at trace = if nat_lt most_weight (weight_of trace) then Some (TooMuch (weight_of trace) (events_in trace + 1)) else None
+stop_at trace = if nat_lt most_weight (weight_of trace) then Some (TooMuch (weight_of trace) (next_event trace)) else None

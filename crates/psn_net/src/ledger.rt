@@ -1,6 +1,6 @@
 //! The trace of a run as it is written.
-ghost use Rattle.std.specs.Prelude.{◌≡◌, ◌<◌, ◌≤◌, ◌+◌, ◌++◌, ◌∷◌, ◌^◌, [], length, min, OnErr, OnOk};
-ghost use Rattle.psn_net.specs.Weight.{weight_of, events_in, entry_weight, most_weight};
+ghost use Rattle.std.specs.Prelude.{◌≡◌, ◌<◌, ◌≤◌, ◌+◌, ◌++◌, ◌∷◌, ◌^◌, ◌-◌, [], length, min, OnErr, OnOk, if◌then◌else◌};
+ghost use Rattle.psn_net.specs.Weight.{weight_of, entry_weight, is_event, next_event};
 
 use net_base::{Entry, Event, List, NoMemory, Trace};
 use std::alloc::Global;
@@ -45,12 +45,10 @@ impl Ledger {
         ensures err { OnErr result (self.new ≡ self.old) }
     {
         let weight = weight_of_entry(&entry);
-        let is_event = matches!(entry, Entry::Did { .. });
+        let events = events_of_entry(&entry);
         self.trace.push(entry)?;
         self.weight = self.weight.saturating_add(weight);
-        if is_event {
-            self.events = self.events.saturating_add(1);
-        }
+        self.events = self.events.saturating_add(events);
         Ok(())
     }
 
@@ -75,11 +73,12 @@ impl Ledger {
         self.weight
     }
 
-    /// The number of events among the entries, counted up to 2^64 - 1.
-    pub fn events(&self) -> u64
-        ensures { result ≡ min (events_in self.now) (2 ^ 64 - 1) }
+    /// The number that the next event has, counted from 1 and up to 2^64 - 1.
+    #[tactic(auto, using(crate::proofs::WeightLemmas::next_event_is))]
+    pub fn next_event(&self) -> u64
+        ensures { result ≡ next_event self.now }
     {
-        self.events
+        self.events.saturating_add(1)
     }
 }
 
@@ -88,6 +87,16 @@ fn weight_of_entry(entry: &Entry) -> u64
     ensures { result ≡ min (entry_weight entry.now) (2 ^ 64 - 1) }
 {
     (octets_in(entry) as u64).saturating_add(64)
+}
+
+// An event counts as one.
+fn events_of_entry(entry: &Entry) -> u64
+    ensures { result ≡ (if is_event entry.now then 1 else 0) }
+{
+    match entry {
+        Entry::Did { .. } => 1,
+        _ => 0,
+    }
 }
 
 // How many octets of a frame, packet or PDU an entry holds.

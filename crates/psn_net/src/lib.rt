@@ -3,9 +3,12 @@
 
 mod ledger;
 mod net_stop;
+mod network;
 mod packets;
 mod pipe;
 mod pipe_row;
 mod pipes;
+mod psn_link;
 
 pub use net_stop::NetStop;
+pub use network::Network;
