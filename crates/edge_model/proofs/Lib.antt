@@ -1,2 +1,3 @@
 mod Examples
 pub mod LocalLemmas
+pub mod StillLemmas

@@ -1,5 +1,5 @@
 -- An edge at one moment: maps from places in the plan.
-use Rattle.std.specs.Prelude.{◌==◌, ◌+◌, ◌^◌, ◌-◌, nat_lt, ℕ, Bool, true, List, [], Option, None, if◌then◌else◌}
+use Rattle.std.specs.Prelude.{◌==◌, ◌+◌, ◌^◌, ◌-◌, nat_lt, ℕ, Bool, true, false, List, [], Option, Some, None, if◌then◌else◌}
 use Rattle.net_base.specs.declared.plan.places.EdgeId.{EdgeId}
 use Rattle.net_base.specs.declared.plan.places.ServiceId.{ServiceId}
 use Rattle.net_base.specs.declared.plan.places.CircuitId.{CircuitId}
@@ -33,6 +33,14 @@ is_on edge circuit = edge.circuit_on circuit.0
 
 abbrev pub addresses_of : EdgeState → ServiceId → List MacEntry
 addresses_of edge service = edge.learned service.0
+
+abbrev pub is_there : {X : Type 0} → Option X → Bool
+is_there None = false
+is_there (Some x) = true
+
+-- the edge's end of its connection with a peer stands
+abbrev pub has_end : EdgeState → EdgeId → Bool
+has_end edge peer = is_there (edge.peering peer.0)
 
 -- a map with another value at one place
 abbrev pub put_at : {X : Type 0} → (ℕ → X) → ℕ → X → ℕ → X

@@ -2,7 +2,7 @@
 use Rattle.std.specs.Prelude.{◌++◌, ◌+◌, ℕ, Bool, true, false, List, [], ◌∷◌, Option, Some, None}
 use Rattle.net_base.specs.declared.plan.places.EdgeId.{EdgeId}
 use Rattle.net_base.specs.declared.plan.places.WireId.{WireId}
-use Rattle.edge_model.specs.State.{EdgeState, Peering, empty_edge, put_at}
+use Rattle.edge_model.specs.State.{EdgeState, Peering, empty_edge, is_there, put_at}
 use Rattle.network_model.specs.declared.packet.Packet.{Packet}
 
 -- the network
@@ -30,10 +30,6 @@ empty_network = record {
 -- the state of an edge
 abbrev pub at_edge : NetworkState → EdgeId → EdgeState
 at_edge network edge = network.edges edge.0
-
-abbrev pub is_there : {X : Type 0} → Option X → Bool
-is_there None = false
-is_there (Some x) = true
 
 -- an edge's end of its connection with a peer stands
 abbrev pub stands : NetworkState → ℕ → ℕ → Bool

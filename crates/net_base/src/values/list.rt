@@ -70,6 +70,13 @@ impl<T> List<T> {
     {
         self.items.as_slice()
     }
+
+    /// The items themselves in order, so that they move out of the list one by one.
+    pub fn into_items(self) -> Vec<T>
+        ensures { result.items ≡ self }
+    {
+        self.items
+    }
 }
 
 impl<T: Copy> List<T> {

@@ -1,0 +1,260 @@
+-- An edge's work lies in the lists as in the maps.
+use Rattle.std.proofs.Common.{◌≡◌, ◌==◌, ◌<◌, ◌+◌, ◌++◌, ◌∷◌, [], ℕ, suc, zero, Bool, true, false, List, Option, Some, None, cond, refl, ap, sym, subst, arith, length, slice_index_or, slice_set, nat_eq, append_assoc, length-append, inl, inr, ◌∙◌}
+use Rattle.std.proofs.lemmas.Bool.{cases_Bool, cases_order, eq-eqb, eqb-true}
+use Rattle.std.proofs.lemmas.Bool.Decides.{nat_tests}
+use Rattle.net_base.specs.declared.plan.places.EdgeId.{EdgeId}
+use Rattle.provider_edge.specs.Lists.{EdgeLists}
+use Rattle.provider_edge.specs.Lists as edge
+use Rattle.net_base.specs.declared.plan.circuit_plan.CircuitPlan.{CircuitPlan}
+use Rattle.net_base.specs.declared.plan.places.CircuitId.{CircuitId}
+use Rattle.net_base.specs.declared.trace.entry.Entry.{Entry}
+use Rattle.net_base.specs.declared.trace.entry.Entry.TheVariants.{Idle, In}
+use Rattle.net_base.specs.plan.Places.{circuit_row}
+use Rattle.edge_model.specs.declared.effect.Effect.{Effect}
+use Rattle.edge_model.specs.Circuit.{circuit_input}
+use Rattle.edge_model.specs.Frame.{frame_input}
+use Rattle.edge_model.specs.State.{EdgeState, empty_edge, put_at}
+use Rattle.edge_model.proofs.StillLemmas.{circuit_still, frame_still}
+use Rattle.provider_edge.specs.Said.{AllFit}
+use Rattle.network_model.specs.Circuit.{circuit_event}
+use Rattle.network_model.specs.Frame.{frame_event, next_origin}
+use Rattle.network_model.specs.State.{NetworkState, at_edge, empty_network, with_edge, with_frame}
+use Rattle.psn_net.proofs.PipeLemmas.{view_set}
+use Rattle.net_base.specs.declared.outside.link_call.LinkCall.{LinkCall}
+use Rattle.net_base.specs.declared.plan.Plan.{Plan}
+use Rattle.edge_model.specs.declared.effects.Effects.{Effects}
+use Rattle.edge_model.specs.declared.input.Input.{Input}
+use Rattle.edge_model.specs.Step.{edge_step}
+use Rattle.edge_model.specs.Work.{Work, beginning}
+use Rattle.network_model.specs.Absorb.{Stepped, absorb, absorb_all, all_entries_of, answer, begin_at, taken_all}
+use Rattle.network_model.specs.Absorb.{idle as idle_event}
+use Rattle.psn_net.specs.Lists.{AreOpen, HasDriven, HasEntered, HasStepped, NetLists, edge_lists, edge_of, no_edge, seen}
+use Rattle.psn_net.specs.Pipes.{PipeLists, no_octets}
+use Rattle.psn_net.specs.Pipes.{seen as pipes_of}
+
+pub seen_edge_set : (n : NetLists) (me : EdgeId) (now : EdgeLists) (state : EdgeState) → me.0 < length n.edges → edge.seen now ≡ state
+    → seen (record n { edges = slice_set n.edges me.0 now }) ≡ with_edge me state (seen n)
+unfolding seen with_edge
+seen_edge_set n me now state h w = λ i. record { edges = λ k. at_each k i; pipes = seen-pipes i; under_way = n.packets.list; sent = n.packets.last; entered = n.entered }
+  where
+    seen-pipes : (seen n).pipes ≡ (seen n).pipes
+    seen-pipes = refl
+
+    at_each : (k : ℕ) → edge.seen (slice_index_or (slice_set n.edges me.0 now) k (no_edge n.plan k)) ≡ put_at (λ j. edge.seen (slice_index_or n.edges j (no_edge n.plan j))) me.0 state k
+    at_each k = ap edge.seen (view_set (no_edge n.plan k) n.edges me.0 now k h) ∙ by (k == me.0)
+      where
+        by : (b : Bool) → edge.seen (cond b now (slice_index_or n.edges k (no_edge n.plan k))) ≡ cond b state (edge.seen (slice_index_or n.edges k (no_edge n.plan k)))
+        by true = w
+        by false = refl
+
+-- an edge took an input over a link that takes every call
+pub driving : (n : NetLists) (me : EdgeId) (now : EdgeLists) (calls : List LinkCall) (effects : Effects) (input : Input)
+    → me.0 < length n.edges → (edge_lists n me.0).plan ≡ n.plan
+    → edge.worked now calls effects ≡ edge_step (edge_lists n me.0).plan taken_all input (beginning (edge.seen (edge_lists n me.0)) [])
+    → HasDriven me n (record n { edges = slice_set n.edges me.0 now }) (edge_step n.plan taken_all input (begin_at (seen n) me)) effects
+unfolding edge.worked seen
+driving n me now calls effects input h planned took =
+    let same : edge.worked now calls effects ≡ edge_step n.plan taken_all input (begin_at (seen n) me) = took ∙ begins in
+    record {
+      state = seen_edge_set n me now (edge_step n.plan taken_all input (begin_at (seen n) me)).edge h (ap (λ (w : Work). w.edge) same);
+      effects_are = ap (λ (w : Work). w.effects) same;
+      idle_is = ap (λ (w : Work). w.idle) same;
+      told = refl;
+    } where
+      begins : edge_step (edge_lists n me.0).plan taken_all input (beginning (edge.seen (edge_lists n me.0)) []) ≡ edge_step n.plan taken_all input (begin_at (seen n) me)
+      begins = ap (λ (p : Plan). edge_step p taken_all input (beginning (edge.seen (edge_lists n me.0)) [])) planned
+
+
+same_default : {X : Type 0} (xs : List X) (i : ℕ) (d e : X) → i < length xs → slice_index_or xs i d ≡ slice_index_or xs i e
+same_default [] i d e below = absurd (omega arith)
+same_default (x ∷ xs) zero d e below = refl
+same_default (x ∷ xs) (suc i) d e below = same_default xs i d e (omega arith)
+
+-- the same of the edge that was looked up, over a link that had no calls
+pub driving_at : (n : NetLists) (me : EdgeId) (found now : EdgeLists) (before calls : List LinkCall) (effects : Effects) (input : Input)
+    → me.0 < length n.edges → (edge_lists n me.0).plan ≡ n.plan → found ≡ slice_index_or n.edges me.0 found → before ≡ []
+    → edge.worked now calls effects ≡ edge_step found.plan taken_all input (beginning (edge.seen found) before)
+    → HasDriven me n (record n { edges = slice_set n.edges me.0 now }) (edge_step n.plan taken_all input (begin_at (seen n) me)) effects
+driving_at n me found now before calls effects input h planned is none took =
+    let same : found ≡ edge_lists n me.0 = is ∙ same_default n.edges me.0 found (no_edge n.plan me.0) h in
+    driving n me now calls effects input h planned
+    (took ∙ (ap (λ (e : EdgeLists). edge_step e.plan taken_all input (beginning (edge.seen e) before)) same
+    ∙ ap (λ (l : List LinkCall). edge_step (edge_lists n me.0).plan taken_all input (beginning (edge.seen (edge_lists n me.0)) l)) none))
+
+pub fitting_at : (n : NetLists) (me : EdgeId) (found : EdgeLists) (effects : List Effect)
+    → me.0 < length n.edges → (edge_lists n me.0).plan ≡ n.plan → found ≡ slice_index_or n.edges me.0 found → AllFit found.plan effects → AllFit n.plan effects
+fitting_at n me found effects h planned is fit =
+    let same : found ≡ edge_lists n me.0 = is ∙ same_default n.edges me.0 found (no_edge n.plan me.0) h in
+    subst (λ (p : Plan). AllFit p effects) (ap (λ (e : EdgeLists). e.plan) same ∙ planned) fit
+
+-- an edge that stays as it is
+edge_stays : (network : NetworkState) (me : EdgeId) (state : EdgeState) → state ≡ at_edge network me → with_edge me state network ≡ network
+unfolding with_edge
+edge_stays network me state same = λ i. record { edges = λ k. at_each k i; pipes = network.pipes; under_way = network.under_way; sent = network.sent; entered = network.entered }
+  where
+    at_each : (k : ℕ) → cond (k == me.0) state (network.edges k) ≡ network.edges k
+    at_each k = elim (cases_Bool (nat_eq k me.0)) [
+      | inl here ↦ rw here (same ∙ ap network.edges (sym (eqb-true k me.0 here)))
+      | inr away ↦ rw away refl
+    ]
+
+some_edge : (row : CircuitPlan) (me : EdgeId) → Some row.edge ≡ Some me → row.edge ≡ me
+some_edge row me e = cc (e)
+
+-- the frame enters, and then what the edge did is told
+abbrev entering_at : NetworkState → CircuitId → List ℕ → EdgeId → Work → Stepped
+entering_at network circuit octets me work = record {
+  state = (absorb me (next_origin network) 0 work (with_frame network)).state;
+  entries = In circuit (next_origin network) octets ∷ (absorb me (next_origin network) 0 work (with_frame network)).entries;
+}
+
+-- a frame that its edge does not take
+frame_idle : (plan : Plan) (circuit : CircuitId) (octets : List ℕ) (row : Option CircuitPlan) (me : EdgeId) (network : NetworkState)
+    → edge_of row ≡ Some me → (frame_input plan taken_all circuit octets row (begin_at network me)).idle ≡ true
+    → (with_edge me (frame_input plan taken_all circuit octets row (begin_at network me)).edge network ≡ (frame_event plan circuit octets row network).state)
+    × ((frame_event plan circuit octets row network).entries ≡ Idle ∷ [])
+frame_idle plan circuit octets None me network at idle = absurd (cc (at))
+frame_idle plan circuit octets (Some row) me network at idle =
+    subst (λ (e : EdgeId). (frame_input plan taken_all circuit octets (Some row) (begin_at network e)).idle ≡ true
+    → (with_edge e (frame_input plan taken_all circuit octets (Some row) (begin_at network e)).edge network ≡ (frame_event plan circuit octets (Some row) network).state)
+    × ((frame_event plan circuit octets (Some row) network).entries ≡ Idle ∷ [])) (some_edge row me at) here idle
+  where
+    work : Work
+    work = frame_input plan taken_all circuit octets (Some row) (begin_at network row.edge)
+
+    here : work.idle ≡ true → (with_edge row.edge work.edge network ≡ (frame_event plan circuit octets (Some row) network).state) × ((frame_event plan circuit octets (Some row) network).entries ≡ Idle ∷ [])
+    here e = (
+      edge_stays network row.edge work.edge (frame_still plan taken_all circuit octets (Some row) (begin_at network row.edge) refl e) ∙ rw e refl,
+      rw e refl,
+    )
+
+-- a frame that its edge takes
+frame_taken : (plan : Plan) (circuit : CircuitId) (octets : List ℕ) (row : Option CircuitPlan) (me : EdgeId) (network : NetworkState)
+    → edge_of row ≡ Some me → (frame_input plan taken_all circuit octets row (begin_at network me)).idle ≡ false
+    → frame_event plan circuit octets row network ≡ entering_at network circuit octets me (frame_input plan taken_all circuit octets row (begin_at network me))
+frame_taken plan circuit octets None me network at idle = absurd (cc (at))
+frame_taken plan circuit octets (Some row) me network at idle =
+    subst (λ (e : EdgeId). (frame_input plan taken_all circuit octets (Some row) (begin_at network e)).idle ≡ false
+    → frame_event plan circuit octets (Some row) network ≡ entering_at network circuit octets e (frame_input plan taken_all circuit octets (Some row) (begin_at network e))) (some_edge row me at) (λ e. rw e refl) idle
+
+pub frame_idle_stepped : (old mid now : NetLists) (circuit : CircuitId) (octets : List ℕ) (me : EdgeId) (effects : Effects)
+    → edge_of (circuit_row old.plan circuit) ≡ Some me
+    → HasDriven me old mid (frame_input old.plan taken_all circuit octets (circuit_row old.plan circuit) (begin_at (seen old) me)) effects
+    → effects.idle ≡ true → seen now ≡ seen mid → now.trace ≡ mid.trace ++ Idle ∷ []
+    → HasStepped old now (frame_event old.plan circuit octets (circuit_row old.plan circuit) (seen old))
+frame_idle_stepped old mid now circuit octets me effects at driven idle state told =
+    let both = frame_idle old.plan circuit octets (circuit_row old.plan circuit) me (seen old) at (sym driven.idle_is ∙ idle) in
+    record {
+      state = state ∙ (driven.state ∙ both.0);
+      told = told ∙ (ap (λ (t : List Entry). t ++ Idle ∷ []) driven.told ∙ ap (λ (es : List Entry). old.trace ++ es) (sym both.1));
+    }
+
+pub frame_stepped : (old mid in_ now : NetLists) (circuit : CircuitId) (octets : List ℕ) (me : EdgeId) (effects : Effects) (origin : ℕ)
+    → edge_of (circuit_row old.plan circuit) ≡ Some me
+    → HasDriven me old mid (frame_input old.plan taken_all circuit octets (circuit_row old.plan circuit) (begin_at (seen old) me)) effects
+    → effects.idle ≡ false → HasEntered mid in_ circuit octets origin
+    → HasStepped in_ now (record { state = absorb_all me origin 0 effects.list (seen in_); entries = all_entries_of me origin 0 effects.list (seen in_) })
+    → HasStepped old now (frame_event old.plan circuit octets (circuit_row old.plan circuit) (seen old))
+unfolding with_edge with_frame
+frame_stepped old mid in_ now circuit octets me effects origin at driven idle entered absorbed = record {
+  state = absorbed.state ∙ (ap (λ (n : NetworkState). absorb_all me origin 0 effects.list n) network ∙ (ap (λ (o : ℕ). absorb_all me o 0 effects.list (with_edge me work.edge (with_frame (seen old)))) number
+      ∙ (ap (λ (es : List Effect). absorb_all me (next_origin (seen old)) 0 es (with_edge me work.edge (with_frame (seen old)))) driven.effects_are ∙ sym (ap (λ (s : Stepped). s.state) event))));
+  told = absorbed.told ∙ (ap (λ (t : List Entry). t ++ all_entries_of me origin 0 effects.list (seen in_)) (entered.told ∙ ap (λ (t : List Entry). t ++ In circuit origin octets ∷ []) driven.told)
+      ∙ (append_assoc old.trace (In circuit origin octets ∷ []) (all_entries_of me origin 0 effects.list (seen in_)) ∙ ap (λ (es : List Entry). old.trace ++ es) entries));
+} where
+  work : Work
+  work = frame_input old.plan taken_all circuit octets (circuit_row old.plan circuit) (begin_at (seen old) me)
+
+  event : frame_event old.plan circuit octets (circuit_row old.plan circuit) (seen old) ≡ entering_at (seen old) circuit octets me work
+  event = frame_taken old.plan circuit octets (circuit_row old.plan circuit) me (seen old) at (sym driven.idle_is ∙ idle)
+
+  network : seen in_ ≡ with_edge me work.edge (with_frame (seen old))
+  network = entered.state ∙ ap with_frame driven.state
+
+  number : origin ≡ next_origin (seen old)
+  number = entered.number_is ∙ ap (λ (n : NetworkState). n.entered + 1) driven.state
+
+  entries : In circuit origin octets ∷ all_entries_of me origin 0 effects.list (seen in_) ≡ (frame_event old.plan circuit octets (circuit_row old.plan circuit) (seen old)).entries
+  entries =
+      ap (λ (n : NetworkState). In circuit origin octets ∷ all_entries_of me origin 0 effects.list n) network
+      ∙ (ap (λ (o : ℕ). In circuit o octets ∷ all_entries_of me o 0 effects.list (with_edge me work.edge (with_frame (seen old)))) number
+      ∙ (ap (λ (es : List Effect). In circuit (next_origin (seen old)) octets ∷ all_entries_of me (next_origin (seen old)) 0 es (with_edge me work.edge (with_frame (seen old)))) driven.effects_are
+      ∙ sym (ap (λ (s : Stepped). s.entries) event)))
+
+-- a circuit that is so already, and one that turns
+circuit_answer : (plan : Plan) (circuit : CircuitId) (on : Bool) (row : Option CircuitPlan) (me : EdgeId) (network : NetworkState)
+    → edge_of row ≡ Some me → circuit_event plan circuit on row network ≡ answer me 0 0 (circuit_input plan circuit on row (begin_at network me)) network
+circuit_answer plan circuit on None me network at = absurd (cc (at))
+circuit_answer plan circuit on (Some row) me network at =
+    subst (λ (e : EdgeId). circuit_event plan circuit on (Some row) network ≡ answer e 0 0 (circuit_input plan circuit on (Some row) (begin_at network e)) network) (some_edge row me at) refl
+
+pub circuit_idle_stepped : (old mid now : NetLists) (circuit : CircuitId) (on : Bool) (me : EdgeId) (effects : Effects)
+    → edge_of (circuit_row old.plan circuit) ≡ Some me
+    → HasDriven me old mid (circuit_input old.plan circuit on (circuit_row old.plan circuit) (begin_at (seen old) me)) effects
+    → effects.idle ≡ true → seen now ≡ seen mid → now.trace ≡ mid.trace ++ Idle ∷ []
+    → HasStepped old now (circuit_event old.plan circuit on (circuit_row old.plan circuit) (seen old))
+circuit_idle_stepped old mid now circuit on me effects at driven idle state told = record {
+  state = state ∙ (driven.state ∙ (edge_stays (seen old) me work.edge (circuit_still old.plan circuit on (circuit_row old.plan circuit) (begin_at (seen old) me) refl is_idle) ∙ sym (ap (λ (s : Stepped). s.state) event)));
+  told = told ∙ (ap (λ (t : List Entry). t ++ Idle ∷ []) driven.told ∙ ap (λ (es : List Entry). old.trace ++ es) (sym (ap (λ (s : Stepped). s.entries) event)));
+} where
+  work : Work
+  work = circuit_input old.plan circuit on (circuit_row old.plan circuit) (begin_at (seen old) me)
+
+  is_idle : work.idle ≡ true
+  is_idle = sym driven.idle_is ∙ idle
+
+  event : circuit_event old.plan circuit on (circuit_row old.plan circuit) (seen old) ≡ idle_event (seen old)
+  event = circuit_answer old.plan circuit on (circuit_row old.plan circuit) me (seen old) at ∙ rw is_idle refl
+
+pub circuit_stepped : (old mid now : NetLists) (circuit : CircuitId) (on : Bool) (me : EdgeId) (effects : Effects)
+    → edge_of (circuit_row old.plan circuit) ≡ Some me
+    → HasDriven me old mid (circuit_input old.plan circuit on (circuit_row old.plan circuit) (begin_at (seen old) me)) effects
+    → effects.idle ≡ false
+    → HasStepped mid now (record { state = absorb_all me 0 0 effects.list (seen mid); entries = all_entries_of me 0 0 effects.list (seen mid) })
+    → HasStepped old now (circuit_event old.plan circuit on (circuit_row old.plan circuit) (seen old))
+circuit_stepped old mid now circuit on me effects at driven idle absorbed = record {
+  state = absorbed.state ∙ (ap (λ (n : NetworkState). absorb_all me 0 0 effects.list n) driven.state ∙ (ap (λ (es : List Effect). absorb_all me 0 0 es (with_edge me work.edge (seen old))) driven.effects_are ∙ sym (ap (λ (s : Stepped). s.state) event)));
+  told = absorbed.told ∙ (ap (λ (t : List Entry). t ++ all_entries_of me 0 0 effects.list (seen mid)) driven.told
+      ∙ ap (λ (es : List Entry). old.trace ++ es) (ap (λ (n : NetworkState). all_entries_of me 0 0 effects.list n) driven.state ∙ (ap (λ (es : List Effect). all_entries_of me 0 0 es (with_edge me work.edge (seen old))) driven.effects_are ∙ sym (ap (λ (s : Stepped). s.entries) event))));
+} where
+  work : Work
+  work = circuit_input old.plan circuit on (circuit_row old.plan circuit) (begin_at (seen old) me)
+
+  event : circuit_event old.plan circuit on (circuit_row old.plan circuit) (seen old) ≡ absorb me 0 0 work (seen old)
+  event = circuit_answer old.plan circuit on (circuit_row old.plan circuit) me (seen old) at ∙ (let e : work.idle ≡ false = sym driven.idle_is ∙ idle in rw e refl)
+
+-- the network of a plan before its first event
+pub opening : (plan : Plan) (edges : List EdgeLists) (pipes : PipeLists) → AreOpen plan (length plan.edges) edges → pipes_of pipes ≡ no_octets
+    → seen (record { plan = plan; edges = edges; pipes = pipes; packets = record { list = []; last = 0 }; entered = 0; trace = []; failed = false }) ≡ empty_network
+unfolding seen
+opening plan edges pipes are empty = λ i. record { edges = λ k. are.empty k i; pipes = empty i; under_way = []; sent = 0; entered = 0 }
+
+index_end : {X : Type 0} (xs : List X) (x d : X) (k : ℕ) → slice_index_or (xs ++ x ∷ []) k d ≡ cond (nat_eq k (length xs)) x (slice_index_or xs k d)
+index_end [] x d zero = refl
+index_end [] x d (suc k) = grind (arith, nat_tests)
+index_end (y ∷ ys) x d zero = grind (arith, nat_tests)
+index_end (y ∷ ys) x d (suc k) = grind (arith, nat_tests, index_end ys x d k)
+
+pub open_none : (plan : Plan) → AreOpen plan 0 []
+unfolding edge.seen
+open_none plan = record { len = refl; planned = λ k below. refl; empty = λ k. refl }
+
+pub open_more : (plan : Plan) (count : ℕ) (edges : List EdgeLists) (more : EdgeLists) → AreOpen plan count edges → more.plan ≡ plan → edge.seen more ≡ empty_edge (record { 0 = count })
+    → AreOpen plan (count + 1) (edges ++ more ∷ [])
+open_more plan count edges more are planned empty = record {
+  len = length-append edges (more ∷ []) ∙ omega (arith, are.len);
+  planned = λ k below. ap (λ (e : EdgeLists). e.plan) (index_end edges more (no_edge plan k) k) ∙ planned_by k below (nat_eq k (length edges)) refl;
+  empty = λ k. ap edge.seen (index_end edges more (no_edge plan k) k) ∙ empty_by k (nat_eq k (length edges)) refl;
+} where
+  planned_by : (k : ℕ) → k < count + 1 → (b : Bool) → nat_eq k (length edges) ≡ b → (cond b more (slice_index_or edges k (no_edge plan k))).plan ≡ plan
+  planned_by k below true e = planned
+  planned_by k below false e =
+      let apart : (nat_eq k (length edges) ≡ true) → ⊥ = λ same. let wrong : false ≡ true = sym e ∙ same in absurd (cc (wrong)) in
+      are.planned k (elim (cases_order k (length edges)) [
+        | inl same ↦ absurd (apart (eq-eqb k (length edges) same))
+        | inr rest ↦ omega (arith, below, are.len)
+      ])
+
+  empty_by : (k : ℕ) (b : Bool) → nat_eq k (length edges) ≡ b → edge.seen (cond b more (slice_index_or edges k (no_edge plan k))) ≡ empty_edge (record { 0 = k })
+  empty_by k true e = empty ∙ ap (λ (n : ℕ). empty_edge (record { 0 = n })) (sym are.len ∙ sym (eqb-true k (length edges) e))
+  empty_by k false e = are.empty k

@@ -1,0 +1,30 @@
+-- Ticks of edges, one after another.
+use Rattle.std.proofs.Common.{◌≡◌, ◌<◌, ◌≤◌, ◌+◌, ◌-◌, ◌++◌, ℕ, suc, List, refl, ap, sym, arith, append_assoc, ◌∙◌}
+use Rattle.net_base.specs.declared.plan.Plan.{Plan}
+use Rattle.net_base.specs.declared.trace.entry.Entry.{Entry}
+use Rattle.network_model.specs.Absorb.{Stepped, and_then, stays}
+use Rattle.network_model.specs.State.{NetworkState}
+use Rattle.network_model.specs.Tick.{tick_at, ticks_from}
+
+pub ticks_more : (plan : Plan) (i n : ℕ) (network : NetworkState) → i < n → ticks_from plan i (n - i) network ≡ and_then (tick_at plan (record { 0 = i }) network) (ticks_from plan (i + 1) (n - (i + 1)))
+ticks_more plan i n network h = let e : n - i ≡ suc (n - (i + 1)) = omega arith in rw e refl
+
+pub ticks_end : (plan : Plan) (i n : ℕ) (network : NetworkState) → n ≤ i → ticks_from plan i (n - i) network ≡ stays network
+ticks_end plan i n network h = let e : n - i ≡ 0 = omega arith in rw e refl
+
+-- what the ticks that are left tell, behind what was told
+pub ticks_told : (plan : Plan) (i n : ℕ) (network after : NetworkState) (trace now : List Entry) → i < n
+    → after ≡ (tick_at plan (record { 0 = i }) network).state → now ≡ trace ++ (tick_at plan (record { 0 = i }) network).entries
+    → now ++ (ticks_from plan (i + 1) (n - (i + 1)) after).entries ≡ trace ++ (ticks_from plan i (n - i) network).entries
+ticks_told plan i n network after trace now below state told =
+    ap (λ (t : List Entry). t ++ (ticks_from plan (i + 1) (n - (i + 1)) after).entries) told
+    ∙ (append_assoc trace (tick_at plan (record { 0 = i }) network).entries (ticks_from plan (i + 1) (n - (i + 1)) after).entries
+    ∙ (ap (λ (s : NetworkState). trace ++ ((tick_at plan (record { 0 = i }) network).entries ++ (ticks_from plan (i + 1) (n - (i + 1)) s).entries)) state
+    ∙ ap (λ (s : Stepped). trace ++ s.entries) (sym (ticks_more plan i n network below))))
+
+pub ticks_state : (plan : Plan) (i n : ℕ) (network after : NetworkState) → i < n → after ≡ (tick_at plan (record { 0 = i }) network).state
+    → (ticks_from plan (i + 1) (n - (i + 1)) after).state ≡ (ticks_from plan i (n - i) network).state
+ticks_state plan i n network after below state =
+    ap (λ (s : NetworkState). (ticks_from plan (i + 1) (n - (i + 1)) s).state) state ∙ ap (λ (s : Stepped). s.state) (sym (ticks_more plan i n network below))
+
+pub ruleset tick_steps = (ticks_told, ticks_state, ticks_end)

@@ -1,0 +1,47 @@
+-- One more entry in a counted trace.
+use Rattle.std.proofs.Common.{◌≡◌, ◌≤◌, ◌+◌, ◌-◌, ◌^◌, ◌++◌, ◌∷◌, [], ℕ, Bool, true, false, List, Option, Some, None, cond, min, nat_lt, refl, arith}
+use Rattle.net_base.specs.declared.trace.entry.Entry.{Entry}
+use Rattle.psn_net.specs.Applying.{Stops}
+use Rattle.psn_net.specs.Lists.{NetLists}
+use Rattle.psn_net.specs.declared.net_stop.NetStop.{NetStop}
+use Rattle.psn_net.specs.declared.net_stop.NetStop.TheVariants.{Crowded, TooMuch, NoMemory}
+use Rattle.psn_net.specs.Weight.{IsCounted, entry_weight, events_in, is_event, most_weight, next_event, stop_at, total_weight, weight_of}
+
+total-append : (xs : List Entry) (e : Entry) → total_weight (xs ++ e ∷ []) ≡ total_weight xs + entry_weight e
+total-append [] e = omega arith
+total-append (x ∷ xs) e = omega (arith, total-append xs e)
+
+events-append : (xs : List Entry) (e : Entry) → events_in (xs ++ e ∷ []) ≡ events_in xs + cond (is_event e) 1 0
+events-append [] e = omega arith
+events-append (x ∷ xs) e = omega (arith, events-append xs e)
+
+pub counted_more : (trace : List Entry) (entry : Entry) (weight events more one : ℕ)
+    → IsCounted trace weight events → more ≡ min (entry_weight entry) (2 ^ 64 - 1) → one ≡ cond (is_event entry) 1 0
+    → IsCounted (trace ++ entry ∷ []) (min (weight + more) (2 ^ 64 - 1)) (min (events + one) (2 ^ 64 - 1))
+counted_more trace entry weight events more one counted w e = record {
+  weighs = saturates (total_weight trace) (entry_weight entry) (2 ^ 64 - 1) weight more (total_weight (trace ++ entry ∷ [])) counted.weighs w (total-append trace entry);
+  counts = adds (events_in trace) (cond (is_event entry) 1 0) (2 ^ 64 - 1) events one (events_in (trace ++ entry ∷ [])) counted.counts e (events-append trace entry);
+} where
+  saturates : (a b top x y sum : ℕ) → x ≡ min a top → y ≡ min b top → sum ≡ a + b → min (x + y) top ≡ min sum top
+  saturates a b top x y sum p q r = omega (arith, p, q, r)
+
+  adds : (a b top x y sum : ℕ) → x ≡ min a top → y ≡ b → sum ≡ a + b → min (x + y) top ≡ min sum top
+  adds a b top x y sum p q r = omega (arith, p, q, r)
+
+pub next_event_is : (trace : List Entry) (events : ℕ) → events ≡ min (events_in trace) (2 ^ 64 - 1) → min (events + 1) (2 ^ 64 - 1) ≡ min (events_in trace + 1) (2 ^ 64 - 1)
+next_event_is trace events e = saturates (events_in trace) events (2 ^ 64 - 1) e where
+  saturates : (a x top : ℕ) → x ≡ min a top → min (x + 1) top ≡ min (a + 1) top
+  saturates a x top p = omega (arith, p)
+
+-- a limit that is met stops a network that has not changed
+pub stops_at : (n : NetLists) (stop : NetStop) → stop_at n.trace ≡ Some stop → Stops n n stop
+unfolding stop_at
+stops_at n (Crowded count event) met = none_crowded (nat_lt most_weight (weight_of n.trace)) met where
+  none_crowded : (b : Bool) → cond b (Some (TooMuch (weight_of n.trace) (next_event n.trace))) None ≡ Some (Crowded count event) → ⊥
+  none_crowded true e = absurd (cc (e))
+  none_crowded false e = absurd (cc (e))
+stops_at n (TooMuch weight event) met = (met, refl)
+stops_at n NoMemory met = none_refused (nat_lt most_weight (weight_of n.trace)) met where
+  none_refused : (b : Bool) → cond b (Some (TooMuch (weight_of n.trace) (next_event n.trace))) None ≡ Some NoMemory → n.failed ≡ true
+  none_refused true e = absurd (cc (e))
+  none_refused false e = absurd (cc (e))

@@ -1,0 +1,5 @@
+pub mod Applying
+pub mod Lists
+pub mod Packets
+pub mod Pipes
+pub mod Weight

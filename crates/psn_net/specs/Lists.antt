@@ -1,0 +1,94 @@
+-- The network as contracts see it: lists by the plan's places, and by `seen` maps.
+use Rattle.std.specs.Prelude.{◌≡◌, ◌<◌, ◌≤◌, ◌++◌, ◌+◌, ◌∷◌, ℕ, Bool, false, List, [], Option, option_map, length, slice_index_or}
+use Rattle.net_base.specs.declared.plan.Plan.{Plan}
+use Rattle.net_base.specs.declared.trace.entry.Entry.{Entry}
+use Rattle.net_base.specs.plan.Accepted.{IsChecked}
+use Rattle.edge_model.specs.declared.effects.Effects.{Effects}
+use Rattle.edge_model.specs.Work.{Work}
+use Rattle.network_model.specs.Absorb.{Stepped}
+use Rattle.network_model.specs.State.{NetworkState, with_edge, with_frame}
+use Rattle.net_base.specs.declared.plan.places.CircuitId.{CircuitId}
+use Rattle.net_base.specs.declared.plan.places.EdgeId.{EdgeId}
+use Rattle.net_base.specs.declared.plan.circuit_plan.CircuitPlan.{CircuitPlan}
+use Rattle.net_base.specs.declared.trace.entry.Entry.TheVariants.{In}
+use Rattle.edge_model.specs.State.{empty_edge}
+use Rattle.provider_edge.specs.Lists.{EdgeLists}
+use Rattle.provider_edge.specs.Lists as edge
+use Rattle.psn_net.specs.Packets.{UnderWay}
+use Rattle.psn_net.specs.Pipes.{PipeLists}
+use Rattle.psn_net.specs.Pipes as pipes
+
+pub record NetLists : Type 0 where
+  pub plan : Plan
+  pub edges : List EdgeLists
+  pub pipes : PipeLists
+  pub packets : UnderWay
+  -- how many frames have entered
+  pub entered : ℕ
+  pub trace : List Entry
+  -- memory was refused
+  pub failed : Bool
+
+-- an edge outside the plan
+abbrev pub no_edge : Plan → ℕ → EdgeLists
+no_edge plan k = record { plan = plan; me = record { 0 = k }; circuits_on = []; domains = []; ticks = 0; stopped = false }
+
+abbrev pub edge_lists : NetLists → ℕ → EdgeLists
+edge_lists n k = slice_index_or n.edges k (no_edge n.plan k)
+
+unfoldable pub seen : NetLists → NetworkState
+seen n = record {
+  edges = λ k. edge.seen (edge_lists n k);
+  pipes = pipes.seen n.pipes;
+  under_way = n.packets.list;
+  sent = n.packets.last;
+  entered = n.entered;
+}
+
+-- what always holds of a network
+pub record IsNetwork (n : NetLists) : Type 0 where
+  pub checked : IsChecked n.plan
+  pub count : length n.edges ≡ length n.plan.edges
+  pub square : n.pipes.size ≡ length n.plan.edges
+  pub planned : (k : ℕ) → k < length n.edges → (edge_lists n k).plan ≡ n.plan
+  -- each packet that was sent and each frame that entered has an entry
+  pub packets_told : n.packets.last ≤ length n.trace
+  pub frames_told : n.entered ≤ length n.trace
+
+-- an event was told that may send packets and let a frame enter: their numbers stay below the number of entries
+pub record HasRoom (n : NetLists) : Type 0 where
+  pub packets : n.packets.last < length n.trace
+  pub frames : n.entered < length n.trace
+
+-- what no event changes
+pub record Keeps (old now : NetLists) : Type 0 where
+  pub plan : now.plan ≡ old.plan
+  pub failed : now.failed ≡ old.failed
+
+-- the network made a step
+pub record HasStepped (old now : NetLists) (stepped : Stepped) : Type 0 where
+  pub state : seen now ≡ stepped.state
+  pub told : now.trace ≡ old.trace ++ stepped.entries
+
+-- an edge of the network did this work
+pub record HasDriven (me : EdgeId) (old now : NetLists) (work : Work) (effects : Effects) : Type 0 where
+  pub state : seen now ≡ with_edge me work.edge (seen old)
+  pub effects_are : effects.list ≡ work.effects
+  pub idle_is : effects.idle ≡ work.idle
+  pub told : now.trace ≡ old.trace
+
+-- the edges of a plan, so many from the first on, before their first input
+pub record AreOpen (plan : Plan) (count : ℕ) (edges : List EdgeLists) : Type 0 where
+  pub len : length edges ≡ count
+  pub planned : (k : ℕ) → k < count → (slice_index_or edges k (no_edge plan k)).plan ≡ plan
+  pub empty : (k : ℕ) → edge.seen (slice_index_or edges k (no_edge plan k)) ≡ empty_edge (record { 0 = k })
+
+-- a frame entered with the next number, and was told
+pub record HasEntered (old now : NetLists) (circuit : CircuitId) (octets : List ℕ) (number : ℕ) : Type 0 where
+  pub number_is : number ≡ (seen old).entered + 1
+  pub state : seen now ≡ with_frame (seen old)
+  pub told : now.trace ≡ old.trace ++ In circuit number octets ∷ []
+
+-- the edge of a circuit's row
+abbrev pub edge_of : Option CircuitPlan → Option EdgeId
+edge_of row = option_map (λ circuit. circuit.edge) row

@@ -1,0 +1,55 @@
+-- What a trace weighs, so that a run keeps within the memory of a machine.
+use Rattle.std.specs.Prelude.{◌≡◌, ◌≤◌, ◌+◌, ◌^◌, ◌-◌, nat_lt, min, ℕ, Bool, true, false, List, [], ◌∷◌, length, Option, Some, None, if◌then◌else◌}
+use Rattle.net_base.specs.declared.trace.entry.Entry.{Entry}
+use Rattle.net_base.specs.declared.trace.entry.Entry.TheVariants.{Did, Said, In, Sent, Left}
+use Rattle.net_base.specs.declared.trace.event.Event.{Event}
+use Rattle.net_base.specs.declared.trace.event.Event.TheVariants.{Frame}
+use Rattle.psn_net.specs.declared.net_stop.NetStop.{NetStop}
+use Rattle.psn_net.specs.declared.net_stop.NetStop.TheVariants.{TooMuch}
+
+-- the most that a trace weighs before a further event is done
+abbrev pub most_weight : ℕ
+most_weight = 268435456
+
+abbrev pub event_octets : Event → ℕ
+event_octets (Frame circuit octets) = length octets
+event_octets event = 0
+
+-- an entry weighs 64, and the octets of the frame, packet or PDU that it holds
+abbrev pub entry_weight : Entry → ℕ
+entry_weight (Did event) = event_octets event + 64
+entry_weight (Said from to octets) = length octets + 64
+entry_weight (In circuit number octets) = length octets + 64
+entry_weight (Sent packet from to wire came origin hops octets) = length octets + 64
+entry_weight (Left circuit origin hops octets) = length octets + 64
+entry_weight entry = 64
+
+abbrev pub total_weight : List Entry → ℕ
+total_weight [] = 0
+total_weight (e ∷ es) = entry_weight e + total_weight es
+
+-- the weight is counted up to 2^64 - 1
+abbrev pub weight_of : List Entry → ℕ
+weight_of trace = min (total_weight trace) (2 ^ 64 - 1)
+
+abbrev pub is_event : Entry → Bool
+is_event (Did event) = true
+is_event entry = false
+
+-- how many events a trace tells
+abbrev pub events_in : List Entry → ℕ
+events_in [] = 0
+events_in (e ∷ es) = (if is_event e then 1 else 0) + events_in es
+
+-- a trace with its counts
+pub record IsCounted (trace : List Entry) (weight events : ℕ) : Type 0 where
+  pub weighs : weight ≡ weight_of trace
+  pub counts : events ≡ min (events_in trace) (2 ^ 64 - 1)
+
+-- the number of the event after those of a trace, counted up to 2^64 - 1
+abbrev pub next_event : List Entry → ℕ
+next_event trace = min (events_in trace + 1) (2 ^ 64 - 1)
+
+-- the limit that stops the next event, where there is one
+unfoldable pub stop_at : List Entry → Option NetStop
+stop_at trace = if nat_lt most_weight (weight_of trace) then Some (TooMuch (weight_of trace) (next_event trace)) else None

@@ -1,0 +1,14 @@
+//! The network of a run: edges, what is on its way between them, and the trace.
+#![tactic(auto)]
+
+mod ledger;
+mod net_stop;
+mod network;
+mod packets;
+mod pipe;
+mod pipe_row;
+mod pipes;
+mod psn_link;
+
+pub use net_stop::NetStop;
+pub use network::Network;
