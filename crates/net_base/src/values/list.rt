@@ -32,6 +32,15 @@ impl<T> List<T> {
         }
     }
 
+    /// An empty list with room for so many items, which are pushed without taking memory again.
+    pub fn with_capacity(alloc: Global, count: usize) -> Result<Self, NoMemory>
+        ensures { IfOk result (λ list. list ≡ []) }
+    {
+        Ok(List {
+            items: Vec::with_capacity(alloc, count)?,
+        })
+    }
+
     /// Adds an item at the end. After `NoMemory` the list is as it was.
     pub fn push(&mut self, item: T) -> Result<(), NoMemory>
     where
