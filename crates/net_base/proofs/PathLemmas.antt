@@ -153,3 +153,77 @@ expected_of_two plan wire from to two once joined = λ i. record {
   offer = offer_on_two wire.near wire.far wire.path from to two once joined i;
   points = points_on_two plan wire wire.path from to two joined i;
 }
+
+-- an edge between two others stands behind the first
+is_behind : (first : EdgeId) (rest : List EdgeId) (me from : ℕ) (other : EdgeId) → mate_on (first ∷ rest) me from ≡ Some other → list_any (λ (edge : EdgeId). edge.0 == me) rest ≡ true
+is_behind first [] me from other is = absurd (cc)
+is_behind first (last ∷ []) me from other is = absurd (cc)
+is_behind first (point ∷ next ∷ rest) me from other is =
+    first_or (mate_among first point next me from) (mate_on (point ∷ next ∷ rest) me from) other is
+    (λ here. of_choice (me == point.0 && from == first.0) (me == point.0 && from == next.0) next first other here
+    (λ test same. front (point.0 == me) (list_any (λ (edge : EdgeId). edge.0 == me) (next ∷ rest)) (same_place me from point.0 first.0 test))
+    (λ test same. front (point.0 == me) (list_any (λ (edge : EdgeId). edge.0 == me) (next ∷ rest)) (same_place me from point.0 next.0 test)))
+    (λ later. behind (point.0 == me) (is_behind point (next ∷ rest) me from other later))
+  where
+    same_place : (me from point side : ℕ) → me == point && from == side ≡ true → (point == me) ≡ true
+    same_place me from point side test = grind (arith, nat_tests)
+
+    front : (p q : Bool) → p ≡ true → p || q ≡ true
+    front true q is = refl
+    front false q is = absurd (cc)
+
+    behind : (p : Bool) {q : Bool} → q ≡ true → p || q ≡ true
+    behind true is = refl
+    behind false is = is
+
+-- the place of an edge that is told
+abbrev pub place_of : Option EdgeId → Option ℕ
+place_of None = None
+place_of (Some edge) = Some edge.0
+
+-- from its mate, the edge that it came from is the mate
+pub mate_back : (path : List EdgeId) (me from : ℕ) (other : EdgeId) → has_repeat path ≡ false → mate_on path me from ≡ Some other → place_of (mate_on path me other.0) ≡ Some from
+mate_back [] me from other once is = absurd (cc)
+mate_back (last ∷ []) me from other once is = absurd (cc)
+mate_back (before ∷ last ∷ []) me from other once is = absurd (cc)
+mate_back (before ∷ point ∷ next ∷ rest) me from other once is =
+    let parts = or_parts (list_any (λ (edge : EdgeId). edge.0 == before.0) (point ∷ next ∷ rest)) (has_repeat (point ∷ next ∷ rest)) once in
+    let first = or_parts (point.0 == before.0) (list_any (λ (edge : EdgeId). edge.0 == before.0) (next ∷ rest)) parts.0 in
+    let apart = or_parts (next.0 == before.0) (list_any (λ (edge : EdgeId). edge.0 == before.0) rest) first.1 in
+    let inner = or_parts (list_any (λ (edge : EdgeId). edge.0 == point.0) (next ∷ rest)) (has_repeat (next ∷ rest)) parts.1 in
+    first_or (mate_among before point next me from) (mate_on (point ∷ next ∷ rest) me from) other is
+    (λ here. of_choice (me == point.0 && from == before.0) (me == point.0 && from == next.0) next before other here
+    (λ test same. subst (λ (e : EdgeId). place_of (mate_on (before ∷ point ∷ next ∷ rest) me e.0) ≡ Some from) same (came_before test apart.0))
+    (λ test same. subst (λ (e : EdgeId). place_of (mate_on (before ∷ point ∷ next ∷ rest) me e.0) ≡ Some from) same (came_after test)))
+    (λ later. came_later (other_place inner.0 (is_behind point (next ∷ rest) me from other later)) (mate_back (point ∷ next ∷ rest) me from other parts.1 later))
+  where
+    is_place : (me from point side : ℕ) → me == point && from == side ≡ true → ((me == point) ≡ true) × (side ≡ from)
+    is_place me from point side test = (grind (arith, nat_tests), grind (arith, nat_tests))
+
+    itself : (n : ℕ) → (n == n) ≡ true
+    itself n = grind (arith, nat_tests)
+
+    came_before : me == point.0 && from == before.0 ≡ true → (next.0 == before.0) ≡ false → place_of (mate_on (before ∷ point ∷ next ∷ rest) me next.0) ≡ Some from
+    came_before test other_edge = let at = is_place me from point.0 before.0 test in rw (at.0, other_edge, itself next.0) (ap Some at.1)
+
+    came_after : me == point.0 && from == next.0 ≡ true → place_of (mate_on (before ∷ point ∷ next ∷ rest) me before.0) ≡ Some from
+    came_after test = let at = is_place me from point.0 next.0 test in rw (at.0, itself before.0) (ap Some at.1)
+
+    is_other : (test : Bool) → list_any (λ (edge : EdgeId). edge.0 == point.0) (next ∷ rest) ≡ false → list_any (λ (edge : EdgeId). edge.0 == me) (next ∷ rest) ≡ true → (me == point.0) ≡ test → test ≡ false
+    is_other false none some is = refl
+    is_other true none some is = absurd (clash (subst (λ n. list_any (λ (edge : EdgeId). edge.0 == n) (next ∷ rest) ≡ true) (equal me point.0 is) some))
+      where
+        equal : (a b : ℕ) → (a == b) ≡ true → a ≡ b
+        equal a b e = grind (arith, nat_tests)
+
+        clash : list_any (λ (edge : EdgeId). edge.0 == point.0) (next ∷ rest) ≡ true → ⊥
+        clash found = differ (sym none ∙ found)
+          where
+            differ : false ≡ true → ⊥
+            differ e = cc
+
+    other_place : list_any (λ (edge : EdgeId). edge.0 == point.0) (next ∷ rest) ≡ false → list_any (λ (edge : EdgeId). edge.0 == me) (next ∷ rest) ≡ true → (me == point.0) ≡ false
+    other_place none some = is_other (me == point.0) none some refl
+
+    came_later : (me == point.0) ≡ false → place_of (mate_on (point ∷ next ∷ rest) me other.0) ≡ Some from → place_of (mate_on (before ∷ point ∷ next ∷ rest) me other.0) ≡ Some from
+    came_later apart back = rw apart back
