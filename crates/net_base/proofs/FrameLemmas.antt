@@ -5,7 +5,7 @@ use Rattle.std.proofs.lemmas.List.{get_or-append-add, take-append-drop, length-t
 use Rattle.std.proofs.Math.Seq.{take-append_seam, drop-append_seam}
 use Rattle.net_base.specs.declared.trace.drop_cause.DropCause.{DropCause}
 use Rattle.net_base.specs.declared.trace.drop_cause.DropCause.TheVariants.{Short}
-use Rattle.net_base.specs.values.Frame.{inner, untagged, of_size, dress, pair_at, vlan_id_of, tag_octets}
+use Rattle.net_base.specs.values.Frame.{tag_protocol, inner, untagged, of_size, dress, pair_at, vlan_id_of, tag_octets}
 
 -- the tag is a VLAN ID
 abbrev pub IsVlanId : Option ℕ → Type 0
@@ -31,7 +31,7 @@ sized mtu (Err cause) frame e = absurd (cc)
 
 untagged_size : (tag : ℕ) (octets frame : List ℕ) → untagged (Some tag) octets ≡ Ok frame → 14 ≤ length frame
 untagged_size tag octets frame e =
-    let typed = passed (not (nat_eq (pair_at octets 12) 33024)) _ _ frame e in
+    let typed = passed (not (nat_eq (pair_at octets 12) tag_protocol)) _ _ frame e in
     let long = passed (nat_lt (length octets) 18) _ _ frame typed.1 in
     let same = passed (not (nat_eq (vlan_id_of octets) tag)) _ _ frame long.1 in
     let is : take 12 octets ++ drop 16 octets ≡ frame = cc (same.1) in
@@ -66,7 +66,7 @@ untagged-dressed tag front back len fits more =
     let third : get_or dressed 14 0 ≡ tag / 256 = octet 2 in
     let fourth : get_or dressed 15 0 ≡ tag % 256 = octet 3 in
     let size : length dressed ≡ 16 + length back = omega (arith, length-append (front ++ tag_octets tag) back, length-append front (tag_octets tag), len) in
-    let typed : not (nat_eq (get_or dressed 12 0 * 256 + get_or dressed 13 0) 33024) ≡ false = rw (first, second) refl in
+    let typed : not (nat_eq (get_or dressed 12 0 * 256 + get_or dressed 13 0) tag_protocol) ≡ false = rw (first, second) refl in
     let long : nat_lt (length dressed) 18 ≡ false = grind (arith, nat_tests) in
     let number : (get_or dressed 14 0 * 256 + get_or dressed 15 0) % 4096 ≡ tag = rw (third, fourth) (omega arith) in
     let right : not (nat_eq ((get_or dressed 14 0 * 256 + get_or dressed 15 0) % 4096) tag) ≡ false = ap not (eq-eqb _ _ number) in

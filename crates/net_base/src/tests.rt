@@ -228,3 +228,32 @@ fn copies_a_plan(rt: HostRuntime) -> Result<(), Fail> {
     }
     Ok(())
 }
+
+#[test]
+fn tells_the_ends_of_segments(rt: HostRuntime) -> Result<(), Fail> {
+    let mut wire = wire(rt.alloc(), &mesh("v", &[1, 4, 3, 2], 7))?;
+    wire.far.group = 9;
+    for (me, from, neighbours, mate) in [
+        (1, 4, true, None),
+        (4, 1, true, Some(EdgeId(3))),
+        (4, 3, true, Some(EdgeId(1))),
+        (3, 4, true, Some(EdgeId(2))),
+        (3, 2, true, Some(EdgeId(4))),
+        (2, 3, true, None),
+        (4, 2, false, None),
+        (5, 1, false, None),
+    ] {
+        assert_eq!(rt;
+            wire.are_neighbours(EdgeId(me), EdgeId(from)),
+            neighbours,
+            "{me} and {from}"
+        );
+        assert!(rt;
+            wire.mate(EdgeId(me), EdgeId(from)) == mate,
+            "at {me} from {from}"
+        );
+    }
+    assert_eq!(rt; wire.offer_of(EdgeId(1)).group, 0);
+    assert_eq!(rt; wire.offer_of(EdgeId(2)).group, 9);
+    Ok(())
+}

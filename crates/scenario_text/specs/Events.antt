@@ -1,5 +1,5 @@
 -- The commands of a document, word by word.
-use Rattle.std.specs.Prelude.{◌+◌, nat_lt, codes, ℕ, List, [], ◌∷◌, is_some, Result, Ok, Err, if◌then◌else◌}
+use Rattle.std.specs.Prelude.{◌+◌, ◌-◌, ◌^◌, nat_lt, codes, ℕ, List, [], ◌∷◌, is_some, Result, Ok, Err, if◌then◌else◌}
 use Rattle.std.specs.Str.{bytes_eq}
 use Rattle.toml.specs.Data.{Data, Items, no_items, item, as_str}
 use Rattle.net_base.specs.declared.trace.event.Event.{Event}
@@ -58,7 +58,7 @@ frame_in names event text = do
 -- K, the number of a packet
 unfoldable pub packet_in : ℕ → List ℕ → Result ℕ ScenarioFault
 packet_in event text = do
-  packet ← said (decimal_from 1 18446744073709551615) event 2 text
+  packet ← said (decimal_from 1 (2 ^ 64 - 1)) event 2 text
   end ← ends event 3 text
   Ok packet
 

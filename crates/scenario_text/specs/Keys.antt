@@ -1,5 +1,7 @@
 -- The keys that a table of the document may have.
-use Rattle.std.specs.Prelude.{◌||◌, not, codes, ℕ, Bool, true, false, List, Result, Ok, Err, Option, Some, None, if◌then◌else◌}
+use Rattle.std.specs.Prelude.{◌||◌, not, codes, ℕ, Bool, true, false, List, [], ◌∷◌, Result, Ok, Err, Option, Some, None, if◌then◌else◌}
+use Rattle.std.specs.Cmp.Lexicographic.{slice_cmp}
+use Rattle.std.specs.Ordering.{nat_cmp, is_le}
 use Rattle.std.specs.Str.{bytes_eq}
 use Rattle.toml.specs.Data.{Members, no_members, member}
 use Rattle.net_base.specs.declared.plan.table.Table.{Table}
@@ -51,10 +53,24 @@ is_known_key Service key = is_service_key key
 is_known_key Circuit key = is_circuit_key key
 is_known_key Wire key = (is_wire_key key || is_offer_key key) || is_far_key key
 
--- the first key that rows of this table lack; members stand in the byte order of their keys, so it is the least
+-- the keys that rows of this table lack
+abbrev pub unknown_keys : Table → Members → List (List ℕ)
+unknown_keys table no_members = []
+unknown_keys table (member key value rest) = if not (is_known_key table key) then key ∷ unknown_keys table rest else unknown_keys table rest
+
+-- the one of two keys that comes first in byte order
+abbrev pub lesser : List ℕ → Option (List ℕ) → List ℕ
+lesser key None = key
+lesser key (Some other) = if is_le (slice_cmp nat_cmp key other) then key else other
+
+-- the least of these keys in byte order
+abbrev pub least : List (List ℕ) → Option (List ℕ)
+least [] = None
+least (key ∷ keys) = Some (lesser key (least keys))
+
+-- the least key in byte order that rows of this table lack
 abbrev pub unknown_key : Table → Members → Option (List ℕ)
-unknown_key table no_members = None
-unknown_key table (member key value rest) = if not (is_known_key table key) then Some key else unknown_key table rest
+unknown_key table ms = least (unknown_keys table ms)
 
 abbrev pub none_unknown : RowPlace → Option (List ℕ) → Result Bool ScenarioFault
 none_unknown row None = Ok true

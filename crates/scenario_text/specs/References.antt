@@ -49,8 +49,8 @@ abbrev pub told : ℕ → Option ℕ
 told n = if n == 0 then None else Some n
 
 -- the offer of an end, where the service has this MTU
-abbrev pub offer_of : ℕ → OfferRow → Offer
-offer_of mtu offer =
+abbrev pub offer_from : ℕ → OfferRow → Offer
+offer_from mtu offer =
     record {
       tagged = offer.tagged;
       cword = offer.cword;
@@ -82,8 +82,8 @@ wire_in edges services row wire = do
         class = wire.class;
         path = path;
         pw_id = wire.pw_id;
-        near = offer_of (mtu_at services service) wire.near;
-        far = offer_of (mtu_at services service) wire.far;
+        near = offer_from (mtu_at services service) wire.near;
+        far = offer_from (mtu_at services service) wire.far;
         priority = wire.priority;
       })
 

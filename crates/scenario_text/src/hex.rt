@@ -33,7 +33,7 @@ fn pair(first: u8, second: u8) -> Option<u8>
 pub fn decode(alloc: Global, digits: &[u8]) -> Result<Option<Octets>, NoMemory>
     ensures { IfOk result (λ octets. octets ≡ unhex digits.now) }
 {
-    let mut octets = List::new(alloc);
+    let mut octets = List::with_capacity(alloc, digits.len() / 2)?;
     let mut at = 0;
     'decoding: while digits.len() - at >= 2 {
         let octet = match pair(digits[at], digits[at + 1]) {

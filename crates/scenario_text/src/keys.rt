@@ -1,6 +1,7 @@
 //! The keys that a table of the document may have.
-ghost use Rattle.std.specs.Prelude.{◌≡◌, not, true, option_map, string_bytes};
+ghost use Rattle.std.specs.Prelude.{◌≡◌, not, true, option_map, string_bytes, string_cmp};
 ghost use Rattle.std.specs.List.{find};
+ghost use Rattle.std.specs.List.Sorted.{IsStrictlySortedBy};
 ghost use Rattle.std.specs.Map.{keys_of};
 ghost use Rattle.toml.specs.View.{table_view};
 ghost use Rattle.scenario_text.specs.Keys.{is_top_key, is_edge_key, is_service_key, is_circuit_key, is_wire_key, is_offer_key, is_far_key, is_known_key, unknown_key, only_known};
@@ -98,14 +99,15 @@ fn is_known(table: TableKind, key: &str) -> bool
     }
 }
 
-// The first key that rows of the table lack, by the map's own keys.
+// The first key that rows of the table lack, by the map's own keys, which ascend.
 fn unknown_among(table: TableKind, members: &Table) -> Option<&String>
-    ensures { option_map (λ k. string_bytes k.now) result ≡ option_map string_bytes (find (λ k. not (is_known_key table (string_bytes k))) (keys_of members.now.entries)) }
+    ensures ascend { IsStrictlySortedBy string_cmp (keys_of members.now.entries) }
+    ensures first { option_map (λ k. string_bytes k.now) result ≡ option_map string_bytes (find (λ k. not (is_known_key table (string_bytes k))) (keys_of members.now.entries)) }
 {
     members.keys().find(|key| !is_known(table, key.as_str()))
 }
 
-// The first key that rows of the table lack.
+// The least key that rows of the table lack.
 fn unknown(table: TableKind, members: &Table) -> Option<&String>
     ensures { option_map (λ k. string_bytes k.now) result ≡ unknown_key table (table_view members.now) }
 {

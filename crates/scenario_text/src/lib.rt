@@ -37,6 +37,3 @@ pub use command::Command;
 pub use document::read_scenario;
 pub use scenario::Scenario;
 pub use scenario_fault::ScenarioFault;
-
-#[cfg(test)]
-mod tests;

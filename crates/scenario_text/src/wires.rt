@@ -2,7 +2,7 @@
 ghost use Rattle.std.specs.Prelude.{◌≡◌, ◌≤◌, length, IfOk};
 ghost use Rattle.net_base.specs.plan.NameFaults.{service_names};
 ghost use Rattle.scenario_text.specs.Reading.{Gives};
-ghost use Rattle.scenario_text.specs.References.{told, offer_of, mtu_at, path_in, wire_in, wires_in};
+ghost use Rattle.scenario_text.specs.References.{told, offer_from, mtu_at, path_in, wire_in, wires_in};
 
 use crate::ScenarioFault;
 use crate::name_index::NameIndex;
@@ -29,7 +29,7 @@ fn told_vccv(bits: u8) -> Option<u8>
 
 // The offer of an end, where the service has this MTU.
 fn offer(mtu: u16, row: &OfferRow) -> Offer
-    ensures { result ≡ offer_of mtu row.now }
+    ensures { result ≡ offer_from mtu row.now }
 {
     Offer {
         tagged: row.tagged,

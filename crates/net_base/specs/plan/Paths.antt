@@ -1,6 +1,7 @@
 -- Paths of wires: the edges that a wire passes, of which each two neighbours are joined by a segment (RFC 6073).
 use Rattle.std.specs.Prelude.{◌==◌, ◌&&◌, ◌||◌, ℕ, Bool, false, List, [], ◌∷◌, Option, Some, None, slice_get, option_map, reverse, if◌then◌else◌}
 use Rattle.std.specs.List.{list_any}
+use Rattle.std.specs.Option.{option_or}
 use Rattle.net_base.specs.declared.plan.Plan.{Plan}
 use Rattle.net_base.specs.declared.plan.offer.Offer.{Offer}
 use Rattle.net_base.specs.declared.plan.places.EdgeId.{EdgeId}
@@ -63,15 +64,18 @@ have_same_ends p q =
 abbrev pub are_neighbours : WirePlan → ℕ → ℕ → Bool
 are_neighbours wire a b = joins a b wire.path
 
--- of three edges one after another, `me` is the middle one and `from` an outer one: the other outer one
+-- of three edges one after another, of which `me` is the middle one and `from` an outer one: the other outer one
+abbrev pub mate_among : EdgeId → EdgeId → EdgeId → ℕ → ℕ → Option EdgeId
+mate_among before point next me from =
+    if me == point.0 && from == before.0 then Some next
+    else if me == point.0 && from == next.0 then Some before
+    else None
+
 abbrev pub mate_on : List EdgeId → ℕ → ℕ → Option EdgeId
 mate_on [] me from = None
-mate_on (a ∷ []) me from = None
-mate_on (a ∷ b ∷ []) me from = None
-mate_on (a ∷ b ∷ c ∷ rest) me from =
-    if me == b.0 && from == a.0 then Some c
-    else if me == b.0 && from == c.0 then Some a
-    else mate_on (b ∷ c ∷ rest) me from
+mate_on (last ∷ []) me from = None
+mate_on (before ∷ last ∷ []) me from = None
+mate_on (before ∷ point ∷ next ∷ rest) me from = option_or (mate_among before point next me from) (mate_on (point ∷ next ∷ rest) me from)
 
 -- the other neighbour of a switching point, to which it passes on what it has from one; none at a terminal edge (RFC 6073
 -- section 4)

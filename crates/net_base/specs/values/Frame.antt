@@ -18,6 +18,10 @@ goes_to_group frame = is_group_address (destination_of frame)
 abbrev pub pair_at : List ℕ → ℕ → ℕ
 pair_at octets at = slice_index octets at * 256 + slice_index octets (at + 1)
 
+-- the tag protocol identifier of a VLAN tag, its EtherType (IEEE 802.1Q clause 9.6)
+abbrev pub tag_protocol : ℕ
+tag_protocol = 0x8100
+
 -- the VLAN ID of a tag, without priority and drop eligibility
 abbrev pub vlan_id_of : List ℕ → ℕ
 vlan_id_of frame = pair_at frame 14 % 4096
@@ -26,7 +30,7 @@ vlan_id_of frame = pair_at frame 14 % 4096
 abbrev pub untagged : Option ℕ → List ℕ → Result (List ℕ) DropCause
 untagged None frame = Ok frame
 untagged (Some tag) frame =
-    if not (pair_at frame 12 == 33024) then Err NoTag
+    if not (pair_at frame 12 == tag_protocol) then Err NoTag
     else if nat_lt (length frame) 18 then Err Short
     else if not (vlan_id_of frame == tag) then Err WrongTag
     else Ok (take 12 frame ++ drop 16 frame)
@@ -42,7 +46,7 @@ inner tag mtu frame = if nat_lt (length frame) 14 then Err Short else of_size mt
 
 -- the octets of a tag with priority and drop eligibility 0
 abbrev pub tag_octets : ℕ → List ℕ
-tag_octets tag = 129 ∷ 0 ∷ tag / 256 ∷ tag % 256 ∷ []
+tag_octets tag = 0x81 ∷ 0x00 ∷ tag / 256 ∷ tag % 256 ∷ []
 
 -- the inner frame as it leaves at a circuit, with the circuit's tag put back
 abbrev pub dress : Option ℕ → List ℕ → List ℕ

@@ -1,7 +1,7 @@
 //! Paths of wires.
 ghost use Rattle.std.specs.Prelude.{◌≡◌, ◌==◌, ◌&&◌, ◌||◌};
 ghost use Rattle.std.specs.List.{list_any};
-ghost use Rattle.net_base.specs.plan.Paths.{first_edge, last_edge, is_first, is_last, joins, has_repeat, share_segment, is_same_edge, have_same_ends};
+ghost use Rattle.net_base.specs.plan.Paths.{first_edge, last_edge, is_first, is_last, joins, has_repeat, share_segment, is_same_edge, have_same_ends, mate_among, mate_on};
 
 use crate::EdgeId;
 
@@ -66,6 +66,38 @@ fn is_segment(first: EdgeId, next: EdgeId, a: EdgeId, b: EdgeId) -> bool
     ensures { result ≡ ((a.0 == first.0 && b.0 == next.0) || (b.0 == first.0 && a.0 == next.0)) }
 {
     (a == first && b == next) || (b == first && a == next)
+}
+
+/// The other neighbour of an edge between two others on the path, of which one is `from`.
+#[tactic(auto, using(crate::proofs::PathLemmas::mate_short))]
+pub(crate) fn mate_of(path: &[EdgeId], me: EdgeId, from: EdgeId) -> Option<EdgeId>
+    ensures { result ≡ mate_on path.now me.0 from.0 }
+{
+    let [first, second, rest @ ..] = path else {
+        return None;
+    };
+    let (mut before, mut point) = (*first, *second);
+    for next in rest {
+        if let Some(mate) = across(before, point, *next, me, from) {
+            return Some(mate);
+        }
+        before = point;
+        point = *next;
+    }
+    None
+}
+
+// The outer one of three neighbours that is not `from`, where the middle one is `me`.
+fn across(before: EdgeId, point: EdgeId, next: EdgeId, me: EdgeId, from: EdgeId) -> Option<EdgeId>
+    ensures { result ≡ mate_among before point next me.0 from.0 }
+{
+    if me == point && from == before {
+        return Some(next);
+    }
+    if me == point && from == next {
+        return Some(before);
+    }
+    None
 }
 
 /// Whether an edge stands twice on the path.

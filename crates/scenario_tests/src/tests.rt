@@ -1,10 +1,10 @@
 //! Whole documents. The faults that are expected were read off the same documents by an independent reader.
 
-use crate::{Command, ScenarioFault, read_scenario};
 use net_base::{
     Addr, CircuitPlan, Class, EdgeId, EdgePlan, Event, Name, Offer, Place, PlanFault, ServiceId,
     ServicePlan, Table as TableKind, Text,
 };
+use scenario_text::{Command, ScenarioFault, read_scenario};
 
 #[derive(Clone, Copy, Debug, PartialEq, Eq)]
 enum Kind {

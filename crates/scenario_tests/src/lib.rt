@@ -1,0 +1,6 @@
+//! Tests of the reader of scenarios on whole documents. They stand in a crate of their own, since a crate with tests is
+//! proved twice.
+#![tactic(auto)]
+
+#[cfg(test)]
+mod tests;
