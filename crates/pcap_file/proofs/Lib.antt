@@ -1,0 +1,5 @@
+pub mod FieldLemmas
+pub mod ReadingLemmas
+pub mod RecordLemmas
+pub mod WholeLemmas
+pub mod WrittenLemmas
