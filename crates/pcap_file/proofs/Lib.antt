@@ -1,3 +1,4 @@
+mod Examples
 pub mod FieldLemmas
 pub mod ReadingLemmas
 pub mod RecordLemmas
