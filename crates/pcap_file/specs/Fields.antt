@@ -1,0 +1,75 @@
+-- The fields of a capture in order, and what can be wrong in each (libpcap's capture file format, "File Header" and
+-- "Packet Record").
+use Rattle.std.specs.Prelude.{◌==◌, ◌+◌, ℕ, nat_le, nat_lt, List, [], ◌∷◌, length, Option, Some, None, if◌then◌else◌}
+use Rattle.std.specs.Option.{option_or}
+use Rattle.pcap_file.specs.declared.capture_fault.CaptureFault.{CaptureFault}
+use Rattle.pcap_file.specs.declared.capture_fault.CaptureFault.TheVariants as fault
+use Rattle.pcap_file.specs.declared.capture_field.CaptureField.{CaptureField}
+use Rattle.pcap_file.specs.declared.capture_field.CaptureField.TheVariants.{Magic, Major, Minor, Zone, Accuracy, Snap, Network, Seconds, Fraction, Captured, Original, Data}
+use Rattle.pcap_file.specs.declared.endianness.Endianness.{Endianness}
+use Rattle.pcap_file.specs.Numbers.{number_at}
+
+-- the first octet of a field, counted from that of its header or record
+abbrev pub place_of : CaptureField → ℕ
+place_of Magic = 0
+place_of Major = 4
+place_of Minor = 6
+place_of Zone = 8
+place_of Accuracy = 12
+place_of Snap = 16
+place_of Network = 20
+place_of Seconds = 0
+place_of Fraction = 4
+place_of Captured = 8
+place_of Original = 12
+place_of Data = 16
+
+-- the octets of a field; those of a record's data are as many as its captured length says
+abbrev pub size_of : Endianness → List ℕ → CaptureField → ℕ
+size_of order octets Magic = 4
+size_of order octets Major = 2
+size_of order octets Minor = 2
+size_of order octets Zone = 4
+size_of order octets Accuracy = 4
+size_of order octets Snap = 4
+size_of order octets Network = 4
+size_of order octets Seconds = 4
+size_of order octets Fraction = 4
+size_of order octets Captured = 4
+size_of order octets Original = 4
+size_of order octets Data = number_at order 4 8 octets
+
+-- the fault of a field of a header or record that begins at this place of the file, where the field is whole: the
+-- version is 2.4, the network 1 (Ethernet), and a captured length at most 262,144. Nothing else is looked at.
+abbrev pub value_fault : ℕ → Endianness → List ℕ → CaptureField → Option CaptureFault
+value_fault base order octets Magic = None
+value_fault base order octets Major = if number_at order 2 4 octets == 2 then None else Some (fault.Version (base + 4))
+value_fault base order octets Minor = if number_at order 2 6 octets == 4 then None else Some (fault.Version (base + 4))
+value_fault base order octets Zone = None
+value_fault base order octets Accuracy = None
+value_fault base order octets Snap = None
+value_fault base order octets Network = if number_at order 4 20 octets == 1 then None else Some (fault.Network (base + 20))
+value_fault base order octets Seconds = None
+value_fault base order octets Fraction = None
+value_fault base order octets Captured = if nat_le (number_at order 4 8 octets) 262144 then None else Some (fault.Length (base + 8))
+value_fault base order octets Original = None
+value_fault base order octets Data = None
+
+-- the fault of a field: the octets end before its last one, or its value is wrong
+abbrev pub field_fault : ℕ → Endianness → List ℕ → CaptureField → Option CaptureFault
+field_fault base order octets field =
+    if nat_lt (length octets) (place_of field + size_of order octets field) then Some (fault.Truncated (base + place_of field) field)
+    else value_fault base order octets field
+
+-- the first fault of fields in their order
+abbrev pub first_fault : ℕ → Endianness → List ℕ → List CaptureField → Option CaptureFault
+first_fault base order octets [] = None
+first_fault base order octets (field ∷ fields) = option_or (field_fault base order octets field) (first_fault base order octets fields)
+
+-- the fields of a header behind its magic
+abbrev pub header_fields : List CaptureField
+header_fields = Major ∷ Minor ∷ Zone ∷ Accuracy ∷ Snap ∷ Network ∷ []
+
+-- the fields of a record
+abbrev pub record_fields : List CaptureField
+record_fields = Seconds ∷ Fraction ∷ Captured ∷ Original ∷ Data ∷ []

@@ -1,0 +1,5 @@
+//! Captures that were worked out by hand.
+
+mod faults;
+mod frames;
+mod hex;
