@@ -6,7 +6,6 @@
 
 mod buffer;
 mod front;
-mod halt;
 mod laws;
 mod stream;
 mod stream_fault;
