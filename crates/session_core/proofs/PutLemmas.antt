@@ -5,7 +5,10 @@ use Rattle.std.specs.List.{AllByRecursion}
 use Rattle.ldp_grammar.specs.declared.message.Message.{Message}
 use Rattle.ldp_grammar.specs.declared.message.Message.TheVariants.{Notification, Initialization, KeepAlive}
 use Rattle.ldp_grammar.specs.declared.session_params.SessionParams.{SessionParams}
-use Rattle.ldp_grammar.specs.Written.{message_octets, writable}
+use Rattle.ldp_grammar.specs.declared.ldp_id.LdpId.{LdpId}
+use Rattle.ldp_grammar.specs.Written.{message_octets, writable, written}
+use Rattle.ldp_grammar.proofs.OctetLemmas.{AreOctets}
+use Rattle.ldp_grammar.proofs.WrittenOctets.{written_are, session_are, status_are}
 use Rattle.net_base.specs.declared.trace.state_name.Reason.{Reason}
 use Rattle.session_core.specs.declared.peers.Peers.{Peers}
 use Rattle.session_core.specs.declared.refusal.Refusal.{Refusal}
@@ -13,7 +16,7 @@ use Rattle.session_core.specs.declared.refusal.Refusal.TheVariants as refusal
 use Rattle.session_core.specs.declared.reply.Reply.{Reply}
 use Rattle.session_core.specs.declared.reply.Reply.TheVariants as reply
 use Rattle.session_core.specs.Messages.{HasData, RepliesArePut, message_of}
-use Rattle.session_core.specs.Parameters.{refusal_of}
+use Rattle.session_core.specs.Parameters.{proposal, refusal_of}
 use Rattle.session_core.specs.State.{SessionState}
 use Rattle.session_core.specs.Table.{SessionEvent, Start, Heard, Received, Refused, Spoke, Ticked, Closed, outcome_of, replies_of, judged, notified, reason_in}
 
@@ -60,5 +63,10 @@ short reply.Init id peers four = omega (arith, proposal_length id peers four)
 short reply.KeepAlive id peers four = omega arith
 short (reply.Notice status) id peers four = omega arith
 
+octets : (reply : Reply) (id : ℕ) (peers : Peers) (sender : LdpId) → AreOctets peers.peer.0 → AreOctets sender.router.0 → AreOctets (written (message_of reply id peers) sender)
+octets reply.Init id peers sender peer router = written_are (message_of reply.Init id peers) sender (session_are (proposal peers) (omega arith) (omega arith) peer, tt) router
+octets reply.KeepAlive id peers sender peer router = written_are (message_of reply.KeepAlive id peers) sender tt router
+octets (reply.Notice status) id peers sender peer router = written_are (message_of (reply.Notice status) id peers) sender (status_are status, tt) router
+
 pub replies_are_put : RepliesArePut
-replies_are_put = record { has_data = has_data; writable = can_write; short = short }
+replies_are_put = record { has_data = has_data; writable = can_write; short = short; octets = octets }
