@@ -9,7 +9,7 @@ use Rattle.ldp_grammar.specs.declared.message.Message.{Message}
 use Rattle.ldp_grammar.specs.declared.pdu.Pdu.{Pdu}
 use Rattle.ldp_grammar.specs.Octets.{two}
 use Rattle.ldp_grammar.specs.Spells.{IsFramed, Spells}
-use Rattle.ldp_grammar.specs.FirstFault.{FirstFault, Names, IsFirst, NamesMessages, moved}
+use Rattle.ldp_grammar.specs.FirstFault.{FirstFault, Names, IsFirst, NamesMessages}
 use Rattle.ldp_grammar.proofs.PduLemmas.{never_both, one_first, first_inside}
 use Rattle.ldp_grammar.proofs.MeaningLemmas.{one_pdu}
 use Rattle.ldp_codec.specs.declared.decode_fault.DecodeFault.{DecodeFault}
