@@ -2,9 +2,10 @@
 ghost use Rattle.std.specs.Prelude.{◌≡◌, ◌≤◌, ◌+◌, ◌++◌, length, drop, Some, IfSome};
 ghost use Rattle.net_base.specs.values.Frame.{dress as dressed, tag_octets};
 
-use crate::octets::{join, put};
+use crate::octets::join;
 use crate::tag::TAG_PROTOCOL;
 use byteorder::{BigEndian, ByteOrder};
+use net_base::put;
 
 // The octets of a tag with priority and drop eligibility 0.
 fn tag_bytes(tag: u16) -> [u8; 4]

@@ -1,8 +1,9 @@
 //! Numbers and pieces in rows of octets.
-ghost use Rattle.std.specs.Prelude.{◌≡◌, ◌≤◌, ◌+◌, ◌++◌, length, take, drop};
+ghost use Rattle.std.specs.Prelude.{◌≡◌, ◌≤◌, ◌+◌, ◌++◌, length, drop};
 ghost use Rattle.net_base.specs.values.Frame.{pair_at};
 
 use byteorder::{BigEndian, ByteOrder};
+use net_base::put;
 
 // The number of the two octets at a place.
 #[tactic(auto, using(crate::proofs::OctetLemmas::number_at))]
@@ -12,17 +13,6 @@ pub(crate) fn pair(octets: &[u8], at: usize) -> u16
 {
     let (_, rest) = octets.split_at(at);
     BigEndian::read_u16(rest)
-}
-
-// Writes the piece at the place, and answers the place behind it.
-pub(crate) fn put(out: &mut [u8], at: usize, piece: &[u8]) -> usize
-    requires { at + length piece.now ≤ length out.old }
-    ensures end { result ≡ at + length piece.now }
-    ensures octets { out.new ≡ (take at out.old ++ piece.now) ++ drop result out.old }
-{
-    let end = at + piece.len();
-    out[at..end].copy_from_slice(piece);
-    end
 }
 
 // Writes two pieces to the front, and answers the place behind them.

@@ -9,7 +9,7 @@ use Rattle.ldp_grammar.specs.declared.message.Message.{Message}
 use Rattle.ldp_grammar.specs.declared.pdu.Pdu.{Pdu}
 use Rattle.ldp_grammar.specs.Octets.{two}
 use Rattle.ldp_grammar.specs.Spells.{IsFramed, Spells}
-use Rattle.ldp_grammar.specs.FirstFault.{FirstFault, Names, IsFirst, NamesMessages, moved}
+use Rattle.ldp_grammar.specs.FirstFault.{FirstFault, Names, IsFirst, NamesMessages}
 use Rattle.ldp_grammar.proofs.PduLemmas.{never_both, one_first, first_inside}
 use Rattle.ldp_grammar.proofs.MeaningLemmas.{one_pdu}
 use Rattle.ldp_codec.specs.declared.decode_fault.DecodeFault.{DecodeFault}
@@ -68,7 +68,12 @@ refuses bytes max (Err e) small spelled fault f is = elim (told (FirstFault byte
   | inr none ↦ inr (ap Err none)
 ]
 
--- a stop among the messages is a refusal of the PDU
-pub tells_stop : (bytes sender body : List ℕ) (max : ℕ) (s : Stop) → max ≤ 4096 → IsFramed bytes max sender body → StopsAt (IsFirst (NamesMessages body)) s → Tells (FirstFault bytes max) (refusal_for (stop_behind 10 s))
-tells_stop bytes sender body max (stop.At f) small framed first = tells_of (FirstFault bytes max) (moved 10 f) (first_inside bytes sender body max f small framed first)
-tells_stop bytes sender body max stop.NoMemory small framed first = tt
+-- a stop among the messages is one of the PDU
+pub stops_inside : (bytes sender body : List ℕ) (max : ℕ) (s : Stop) → max ≤ 4096 → IsFramed bytes max sender body → StopsAt (IsFirst (NamesMessages body)) s → StopsAt (FirstFault bytes max) (stop_behind 10 s)
+stops_inside bytes sender body max (stop.At f) small framed first = first_inside bytes sender body max f small framed first
+stops_inside bytes sender body max stop.NoMemory small framed first = tt
+
+-- what stopped the reading is told by its refusal
+pub tells_for : (P : Fault → Type 0) (s : Stop) → StopsAt P s → Tells P (refusal_for s)
+tells_for P (stop.At f) stops = tells_of P f stops
+tells_for P stop.NoMemory stops = tt

@@ -14,7 +14,8 @@ use Rattle.ldp_grammar.specs.Written.{point_tlvs, ignorable}
 use Rattle.ldp_grammar.specs.Octets.{two}
 use Rattle.ldp_grammar.specs.Tlvs.{Tlv, spell_tlv}
 use Rattle.ldp_grammar.proofs.TlvLemmas.{size_of}
-use Rattle.ldp_codec.specs.Put.{IsPut, ArePut}
+use Rattle.net_base.specs.values.Put.{IsPut}
+use Rattle.ldp_codec.specs.Put.{ArePut}
 
 drop_drop : (n m : ℕ) (xs : List ℕ) → drop m (drop n xs) ≡ drop (n + m) xs
 drop_drop zero m xs = ap (λ (k : ℕ). drop k xs) (sym (zero-add m))

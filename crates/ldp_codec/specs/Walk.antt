@@ -1,7 +1,6 @@
 -- What is known on the way through the octets of a message.
-use Rattle.std.specs.Prelude.{◌≡◌, ◌≢◌, ◌⊎◌, ◌<◌, ◌++◌, ◌+◌, ◌≤◌, ℕ, Bool, true, false, List, length, drop, flat_map, Option, Some, None}
+use Rattle.std.specs.Prelude.{◌≡◌, ◌++◌, ◌+◌, ◌≤◌, ℕ, Bool, true, false, List, length, flat_map, Option, Some, None}
 use Rattle.std.specs.List.{AllByRecursion}
-use Rattle.std.specs.Option.{option_or}
 use Rattle.net_base.specs.declared.values.field.Field.{Field}
 use Rattle.pw_tlvs.specs.declared.field_fault.FieldFault.{FieldFault}
 use Rattle.pw_tlvs.specs.declared.fec_value.FecValue.TheVariants.{Foreign}
@@ -10,15 +9,12 @@ use Rattle.pw_tlvs.specs.Fec.{IsFecValue}
 use Rattle.ldp_grammar.specs.declared.fault.Fault.{Fault}
 use Rattle.ldp_grammar.specs.declared.message.Message.{Message}
 use Rattle.ldp_grammar.specs.declared.message_kind.MessageKind.{MessageKind}
-use Rattle.ldp_grammar.specs.Rows.{Row, row_of, switching_point}
+use Rattle.ldp_grammar.specs.Rows.{Row, row_of}
 use Rattle.ldp_grammar.specs.Spells.{Spelling, spell, IsSpelling, StandsFor, StandInOrder}
 use Rattle.ldp_grammar.specs.FirstFault.{IsFirst, NamesTlvs, ContentFault, fault_in}
 use Rattle.ldp_grammar.specs.Octets.{two_at}
 use Rattle.ldp_grammar.specs.Layouts.{fits, listed}
-use Rattle.ldp_grammar.specs.Tlvs.{Tlv, IsTlv, IsJoined, IsFaultless, IsForeign, IsReason, HasContent, HasValue, HasRoom, spell_tlv, type_in, count_of, value_of, values_of, unknown_in, first_unknown}
-use Rattle.ldp_grammar.specs.Values.{ArePoints}
-use Rattle.pw_tlvs.specs.declared.point.Point.{Point}
-use Rattle.ldp_grammar.specs.declared.message_kind.MessageKind.TheVariants.{LabelMapping}
+use Rattle.ldp_grammar.specs.Tlvs.{Tlv, IsTlv, IsJoined, IsFaultless, IsForeign, IsReason, HasContent, HasValue, HasRoom, spell_tlv, type_in, count_of, first_unknown}
 
 -- a TLV with this word and value stands in front of these octets
 pub record IsSplit (rest : List ℕ) (word : ℕ) (value more : List ℕ) : Type 0 where

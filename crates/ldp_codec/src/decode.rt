@@ -5,25 +5,40 @@ ghost use Rattle.ldp_grammar.specs.declared.fault.Fault.{Fault};
 ghost use Rattle.ldp_grammar.specs.Spells.{Spells};
 ghost use Rattle.ldp_grammar.specs.FirstFault.{FirstFault};
 ghost use Rattle.ldp_codec.specs.Decoded.{IsUnlessNoMemory, Tells, refusal_of};
+ghost use Rattle.ldp_codec.specs.Stop.{StopsAt};
 
 use crate::DecodeFault;
 use crate::message_walk::read_messages;
 use crate::pdu_header::read_header;
+use crate::stop::Stop;
 use ldp_grammar::{PDU_HEADER, Pdu};
 use std::alloc::Global;
 
-// The PDU, or the first fault.
+/// The PDU that the octets spell, or why their reading stopped: at their first fault, or as memory was refused. It is
+/// `decode_pdu` with a fault as the grammar has it, for a caller that keeps one. `max` is at most 4096.
 #[tactic(auto, using(crate::proofs::DecodeLemmas::pdu_spelled, ldp_grammar::proofs::PduLemmas::first_inside))]
-fn decode(alloc: Global, bytes: &[u8], max: u16) -> Result<Pdu, DecodeFault>
+pub fn read_pdu(alloc: Global, bytes: &[u8], max: u16) -> Result<Pdu, Stop>
     requires { max ≤ 4096 }
     ensures spelled { IfOk result (Spells bytes.now max) }
-    ensures fault { IfErr result (Tells (FirstFault bytes.now max)) }
+    ensures fault { IfErr result (StopsAt (FirstFault bytes.now max)) }
 {
     let id = read_header(bytes, max)?;
     let (_, body) = bytes.split_at(PDU_HEADER);
     match read_messages(alloc, body) {
         Ok(messages) => Ok(Pdu { id, messages }),
-        Err(stop) => Err(DecodeFault::from(stop.behind(PDU_HEADER as u16))),
+        Err(stop) => Err(stop.behind(PDU_HEADER as u16)),
+    }
+}
+
+// The PDU, or the first fault.
+fn decode(alloc: Global, bytes: &[u8], max: u16) -> Result<Pdu, DecodeFault>
+    requires { max ≤ 4096 }
+    ensures spelled { IfOk result (Spells bytes.now max) }
+    ensures fault { IfErr result (Tells (FirstFault bytes.now max)) }
+{
+    match read_pdu(alloc, bytes, max) {
+        Ok(pdu) => Ok(pdu),
+        Err(stop) => Err(DecodeFault::from(stop)),
     }
 }
 

@@ -1,12 +1,12 @@
 //! The octets of a message.
 ghost use Rattle.std.specs.Prelude.{◌≡◌, ◌≤◌, ◌+◌, ◌++◌, true, length, drop};
 ghost use Rattle.ldp_grammar.specs.Written.{message_octets, writable, written};
-ghost use Rattle.ldp_codec.specs.Put.{IsPut};
+ghost use Rattle.net_base.specs.values.Put.{IsPut};
 
-use crate::put::put;
 use crate::put_tlvs::put_tlvs;
 use crate::written_values::{message_header, pdu_header};
 use ldp_grammar::{LdpId, MESSAGE_HEADER, Message, PDU_HEADER};
+use net_base::put;
 
 // Writes the message at the place, and answers the place behind it.
 fn put_message(out: &mut [u8], at: usize, message: &Message) -> usize

@@ -14,7 +14,6 @@ mod message_walk;
 mod numbers;
 mod pdu_header;
 mod points;
-mod put;
 mod put_tlvs;
 mod stop;
 mod tlv;
@@ -23,9 +22,10 @@ mod tlv_walk;
 mod values;
 mod written_values;
 
-pub use decode::decode_pdu;
+pub use decode::{decode_pdu, read_pdu};
 pub use decode_fault::DecodeFault;
 pub use encode::encode_into;
+pub use stop::Stop;
 
 #[cfg(test)]
 mod tests;

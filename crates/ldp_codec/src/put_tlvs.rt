@@ -8,7 +8,6 @@ ghost use Rattle.ldp_grammar.specs.Tlvs.{spell_tlv};
 ghost use Rattle.ldp_grammar.specs.Written.{addresses_octets, fec_tlvs, hello_octets, ignorable, label_tlvs, mac_tlvs, point_tlvs, status_octets, status_tlvs, tlv, transport_tlvs, withdrawn_tlvs, writable, writable_fecs, written_tlvs};
 ghost use Rattle.ldp_codec.specs.Put.{ArePut};
 
-use crate::put::put;
 use crate::written_values::{
     four_bytes, hello_bytes, session_bytes, status_bytes, tlv_header, two_bytes,
 };
@@ -16,7 +15,7 @@ use ldp_grammar::{
     ADDRESS_LIST, AddressList, FEC, HELLO_PARAMETERS, LABEL, MAC_LIST, Message, PW_STATUS,
     REQUEST_ID, SESSION_PARAMETERS, STATUS, SWITCHING_POINT, StatusCode, TRANSPORT_ADDRESS, U_BIT,
 };
-use net_base::{Addr, Label, List as Items, Mac, Octets};
+use net_base::{Addr, Label, List as Items, Mac, Octets, put};
 use pw_tlvs::{
     Point, Points, PwFec, PwStatus, fec_size, macs_size, point_size, write_fec, write_macs,
     write_point, write_status,

@@ -8,9 +8,9 @@ use net_base::NoMemory;
 /// Why the reading of messages stopped.
 #[derive(Clone, Copy, Debug)]
 pub enum Stop {
-    // A fault, its place counted from the first octet that was read.
+    /// A fault, its place counted from the first octet that was read.
     At(Fault),
-    // Memory was refused.
+    /// Memory was refused.
     NoMemory,
 }
 

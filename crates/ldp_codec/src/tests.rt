@@ -1,6 +1,9 @@
-//! Octets that were worked out by hand, both ways, and one PDU for each fault.
+//! PDUs that were worked out by hand.
 
 mod faults;
 mod hex;
 mod messages;
-mod same;
+mod pseudowires;
+mod reading;
+mod rows;
+mod writing;

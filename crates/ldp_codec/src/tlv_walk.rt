@@ -66,17 +66,17 @@ fn take_tlv(
     ensures near { IfErr result (λ fault. fault.place < length rest.now) }
 {
     if rest.len() < TLV_HEADER {
-        return Err(fault(0, Cause::TlvLength));
+        return Err(fault_at(0, Cause::TlvLength));
     }
     let tlv = two(rest, 0) % TYPE_LIMIT;
     if let Some(field) = repeated(kind, tlv, before) {
-        return Err(fault(0, Cause::Repeated(field)));
+        return Err(fault_at(0, Cause::Repeated(field)));
     }
     let Some((word, value, _)) = split_tlv(rest) else {
-        return Err(fault(2, Cause::TlvLength));
+        return Err(fault_at(2, Cause::TlvLength));
     };
     if let Some(field) = misfit(kind, tlv, value) {
-        return Err(fault(2, Cause::TlvValue(field)));
+        return Err(fault_at(2, Cause::TlvValue(field)));
     }
     if let Some(fault) = wrong_content(kind, foreign, tlv, value) {
         return Err(fault);
@@ -85,7 +85,7 @@ fn take_tlv(
 }
 
 // A fault at a place.
-fn fault(place: u16, cause: Cause) -> Fault
+fn fault_at(place: u16, cause: Cause) -> Fault
     ensures { result ≡ record { place = place; cause = cause } }
 {
     Fault { place, cause }

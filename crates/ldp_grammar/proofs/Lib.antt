@@ -8,8 +8,10 @@ pub mod MessageLemmas
 pub mod PduLemmas
 pub mod MeaningLemmas
 pub mod ReadingLemmas
+pub mod ReadingOf
 pub mod TellingLemmas
 pub mod PduReading
 pub mod WrittenLemmas
+pub mod WrittenOctets
 pub mod RoundTripLemmas
 pub mod Examples

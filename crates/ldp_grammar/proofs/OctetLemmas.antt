@@ -62,7 +62,7 @@ octets_drop zero xs octets = octets
 octets_drop (suc n) [] octets = none_octet
 octets_drop (suc n) (x ∷ xs) octets = octets_drop n xs (λ i. octets (suc i))
 
-octet_front : (x : ℕ) (xs : List ℕ) → x < 256 → AreOctets xs → (i : ℕ) → get_or (x ∷ xs) i 0 < 256
+pub octet_front : (x : ℕ) (xs : List ℕ) → x < 256 → AreOctets xs → (i : ℕ) → get_or (x ∷ xs) i 0 < 256
 octet_front x xs fits octets zero = fits
 octet_front x xs fits octets (suc i) = octets i
 
@@ -70,3 +70,7 @@ pub octets_take : (n : ℕ) (xs : List ℕ) → AreOctets xs → AreOctets (take
 octets_take zero xs octets = none_octet
 octets_take (suc n) [] octets = none_octet
 octets_take (suc n) (x ∷ xs) octets = octet_front x (take n xs) (octets 0) (octets_take n xs (λ i. octets (suc i)))
+
+pub octets_before : (front more : List ℕ) → AreOctets (front ++ more) → AreOctets front
+octets_before [] more octets = none_octet
+octets_before (x ∷ front) more octets = octet_front x front (octets 0) (octets_before front more (λ i. octets (suc i)))

@@ -21,6 +21,10 @@ use Rattle.ldp_grammar.specs.Layouts.{fits, most, listed}
 use Rattle.ldp_grammar.specs.Tlvs.{Tlv, type_in, spell_tlv, IsTlv, count_of, IsForeign}
 use Rattle.ldp_grammar.specs.Spells.{Spelling, spell, IsSpelling, IsFramed, Spells}
 
+-- a number above the rank of every cause that names a field once
+abbrev pub beyond_values : ℕ
+beyond_values = 32
+
 -- the causes in the order in which their rules are stated, and under one cause the fields in their order
 abbrev pub rank : Cause → ℕ
 rank cause.Version = 0
@@ -28,7 +32,7 @@ rank cause.PduLength = 1
 rank cause.MessageLength = 2
 rank cause.TlvLength = 3
 rank (cause.TlvValue field) = 4 + field_rank field
-rank (cause.Repeated field) = 32 + field_rank field
+rank (cause.Repeated field) = beyond_values + field_rank field
 
 -- the first fault comes no later than the second
 abbrev pub Precedes : Fault → Fault → Type 0

@@ -1,5 +1,5 @@
 -- What octets come to: each octets spell a PDU or have a first fault (RFC 5036 sections 3.1 and 3.3 to 3.5).
-use Rattle.std.specs.Prelude.{◌<◌, ◌≤◌, ℕ, List, slice_index}
+use Rattle.std.specs.Prelude.{◌<◌, ◌≤◌, ◌&&◌, ℕ, Bool, true, nat_lt, List, [], ◌∷◌, slice_index}
 use Rattle.ldp_grammar.specs.declared.fault.Fault.{Fault}
 use Rattle.ldp_grammar.specs.declared.pdu.Pdu.{Pdu}
 use Rattle.ldp_grammar.specs.Spells.{Spells}
@@ -8,6 +8,11 @@ use Rattle.ldp_grammar.specs.FirstFault.{FirstFault}
 -- each number is one that an octet holds
 abbrev pub AreOctets : List ℕ → Type 0
 AreOctets bytes = (at : ℕ) → slice_index bytes at < 256
+
+-- whether each of them is
+abbrev pub are_octets : List ℕ → Bool
+are_octets [] = true
+are_octets (octet ∷ octets) = nat_lt octet 256 && are_octets octets
 
 -- the PDU that octets spell, or their first fault, with what shows it
 pub data Reading (bytes : List ℕ) (max : ℕ) : Type 0 where

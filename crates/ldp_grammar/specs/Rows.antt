@@ -8,17 +8,17 @@ use Rattle.ldp_grammar.specs.declared.tlv_part.TlvPart.TheVariants.{Needed, Furt
 
 -- the type of a message
 abbrev pub type_of : MessageKind → ℕ
-type_of Notification = 1
-type_of Hello = 256
-type_of Initialization = 512
-type_of KeepAlive = 513
-type_of Address = 768
-type_of AddressWithdraw = 769
-type_of LabelMapping = 1024
-type_of LabelRequest = 1025
-type_of LabelWithdraw = 1026
-type_of LabelRelease = 1027
-type_of LabelAbort = 1028
+type_of Notification = 0x0001
+type_of Hello = 0x0100
+type_of Initialization = 0x0200
+type_of KeepAlive = 0x0201
+type_of Address = 0x0300
+type_of AddressWithdraw = 0x0301
+type_of LabelMapping = 0x0400
+type_of LabelRequest = 0x0401
+type_of LabelWithdraw = 0x0402
+type_of LabelRelease = 0x0403
+type_of LabelAbort = 0x0404
 
 -- the message of a type
 abbrev pub kind_of : ℕ → Option MessageKind
@@ -38,37 +38,57 @@ kind_of number =
 
 -- the types of the TLVs that are read
 abbrev pub fec : ℕ
-fec = 256
+fec = 0x0100
 
 abbrev pub address_list : ℕ
-address_list = 257
+address_list = 0x0101
 
 abbrev pub label : ℕ
-label = 512
+label = 0x0200
 
 abbrev pub status : ℕ
-status = 768
+status = 0x0300
 
 abbrev pub hello_parameters : ℕ
-hello_parameters = 1024
+hello_parameters = 0x0400
 
 abbrev pub transport_address : ℕ
-transport_address = 1025
+transport_address = 0x0401
 
 abbrev pub mac_list : ℕ
-mac_list = 1028
+mac_list = 0x0404
 
 abbrev pub session_parameters : ℕ
-session_parameters = 1280
+session_parameters = 0x0500
 
 abbrev pub request_id : ℕ
-request_id = 1536
+request_id = 0x0600
 
 abbrev pub pw_status : ℕ
-pw_status = 2410
+pw_status = 0x096A
 
 abbrev pub switching_point : ℕ
-switching_point = 2413
+switching_point = 0x096D
+
+-- the types of TLVs of other features, which some messages may have and which are passed over (RFC 5036 sections 3.4.4, 3.4.5,
+-- 3.5.1 and 3.5.2)
+abbrev pub hop_count : ℕ
+hop_count = 0x0103
+
+abbrev pub path_vector : ℕ
+path_vector = 0x0104
+
+abbrev pub extended_status : ℕ
+extended_status = 0x0301
+
+abbrev pub returned_pdu : ℕ
+returned_pdu = 0x0302
+
+abbrev pub returned_message : ℕ
+returned_message = 0x0303
+
+abbrev pub configuration_number : ℕ
+configuration_number = 0x0402
 
 -- The row of a message: the types of the TLVs that it needs, in the order in which they are written, of those that all
 -- together may stand instead of the needed ones, of those that it may have, also in that order, and of those that are
@@ -81,14 +101,14 @@ pub record Row : Type 0 where
   pub passes_rest : Bool
 
 abbrev pub row_of : MessageKind → Row
-row_of Notification = record { needed = status ∷ []; instead = []; further = pw_status ∷ fec ∷ []; passed = 769 ∷ 770 ∷ 771 ∷ []; passes_rest = false }
-row_of Hello = record { needed = hello_parameters ∷ []; instead = []; further = transport_address ∷ []; passed = 1026 ∷ []; passes_rest = false }
+row_of Notification = record { needed = status ∷ []; instead = []; further = pw_status ∷ fec ∷ []; passed = extended_status ∷ returned_pdu ∷ returned_message ∷ []; passes_rest = false }
+row_of Hello = record { needed = hello_parameters ∷ []; instead = []; further = transport_address ∷ []; passed = configuration_number ∷ []; passes_rest = false }
 row_of Initialization = record { needed = session_parameters ∷ []; instead = []; further = []; passed = []; passes_rest = true }
 row_of KeepAlive = record { needed = []; instead = []; further = []; passed = []; passes_rest = false }
 row_of Address = record { needed = address_list ∷ []; instead = []; further = []; passed = []; passes_rest = false }
 row_of AddressWithdraw = record { needed = address_list ∷ []; instead = fec ∷ mac_list ∷ []; further = fec ∷ mac_list ∷ []; passed = []; passes_rest = false }
-row_of LabelMapping = record { needed = fec ∷ label ∷ []; instead = []; further = pw_status ∷ switching_point ∷ []; passed = 259 ∷ 260 ∷ 1536 ∷ []; passes_rest = false }
-row_of LabelRequest = record { needed = fec ∷ []; instead = []; further = []; passed = 259 ∷ 260 ∷ []; passes_rest = false }
+row_of LabelMapping = record { needed = fec ∷ label ∷ []; instead = []; further = pw_status ∷ switching_point ∷ []; passed = hop_count ∷ path_vector ∷ request_id ∷ []; passes_rest = false }
+row_of LabelRequest = record { needed = fec ∷ []; instead = []; further = []; passed = hop_count ∷ path_vector ∷ []; passes_rest = false }
 row_of LabelWithdraw = record { needed = fec ∷ []; instead = []; further = label ∷ []; passed = []; passes_rest = false }
 row_of LabelRelease = record { needed = fec ∷ []; instead = []; further = label ∷ status ∷ []; passed = []; passes_rest = false }
 row_of LabelAbort = record { needed = fec ∷ request_id ∷ []; instead = []; further = []; passed = []; passes_rest = false }

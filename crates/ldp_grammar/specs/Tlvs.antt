@@ -26,7 +26,7 @@ pub record Tlv : Type 0 where
   pub value : List ℕ
 
 abbrev pub type_in : ℕ → ℕ
-type_in word = word % 16384
+type_in word = word % 0x4000
 
 -- the octets of a TLV
 abbrev pub spell_tlv : Tlv → List ℕ

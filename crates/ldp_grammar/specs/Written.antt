@@ -49,9 +49,9 @@ addresses_octets family octets = two family ++ octets
 abbrev pub tlv : ℕ → List ℕ → Tlv
 tlv number value = record { word = number; value = value }
 
--- the same with U = 1
+-- the same with U = 1, the highest bit
 abbrev pub ignorable : ℕ → List ℕ → Tlv
-ignorable number value = record { word = 32768 + number; value = value }
+ignorable number value = record { word = 0x8000 + number; value = value }
 
 abbrev pub transport_tlvs : Option Addr → List Tlv
 transport_tlvs None = []

@@ -15,6 +15,7 @@ mod layout;
 mod ldp_id;
 mod message;
 mod message_kind;
+mod message_type;
 mod pdu;
 mod session_params;
 mod status_code;

@@ -42,7 +42,8 @@ pub enum Message {
         octets: Octets,
     },
     /// Withdraws addresses (section 3.5.6), or the MAC addresses that were learned on a pseudowire (RFC 4762 section
-    /// 6.2); an empty list of these withdraws all.
+    /// 6.2): the list has those that the receiver forgets; an empty one has it forget all of the service but those that
+    /// it learned over the pseudowire by which this came.
     AddressWithdraw {
         id: u32,
         addresses: Option<AddressList>,
@@ -50,7 +51,7 @@ pub enum Message {
         macs: Option<List<Mac>>,
     },
     /// Binds a label to a pseudowire (section 3.5.7, RFC 8077 section 6), whose FEC has a PW ID: with its status where
-    /// it is told (RFC 8077 section 6.3.2), and the switching points that it passed (RFC 6073 section 7.4).
+    /// it is told (RFC 8077 section 6.3.3), and the switching points that it passed (RFC 6073 section 7.4).
     LabelMapping {
         id: u32,
         fec: PwFec,

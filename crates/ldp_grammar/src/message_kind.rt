@@ -3,8 +3,13 @@ ghost use Rattle.std.specs.Prelude.{◌≡◌};
 ghost use Rattle.ldp_grammar.specs.Rows.{kind_of, type_of, part_of, row_of};
 ghost use Rattle.ldp_grammar.specs.Layouts.{listed};
 
+use crate::message_type::{
+    ADDRESS, ADDRESS_WITHDRAW, HELLO, INITIALIZATION, KEEP_ALIVE, LABEL_ABORT, LABEL_MAPPING,
+    LABEL_RELEASE, LABEL_REQUEST, LABEL_WITHDRAW, NOTIFICATION,
+};
 use crate::tlv_type::{
-    ADDRESS_LIST, FEC, HELLO_PARAMETERS, LABEL, MAC_LIST, PW_STATUS, REQUEST_ID,
+    ADDRESS_LIST, CONFIGURATION_NUMBER, EXTENDED_STATUS, FEC, HELLO_PARAMETERS, HOP_COUNT, LABEL,
+    MAC_LIST, PATH_VECTOR, PW_STATUS, REQUEST_ID, RETURNED_MESSAGE, RETURNED_PDU,
     SESSION_PARAMETERS, STATUS, SWITCHING_POINT, TRANSPORT_ADDRESS,
 };
 use crate::{TlvPart, field_of_type};
@@ -13,27 +18,27 @@ use net_base::Field;
 /// A message type that is known (RFC 5036 section 3.5, RFC 8077).
 #[derive(Clone, Copy, Debug, PartialEq, Eq)]
 pub enum MessageKind {
-    /// 0x0001.
+    /// Notification (RFC 5036 section 3.5.1).
     Notification,
-    /// 0x0100.
+    /// Hello (RFC 5036 section 3.5.2).
     Hello,
-    /// 0x0200.
+    /// Initialization (RFC 5036 section 3.5.3).
     Initialization,
-    /// 0x0201.
+    /// KeepAlive (RFC 5036 section 3.5.4).
     KeepAlive,
-    /// 0x0300.
+    /// Address (RFC 5036 section 3.5.5).
     Address,
-    /// 0x0301.
+    /// Address Withdraw (RFC 5036 section 3.5.6).
     AddressWithdraw,
-    /// 0x0400.
+    /// Label Mapping (RFC 5036 section 3.5.7).
     LabelMapping,
-    /// 0x0401.
+    /// Label Request (RFC 5036 section 3.5.8).
     LabelRequest,
-    /// 0x0402.
+    /// Label Withdraw (RFC 5036 section 3.5.10).
     LabelWithdraw,
-    /// 0x0403.
+    /// Label Release (RFC 5036 section 3.5.11).
     LabelRelease,
-    /// 0x0404.
+    /// Label Abort Request (RFC 5036 section 3.5.9).
     LabelAbort,
 }
 
@@ -43,17 +48,17 @@ impl MessageKind {
         ensures { result ≡ kind_of number }
     {
         match number {
-            0x0001 => Some(MessageKind::Notification),
-            0x0100 => Some(MessageKind::Hello),
-            0x0200 => Some(MessageKind::Initialization),
-            0x0201 => Some(MessageKind::KeepAlive),
-            0x0300 => Some(MessageKind::Address),
-            0x0301 => Some(MessageKind::AddressWithdraw),
-            0x0400 => Some(MessageKind::LabelMapping),
-            0x0401 => Some(MessageKind::LabelRequest),
-            0x0402 => Some(MessageKind::LabelWithdraw),
-            0x0403 => Some(MessageKind::LabelRelease),
-            0x0404 => Some(MessageKind::LabelAbort),
+            NOTIFICATION => Some(MessageKind::Notification),
+            HELLO => Some(MessageKind::Hello),
+            INITIALIZATION => Some(MessageKind::Initialization),
+            KEEP_ALIVE => Some(MessageKind::KeepAlive),
+            ADDRESS => Some(MessageKind::Address),
+            ADDRESS_WITHDRAW => Some(MessageKind::AddressWithdraw),
+            LABEL_MAPPING => Some(MessageKind::LabelMapping),
+            LABEL_REQUEST => Some(MessageKind::LabelRequest),
+            LABEL_WITHDRAW => Some(MessageKind::LabelWithdraw),
+            LABEL_RELEASE => Some(MessageKind::LabelRelease),
+            LABEL_ABORT => Some(MessageKind::LabelAbort),
             _ => None,
         }
     }
@@ -63,17 +68,17 @@ impl MessageKind {
         ensures { result ≡ type_of self }
     {
         match self {
-            MessageKind::Notification => 0x0001,
-            MessageKind::Hello => 0x0100,
-            MessageKind::Initialization => 0x0200,
-            MessageKind::KeepAlive => 0x0201,
-            MessageKind::Address => 0x0300,
-            MessageKind::AddressWithdraw => 0x0301,
-            MessageKind::LabelMapping => 0x0400,
-            MessageKind::LabelRequest => 0x0401,
-            MessageKind::LabelWithdraw => 0x0402,
-            MessageKind::LabelRelease => 0x0403,
-            MessageKind::LabelAbort => 0x0404,
+            MessageKind::Notification => NOTIFICATION,
+            MessageKind::Hello => HELLO,
+            MessageKind::Initialization => INITIALIZATION,
+            MessageKind::KeepAlive => KEEP_ALIVE,
+            MessageKind::Address => ADDRESS,
+            MessageKind::AddressWithdraw => ADDRESS_WITHDRAW,
+            MessageKind::LabelMapping => LABEL_MAPPING,
+            MessageKind::LabelRequest => LABEL_REQUEST,
+            MessageKind::LabelWithdraw => LABEL_WITHDRAW,
+            MessageKind::LabelRelease => LABEL_RELEASE,
+            MessageKind::LabelAbort => LABEL_ABORT,
         }
     }
 
@@ -84,17 +89,18 @@ impl MessageKind {
         match (self, tlv) {
             (MessageKind::Notification, STATUS) => TlvPart::Needed,
             (MessageKind::Notification, PW_STATUS | FEC) => TlvPart::Further,
-            (MessageKind::Notification, 0x0301 | 0x0302 | 0x0303) => TlvPart::PassedOver,
+            (MessageKind::Notification, EXTENDED_STATUS | RETURNED_PDU | RETURNED_MESSAGE) =>
+                TlvPart::PassedOver,
             (MessageKind::Hello, HELLO_PARAMETERS) => TlvPart::Needed,
             (MessageKind::Hello, TRANSPORT_ADDRESS) => TlvPart::Further,
-            (MessageKind::Hello, 0x0402) => TlvPart::PassedOver,
+            (MessageKind::Hello, CONFIGURATION_NUMBER) => TlvPart::PassedOver,
             (MessageKind::Initialization, SESSION_PARAMETERS) => TlvPart::Needed,
             (MessageKind::Initialization, _) => TlvPart::PassedOver,
             (MessageKind::Address | MessageKind::AddressWithdraw, ADDRESS_LIST) => TlvPart::Needed,
             (MessageKind::AddressWithdraw, FEC | MAC_LIST) => TlvPart::Further,
             (MessageKind::LabelMapping, _) => mapping_part(tlv),
             (MessageKind::LabelRequest, FEC) => TlvPart::Needed,
-            (MessageKind::LabelRequest, 0x0103 | 0x0104) => TlvPart::PassedOver,
+            (MessageKind::LabelRequest, HOP_COUNT | PATH_VECTOR) => TlvPart::PassedOver,
             (MessageKind::LabelWithdraw | MessageKind::LabelRelease, FEC) => TlvPart::Needed,
             (MessageKind::LabelWithdraw | MessageKind::LabelRelease, LABEL) => TlvPart::Further,
             (MessageKind::LabelRelease, STATUS) => TlvPart::Further,
@@ -150,7 +156,7 @@ fn mapping_part(tlv: u16) -> TlvPart
     match tlv {
         FEC | LABEL => TlvPart::Needed,
         PW_STATUS | SWITCHING_POINT => TlvPart::Further,
-        0x0103 | 0x0104 | 0x0600 => TlvPart::PassedOver,
+        HOP_COUNT | PATH_VECTOR | REQUEST_ID => TlvPart::PassedOver,
         _ => TlvPart::Unknown,
     }
 }

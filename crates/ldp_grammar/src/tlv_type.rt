@@ -1,4 +1,4 @@
-//! The types of the TLVs that are read, without U and F bit.
+//! The types of the TLVs that are read or passed over, without U and F bit.
 
 /// FEC (RFC 5036 section 3.4.1).
 pub const FEC: u16 = 0x0100;
@@ -32,3 +32,21 @@ pub const PW_STATUS: u16 = 0x096a;
 
 /// Switching Point PE (RFC 6073 section 7.4).
 pub const SWITCHING_POINT: u16 = 0x096d;
+
+/// Hop Count, passed over (RFC 5036 section 3.4.4).
+pub const HOP_COUNT: u16 = 0x0103;
+
+/// Path Vector, passed over (RFC 5036 section 3.4.5).
+pub const PATH_VECTOR: u16 = 0x0104;
+
+/// Extended Status, passed over (RFC 5036 section 3.5.1).
+pub const EXTENDED_STATUS: u16 = 0x0301;
+
+/// Returned PDU, passed over (RFC 5036 section 3.5.1).
+pub const RETURNED_PDU: u16 = 0x0302;
+
+/// Returned Message, passed over (RFC 5036 section 3.5.1).
+pub const RETURNED_MESSAGE: u16 = 0x0303;
+
+/// Configuration Sequence Number, passed over (RFC 5036 section 3.5.2).
+pub const CONFIGURATION_NUMBER: u16 = 0x0402;

@@ -1,4 +1,6 @@
 pub mod FrontLemmas
+pub mod FrontOfLemmas
+pub mod HearingLemmas
 pub mod ParsedLemmas
 pub mod StreamLemmas
 pub mod ReadingLemmas

@@ -3,8 +3,12 @@ use Rattle.std.proofs.Common.{◌≡◌, ◌≤◌, ◌<◌, ◌+◌, ◌^◌, �
 use Rattle.std.proofs.lemmas.List.{take-append-drop}
 use Rattle.ldp_grammar.specs.declared.fault.Fault.{Fault}
 use Rattle.ldp_grammar.specs.declared.pdu.Pdu.{Pdu}
-use Rattle.ldp_stream.specs.Front.{HasFront, IsFrontFault}
-use Rattle.ldp_stream.specs.Halt.{IsSpelledBy}
+use Rattle.ldp_grammar.specs.FirstFault.{FirstFault}
+use Rattle.ldp_codec.specs.Stop.{StopsAt}
+use Rattle.ldp_codec.specs.declared.stop.Stop.{Stop}
+use Rattle.ldp_codec.specs.declared.stop.Stop.TheVariants as stop
+use Rattle.ldp_stream.specs.Front.{HasFront, HasPdu, IsFrontFault, size_of}
+use Rattle.ldp_stream.specs.Halt.{Halts, IsSpelledBy}
 use Rattle.ldp_stream.specs.Parsed.{Ending, IsParsedFrom, PlacedPdu}
 use Rattle.ldp_stream.specs.Laws.{PassesAreParsed}
 use Rattle.ldp_stream.specs.State.{IsFaultOf, Passes, StreamState, place_behind}
@@ -13,6 +17,11 @@ use Rattle.ldp_stream.proofs.FrontLemmas.{one_front}
 
 none_some : (f : Fault) → ◌≡◌ {A = Option Fault} None (Some f) → ⊥
 none_some f e = cc (e)
+
+-- what stops the reading of the octets of a PDU stands in front
+pub halts_whole : (max : ℕ) (held : List ℕ) (s : Stop) → HasPdu max held → StopsAt (FirstFault (take (size_of held) held) max) s → Halts max held s
+halts_whole max held (stop.At fault) there first = inr (inr (record { there = there; first = first }))
+halts_whole max held stop.NoMemory there first = there
 
 spelled_front : (max : ℕ) (held : List ℕ) (pdu : Pdu) (size : ℕ) → IsSpelledBy max held pdu size → HasFront max held pdu (drop size held)
 spelled_front max held pdu size s = record { piece = take size held; split = sym (take-append-drop size held); spelled = s.spelled }

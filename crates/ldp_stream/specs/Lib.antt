@@ -1,5 +1,7 @@
 pub mod Calls
 pub mod Front
+pub mod FrontOf
+pub mod Hearing
 pub mod Halt
 pub mod Parsed
 pub mod State

@@ -9,7 +9,15 @@ use std::marker::Model;
 pub const ROOM: usize = 4100;
 
 /// The octets that are not passed yet, at most 4,100. Those that are passed stay in front of them until their room is
-/// needed, so that to pass some moves none.
+/// needed, so that to pass some moves none:
+///
+/// ```text
+///    0            front                  octets.len()        ROOM
+///    |   passed   |   held, in order     |       free        |
+///                 pass: front moves on   take: writes here
+/// ```
+///
+/// Where a piece needs more than what is free, the held octets are first moved to 0.
 #[derive(Debug, Drop)]
 pub struct Buffer {
     octets: Vec<u8>,
@@ -59,6 +67,7 @@ impl Buffer {
         ensures octets { self.new ≡ self.old ++ take result piece.now }
     {
         let count = piece.len().min(ROOM - self.len());
+        // Octets move only here, and no more than once for each ROOM octets that were passed.
         if ROOM - self.octets.len() < count {
             move_to_front(&mut self.octets, self.front);
             self.front = 0;

@@ -4,9 +4,8 @@ ghost use Rattle.ldp_grammar.specs.Octets.{two_at};
 ghost use Rattle.ldp_stream.specs.Front.{HasHeader, HasPdu, IsFrontFault, IsPending, size_of};
 ghost use Rattle.ldp_stream.specs.Halt.{Halts, IsSpelledBy};
 
-use crate::halt::Halt;
 use byteorder::{BigEndian, ByteOrder};
-use ldp_codec::decode_pdu;
+use ldp_codec::{Stop, read_pdu};
 use ldp_grammar::{Cause, Fault, LEAST_LENGTH, LENGTH_HEADER, Pdu, VERSION};
 use std::alloc::Global;
 
@@ -25,6 +24,7 @@ fn read_size(held: &[u8], max: u16) -> Result<Option<usize>, Fault>
     ensures size { IfOk result (λ size. IfSome size (λ n. (n ≡ size_of held.now) × HasHeader max held.now)) }
     ensures fault { IfErr result (IsFrontFault max held.now) }
 {
+    // A wrong version is told as soon as it is there, before the PDU Length comes.
     if held.len() < 2 {
         return Ok(None);
     }
@@ -48,7 +48,8 @@ fn read_size(held: &[u8], max: u16) -> Result<Option<usize>, Fault>
 }
 
 // The PDU that the first octets spell.
-fn decode_first(alloc: Global, held: &[u8], size: usize, max: u16) -> Result<Pdu, Halt>
+#[tactic(auto, using(crate::proofs::StreamLemmas::halts_whole))]
+fn decode_first(alloc: Global, held: &[u8], size: usize, max: u16) -> Result<Pdu, Stop>
     requires least { 256 ≤ max }
     requires most { max ≤ 4096 }
     requires whole { HasPdu max held.now }
@@ -57,14 +58,14 @@ fn decode_first(alloc: Global, held: &[u8], size: usize, max: u16) -> Result<Pdu
     ensures halt { IfErr result (Halts max held.now) }
 {
     let (piece, _) = held.split_at(size);
-    match decode_pdu(alloc, piece, max) {
+    match read_pdu(alloc, piece, max) {
         Ok(pdu) => Ok(pdu),
-        Err(refusal) => Err(Halt::from(refusal)),
+        Err(stop) => Err(stop),
     }
 }
 
 /// The PDU in front and its size in octets, or nothing where the octets are a proper prefix of a PDU.
-pub fn decode_front(alloc: Global, held: &[u8], max: u16) -> Result<Option<(Pdu, usize)>, Halt>
+pub fn decode_front(alloc: Global, held: &[u8], max: u16) -> Result<Option<(Pdu, usize)>, Stop>
     requires least { 256 ≤ max }
     requires most { max ≤ 4096 }
     ensures pending { result ≡ Ok None → IsPending max held.now }
@@ -74,7 +75,7 @@ pub fn decode_front(alloc: Global, held: &[u8], max: u16) -> Result<Option<(Pdu,
     let size = match read_size(held, max) {
         Ok(Some(size)) => size,
         Ok(None) => return Ok(None),
-        Err(fault) => return Err(Halt::Fault(fault)),
+        Err(fault) => return Err(Stop::At(fault)),
     };
     if held.len() < size {
         return Ok(None);

@@ -6,12 +6,14 @@
 
 mod buffer;
 mod front;
-mod halt;
 mod laws;
 mod stream;
 mod stream_fault;
 
-pub use laws::{each_has_front, however_cut, one_front, one_parsing, passes_are_parsed};
+pub use laws::{
+    each_has_front, front_is_read, heard_in_parts, however_cut, one_front, one_parsing,
+    passes_are_parsed,
+};
 pub use stream::Stream;
 pub use stream_fault::StreamFault;
 

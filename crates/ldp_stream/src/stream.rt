@@ -10,8 +10,7 @@ ghost use Rattle.ldp_stream.specs.State.{Answers, IsFaultOf, Refuses, empty, pla
 use crate::StreamFault;
 use crate::buffer::Buffer;
 use crate::front::decode_front;
-use crate::halt::Halt;
-use ldp_codec::DecodeFault;
+use ldp_codec::{DecodeFault, Stop};
 use ldp_grammar::{Fault, Pdu};
 use net_base::NoMemory;
 use std::alloc::Global;
@@ -96,8 +95,8 @@ impl Stream {
                 self.pass(size);
                 Ok(Some(pdu))
             }
-            Err(Halt::Fault(fault)) => Err(self.refuse(fault)),
-            Err(Halt::NoMemory) => Err(StreamFault::NoMemory),
+            Err(Stop::At(fault)) => Err(self.refuse(fault)),
+            Err(Stop::NoMemory) => Err(StreamFault::NoMemory),
         }
     }
 

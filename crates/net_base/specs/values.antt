@@ -4,3 +4,4 @@ pub mod Label
 pub mod Mac
 pub mod Name
 pub mod Padded
+pub mod Put

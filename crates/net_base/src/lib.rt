@@ -42,6 +42,7 @@ pub use values::list::{List, Octets};
 pub use values::mac::Mac;
 pub use values::name::Name;
 pub use values::no_memory::NoMemory;
+pub use values::octets::put;
 pub use values::text::Text;
 pub use values::word::Word;
 

@@ -7,5 +7,6 @@ pub mod list;
 pub mod mac;
 pub mod name;
 pub mod no_memory;
+pub mod octets;
 pub mod text;
 pub mod word;

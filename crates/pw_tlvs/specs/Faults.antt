@@ -31,11 +31,15 @@ place_of Size = 0
 place_of (Value at field) = at
 place_of (Repeated at field) = at
 
--- which of two faults at one octet comes first
+-- how many fields there are
+abbrev pub field_count : ℕ
+field_count = 17
+
+-- which of two faults at one octet comes first: a wrong size, a wrong value by the order of the fields, what comes again by it
 abbrev pub rank_of : FieldFault → ℕ
 rank_of Size = 0
 rank_of (Value at field) = 1 + field_rank field
-rank_of (Repeated at field) = 18 + field_rank field
+rank_of (Repeated at field) = 1 + field_count + field_rank field
 
 -- one fault comes before another, or is at the same octet and not behind it
 abbrev pub Precedes : FieldFault → FieldFault → Type 0

@@ -1,4 +1,4 @@
--- Sub-TLVs: a type, a length and a value each, one after another in any order (RFC 8077 section 6.4, RFC 6073 section 7.4).
+-- Sub-TLVs: a type, a length and a value each, one after another in any order (RFC 8077 section 6.4, RFC 6073 section 7.4.1).
 use Rattle.std.specs.Prelude.{◌≡◌, ◌<◌, ◌≤◌, ◌+◌, ◌==◌, ◌&&◌, ◌||◌, ◌++◌, ◌⊎◌, not, nat_le, ℕ, Bool, true, false, List, [], ◌∷◌, length, map, filter, slice_index, slice_get, Option, Some, None, IfSome, IsSome, if◌then◌else◌}
 use Rattle.std.specs.List.{AllByRecursion, flat_map}
 use Rattle.byteorder.specs.Endian.{big_number}
@@ -15,7 +15,7 @@ pub record SubTlv : Type 0 where
   pub value : List ℕ
 
 -- how many octets a length counts beside the value: that of an interface parameter counts the type and itself
--- (RFC 8077 section 6.4), that of a part of a Switching Point PE TLV counts the value alone (RFC 6073 section 7.4)
+-- (RFC 8077 section 6.4), that of a part of a Switching Point PE TLV counts the value alone (RFC 6073 section 7.4.1)
 abbrev pub counted : Registry → ℕ
 counted InterfaceParameter = 2
 counted SwitchingPointPart = 0
@@ -25,7 +25,7 @@ abbrev pub spell : Registry → SubTlv → List ℕ
 spell registry s = s.kind ∷ (counted registry + length s.value) ∷ s.value
 
 -- the interface parameters that are known, each with its field and the least and the most of its length
--- (RFC 4446 section 3.3, RFC 5085 section 5.3.1)
+-- (RFC 4446 section 3.3, RFC 4448 section 4.3 of the requested VLAN ID, RFC 5085 section 5.3.1 of VCCV)
 abbrev pub parameter_row : ℕ → Option Row
 parameter_row kind =
     if kind == 0x01 then Some (record { field = field.Mtu; least = 4; most = 4 })
@@ -34,7 +34,8 @@ parameter_row kind =
     else if kind == 0x0C then Some (record { field = field.Vccv; least = 4; most = 4 })
     else None
 
--- the parts of a Switching Point PE TLV whose meaning is kept: PW ID, local address, remote address (RFC 6073 section 7.4)
+-- the parts of a Switching Point PE TLV whose meaning is kept: PW ID, local address, remote address (RFC 6073
+-- section 7.4.1)
 abbrev pub part_row : ℕ → Option Row
 part_row kind =
     if (kind == 0x01 || kind == 0x03) || kind == 0x04 then Some (record { field = field.Point; least = 4; most = 4 })

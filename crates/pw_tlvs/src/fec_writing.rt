@@ -7,10 +7,9 @@ ghost use Rattle.pw_tlvs.specs.SubTlvs.{spell};
 ghost use Rattle.pw_tlvs.specs.Written.{writable_fec, written_fec, written_parameters, information, control_and_kind, told, description_value, pair_octets};
 
 use crate::fec_reading::PWID;
-use crate::octets::put;
 use crate::told::{four, put_description, put_pair, put_vccv, two};
 use crate::{IfParams, PwFec};
-use net_base::Text;
+use net_base::{Text, put};
 
 // The octets of the parameter of a number, where it is told.
 fn pair_size(number: Option<u16>) -> usize

@@ -9,7 +9,7 @@ pub struct IfParams {
     pub mtu: Option<u16>,
     /// A description of the interface; empty where none is told.
     pub description: Text<80>,
-    /// The requested VLAN ID, at most 4095, where it is told.
+    /// The requested VLAN ID, at most 4095, where it is told (RFC 4448 section 4.3).
     pub vlan: Option<u16>,
     /// The VCCV control channel types and connectivity verification types as bits (RFC 5085 section 5.3.1),
     /// where they are told.

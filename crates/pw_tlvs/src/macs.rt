@@ -6,9 +6,8 @@ ghost use Rattle.pw_tlvs.specs.declared.macs_fault.MacsFault.TheVariants.{Field 
 ghost use Rattle.pw_tlvs.specs.Faults.{IsFirst};
 ghost use Rattle.pw_tlvs.specs.Macs.{AreMacs, IsMacsFault, mac_octets};
 
-use crate::octets::put;
 use crate::{FieldFault, MacsFault};
-use net_base::{List as Items, Mac, NoMemory};
+use net_base::{List as Items, Mac, NoMemory, put};
 use std::alloc::Global;
 
 // The address at a place.

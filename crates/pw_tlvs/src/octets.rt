@@ -1,20 +1,10 @@
-//! Pieces and sub-TLVs in rows of octets.
+//! Sub-TLVs in rows of octets.
 ghost use Rattle.std.specs.Prelude.{◌≡◌, ◌≤◌, ◌+◌, ◌++◌, length, take, drop};
 ghost use Rattle.pw_tlvs.specs.SubTlvs.{counted as counted_in, spell};
 
 use crate::registry::Registry;
 use crate::sub_tlv::counted;
-
-/// Writes the piece at the place, and answers the place behind it.
-pub fn put(out: &mut [u8], at: usize, piece: &[u8]) -> usize
-    requires { at + length piece.now ≤ length out.old }
-    ensures end { result ≡ at + length piece.now }
-    ensures octets { out.new ≡ (take at out.old ++ piece.now) ++ drop result out.old }
-{
-    let end = at + piece.len();
-    out[at..end].copy_from_slice(piece);
-    end
-}
+use net_base::put;
 
 /// Writes a sub-TLV at the place, and answers the place behind it.
 #[tactic(auto, using(crate::proofs::WrittenLemmas::added_at))]

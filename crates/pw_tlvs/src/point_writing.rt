@@ -42,7 +42,7 @@ pub fn point_size(point: &Point) -> usize
 }
 
 /// Writes the switching point to the front of `out`, which has room for it, and answers the number of octets:
-/// the parts that are told by rising type, PW ID, local and remote address (RFC 6073 section 7.4).
+/// the parts that are told by rising type, PW ID, local and remote address (RFC 6073 section 7.4.1).
 #[tactic(auto, using(crate::proofs::PointLemmas::point_length))]
 pub fn write_point(point: &Point, out: &mut [u8]) -> usize
     requires room { length (written_point point.now) ≤ length out.old }

@@ -5,6 +5,6 @@
 pub enum Registry {
     /// An interface parameter of a PWid FEC element (RFC 8077 section 6.4, RFC 4446 section 3.3).
     InterfaceParameter,
-    /// A part of a Switching Point PE TLV (RFC 6073 section 7.4).
+    /// A part of a Switching Point PE TLV (RFC 6073 section 7.4.1).
     SwitchingPointPart,
 }

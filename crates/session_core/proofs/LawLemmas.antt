@@ -13,11 +13,11 @@ use Rattle.session_core.specs.declared.reply.Reply.{Reply}
 use Rattle.session_core.specs.Laws.{tells_end, IsFarewell, OneNotice, NeverSilent, next_put, run_by, IsWithin, WithinProposals, IsAddress, IsFacing, IsAgreement, Proposes, run, EndsAgree}
 use Rattle.session_core.proofs.AddressLemmas.{numbers_apart, one_larger}
 use Rattle.session_core.specs.Parameters.{longest, proposal, reason_of, refusal_of}
-use Rattle.session_core.specs.Phase.{Phase}
+use Rattle.session_core.specs.Phase.{Phase, is_agreed}
 use Rattle.session_core.specs.Phase as phase
 use Rattle.session_core.specs.State.{SessionState, SessionView, Stands, EndedBy, IsProper, is_active, opened, number_of}
 use Rattle.session_core.specs.StatusCodes.{about}
-use Rattle.session_core.specs.Table.{SessionEvent, Start, Heard, Received, Refused, Spoke, Ticked, Closed, Ends, is_agreed, next_of, outcome_of, third, view_after, notified, judged, reason_in, data_refusing}
+use Rattle.session_core.specs.Table.{SessionEvent, Start, Heard, Received, Refused, Spoke, Ticked, Closed, Ends, next_of, outcome_of, third, view_after, notified, judged, reason_in, data_refusing}
 
 -- a Notification that ends a session is answered where it is a shutdown and the session is up
 told : (s : SessionState) (message : Message) (status : StatusCode) (why : Reason) (replies : List Reply) → notified (reason_in status) s message ≡ Ends why replies → IsFarewell (tells_end s.phase why) replies

@@ -10,10 +10,10 @@ use Rattle.session_core.specs.declared.peers.Peers.{Peers}
 use Rattle.session_core.specs.declared.reply.Reply.{Reply}
 use Rattle.session_core.specs.declared.reply.Reply.TheVariants.{Notice}
 use Rattle.session_core.specs.Parameters.{proposal, refusal_of}
-use Rattle.session_core.specs.Phase.{Phase}
+use Rattle.session_core.specs.Phase.{Phase, is_agreed}
 use Rattle.session_core.specs.Phase as phase
 use Rattle.session_core.specs.State.{SessionState, SessionView, Stands, EndedBy, IsProper, is_active, opened}
-use Rattle.session_core.specs.Table.{SessionEvent, Start, Heard, Received, Refused, Spoke, Ticked, Closed, Goes, Ends, is_agreed, next_of, outcome_of, replies_of, third}
+use Rattle.session_core.specs.Table.{SessionEvent, Start, Heard, Received, Refused, Spoke, Ticked, Closed, Goes, Ends, next_of, outcome_of, replies_of, third}
 
 -- the calls that make an event ask for this: a connection closes because it was lost, or because the link did not take a PDU
 abbrev pub MayCome : SessionEvent → Type 0

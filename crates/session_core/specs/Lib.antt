@@ -5,5 +5,6 @@ pub mod StatusCodes
 pub mod Session
 pub mod Parameters
 pub mod Table
+pub mod Messages
 pub mod Reasons
 pub mod Laws

@@ -1,4 +1,5 @@
 -- What contracts see of a session of any state.
+use Rattle.std.specs.Prelude.{ℕ, Option, Some, None}
 use Rattle.net_base.specs.declared.trace.state_name.StateName.{StateName}
 use Rattle.net_base.specs.declared.trace.state_name.StateName.TheVariants as name
 use Rattle.session_core.specs.declared.session.Session.{Session}
@@ -24,3 +25,12 @@ phase_name phase.Operational = name.Operational
 abbrev pub name_of : SessionView → StateName
 name_of (Stands s) = phase_name s.phase
 name_of (EndedBy reason) = name.Ended reason
+
+-- the longest PDU in force and the hold time, where the session stands
+abbrev pub max_pdu_of : SessionView → Option ℕ
+max_pdu_of (Stands s) = Some s.max_pdu
+max_pdu_of (EndedBy reason) = None
+
+abbrev pub hold_of : SessionView → Option ℕ
+hold_of (Stands s) = Some s.hold
+hold_of (EndedBy reason) = None

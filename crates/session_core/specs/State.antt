@@ -1,10 +1,10 @@
 -- What contracts see of a session (RFC 5036 sections 2.5.3, 2.5.4 and 2.5.6).
-use Rattle.std.specs.Prelude.{◌≡◌, ◌≤◌, ◌<◌, ℕ, Bool, false, nat_lt, bytes_eq}
+use Rattle.std.specs.Prelude.{◌≡◌, ◌≤◌, ◌<◌, ℕ, Bool, true, false, nat_lt, bytes_eq}
 use Rattle.byteorder.specs.Endian.{big_number}
 use Rattle.net_base.specs.declared.values.addr.Addr.{Addr}
 use Rattle.net_base.specs.declared.trace.state_name.Reason.{Reason}
 use Rattle.session_core.specs.declared.peers.Peers.{Peers}
-use Rattle.session_core.specs.Phase.{Phase}
+use Rattle.session_core.specs.Phase.{Phase, is_agreed}
 use Rattle.session_core.specs.Phase as phase
 use Rattle.session_core.specs.declared.standing.Standing.{Standing}
 
@@ -48,18 +48,16 @@ pub record IsProper (ends : Peers) : Type 0 where
 abbrev pub opened : Peers → SessionState
 opened peers = record { phase = phase.Initialized; peers = peers; hold = peers.keepalive; max_pdu = 4096; wait = 0; silence = 0 }
 
--- what is so as long as no Initialization was accepted
-pub record IsOpening (s : Standing) : Type 0 where
-  pub proper : IsProper s.peers
-  pub own : s.hold ≡ s.peers.keepalive
-  pub longest : s.max_pdu ≡ 4096
-  pub waiting : s.wait < s.peers.keepalive
-
--- what is so once an Initialization was accepted: neither number is larger than the own proposal
-pub record IsAgreed (s : Standing) : Type 0 where
+-- What is so of a session that stands: its hold time is 1 tick to the own proposal, a PDU has at most 256 to 4096 octets, and
+-- fewer ticks than the own proposal passed since a PDU was heard. As long as no Initialization was accepted the hold time is
+-- the own proposal, and the longest PDU 4096 octets; once one was, the longest PDU is at most the own proposal.
+pub record IsKept (state : Phase) (s : Standing) : Type 0 where
   pub proper : IsProper s.peers
   pub some : 1 ≤ s.hold
   pub within : s.hold ≤ s.peers.keepalive
   pub least : 256 ≤ s.max_pdu
-  pub most : s.max_pdu ≤ s.peers.max_pdu
+  pub longest : s.max_pdu ≤ 4096
   pub waiting : s.wait < s.peers.keepalive
+  pub own_time : is_agreed state ≡ false → s.hold ≡ s.peers.keepalive
+  pub own_length : is_agreed state ≡ false → s.max_pdu ≡ 4096
+  pub agreed : is_agreed state ≡ true → s.max_pdu ≤ s.peers.max_pdu

@@ -49,7 +49,8 @@ about message code = Notice (record { fatal = true; forward = false; code = code
 abbrev pub about_none : ℕ → Reply
 about_none code = Notice (record { fatal = true; forward = false; code = code; message = 0; kind = 0 })
 
--- the status data that tells what is wrong in a PDU (RFC 5036 section 3.5.1.2); want of memory is no fault of the peer
+-- the status data that tells what is wrong in a PDU (RFC 5036 sections 3.5.1.2.1 and 3.5.1.2.2); want of memory is no fault of
+-- the peer
 abbrev pub data_of : DecodeFault → ℕ
 data_of (fault.Version at) = bad_protocol_version
 data_of (fault.PduLength at) = bad_pdu_length

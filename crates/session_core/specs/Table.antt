@@ -12,7 +12,7 @@ use Rattle.session_core.specs.declared.refusal.Refusal.{Refusal}
 use Rattle.session_core.specs.declared.refusal.Refusal.TheVariants as refusal
 use Rattle.session_core.specs.declared.reply.Reply.{Reply}
 use Rattle.session_core.specs.declared.reply.Reply.TheVariants as reply
-use Rattle.session_core.specs.Phase.{Phase}
+use Rattle.session_core.specs.Phase.{Phase, is_agreed}
 use Rattle.session_core.specs.Phase as phase
 use Rattle.session_core.specs.declared.standing.Standing.{Standing}
 use Rattle.session_core.specs.State.{SessionState, SessionView, Stands, EndedBy, in_phase, is_active}
@@ -91,13 +91,6 @@ later s = record s { wait = s.wait + 1; silence = one_more s.silence }
 abbrev pub third : ℕ → ℕ
 third hold = max 1 (hold / 3)
 
--- an Initialization was accepted
-abbrev pub is_agreed : Phase → Bool
-is_agreed phase.Initialized = false
-is_agreed phase.OpenSent = false
-is_agreed phase.OpenRec = true
-is_agreed phase.Operational = true
-
 -- nothing was heard for the hold time
 abbrev pub is_expired : SessionState → Bool
 is_expired s = nat_le s.hold s.wait
@@ -154,3 +147,12 @@ after state s event = next_of (in_phase state s) event
 
 abbrev pub said : Phase → Standing → SessionEvent → List Reply
 said state s event = replies_of (outcome_of (in_phase state s) event)
+
+-- the same of a session of any state: one that ended stays as it is, and puts nothing
+abbrev pub view_next : SessionView → SessionEvent → SessionView
+view_next (Stands s) event = next_of s event
+view_next (EndedBy why) event = EndedBy why
+
+abbrev pub view_said : SessionView → SessionEvent → List Reply
+view_said (Stands s) event = replies_of (outcome_of s event)
+view_said (EndedBy why) event = []

@@ -54,7 +54,7 @@ pub fn expired() -> (Session, Replies)
     ended_with(Reason::Expired, about_none(KEEP_ALIVE_TIMER_EXPIRED))
 }
 
-/// It ends as what came is no PDU (RFC 5036 section 3.5.1.2).
+/// It ends as what came is no PDU (RFC 5036 sections 3.5.1.2.1 and 3.5.1.2.2).
 pub fn refused(fault: DecodeFault) -> (Ended, Replies)
     ensures reason { result.0 ≡ Reason.Decode }
     ensures replies { result.1 ≡ about_none (data_of fault) ∷ [] }

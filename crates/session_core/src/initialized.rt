@@ -1,65 +1,69 @@
 //! The state in which no Initialization was sent or accepted.
-ghost use Rattle.std.specs.Prelude.{◌≡◌, ◌≢◌, ◌↔◌, ◌⊎◌, ◌≤◌, ◌+◌, [], ◌∷◌, false, true, IsTrue, ◌&&◌, not, ℕ};
+ghost use Rattle.std.specs.Prelude.{◌≡◌, ◌↔◌, [], ◌∷◌, false, true, IsTrue, ◌&&◌, not, ℕ};
 ghost use Rattle.net_base.specs.declared.trace.state_name.StateName.TheVariants as name;
 ghost use Rattle.session_core.specs.declared.reply.Reply.TheVariants as reply;
 ghost use Rattle.ldp_grammar.specs.declared.message.Message.{Message};
 ghost use Rattle.ldp_grammar.specs.declared.message.Message.TheVariants.{Initialization};
 ghost use Rattle.session_core.specs.Phase as phase;
-ghost use Rattle.session_core.specs.Parameters.{is_platform, refusal_of};
+ghost use Rattle.session_core.specs.Parameters.{refusal_of};
 ghost use Rattle.session_core.specs.Reasons.{expects, has_bad_receiver, has_bad_version, has_zero_time, HasEnded, is_acceptable, IsIn, proposes, tells_error, tells_shutdown};
 ghost use Rattle.session_core.specs.Session.{view_of};
-ghost use Rattle.session_core.specs.State.{EndedBy, Stands, in_phase, IsProper, opened, is_active};
-ghost use Rattle.session_core.specs.StatusCodes.{about_none, data_of};
-ghost use Rattle.session_core.specs.Table.{after, Closed, Heard, notified, reason_in, Received, Refused, said, Spoke, Start, Ticked, view_after};
+ghost use Rattle.session_core.specs.State.{IsKept, Stands, in_phase, IsProper, opened, is_active};
+ghost use Rattle.session_core.specs.Table.{after, notified, reason_in, Received, said, Start, view_after};
 
-use crate::endings::{
-    bad_identifier, ended, expired, reason_in, refused, refused_proposal, unexpected,
-};
+use crate::endings::{ended, reason_in, refused_proposal, unexpected};
 use crate::parameters::refusal_of;
+use crate::stage::{Case, Stage};
 use crate::standing::Standing;
-use crate::{Ended, OpenRec, OpenSent, Peers, Replies, Reply, Session};
-use ldp_codec::DecodeFault;
-use ldp_grammar::{LdpId, Message, SessionParams, StatusCode};
+use crate::{In, OpenRec, OpenSent, Peers, Replies, Reply, Session};
+use ldp_grammar::{Message, SessionParams, StatusCode};
 use net_base::Reason;
-use std::marker::Model;
 
-/// There is a connection, and no Initialization was sent or accepted (RFC 5036 section 2.5.4). Contracts see it as what the
-/// session has, a `Standing`.
-#[derive(Debug, Drop)]
-pub struct Initialized {
-    standing: Standing,
+/// There is a connection, and no Initialization was sent or accepted (RFC 5036 section 2.5.4).
+#[derive(Clone, Copy, Debug, PartialEq, Eq)]
+pub struct Initialized;
+
+impl Stage for Initialized {
+    ghost use Rattle.session_core.specs.Phase as phase;
+
+    ghost phase = { phase.Initialized };
 }
 
-impl Model for Initialized {
-    ghost use Rattle.session_core.specs.State.{IsOpening};
-    ghost use Rattle.session_core.specs.declared.standing.Standing.{Standing};
+impl Case for Initialized {
+    fn session(standing: Standing) -> Session
+        requires { IsKept phase.Initialized standing }
+        ensures { view_of result ≡ Stands (in_phase phase.Initialized standing) }
+    {
+        Session::Initialized(In::entered(standing, Initialized))
+    }
 
-    ghost Value = { Standing };
-
-    ghost view = { λ s. s.standing };
-
-    ghost invariant = { λ s. IsOpening s.standing };
+    fn is_agreed() -> bool
+        ensures { result ≡ false }
+    {
+        false
+    }
 }
 
-impl Initialized {
+impl In<Initialized> {
     /// A connection of which nothing came yet. The two addresses differ, the KeepAlive Time is at least 3, and the Max PDU
     /// Length is 256 to 4096.
-    pub fn new(peers: Peers) -> Initialized
+    pub fn new(peers: Peers) -> In<Initialized>
         requires { IsProper peers }
         ensures { in_phase phase.Initialized result ≡ opened peers }
     {
-        Initialized {
-            standing: Standing::opened(peers),
-        }
+        In::entered(Standing::opened(peers), Initialized)
     }
 
     /// Sends the Initialization of this end, which is the active one (RFC 5036 section 2.5.3).
-    pub fn start(self) -> (OpenSent, Replies)
+    pub fn start(self) -> (In<OpenSent>, Replies)
         requires { is_active self.peers ≡ true }
         ensures session { Stands (in_phase phase.OpenSent result.0) ≡ after phase.Initialized self Start }
         ensures replies { result.1 ≡ reply.Init ∷ [] }
     {
-        (OpenSent::entered(self.standing), Replies::one(Reply::Init))
+        (
+            In::entered(self.standing(), OpenSent),
+            Replies::one(Reply::Init),
+        )
     }
 
     /// What comes of a message (RFC 5036 sections 2.5.4, 3.5.1.1 and 3.5.3). The passive end answers an acceptable
@@ -80,81 +84,16 @@ impl Initialized {
         self.by_row(message)
     }
 
-    /// A PDU of the sender came. The session ends by a fatal Notification exactly where the sender is not the peer with
-    /// label space 0 (RFC 5036 section 3.5.1.2.1); else no tick has passed since.
-    pub fn heard(self, sender: LdpId) -> (Session, Replies)
-        ensures session { view_of result.0 ≡ after phase.Initialized self (Heard sender) }
-        ensures replies { result.1 ≡ said phase.Initialized self (Heard sender) }
-        ensures bad_identifier { HasEnded result.0 Reason.BadIdentifier ↔ (is_platform self.peers.peer sender ≡ false) }
+    // The same where this end is the active one; else the session stays as it is.
+    pub(crate) fn start_where_active(self) -> (Session, Replies)
+        ensures session { view_of result.0 ≡ after phase.Initialized self Start }
+        ensures replies { result.1 ≡ said phase.Initialized self Start }
     {
-        match self.standing.heard(sender) {
-            Some(standing) => (
-                Session::Initialized(Initialized { standing }),
-                Replies::none(),
-            ),
-            None => bad_identifier(),
+        if !self.standing().peers.is_active() {
+            return (Session::Initialized(self), Replies::none());
         }
-    }
-
-    /// What came from the peer is no PDU: the session ends, and a fatal Notification tells the fault (RFC 5036 section
-    /// 3.5.1.2). The fault is not want of memory.
-    pub fn refused(self, fault: DecodeFault) -> (Ended, Replies)
-        requires { fault ≢ DecodeFault.NoMemory }
-        ensures decode { result.0 ≡ Reason.Decode }
-        ensures session { EndedBy result.0 ≡ after phase.Initialized self (Refused fault) }
-        ensures replies { result.1 ≡ about_none (data_of fault) ∷ [] }
-    {
-        refused(fault)
-    }
-
-    /// Something was put to the peer: no tick has passed since.
-    pub fn spoke(self) -> Self
-        ensures session { Stands (in_phase phase.Initialized result) ≡ after phase.Initialized self Spoke }
-    {
-        Initialized {
-            standing: self.standing.spoke(),
-        }
-    }
-
-    /// A tick passes. The session ends by a fatal Notification exactly where nothing was then heard for the hold time (RFC
-    /// 5036 section 2.5.6); else nothing is put.
-    pub fn tick(self) -> (Session, Replies)
-        ensures session { view_of result.0 ≡ after phase.Initialized self Ticked }
-        ensures replies { result.1 ≡ said phase.Initialized self Ticked }
-        ensures expired { HasEnded result.0 Reason.Expired ↔ (self.hold ≤ self.wait + 1) }
-    {
-        match self.standing.later() {
-            Some(standing) => (
-                Session::Initialized(Initialized { standing }),
-                Replies::none(),
-            ),
-            None => expired(),
-        }
-    }
-
-    /// The connection was lost, or the link did not take a PDU, as the reason says. Nothing is put.
-    pub fn closed(self, reason: Reason) -> Ended
-        requires { (reason ≡ Reason.Closed) ⊎ (reason ≡ Reason.LinkFault) }
-        ensures reason { result ≡ reason }
-        ensures session { EndedBy result ≡ after phase.Initialized self (Closed reason) }
-    {
-        Ended::by(reason)
-    }
-
-    /// The most that a PDU Length may be: 4096 octets, as none was agreed on yet (RFC 5036 section 3.5.3).
-    pub fn max_pdu(&self) -> u16
-        ensures value { result ≡ self.now.max_pdu }
-        ensures longest { result ≡ 4096 }
-    {
-        self.standing.max_pdu
-    }
-
-    /// The hold time in ticks: the KeepAlive Time that this end proposes, as none was agreed on yet.
-    pub fn hold(&self) -> u16
-        ensures value { result ≡ self.now.hold }
-        ensures own { result ≡ self.now.peers.keepalive }
-    {
-        self.standing.hold
+        let (started, replies) = self.start();
+        (Session::OpenSent(started), replies)
     }
 
     // The row of a message.
@@ -185,13 +124,14 @@ impl Initialized {
         ensures session { (id : ℕ) → message.now ≡ Initialization id params.now → view_of result.0 ≡ after phase.Initialized self (Received message.now) }
         ensures replies { (id : ℕ) → message.now ≡ Initialization id params.now → result.1 ≡ said phase.Initialized self (Received message.now) }
     {
-        if self.standing.peers.is_active() {
+        let standing = self.standing();
+        if standing.peers.is_active() {
             return unexpected(message);
         }
-        match refusal_of(&self.standing.peers, params) {
+        match refusal_of(&standing.peers, params) {
             Some(refusal) => refused_proposal(refusal, message),
             None => (
-                Session::OpenRec(OpenRec::entered(self.standing.agreed(params))),
+                Session::OpenRec(In::entered(standing.agreed(params), OpenRec)),
                 Replies::two(Reply::Init, Reply::KeepAlive),
             ),
         }

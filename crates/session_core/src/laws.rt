@@ -1,4 +1,5 @@
 //! What holds of the table of a session, and of every run of events.
+ghost use Rattle.session_core.specs.Messages.{RepliesArePut};
 ghost use Rattle.session_core.specs.Laws.{EndsAgree, EnteredByMessages, NeverSilent, OneNotice, ReasonsByCause, WithinProposals};
 
 /// A session that ends puts one fatal Notification, or nothing: nothing where the peer ended it or the connection is lost,
@@ -36,4 +37,10 @@ pub fn never_silent()
 /// The other's Initialization and a KeepAlive bring an end up (RFC 5036 sections 2.5.2 to 2.5.4 and 3.5.3).
 pub fn ends_agree()
     ensures { EndsAgree }
+{}
+
+/// Whatever is put by an event can be written, and a PDU with it alone has a PDU Length of at most 256, which every maximum
+/// of a session allows (RFC 5036 section 3.5.3).
+pub fn replies_are_put()
+    ensures { RepliesArePut }
 {}

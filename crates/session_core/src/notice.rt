@@ -65,7 +65,7 @@ pub fn about_none(code: u32) -> Reply
     })
 }
 
-/// The status data that tells what is wrong in a PDU (RFC 5036 section 3.5.1.2).
+/// The status data that tells what is wrong in a PDU (RFC 5036 sections 3.5.1.2.1 and 3.5.1.2.2).
 pub fn data_of(fault: DecodeFault) -> u32
     ensures { result ≡ data_of fault }
 {

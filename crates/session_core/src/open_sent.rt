@@ -1,53 +1,49 @@
 //! The state in which the active end waits for the peer's Initialization.
-ghost use Rattle.std.specs.Prelude.{◌≡◌, ◌≢◌, ◌↔◌, ◌⊎◌, ◌≤◌, ◌+◌, [], ◌∷◌, false, IsTrue};
+ghost use Rattle.std.specs.Prelude.{◌≡◌, ◌↔◌, [], ◌∷◌, false, IsTrue};
 ghost use Rattle.net_base.specs.declared.trace.state_name.StateName.TheVariants as name;
 ghost use Rattle.session_core.specs.declared.reply.Reply.TheVariants as reply;
 ghost use Rattle.ldp_grammar.specs.declared.message.Message.{Message};
 ghost use Rattle.session_core.specs.Phase as phase;
-ghost use Rattle.session_core.specs.Parameters.{is_platform, refusal_of};
+ghost use Rattle.session_core.specs.Parameters.{refusal_of};
 ghost use Rattle.session_core.specs.Reasons.{expects, has_bad_receiver, has_bad_version, has_zero_time, HasEnded, is_acceptable, IsIn, proposes, tells_error, tells_shutdown};
 ghost use Rattle.session_core.specs.Session.{view_of};
-ghost use Rattle.session_core.specs.State.{EndedBy, Stands, in_phase, IsOpening, is_active};
-ghost use Rattle.session_core.specs.StatusCodes.{about_none, data_of};
-ghost use Rattle.session_core.specs.Table.{after, Closed, Heard, judged, notified, reason_in, Received, Refused, replies_of, said, Spoke, Ticked, view_after};
+ghost use Rattle.session_core.specs.State.{IsKept, Stands, in_phase, is_active};
+ghost use Rattle.session_core.specs.Table.{after, judged, notified, reason_in, Received, replies_of, said, view_after};
 
-use crate::endings::{
-    bad_identifier, ended, expired, reason_in, refused, refused_proposal, unexpected,
-};
+use crate::endings::{ended, reason_in, refused_proposal, unexpected};
 use crate::parameters::refusal_of;
+use crate::stage::{Case, Stage};
 use crate::standing::Standing;
-use crate::{Ended, OpenRec, Replies, Reply, Session};
-use ldp_codec::DecodeFault;
-use ldp_grammar::{LdpId, Message, SessionParams, StatusCode};
+use crate::{In, OpenRec, Replies, Reply, Session};
+use ldp_grammar::{Message, SessionParams, StatusCode};
 use net_base::Reason;
-use std::marker::Model;
 
-/// The active end sent its Initialization (RFC 5036 section 2.5.4). Contracts see it as what the session has, a `Standing`.
-#[derive(Debug, Drop)]
-pub struct OpenSent {
-    standing: Standing,
+/// The active end sent its Initialization (RFC 5036 section 2.5.4).
+#[derive(Clone, Copy, Debug, PartialEq, Eq)]
+pub struct OpenSent;
+
+impl Stage for OpenSent {
+    ghost use Rattle.session_core.specs.Phase as phase;
+
+    ghost phase = { phase.OpenSent };
 }
 
-impl Model for OpenSent {
-    ghost use Rattle.session_core.specs.State.{IsOpening};
-    ghost use Rattle.session_core.specs.declared.standing.Standing.{Standing};
-
-    ghost Value = { Standing };
-
-    ghost view = { λ s. s.standing };
-
-    ghost invariant = { λ s. IsOpening s.standing };
-}
-
-impl OpenSent {
-    // The session that has this, in this state.
-    pub(crate) fn entered(standing: Standing) -> OpenSent
-        requires { IsOpening standing }
-        ensures { result ≡ standing }
+impl Case for OpenSent {
+    fn session(standing: Standing) -> Session
+        requires { IsKept phase.OpenSent standing }
+        ensures { view_of result ≡ Stands (in_phase phase.OpenSent standing) }
     {
-        OpenSent { standing }
+        Session::OpenSent(In::entered(standing, OpenSent))
     }
 
+    fn is_agreed() -> bool
+        ensures { result ≡ false }
+    {
+        false
+    }
+}
+
+impl In<OpenSent> {
     /// What comes of a message (RFC 5036 sections 2.5.4, 3.5.1.1 and 3.5.3). An acceptable Initialization is answered by a
     /// KeepAlive, and the session is then OpenRec; another one is refused by a fatal Notification. A fatal Notification ends
     /// the session, and nothing is put; another one is passed over. Any other message is not expected: it is refused by a
@@ -64,77 +60,6 @@ impl OpenSent {
         ensures peer_fatal { HasEnded result.0 Reason.PeerFatal ↔ IsTrue (tells_error message.now) }
     {
         self.by_row(message)
-    }
-
-    /// A PDU of the sender came. The session ends by a fatal Notification exactly where the sender is not the peer with
-    /// label space 0 (RFC 5036 section 3.5.1.2.1); else no tick has passed since.
-    pub fn heard(self, sender: LdpId) -> (Session, Replies)
-        ensures session { view_of result.0 ≡ after phase.OpenSent self (Heard sender) }
-        ensures replies { result.1 ≡ said phase.OpenSent self (Heard sender) }
-        ensures bad_identifier { HasEnded result.0 Reason.BadIdentifier ↔ (is_platform self.peers.peer sender ≡ false) }
-    {
-        match self.standing.heard(sender) {
-            Some(standing) => (Session::OpenSent(OpenSent { standing }), Replies::none()),
-            None => bad_identifier(),
-        }
-    }
-
-    /// What came from the peer is no PDU: the session ends, and a fatal Notification tells the fault (RFC 5036 section
-    /// 3.5.1.2). The fault is not want of memory.
-    pub fn refused(self, fault: DecodeFault) -> (Ended, Replies)
-        requires { fault ≢ DecodeFault.NoMemory }
-        ensures decode { result.0 ≡ Reason.Decode }
-        ensures session { EndedBy result.0 ≡ after phase.OpenSent self (Refused fault) }
-        ensures replies { result.1 ≡ about_none (data_of fault) ∷ [] }
-    {
-        refused(fault)
-    }
-
-    /// Something was put to the peer: no tick has passed since.
-    pub fn spoke(self) -> Self
-        ensures session { Stands (in_phase phase.OpenSent result) ≡ after phase.OpenSent self Spoke }
-    {
-        OpenSent {
-            standing: self.standing.spoke(),
-        }
-    }
-
-    /// A tick passes. The session ends by a fatal Notification exactly where nothing was then heard for the hold time (RFC
-    /// 5036 section 2.5.6); else nothing is put.
-    pub fn tick(self) -> (Session, Replies)
-        ensures session { view_of result.0 ≡ after phase.OpenSent self Ticked }
-        ensures replies { result.1 ≡ said phase.OpenSent self Ticked }
-        ensures expired { HasEnded result.0 Reason.Expired ↔ (self.hold ≤ self.wait + 1) }
-    {
-        match self.standing.later() {
-            Some(standing) => (Session::OpenSent(OpenSent { standing }), Replies::none()),
-            None => expired(),
-        }
-    }
-
-    /// The connection was lost, or the link did not take a PDU, as the reason says. Nothing is put.
-    pub fn closed(self, reason: Reason) -> Ended
-        requires { (reason ≡ Reason.Closed) ⊎ (reason ≡ Reason.LinkFault) }
-        ensures reason { result ≡ reason }
-        ensures session { EndedBy result ≡ after phase.OpenSent self (Closed reason) }
-    {
-        Ended::by(reason)
-    }
-
-    /// The most that a PDU Length may be: 4096 octets, as none was agreed on yet (RFC 5036 section 3.5.3).
-    pub fn max_pdu(&self) -> u16
-        ensures value { result ≡ self.now.max_pdu }
-        ensures longest { result ≡ 4096 }
-    {
-        self.standing.max_pdu
-    }
-
-    /// The hold time in ticks: the KeepAlive Time that this end proposes, as none was agreed on yet.
-    pub fn hold(&self) -> u16
-        ensures value { result ≡ self.now.hold }
-        ensures own { result ≡ self.now.peers.keepalive }
-    {
-        self.standing.hold
     }
 
     // The row of a message.
@@ -165,10 +90,11 @@ impl OpenSent {
         ensures session { view_of result.0 ≡ view_after (in_phase phase.OpenSent self) (judged (refusal_of self.peers params.now) (in_phase phase.OpenSent self) message.now params.now (reply.KeepAlive ∷ [])) }
         ensures replies { result.1 ≡ replies_of (judged (refusal_of self.peers params.now) (in_phase phase.OpenSent self) message.now params.now (reply.KeepAlive ∷ [])) }
     {
-        match refusal_of(&self.standing.peers, params) {
+        let standing = self.standing();
+        match refusal_of(&standing.peers, params) {
             Some(refusal) => refused_proposal(refusal, message),
             None => (
-                Session::OpenRec(OpenRec::entered(self.standing.agreed(params))),
+                Session::OpenRec(In::entered(standing.agreed(params), OpenRec)),
                 Replies::one(Reply::KeepAlive),
             ),
         }

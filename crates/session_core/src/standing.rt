@@ -1,8 +1,8 @@
 //! What a session that stands has, in each of its states.
-ghost use Rattle.std.specs.Prelude.{◌≡◌, ◌<◌, ◌+◌, ◌^◌, ◌↔◌, [], ◌∷◌, IfSome, IfNone, None, min, false, true, nat_le, if◌then◌else◌};
+ghost use Rattle.std.specs.Prelude.{◌≡◌, ◌<◌, ◌+◌, ◌^◌, ◌↔◌, ◌&&◌, [], ◌∷◌, IfSome, IfNone, None, min, false, true, nat_le, if◌then◌else◌};
 ghost use Rattle.session_core.specs.Parameters.{is_platform, longest, refusal_of};
 ghost use Rattle.session_core.specs.Phase as phase;
-ghost use Rattle.session_core.specs.State.{IsAgreed, IsOpening, IsProper, in_phase, opened};
+ghost use Rattle.session_core.specs.State.{IsKept, IsProper, in_phase, opened};
 ghost use Rattle.session_core.specs.Table.{one_more, third};
 ghost use Rattle.session_core.specs.declared.reply.Reply.TheVariants as reply;
 
@@ -30,7 +30,7 @@ impl Standing {
     pub(crate) fn opened(peers: Peers) -> Standing
         requires { IsProper peers }
         ensures state { in_phase phase.Initialized result ≡ opened peers }
-        ensures opening { IsOpening result }
+        ensures kept { IsKept phase.Initialized result }
     {
         Standing {
             peers,
@@ -44,10 +44,11 @@ impl Standing {
     // What the two proposals agree on: the smaller of both, of the KeepAlive Time and of the Max PDU Length. The proposal
     // is acceptable.
     pub(crate) fn agreed(self, params: &SessionParams) -> Standing
-        requires opening { IsOpening self }
+        requires proper { IsProper self.peers }
+        requires waiting { self.wait < self.peers.keepalive }
         requires acceptable { refusal_of self.peers params.now ≡ None }
         ensures state { result ≡ record self { hold = min self.peers.keepalive params.now.keepalive; max_pdu = min self.peers.max_pdu (longest params.now.max_pdu) } }
-        ensures agreed { IsAgreed result }
+        ensures agreed { IsKept phase.OpenRec result }
     {
         Standing {
             hold: self.peers.keepalive.min(params.keepalive),
@@ -95,12 +96,13 @@ impl Standing {
         })
     }
 
-    // A KeepAlive, where nothing was put for a third of the hold time, and for one tick at least (RFC 5036 section 2.5.6).
-    pub(crate) fn keep_alive(&self) -> Replies
-        ensures { result ≡ (if nat_le (third self.now.hold) self.now.silence then reply.KeepAlive ∷ [] else []) }
+    // A KeepAlive, where an Initialization was accepted and nothing was put for a third of the hold time, and for one tick
+    // at least (RFC 5036 section 2.5.6).
+    pub(crate) fn due(&self, agreed: bool) -> Replies
+        ensures { result ≡ (if agreed && nat_le (third self.now.hold) self.now.silence then reply.KeepAlive ∷ [] else []) }
     {
         let third = (self.hold / 3).max(1);
-        if third as u64 <= self.silence {
+        if agreed && third as u64 <= self.silence {
             return Replies::one(Reply::KeepAlive);
         }
         Replies::none()

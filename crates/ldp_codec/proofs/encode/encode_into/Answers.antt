@@ -1,7 +1,7 @@
 -- The message, and the header before it.
 use Rattle.std.proofs.Common.{◌≡◌, ◌-◌, ◌++◌, ℕ, length, length-append, subst, sym, ap, ◌∙◌, arith}
 use Rattle.ldp_grammar.specs.Written.{header_octets, message_octets}
-use Rattle.ldp_codec.specs.Put.{IsPut}
+use Rattle.net_base.specs.values.Put.{IsPut}
 use Rattle.ldp_codec.proofs.PutLemmas.{put_before, put_front}
 use Rattle.ldp_codec.proofs.encode.encode_into.Goals as goal
 

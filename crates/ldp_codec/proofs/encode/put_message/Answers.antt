@@ -3,7 +3,7 @@ use Rattle.std.proofs.Common.{◌≡◌, ◌+◌, ◌-◌, ◌++◌, length, fla
 use Rattle.ldp_grammar.specs.Octets.{two, four}
 use Rattle.ldp_grammar.specs.Tlvs.{spell_tlv}
 use Rattle.ldp_grammar.specs.Written.{written_tlvs, written_type, id_of}
-use Rattle.ldp_codec.specs.Put.{IsPut}
+use Rattle.net_base.specs.values.Put.{IsPut}
 use Rattle.ldp_codec.proofs.PutLemmas.{put_before}
 use Rattle.ldp_codec.proofs.encode.put_message.Goals as goal
 

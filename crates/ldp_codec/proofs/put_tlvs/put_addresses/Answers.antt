@@ -1,7 +1,7 @@
 -- The header, the family behind it, and the addresses behind that.
 use Rattle.std.proofs.Common.{◌≡◌, ◌+◌, ◌++◌, List, [], ℕ, length, length-append, subst, ap, ◌∙◌, arith}
 use Rattle.ldp_grammar.specs.Octets.{two}
-use Rattle.ldp_codec.specs.Put.{IsPut}
+use Rattle.net_base.specs.values.Put.{IsPut}
 use Rattle.ldp_codec.proofs.PutLemmas.{put_both, put_alone}
 use Rattle.ldp_codec.proofs.put_tlvs.put_addresses.Goals as goal
 

@@ -1,7 +1,7 @@
 -- The header, and the value behind it.
 use Rattle.std.proofs.Common.{◌+◌, ◌++◌, List, ℕ, length, refl, subst, ap, ◌∙◌, arith}
 use Rattle.ldp_grammar.specs.Octets.{two}
-use Rattle.ldp_codec.specs.Put.{IsPut}
+use Rattle.net_base.specs.values.Put.{IsPut}
 use Rattle.ldp_codec.proofs.PutLemmas.{put_part}
 use Rattle.pw_tlvs.specs.Written.{written_fec}
 use Rattle.ldp_codec.proofs.put_tlvs.put_fec.Goals as goal

@@ -10,7 +10,7 @@ returns-in-Some-misfit-clause-fault c = λ body reads ts joined.
     let m = c.in-Some-misfit.ensures.misfit in
     let s = c.in-Some-split_tlv.ensures.whole in
     let room = c.in_default.ensures.room ts joined in
-    subst (IsFirstTlvFault (row_of c.args.kind) body ts c.args.rest.now) (sym c.fault-in-Some-misfit.ensures) (misfit_at (row_of c.args.kind) body ts c.args.rest.now c.in-Some-split_tlv.value.now c.in-Some-split_tlv.field-0-2.now c.in-Some-split_tlv.word c.two-tlv.result c.in-Some-misfit.field c.two-tlv.ensures s m.0 (room refl) m.1)
+    subst (IsFirstTlvFault (row_of c.args.kind) body ts c.args.rest.now) (sym c.fault_at-in-Some-misfit.ensures) (misfit_at (row_of c.args.kind) body ts c.args.rest.now c.in-Some-split_tlv.value.now c.in-Some-split_tlv.field-0-2.now c.in-Some-split_tlv.word c.two-tlv.result c.in-Some-misfit.field c.two-tlv.ensures s m.0 (room refl) m.1)
 
 pub returns-in-Some-wrong_content-clause-fault : goal.returns-in-Some-wrong_content-clause-fault
 returns-in-Some-wrong_content-clause-fault c = λ body reads ts joined.

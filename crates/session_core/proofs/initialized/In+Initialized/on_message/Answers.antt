@@ -1,5 +1,5 @@
 use Rattle.session_core.proofs.ReasonLemmas.{passive_accepts, passive_bad_receiver, passive_zero_time}
-use Rattle.session_core.proofs.initialized.Initialized.on_message.Goals as goal
+use Rattle.session_core.proofs.initialized.In+Initialized.on_message.Goals as goal
 
 pub returns-clause-accepts : goal.returns-clause-accepts
 returns-clause-accepts c = rw c.by_row.ensures.session (passive_accepts c.args.self c.args.message.now)
