@@ -1,5 +1,5 @@
 -- What is written is read, and an answer is the request turned round.
-use Rattle.std.proofs.Common.{◌≡◌, ◌≤◌, ◌<◌, ◌+◌, ◌*◌, ◌/◌, ◌%◌, ◌^◌, ◌++◌, ◌∙◌, ◌==◌, ◌&&◌, ◌||◌, ℕ, suc, Bool, true, false, Ok, List, [], ◌∷◌, length, get_or, take, drop, refl, ap, sym, subst, arith}
+use Rattle.std.proofs.Common.{◌≡◌, ◌≤◌, ◌<◌, ◌/◌, ◌%◌, ◌++◌, ◌∙◌, ◌==◌, ◌&&◌, ◌||◌, ℕ, Bool, true, false, Ok, List, [], ◌∷◌, length, get_or, take, drop, refl, ap, sym, subst, arith}
 use Rattle.std.proofs.lemmas.List.{length-take-le, length-append, take_all, take_at, drop_at}
 use Rattle.std.proofs.lemmas.Bool.{eq-eqb}
 use Rattle.net_base.specs.declared.values.addr.Addr.{Addr}
@@ -12,7 +12,7 @@ use Rattle.vccv_channel.specs.declared.ping.Ping.{Ping}
 use Rattle.vccv_channel.specs.Channel.{has_header, payload}
 use Rattle.vccv_channel.specs.Checksum.{ones_sum, summed, IsSummed, AreOctets}
 use Rattle.vccv_channel.specs.Echo.{request_packet, answer_packet, answer_header, answer_message, source, destination, IsPing, IsAnswerTo}
-use Rattle.vccv_channel.specs.Reading.{is_ip_packet, has_sums, is_echo, total_length, echo_in, reading, behind_header, IsRequest}
+use Rattle.vccv_channel.specs.Reading.{is_ip_packet, has_sums, is_echo, total_length, reading, behind_header, IsRequest}
 use Rattle.vccv_channel.proofs.OctetLemmas.{octets_none, octets_cons, octets_append, octets_take, octets_drop, pair_take}
 use Rattle.vccv_channel.proofs.SumLemmas.{summed_is, word_of}
 use Rattle.vccv_channel.proofs.ReadingLemmas.{IsRead, read_as, faultless, in_channel, cut_is_ip, both_true, and_true}

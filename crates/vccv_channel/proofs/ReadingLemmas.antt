@@ -1,7 +1,6 @@
 -- What a payload without a fault is.
-use Rattle.std.proofs.Common.{◌≡◌, ◌≤◌, ◌<◌, ◌+◌, ◌++◌, ◌∙◌, ◌==◌, ◌&&◌, nat_le, not, cond, ℕ, suc, Bool, true, false, Option, Some, None, Ok, Err, List, [], ◌∷◌, length, get_or, take, drop, refl, ap, sym, subst, arith}
-use Rattle.std.proofs.lemmas.List.{get_or-take, length-take-le, take_all}
-use Rattle.std.proofs.lemmas.Bool.{eq-eqb}
+use Rattle.std.proofs.Common.{◌≡◌, ◌≤◌, ◌∙◌, ◌==◌, ◌&&◌, nat_le, not, cond, ℕ, Bool, true, false, Some, None, Ok, Err, List, ◌∷◌, length, get_or, take, refl, ap, sym, arith}
+use Rattle.std.proofs.lemmas.List.{get_or-take, length-take-le}
 use Rattle.std.proofs.lemmas.Bool.Decides.{nat_tests}
 use Rattle.net_base.specs.declared.values.addr.Addr.{Addr}
 use Rattle.net_base.specs.values.Frame.{pair_at}
@@ -13,7 +12,7 @@ use Rattle.vccv_channel.specs.declared.vccv_fault.VccvFault.{VccvFault}
 use Rattle.vccv_channel.specs.declared.vccv_fault.VccvFault.TheVariants.{Version, Channel, Ip, Checksum, Icmp}
 use Rattle.vccv_channel.specs.Channel.{has_header, payload}
 use Rattle.vccv_channel.specs.Echo.{source, destination}
-use Rattle.vccv_channel.specs.Reading.{is_whole_icmp, is_of_length, is_ip_packet, has_sums, is_echo, behind_header, total_length, packet_of, has_fault, unless, echo_in, reading, IsRequest}
+use Rattle.vccv_channel.specs.Reading.{is_whole_icmp, is_of_length, is_ip_packet, has_sums, is_echo, behind_header, total_length, packet_of, has_fault, unless, echo_in, reading}
 use Rattle.vccv_channel.proofs.OctetLemmas.{pair_take}
 
 -- where a value is read, none of five tests found a fault

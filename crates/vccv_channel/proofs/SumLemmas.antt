@@ -1,7 +1,5 @@
 -- Sums in ones' complement.
-use Rattle.std.proofs.Common.{◌≡◌, ◌≤◌, ◌<◌, ◌+◌, ◌-◌, ◌*◌, ◌/◌, ◌%◌, ◌++◌, ◌∙◌, ℕ, suc, List, [], ◌∷◌, length, get_or, refl, sym, ap, arith}
-use Rattle.std.proofs.lemmas.List.{length-append}
-use Rattle.byteorder.specs.Endian.{big_bytes}
+use Rattle.std.proofs.Common.{◌≡◌, ◌<◌, ◌+◌, ◌-◌, ◌*◌, ◌/◌, ◌%◌, ◌++◌, ◌∙◌, ℕ, suc, List, [], ◌∷◌, length, refl, sym, ap, arith}
 use Rattle.vccv_channel.specs.Checksum.{ones_plus, ones_sum, summed, IsSummed, AreOctets}
 
 plus_fits : (a b : ℕ) → a < 65536 → b < 65536 → ones_plus a b < 65536

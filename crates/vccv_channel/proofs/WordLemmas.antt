@@ -1,5 +1,5 @@
 -- Words of sixteen bits in rows of octets.
-use Rattle.std.proofs.Common.{◌≡◌, ◌≤◌, ◌<◌, ◌+◌, ◌*◌, ◌-◌, ◌%◌, ◌∙◌, ℕ, List, [], ◌∷◌, length, drop, get_or, refl, ap, sym, arith}
+use Rattle.std.proofs.Common.{◌≡◌, ◌≤◌, ◌+◌, ◌*◌, ◌-◌, ◌%◌, ◌∙◌, ℕ, List, [], ◌∷◌, length, drop, get_or, refl, ap, sym, arith}
 use Rattle.std.proofs.lemmas.List.{drop_more, drop_all}
 use Rattle.net_base.specs.values.Frame.{pair_at}
 use Rattle.vccv_channel.specs.Checksum.{words, ones_plus, ones_total, ones_sum}

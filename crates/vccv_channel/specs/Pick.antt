@@ -1,5 +1,5 @@
 -- Which control channel both ends can use (RFC 5085 sections 5.3.1 and 7).
-use Rattle.std.specs.Prelude.{◌==◌, ◌&&◌, not, ℕ, Bool, List, [], ◌∷◌, Option, Some, None, if◌then◌else◌}
+use Rattle.std.specs.Prelude.{◌==◌, ◌&&◌, not, ℕ, Bool, [], ◌∷◌, Option, Some, None, if◌then◌else◌}
 use Rattle.std.specs.List.{find}
 use Rattle.std.specs.Int.{bit_at}
 use Rattle.vccv_channel.specs.declared.cc.Cc.{Cc}

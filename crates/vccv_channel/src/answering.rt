@@ -1,7 +1,7 @@
 //! The packet of an echo reply.
 ghost use Rattle.std.specs.Prelude.{◌≡◌, ◌≤◌, ◌+◌, ◌++◌, ◌∷◌, [], length, take, drop, slice_index};
 ghost use Rattle.vccv_channel.specs.Channel.{channel_packet};
-ghost use Rattle.vccv_channel.specs.Echo.{answer_packet, source, destination};
+ghost use Rattle.vccv_channel.specs.Echo.{answer_packet};
 ghost use Rattle.vccv_channel.specs.Reading.{IsRequest};
 
 use crate::Cc;

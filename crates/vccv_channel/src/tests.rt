@@ -139,14 +139,6 @@ fn refuses_by_the_first_fault(rt: HostRuntime) {
     for (fault, changes) in FAULTS {
         assert_eq!(rt; read_echo(&changed(changes), true, 100), Err(fault));
     }
-    let payload = changed([(32, 0), (32, 0)]);
-    assert_eq!(rt;
-        read_echo(&payload[..3], true, 100),
-        Err(VccvFault::Version)
-    );
-    assert_eq!(rt; read_echo(&payload[..31], true, 100), Err(VccvFault::Ip));
-    assert_eq!(rt; read_echo(&payload, false, 100), Err(VccvFault::Ip));
-    assert_eq!(rt; read_echo(&payload, true, 101), Err(VccvFault::Icmp));
 }
 
 // A request of this total length, with a header checksum of these octets.

@@ -1,5 +1,5 @@
 -- Each answer is that of the tests before it.
-use Rattle.std.proofs.Common.{◌≡◌, ◌∙◌, ◌++◌, ℕ, true, false, Ok, ap, sym}
+use Rattle.std.proofs.Common.{◌≡◌, ◌∙◌, true, false, Ok, ap, sym}
 use Rattle.vccv_channel.specs.declared.echo.Echo.{Echo}
 use Rattle.vccv_channel.specs.Reading.{is_ip_packet, has_sums, is_echo, echo_in, behind_header, packet_of}
 use Rattle.vccv_channel.proofs.ReadingLemmas.{reads_version, reads_channel, reads_ip, reads_checksum, reads_icmp, reads_echo, cut_of}
