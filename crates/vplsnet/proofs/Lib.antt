@@ -7,4 +7,3 @@ pub mod PromiseLemmas
 pub mod ReplayLemmas
 pub mod SingleEdgeLemmas
 pub mod StreamLemmas
-pub mod WordLemmas

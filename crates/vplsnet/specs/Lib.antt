@@ -5,12 +5,8 @@ pub mod FaultText
 pub mod Files
 pub mod Finish
 pub mod Made
-pub mod MessageLine
-pub mod MessageWords
 pub mod Promises
 pub mod Replays
-pub mod Report
-pub mod ReportWords
 pub mod SingleEdge
 pub mod StreamFaultText
 pub mod StreamSteps

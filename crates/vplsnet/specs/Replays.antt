@@ -11,13 +11,13 @@ use Rattle.scenario_text.specs.declared.scenario.Scenario.{Scenario}
 use Rattle.scenario_text.specs.declared.scenario_fault.ScenarioFault.{ScenarioFault}
 use Rattle.scenario_text.specs.declared.scenario_fault.ScenarioFault.TheVariants as scenario_fault
 use Rattle.scenario_text.specs.Document.{document}
-use Rattle.vplsnet.specs.declared.ending.Ending.TheVariants.{End}
+use Rattle.report_text.specs.declared.ending.Ending.TheVariants.{End}
 use Rattle.vplsnet.specs.declared.outcome.Outcome.{Outcome}
 use Rattle.vplsnet.specs.declared.outcome.Outcome.TheVariants.{Done, Usage, ReadFault, WriteFault, TooLong, ScenarioRefused, NotBuilt, DecodeRefused, Unfinished, NoMemory}
 use Rattle.vplsnet.specs.Built.{is_built}
 use Rattle.vplsnet.specs.Files.{IsLonger, AppendsFront}
 use Rattle.vplsnet.specs.Made.{made}
-use Rattle.vplsnet.specs.Report.{report}
+use Rattle.report_text.specs.Report.{report}
 
 -- the most octets of a scenario
 abbrev pub scenario_limit : ℕ

@@ -6,11 +6,6 @@ ghost use Rattle.vplsnet.specs.Decodes.{Decodes, IsStream, IsToldLongStream, IsT
 ghost use Rattle.vplsnet.specs.Finish.{status_of};
 ghost use Rattle.vplsnet.specs.StreamText.{outcome_of};
 
-mod line;
-pub mod names;
-mod parts;
-mod pieces;
-mod pseudowire;
 mod stream;
 #[cfg(test)]
 mod tests;

@@ -2,7 +2,8 @@
 ghost use Rattle.std.specs.Prelude.{◌≡◌, ◌++◌, ◌∷◌, [], ◌<◌, codes, map, string_bytes, OnOk};
 ghost use Rattle.std.specs.Fmt.{decimal};
 ghost use Rattle.scenario_text.specs.Places.{masked};
-ghost use Rattle.vplsnet.specs.FaultText.{table_name, place_words, plan_fault_name, plan_fault_place, fault_words, spaced};
+ghost use Rattle.vplsnet.specs.FaultText.{table_name, place_words, plan_fault_name, plan_fault_place, fault_words};
+ghost use Rattle.text_pieces.specs.Pieces.{spaced};
 
 use itoa::Buffer;
 use net_base::{NoMemory, Place, PlanFault, Table, Text};

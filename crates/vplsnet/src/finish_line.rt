@@ -1,7 +1,8 @@
 //! The line that tells how a call ended.
 ghost use Rattle.std.specs.Prelude.{◌≡◌, ◌≢◌, ◌++◌, codes, string_bytes, IfOk};
 ghost use Rattle.std.specs.Fmt.{decimal};
-ghost use Rattle.vplsnet.specs.FaultText.{fault_words, spaced};
+ghost use Rattle.vplsnet.specs.FaultText.{fault_words};
+ghost use Rattle.text_pieces.specs.Pieces.{spaced};
 ghost use Rattle.vplsnet.specs.Finish.{long_line, finish_text};
 ghost use Rattle.vplsnet.specs.StreamFaultText.{stream_fault_words};
 

@@ -9,26 +9,25 @@ ghost use Rattle.scenario_text.specs.declared.scenario_fault.ScenarioFault.{Scen
 ghost use Rattle.scenario_text.specs.declared.scenario.Scenario.{Scenario};
 ghost use Rattle.scenario_text.specs.Runnable.{IsRunnable};
 ghost use Rattle.vplsnet.specs.Built.{is_built};
-ghost use Rattle.vplsnet.specs.declared.ending.Ending.TheVariants.{End};
+ghost use Rattle.report_text.specs.declared.ending.Ending.TheVariants.{End};
 ghost use Rattle.network_model.specs.Run.{run};
 ghost use Rattle.vplsnet.specs.Decodes.{Decodes, IsToldLongStream, IsToldStream, stream_limit};
 ghost use Rattle.vplsnet.specs.Finish.{status_of};
 ghost use Rattle.vplsnet.specs.Made.{made};
 ghost use Rattle.vplsnet.specs.Promises.{KeepsPromises};
 ghost use Rattle.vplsnet.specs.Replays.{Replays, Prevents, IsAccepted, IsToldLonger, IsToldRefused, IsToldAccepted, scenario_limit};
-ghost use Rattle.vplsnet.specs.Report.{report};
+ghost use Rattle.report_text.specs.Report.{report};
 ghost use Rattle.vplsnet.specs.Words.{decoded_file, replayed_file};
 
 use crate::built::is_built_scenario;
 use crate::decode::decode;
-use crate::ending::Ending;
 use crate::files::{ReadStop, read_file, write_text};
 use crate::finish::Finish;
 use crate::outcome::Outcome;
 use crate::replay::replayed;
-use crate::report::report_of;
 use crate::words::file_of;
 use net_base::{NoMemory, Shelf, Sink, Trace, Word};
+use report_text::{Ending, report_of};
 use scenario_text::{Scenario, ScenarioFault, read_scenario};
 use std::alloc::Global;
 

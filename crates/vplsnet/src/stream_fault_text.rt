@@ -1,14 +1,14 @@
 //! The fault of a stream in words.
 ghost use Rattle.std.specs.Prelude.{◌≡◌, ◌++◌, ◌∷◌, [], OnOk, string_bytes};
 ghost use Rattle.std.specs.Fmt.{decimal};
-ghost use Rattle.vplsnet.specs.FaultText.{spaced};
-ghost use Rattle.vplsnet.specs.MessageWords.{field_name};
+ghost use Rattle.text_pieces.specs.Pieces.{spaced};
+ghost use Rattle.message_text.specs.Words.{field_name};
 ghost use Rattle.vplsnet.specs.StreamFaultText.{decode_fault_words, stream_fault_words};
 
-use crate::decode::names::field_text;
 use crate::fault_text::{put_number, put_word};
 use ldp_codec::DecodeFault;
 use ldp_stream::StreamFault;
+use message_text::field_text;
 use net_base::{Field, NoMemory};
 
 /// Adds the place of the PDU at fault, and its fault's name and fields in order, with a blank before each.

@@ -4,9 +4,9 @@ ghost use Rattle.ldp_stream.specs.Front.{IsPending};
 ghost use Rattle.vplsnet.specs.StreamSteps.{EndsWith, GoesOn, IsGoing, IsStopped, LeavesSome, StopsIn, TakesOne};
 ghost use Rattle.vplsnet.specs.StreamText.{largest_pdu};
 
-use crate::decode::line::put_messages;
 use crate::outcome::Outcome;
 use ldp_stream::{Stream, StreamFault};
+use message_text::put_messages;
 use net_base::NoMemory;
 use std::alloc::Global;
 
