@@ -1,10 +1,8 @@
-pub mod DecodeLemmas
+pub mod AnswerLemmas
 pub mod DomainLemmas
 pub mod DomainsLemmas
 pub mod FileLemmas
-pub mod OutcomeLemmas
 pub mod PromiseLemmas
-pub mod ReplayLemmas
 pub mod SingleEdgeLemmas
+pub mod SingleRunLemmas
 pub mod StreamLemmas
-pub mod WordLemmas

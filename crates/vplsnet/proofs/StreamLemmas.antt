@@ -15,7 +15,7 @@ use Rattle.ldp_stream.proofs.ParsedLemmas.{one_parsing}
 use Rattle.ldp_stream.proofs.StreamLemmas.{going_fault}
 use Rattle.vplsnet.specs.declared.outcome.Outcome.{Outcome}
 use Rattle.vplsnet.specs.declared.outcome.Outcome.TheVariants.{Done, Unfinished}
-use Rattle.vplsnet.specs.MessageLine.{decoded_lines}
+use Rattle.message_text.specs.Line.{decoded_lines}
 use Rattle.vplsnet.specs.StreamText.{largest_pdu, IsTextFrom, IsStreamText, outcome_of}
 use Rattle.vplsnet.specs.StreamSteps.{IsGoing, AddsPdu, TakesOne, GoesOn, IsStopped, IsFedTo, LeavesSome, StopsIn, EndsWith}
 

@@ -1,5 +1,5 @@
 -- A scenario's fault in words.
-use Rattle.std.specs.Prelude.{◌++◌, codes, map, ℕ, List, [], ◌∷◌}
+use Rattle.std.specs.Prelude.{codes, map, ℕ, List, [], ◌∷◌}
 use Rattle.std.specs.Fmt.{decimal}
 use Rattle.net_base.specs.declared.plan.place.Place.{Place}
 use Rattle.net_base.specs.declared.plan.plan_fault.PlanFault.{PlanFault}
@@ -53,8 +53,3 @@ fault_words (fault.TooMany table limit) = codes "TooMany" ∷ table_name table �
 fault_words fault.Version = codes "Version" ∷ []
 fault_words (fault.Plan plan) = codes "Plan" ∷ plan_fault_name plan ∷ place_words (plan_fault_place plan)
 fault_words fault.NoMemory = codes "out of memory" ∷ []
-
--- words with a blank before each
-abbrev pub spaced : List (List ℕ) → List ℕ
-spaced [] = []
-spaced (word ∷ words) = (codes " " ++ word) ++ spaced words

@@ -1,7 +1,8 @@
 -- The status and the line by which the program ends.
 use Rattle.std.specs.Prelude.{◌++◌, codes, ℕ, List, []}
 use Rattle.std.specs.Fmt.{decimal}
-use Rattle.vplsnet.specs.FaultText.{fault_words, spaced}
+use Rattle.vplsnet.specs.FaultText.{fault_words}
+use Rattle.text_pieces.specs.Pieces.{spaced}
 use Rattle.vplsnet.specs.StreamFaultText.{stream_fault_words}
 use Rattle.vplsnet.specs.declared.outcome.Outcome.{Outcome}
 use Rattle.vplsnet.specs.declared.outcome.Outcome.TheVariants.{Done, Usage, ReadFault, WriteFault, TooLong, ScenarioRefused, NotBuilt, DecodeRefused, Unfinished, NoMemory}

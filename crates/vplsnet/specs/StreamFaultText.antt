@@ -5,7 +5,7 @@ use Rattle.ldp_codec.specs.declared.decode_fault.DecodeFault.{DecodeFault}
 use Rattle.ldp_codec.specs.declared.decode_fault.DecodeFault.TheVariants as refusal
 use Rattle.ldp_stream.specs.declared.stream_fault.StreamFault.{StreamFault}
 use Rattle.ldp_stream.specs.declared.stream_fault.StreamFault.TheVariants as stop
-use Rattle.vplsnet.specs.MessageWords.{field_name}
+use Rattle.message_text.specs.Words.{field_name}
 
 -- the fault's name, its place in the PDU, and the field that it names
 abbrev pub decode_fault_words : DecodeFault → List (List ℕ)

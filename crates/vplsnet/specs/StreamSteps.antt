@@ -10,7 +10,7 @@ use Rattle.ldp_stream.specs.Front.{IsPending}
 use Rattle.ldp_stream.specs.Parsed.{Ending, Pending, Refused}
 use Rattle.ldp_stream.specs.State.{StreamState, Passes, Waits}
 use Rattle.vplsnet.specs.declared.outcome.Outcome.{Outcome}
-use Rattle.vplsnet.specs.MessageLine.{decoded_lines}
+use Rattle.message_text.specs.Line.{decoded_lines}
 use Rattle.vplsnet.specs.StreamText.{largest_pdu, IsTextFrom, IsStreamText, outcome_of}
 
 -- no fault was answered yet, and so many octets were fed

@@ -5,7 +5,7 @@ use Rattle.ldp_stream.specs.declared.stream_fault.StreamFault.TheVariants as sto
 use Rattle.ldp_stream.specs.Parsed.{PlacedPdu, Ending, Pending, Refused, IsParsedFrom}
 use Rattle.vplsnet.specs.declared.outcome.Outcome.{Outcome}
 use Rattle.vplsnet.specs.declared.outcome.Outcome.TheVariants.{Done, DecodeRefused, Unfinished}
-use Rattle.vplsnet.specs.MessageLine.{decoded_lines}
+use Rattle.message_text.specs.Line.{decoded_lines}
 
 -- the largest PDU Length of a stream (RFC 5036 section 3.1)
 abbrev pub largest_pdu : ℕ

@@ -2,112 +2,95 @@
 ghost use Rattle.std.specs.Prelude.{◌≡◌, ◌++◌, ◌∷◌, [], ◌<◌, codes, map, string_bytes, OnOk};
 ghost use Rattle.std.specs.Fmt.{decimal};
 ghost use Rattle.scenario_text.specs.Places.{masked};
-ghost use Rattle.vplsnet.specs.FaultText.{table_name, place_words, plan_fault_name, plan_fault_place, fault_words, spaced};
+ghost use Rattle.vplsnet.specs.FaultText.{table_name, place_words, plan_fault_name, plan_fault_place, fault_words};
+ghost use Rattle.text_pieces.specs.Pieces.{spaced};
 
-use itoa::Buffer;
 use net_base::{NoMemory, Place, PlanFault, Table, Text};
 use scenario_text::ScenarioFault;
+use text_pieces::{put_number_word, put_text, put_word};
 
 /// Adds the fault's name and its fields in order, with a blank before each.
-pub fn put_fault(line: &mut String, fault: ScenarioFault) -> Result<(), NoMemory>
-    ensures { OnOk result (string_bytes line.new ≡ string_bytes line.old ++ spaced (fault_words fault)) }
+pub fn put_fault(text: &mut Vec<u8>, fault: ScenarioFault) -> Result<(), NoMemory>
+    ensures { OnOk result (text.new.items ≡ text.old.items ++ spaced (fault_words fault)) }
 {
     match fault {
-        ScenarioFault::NotToml => put_word(line, "NotToml"),
-        ScenarioFault::Missing(place) => put_placed(line, "Missing", &place),
-        ScenarioFault::WrongKind(place) => put_placed(line, "WrongKind", &place),
-        ScenarioFault::UnknownKey(place) => put_placed(line, "UnknownKey", &place),
-        ScenarioFault::BadWord { event, word } => put_bad_word(line, event, word),
-        ScenarioFault::TooMany { table, limit } => put_too_many(line, table, limit),
-        ScenarioFault::Version => put_word(line, "Version"),
-        ScenarioFault::Plan(plan) => put_plan_fault(line, &plan),
-        ScenarioFault::NoMemory => put_word(line, "out of memory"),
+        ScenarioFault::NotToml => put_word(text, b"NotToml"),
+        ScenarioFault::Missing(place) => put_placed(text, b"Missing", &place),
+        ScenarioFault::WrongKind(place) => put_placed(text, b"WrongKind", &place),
+        ScenarioFault::UnknownKey(place) => put_placed(text, b"UnknownKey", &place),
+        ScenarioFault::BadWord { event, word } => put_bad_word(text, event, word),
+        ScenarioFault::TooMany { table, limit } => put_too_many(text, table, limit),
+        ScenarioFault::Version => put_word(text, b"Version"),
+        ScenarioFault::Plan(plan) => put_plan_fault(text, &plan),
+        ScenarioFault::NoMemory => put_word(text, b"out of memory"),
     }
 }
 
-/// Adds a word, with a blank before it.
-pub fn put_word(line: &mut String, word: &str) -> Result<(), NoMemory>
-    ensures { OnOk result (string_bytes line.new ≡ string_bytes line.old ++ spaced (word.now ∷ [])) }
+fn put_bad_word(text: &mut Vec<u8>, event: u32, word: u32) -> Result<(), NoMemory>
+    ensures { OnOk result (text.new.items ≡ text.old.items ++ spaced (codes "BadWord" ∷ decimal event ∷ decimal word ∷ [])) }
 {
-    line.push_str(" ")?;
-    line.push_str(word)?;
-    Ok(())
+    put_word(text, b"BadWord")?;
+    put_number_word(text, u64::from(event))?;
+    put_number_word(text, u64::from(word))
 }
 
-/// Adds a number in decimal, with a blank before it.
-pub fn put_number(line: &mut String, number: u64) -> Result<(), NoMemory>
-    ensures { OnOk result (string_bytes line.new ≡ string_bytes line.old ++ spaced (decimal number ∷ [])) }
+fn put_too_many(text: &mut Vec<u8>, table: Table, limit: u32) -> Result<(), NoMemory>
+    ensures { OnOk result (text.new.items ≡ text.old.items ++ spaced (codes "TooMany" ∷ table_name table ∷ decimal limit ∷ [])) }
 {
-    let mut buffer = Buffer::new();
-    put_word(line, buffer.format(number))
-}
-
-fn put_bad_word(line: &mut String, event: u32, word: u32) -> Result<(), NoMemory>
-    ensures { OnOk result (string_bytes line.new ≡ string_bytes line.old ++ spaced (codes "BadWord" ∷ decimal event ∷ decimal word ∷ [])) }
-{
-    put_word(line, "BadWord")?;
-    put_number(line, u64::from(event))?;
-    put_number(line, u64::from(word))
-}
-
-fn put_too_many(line: &mut String, table: Table, limit: u32) -> Result<(), NoMemory>
-    ensures { OnOk result (string_bytes line.new ≡ string_bytes line.old ++ spaced (codes "TooMany" ∷ table_name table ∷ decimal limit ∷ [])) }
-{
-    put_word(line, "TooMany")?;
-    put_word(line, table_text(table))?;
-    put_number(line, u64::from(limit))
+    put_word(text, b"TooMany")?;
+    put_word(text, table_text(table).as_bytes())?;
+    put_number_word(text, u64::from(limit))
 }
 
 // Adds a fault's name and its place.
-fn put_placed(line: &mut String, name: &str, place: &Place) -> Result<(), NoMemory>
-    ensures { OnOk result (string_bytes line.new ≡ string_bytes line.old ++ spaced (name.now ∷ place_words place.now)) }
+fn put_placed(text: &mut Vec<u8>, name: &[u8], place: &Place) -> Result<(), NoMemory>
+    ensures { OnOk result (text.new.items ≡ text.old.items ++ spaced (name.now ∷ place_words place.now)) }
 {
-    put_word(line, name)?;
-    put_place(line, place)
+    put_word(text, name)?;
+    put_place(text, place)
 }
 
-fn put_plan_fault(line: &mut String, fault: &PlanFault) -> Result<(), NoMemory>
-    ensures { OnOk result (string_bytes line.new ≡ string_bytes line.old ++ spaced (codes "Plan" ∷ plan_fault_name fault.now ∷ place_words (plan_fault_place fault.now))) }
+fn put_plan_fault(text: &mut Vec<u8>, fault: &PlanFault) -> Result<(), NoMemory>
+    ensures { OnOk result (text.new.items ≡ text.old.items ++ spaced (codes "Plan" ∷ plan_fault_name fault.now ∷ place_words (plan_fault_place fault.now))) }
 {
-    put_word(line, "Plan")?;
-    put_word(line, plan_fault_text(fault))?;
-    put_place(line, place_of(fault))
+    put_word(text, b"Plan")?;
+    put_word(text, plan_fault_text(fault).as_bytes())?;
+    put_place(text, place_of(fault))
 }
 
 // Adds the table, the row and the key.
-fn put_place(line: &mut String, place: &Place) -> Result<(), NoMemory>
-    ensures { OnOk result (string_bytes line.new ≡ string_bytes line.old ++ spaced (place_words place.now)) }
+fn put_place(text: &mut Vec<u8>, place: &Place) -> Result<(), NoMemory>
+    ensures { OnOk result (text.new.items ≡ text.old.items ++ spaced (place_words place.now)) }
 {
-    put_word(line, table_text(place.table))?;
-    put_number(line, u64::from(place.index))?;
-    put_key(line, &place.key)
+    put_word(text, table_text(place.table).as_bytes())?;
+    put_number_word(text, u64::from(place.index))?;
+    put_key(text, &place.key)
 }
 
-fn put_key(line: &mut String, key: &Text<32>) -> Result<(), NoMemory>
-    ensures { OnOk result (string_bytes line.new ≡ string_bytes line.old ++ spaced (map masked key.now ∷ [])) }
+fn put_key(text: &mut Vec<u8>, key: &Text<32>) -> Result<(), NoMemory>
+    ensures { OnOk result (text.new.items ≡ text.old.items ++ spaced (map masked key.now ∷ [])) }
 {
-    line.push_str(" ")?;
-    put_printed(line, key.as_slice())
+    put_text(text, b" ")?;
+    put_printed(text, key.as_slice())
 }
 
 // Adds the octets, with `?` for what cannot be printed.
-fn put_printed(line: &mut String, octets: &[u8]) -> Result<(), NoMemory>
-    ensures { OnOk result (string_bytes line.new ≡ string_bytes line.old ++ map masked octets.now) }
+fn put_printed(text: &mut Vec<u8>, octets: &[u8]) -> Result<(), NoMemory>
+    ensures { OnOk result (text.new.items ≡ text.old.items ++ map masked octets.now) }
 {
     for octet in octets {
-        line.push(printed(*octet))?;
+        text.push(printed(*octet))?;
     }
     Ok(())
 }
 
-fn printed(octet: u8) -> char
-    ensures it { result ≡ masked octet }
-    ensures ascii { result < 128 }
+fn printed(octet: u8) -> u8
+    ensures { result ≡ masked octet }
 {
     if octet < 0x21 || octet > 0x7E {
-        '?'
+        b'?'
     } else {
-        octet as char
+        octet
     }
 }
 

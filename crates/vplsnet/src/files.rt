@@ -1,7 +1,7 @@
 //! Whole files and whole texts, read and written in pieces.
-ghost use Rattle.std.specs.Prelude.{◌≡◌, ◌<◌, ◌≤◌, ◌+◌, ◌^◌, length, IfSome, IfOk, OnOk, OnErr, IsErrOf, Some};
+ghost use Rattle.std.specs.Prelude.{◌≡◌, ◌<◌, ◌≤◌, ◌+◌, ◌^◌, nat_lt, length, if◌then◌else◌, IfSome, IfOk, OnOk, OnErr, IsErrOf, Some, Ok, Err};
 ghost use Rattle.net_base.specs.outside.Outside.{Rose, NeverFall, Appends};
-ghost use Rattle.vplsnet.specs.Files.{IsFrontOf, IsLonger, AppendsFront};
+ghost use Rattle.vplsnet.specs.Files.{IsFrontOf, IsLonger, AppendsFront, Writes};
 
 use net_base::{Failed, List, NoMemory, Octets, Shelf, Sink};
 use std::alloc::Global;
@@ -92,14 +92,35 @@ pub fn read_file<F: Shelf>(
     ensures never_fall { NeverFall (F.faults shelf.old) (F.faults shelf.new) }
 {
     let octets = read_front(alloc, shelf, name, limit)?;
+    within(octets, limit)
+}
+
+// The octets, where they are no more than the limit.
+fn within(octets: Octets, limit: usize) -> Result<Octets, ReadStop>
+    ensures { result ≡ (if nat_lt limit (length octets) then Err ReadStop.TooLong else Ok octets) }
+{
     if octets.len() > limit {
         return Err(ReadStop::TooLong);
     }
     Ok(octets)
 }
 
-/// Writes a text whole. After `Failed` a front of it was taken that lacks its end.
+/// Writes a text whole; of an empty text nothing is taken. After `Failed` a front of it was taken that lacks its end.
+#[tactic(auto, using(crate::proofs::FileLemmas::writes_some))]
 pub fn write_text<K: Sink>(sink: &mut K, text: &[u8]) -> Result<(), Failed>
+    ensures whole { OnOk result (Writes (K.taken sink.old) (K.taken sink.new) text.now) }
+    ensures front { OnErr result (AppendsFront (K.taken sink.old) (K.taken sink.new) text.now) }
+    ensures fault { OnErr result (Rose (K.faults sink.old) (K.faults sink.new)) }
+    ensures never_falls { K.faults sink.old ≤ K.faults sink.new }
+{
+    if text.is_empty() {
+        return Ok(());
+    }
+    write_pieces(sink, text)
+}
+
+// Writes a text piece by piece.
+fn write_pieces<K: Sink>(sink: &mut K, text: &[u8]) -> Result<(), Failed>
     ensures whole { OnOk result (Appends (K.taken sink.old) (K.taken sink.new) text.now) }
     ensures front { OnErr result (AppendsFront (K.taken sink.old) (K.taken sink.new) text.now) }
     ensures fault { OnErr result (Rose (K.faults sink.old) (K.faults sink.new)) }
@@ -111,64 +132,4 @@ pub fn write_text<K: Sink>(sink: &mut K, text: &[u8]) -> Result<(), Failed>
         at += count;
     }
     Ok(())
-}
-
-#[cfg(test)]
-mod tests {
-    use super::*;
-    use net_base::{MemShelf, MemSink};
-    use std::test::Fail;
-
-    // A shelf that holds `count` octets under `f`, of which the second call fails where that is wanted.
-    fn shelf_of(alloc: Global, count: usize, fails: bool) -> Result<MemShelf, NoMemory> {
-        let mut numbers = List::new(alloc);
-        if fails {
-            numbers.push(2)?;
-        }
-        let mut shelf = MemShelf::new(alloc, numbers)?;
-        let octets = Vec::from_elem(alloc, 7u8, count)?;
-        shelf.store(alloc, "f", octets.as_slice())?;
-        Ok(shelf)
-    }
-
-    #[test]
-    fn reads_up_to_the_limit(rt: HostRuntime) -> Result<(), Fail> {
-        let rows = [
-            (5, 5, false, Ok(5)),
-            (6, 5, false, Err(ReadStop::TooLong)),
-            (0, 0, false, Ok(0)),
-            (1, 0, false, Err(ReadStop::TooLong)),
-            (9000, 9000, false, Ok(9000)),
-            (9001, 9000, false, Err(ReadStop::TooLong)),
-            (9000, 9000, true, Err(ReadStop::Fault)),
-        ];
-        for (count, limit, fails, want) in rows {
-            let mut shelf = shelf_of(rt.alloc(), count, fails)?;
-            let length = read_file(rt.alloc(), &mut shelf, "f", limit).map(|octets| octets.len());
-            assert_eq!(rt; length, want, "{count} octets at the limit {limit}");
-            assert_eq!(rt; shelf.faults("f"), u64::from(fails), "{count} octets");
-        }
-        Ok(())
-    }
-
-    #[test]
-    fn reads_no_file_that_is_not_held(rt: HostRuntime) -> Result<(), Fail> {
-        let mut shelf = shelf_of(rt.alloc(), 5, false)?;
-        let length = read_file(rt.alloc(), &mut shelf, "g", 5).map(|octets| octets.len());
-        assert_eq!(rt; length, Err(ReadStop::Fault));
-        assert_eq!(rt; shelf.faults("g"), 1);
-        assert_eq!(rt; shelf.faults("f"), 0);
-        Ok(())
-    }
-
-    #[test]
-    fn writes_as_much_as_is_taken(rt: HostRuntime) -> Result<(), Fail> {
-        for (room, want, taken) in [(6, Ok(()), "abcdef"), (3, Err(Failed), "abc")] {
-            let mut sink = MemSink::new(rt.alloc(), room, List::new(rt.alloc()))?;
-            assert_eq!(rt; write_text(&mut sink, b"abcdef"), want);
-            assert_eq!(rt; sink.taken(), taken.as_bytes());
-            assert_eq!(rt; sink.faults(), u64::from(want.is_err()));
-        }
-        Ok(())
-    }
 }

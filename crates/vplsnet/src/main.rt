@@ -1,28 +1,31 @@
 //! `vplsnet`: a network of VPLS provider edges, run from a file.
 #![tactic(auto)]
 
-#[cfg(test)]
-mod bridge_tests;
+ghost use Rattle.std.specs.Prelude.{◌≢◌};
+
+mod answer;
 mod built;
 mod decode;
 mod domain;
 mod domains;
-mod ending;
 mod fault_text;
 mod file_shelf;
 mod files;
 mod finish;
 mod finish_line;
+mod named_file;
 mod outcome;
 mod replay;
-mod report;
+mod request;
 mod run;
+mod scenario_run;
 mod single_edge;
+mod single_run;
 mod std_sink;
 mod stream_fault_text;
+mod stream_text;
 #[cfg(test)]
 mod tests;
-mod words;
 
 use crate::file_shelf::FileShelf;
 use crate::finish::Finish;
@@ -30,6 +33,7 @@ use crate::finish_line::finish_line;
 use crate::outcome::Outcome;
 use crate::run::run;
 use crate::std_sink::StdSink;
+use std::io::Write;
 use std::process::ExitCode;
 use std::{env, io};
 
@@ -38,12 +42,23 @@ use std::{env, io};
 fn main(rt: HostRuntime) -> ExitCode {
     let finish = finish_of(&rt);
     if !matches!(finish.outcome, Outcome::Done) {
-        if let Ok(line) = finish_line(rt.alloc(), &finish.outcome) {
-            // Where standard error takes nothing, the status still tells.
-            let _ = eprintln!(rt; "{line}");
-        }
+        // Where standard error takes nothing, the status still tells.
+        let _ = tell(&rt, &finish.outcome);
     }
     ExitCode::from(finish.status)
+}
+
+// Writes the line of an outcome to standard error.
+fn tell(rt: &HostRuntime, outcome: &Outcome) -> io::Result<()>
+    requires { outcome.now ≢ Outcome.Done }
+{
+    let mut line = match finish_line(rt.alloc(), outcome) {
+        Ok(line) => line,
+        // Want of memory has no room for a line.
+        Err(_) => return Ok(()),
+    };
+    line.push(b'\n')?;
+    rt.stderr().write_all(line.as_slice())
 }
 
 // Runs the words of the command line, without the program's own name.
@@ -58,7 +73,7 @@ fn finish_of(rt: &HostRuntime) -> Finish {
             return Finish::without_run(rt.alloc(), Outcome::NoMemory);
         }
     }
-    let mut shelf = FileShelf::new(rt);
+    let mut shelf = FileShelf::new(rt.alloc(), rt);
     let mut sink = StdSink::new(io::writer(rt));
     run(rt.alloc(), words.as_slice(), &mut shelf, &mut sink)
 }

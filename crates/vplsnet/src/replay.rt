@@ -1,75 +1,62 @@
-//! The run of a scenario of one edge: each command makes its events, and the edge does them in turn.
-ghost use Rattle.std.specs.Prelude.{◌≡◌, ◌≤◌, ◌<◌, ◌+◌, ◌^◌, true, length, All, IfOk, OnOk};
+//! The command `replay`: the report of a scenario's run.
+ghost use Rattle.std.specs.Prelude.{◌≡◌, ◌≢◌, true, IfOk, MatchResult, OnOk};
 ghost use Rattle.network_model.specs.Run.{run};
-ghost use Rattle.network_model.specs.State.{NetworkState};
-ghost use Rattle.scenario_text.specs.Runnable.{IsPlaced, IsPlanned, IsRunnable};
-ghost use Rattle.vplsnet.specs.Built.{is_built_command, is_built};
-ghost use Rattle.vplsnet.specs.Made.{made, made_by, ticks};
-ghost use Rattle.vplsnet.specs.SingleEdge.{HasRun, IsMirror, Mirrors};
+ghost use Rattle.report_text.specs.declared.ending.Ending.TheVariants.{End};
+ghost use Rattle.report_text.specs.Report.{report};
+ghost use Rattle.scenario_text.specs.Runnable.{IsRunnable};
+ghost use Rattle.vplsnet.specs.Built.{is_built};
+ghost use Rattle.vplsnet.specs.Made.{made};
+ghost use Rattle.vplsnet.specs.Promises.{KeepsPromises};
+ghost use Rattle.vplsnet.specs.Replay.{Replays};
 
-use crate::single_edge::SingleEdge;
-use net_base::{Event, List, NoMemory, Plan, Trace};
-use scenario_text::{Command, Scenario};
+use crate::answer::Answer;
+use crate::built::is_built_scenario;
+use crate::outcome::Outcome;
+use crate::scenario_run::run_of;
+use net_base::{NoMemory, Octets};
+use scenario_text::{Scenario, ScenarioFault, read_scenario};
 use std::alloc::Global;
 
-/// The entries that the run of a scenario tells, in order.
-pub fn replayed(alloc: Global, scenario: &Scenario) -> Result<Trace, NoMemory>
+/// The report of the run of a scenario. `ScenarioRefused` comes exactly where the octets have a fault, then `NotBuilt`
+/// where the scenario has something that is not built yet. The one error is want of memory.
+pub fn replay(alloc: Global, octets: Octets) -> Result<Answer, NoMemory>
+    ensures { IfOk result (λ answer. Replays octets answer.text.items answer.trace answer.outcome) }
+{
+    match read_scenario(alloc, octets.as_slice()) {
+        Ok(scenario) => {
+            if is_built_scenario(&scenario) {
+                replay_built(alloc, &scenario)
+            } else {
+                Ok(Answer::refusal(alloc, Outcome::NotBuilt))
+            }
+        }
+        Err(fault) => Ok(Answer::refusal(alloc, refused(fault)?)),
+    }
+}
+
+// The report of the run of a scenario within what is built.
+fn replay_built(alloc: Global, scenario: &Scenario) -> Result<Answer, NoMemory>
     requires runnable { IsRunnable scenario.now }
     requires built { is_built scenario.now ≡ true }
-    ensures { IfOk result (λ trace. trace ≡ (run scenario.now.plan (made scenario.now.commands)).entries) }
+    ensures done { IfOk result (λ answer. answer.outcome ≡ Outcome.Done) }
+    ensures trace { IfOk result (λ answer. answer.trace ≡ (run scenario.now.plan (made scenario.now.commands)).entries) }
+    ensures text { IfOk result (λ answer. answer.text.items ≡ report scenario.now.plan answer.trace End) }
+    ensures promises { OnOk result (KeepsPromises scenario.now.plan (made scenario.now.commands)) }
 {
-    let plan = &scenario.plan;
-    let mut edge = SingleEdge::open(alloc, plan)?;
-    let mut trace = List::new(alloc);
-    for command in scenario.commands.as_slice() {
-        run_command(alloc, plan, command, &mut edge, &mut trace)?;
-    }
-    Ok(trace)
+    let (trace, text) = run_of(alloc, scenario)?;
+    Ok(Answer {
+        text,
+        trace,
+        outcome: Outcome::Done,
+    })
 }
 
-// Does the events of a command.
-fn run_command(
-    alloc: Global,
-    plan: &Plan,
-    command: &Command,
-    edge: &mut SingleEdge,
-    trace: &mut Trace,
-) -> Result<(), NoMemory>
-    requires few { edge.old.entered < 2 ^ 63 }
-    requires edges { length plan.now.edges ≤ 1 }
-    requires placed { All (IsPlaced (length plan.now.edges) (length plan.now.services)) plan.now.circuits }
-    requires planned { IsPlanned (length plan.now.edges) (length plan.now.circuits) (length plan.now.wires) command.now }
-    requires built { is_built_command command.now ≡ true }
-    requires mirror { IsMirror plan.now edge.old }
-    ensures ran { OnOk result ((network : NetworkState) → Mirrors plan.now network edge.old → HasRun plan.now network (made_by command.now) edge.new trace.old trace.new) }
-    ensures counted { edge.new.entered ≤ edge.old.entered + 1 }
+// The outcome of a scenario with this fault, which is told as it is; want of memory is no fault of the scenario.
+fn refused(fault: ScenarioFault) -> Result<Outcome, NoMemory>
+    ensures { MatchResult result (λ outcome. (outcome ≡ Outcome.ScenarioRefused fault) × (fault ≢ ScenarioFault.NoMemory)) (λ _. fault ≡ ScenarioFault.NoMemory) }
 {
-    match command {
-        Command::One(event) => edge.step(alloc, plan, event, trace),
-        Command::Ticks(count) => run_ticks(alloc, plan, *count, edge, trace),
-        _ => Ok(()),
+    match fault {
+        ScenarioFault::NoMemory => Err(NoMemory),
+        fault => Ok(Outcome::ScenarioRefused(fault)),
     }
-}
-
-// Does so many ticks.
-fn run_ticks(
-    alloc: Global,
-    plan: &Plan,
-    count: u32,
-    edge: &mut SingleEdge,
-    trace: &mut Trace,
-) -> Result<(), NoMemory>
-    requires few { edge.old.entered < 2 ^ 63 }
-    requires edges { length plan.now.edges ≤ 1 }
-    requires placed { All (IsPlaced (length plan.now.edges) (length plan.now.services)) plan.now.circuits }
-    requires mirror { IsMirror plan.now edge.old }
-    ensures ran { OnOk result ((network : NetworkState) → Mirrors plan.now network edge.old → HasRun plan.now network (ticks count) edge.new trace.old trace.new) }
-    ensures counted { edge.new.entered ≤ edge.old.entered }
-{
-    let mut done = 0;
-    'ticking: while done < count {
-        edge.step(alloc, plan, &Event::Tick, trace)?;
-        done += 1;
-    }
-    Ok(())
 }

@@ -1,0 +1,262 @@
+//! The parts of a message, each with a blank before it.
+ghost use Rattle.std.specs.Prelude.{◌≡◌, ◌++◌, ◌∷◌, [], codes, OnOk};
+ghost use Rattle.std.specs.Fmt.{decimal};
+ghost use Rattle.text_pieces.specs.Pieces.{spaced};
+ghost use Rattle.message_text.specs.Words.{addresses_word, dotted, fec_words, flag, hello_word, label_word, label_words, macs_words, marked, part_words, point_words, pw_status_words, request_word, session_word, status_word, told_fec_words, transport_words, type_word, why_word, withdrawn_words};
+
+use crate::names::field_text;
+use crate::pieces::{put_dotted, put_flag, put_id, put_slash_flag, put_slash_number, put_told};
+use crate::pseudowire::{
+    put_fec, put_label, put_macs, put_points, put_pw_status, put_request, put_told_fec,
+    put_told_label,
+};
+use ldp_grammar::{AddressList, Message, SessionParams, StatusCode, Why};
+use net_base::{Addr, Label, List, Mac, NoMemory, Octets};
+use pw_tlvs::{Points, PwFec, PwStatus};
+use text_pieces::{put_digits, put_number, put_text, put_word};
+
+// Adds a status.
+fn put_status(text: &mut Vec<u8>, status: StatusCode) -> Result<(), NoMemory>
+    ensures { OnOk result (text.new.items ≡ text.old.items ++ (codes " " ++ status_word status)) }
+{
+    put_text(text, b" code=")?;
+    put_flag(text, status.fatal)?;
+    put_slash_flag(text, status.forward)?;
+    put_slash_number(text, u64::from(status.code))?;
+    put_slash_number(text, u64::from(status.message))?;
+    put_slash_number(text, u64::from(status.kind))?;
+    Ok(())
+}
+
+// Adds the hold time, the T bit and the R bit of a Hello.
+fn put_hello(text: &mut Vec<u8>, hold: u16, targeted: bool, request: bool) -> Result<(), NoMemory>
+    ensures { OnOk result (text.new.items ≡ text.old.items ++ (codes " " ++ hello_word hold targeted request)) }
+{
+    put_text(text, b" hold=")?;
+    put_number(text, u64::from(hold))?;
+    put_slash_flag(text, targeted)?;
+    put_slash_flag(text, request)?;
+    Ok(())
+}
+
+// Adds an address under its label.
+fn put_address(text: &mut Vec<u8>, label: &[u8], address: Addr) -> Result<(), NoMemory>
+    ensures { OnOk result (text.new.items ≡ text.old.items ++ spaced ((label.now ++ dotted address) ∷ [])) }
+{
+    put_word(text, label)?;
+    put_dotted(text, address)?;
+    Ok(())
+}
+
+// Adds the transport address, where there is one.
+fn put_transport(text: &mut Vec<u8>, transport: &Option<Addr>) -> Result<(), NoMemory>
+    ensures { OnOk result (text.new.items ≡ text.old.items ++ spaced (transport_words transport.now)) }
+{
+    match transport {
+        Some(address) => put_address(text, b"transport=", *address),
+        None => Ok(()),
+    }
+}
+
+// Adds what an Initialization proposes, before the Max PDU Length.
+fn put_session_front(text: &mut Vec<u8>, params: SessionParams) -> Result<(), NoMemory>
+    ensures { OnOk result (text.new.items ≡ text.old.items ++ (codes " session=" ++ (decimal params.version ++ marked (codes "/") (decimal params.keepalive ∷ flag params.demand ∷ flag params.loops ∷ decimal params.limit ∷ [])))) }
+{
+    put_text(text, b" session=")?;
+    put_number(text, u64::from(params.version))?;
+    put_slash_number(text, u64::from(params.keepalive))?;
+    put_slash_flag(text, params.demand)?;
+    put_slash_flag(text, params.loops)?;
+    put_slash_number(text, u64::from(params.limit))?;
+    Ok(())
+}
+
+// Adds what an Initialization proposes.
+fn put_session(text: &mut Vec<u8>, params: SessionParams) -> Result<(), NoMemory>
+    ensures { OnOk result (text.new.items ≡ text.old.items ++ spaced (session_word params ∷ [])) }
+{
+    put_session_front(text, params)?;
+    put_slash_number(text, u64::from(params.max_pdu))?;
+    put_text(text, b"/")?;
+    put_id(text, params.receiver)?;
+    Ok(())
+}
+
+// Adds an address family.
+fn put_family(text: &mut Vec<u8>, family: u16) -> Result<(), NoMemory>
+    ensures { OnOk result (text.new.items ≡ text.old.items ++ (codes " addresses=" ++ decimal family)) }
+{
+    put_text(text, b" addresses=")?;
+    put_number(text, u64::from(family))?;
+    Ok(())
+}
+
+// Adds an address family and addresses.
+fn put_addresses(text: &mut Vec<u8>, family: u16, octets: &Octets) -> Result<(), NoMemory>
+    ensures { OnOk result (text.new.items ≡ text.old.items ++ spaced (addresses_word family octets.now ∷ [])) }
+{
+    put_family(text, family)?;
+    put_text(text, b"/")?;
+    put_digits(text, octets.as_slice())?;
+    Ok(())
+}
+
+// Adds the addresses that are withdrawn, where there are any.
+fn put_withdrawn(text: &mut Vec<u8>, addresses: &Option<AddressList>) -> Result<(), NoMemory>
+    ensures { OnOk result (text.new.items ≡ text.old.items ++ spaced (withdrawn_words addresses.now)) }
+{
+    match addresses {
+        Some(list) => put_addresses(text, list.family, &list.octets),
+        None => Ok(()),
+    }
+}
+
+// Adds the type of a message that is not known or not processed.
+fn put_type(text: &mut Vec<u8>, kind: u16) -> Result<(), NoMemory>
+    ensures { OnOk result (text.new.items ≡ text.old.items ++ spaced (type_word kind ∷ [])) }
+{
+    put_told(text, b"type=", u64::from(kind))
+}
+
+// Adds a name and what it names.
+fn put_named(text: &mut Vec<u8>, name: &[u8], named: &[u8]) -> Result<(), NoMemory>
+    ensures { OnOk result (text.new.items ≡ text.old.items ++ spaced ((name.now ++ named.now) ∷ [])) }
+{
+    put_word(text, name)?;
+    put_text(text, named)?;
+    Ok(())
+}
+
+// Adds why a message is not processed.
+fn put_why(text: &mut Vec<u8>, why: Why) -> Result<(), NoMemory>
+    ensures { OnOk result (text.new.items ≡ text.old.items ++ spaced (why_word why ∷ [])) }
+{
+    match why {
+        Why::UnknownTlv(kind) => put_told(text, b"why=UnknownTlv:", u64::from(kind)),
+        Why::Missing(field) => put_named(text, b"why=Missing:", field_text(field).as_bytes()),
+        Why::UnknownFec(octet) => put_told(text, b"why=UnknownFec:", u64::from(octet)),
+    }
+}
+
+// Adds the parts of a Notification behind its status.
+fn put_notified(
+    text: &mut Vec<u8>,
+    fec: &Option<PwFec>,
+    pw_status: Option<PwStatus>,
+) -> Result<(), NoMemory>
+    ensures { OnOk result (text.new.items ≡ text.old.items ++ spaced (told_fec_words fec.now ++ pw_status_words pw_status)) }
+{
+    put_told_fec(text, fec)?;
+    put_pw_status(text, pw_status)?;
+    Ok(())
+}
+
+// Adds the parts of an Address Withdraw.
+fn put_withdrawal(
+    text: &mut Vec<u8>,
+    addresses: &Option<AddressList>,
+    fec: &Option<PwFec>,
+    macs: &Option<List<Mac>>,
+) -> Result<(), NoMemory>
+    ensures { OnOk result (text.new.items ≡ text.old.items ++ spaced ((withdrawn_words addresses.now ++ told_fec_words fec.now) ++ macs_words macs.now)) }
+{
+    put_withdrawn(text, addresses)?;
+    put_told_fec(text, fec)?;
+    put_macs(text, macs)?;
+    Ok(())
+}
+
+// Adds the FEC of a binding and its label.
+fn put_bound(text: &mut Vec<u8>, fec: &PwFec, label: Label) -> Result<(), NoMemory>
+    ensures { OnOk result (text.new.items ≡ text.old.items ++ spaced (fec_words fec.now ++ (label_word label ∷ []))) }
+{
+    put_fec(text, fec)?;
+    put_label(text, label)?;
+    Ok(())
+}
+
+// Adds the parts of a Label Mapping.
+fn put_mapping(
+    text: &mut Vec<u8>,
+    fec: &PwFec,
+    label: Label,
+    pw_status: Option<PwStatus>,
+    points: &Points,
+) -> Result<(), NoMemory>
+    ensures { OnOk result (text.new.items ≡ text.old.items ++ spaced (((fec_words fec.now ++ (label_word label ∷ [])) ++ pw_status_words pw_status) ++ point_words points.now)) }
+{
+    put_bound(text, fec, label)?;
+    put_pw_status(text, pw_status)?;
+    put_points(text, points)?;
+    Ok(())
+}
+
+// Adds the FEC of a binding, and the label where it is told.
+fn put_unbound(text: &mut Vec<u8>, fec: &PwFec, label: Option<Label>) -> Result<(), NoMemory>
+    ensures { OnOk result (text.new.items ≡ text.old.items ++ spaced (fec_words fec.now ++ label_words label)) }
+{
+    put_fec(text, fec)?;
+    put_told_label(text, label)?;
+    Ok(())
+}
+
+// Adds the parts of a Label Abort Request.
+fn put_abort(text: &mut Vec<u8>, fec: &PwFec, request: u32) -> Result<(), NoMemory>
+    ensures { OnOk result (text.new.items ≡ text.old.items ++ spaced (fec_words fec.now ++ (request_word request ∷ []))) }
+{
+    put_fec(text, fec)?;
+    put_request(text, request)?;
+    Ok(())
+}
+
+/// Adds the parts of a message.
+pub fn put_parts(text: &mut Vec<u8>, message: &Message) -> Result<(), NoMemory>
+    ensures { OnOk result (text.new.items ≡ text.old.items ++ spaced (part_words message.now)) }
+{
+    match message {
+        Message::Notification {
+            status,
+            pw_status,
+            fec,
+            ..
+        } => {
+            put_status(text, *status)?;
+            put_notified(text, fec, *pw_status)
+        }
+        Message::Hello {
+            hold,
+            targeted,
+            request,
+            transport,
+            ..
+        } => {
+            put_hello(text, *hold, *targeted, *request)?;
+            put_transport(text, transport)
+        }
+        Message::Initialization { params, .. } => put_session(text, *params),
+        Message::KeepAlive { .. } => Ok(()),
+        Message::Address { family, octets, .. } => put_addresses(text, *family, octets),
+        Message::AddressWithdraw {
+            addresses,
+            fec,
+            macs,
+            ..
+        } => put_withdrawal(text, addresses, fec, macs),
+        Message::LabelMapping {
+            fec,
+            label,
+            pw_status,
+            points,
+            ..
+        } => put_mapping(text, fec, *label, *pw_status, points),
+        Message::LabelRequest { fec, .. } => put_fec(text, fec),
+        Message::LabelWithdraw { fec, label, .. } => put_unbound(text, fec, *label),
+        Message::LabelRelease { fec, label, .. } => put_unbound(text, fec, *label),
+        Message::LabelAbort { fec, request, .. } => put_abort(text, fec, *request),
+        Message::Other { kind, .. } => put_type(text, *kind),
+        Message::Unprocessed { kind, why, .. } => {
+            put_type(text, *kind)?;
+            put_why(text, *why)
+        }
+    }
+}

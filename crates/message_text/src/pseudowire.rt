@@ -1,0 +1,242 @@
+//! The parts of a message that are about pseudowires, each with a blank before it.
+ghost use Rattle.std.specs.Prelude.{◌≡◌, ◌++◌, ◌∷◌, [], codes, length, OnOk};
+ghost use Rattle.std.specs.Fmt.{decimal};
+ghost use Rattle.text_pieces.specs.Pieces.{spaced};
+ghost use Rattle.message_text.specs.Words.{description_words, element_word, end_word, fec_words, flag, label_word, label_words, mac_digits, macs_words, marked, mtu_words, params_words, point_word, point_words, pw_id_word, pw_status_words, request_word, segment_word, told_fec_words, vccv_words, vlan_words};
+
+use crate::pieces::{put_dotted, put_flag, put_slash_number, put_told};
+use net_base::{Addr, Label, List, Mac, NoMemory, Text};
+use pw_tlvs::{IfParams, Point, Points, PwFec, PwStatus};
+use text_pieces::{put_digits, put_number, put_text, put_word};
+
+// Adds a slash and the PW ID of a FEC element.
+fn put_pw_id(text: &mut Vec<u8>, pw_id: Option<u32>) -> Result<(), NoMemory>
+    ensures { OnOk result (text.new.items ≡ text.old.items ++ (codes "/" ++ pw_id_word pw_id)) }
+{
+    match pw_id {
+        Some(pw_id) => put_slash_number(text, u64::from(pw_id)),
+        None => put_text(text, b"/*"),
+    }
+}
+
+// Adds the C bit, the PW type and the group of a FEC element.
+fn put_element_front(text: &mut Vec<u8>, fec: &PwFec) -> Result<(), NoMemory>
+    ensures { OnOk result (text.new.items ≡ text.old.items ++ (codes " fec=" ++ (flag fec.now.c ++ marked (codes "/") (decimal fec.now.kind ∷ decimal fec.now.group ∷ [])))) }
+{
+    put_text(text, b" fec=")?;
+    put_flag(text, fec.c)?;
+    put_slash_number(text, u64::from(fec.kind))?;
+    put_slash_number(text, u64::from(fec.group))?;
+    Ok(())
+}
+
+// Adds a FEC element.
+fn put_element(text: &mut Vec<u8>, fec: &PwFec) -> Result<(), NoMemory>
+    ensures { OnOk result (text.new.items ≡ text.old.items ++ (codes " " ++ element_word fec.now)) }
+{
+    put_element_front(text, fec)?;
+    put_pw_id(text, fec.pw_id)?;
+    Ok(())
+}
+
+// Adds the MTU, where it is told.
+fn put_mtu(text: &mut Vec<u8>, mtu: Option<u16>) -> Result<(), NoMemory>
+    ensures { OnOk result (text.new.items ≡ text.old.items ++ spaced (mtu_words mtu)) }
+{
+    match mtu {
+        Some(mtu) => put_told(text, b"mtu=", u64::from(mtu)),
+        None => Ok(()),
+    }
+}
+
+// Adds a description that is not empty.
+fn put_description(text: &mut Vec<u8>, description: &Text<80>) -> Result<(), NoMemory>
+    ensures { OnOk result (text.new.items ≡ text.old.items ++ spaced (description_words description.now)) }
+{
+    if description.len() == 0 {
+        return Ok(());
+    }
+    put_text(text, b" description=")?;
+    put_digits(text, description.as_slice())?;
+    Ok(())
+}
+
+// Adds the VLAN ID, where it is told.
+fn put_vlan(text: &mut Vec<u8>, vlan: Option<u16>) -> Result<(), NoMemory>
+    ensures { OnOk result (text.new.items ≡ text.old.items ++ spaced (vlan_words vlan)) }
+{
+    match vlan {
+        Some(vlan) => put_told(text, b"vlan=", u64::from(vlan)),
+        None => Ok(()),
+    }
+}
+
+// Adds what VCCV can do: the bits of control channels, and of checks.
+fn put_vccv_pair(text: &mut Vec<u8>, channels: u8, checks: u8) -> Result<(), NoMemory>
+    ensures { OnOk result (text.new.items ≡ text.old.items ++ (codes " vccv=" ++ (decimal channels ++ marked (codes "/") (decimal checks ∷ [])))) }
+{
+    put_text(text, b" vccv=")?;
+    put_number(text, u64::from(channels))?;
+    put_slash_number(text, u64::from(checks))?;
+    Ok(())
+}
+
+// Adds what VCCV can do, where it is told.
+fn put_vccv(text: &mut Vec<u8>, vccv: Option<(u8, u8)>) -> Result<(), NoMemory>
+    ensures { OnOk result (text.new.items ≡ text.old.items ++ spaced (vccv_words vccv)) }
+{
+    match vccv {
+        Some((channels, checks)) => put_vccv_pair(text, channels, checks),
+        None => Ok(()),
+    }
+}
+
+// Adds the interface parameters that are there.
+#[tactic(auto, using(text_pieces::proofs::SpacedLemmas::spaced_join))]
+fn put_params(text: &mut Vec<u8>, params: &IfParams) -> Result<(), NoMemory>
+    ensures { OnOk result (text.new.items ≡ text.old.items ++ spaced (params_words params.now)) }
+{
+    put_mtu(text, params.mtu)?;
+    put_description(text, &params.description)?;
+    put_vlan(text, params.vlan)?;
+    put_vccv(text, params.vccv)?;
+    Ok(())
+}
+
+/// Adds a FEC element and its interface parameters.
+pub fn put_fec(text: &mut Vec<u8>, fec: &PwFec) -> Result<(), NoMemory>
+    ensures { OnOk result (text.new.items ≡ text.old.items ++ spaced (fec_words fec.now)) }
+{
+    put_element(text, fec)?;
+    put_params(text, &fec.params)?;
+    Ok(())
+}
+
+/// Adds a FEC element and its interface parameters, where there is one.
+pub fn put_told_fec(text: &mut Vec<u8>, fec: &Option<PwFec>) -> Result<(), NoMemory>
+    ensures { OnOk result (text.new.items ≡ text.old.items ++ spaced (told_fec_words fec.now)) }
+{
+    match fec {
+        Some(fec) => put_fec(text, fec),
+        None => Ok(()),
+    }
+}
+
+/// Adds a label.
+pub fn put_label(text: &mut Vec<u8>, label: Label) -> Result<(), NoMemory>
+    ensures { OnOk result (text.new.items ≡ text.old.items ++ spaced (label_word label ∷ [])) }
+{
+    put_told(text, b"label=", u64::from(label.number()))
+}
+
+/// Adds a label, where there is one.
+pub fn put_told_label(text: &mut Vec<u8>, label: Option<Label>) -> Result<(), NoMemory>
+    ensures { OnOk result (text.new.items ≡ text.old.items ++ spaced (label_words label)) }
+{
+    match label {
+        Some(label) => put_label(text, label),
+        None => Ok(()),
+    }
+}
+
+/// Adds the status of a pseudowire, where it is told.
+pub fn put_pw_status(text: &mut Vec<u8>, status: Option<PwStatus>) -> Result<(), NoMemory>
+    ensures { OnOk result (text.new.items ≡ text.old.items ++ spaced (pw_status_words status)) }
+{
+    match status {
+        Some(status) => put_told(text, b"status=", u64::from(status.0)),
+        None => Ok(()),
+    }
+}
+
+// Adds the digits of MAC addresses.
+fn put_mac_digits(text: &mut Vec<u8>, macs: &[Mac]) -> Result<(), NoMemory>
+    ensures { OnOk result (text.new.items ≡ text.old.items ++ mac_digits macs.now) }
+{
+    for mac in macs {
+        put_digits(text, &mac.0)?;
+    }
+    Ok(())
+}
+
+// Adds the number of MAC addresses.
+fn put_count(text: &mut Vec<u8>, macs: &List<Mac>) -> Result<(), NoMemory>
+    ensures { OnOk result (text.new.items ≡ text.old.items ++ (codes " macs=" ++ decimal (length macs.now))) }
+{
+    put_text(text, b" macs=")?;
+    put_number(text, macs.len() as u64)?;
+    Ok(())
+}
+
+// Adds a list of MAC addresses.
+fn put_mac_list(text: &mut Vec<u8>, macs: &List<Mac>) -> Result<(), NoMemory>
+    ensures { OnOk result (text.new.items ≡ text.old.items ++ ((codes " macs=" ++ decimal (length macs.now)) ++ (codes "/" ++ mac_digits macs.now))) }
+{
+    put_count(text, macs)?;
+    put_text(text, b"/")?;
+    put_mac_digits(text, macs.as_slice())?;
+    Ok(())
+}
+
+/// Adds a list of MAC addresses, where there is one.
+pub fn put_macs(text: &mut Vec<u8>, macs: &Option<List<Mac>>) -> Result<(), NoMemory>
+    ensures { OnOk result (text.new.items ≡ text.old.items ++ spaced (macs_words macs.now)) }
+{
+    match macs {
+        Some(macs) => put_mac_list(text, macs),
+        None => Ok(()),
+    }
+}
+
+// Adds the PW ID of a switching point, or a dash.
+fn put_segment(text: &mut Vec<u8>, pw_id: Option<u32>) -> Result<(), NoMemory>
+    ensures { OnOk result (text.new.items ≡ text.old.items ++ segment_word pw_id) }
+{
+    match pw_id {
+        Some(pw_id) => put_number(text, u64::from(pw_id)),
+        None => put_text(text, b"-"),
+    }
+}
+
+// Adds an address of a switching point, or a dash.
+fn put_end(text: &mut Vec<u8>, address: Option<Addr>) -> Result<(), NoMemory>
+    ensures { OnOk result (text.new.items ≡ text.old.items ++ end_word address) }
+{
+    match address {
+        Some(address) => put_dotted(text, address),
+        None => put_text(text, b"-"),
+    }
+}
+
+// Adds a switching point.
+fn put_point(text: &mut Vec<u8>, point: Point) -> Result<(), NoMemory>
+    ensures { OnOk result (text.new.items ≡ text.old.items ++ (codes " " ++ point_word point)) }
+{
+    put_text(text, b" point=")?;
+    put_segment(text, point.pw_id)?;
+    put_text(text, b"/")?;
+    put_end(text, point.local)?;
+    put_text(text, b"/")?;
+    put_end(text, point.remote)?;
+    Ok(())
+}
+
+/// Adds switching points.
+pub fn put_points(text: &mut Vec<u8>, points: &Points) -> Result<(), NoMemory>
+    ensures { OnOk result (text.new.items ≡ text.old.items ++ spaced (point_words points.now)) }
+{
+    let mut index = 0;
+    'adding: while index < points.len() {
+        let point = points.get(index).unwrap();
+        put_point(text, point)?;
+        index += 1;
+    }
+    Ok(())
+}
+
+/// Adds the Message ID of a request.
+pub fn put_request(text: &mut Vec<u8>, request: u32) -> Result<(), NoMemory>
+    ensures { OnOk result (text.new.items ≡ text.old.items ++ spaced (request_word request ∷ [])) }
+{
+    put_told(text, b"request=", u64::from(request))
+}

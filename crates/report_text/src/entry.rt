@@ -1,0 +1,215 @@
+//! The line of an entry.
+ghost use Rattle.std.specs.Prelude.{◌≡◌, ◌++◌, ◌∷◌, [], codes, OnOk};
+ghost use Rattle.std.specs.Fmt.{decimal};
+ghost use Rattle.report_text.specs.Words.{line_of, line_end, edge_name, circuit_name, wire_name, arrival_name, cause_name, wire_end_name, state_name};
+ghost use Rattle.text_pieces.specs.Pieces.{hex};
+ghost use Rattle.report_text.specs.Report.{entry_line};
+
+use crate::event::put_event;
+use crate::lines::{put_end_line, put_end_number_line, put_numbers_line};
+use crate::names::{
+    cause_text, put_arrival, put_circuit, put_edge, put_wire, state_text, wire_end_text,
+};
+use net_base::{CircuitId, Down, DropCause, EdgeId, Entry, NoMemory, Plan, StateName, WireId};
+use text_pieces::{put_hex_word, put_number_word, put_text, put_word};
+
+// Adds the line of octets that an edge put towards a peer.
+fn put_said(
+    text: &mut Vec<u8>,
+    plan: &Plan,
+    from: EdgeId,
+    to: EdgeId,
+    octets: &[u8],
+) -> Result<(), NoMemory>
+    ensures { OnOk result (text.new.items ≡ text.old.items ++ line_of (codes "said" ∷ edge_name plan.now from ∷ edge_name plan.now to ∷ hex octets.now ∷ [])) }
+{
+    put_text(text, b"said")?;
+    put_edge(text, plan, from)?;
+    put_edge(text, plan, to)?;
+    put_hex_word(text, octets)?;
+    put_text(text, b"\n")?;
+    Ok(())
+}
+
+// Adds the line of a frame that entered.
+fn put_in(
+    text: &mut Vec<u8>,
+    plan: &Plan,
+    circuit: CircuitId,
+    number: u64,
+    octets: &[u8],
+) -> Result<(), NoMemory>
+    ensures { OnOk result (text.new.items ≡ text.old.items ++ line_of (codes "in" ∷ circuit_name plan.now circuit ∷ decimal number ∷ hex octets.now ∷ [])) }
+{
+    put_text(text, b"in")?;
+    put_circuit(text, plan, circuit)?;
+    put_number_word(text, number)?;
+    put_hex_word(text, octets)?;
+    put_text(text, b"\n")?;
+    Ok(())
+}
+
+// Adds the front of the line of a packet that was sent: its number, its edges and its wire.
+fn put_packet(
+    text: &mut Vec<u8>,
+    plan: &Plan,
+    packet: u64,
+    from: EdgeId,
+    to: EdgeId,
+    wire: WireId,
+) -> Result<(), NoMemory>
+    ensures { OnOk result (text.new.items ≡ text.old.items ++ ((((codes "sent" ++ (codes " " ++ decimal packet)) ++ (codes " " ++ edge_name plan.now from)) ++ (codes " " ++ edge_name plan.now to)) ++ (codes " " ++ wire_name plan.now wire))) }
+{
+    put_text(text, b"sent")?;
+    put_number_word(text, packet)?;
+    put_edge(text, plan, from)?;
+    put_edge(text, plan, to)?;
+    put_wire(text, plan, wire)?;
+    Ok(())
+}
+
+// Ends a line with the origin of a frame, its hops and its octets.
+fn put_origin(text: &mut Vec<u8>, origin: u64, hops: u64, octets: &[u8]) -> Result<(), NoMemory>
+    ensures { OnOk result (text.new.items ≡ text.old.items ++ line_end (decimal origin ∷ decimal hops ∷ hex octets.now ∷ [])) }
+{
+    put_number_word(text, origin)?;
+    put_number_word(text, hops)?;
+    put_hex_word(text, octets)?;
+    put_text(text, b"\n")?;
+    Ok(())
+}
+
+// Adds the line of a frame that left.
+fn put_left(
+    text: &mut Vec<u8>,
+    plan: &Plan,
+    circuit: CircuitId,
+    origin: u64,
+    hops: u64,
+    octets: &[u8],
+) -> Result<(), NoMemory>
+    ensures { OnOk result (text.new.items ≡ text.old.items ++ line_of (codes "left" ∷ circuit_name plan.now circuit ∷ decimal origin ∷ decimal hops ∷ hex octets.now ∷ [])) }
+{
+    put_text(text, b"left")?;
+    put_circuit(text, plan, circuit)?;
+    put_origin(text, origin, hops, octets)?;
+    Ok(())
+}
+
+// Adds the line of a drop.
+fn put_dropped(
+    text: &mut Vec<u8>,
+    plan: &Plan,
+    edge: EdgeId,
+    origin: u64,
+    cause: DropCause,
+) -> Result<(), NoMemory>
+    ensures { OnOk result (text.new.items ≡ text.old.items ++ line_of (codes "dropped" ∷ edge_name plan.now edge ∷ decimal origin ∷ cause_name cause ∷ [])) }
+{
+    put_text(text, b"dropped")?;
+    put_edge(text, plan, edge)?;
+    put_number_word(text, origin)?;
+    put_word(text, cause_text(cause).as_bytes())?;
+    put_text(text, b"\n")?;
+    Ok(())
+}
+
+// Adds the line of a session that moved to a state.
+fn put_session(
+    text: &mut Vec<u8>,
+    plan: &Plan,
+    edge: EdgeId,
+    peer: EdgeId,
+    state: StateName,
+) -> Result<(), NoMemory>
+    ensures { OnOk result (text.new.items ≡ text.old.items ++ line_of (codes "session" ∷ edge_name plan.now edge ∷ edge_name plan.now peer ∷ state_name state ∷ [])) }
+{
+    put_text(text, b"session")?;
+    put_edge(text, plan, edge)?;
+    put_edge(text, plan, peer)?;
+    put_word(text, state_text(state).as_bytes())?;
+    put_text(text, b"\n")?;
+    Ok(())
+}
+
+// Adds the line of a wire's end that began to forward, or stopped.
+fn put_wire_end(
+    text: &mut Vec<u8>,
+    plan: &Plan,
+    edge: EdgeId,
+    wire: WireId,
+    down: Option<Down>,
+) -> Result<(), NoMemory>
+    ensures { OnOk result (text.new.items ≡ text.old.items ++ line_of (codes "wire" ∷ edge_name plan.now edge ∷ wire_name plan.now wire ∷ wire_end_name down ∷ [])) }
+{
+    put_end_line(
+        text,
+        plan,
+        b"wire",
+        edge,
+        wire,
+        wire_end_text(down).as_bytes(),
+    )
+}
+
+// Adds the line of the answer to a ping.
+fn put_pong(
+    text: &mut Vec<u8>,
+    plan: &Plan,
+    edge: EdgeId,
+    wire: WireId,
+    sequence: u16,
+) -> Result<(), NoMemory>
+    ensures { OnOk result (text.new.items ≡ text.old.items ++ line_of (codes "pong" ∷ edge_name plan.now edge ∷ wire_name plan.now wire ∷ decimal sequence ∷ [])) }
+{
+    put_end_number_line(text, plan, b"pong", edge, wire, u64::from(sequence))
+}
+
+/// Adds the line of an entry.
+pub fn put_entry(text: &mut Vec<u8>, plan: &Plan, entry: &Entry) -> Result<(), NoMemory>
+    ensures { OnOk result (text.new.items ≡ text.old.items ++ entry_line plan.now entry.now) }
+{
+    match entry {
+        Entry::Did { event } => put_event(text, plan, event),
+        Entry::Idle => put_text(text, b"idle\n"),
+        Entry::Said { from, to, bytes } => put_said(text, plan, *from, *to, bytes.as_slice()),
+        Entry::In {
+            circuit,
+            number,
+            bytes,
+        } => put_in(text, plan, *circuit, *number, bytes.as_slice()),
+        Entry::Sent {
+            packet,
+            from,
+            to,
+            wire,
+            arrival,
+            origin,
+            hops,
+            bytes,
+        } => {
+            put_packet(text, plan, *packet, *from, *to, *wire)?;
+            put_arrival(text, plan, *arrival)?;
+            put_origin(text, *origin, *hops, bytes.as_slice())
+        }
+        Entry::Copied { packet, of } => put_numbers_line(text, b"copied", *packet, *of),
+        Entry::Left {
+            circuit,
+            origin,
+            hops,
+            bytes,
+        } => put_left(text, plan, *circuit, *origin, *hops, bytes.as_slice()),
+        Entry::Dropped {
+            edge,
+            origin,
+            cause,
+        } => put_dropped(text, plan, *edge, *origin, *cause),
+        Entry::Session { edge, peer, state } => put_session(text, plan, *edge, *peer, *state),
+        Entry::Wire { edge, wire, down } => put_wire_end(text, plan, *edge, *wire, *down),
+        Entry::Pong {
+            edge,
+            wire,
+            sequence,
+        } => put_pong(text, plan, *edge, *wire, *sequence),
+    }
+}

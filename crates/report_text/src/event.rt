@@ -1,0 +1,145 @@
+//! The line of an event that was done.
+ghost use Rattle.std.specs.Prelude.{◌≡◌, ◌++◌, ◌∷◌, [], codes, OnOk};
+ghost use Rattle.std.specs.Fmt.{decimal};
+ghost use Rattle.report_text.specs.Words.{line_of, edge_name, circuit_name, wire_name, switch_name, event_words};
+ghost use Rattle.text_pieces.specs.Pieces.{hex};
+
+use crate::lines::{
+    put_edge_line, put_edges_line, put_end_line, put_end_number_line, put_number_line,
+};
+use crate::names::{put_circuit, put_edge, put_wire, switch_text};
+use net_base::{CircuitId, EdgeId, Event, NoMemory, Plan, WireId};
+use text_pieces::{put_hex_word, put_number_word, put_text, put_word};
+
+// Adds the line of a delivery.
+fn put_deliver(
+    text: &mut Vec<u8>,
+    plan: &Plan,
+    from: EdgeId,
+    to: EdgeId,
+    count: u16,
+) -> Result<(), NoMemory>
+    ensures { OnOk result (text.new.items ≡ text.old.items ++ line_of (codes ">" ∷ codes "deliver" ∷ edge_name plan.now from ∷ edge_name plan.now to ∷ decimal count ∷ [])) }
+{
+    put_text(text, b"> deliver")?;
+    put_edge(text, plan, from)?;
+    put_edge(text, plan, to)?;
+    put_number_word(text, u64::from(count))?;
+    put_text(text, b"\n")?;
+    Ok(())
+}
+
+// Adds the line of a frame that a customer sends.
+fn put_frame(
+    text: &mut Vec<u8>,
+    plan: &Plan,
+    circuit: CircuitId,
+    octets: &[u8],
+) -> Result<(), NoMemory>
+    ensures { OnOk result (text.new.items ≡ text.old.items ++ line_of (codes ">" ∷ codes "frame" ∷ circuit_name plan.now circuit ∷ hex octets.now ∷ [])) }
+{
+    put_text(text, b"> frame")?;
+    put_circuit(text, plan, circuit)?;
+    put_hex_word(text, octets)?;
+    put_text(text, b"\n")?;
+    Ok(())
+}
+
+// Adds the line of a wire put on or off.
+fn put_wire_switch(
+    text: &mut Vec<u8>,
+    plan: &Plan,
+    edge: EdgeId,
+    wire: WireId,
+    on: bool,
+) -> Result<(), NoMemory>
+    ensures { OnOk result (text.new.items ≡ text.old.items ++ line_of (codes ">" ∷ codes "wire" ∷ edge_name plan.now edge ∷ wire_name plan.now wire ∷ switch_name on ∷ [])) }
+{
+    put_end_line(
+        text,
+        plan,
+        b"> wire",
+        edge,
+        wire,
+        switch_text(on).as_bytes(),
+    )
+}
+
+// Adds the line of a circuit put on or off.
+fn put_circuit_switch(
+    text: &mut Vec<u8>,
+    plan: &Plan,
+    circuit: CircuitId,
+    on: bool,
+) -> Result<(), NoMemory>
+    ensures { OnOk result (text.new.items ≡ text.old.items ++ line_of (codes ">" ∷ codes "circuit" ∷ circuit_name plan.now circuit ∷ switch_name on ∷ [])) }
+{
+    put_text(text, b"> circuit")?;
+    put_circuit(text, plan, circuit)?;
+    put_word(text, switch_text(on).as_bytes())?;
+    put_text(text, b"\n")?;
+    Ok(())
+}
+
+// Adds the line of failure bits that are set.
+fn put_status(
+    text: &mut Vec<u8>,
+    plan: &Plan,
+    edge: EdgeId,
+    wire: WireId,
+    bits: u8,
+) -> Result<(), NoMemory>
+    ensures { OnOk result (text.new.items ≡ text.old.items ++ line_of (codes ">" ∷ codes "status" ∷ edge_name plan.now edge ∷ wire_name plan.now wire ∷ decimal bits ∷ [])) }
+{
+    put_end_number_line(text, plan, b"> status", edge, wire, u64::from(bits))
+}
+
+// Adds the line of a priority that is set.
+fn put_priority(
+    text: &mut Vec<u8>,
+    plan: &Plan,
+    edge: EdgeId,
+    wire: WireId,
+    priority: u8,
+) -> Result<(), NoMemory>
+    ensures { OnOk result (text.new.items ≡ text.old.items ++ line_of (codes ">" ∷ codes "priority" ∷ edge_name plan.now edge ∷ wire_name plan.now wire ∷ decimal priority ∷ [])) }
+{
+    put_end_number_line(text, plan, b"> priority", edge, wire, u64::from(priority))
+}
+
+// Adds the line of a ping.
+fn put_ping(text: &mut Vec<u8>, plan: &Plan, edge: EdgeId, wire: WireId) -> Result<(), NoMemory>
+    ensures { OnOk result (text.new.items ≡ text.old.items ++ line_of (codes ">" ∷ codes "ping" ∷ edge_name plan.now edge ∷ wire_name plan.now wire ∷ [])) }
+{
+    put_text(text, b"> ping")?;
+    put_edge(text, plan, edge)?;
+    put_wire(text, plan, wire)?;
+    put_text(text, b"\n")?;
+    Ok(())
+}
+
+/// Adds the line of an event that was done: its words behind a pointed bracket and a blank.
+pub fn put_event(text: &mut Vec<u8>, plan: &Plan, event: &Event) -> Result<(), NoMemory>
+    ensures { OnOk result (text.new.items ≡ text.old.items ++ line_of (codes ">" ∷ event_words plan.now event.now)) }
+{
+    match event {
+        Event::Connect { from, to } => put_edges_line(text, plan, b"> connect", *from, *to),
+        Event::Deliver { from, to, count } => put_deliver(text, plan, *from, *to, *count),
+        Event::Lose { edge, peer } => put_edges_line(text, plan, b"> lose", *edge, *peer),
+        Event::Restart { edge } => put_edge_line(text, plan, b"> restart", *edge),
+        Event::Tick => put_text(text, b"> tick\n"),
+        Event::Frame { circuit, bytes } => put_frame(text, plan, *circuit, bytes.as_slice()),
+        Event::Arrive { packet } => put_number_line(text, b"> arrive", *packet),
+        Event::Discard { packet } => put_number_line(text, b"> drop", *packet),
+        Event::Again { packet } => put_number_line(text, b"> again", *packet),
+        Event::Wire { edge, wire, on } => put_wire_switch(text, plan, *edge, *wire, *on),
+        Event::Circuit { circuit, on } => put_circuit_switch(text, plan, *circuit, *on),
+        Event::Status { edge, wire, bits } => put_status(text, plan, *edge, *wire, *bits),
+        Event::Priority {
+            edge,
+            wire,
+            priority,
+        } => put_priority(text, plan, *edge, *wire, *priority),
+        Event::Ping { edge, wire } => put_ping(text, plan, *edge, *wire),
+    }
+}

@@ -1,0 +1,162 @@
+//! The names that a report tells.
+ghost use Rattle.std.specs.Prelude.{◌≡◌, ◌++◌, codes, OnOk};
+ghost use Rattle.report_text.specs.Words.{edge_name, circuit_name, wire_name, arrival_name, switch_name, cause_name, down_name, wire_end_name, reason_name, state_name};
+
+use net_base::{
+    Arrival, CircuitId, Down, DropCause, EdgeId, NoMemory, Plan, Reason, StateName, WireId,
+};
+use text_pieces::put_word;
+
+// The name of an edge; empty outside the plan.
+fn edge_octets(plan: &Plan, edge: EdgeId) -> &[u8]
+    ensures { result.now ≡ edge_name plan.now edge }
+{
+    match plan.edges.get(edge.0 as usize) {
+        Some(row) => row.name.as_slice(),
+        None => &[],
+    }
+}
+
+// The name of a circuit; empty outside the plan.
+fn circuit_octets(plan: &Plan, circuit: CircuitId) -> &[u8]
+    ensures { result.now ≡ circuit_name plan.now circuit }
+{
+    match plan.circuits.get(circuit.0 as usize) {
+        Some(row) => row.name.as_slice(),
+        None => &[],
+    }
+}
+
+// The name of a wire; empty outside the plan.
+fn wire_octets(plan: &Plan, wire: WireId) -> &[u8]
+    ensures { result.now ≡ wire_name plan.now wire }
+{
+    match plan.wires.get(wire.0 as usize) {
+        Some(row) => row.name.as_slice(),
+        None => &[],
+    }
+}
+
+/// Adds a blank and the name of an edge; outside the plan it is empty.
+pub fn put_edge(text: &mut Vec<u8>, plan: &Plan, edge: EdgeId) -> Result<(), NoMemory>
+    ensures { OnOk result (text.new.items ≡ text.old.items ++ (codes " " ++ edge_name plan.now edge)) }
+{
+    put_word(text, edge_octets(plan, edge))
+}
+
+/// Adds a blank and the name of a circuit; outside the plan it is empty.
+pub fn put_circuit(text: &mut Vec<u8>, plan: &Plan, circuit: CircuitId) -> Result<(), NoMemory>
+    ensures { OnOk result (text.new.items ≡ text.old.items ++ (codes " " ++ circuit_name plan.now circuit)) }
+{
+    put_word(text, circuit_octets(plan, circuit))
+}
+
+/// Adds a blank and the name of a wire; outside the plan it is empty.
+pub fn put_wire(text: &mut Vec<u8>, plan: &Plan, wire: WireId) -> Result<(), NoMemory>
+    ensures { OnOk result (text.new.items ≡ text.old.items ++ (codes " " ++ wire_name plan.now wire)) }
+{
+    put_word(text, wire_octets(plan, wire))
+}
+
+/// Adds a blank and by what a frame came: a circuit, a wire, or a dash for none.
+pub fn put_arrival(text: &mut Vec<u8>, plan: &Plan, arrival: Arrival) -> Result<(), NoMemory>
+    ensures { OnOk result (text.new.items ≡ text.old.items ++ (codes " " ++ arrival_name plan.now arrival)) }
+{
+    match arrival {
+        Arrival::Circuit(circuit) => put_circuit(text, plan, circuit),
+        Arrival::Wire(wire) => put_wire(text, plan, wire),
+        Arrival::Own => put_word(text, b"-"),
+    }
+}
+
+/// `on` or `off`.
+pub fn switch_text(on: bool) -> &'static str
+    ensures { result.now ≡ switch_name on }
+{
+    if on { "on" } else { "off" }
+}
+
+/// The cause of a drop by its name.
+pub fn cause_text(cause: DropCause) -> &'static str
+    ensures { result.now ≡ cause_name cause }
+{
+    match cause {
+        DropCause::Short => "Short",
+        DropCause::Long => "Long",
+        DropCause::WrongTag => "WrongTag",
+        DropCause::NoTag => "NoTag",
+        DropCause::BadNibble => "BadNibble",
+        DropCause::NotBottom => "NotBottom",
+        DropCause::Ttl => "Ttl",
+        DropCause::NoLabel => "NoLabel",
+        DropCause::Down => "Down",
+        DropCause::NoBinding => "NoBinding",
+        DropCause::Expired => "Expired",
+        DropCause::Version => "Version",
+        DropCause::Channel => "Channel",
+        DropCause::Ip => "Ip",
+        DropCause::Checksum => "Checksum",
+        DropCause::Icmp => "Icmp",
+        DropCause::NotOffered => "NotOffered",
+        DropCause::LinkFault => "LinkFault",
+    }
+}
+
+/// Why a wire's end does not forward, by its name.
+pub fn down_text(down: Down) -> &'static str
+    ensures { result.now ≡ down_name down }
+{
+    match down {
+        Down::NoLocal => "NoLocal",
+        Down::NoRemote => "NoRemote",
+        Down::CBit => "CBit",
+        Down::Kind => "Kind",
+        Down::Mtu => "Mtu",
+        Down::LocalFault => "LocalFault",
+        Down::RemoteFault => "RemoteFault",
+        Down::Standby => "Standby",
+    }
+}
+
+/// `up`, or why a wire's end does not forward.
+pub fn wire_end_text(down: Option<Down>) -> &'static str
+    ensures { result.now ≡ wire_end_name down }
+{
+    match down {
+        Some(down) => down_text(down),
+        None => "up",
+    }
+}
+
+// `Ended:` and the reason.
+fn ended_text(reason: Reason) -> &'static str
+    ensures { result.now ≡ codes "Ended:" ++ reason_name reason }
+{
+    match reason {
+        Reason::BadVersion => "Ended:BadVersion",
+        Reason::BadReceiver => "Ended:BadReceiver",
+        Reason::ZeroKeepAlive => "Ended:ZeroKeepAlive",
+        Reason::Unexpected => "Ended:Unexpected",
+        Reason::Expired => "Ended:Expired",
+        Reason::PeerShutdown => "Ended:PeerShutdown",
+        Reason::PeerFatal => "Ended:PeerFatal",
+        Reason::Decode => "Ended:Decode",
+        Reason::Closed => "Ended:Closed",
+        Reason::LinkFault => "Ended:LinkFault",
+        Reason::BadIdentifier => "Ended:BadIdentifier",
+    }
+}
+
+/// The state of a session by its name; after `Ended` stands a colon and the reason.
+pub fn state_text(state: StateName) -> &'static str
+    ensures { result.now ≡ state_name state }
+{
+    match state {
+        StateName::NonExistent => "NonExistent",
+        StateName::Initialized => "Initialized",
+        StateName::OpenSent => "OpenSent",
+        StateName::OpenRec => "OpenRec",
+        StateName::Operational => "Operational",
+        StateName::Ended(reason) => ended_text(reason),
+    }
+}

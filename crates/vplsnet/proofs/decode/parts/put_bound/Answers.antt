@@ -1,8 +1,0 @@
--- The label stands behind its FEC.
-use Rattle.std.proofs.Common.{◌∷◌, []}
-use Rattle.vplsnet.specs.MessageWords.{fec_words, label_word}
-use Rattle.vplsnet.proofs.WordLemmas.{both_told}
-use Rattle.vplsnet.proofs.decode.parts.put_bound.Goals as goal
-
-pub returns : goal.returns
-returns c = both_told c.args.text.now.items c.put_fec.new.text.items c.put_label.new.text.items (fec_words c.args.fec.now) (label_word c.args.label ∷ []) c.in_ok-put_fec.ensures c.in_ok-put_label.ensures

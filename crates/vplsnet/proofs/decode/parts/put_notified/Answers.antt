@@ -1,7 +1,0 @@
--- The status of a pseudowire stands behind its FEC.
-use Rattle.vplsnet.specs.MessageWords.{pw_status_words, told_fec_words}
-use Rattle.vplsnet.proofs.WordLemmas.{both_told}
-use Rattle.vplsnet.proofs.decode.parts.put_notified.Goals as goal
-
-pub returns : goal.returns
-returns c = both_told c.args.text.now.items c.put_told_fec.new.text.items c.put_pw_status.new.text.items (told_fec_words c.args.fec.now) (pw_status_words c.args.pw_status) c.in_ok-put_told_fec.ensures c.in_ok-put_pw_status.ensures

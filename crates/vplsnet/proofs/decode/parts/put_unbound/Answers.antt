@@ -1,7 +1,0 @@
--- The label stands behind its FEC.
-use Rattle.vplsnet.specs.MessageWords.{fec_words, label_words}
-use Rattle.vplsnet.proofs.WordLemmas.{both_told}
-use Rattle.vplsnet.proofs.decode.parts.put_unbound.Goals as goal
-
-pub returns : goal.returns
-returns c = both_told c.args.text.now.items c.put_fec.new.text.items c.put_told_label.new.text.items (fec_words c.args.fec.now) (label_words c.args.label) c.in_ok-put_fec.ensures c.in_ok-put_told_label.ensures

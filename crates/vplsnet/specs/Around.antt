@@ -1,0 +1,42 @@
+-- What lies around a call of the program: its files and what it writes to.
+use Rattle.std.specs.Prelude.{◌≡◌, ℕ, List, [], Option, Some, IfSome}
+use Rattle.net_base.specs.declared.trace.entry.Entry.{Entry}
+use Rattle.net_base.specs.outside.Outside.{Rose}
+
+-- what each name holds, where the shelf tells it
+abbrev pub Files : Type 0
+Files = Option (List ℕ → Option (List ℕ))
+
+-- the files that the shelf tells, its counts of faults by name, what the sink took where it tells it, and the sink's
+-- count of faults
+pub record Around : Type 0 where
+  pub files : Files
+  pub shelf_before : List ℕ → ℕ
+  pub shelf_after : List ℕ → ℕ
+  pub taken_before : Option (List ℕ)
+  pub taken_after : Option (List ℕ)
+  pub sink_before : ℕ
+  pub sink_after : ℕ
+
+-- a call of the shelf with this name failed
+abbrev pub HasReadFault : Around → List ℕ → Type 0
+HasReadFault around name = Rose (around.shelf_before name) (around.shelf_after name)
+
+-- a call of the sink failed
+abbrev pub HasWriteFault : Around → Type 0
+HasWriteFault around = Rose around.sink_before around.sink_after
+
+-- no run began, and nothing was taken
+pub record IsUntouched (around : Around) (trace : List Entry) : Type 0 where
+  pub taken : around.taken_after ≡ around.taken_before
+  pub empty : trace ≡ []
+
+-- the name has these octets, where the shelf tells its files
+abbrev pub Has : Files → List ℕ → List ℕ → Type 0
+Has files name octets = IfSome files (λ held. held name ≡ Some octets)
+
+-- the shelf tells its files, and that the name has these octets
+pub record Tells (files : Files) (name octets : List ℕ) : Type 0 where
+  pub held : List ℕ → Option (List ℕ)
+  pub told : files ≡ Some held
+  pub has : held name ≡ Some octets

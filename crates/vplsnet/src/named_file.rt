@@ -1,0 +1,46 @@
+//! The file that the words name, read whole.
+ghost use Rattle.std.specs.Prelude.{◌≡◌, ◌≤◌, ◌<◌, ◌^◌, length, IfErr, IfOk};
+ghost use Rattle.vplsnet.specs.Around.{Has};
+ghost use Rattle.vplsnet.specs.Answers.{IsUnread};
+ghost use Rattle.vplsnet.specs.Files.{Unread};
+
+use crate::files::{ReadStop, read_file};
+use crate::outcome::Outcome;
+use net_base::{Octets, Shelf, Word};
+use std::alloc::Global;
+
+/// The octets of a file of at most so many octets, or the outcome that tells why they were not had.
+pub fn octets_of<F: Shelf>(
+    alloc: Global,
+    shelf: &mut F,
+    name: &str,
+    limit: usize,
+) -> Result<Octets, Outcome>
+    requires { limit < 2 ^ 62 }
+    ensures has { IfOk result (Has (F.files shelf.old) name.now) }
+    ensures fits { IfOk result (λ octets. length octets ≤ limit) }
+    ensures unread { IfErr result (IsUnread (F.files shelf.old) (F.faults shelf.old) (F.faults shelf.new) name.now limit) }
+    ensures same_files { F.files shelf.new ≡ F.files shelf.old }
+{
+    match read_file(alloc, shelf, name, limit) {
+        Ok(octets) => Ok(octets),
+        Err(stop) => Err(unread(alloc, stop, name, limit)),
+    }
+}
+
+// Why a file was not read, as an outcome: a fault as it is, and a file that is too long by its name, which takes memory.
+fn unread(alloc: Global, stop: ReadStop, name: &str, limit: usize) -> Outcome
+    ensures { Unread stop name.now limit result }
+{
+    match stop {
+        ReadStop::Fault => Outcome::ReadFault,
+        ReadStop::TooLong => match Word::new(alloc, name) {
+            Ok(name) => Outcome::TooLong {
+                name,
+                limit: limit as u64,
+            },
+            Err(_) => Outcome::NoMemory,
+        },
+        ReadStop::NoMemory => Outcome::NoMemory,
+    }
+}
