@@ -4,5 +4,6 @@ pub mod LinkLemmas
 pub mod NetworkLemmas
 pub mod PacketLemmas
 pub mod PipeLemmas
+pub mod RunLemmas
 pub mod TickLemmas
 pub mod WeightLemmas

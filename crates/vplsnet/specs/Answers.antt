@@ -1,7 +1,7 @@
 -- How a call of the program ends: what is common to all commands, and what each makes of the octets of its file.
 use Rattle.std.specs.Prelude.{◌≡◌, ◌⊎◌, ◌≤◌, ◌<◌, ℕ, List, length, Option, Some, None, IfSome}
-use Rattle.net_base.specs.declared.trace.entry.Entry.{Entry}
 use Rattle.net_base.specs.outside.Outside.{Rose}
+use Rattle.psn_net.specs.Lists.{NetLists}
 use Rattle.scenario_text.specs.Document.{document}
 use Rattle.vplsnet.specs.declared.outcome.Outcome.{Outcome}
 use Rattle.vplsnet.specs.declared.outcome.Outcome.TheVariants.{Usage, ReadFault, WriteFault, TooLong, ScenarioRefused, NotBuilt, NoMemory}
@@ -11,8 +11,8 @@ use Rattle.vplsnet.specs.Decode.{stream_limit, IsDecoding, IsDecodedAs}
 use Rattle.vplsnet.specs.Files.{IsLonger, AppendsFront, Writes}
 use Rattle.vplsnet.specs.Replay.{scenario_limit, Replays, replay_outcome}
 
--- The commands, a row for each: the file that it reads, the most octets of that file, the text, the trace and the outcome
--- of these octets, and their outcome alone.
+-- The commands, a row for each: the file that it reads, the most octets of that file, the text, the network after the run and
+-- the outcome of these octets, and their outcome alone.
 
 abbrev pub file_of : Asked → List ℕ
 file_of (Replay file) = file
@@ -22,32 +22,32 @@ abbrev pub limit_of : Asked → ℕ
 limit_of (Replay file) = scenario_limit
 limit_of (Decode file) = stream_limit
 
-abbrev pub Makes : Asked → List ℕ → List ℕ → List Entry → Outcome → Type 0
-Makes (Replay file) octets text trace outcome = Replays octets text trace outcome
-Makes (Decode file) octets text trace outcome = IsDecoding octets text trace outcome
+abbrev pub Makes : Asked → List ℕ → List ℕ → Option NetLists → Outcome → Type 0
+Makes (Replay file) octets text network outcome = Replays octets text network outcome
+Makes (Decode file) octets text network outcome = IsDecoding octets text network outcome
 
 abbrev pub IsEndOf : Asked → List ℕ → Outcome → Type 0
 IsEndOf (Replay file) octets outcome = outcome ≡ replay_outcome (document octets)
 IsEndOf (Decode file) octets outcome = IsDecodedAs octets outcome
 
--- the file was read whole, and of its octets the command makes this text, this trace and this outcome
-pub record IsMade (around : Around) (asked : Asked) (text : List ℕ) (trace : List Entry) (outcome : Outcome) : Type 0 where
+-- the file was read whole, and of its octets the command makes this text, the network of this run and this outcome
+pub record IsMade (around : Around) (asked : Asked) (text : List ℕ) (network : Option NetLists) (outcome : Outcome) : Type 0 where
   pub octets : List ℕ
   pub has : Has around.files (file_of asked) octets
   pub fits : length octets ≤ limit_of asked
-  pub makes : Makes asked octets text trace outcome
+  pub makes : Makes asked octets text network outcome
 
 -- the whole text was taken
-pub record IsWhole (around : Around) (asked : Asked) (trace : List Entry) (outcome : Outcome) : Type 0 where
+pub record IsWhole (around : Around) (asked : Asked) (network : Option NetLists) (outcome : Outcome) : Type 0 where
   pub text : List ℕ
-  pub made : IsMade around asked text trace outcome
+  pub made : IsMade around asked text network outcome
   pub taken : Writes around.taken_before around.taken_after text
 
 -- a front of the text was taken that lacks its end, and then the sink failed
-pub record IsCutShort (around : Around) (asked : Asked) (trace : List Entry) : Type 0 where
+pub record IsCutShort (around : Around) (asked : Asked) (network : Option NetLists) : Type 0 where
   pub text : List ℕ
   pub outcome : Outcome
-  pub made : IsMade around asked text trace outcome
+  pub made : IsMade around asked text network outcome
   pub taken : AppendsFront around.taken_before around.taken_after text
   pub cause : HasWriteFault around
 
@@ -58,18 +58,18 @@ pub record IsTooLong (files : Files) (asked : Asked) (named : List ℕ) (limit :
   pub longer : IfSome files (λ held. IsLonger (limit_of asked) (held (file_of asked)))
 
 -- What an outcome says, its cause among it. The outcomes of a command's own are those that it makes of the octets.
-abbrev pub Answers : Around → Asked → List Entry → Outcome → Type 0
-Answers around asked trace Usage = ⊥
-Answers around asked trace ReadFault = HasReadFault around (file_of asked) × IsUntouched around trace
-Answers around asked trace (TooLong named limit) = IsTooLong around.files asked named limit × IsUntouched around trace
-Answers around asked trace WriteFault = IsCutShort around asked trace
-Answers around asked trace NoMemory = IsUntouched around trace
-Answers around asked trace outcome = IsWhole around asked trace outcome
+abbrev pub Answers : Around → Asked → Option NetLists → Outcome → Type 0
+Answers around asked network Usage = ⊥
+Answers around asked network ReadFault = HasReadFault around (file_of asked) × IsUntouched around network
+Answers around asked network (TooLong named limit) = IsTooLong around.files asked named limit × IsUntouched around network
+Answers around asked network WriteFault = IsCutShort around asked network
+Answers around asked network NoMemory = IsUntouched around network
+Answers around asked network outcome = IsWhole around asked network outcome
 
 -- the same of words that may ask for nothing
-abbrev pub Finishes : Around → Option Asked → List Entry → Outcome → Type 0
-Finishes around None trace outcome = (outcome ≡ Usage) × IsUntouched around trace
-Finishes around (Some asked) trace outcome = Answers around asked trace outcome
+abbrev pub Finishes : Around → Option Asked → Option NetLists → Outcome → Type 0
+Finishes around None network outcome = (outcome ≡ Usage) × IsUntouched around network
+Finishes around (Some asked) network outcome = Answers around asked network outcome
 
 -- the outcome that the octets of the file call for: by their length, and then by the command
 abbrev pub CallsFor : Asked → List ℕ → Outcome → Type 0

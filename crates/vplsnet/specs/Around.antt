@@ -1,7 +1,8 @@
 -- What lies around a call of the program: its files and what it writes to.
-use Rattle.std.specs.Prelude.{◌≡◌, ℕ, List, [], Option, Some, IfSome}
-use Rattle.net_base.specs.declared.trace.entry.Entry.{Entry}
+use Rattle.std.specs.Prelude.{◌≡◌, ℕ, List, [], Option, Some, None, IfSome}
 use Rattle.net_base.specs.outside.Outside.{Rose}
+use Rattle.net_base.specs.declared.trace.entry.Entry.{Entry}
+use Rattle.psn_net.specs.Lists.{NetLists}
 
 -- what each name holds, where the shelf tells it
 abbrev pub Files : Type 0
@@ -26,10 +27,15 @@ HasReadFault around name = Rose (around.shelf_before name) (around.shelf_after n
 abbrev pub HasWriteFault : Around → Type 0
 HasWriteFault around = Rose around.sink_before around.sink_after
 
+-- the entries of a run, and none where no run began
+abbrev pub trace_of : Option NetLists → List Entry
+trace_of None = []
+trace_of (Some network) = network.trace
+
 -- no run began, and nothing was taken
-pub record IsUntouched (around : Around) (trace : List Entry) : Type 0 where
+pub record IsUntouched (around : Around) (network : Option NetLists) : Type 0 where
   pub taken : around.taken_after ≡ around.taken_before
-  pub empty : trace ≡ []
+  pub no_run : network ≡ None
 
 -- the name has these octets, where the shelf tells its files
 abbrev pub Has : Files → List ℕ → List ℕ → Type 0

@@ -3,9 +3,10 @@ use Rattle.std.specs.Prelude.{◌++◌, codes, ℕ, List, []}
 use Rattle.std.specs.Fmt.{decimal}
 use Rattle.vplsnet.specs.FaultText.{fault_words}
 use Rattle.text_pieces.specs.Pieces.{spaced}
+use Rattle.vplsnet.specs.StopText.{stop_words}
 use Rattle.vplsnet.specs.StreamFaultText.{stream_fault_words}
 use Rattle.vplsnet.specs.declared.outcome.Outcome.{Outcome}
-use Rattle.vplsnet.specs.declared.outcome.Outcome.TheVariants.{Done, Usage, ReadFault, WriteFault, TooLong, ScenarioRefused, NotBuilt, DecodeRefused, Unfinished, NoMemory}
+use Rattle.vplsnet.specs.declared.outcome.Outcome.TheVariants.{Done, Usage, ReadFault, WriteFault, TooLong, ScenarioRefused, NotBuilt, Stopped, DecodeRefused, Unfinished, NoMemory}
 
 abbrev pub status_of : Outcome → ℕ
 status_of Done = 0
@@ -17,6 +18,7 @@ status_of (ScenarioRefused fault) = 5
 status_of NotBuilt = 5
 status_of (DecodeRefused fault) = 6
 status_of (Unfinished at) = 6
+status_of (Stopped stop) = 7
 status_of NoMemory = 8
 
 abbrev pub long_line : List ℕ → ℕ → List ℕ
@@ -31,6 +33,7 @@ finish_text WriteFault = codes "vplsnet: write fault"
 finish_text (TooLong name limit) = long_line name limit
 finish_text (ScenarioRefused fault) = codes "vplsnet: scenario:" ++ spaced (fault_words fault)
 finish_text NotBuilt = codes "vplsnet: not built"
+finish_text (Stopped stop) = codes "vplsnet: stopped:" ++ spaced (stop_words stop)
 finish_text (DecodeRefused fault) = codes "vplsnet: stream:" ++ spaced (stream_fault_words fault)
 finish_text (Unfinished at) = codes "vplsnet: stream ends at " ++ decimal at
 finish_text NoMemory = codes "vplsnet: out of memory"

@@ -3,14 +3,13 @@ pub mod Around
 pub mod Asked
 pub mod Built
 pub mod Decode
-pub mod Domain
 pub mod FaultText
 pub mod Files
 pub mod Finish
 pub mod Made
 pub mod Promises
 pub mod Replay
-pub mod SingleEdge
+pub mod StopText
 pub mod StreamFaultText
 pub mod StreamSteps
 pub mod StreamText

@@ -1,7 +1,10 @@
--- The events that the commands of a scenario make.
+-- The events that the commands of a scenario make, each from the state that the events before it left.
 use Rattle.std.specs.Prelude.{◌++◌, ℕ, zero, suc, List, [], ◌∷◌}
+use Rattle.net_base.specs.declared.plan.Plan.{Plan}
 use Rattle.net_base.specs.declared.trace.event.Event.{Event}
 use Rattle.net_base.specs.declared.trace.event.Event.TheVariants.{Tick}
+use Rattle.network_model.specs.Run.{state_after}
+use Rattle.network_model.specs.State.{NetworkState}
 use Rattle.scenario_text.specs.declared.command.Command.{Command}
 use Rattle.scenario_text.specs.declared.command.Command.TheVariants.{One, Ticks}
 
@@ -10,12 +13,13 @@ abbrev pub ticks : ℕ → List Event
 ticks zero = []
 ticks (suc n) = Tick ∷ ticks n
 
--- the events of a command. The other commands make events of the state that they meet; they are to come
-abbrev pub made_by : Command → List Event
-made_by (One event) = event ∷ []
-made_by (Ticks count) = ticks count
-made_by command = []
+-- the events of a command. The commands whose events depend on the state are to come
+abbrev pub made_by : Plan → NetworkState → Command → List Event
+made_by plan network (One event) = event ∷ []
+made_by plan network (Ticks count) = ticks count
+made_by plan network command = []
 
-abbrev pub made : List Command → List Event
-made [] = []
-made (command ∷ commands) = made_by command ++ made commands
+abbrev pub made : Plan → NetworkState → List Command → List Event
+made plan network [] = []
+made plan network (command ∷ commands) =
+    made_by plan network command ++ made plan (state_after plan network (made_by plan network command)) commands

@@ -4,19 +4,19 @@ ghost use Rattle.vplsnet.specs.Decode.{IsDecoding, stream_limit};
 
 use crate::answer::Answer;
 use crate::stream_text::stream_text;
-use net_base::{List, NoMemory, Octets};
+use net_base::{NoMemory, Octets};
 use std::alloc::Global;
 
 /// A line for each LDP message of a stream (RFC 5036 section 3.1), those before a fault too. `DecodeRefused` comes exactly
 /// where the stream has a fault, and `Unfinished` where it ends within a PDU. No run begins. The one error is want of memory.
 pub fn decode(alloc: Global, octets: Octets) -> Result<Answer, NoMemory>
     requires fits { length octets ≤ stream_limit }
-    ensures { IfOk result (λ answer. IsDecoding octets answer.text.items answer.trace answer.outcome) }
+    ensures { IfOk result (λ answer. IsDecoding octets answer.text.items answer.network answer.outcome) }
 {
     let (text, outcome) = stream_text(alloc, octets.as_slice())?;
     Ok(Answer {
         text,
-        trace: List::new(alloc),
+        network: None,
         outcome,
     })
 }

@@ -1,45 +1,52 @@
 //! The end of a call of the program.
-ghost use Rattle.std.specs.Prelude.{◌≡◌, []};
+ghost use Rattle.std.specs.Prelude.{◌≡◌, None};
+ghost use Rattle.vplsnet.specs.Around.{trace_of};
 ghost use Rattle.vplsnet.specs.Finish.{status_of};
 
 use crate::outcome::Outcome;
-use net_base::{List, Trace};
-use std::alloc::Global;
+use net_base::Entry;
+use psn_net::Network;
 
-/// How a call of the program ended, and what its run told.
+/// How a call of the program ended, and the network of its run.
 #[derive(Debug, Drop)]
 pub struct Finish {
     /// The status with which the program ends.
     pub status: u8,
     pub outcome: Outcome,
-    /// The entries of the run in order; none where no run began.
-    pub trace: Trace,
+    /// The network as the run left it; none where no run began.
+    pub network: Option<Network>,
 }
 
 impl Finish {
     /// The end of a call in which no run began.
-    pub fn without_run(alloc: Global, outcome: Outcome) -> Finish
+    pub fn without_run(outcome: Outcome) -> Finish
         ensures status { result.status ≡ status_of outcome }
         ensures outcome { result.outcome ≡ outcome }
-        ensures trace { result.trace ≡ [] }
+        ensures network { result.network ≡ None }
+    {
+        Finish::after_run(outcome, None)
+    }
+
+    /// The end of a call whose run, where one began, left this network.
+    pub fn after_run(outcome: Outcome, network: Option<Network>) -> Finish
+        ensures status { result.status ≡ status_of outcome }
+        ensures outcome { result.outcome ≡ outcome }
+        ensures network { result.network ≡ network }
     {
         Finish {
             status: outcome.status(),
             outcome,
-            trace: List::new(alloc),
+            network,
         }
     }
 
-    /// The end of a call whose run told these entries.
-    pub fn after_run(outcome: Outcome, trace: Trace) -> Finish
-        ensures status { result.status ≡ status_of outcome }
-        ensures outcome { result.outcome ≡ outcome }
-        ensures trace { result.trace ≡ trace }
+    /// The entries of the run in order; none where no run began.
+    pub fn trace(&self) -> &[Entry]
+        ensures { result.now ≡ trace_of self.now.network }
     {
-        Finish {
-            status: outcome.status(),
-            outcome,
-            trace,
+        match &self.network {
+            Some(network) => network.trace().as_slice(),
+            None => &[],
         }
     }
 }

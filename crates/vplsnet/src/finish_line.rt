@@ -4,13 +4,16 @@ ghost use Rattle.std.specs.Fmt.{decimal};
 ghost use Rattle.text_pieces.specs.Pieces.{spaced};
 ghost use Rattle.vplsnet.specs.FaultText.{fault_words};
 ghost use Rattle.vplsnet.specs.Finish.{long_line, finish_text};
+ghost use Rattle.vplsnet.specs.StopText.{stop_words};
 ghost use Rattle.vplsnet.specs.StreamFaultText.{stream_fault_words};
 
 use crate::fault_text::put_fault;
 use crate::outcome::Outcome;
+use crate::stop_text::put_stop;
 use crate::stream_fault_text::put_stream_fault;
 use ldp_stream::StreamFault;
 use net_base::{NoMemory, Word};
+use psn_net::NetStop;
 use scenario_text::ScenarioFault;
 use std::alloc::Global;
 use text_pieces::{put_number, put_text};
@@ -28,6 +31,7 @@ pub fn finish_line(alloc: Global, outcome: &Outcome) -> Result<Vec<u8>, NoMemory
         Outcome::TooLong { name, limit } => too_long_line(alloc, name, *limit),
         Outcome::ScenarioRefused(fault) => refused_line(alloc, *fault),
         Outcome::NotBuilt => plain_line(alloc, b"vplsnet: not built"),
+        Outcome::Stopped(stop) => stopped_line(alloc, *stop),
         Outcome::DecodeRefused(fault) => stream_line(alloc, *fault),
         Outcome::Unfinished { at } => unfinished_line(alloc, *at),
         Outcome::NoMemory => plain_line(alloc, b"vplsnet: out of memory"),
@@ -57,6 +61,15 @@ fn refused_line(alloc: Global, fault: ScenarioFault) -> Result<Vec<u8>, NoMemory
 {
     let mut line = Vec::from_slice(alloc, b"vplsnet: scenario:")?;
     put_fault(&mut line, fault)?;
+    Ok(line)
+}
+
+// The line for a run that a limit stopped.
+fn stopped_line(alloc: Global, stop: NetStop) -> Result<Vec<u8>, NoMemory>
+    ensures { IfOk result (λ line. line.items ≡ codes "vplsnet: stopped:" ++ spaced (stop_words stop)) }
+{
+    let mut line = Vec::from_slice(alloc, b"vplsnet: stopped:")?;
+    put_stop(&mut line, stop)?;
     Ok(line)
 }
 

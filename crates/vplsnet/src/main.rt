@@ -6,8 +6,6 @@ ghost use Rattle.std.specs.Prelude.{◌≢◌};
 mod answer;
 mod built;
 mod decode;
-mod domain;
-mod domains;
 mod fault_text;
 mod file_shelf;
 mod files;
@@ -19,9 +17,8 @@ mod replay;
 mod request;
 mod run;
 mod scenario_run;
-mod single_edge;
-mod single_run;
 mod std_sink;
+mod stop_text;
 mod stream_fault_text;
 mod stream_text;
 #[cfg(test)]
@@ -65,12 +62,12 @@ fn tell(rt: &HostRuntime, outcome: &Outcome) -> io::Result<()>
 fn finish_of(rt: &HostRuntime) -> Finish {
     let args = match env::args(rt) {
         Ok(args) => args,
-        Err(error) => return Finish::without_run(rt.alloc(), unread_words(&error)),
+        Err(error) => return Finish::without_run(unread_words(&error)),
     };
     let mut words = Vec::new(rt.alloc());
     for word in args.skip(1) {
         if words.push(word).is_err() {
-            return Finish::without_run(rt.alloc(), Outcome::NoMemory);
+            return Finish::without_run(Outcome::NoMemory);
         }
     }
     let mut shelf = FileShelf::new(rt.alloc(), rt);

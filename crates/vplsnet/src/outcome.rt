@@ -4,6 +4,7 @@ ghost use Rattle.vplsnet.specs.Finish.{status_of};
 
 use ldp_stream::StreamFault;
 use net_base::Word;
+use psn_net::NetStop;
 use scenario_text::ScenarioFault;
 
 /// How a call of the program ended.
@@ -23,6 +24,8 @@ pub enum Outcome {
     ScenarioRefused(ScenarioFault),
     /// The scenario is accepted, and has something that is not built yet. Nothing was taken.
     NotBuilt,
+    /// A limit of the run stopped it, which is not want of memory. The report of what was done before was taken.
+    Stopped(NetStop),
     /// The stream has this first fault, which is not want of memory. The lines of the messages before it were taken.
     DecodeRefused(StreamFault),
     /// The stream ends within a PDU that begins at `at`, in octets from 0. The lines of the messages before it were
@@ -44,6 +47,7 @@ impl Outcome {
             Outcome::WriteFault => 4,
             Outcome::TooLong { .. } | Outcome::ScenarioRefused(_) | Outcome::NotBuilt => 5,
             Outcome::DecodeRefused(_) | Outcome::Unfinished { .. } => 6,
+            Outcome::Stopped(_) => 7,
             Outcome::NoMemory => 8,
         }
     }

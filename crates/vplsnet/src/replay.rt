@@ -1,26 +1,28 @@
 //! The command `replay`: the report of a scenario's run.
-ghost use Rattle.std.specs.Prelude.{◌≡◌, ◌≢◌, true, IfOk, MatchResult, OnOk};
-ghost use Rattle.network_model.specs.Run.{run};
-ghost use Rattle.report_text.specs.declared.ending.Ending.TheVariants.{End};
+ghost use Rattle.std.specs.Prelude.{◌≡◌, ◌≢◌, true, All, IfOk, MatchResult, Some};
+ghost use Rattle.net_base.specs.plan.Accepted.{IsChecked};
+ghost use Rattle.psn_net.specs.Runs.{ended};
 ghost use Rattle.report_text.specs.Report.{report};
-ghost use Rattle.scenario_text.specs.Runnable.{IsRunnable};
+ghost use Rattle.scenario_text.specs.Planned.{IsPlanned};
 ghost use Rattle.vplsnet.specs.Built.{is_built};
-ghost use Rattle.vplsnet.specs.Made.{made};
-ghost use Rattle.vplsnet.specs.Promises.{KeepsPromises};
-ghost use Rattle.vplsnet.specs.Replay.{Replays};
+ghost use Rattle.vplsnet.specs.Replay.{HasRunAs, Replays, ending_by, outcome_by};
 
 use crate::answer::Answer;
 use crate::built::is_built_scenario;
 use crate::outcome::Outcome;
 use crate::scenario_run::run_of;
 use net_base::{NoMemory, Octets};
+use psn_net::NetStop;
+use report_text::{Ending, report_of};
 use scenario_text::{Scenario, ScenarioFault, read_scenario};
 use std::alloc::Global;
 
 /// The report of the run of a scenario. `ScenarioRefused` comes exactly where the octets have a fault, then `NotBuilt`
-/// where the scenario has something that is not built yet. The one error is want of memory.
+/// where the scenario has something that is not built yet, then `Stopped` where a limit stops its run. The one error is
+/// want of memory.
+#[tactic(auto, using(crate::proofs::ReplayLemmas::replays))]
 pub fn replay(alloc: Global, octets: Octets) -> Result<Answer, NoMemory>
-    ensures { IfOk result (λ answer. Replays octets answer.text.items answer.trace answer.outcome) }
+    ensures { IfOk result (λ answer. Replays octets answer.text.items answer.network answer.outcome) }
 {
     match read_scenario(alloc, octets.as_slice()) {
         Ok(scenario) => {
@@ -36,19 +38,43 @@ pub fn replay(alloc: Global, octets: Octets) -> Result<Answer, NoMemory>
 
 // The report of the run of a scenario within what is built.
 fn replay_built(alloc: Global, scenario: &Scenario) -> Result<Answer, NoMemory>
-    requires runnable { IsRunnable scenario.now }
-    requires built { is_built scenario.now ≡ true }
-    ensures done { IfOk result (λ answer. answer.outcome ≡ Outcome.Done) }
-    ensures trace { IfOk result (λ answer. answer.trace ≡ (run scenario.now.plan (made scenario.now.commands)).entries) }
-    ensures text { IfOk result (λ answer. answer.text.items ≡ report scenario.now.plan answer.trace End) }
-    ensures promises { OnOk result (KeepsPromises scenario.now.plan (made scenario.now.commands)) }
+    requires checked { IsChecked scenario.now.plan }
+    requires planned { All (IsPlanned scenario.now.plan) scenario.now.commands }
+    ensures { IfOk result (λ answer. HasRunAs scenario.now answer.text.items answer.network answer.outcome) }
 {
-    let (trace, text) = run_of(alloc, scenario)?;
+    let (network, stop) = run_of(alloc, scenario)?;
+    let text = report_of(
+        alloc,
+        &scenario.plan,
+        network.trace().as_slice(),
+        ending_of(stop),
+    )?;
     Ok(Answer {
         text,
-        trace,
-        outcome: Outcome::Done,
+        network: Some(network),
+        outcome: outcome_of(stop),
     })
+}
+
+// How the report ends of a run that this limit stopped, or none.
+fn ending_of(stop: Option<NetStop>) -> Ending
+    ensures { result ≡ ending_by stop }
+{
+    match stop {
+        None | Some(NetStop::NoMemory) => Ending::End,
+        Some(NetStop::Crowded { count, .. }) => Ending::Crowded { count },
+        Some(NetStop::TooMuch { weight, .. }) => Ending::TooMuch { weight },
+    }
+}
+
+// The outcome of a run that this limit stopped, or none.
+fn outcome_of(stop: Option<NetStop>) -> Outcome
+    ensures { result ≡ outcome_by stop }
+{
+    match stop {
+        None => Outcome::Done,
+        Some(stop) => Outcome::Stopped(stop),
+    }
 }
 
 // The outcome of a scenario with this fault, which is told as it is; want of memory is no fault of the scenario.

@@ -39,7 +39,7 @@ pub fn run<F: Shelf, K: Sink>(
     ensures status { result.status ≡ status_of result.outcome }
     // Words that ask for nothing, and nothing else, are a usage.
     ensures usage { (result.outcome ≡ Outcome.Usage) ↔ (asked (map string_bytes words.now) ≡ None) }
-    // What each outcome says, its cause among it: what was read, what was taken, and the trace.
+    // What each outcome says, its cause among it: what was read, what was taken, and the network after the run.
     ensures answers { Finishes (record {
       files = F.files shelf.old;
       shelf_before = F.faults shelf.old;
@@ -48,7 +48,7 @@ pub fn run<F: Shelf, K: Sink>(
       taken_after = K.taken sink.new;
       sink_before = K.faults sink.old;
       sink_after = K.faults sink.new;
-    }) (asked (map string_bytes words.now)) result.trace result.outcome }
+    }) (asked (map string_bytes words.now)) result.network result.outcome }
     // A told file is answered by what it is, unless a fault was counted or memory was refused.
     ensures complete { IfSome (asked (map string_bytes words.now)) (λ asked. Completes (record {
       files = F.files shelf.old;
@@ -64,7 +64,7 @@ pub fn run<F: Shelf, K: Sink>(
 {
     match request_of(words) {
         Some(request) => finish_of(alloc, request, shelf, sink),
-        None => Finish::without_run(alloc, Outcome::Usage),
+        None => Finish::without_run(Outcome::Usage),
     }
 }
 
@@ -85,31 +85,31 @@ fn finish_of<F: Shelf, K: Sink>(
       taken_after = K.taken sink.new;
       sink_before = K.faults sink.old;
       sink_after = K.faults sink.new;
-    }) (asked_by request.entry) result.trace result.outcome }
+    }) (asked_by request.entry) result.network result.outcome }
     ensures same_files { F.files shelf.new ≡ F.files shelf.old }
 {
     let octets = match octets_of(alloc, shelf, request.file(), request.limit()) {
         Ok(octets) => octets,
-        Err(outcome) => return Finish::without_run(alloc, outcome),
+        Err(outcome) => return Finish::without_run(outcome),
     };
     let Answer {
         text,
-        trace,
+        network,
         outcome,
     } = match answer_of(alloc, request, octets) {
         Ok(answer) => answer,
-        Err(_) => return Finish::without_run(alloc, Outcome::NoMemory),
+        Err(_) => return Finish::without_run(Outcome::NoMemory),
     };
     match write_text(sink, text.as_slice()) {
-        Ok(()) => Finish::after_run(outcome, trace),
-        Err(_) => Finish::after_run(Outcome::WriteFault, trace),
+        Ok(()) => Finish::after_run(outcome, network),
+        Err(_) => Finish::after_run(Outcome::WriteFault, network),
     }
 }
 
 // What the command makes of the octets of its file.
 fn answer_of(alloc: Global, request: Request<'_>, octets: Octets) -> Result<Answer, NoMemory>
     requires fits { length octets ≤ limit_of (asked_by request) }
-    ensures { IfOk result (λ answer. Makes (asked_by request.entry) octets answer.text.items answer.trace answer.outcome) }
+    ensures { IfOk result (λ answer. Makes (asked_by request.entry) octets answer.text.items answer.network answer.outcome) }
 {
     match request {
         Request::Replay { .. } => replay(alloc, octets),

@@ -1,28 +1,77 @@
-//! The run of a scenario: its trace, and its report as text.
-ghost use Rattle.std.specs.Prelude.{◌≡◌, true, IfOk, OnOk};
-ghost use Rattle.network_model.specs.Run.{run};
-ghost use Rattle.report_text.specs.declared.ending.Ending.TheVariants.{End};
-ghost use Rattle.report_text.specs.Report.{report};
-ghost use Rattle.scenario_text.specs.Runnable.{IsRunnable};
-ghost use Rattle.vplsnet.specs.Built.{is_built};
-ghost use Rattle.vplsnet.specs.Made.{made};
-ghost use Rattle.vplsnet.specs.Promises.{KeepsPromises};
+//! The run of a scenario: each command makes its events, and the network does them in turn.
+ghost use Rattle.std.specs.Prelude.{◌≡◌, ◌∷◌, [], All, IfOk};
+ghost use Rattle.net_base.specs.plan.Accepted.{IsChecked};
+ghost use Rattle.net_base.specs.plan.Planned.{IsEventOf};
+ghost use Rattle.psn_net.specs.Lists.{seen};
+ghost use Rattle.psn_net.specs.Runs.{Gives, ended, ran};
+ghost use Rattle.scenario_text.specs.Planned.{IsPlanned};
+ghost use Rattle.vplsnet.specs.Made.{made, made_by, ticks};
+ghost use Rattle.vplsnet.specs.Replay.{whole_run};
 
-use crate::single_run::replayed;
-use net_base::{NoMemory, Trace};
-use report_text::{Ending, report_of};
-use scenario_text::Scenario;
+use net_base::{Event, NoMemory};
+use psn_net::{NetStop, Network};
+use scenario_text::{Command, Scenario};
 use std::alloc::Global;
 
-/// The trace of a scenario's run and its report. The one error is want of memory.
-pub fn run_of(alloc: Global, scenario: &Scenario) -> Result<(Trace, Vec<u8>), NoMemory>
-    requires runnable { IsRunnable scenario.now }
-    requires built { is_built scenario.now ≡ true }
-    ensures trace { IfOk result (λ made_of. made_of.0 ≡ (run scenario.now.plan (made scenario.now.commands)).entries) }
-    ensures text { IfOk result (λ made_of. made_of.1.items ≡ report scenario.now.plan made_of.0 End) }
-    ensures promises { OnOk result (KeepsPromises scenario.now.plan (made scenario.now.commands)) }
+/// The network as the run of a scenario leaves it, and the limit that stopped the run, where one did. The one error is want
+/// of memory.
+pub fn run_of(alloc: Global, scenario: &Scenario) -> Result<(Network, Option<NetStop>), NoMemory>
+    requires checked { IsChecked scenario.now.plan }
+    requires planned { All (IsPlanned scenario.now.plan) scenario.now.commands }
+    ensures { IfOk result (λ left. ended left.0 left.1 ≡ whole_run scenario.now) }
 {
-    let trace = replayed(alloc, scenario)?;
-    let text = report_of(alloc, &scenario.plan, trace.as_slice(), Ending::End)?;
-    Ok((trace, text))
+    let mut network = Network::open(alloc, &scenario.plan)?;
+    match run_commands(alloc, &mut network, scenario.commands.as_slice()) {
+        Ok(()) => Ok((network, None)),
+        Err(NetStop::NoMemory) => Err(NoMemory),
+        Err(stop) => Ok((network, Some(stop))),
+    }
+}
+
+// Does the events of the commands.
+#[tactic(auto, using(crate::proofs::MadeLemmas::made_steps))]
+fn run_commands(alloc: Global, network: &mut Network, commands: &[Command]) -> Result<(), NetStop>
+    requires planned { All (IsPlanned network.old.plan) commands.now }
+    ensures plan { network.new.plan ≡ network.old.plan }
+    ensures ran { Gives result network.new (ran network.old.plan (seen network.old) network.old.trace (made network.old.plan (seen network.old) commands.now)) }
+{
+    for command in commands {
+        run_command(alloc, network, command)?;
+    }
+    Ok(())
+}
+
+// Does the events of a command.
+fn run_command(alloc: Global, network: &mut Network, command: &Command) -> Result<(), NetStop>
+    requires planned { IsPlanned network.old.plan command.now }
+    ensures plan { network.new.plan ≡ network.old.plan }
+    ensures ran { Gives result network.new (ran network.old.plan (seen network.old) network.old.trace (made_by network.old.plan (seen network.old) command.now)) }
+{
+    match command {
+        Command::One(event) => apply(alloc, network, event),
+        Command::Ticks(count) => run_ticks(alloc, network, *count),
+        _ => Ok(()),
+    }
+}
+
+// Does so many ticks.
+#[tactic(auto, using(crate::proofs::MadeLemmas::tick_steps))]
+fn run_ticks(alloc: Global, network: &mut Network, count: u32) -> Result<(), NetStop>
+    ensures plan { network.new.plan ≡ network.old.plan }
+    ensures ran { Gives result network.new (ran network.old.plan (seen network.old) network.old.trace (ticks count)) }
+{
+    for _done in 0..count {
+        apply(alloc, network, &Event::Tick)?;
+    }
+    Ok(())
+}
+
+// Does an event.
+#[tactic(auto, using(psn_net::proofs::RunLemmas::ran_one, psn_net::proofs::RunLemmas::ran_none))]
+fn apply(alloc: Global, network: &mut Network, event: &Event) -> Result<(), NetStop>
+    requires planned { IsEventOf network.old.plan event.now }
+    ensures plan { network.new.plan ≡ network.old.plan }
+    ensures ran { Gives result network.new (ran network.old.plan (seen network.old) network.old.trace (event.now ∷ [])) }
+{
+    network.apply(alloc, event)
 }

@@ -244,7 +244,7 @@ fn decodes(rt: &impl Abort, alloc: Global, rows: &[Row]) -> Result<(), Fail> {
             if line.is_empty() { 0 } else { 6 },
             "{lines}{line}"
         );
-        assert_eq!(rt; finish.trace.len(), 0, "{lines}{line}");
+        assert_eq!(rt; finish.trace().len(), 0, "{lines}{line}");
         assert_eq!(rt; sink.taken(), lines.as_bytes(), "{lines}{line}");
         let told = line_of(alloc, &finish.outcome)?;
         assert_eq!(rt; told.as_slice(), line.as_bytes());

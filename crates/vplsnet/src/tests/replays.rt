@@ -53,7 +53,7 @@ fn replays_a_broadcast(rt: HostRuntime) -> Result<(), Fail> {
     let (finish, sink) = replay(rt.alloc(), "replay f", BROADCAST, SOUND)?;
     assert!(rt; matches!(finish.outcome, Outcome::Done));
     assert_eq!(rt; finish.status, 0);
-    assert_eq!(rt; finish.trace.len(), 4);
+    assert_eq!(rt; finish.trace().len(), 4);
     assert_eq!(rt; sink.taken(), REPORT.as_bytes());
     Ok(())
 }
@@ -155,7 +155,7 @@ fn answers_what_is_not_built(rt: HostRuntime) -> Result<(), Fail> {
         let (finish, sink) = replay(rt.alloc(), "replay f", events, SOUND)?;
         assert!(rt; matches!(finish.outcome, Outcome::NotBuilt), "{events}");
         assert_eq!(rt; finish.status, 5);
-        assert_eq!(rt; finish.trace.len(), 0);
+        assert_eq!(rt; finish.trace().len(), 0);
         assert_eq!(rt; sink.taken().len(), 0);
     }
     Ok(())
@@ -215,7 +215,7 @@ fn stops_where_a_call_of_the_outside_fails(rt: HostRuntime) -> Result<(), Fail> 
             "room for {room} octets"
         );
         assert_eq!(rt; sink.taken().len(), room);
-        assert_eq!(rt; finish.trace.len(), 4);
+        assert_eq!(rt; finish.trace().len(), 4);
     }
     Ok(())
 }

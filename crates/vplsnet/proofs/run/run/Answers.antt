@@ -19,4 +19,4 @@ returns-in-Some-clause-complete g c =
     } in
     subst (λ (o : Option Asked). IfSome o (λ it. Completes around it c.finish_of.result.outcome))
     c.in-Some.ensures
-    (completes around (asked_by c.in-Some.request) c.finish_of.result.trace c.finish_of.result.outcome c.finish_of.ensures.answers)
+    (completes around (asked_by c.in-Some.request) c.finish_of.result.network c.finish_of.result.outcome c.finish_of.ensures.answers)

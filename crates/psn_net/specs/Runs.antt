@@ -1,0 +1,66 @@
+-- A run of the network: events one after another, up to the limit that stops one.
+use Rattle.std.specs.Prelude.{◌≡◌, ◌++◌, List, [], ◌∷◌, Option, Some, None, Result, Ok, Err}
+use Rattle.net_base.specs.declared.plan.Plan.{Plan}
+use Rattle.net_base.specs.declared.trace.entry.Entry.{Entry}
+use Rattle.net_base.specs.declared.trace.event.Event.{Event}
+use Rattle.network_model.specs.Run.{entries_along, state_after}
+use Rattle.network_model.specs.State.{NetworkState}
+use Rattle.network_model.specs.Step.{step}
+use Rattle.psn_net.specs.declared.net_stop.NetStop.{NetStop}
+use Rattle.psn_net.specs.declared.net_stop.NetStop.TheVariants.{Crowded, TooMuch, NoMemory}
+use Rattle.psn_net.specs.Lists.{NetLists, seen}
+use Rattle.psn_net.specs.Weight.{stop_at}
+
+-- what a run comes to: the state, the whole trace, and the limit that stopped it, where one did
+pub record Ended : Type 0 where
+  pub state : NetworkState
+  pub trace : List Entry
+  pub stop : Option NetStop
+
+abbrev pub unless : Option NetStop → NetworkState → List Entry → Ended → Ended
+unless None state trace rest = rest
+unless (Some stop) state trace rest = record { state = state; trace = trace; stop = Some stop }
+
+-- the events from a state and a trace on; the limit is looked at before each
+abbrev pub ran : Plan → NetworkState → List Entry → List Event → Ended
+ran plan state trace [] = record { state = state; trace = trace; stop = None }
+ran plan state trace (e ∷ es) = unless (stop_at trace) state trace (ran plan (step plan state e).state (trace ++ (step plan state e).entries) es)
+
+-- ---- what contracts say
+
+-- a network as the end of a run
+abbrev pub ended : NetLists → Option NetStop → Ended
+ended network stop = record { state = seen network; trace = network.trace; stop = stop }
+
+-- a run stopped; where memory was refused nothing is said of the network
+abbrev pub Halts : NetStop → NetLists → Ended → Type 0
+Halts (Crowded count event) network end = ended network (Some (Crowded count event)) ≡ end
+Halts (TooMuch weight event) network end = ended network (Some (TooMuch weight event)) ≡ end
+Halts NoMemory network end = Unit {0}
+
+-- the network is what the run comes to
+abbrev pub Gives : {A : Type 0} → Result A NetStop → NetLists → Ended → Type 0
+Gives (Ok done) network end = ended network None ≡ end
+Gives (Err stop) network end = Halts stop network end
+
+-- the network after these events
+pub record HasRun (plan : Plan) (state : NetworkState) (trace : List Entry) (events : List Event) (network : NetLists) : Type 0 where
+  pub state_is : seen network ≡ state_after plan state events
+  pub trace_is : network.trace ≡ trace ++ entries_along plan state events
+
+-- of these events those were done; the limit stopped the next one, where one did, and else all were
+pub record HasStopped (all done : List Event) (trace : List Entry) (stop : NetStop) : Type 0 where
+  pub event : Event
+  pub rest : List Event
+  pub split : all ≡ done ++ event ∷ rest
+  pub refused : stop_at trace ≡ Some stop
+
+abbrev pub AreDone : List Event → List Event → List Entry → Option NetStop → Type 0
+AreDone all done trace None = all ≡ done
+AreDone all done trace (Some stop) = HasStopped all done trace stop
+
+-- a run is that of some first events
+pub record IsRunOf (plan : Plan) (state : NetworkState) (trace : List Entry) (all : List Event) (network : NetLists) (stop : Option NetStop) : Type 0 where
+  pub done : List Event
+  pub are_done : AreDone all done network.trace stop
+  pub ran : HasRun plan state trace done network

@@ -1,0 +1,11 @@
+use Rattle.std.proofs.Common.{◌≡◌, ◌-◌}
+use Rattle.psn_net.specs.Lists.{seen}
+use Rattle.psn_net.specs.Runs.{ran}
+use Rattle.vplsnet.specs.Made.{ticks}
+use Rattle.vplsnet.proofs.scenario_run.run_ticks.Given as goal
+
+abbrev pub invariant-loop-done : goal.invariant-loop-done
+invariant-loop-done l = record {
+  plan : l.network.plan ≡ l.fn.network.plan;
+  ran : ran l.fn.network.plan (seen l.network) l.network.trace (ticks (l.count - l._done)) ≡ ran l.fn.network.plan (seen l.fn.network) l.fn.network.trace (ticks l.count);
+}
