@@ -11,6 +11,7 @@ pub mod ReadingLemmas
 pub mod ReadingOf
 pub mod TellingLemmas
 pub mod PduReading
+pub mod ShortLemmas
 pub mod WrittenLemmas
 pub mod WrittenOctets
 pub mod RoundTripLemmas

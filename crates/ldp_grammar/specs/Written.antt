@@ -240,3 +240,8 @@ Fits (Unprocessed id number why) = id < 2 ^ 32
 pub record WrittenIsRead : Type 0 where
   pub read : (max : ℕ) (m : Message) (id : LdpId) → max ≤ 4096 → writable m ≡ true → Fits m → IsId id → 6 + length (message_octets m) ≤ max → Spells (written m id) max (record { id = id; messages = m ∷ [] })
   pub no_front : (max : ℕ) (p q : Pdu) (bytes more : List ℕ) → max ≤ 4096 → Spells bytes max p → Spells (bytes ++ more) max q → more ≡ []
+
+-- A PDU of one message without addresses, and with few MAC addresses, keeps to every maximum of a session: its PDU Length is at
+-- most 256 (RFC 5036 section 3.5.3).
+abbrev pub WrittenIsShort : Type 0
+WrittenIsShort = (m : Message) → Fits m → address_octets m ≡ 0 → mac_count m ≤ 16 → 6 + length (message_octets m) ≤ 256

@@ -1,7 +1,7 @@
 //! What holds of the octets of every PDU.
 ghost use Rattle.ldp_grammar.specs.FirstFault.{OneReading};
 ghost use Rattle.ldp_grammar.specs.Reading.{EachIsRead};
-ghost use Rattle.ldp_grammar.specs.Written.{WrittenIsRead};
+ghost use Rattle.ldp_grammar.specs.Written.{WrittenIsRead, WrittenIsShort};
 
 /// Octets spell one PDU at most, have one first fault at most, and never both. The maximum is one of a session, at
 /// most 4096.
@@ -19,4 +19,10 @@ pub fn each_is_read()
 /// keep to; and the octets of no PDU are the front of another's.
 pub fn written_is_read()
     ensures { WrittenIsRead }
+{}
+
+/// A message without addresses and with at most 16 MAC addresses, whose fields fit, has a PDU Length of at most 256 in a PDU
+/// of its own, which every maximum of a session allows (RFC 5036 section 3.5.3).
+pub fn written_is_short()
+    ensures { WrittenIsShort }
 {}

@@ -30,7 +30,7 @@ pub use fault::Fault;
 pub use headers::{
     LEAST_LENGTH, LENGTH_HEADER, MESSAGE_HEADER, PDU_HEADER, TLV_HEADER, U_BIT, VERSION,
 };
-pub use laws::{each_is_read, one_reading, written_is_read};
+pub use laws::{each_is_read, one_reading, written_is_read, written_is_short};
 pub use layout::{field_of_type, is_fitting, most_of};
 pub use ldp_id::LdpId;
 pub use message::Message;
