@@ -1,5 +1,5 @@
 -- What was asked for is what the words ask for.
-use Rattle.std.proofs.Common.{List, ℕ, Option, IfSome, subst}
+use Rattle.std.proofs.Common.{Option, IfSome, subst}
 use Rattle.vplsnet.specs.Answers.{Completes}
 use Rattle.vplsnet.specs.Around.{Around}
 use Rattle.vplsnet.specs.Asked.{Asked, asked_by}
