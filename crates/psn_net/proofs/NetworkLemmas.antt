@@ -64,7 +64,6 @@ driving n me now calls effects input h planned took =
       begins : edge_step (edge_lists n me.0).plan taken_all input (beginning (edge.seen (edge_lists n me.0)) []) ≡ edge_step n.plan taken_all input (begin_at (seen n) me)
       begins = ap (λ (p : Plan). edge_step p taken_all input (beginning (edge.seen (edge_lists n me.0)) [])) planned
 
-
 same_default : {X : Type 0} (xs : List X) (i : ℕ) (d e : X) → i < length xs → slice_index_or xs i d ≡ slice_index_or xs i e
 same_default [] i d e below = absurd (omega arith)
 same_default (x ∷ xs) zero d e below = refl

@@ -12,3 +12,6 @@ mod psn_link;
 
 pub use net_stop::NetStop;
 pub use network::Network;
+
+#[cfg(test)]
+mod tests;
