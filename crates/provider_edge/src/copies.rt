@@ -14,6 +14,7 @@ use net_base::{CircuitId, List, NoMemory, Octets, Plan};
 use std::alloc::Global;
 
 /// The copies of an inner frame by those ports that are targets, in port order.
+#[tactic(auto, using(crate::proofs::CopyLemmas::copied_here, crate::proofs::CopyLemmas::copied_not, crate::proofs::CopyLemmas::copies_end))]
 pub fn put_copies(
     alloc: Global,
     plan: &Plan,
@@ -35,6 +36,7 @@ pub fn put_copies(
 }
 
 // The copy by a port: at a circuit the frame with the circuit's tag.
+#[tactic(auto, using(crate::proofs::CopyLemmas::given_more))]
 fn put_copy(
     alloc: Global,
     plan: &Plan,

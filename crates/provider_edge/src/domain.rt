@@ -22,6 +22,7 @@ pub struct Domain {
 }
 
 /// The domain of each service that has a port at the edge, in the plan's order, with every circuit on.
+#[tactic(auto, using(crate::proofs::EachLemmas::new_next))]
 pub fn open_domains(alloc: Global, plan: &Plan, me: EdgeId) -> Result<Vec<Option<Domain>>, NoMemory>
     requires services { length plan.now.services ≤ 64 }
     requires circuits { length plan.now.circuits ≤ 512 }
@@ -128,6 +129,7 @@ impl Domain {
 }
 
 /// Each bridge forgets what it has not heard for as long as its age limit.
+#[tactic(auto, using(crate::proofs::EachLemmas::each_next, crate::proofs::EachLemmas::each_at))]
 pub fn forget_all(domains: &mut Vec<Option<Domain>>, now: u64)
     requires { All (KeptNotAfter now) domains.old.items }
     ensures { domains.new.items ≡ map (aged_kept now) domains.old.items }

@@ -64,6 +64,7 @@ impl Edge {
     }
 
     /// The same over a plan that other edges hold too.
+    #[tactic(auto, using(crate::proofs::KeptLemmas::edge_new, crate::proofs::KeptLemmas::seen_new))]
     pub fn share(alloc: Global, plan: Rc<Plan>, me: EdgeId) -> Result<Edge, NoMemory>
         requires checked { IsChecked plan.value }
         requires me { me.0 < length plan.value.edges }
@@ -90,6 +91,7 @@ impl Edge {
     /// a `Status` are at most 31.
     ///
     /// `NoMemory` where memory was refused; from then on the edge is given up, and answers `Stopped` to every input.
+    #[tactic(auto, using(crate::proofs::EffectLemmas::steps_fit, crate::proofs::EffectLemmas::steps_tell, crate::proofs::EffectLemmas::steps_local, crate::proofs::EffectLemmas::goes_nowhere))]
     pub fn take<L: Link>(
         &mut self,
         alloc: Global,
@@ -159,6 +161,7 @@ impl Edge {
     }
 
     /// The bridge of a service; `None` exactly where the plan has no such service, or the service no port at the edge.
+    #[tactic(auto, using(crate::proofs::KeptLemmas::bridge_there, crate::proofs::KeptLemmas::bridge_learned, crate::proofs::KeptLemmas::bridge_none, crate::proofs::KeptLemmas::bridge_past))]
     pub fn bridge(&self, service: ServiceId) -> Option<&Bridge>
         ensures none { IsNone result ↔ ((service_row self.now.plan service ≡ None) ⊎ (ports_of self.now.plan service self.now.me ≡ [])) }
         ensures learned { IfSome result (λ bridge. bridge.now.entries ≡ addresses_of (seen self.now) service) }

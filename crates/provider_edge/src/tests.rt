@@ -1,4 +1,5 @@
 //! One edge takes inputs over a link in memory.
+ghost use Rattle.provider_edge.specs.Taking.{IsInRange};
 
 use crate::{Edge, EdgeStop};
 use edge_model::{Effect, Effects, Input};
@@ -89,10 +90,9 @@ fn opened(alloc: Global) -> Result<Edge, Fail> {
 }
 
 // Takes an input over a link without faults, which keeps its calls.
-fn took(alloc: Global, edge: &mut Edge, input: Input<'_>) -> Result<Effects, Fail> {
-    if let Input::Status { .. } = input {
-        return Err(Fail::new("no status"));
-    }
+fn took(alloc: Global, edge: &mut Edge, input: Input<'_>) -> Result<Effects, Fail>
+    requires { IsInRange input }
+{
     let mut link = MemLink::new(alloc, List::new(alloc))?;
     let effects = edge.take(alloc, input, &mut link);
     if link.calls().len() > 0 {

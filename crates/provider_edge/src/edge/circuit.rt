@@ -16,6 +16,7 @@ use std::alloc::Global;
 
 impl Edge {
     // The edge turns a circuit of its own that is not so already.
+    #[tactic(auto, using(crate::proofs::WorkLemmas::circuit_other, crate::proofs::WorkLemmas::circuit_already, crate::proofs::WorkLemmas::circuit_turned_on, crate::proofs::WorkLemmas::circuit_turned_off, crate::proofs::WorkLemmas::still_own, crate::proofs::WorkLemmas::keeps_both))]
     pub(crate) fn circuit(&mut self, alloc: Global, circuit: CircuitId, on: bool) -> Effects
         ensures keeps { Keeps self.old self.new }
         ensures step { (calls : List LinkCall) → worked self.new calls result ≡ circuit_input self.old.plan circuit on (circuit_row self.old.plan circuit) (beginning (seen self.old) calls) }
@@ -27,32 +28,37 @@ impl Edge {
             return idle(alloc);
         }
         self.turn(circuit, service, on);
-        if !on {
-            self.forget_circuit(circuit, service);
+        if on {
+            return nothing(alloc);
         }
+        self.forget_circuit(circuit, service);
         nothing(alloc)
     }
 
     // Turns a circuit of the edge.
+    #[tactic(auto, using(crate::proofs::KeptLemmas::edge_turned, crate::proofs::KeptLemmas::seen_turned, crate::proofs::KeptLemmas::own_kept, crate::proofs::OwnLemmas::own_within))]
     fn turn(&mut self, circuit: CircuitId, service: ServiceId, on: bool)
         requires own { own_service (seen self.old) (circuit_row self.old.plan circuit) ≡ Some service }
         ensures keeps { Keeps self.old self.new }
         ensures step { seen self.new ≡ with_circuit circuit on (seen self.old) }
     {
         self.circuits_on[circuit.0 as usize] = on;
-        if let Some(domain) = &mut self.domains[service.0 as usize] {
-            domain.turn(circuit, on);
-        }
+        let Some(domain) = &mut self.domains[service.0 as usize] else {
+            return;
+        };
+        domain.turn(circuit, on);
     }
 
     // The bridge forgets what it learned at a circuit of the edge.
+    #[tactic(auto, using(crate::proofs::KeptLemmas::edge_put, crate::proofs::KeptLemmas::seen_put, crate::proofs::KeptLemmas::own_kept, crate::proofs::OwnLemmas::own_within))]
     fn forget_circuit(&mut self, circuit: CircuitId, service: ServiceId)
         requires own { own_service (seen self.old) (circuit_row self.old.plan circuit) ≡ Some service }
         ensures keeps { Keeps self.old self.new }
         ensures step { seen self.new ≡ with_addresses service (without_port (position (is_circuit_port circuit) (ports_of self.old.plan service self.old.me)) (addresses_of (seen self.old) service)) (seen self.old) }
     {
-        if let Some(domain) = &mut self.domains[service.0 as usize] {
-            domain.forget_circuit(circuit);
-        }
+        let Some(domain) = &mut self.domains[service.0 as usize] else {
+            return;
+        };
+        domain.forget_circuit(circuit);
     }
 }

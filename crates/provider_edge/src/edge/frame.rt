@@ -1,5 +1,5 @@
 //! A customer's frame comes by a circuit.
-ghost use Rattle.std.specs.Prelude.{◌≡◌, ◌<◌, ◌≤◌, length, position, List, Some, true, IfOk};
+ghost use Rattle.std.specs.Prelude.{◌≡◌, ◌==◌, ◌<◌, ◌≤◌, length, position, List, Some, true, IfOk};
 ghost use Rattle.net_base.specs.declared.outside.link_call.LinkCall.{LinkCall};
 ghost use Rattle.net_base.specs.plan.Places.{circuit_row};
 ghost use Rattle.net_base.specs.trace.Isolated.{inner_at};
@@ -16,11 +16,12 @@ use crate::inner_frame::read_inner;
 use crate::quiet::{dropped, idle, nothing};
 use edge_model::Effects;
 use hvpls_spokes::PortSet;
-use net_base::{CircuitId, NoMemory, ServiceId};
+use net_base::{CircuitId, CircuitPlan, EdgeId, NoMemory, ServiceId};
 use std::alloc::Global;
 
 impl Edge {
     // A frame comes by a circuit of the edge that is on.
+    #[tactic(auto, using(crate::proofs::WorkLemmas::frame_other, crate::proofs::WorkLemmas::frame_off, crate::proofs::WorkLemmas::frame_on))]
     pub(crate) fn frame(
         &mut self,
         alloc: Global,
@@ -40,16 +41,18 @@ impl Edge {
     }
 
     // The service of a circuit of the edge.
+    #[tactic(auto, unfolding(crate::specs::Lists::seen))]
     pub(crate) fn own_service(&self, circuit: CircuitId) -> Option<ServiceId>
         ensures { result ≡ own_service (seen self.now) (circuit_row self.now.plan circuit) }
     {
         match self.plan.circuits.get(circuit.0 as usize) {
-            Some(row) if row.edge == self.me => Some(row.service),
+            Some(row) if is_at(row, self.me) => Some(row.service),
             Some(_) | None => None,
         }
     }
 
     // A frame comes by a circuit of the edge that is on: it is read before anything changes.
+    #[tactic(auto, using(crate::proofs::WorkLemmas::received_none, crate::proofs::WorkLemmas::received_some))]
     fn receive(
         &mut self,
         alloc: Global,
@@ -69,6 +72,7 @@ impl Edge {
     }
 
     // An inner frame comes by a circuit of the edge that is on: the bridge hears it, and then the copies are made.
+    #[tactic(auto, using(crate::proofs::WorkLemmas::forwarded_none, crate::proofs::WorkLemmas::forwarded_some, crate::proofs::OwnLemmas::own_within, crate::proofs::PortLemmas::found_is_on))]
     fn forward(
         &mut self,
         alloc: Global,
@@ -109,10 +113,10 @@ impl Edge {
         ensures hears { seen self.new ≡ hearing service frame.now arrival (seen self.old) }
         ensures targets { has result ≡ targets_of self.old.plan (seen self.new) service (ports_of self.old.plan service self.old.me) frame.now arrival }
     {
-        match &mut self.domains[service.0 as usize] {
-            Some(domain) => domain.hear(arrival, frame, self.ticks),
-            None => PortSet::empty(),
-        }
+        let Some(domain) = &mut self.domains[service.0 as usize] else {
+            return PortSet::empty();
+        };
+        domain.hear(arrival, frame, self.ticks)
     }
 
     // The copies of an inner frame by those ports of a service that are targets.
@@ -127,12 +131,17 @@ impl Edge {
         requires header { 14 ≤ length frame.now }
         ensures { IfOk result (λ effects. (told : Answers) (calls : List LinkCall) → worked self.now calls effects ≡ copies (has targets.now) (copy_by self.now.plan told frame.now) 0 (ports_of self.now.plan service self.now.me) (beginning (seen self.now) calls)) }
     {
-        match &self.domains[service.0 as usize] {
-            Some(domain) => Ok(Effects {
-                idle: false,
-                list: put_copies(alloc, &self.plan, domain.bridge.ports(), targets, frame)?,
-            }),
-            None => Ok(nothing(alloc)),
-        }
+        let Some(domain) = &self.domains[service.0 as usize] else {
+            return Ok(nothing(alloc));
+        };
+        let list = put_copies(alloc, &self.plan, domain.bridge.ports(), targets, frame)?;
+        Ok(Effects { idle: false, list })
     }
+}
+
+// Whether the circuit with this row lies at the edge.
+fn is_at(row: &CircuitPlan, edge: EdgeId) -> bool
+    ensures { result ≡ (row.now.edge.0 == edge.0) }
+{
+    row.edge == edge
 }

@@ -14,6 +14,7 @@ use std::alloc::Global;
 
 impl Edge {
     // The edge counts the tick, and then its bridges forget.
+    #[tactic(auto, using(crate::proofs::WorkLemmas::tick_done, crate::proofs::WorkLemmas::keeps_both))]
     pub(crate) fn tick(&mut self, alloc: Global) -> Effects
         ensures keeps { Keeps self.old self.new }
         ensures step { (calls : List LinkCall) → worked self.new calls result ≡ tick_input self.old.plan (beginning (seen self.old) calls) }
@@ -24,7 +25,7 @@ impl Edge {
     }
 
     // One tick more.
-    #[tactic(auto, using(crate::proofs::Invariant::edge_later), unfolding(crate::specs::Lists::seen, edge_model::specs::State::with_ticks))]
+    #[tactic(auto, using(crate::proofs::KeptLemmas::edge_later), unfolding(crate::specs::Lists::seen, edge_model::specs::State::with_ticks))]
     fn count_tick(&mut self)
         ensures keeps { Keeps self.old self.new }
         ensures step { seen self.new ≡ with_ticks (later self.old.ticks) (seen self.old) }
@@ -33,6 +34,7 @@ impl Edge {
     }
 
     // Each bridge forgets what it has not heard for as long as its age limit.
+    #[tactic(auto, using(crate::proofs::KeptLemmas::edge_aged, crate::proofs::KeptLemmas::seen_aged, crate::proofs::KeptLemmas::none_later))]
     fn forget(&mut self)
         ensures keeps { Keeps self.old self.new }
         ensures step { seen self.new ≡ forgetting self.old.plan (seen self.old) }
