@@ -369,3 +369,22 @@ bridge_none e service is found =
 
 pub bridge_past : (e : EdgeLists) (service : ServiceId) → IsEdge e → slice_get e.domains service.0 ≡ None → service_row e.plan service ≡ None
 bridge_past e service is found = slice_get_past e.plan.services service.0 (omega (arith, is.services, none_past e.domains service.0 found))
+
+-- ---- an edge that is given up
+
+pub edge_stopped : (e : EdgeLists) (stopped : Bool) → IsEdge e → IsEdge (record e { stopped = stopped })
+unfolding seen
+edge_stopped e stopped is = record { planned = is.planned; circuits = is.circuits; services = is.services; domains = is.domains }
+
+-- where no bridge is lent, and where one is
+abbrev pub HasNone : EdgeLists → ServiceId → Type 0
+HasNone e service = (service_row e.plan service ≡ None) ⊎ (ports_of e.plan service e.me ≡ [])
+
+pub lent_some : (e : EdgeLists) (service : ServiceId) (domain : Domain) → IsEdge e → slice_get e.domains service.0 ≡ Some (Some domain) → (true ≡ false → HasNone e service) × (HasNone e service → true ≡ false)
+lent_some e service domain is found = (λ lent. absurd (cc (lent)), λ none. absurd (bridge_there e service domain is found none))
+
+pub lent_none : (e : EdgeLists) (service : ServiceId) → IsEdge e → slice_get e.domains service.0 ≡ Some None → (false ≡ false → HasNone e service) × (HasNone e service → false ≡ false)
+lent_none e service is found = (λ lent. inr (bridge_none e service is found), λ none. refl)
+
+pub lent_past : (e : EdgeLists) (service : ServiceId) → IsEdge e → slice_get e.domains service.0 ≡ None → (false ≡ false → HasNone e service) × (HasNone e service → false ≡ false)
+lent_past e service is found = (λ lent. inl (bridge_past e service is found), λ none. refl)

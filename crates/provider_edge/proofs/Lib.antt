@@ -1,3 +1,4 @@
+pub mod ChangeLemmas
 pub mod CopyLemmas
 pub mod EachLemmas
 pub mod EffectLemmas

@@ -1,6 +1,7 @@
 -- The work of an edge on one input, exit by exit.
 use Rattle.std.proofs.Common.{◌≡◌, ◌++◌, ◌&&◌, ◌∙◌, ℕ, Bool, true, false, List, [], ◌∷◌, Option, Some, None, Result, Ok, Err, cond, not, position, refl, ap, sym, subst}
 use Rattle.std.proofs.Math.Bool.{beq}
+use Rattle.std.specs.Prelude.{IfOk}
 use Rattle.net_base.specs.declared.outside.link_call.LinkCall.{LinkCall}
 use Rattle.net_base.specs.declared.plan.Plan.{Plan}
 use Rattle.net_base.specs.declared.plan.circuit_plan.CircuitPlan.{CircuitPlan}
@@ -8,6 +9,7 @@ use Rattle.net_base.specs.declared.plan.places.CircuitId.{CircuitId}
 use Rattle.net_base.specs.declared.plan.places.EdgeId.{EdgeId}
 use Rattle.net_base.specs.declared.plan.places.ServiceId.{ServiceId}
 use Rattle.net_base.specs.declared.trace.drop_cause.DropCause.{DropCause}
+use Rattle.net_base.specs.declared.values.no_memory.NoMemory.{NoMemory}
 use Rattle.net_base.specs.plan.Places.{circuit_row}
 use Rattle.net_base.specs.trace.Isolated.{inner_at}
 use Rattle.hvpls_spokes.specs.declared.port.Port.{Port}
@@ -169,3 +171,31 @@ forwarded_some e now told service frame found arrival targets calls work is keep
     ∙ (ap (λ (m : EdgeId). copies targets (copy_by e.plan told frame) 0 (ports_of e.plan service m) (beginning (seen now) calls)) keeps.me
     ∙ (ap (λ (t : ℕ → Bool). copies t (copy_by e.plan told frame) 0 (ports_of e.plan service e.me) (beginning (seen now) calls)) chosen
     ∙ ap (λ (s : EdgeState). copies (targets_of e.plan s service (ports_of e.plan service e.me) frame arrival) (copy_by e.plan told frame) 0 (ports_of e.plan service e.me) (beginning s calls)) hears))))
+
+-- ---- answers that may be want of memory
+
+pub frame_done : (r : Result Effects NoMemory) (e now : EdgeLists) (circuit : CircuitId) (octets : List ℕ) (row : Option CircuitPlan) (service : ServiceId) → own_service (seen e) row ≡ Some service → is_on (seen e) circuit ≡ true
+    → IfOk r (λ effects. (told : Answers) (calls : List LinkCall) → worked now calls effects ≡ received e.plan told service (position (is_circuit_port circuit) (ports_of e.plan service e.me)) (inner_at e.plan circuit octets) (beginning (seen e) calls))
+    → IfOk r (λ effects. (told : Answers) (calls : List LinkCall) → worked now calls effects ≡ frame_input e.plan told circuit octets row (beginning (seen e) calls))
+frame_done (Ok effects) e now circuit octets row service own on done = λ told calls. frame_on e told circuit octets row service calls (worked now calls effects) own on (done told calls)
+frame_done (Err stop) e now circuit octets row service own on done = tt
+
+pub received_done : (r : Result Effects NoMemory) (e now : EdgeLists) (service : ServiceId) (arrival : Option ℕ) (read : Result (List ℕ) DropCause) (frame : List ℕ) → read ≡ Ok frame
+    → IfOk r (λ effects. (told : Answers) (calls : List LinkCall) → worked now calls effects ≡ forwarded e.plan told service frame arrival (beginning (seen e) calls))
+    → IfOk r (λ effects. (told : Answers) (calls : List LinkCall) → worked now calls effects ≡ received e.plan told service arrival read (beginning (seen e) calls))
+received_done (Ok effects) e now service arrival read frame is done = λ told calls. received_some e told service arrival read frame calls (worked now calls effects) is (done told calls)
+received_done (Err stop) e now service arrival read frame is done = tt
+
+pub forwarded_done : (r : Result Effects NoMemory) (e now : EdgeLists) (service : ServiceId) (frame : List ℕ) (found : Option ℕ) (arrival : ℕ) (targets : ℕ → Bool) → found ≡ Some arrival → Keeps e now
+    → seen now ≡ hearing service frame arrival (seen e)
+    → targets ≡ targets_of e.plan (seen now) service (ports_of e.plan service e.me) frame arrival
+    → IfOk r (λ effects. (told : Answers) (calls : List LinkCall) → worked now calls effects ≡ copies targets (copy_by now.plan told frame) 0 (ports_of now.plan service now.me) (beginning (seen now) calls))
+    → IfOk r (λ effects. (told : Answers) (calls : List LinkCall) → worked now calls effects ≡ forwarded e.plan told service frame found (beginning (seen e) calls))
+forwarded_done (Ok effects) e now service frame found arrival targets is keeps hears chosen done = λ told calls. forwarded_some e now told service frame found arrival targets calls (worked now calls effects) is keeps hears chosen (done told calls)
+forwarded_done (Err stop) e now service frame found arrival targets is keeps hears chosen done = tt
+
+-- ---- inputs that are to come
+
+pub idle_done : (e : EdgeLists) (calls : List LinkCall) → worked e calls (no_effects true) ≡ idles (beginning (seen e) calls)
+unfolding worked idles
+idle_done e calls = refl

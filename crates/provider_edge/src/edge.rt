@@ -91,7 +91,7 @@ impl Edge {
     /// a `Status` are at most 31.
     ///
     /// `NoMemory` where memory was refused; from then on the edge is given up, and answers `Stopped` to every input.
-    #[tactic(auto, using(crate::proofs::EffectLemmas::steps_fit, crate::proofs::EffectLemmas::steps_tell, crate::proofs::EffectLemmas::steps_local, crate::proofs::EffectLemmas::goes_nowhere))]
+    #[tactic(auto, using(crate::proofs::EffectLemmas::steps_fit, crate::proofs::EffectLemmas::steps_tell, crate::proofs::EffectLemmas::steps_local, crate::proofs::EffectLemmas::goes_nowhere, crate::proofs::KeptLemmas::edge_stopped))]
     pub fn take<L: Link>(
         &mut self,
         alloc: Global,
@@ -125,6 +125,7 @@ impl Edge {
     }
 
     // What the edge makes of an input. No input makes a call of the link yet.
+    #[tactic(auto, using(crate::proofs::WorkLemmas::idle_done))]
     fn work(&mut self, alloc: Global, input: Input<'_>) -> Result<Effects, NoMemory>
         ensures keeps { Keeps self.old self.new }
         ensures step { IfOk result (λ effects. (told : Answers) (calls : List LinkCall) → worked self.new calls effects ≡ edge_step self.old.plan told input.entry (beginning (seen self.old) calls)) }
@@ -133,7 +134,15 @@ impl Edge {
             Input::Tick => Ok(self.tick(alloc)),
             Input::Frame { circuit, bytes } => self.frame(alloc, circuit, bytes),
             Input::Circuit { circuit, on } => Ok(self.circuit(alloc, circuit, on)),
-            _ => Ok(idle(alloc)),
+            Input::Connected { .. }
+            | Input::Octets { .. }
+            | Input::Lost { .. }
+            | Input::Restart
+            | Input::Packet { .. }
+            | Input::Wire { .. }
+            | Input::Status { .. }
+            | Input::Priority { .. }
+            | Input::Ping { .. } => Ok(idle(alloc)),
         }
     }
 
@@ -161,14 +170,14 @@ impl Edge {
     }
 
     /// The bridge of a service; `None` exactly where the plan has no such service, or the service no port at the edge.
-    #[tactic(auto, using(crate::proofs::KeptLemmas::bridge_there, crate::proofs::KeptLemmas::bridge_learned, crate::proofs::KeptLemmas::bridge_none, crate::proofs::KeptLemmas::bridge_past))]
+    #[tactic(auto, using(crate::proofs::KeptLemmas::lent_some, crate::proofs::KeptLemmas::lent_none, crate::proofs::KeptLemmas::lent_past, crate::proofs::KeptLemmas::bridge_learned))]
     pub fn bridge(&self, service: ServiceId) -> Option<&Bridge>
         ensures none { IsNone result ↔ ((service_row self.now.plan service ≡ None) ⊎ (ports_of self.now.plan service self.now.me ≡ [])) }
         ensures learned { IfSome result (λ bridge. bridge.now.entries ≡ addresses_of (seen self.now) service) }
     {
-        match self.domains.get(service.0 as usize) {
-            Some(Some(domain)) => Some(&domain.bridge),
-            Some(None) | None => None,
+        match self.domains.get(service.0 as usize)? {
+            Some(domain) => Some(&domain.bridge),
+            None => None,
         }
     }
 

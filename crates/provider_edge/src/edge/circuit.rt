@@ -42,11 +42,11 @@ impl Edge {
         ensures keeps { Keeps self.old self.new }
         ensures step { seen self.new ≡ with_circuit circuit on (seen self.old) }
     {
-        self.circuits_on[circuit.0 as usize] = on;
         let Some(domain) = &mut self.domains[service.0 as usize] else {
             return;
         };
         domain.turn(circuit, on);
+        self.circuits_on[circuit.0 as usize] = on;
     }
 
     // The bridge forgets what it learned at a circuit of the edge.

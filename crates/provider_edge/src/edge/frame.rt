@@ -21,7 +21,7 @@ use std::alloc::Global;
 
 impl Edge {
     // A frame comes by a circuit of the edge that is on.
-    #[tactic(auto, using(crate::proofs::WorkLemmas::frame_other, crate::proofs::WorkLemmas::frame_off, crate::proofs::WorkLemmas::frame_on))]
+    #[tactic(auto, using(crate::proofs::WorkLemmas::frame_other, crate::proofs::WorkLemmas::frame_off, crate::proofs::WorkLemmas::frame_done))]
     pub(crate) fn frame(
         &mut self,
         alloc: Global,
@@ -52,7 +52,7 @@ impl Edge {
     }
 
     // A frame comes by a circuit of the edge that is on: it is read before anything changes.
-    #[tactic(auto, using(crate::proofs::WorkLemmas::received_none, crate::proofs::WorkLemmas::received_some))]
+    #[tactic(auto, using(crate::proofs::WorkLemmas::received_none, crate::proofs::WorkLemmas::received_done))]
     fn receive(
         &mut self,
         alloc: Global,
@@ -72,7 +72,7 @@ impl Edge {
     }
 
     // An inner frame comes by a circuit of the edge that is on: the bridge hears it, and then the copies are made.
-    #[tactic(auto, using(crate::proofs::WorkLemmas::forwarded_none, crate::proofs::WorkLemmas::forwarded_some, crate::proofs::OwnLemmas::own_within, crate::proofs::PortLemmas::found_is_on))]
+    #[tactic(auto, using(crate::proofs::WorkLemmas::forwarded_none, crate::proofs::WorkLemmas::forwarded_done, crate::proofs::OwnLemmas::own_within, crate::proofs::PortLemmas::found_is_on))]
     fn forward(
         &mut self,
         alloc: Global,
@@ -94,9 +94,11 @@ impl Edge {
     }
 
     // The port of a circuit of the edge.
+    #[tactic(auto, using(crate::proofs::OwnLemmas::own_within))]
     fn port_of(&self, circuit: CircuitId, service: ServiceId) -> Option<u16>
         requires own { own_service (seen self.now) (circuit_row self.now.plan circuit) ≡ Some service }
-        ensures { result ≡ position (is_circuit_port circuit) (ports_of self.now.plan service self.now.me) }
+        ensures port { result ≡ position (is_circuit_port circuit) (ports_of self.now.plan service self.now.me) }
+        ensures within { service.0 < length self.now.plan.services }
     {
         match &self.domains[service.0 as usize] {
             Some(domain) => domain.port_of(circuit),

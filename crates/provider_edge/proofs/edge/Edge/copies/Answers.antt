@@ -1,0 +1,34 @@
+use Rattle.std.proofs.Common.{◌≡◌, ◌<◌, ◌∙◌, ℕ, true, false, List, [], Option, Some, None, Result, length, position, ap, sym, subst, refl}
+use Rattle.net_base.specs.declared.outside.link_call.LinkCall.{LinkCall}
+use Rattle.net_base.specs.plan.Places.{circuit_row, service_row}
+use Rattle.hvpls_spokes.specs.declared.port.Port.{Port}
+use Rattle.hvpls_spokes.specs.Port.{is_circuit_port, ports_of}
+use Rattle.hvpls_spokes.specs.PortSet.{has}
+use Rattle.vsi_bridge.specs.Targets.{heard}
+use Rattle.edge_model.specs.Circuit.{without_port}
+use Rattle.edge_model.specs.Frame.{copies, copy_by, hearing, port_forwards, source, targets_of}
+use Rattle.edge_model.specs.State.{addresses_of, with_addresses, with_circuit}
+use Rattle.edge_model.specs.Work.{beginning}
+use Rattle.provider_edge.specs.declared.domain.Domain.{Domain}
+use Rattle.provider_edge.specs.Invariant.{IsEdge}
+use Rattle.provider_edge.specs.Lists.{EdgeLists, own_service, seen, worked}
+use Rattle.provider_edge.proofs.ChangeLemmas.{IsOwn, WasRead, copied_all, copied_none, forgot_seen, heard_seen, heard_targets, no_ports, on_at, on_nowhere, own_read, own_somewhere, put_edge, put_kept, the_ports, ticks_at, turn_kept, turn_seen, within_at}
+use Rattle.provider_edge.proofs.KeptLemmas.{turned_edge}
+use Rattle.provider_edge.proofs.edge.Edge.copies.Goals as goal
+
+pub returns-in_default : goal.returns-in_default
+returns-in_default c =
+    λ told calls.
+    let v : EdgeLists = record { plan = c.self.inside.plan.value; me = c.self.inside.me; circuits_on = c.self.inside.circuits_on.items; domains = c.self.inside.domains.items; ticks = c.self.inside.ticks; stopped = c.self.inside.stopped } in
+    let was : WasRead v c.args.service c.index.result.now = record { is = c.self.invariant; within = subst (λ (n : EdgeLists). c.args.service.0 < length n.plan.services) (sym c.self.view_is) c.requires.service; read = c.index.ensures } in
+    ap (worked c.args.self.now calls) c.nothing.ensures
+    ∙ subst (λ (n : EdgeLists). worked n calls (record { idle = false; list = [] }) ≡ copies (has c.args.targets.now) (copy_by n.plan told c.args.frame.now) 0 (ports_of n.plan c.args.service n.me) (beginning (seen n) calls)) c.self.view_is
+    (copied_none v c.args.service c.index.result.now (has c.args.targets.now) c.args.frame.now told calls was c.in_default.is)
+
+pub returns : goal.returns
+returns c =
+    λ told calls.
+    let v : EdgeLists = record { plan = c.self.inside.plan.value; me = c.self.inside.me; circuits_on = c.self.inside.circuits_on.items; domains = c.self.inside.domains.items; ticks = c.self.inside.ticks; stopped = c.self.inside.stopped } in
+    let was : WasRead v c.args.service c.index.result.now = record { is = c.self.invariant; within = subst (λ (n : EdgeLists). c.args.service.0 < length n.plan.services) (sym c.self.view_is) c.requires.service; read = c.index.ensures } in
+    subst (λ (n : EdgeLists). worked n calls (record { idle = false; list = c.in_ok-list.list }) ≡ copies (has c.args.targets.now) (copy_by n.plan told c.args.frame.now) 0 (ports_of n.plan c.args.service n.me) (beginning (seen n) calls)) c.self.view_is
+    (copied_all v c.args.service c.index.result.now c.in-Some.domain (has c.args.targets.now) c.deref.result.now c.ports.result.now c.args.frame.now c.in_ok-list.list told calls was c.in-Some.is c.deref.ensures c.ports.ensures c.in_ok-list.ensures)
