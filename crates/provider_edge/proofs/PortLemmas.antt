@@ -82,5 +82,5 @@ circuit_found plan circuit row me is at =
     let serve : is_circuit_at row.service me.0 row ≡ true = rw (eq-eqb row.service.0 row.service.0 refl, eq-eqb row.edge.0 me.0 at) refl in
     finds_port circuit (ports_of plan row.service me) (has_port 0 circuit.0 circuit.0 plan.circuits row row.service me (omega arith) is serve)
 
-same_tests : (f g : ℕ → Bool) → ((p : ℕ) → f p ≡ g p) → f ≡ g
+pub same_tests : (f g : ℕ → Bool) → ((p : ℕ) → f p ≡ g p) → f ≡ g
 same_tests f g same = λ i p. same p i
