@@ -1,8 +1,7 @@
 -- What the changes of one domain leave, by the domain that was read.
-use Rattle.std.proofs.Common.{◌≡◌, ◌<◌, ◌∙◌, ℕ, Bool, true, false, List, [], Option, Some, None, cond, length, position, slice_index_or, slice_set, refl, ap, sym, subst, arith}
+use Rattle.std.proofs.Common.{◌≡◌, ◌<◌, ◌∙◌, ℕ, Bool, true, false, List, [], Option, Some, None, cond, length, position, slice_index_or, slice_set, refl, ap, sym, arith}
 use Rattle.std.proofs.lemmas.Bool.{eq-eqb}
 use Rattle.std.proofs.lemmas.Option.{slice_get_within}
-use Rattle.net_base.specs.declared.values.mac.Mac.{Mac}
 use Rattle.net_base.specs.declared.plan.Plan.{Plan}
 use Rattle.net_base.specs.declared.plan.places.CircuitId.{CircuitId}
 use Rattle.net_base.specs.declared.plan.places.ServiceId.{ServiceId}
@@ -12,7 +11,6 @@ use Rattle.hvpls_spokes.specs.Port.{is_circuit_port, ports_of}
 use Rattle.hvpls_spokes.specs.PortSet.{has}
 use Rattle.mac_table.specs.Addresses.{NoneAfter}
 use Rattle.mac_table.specs.declared.mac_entry.MacEntry.{MacEntry}
-use Rattle.vsi_bridge.specs.BridgeState.{BridgeState}
 use Rattle.vsi_bridge.specs.Targets.{heard, is_target, known_port}
 use Rattle.edge_model.specs.Circuit.{without_port}
 use Rattle.edge_model.specs.Frame.{copies, copy_by, destination, hearing, port_forwards, source, targets_of}
@@ -23,7 +21,7 @@ use Rattle.edge_model.specs.declared.effect.Effect.{Effect}
 use Rattle.provider_edge.specs.declared.domain.Domain.{Domain}
 use Rattle.provider_edge.specs.Domain.{IsDomain, is_found}
 use Rattle.provider_edge.specs.Invariant.{IsEdge}
-use Rattle.provider_edge.specs.Lists.{EdgeLists, entries_of, own_service, seen, view, worked}
+use Rattle.provider_edge.specs.Lists.{EdgeLists, entries_of, own_service, seen, worked}
 use Rattle.provider_edge.specs.Taking.{giving}
 use Rattle.provider_edge.proofs.KeptLemmas.{domain_at, edge_put, edge_turned, none_at, read_is, seen_put, seen_turned, turned_edge}
 use Rattle.provider_edge.proofs.OwnLemmas.{own_row, own_port, own_within}

@@ -1,5 +1,5 @@
 -- What an edge gives out: it names what is in the plan, stays in its service, and tells what the link took.
-use Rattle.std.proofs.Common.{◌≡◌, ◌<◌, ◌≤◌, ◌+◌, ◌++◌, ◌&&◌, ◌∙◌, ℕ, zero, suc, Bool, true, false, List, [], ◌∷◌, Option, Some, None, Result, Ok, Err, cond, length, filter, not, refl, ap, sym, subst, arith}
+use Rattle.std.proofs.Common.{◌≡◌, ◌<◌, ◌+◌, ◌++◌, ◌&&◌, ℕ, suc, Bool, true, false, List, [], ◌∷◌, Option, Some, None, Result, Ok, Err, cond, length, not, refl, ap, sym, subst}
 use Rattle.std.proofs.lemmas.List.{append-nil}
 use Rattle.std.proofs.lemmas.Option.{slice_get_within}
 use Rattle.net_base.specs.declared.outside.link_call.LinkCall.{LinkCall}
@@ -24,7 +24,7 @@ use Rattle.edge_model.specs.declared.input.Input.TheVariants as input
 use Rattle.edge_model.specs.Circuit.{circuit_input, is_same, turned}
 use Rattle.edge_model.specs.Frame.{copies, copy_by, forwarded, frame_input, hearing, is_own, port_at, received, tag_of, targets_of}
 use Rattle.edge_model.specs.Local.{AllStayBeside}
-use Rattle.edge_model.specs.State.{EdgeState, is_on, with_addresses}
+use Rattle.edge_model.specs.State.{is_on, with_addresses}
 use Rattle.edge_model.specs.Step.{edge_step}
 use Rattle.edge_model.specs.Work.{Answers, GoesOn, Work, beginning, changes, gives, idles}
 use Rattle.edge_model.proofs.LocalLemmas.{served_at, stays_local}

@@ -1,35 +1,32 @@
 -- What always holds of an edge holds after each change of it, and the change is that of the state which it is seen as.
-use Rattle.std.proofs.Common.{◌≡◌, ◌<◌, ◌≤◌, ◌∙◌, ◌⊎◌, ℕ, zero, suc, Bool, true, false, List, [], ◌∷◌, Option, Some, None, cond, length, slice_get, slice_set, slice_index_or, map, position, nat_eq, nat_lt, ◌+◌, replicate, refl, ap, sym, subst, inl, inr, arith, length-set}
-use Rattle.std.proofs.lemmas.Bool.{cases_Bool, eq-eqb, eqb-true}
+use Rattle.std.proofs.Common.{◌≡◌, ◌<◌, ◌≤◌, ◌∙◌, ◌⊎◌, ℕ, zero, suc, Bool, true, false, List, [], ◌∷◌, Option, Some, None, cond, length, slice_get, slice_set, slice_index_or, map, position, nat_eq, replicate, refl, ap, sym, subst, inl, inr, arith, length-set}
+use Rattle.std.proofs.lemmas.Bool.{cases_Bool, eqb-true}
 use Rattle.std.proofs.lemmas.List.{length-map}
-use Rattle.std.proofs.lemmas.List.Elements.{All-get_or}
 use Rattle.std.proofs.lemmas.Option.{slice_get_within, slice_get_past, get_or_from_slice_get}
 use Rattle.std.specs.Prelude.{All, filter}
 use Rattle.net_base.specs.declared.plan.Plan.{Plan}
-use Rattle.net_base.specs.declared.plan.circuit_plan.CircuitPlan.{CircuitPlan}
 use Rattle.net_base.specs.declared.plan.service_plan.ServicePlan.{ServicePlan}
 use Rattle.net_base.specs.declared.plan.places.CircuitId.{CircuitId}
 use Rattle.net_base.specs.declared.plan.places.EdgeId.{EdgeId}
 use Rattle.net_base.specs.declared.plan.places.ServiceId.{ServiceId}
-use Rattle.net_base.specs.plan.Accepted.{IsCircuitOf, IsChecked}
+use Rattle.net_base.specs.plan.Accepted.{IsChecked}
 use Rattle.net_base.specs.plan.Places.{circuit_row, service_row}
 use Rattle.hvpls_spokes.specs.declared.port.Port.{Port}
 use Rattle.hvpls_spokes.specs.Port.{is_circuit_port, ports_of}
 use Rattle.hvpls_spokes.specs.PortSet.{has}
 use Rattle.hvpls_spokes.proofs.PortsLemmas.{LeadsTo, found_port, same_port}
 use Rattle.mac_table.specs.Addresses.{NoneAfter, is_young}
-use Rattle.mac_table.specs.declared.mac_entry.MacEntry.{MacEntry}
 use Rattle.mac_table.proofs.AddressLemmas.{none_after_filtered, none_after_later}
 use Rattle.vsi_bridge.specs.BridgeState.{BridgeState}
 use Rattle.edge_model.specs.Frame.{port_forwards}
-use Rattle.edge_model.specs.State.{EdgeState, addresses_of, empty_edge, put_at, with_addresses, with_circuit, with_learned, with_ticks}
+use Rattle.edge_model.specs.State.{EdgeState, addresses_of, empty_edge, put_at, with_addresses, with_circuit, with_learned}
 use Rattle.edge_model.specs.Tick.{aged, forgetting}
 use Rattle.provider_edge.specs.declared.domain.Domain.{Domain}
 use Rattle.provider_edge.specs.Domain.{IsDomain, IsKept, IsNew, AreNew, aged_domain, aged_kept, is_found, KeptNotAfter}
 use Rattle.provider_edge.specs.Invariant.{IsEdge}
 use Rattle.provider_edge.specs.Lists.{EdgeLists, entries_of, own_service, seen, view}
 use Rattle.provider_edge.proofs.OwnLemmas.{own_port, own_row, own_within}
-use Rattle.provider_edge.proofs.PortLemmas.{circuit_found, forwards_same, turned_elsewhere, turned_port}
+use Rattle.provider_edge.proofs.PortLemmas.{forwards_same, turned_elsewhere, turned_port}
 use Rattle.provider_edge.proofs.Views.{view_at, view_set}
 
 -- ---- an edge that is the same but for what is learned, and for time

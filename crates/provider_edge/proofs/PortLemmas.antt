@@ -1,5 +1,5 @@
 -- Which ports of a service forward.
-use Rattle.std.proofs.Common.{◌≡◌, ◌<◌, ◌+◌, ◌&&◌, ◌∙◌, ℕ, zero, suc, Bool, true, false, List, [], ◌∷◌, Option, Some, None, cond, length, slice_get, position, nat_eq, refl, ap, sym, subst, arith}
+use Rattle.std.proofs.Common.{◌≡◌, ◌<◌, ◌&&◌, ◌∙◌, ℕ, Bool, true, false, List, Option, Some, None, cond, length, slice_get, position, nat_eq, refl, ap, sym, arith}
 use Rattle.std.proofs.lemmas.Bool.{eq-eqb, eqb-true, ne_eqb}
 use Rattle.std.proofs.lemmas.Option.{slice_get_within}
 use Rattle.net_base.specs.declared.plan.Plan.{Plan}
@@ -12,7 +12,7 @@ use Rattle.net_base.specs.plan.Roles.{is_circuit_at}
 use Rattle.hvpls_spokes.specs.declared.port.Port.{Port}
 use Rattle.hvpls_spokes.specs.declared.port.Port.TheVariants as port
 use Rattle.hvpls_spokes.specs.Port.{is_circuit_port, ports_of}
-use Rattle.hvpls_spokes.proofs.PortsLemmas.{LeadsTo, IsServed, ports_served, has_port, found_port, finds_port, same_port}
+use Rattle.hvpls_spokes.proofs.PortsLemmas.{LeadsTo, ports_served, has_port, found_port, finds_port}
 use Rattle.edge_model.specs.Frame.{forwards, port_forwards}
 use Rattle.edge_model.specs.State.{EdgeState, is_on, with_circuit}
 use Rattle.edge_model.proofs.LocalLemmas.{served_at}

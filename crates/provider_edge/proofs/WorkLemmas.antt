@@ -1,5 +1,5 @@
 -- The work of an edge on one input, exit by exit.
-use Rattle.std.proofs.Common.{◌≡◌, ◌++◌, ◌&&◌, ◌∙◌, ℕ, Bool, true, false, List, [], ◌∷◌, Option, Some, None, Result, Ok, Err, cond, not, position, refl, ap, sym, subst}
+use Rattle.std.proofs.Common.{◌≡◌, ◌∙◌, ℕ, Bool, true, false, List, [], ◌∷◌, Option, Some, None, Result, Ok, Err, position, refl, ap, sym}
 use Rattle.std.proofs.Math.Bool.{beq}
 use Rattle.std.specs.Prelude.{IfOk}
 use Rattle.net_base.specs.declared.outside.link_call.LinkCall.{LinkCall}
@@ -12,13 +12,11 @@ use Rattle.net_base.specs.declared.trace.drop_cause.DropCause.{DropCause}
 use Rattle.net_base.specs.declared.values.no_memory.NoMemory.{NoMemory}
 use Rattle.net_base.specs.plan.Places.{circuit_row}
 use Rattle.net_base.specs.trace.Isolated.{inner_at}
-use Rattle.hvpls_spokes.specs.declared.port.Port.{Port}
 use Rattle.hvpls_spokes.specs.Port.{is_circuit_port, ports_of}
-use Rattle.edge_model.specs.declared.effect.Effect.{Effect}
 use Rattle.edge_model.specs.declared.effect.Effect.TheVariants.{Dropped}
 use Rattle.edge_model.specs.declared.effects.Effects.{Effects}
 use Rattle.edge_model.specs.Circuit.{circuit_input, is_same, turned, without_port}
-use Rattle.edge_model.specs.Frame.{copies, copy_by, forwarded, frame_input, hearing, is_own, received, targets_of}
+use Rattle.edge_model.specs.Frame.{copies, copy_by, forwarded, frame_input, hearing, received, targets_of}
 use Rattle.edge_model.specs.State.{EdgeState, addresses_of, is_on, later, with_addresses, with_circuit, with_ticks}
 use Rattle.edge_model.specs.Tick.{forgetting, tick_input}
 use Rattle.edge_model.specs.Work.{Answers, Work, beginning, changes, gives, idles}

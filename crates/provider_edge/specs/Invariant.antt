@@ -1,5 +1,5 @@
 -- What always holds of an edge.
-use Rattle.std.specs.Prelude.{◌≡◌, ◌<◌, ℕ, List, Option, None, length, All}
+use Rattle.std.specs.Prelude.{◌≡◌, ◌<◌, ℕ, None, length, All}
 use Rattle.net_base.specs.plan.Accepted.{IsCircuitOf}
 use Rattle.provider_edge.specs.Domain.{IsKept}
 use Rattle.provider_edge.specs.Lists.{EdgeLists, seen, view}

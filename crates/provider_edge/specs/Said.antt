@@ -1,5 +1,5 @@
 -- What an edge gives out, beside what its link took.
-use Rattle.std.specs.Prelude.{◌≡◌, ◌<◌, ◌++◌, filter, ℕ, true, false, List, [], ◌∷◌, length}
+use Rattle.std.specs.Prelude.{◌≡◌, ◌<◌, ◌++◌, filter, true, false, List, [], ◌∷◌, length}
 use Rattle.net_base.specs.declared.outside.link_call.LinkCall.{LinkCall}
 use Rattle.net_base.specs.declared.plan.Plan.{Plan}
 use Rattle.net_base.specs.outside.Link.{call_of}

@@ -1,5 +1,4 @@
-use Rattle.std.proofs.Common.{◌≡◌, ◌∙◌, ℕ, List, ap}
-use Rattle.net_base.specs.declared.values.mac.Mac.{Mac}
+use Rattle.std.proofs.Common.{◌∙◌, ℕ, List, ap}
 use Rattle.hvpls_spokes.specs.PortSet.{has}
 use Rattle.vsi_bridge.specs.Targets.{is_target, known_port}
 use Rattle.provider_edge.proofs.domain.Domain.hear.Goals as goal

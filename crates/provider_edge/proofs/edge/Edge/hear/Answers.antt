@@ -1,19 +1,10 @@
-use Rattle.std.proofs.Common.{◌≡◌, ◌<◌, ◌∙◌, ℕ, true, false, List, [], Option, Some, None, Result, length, position, ap, sym, subst, refl}
-use Rattle.net_base.specs.declared.outside.link_call.LinkCall.{LinkCall}
-use Rattle.net_base.specs.plan.Places.{circuit_row, service_row}
-use Rattle.hvpls_spokes.specs.declared.port.Port.{Port}
-use Rattle.hvpls_spokes.specs.Port.{is_circuit_port, ports_of}
+use Rattle.std.proofs.Common.{◌≡◌, ◌<◌, true, length, sym, subst}
+use Rattle.hvpls_spokes.specs.Port.{ports_of}
 use Rattle.hvpls_spokes.specs.PortSet.{has}
 use Rattle.vsi_bridge.specs.Targets.{heard}
-use Rattle.edge_model.specs.Circuit.{without_port}
-use Rattle.edge_model.specs.Frame.{copies, copy_by, hearing, port_forwards, source, targets_of}
-use Rattle.edge_model.specs.State.{addresses_of, with_addresses, with_circuit}
-use Rattle.edge_model.specs.Work.{beginning}
-use Rattle.provider_edge.specs.declared.domain.Domain.{Domain}
-use Rattle.provider_edge.specs.Invariant.{IsEdge}
-use Rattle.provider_edge.specs.Lists.{EdgeLists, own_service, seen, worked}
-use Rattle.provider_edge.proofs.ChangeLemmas.{IsOwn, WasRead, copied_all, copied_none, forgot_seen, heard_seen, heard_targets, no_ports, on_at, on_nowhere, own_read, own_somewhere, put_edge, put_kept, the_ports, ticks_at, turn_kept, turn_seen, within_at}
-use Rattle.provider_edge.proofs.KeptLemmas.{turned_edge}
+use Rattle.edge_model.specs.Frame.{hearing, port_forwards, source, targets_of}
+use Rattle.provider_edge.specs.Lists.{EdgeLists, seen}
+use Rattle.provider_edge.proofs.ChangeLemmas.{WasRead, heard_seen, heard_targets, on_at, on_nowhere, put_edge, put_kept, ticks_at, within_at}
 use Rattle.provider_edge.proofs.edge.Edge.hear.Goals as goal
 
 pub returns-in_default-clause-hears : goal.returns-in_default-clause-hears

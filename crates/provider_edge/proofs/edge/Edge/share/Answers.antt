@@ -1,4 +1,4 @@
-use Rattle.std.proofs.Common.{◌≡◌, ◌∙◌, ℕ, List, Bool, true, replicate, length, ap, subst}
+use Rattle.std.proofs.Common.{◌≡◌, ◌∙◌, ℕ, true, replicate, length, ap, subst}
 use Rattle.net_base.specs.declared.plan.Plan.{Plan}
 use Rattle.provider_edge.specs.Domain.{AreNew}
 use Rattle.provider_edge.proofs.KeptLemmas.{edge_new}
