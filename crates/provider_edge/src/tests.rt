@@ -105,7 +105,9 @@ fn took(alloc: Global, edge: &mut Edge, input: Input<'_>) -> Result<Effects, Fai
     }
 }
 
-fn frame(circuit: u16, bytes: &[u8]) -> Input<'_> {
+fn frame(circuit: u16, bytes: &[u8]) -> Input<'_>
+    ensures { IsInRange result }
+{
     Input::Frame {
         circuit: CircuitId(circuit),
         bytes,
