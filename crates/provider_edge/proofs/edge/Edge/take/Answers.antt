@@ -1,0 +1,23 @@
+use Rattle.std.proofs.Common.{true}
+use Rattle.provider_edge.specs.Lists.{EdgeLists}
+use Rattle.provider_edge.proofs.EffectLemmas.{steps_local, steps_tell}
+use Rattle.provider_edge.proofs.KeptLemmas.{edge_stopped}
+use Rattle.provider_edge.proofs.edge.Edge.take.Goals as goal
+
+pub invariant_of-self : goal.invariant_of-self
+invariant_of-self g c =
+    let v : EdgeLists = record {
+      plan = c.self-2.inside.plan.value;
+      me = c.self-2.inside.me;
+      circuits_on = c.self-2.inside.circuits_on.items;
+      domains = c.self-2.inside.domains.items;
+      ticks = c.self-2.inside.ticks;
+      stopped = c.self-2.inside.stopped;
+    } in
+    edge_stopped v true c.self-2.invariant
+
+pub returns-in-Ok-clause-said : goal.returns-in-Ok-clause-said
+returns-in-Ok-clause-said g c = steps_tell c.args.self.now c.work.new.self c.args.input c.in-Ok.effects (g.L.Link.calls c.args.link.now) c.in-Ok.ensures.step
+
+pub returns-in-Ok-clause-local : goal.returns-in-Ok-clause-local
+returns-in-Ok-clause-local g c = steps_local c.args.self.now c.work.new.self c.args.input c.in-Ok.effects c.in-Ok.ensures.step

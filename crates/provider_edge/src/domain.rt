@@ -1,0 +1,165 @@
+//! A bridged domain: one service at an edge.
+ghost use Rattle.std.specs.Prelude.{◌≡◌, ◌≤◌, ◌<◌, ◌+◌, nat_lt, ◌&&◌, [], map, ℕ, true, length, take, drop, position, All, IfOk, IfSome, if◌then◌else◌};
+ghost use Rattle.hvpls_spokes.specs.Port.{is_circuit_port};
+ghost use Rattle.hvpls_spokes.specs.PortSet.{has};
+ghost use Rattle.mac_table.specs.Addresses.{NoneAfter};
+ghost use Rattle.vsi_bridge.specs.Targets.{heard, is_target, known_port};
+ghost use Rattle.edge_model.specs.Circuit.{without_port};
+ghost use Rattle.edge_model.specs.Frame.{destination, port_forwards, source};
+ghost use Rattle.edge_model.specs.State.{empty_edge};
+ghost use Rattle.provider_edge.specs.Domain.{AreNew, IsNew, aged_domain, aged_kept, is_found, KeptNotAfter};
+
+use hvpls_spokes::{PortKind, PortSet, Ports};
+use net_base::{CircuitId, EdgeId, Mac, NoMemory, Plan, ServiceId};
+use std::alloc::Global;
+use vsi_bridge::Bridge;
+
+/// A service at an edge: its bridge, and which of its ports forward.
+#[derive(Debug, Drop)]
+pub struct Domain {
+    pub(crate) bridge: Bridge,
+    pub(crate) forwarding: PortSet,
+}
+
+/// The domain of each service that has a port at the edge, in the plan's order, with every circuit on.
+#[tactic(auto, using(crate::proofs::EachLemmas::new_next))]
+pub fn open_domains(alloc: Global, plan: &Plan, me: EdgeId) -> Result<Vec<Option<Domain>>, NoMemory>
+    requires services { length plan.now.services ≤ 64 }
+    requires circuits { length plan.now.circuits ≤ 512 }
+    ensures { IfOk result (λ domains. AreNew plan.now me (length plan.now.services) domains.items) }
+{
+    let mut domains = Vec::new(alloc);
+    for (place, service) in plan.services.as_slice().iter().enumerate() {
+        let id = ServiceId(place as u16);
+        domains.push(open_domain(alloc, plan, id, me, service.age)?)?;
+    }
+    Ok(domains)
+}
+
+// The domain of a service at an edge; none where it has no port.
+fn open_domain(
+    alloc: Global,
+    plan: &Plan,
+    service: ServiceId,
+    me: EdgeId,
+    age: u32,
+) -> Result<Option<Domain>, NoMemory>
+    requires { length plan.now.circuits ≤ 512 }
+    ensures { IfOk result (λ kept. IsNew plan.now me service age kept) }
+{
+    let ports = Ports::open(alloc, plan, service, me)?;
+    if ports.len() == 0 {
+        return Ok(None);
+    }
+    let forwarding = forwarding_of(&ports);
+    let bridge = Bridge::open(alloc, ports, age)?;
+    Ok(Some(Domain { bridge, forwarding }))
+}
+
+// The ports that forward: every circuit is on.
+fn forwarding_of(ports: &Ports) -> PortSet
+    ensures { (plan : Plan) (me : EdgeId) (p : ℕ) → has result p ≡ port_forwards plan (empty_edge me) ports.now p }
+{
+    let mut forwarding = PortSet::empty();
+    for port in 0..ports.len() {
+        if ports.kind(port) == Some(PortKind::Circuit) {
+            forwarding.insert(port);
+        }
+    }
+    forwarding
+}
+
+impl Domain {
+    /// The port of a circuit.
+    pub fn port_of(&self, circuit: CircuitId) -> Option<u16>
+        ensures { result ≡ position (is_circuit_port circuit) self.now.bridge.ports }
+    {
+        self.bridge.ports().find(circuit)
+    }
+
+    /// The port of the circuit forwards, or forwards no more.
+    pub fn turn(&mut self, circuit: CircuitId, on: bool)
+        ensures forwarding { (p : ℕ) → has self.new.forwarding p ≡ (if is_found (position (is_circuit_port circuit) self.old.bridge.ports) p then on else has self.old.forwarding p) }
+        ensures bridge { self.new.bridge ≡ self.old.bridge }
+    {
+        let Some(port) = self.bridge.ports().find(circuit) else {
+            return;
+        };
+        if on {
+            self.forwarding.insert(port);
+        } else {
+            self.forwarding.remove(port);
+        }
+    }
+
+    /// The bridge forgets what it learned at the circuit.
+    pub fn forget_circuit(&mut self, circuit: CircuitId)
+        ensures forgets { self.new ≡ record self.old { bridge = record self.old.bridge { entries = without_port (position (is_circuit_port circuit) self.old.bridge.ports) self.old.bridge.entries } } }
+        ensures ticks { (now : ℕ) → NoneAfter now self.old.bridge.entries → NoneAfter now self.new.bridge.entries }
+    {
+        if let Some(port) = self.bridge.ports().find(circuit) {
+            self.bridge.drop_port(port);
+        }
+    }
+
+    /// The bridge hears an inner frame by a port that forwards, at the tick `now`, and answers the ports to which it goes.
+    pub fn hear(&mut self, arrival: u16, frame: &[u8], now: u64) -> PortSet
+        requires ports { (p : ℕ) → has self.old.forwarding p ≡ true → p < length self.old.bridge.ports }
+        requires on { has self.old.forwarding arrival ≡ true }
+        requires ticks { NoneAfter now self.old.bridge.entries }
+        requires header { 14 ≤ length frame.now }
+        ensures learns { self.new ≡ record self.old { bridge = record self.old.bridge { entries = heard self.old.bridge.entries (source frame.now) arrival now } } }
+        ensures targets { (p : ℕ) → has result p ≡ is_target self.old.bridge.ports (has self.old.forwarding) arrival (known_port self.new.bridge.entries (destination frame.now)) p }
+        ensures ticks { NoneAfter now self.new.bridge.entries }
+    {
+        let source = address_at(frame, 6);
+        let destination = address_at(frame, 0);
+        self.bridge
+            .decide(arrival, source, destination, now, &self.forwarding)
+    }
+
+    /// The bridge forgets what it has not heard for as long as its age limit.
+    pub fn forget(&mut self, now: u64)
+        requires { NoneAfter now self.old.bridge.entries }
+        ensures forgets { self.new ≡ aged_domain now self.old }
+        ensures ticks { NoneAfter now self.new.bridge.entries }
+    {
+        self.bridge.tick(now);
+    }
+}
+
+/// Each bridge forgets what it has not heard for as long as its age limit.
+#[tactic(auto, using(crate::proofs::EachLemmas::each_next, crate::proofs::EachLemmas::each_at))]
+pub fn forget_all(domains: &mut Vec<Option<Domain>>, now: u64)
+    requires { All (KeptNotAfter now) domains.old.items }
+    ensures { domains.new.items ≡ map (aged_kept now) domains.old.items }
+{
+    for kept in domains.iter_mut() {
+        forget_kept(kept, now);
+    }
+}
+
+// The bridge forgets, where there is one.
+fn forget_kept(kept: &mut Option<Domain>, now: u64)
+    requires { KeptNotAfter now kept.old }
+    ensures { kept.new ≡ aged_kept now kept.old }
+{
+    if let Some(domain) = kept {
+        domain.forget(now);
+    }
+}
+
+// The address in the six octets from a place on.
+fn address_at(octets: &[u8], at: usize) -> Mac
+    requires { at + 6 ≤ length octets.now }
+    ensures { result.0 ≡ take 6 (drop at octets.now) }
+{
+    Mac([
+        octets[at],
+        octets[at + 1],
+        octets[at + 2],
+        octets[at + 3],
+        octets[at + 4],
+        octets[at + 5],
+    ])
+}

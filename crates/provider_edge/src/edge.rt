@@ -1,0 +1,213 @@
+//! One provider edge.
+ghost use Rattle.std.specs.Prelude.{◌≡◌, ◌<◌, ◌≤◌, ◌↔◌, ◌⊎◌, List, Some, None, true, false, [], length, IfOk, IfErr, IfSome, IsNone, IsErrOf};
+ghost use Rattle.net_base.specs.declared.outside.link_call.LinkCall.{LinkCall};
+ghost use Rattle.net_base.specs.declared.trace.state_name.StateName.TheVariants as StateName;
+ghost use Rattle.net_base.specs.plan.Accepted.{IsChecked};
+ghost use Rattle.net_base.specs.plan.Places.{service_row};
+ghost use Rattle.hvpls_spokes.specs.Port.{ports_of};
+ghost use Rattle.edge_model.specs.State.{addresses_of, empty_edge, is_on};
+ghost use Rattle.edge_model.specs.Step.{edge_step};
+ghost use Rattle.edge_model.specs.Work.{Agrees, Answers, GoesOn, beginning};
+ghost use Rattle.provider_edge.specs.Lists.{Keeps, seen, worked};
+ghost use Rattle.provider_edge.specs.Said.{AllFit, TellsTaken};
+ghost use Rattle.provider_edge.specs.Taking.{IsInRange, StaysLocal};
+
+mod circuit;
+mod frame;
+mod tick;
+
+use crate::EdgeStop;
+use crate::domain::{Domain, open_domains};
+use crate::quiet::idle;
+use edge_model::{Effects, Input};
+use net_base::{CircuitId, EdgeId, Link, NoMemory, Plan, ServiceId, StateName};
+use std::alloc::Global;
+use std::marker::Model;
+use std::rc::Rc;
+use vsi_bridge::Bridge;
+
+/// A provider edge of a plan (RFC 4762 section 4). Contracts see it as lists by the plan's places, and by `seen` as the
+/// state of one edge.
+#[derive(Debug, Drop)]
+pub struct Edge {
+    plan: Rc<Plan>,
+    me: EdgeId,
+    circuits_on: Vec<bool>,
+    domains: Vec<Option<Domain>>,
+    ticks: u64,
+    stopped: bool,
+}
+
+impl Model for Edge {
+    ghost use Rattle.provider_edge.specs.Invariant.{IsEdge};
+    ghost use Rattle.provider_edge.specs.Lists.{EdgeLists};
+
+    ghost Value = { EdgeLists };
+
+    ghost view = { λ e. record { plan = e.plan.value; me = e.me; circuits_on = e.circuits_on.items; domains = e.domains.items; ticks = e.ticks; stopped = e.stopped } };
+
+    ghost invariant = { λ e. IsEdge (record { plan = e.plan.value; me = e.me; circuits_on = e.circuits_on.items; domains = e.domains.items; ticks = e.ticks; stopped = e.stopped }) };
+}
+
+impl Edge {
+    /// The edge of a plan before its first input, with a copy of the plan: every circuit is on, nothing is learned.
+    pub fn open(alloc: Global, plan: &Plan, me: EdgeId) -> Result<Edge, NoMemory>
+        requires checked { IsChecked plan.now }
+        requires me { me.0 < length plan.now.edges }
+        ensures plan { IfOk result (λ edge. edge.plan ≡ plan.now) }
+        ensures me { IfOk result (λ edge. edge.me ≡ me) }
+        ensures empty { IfOk result (λ edge. seen edge ≡ empty_edge me) }
+        ensures stopped { IfOk result (λ edge. edge.stopped ≡ false) }
+    {
+        let plan = Rc::new(alloc, plan.copy(alloc)?)?;
+        Edge::share(alloc, plan, me)
+    }
+
+    /// The same over a plan that other edges hold too.
+    #[tactic(auto, using(crate::proofs::KeptLemmas::edge_new, crate::proofs::KeptLemmas::seen_new))]
+    pub fn share(alloc: Global, plan: Rc<Plan>, me: EdgeId) -> Result<Edge, NoMemory>
+        requires checked { IsChecked plan.value }
+        requires me { me.0 < length plan.value.edges }
+        ensures plan { IfOk result (λ edge. edge.plan ≡ plan.value) }
+        ensures me { IfOk result (λ edge. edge.me ≡ me) }
+        ensures empty { IfOk result (λ edge. seen edge ≡ empty_edge me) }
+        ensures stopped { IfOk result (λ edge. edge.stopped ≡ false) }
+    {
+        let circuits_on = vec![in alloc; true; plan.circuits.len()]?;
+        let domains = open_domains(alloc, &plan, me)?;
+        Ok(Edge {
+            plan,
+            me,
+            circuits_on,
+            domains,
+            ticks: 0,
+            stopped: false,
+        })
+    }
+
+    /// Takes an input, and answers all that the edge gives out on it. What does not apply is idle, and changes nothing:
+    /// for `Frame` a circuit of another edge or one that is off, for `Circuit` a circuit of another edge or one that is
+    /// so already. `Tick` always applies. Inputs of connections, sessions, wires and packets do not apply yet. The bits of
+    /// a `Status` are at most 31.
+    ///
+    /// `NoMemory` where memory was refused; from then on the edge is given up, and answers `Stopped` to every input.
+    #[tactic(auto, using(crate::proofs::EffectLemmas::steps_fit, crate::proofs::EffectLemmas::steps_tell, crate::proofs::EffectLemmas::steps_local, crate::proofs::EffectLemmas::goes_nowhere, crate::proofs::KeptLemmas::edge_stopped))]
+    pub fn take<L: Link>(
+        &mut self,
+        alloc: Global,
+        input: Input<'_>,
+        link: &mut L,
+    ) -> Result<Effects, EdgeStop>
+        requires range { IsInRange input }
+        ensures plan { self.new.plan ≡ self.old.plan }
+        ensures me { self.new.me ≡ self.old.me }
+        ensures step { IfOk result (λ effects. (told : Answers) → Agrees told (L.calls link.new)
+            → worked self.new (L.calls link.new) effects ≡ edge_step self.old.plan told input.entry (beginning (seen self.old) (L.calls link.old))) }
+        ensures calls { GoesOn (L.calls link.old) (L.calls link.new) }
+        ensures said { IfOk result (λ effects. TellsTaken (L.calls link.old) (L.calls link.new) effects.list) }
+        ensures fit { IfOk result (λ effects. AllFit self.old.plan effects.list) }
+        ensures local { IfOk result (λ effects. StaysLocal self.old.plan input.entry effects.list) }
+        ensures refused { IsErrOf result EdgeStop.Stopped ↔ (self.old.stopped ≡ true) }
+        ensures stopped { IfErr result (λ stop. self.new.stopped ≡ true) }
+        ensures going { IfOk result (λ effects. self.new.stopped ≡ false) }
+    {
+        let _ = link;
+        if self.stopped {
+            return Err(EdgeStop::Stopped);
+        }
+        match self.work(alloc, input) {
+            Ok(effects) => Ok(effects),
+            Err(NoMemory) => {
+                self.stopped = true;
+                Err(EdgeStop::NoMemory)
+            }
+        }
+    }
+
+    // What the edge makes of an input. No input makes a call of the link yet.
+    #[tactic(auto, using(crate::proofs::WorkLemmas::idle_done))]
+    fn work(&mut self, alloc: Global, input: Input<'_>) -> Result<Effects, NoMemory>
+        ensures keeps { Keeps self.old self.new }
+        ensures step { IfOk result (λ effects. (told : Answers) (calls : List LinkCall) → worked self.new calls effects ≡ edge_step self.old.plan told input.entry (beginning (seen self.old) calls)) }
+    {
+        match input {
+            Input::Tick => Ok(self.tick(alloc)),
+            Input::Frame { circuit, bytes } => self.frame(alloc, circuit, bytes),
+            Input::Circuit { circuit, on } => Ok(self.circuit(alloc, circuit, on)),
+            Input::Connected { .. }
+            | Input::Octets { .. }
+            | Input::Lost { .. }
+            | Input::Restart
+            | Input::Packet { .. }
+            | Input::Wire { .. }
+            | Input::Status { .. }
+            | Input::Priority { .. }
+            | Input::Ping { .. } => Ok(idle(alloc)),
+        }
+    }
+
+    /// Whether memory was refused, so that the edge takes nothing more.
+    pub fn is_stopped(&self) -> bool
+        ensures { result ≡ self.now.stopped }
+    {
+        self.stopped
+    }
+
+    /// The state of the session with a peer: none is there yet.
+    pub fn session(&self, peer: EdgeId) -> StateName
+        ensures { result ≡ StateName.NonExistent }
+    {
+        let _ = peer;
+        StateName::NonExistent
+    }
+
+    /// How many octets of a peer are held that are no whole PDU yet: no connection stands yet.
+    pub fn held(&self, peer: EdgeId) -> usize
+        ensures { result ≡ 0 }
+    {
+        let _ = peer;
+        0
+    }
+
+    /// The bridge of a service; `None` exactly where the plan has no such service, or the service no port at the edge.
+    #[tactic(auto, using(crate::proofs::KeptLemmas::lent_some, crate::proofs::KeptLemmas::lent_none, crate::proofs::KeptLemmas::lent_past, crate::proofs::KeptLemmas::bridge_learned))]
+    pub fn bridge(&self, service: ServiceId) -> Option<&Bridge>
+        ensures none { IsNone result ↔ ((service_row self.now.plan service ≡ None) ⊎ (ports_of self.now.plan service self.now.me ≡ [])) }
+        ensures learned { IfSome result (λ bridge. bridge.now.entries ≡ addresses_of (seen self.now) service) }
+    {
+        match self.domains.get(service.0 as usize)? {
+            Some(domain) => Some(&domain.bridge),
+            None => None,
+        }
+    }
+
+    /// Whether a circuit of the plan is on.
+    #[tactic(auto, unfolding(crate::specs::Lists::seen))]
+    pub fn is_on(&self, circuit: CircuitId) -> bool
+        requires { circuit.0 < length self.now.plan.circuits }
+        ensures { result ≡ is_on (seen self.now) circuit }
+    {
+        self.circuits_on[circuit.0 as usize]
+    }
+
+    /// How many ticks have passed; the count stays at 2^64 - 1 once it is there.
+    pub fn ticks(&self) -> u64
+        ensures { result ≡ self.now.ticks }
+    {
+        self.ticks
+    }
+
+    /// The plan.
+    pub fn plan(&self) -> &Plan
+        ensures { result.now ≡ self.now.plan }
+    {
+        &self.plan
+    }
+
+    /// The edge's place in the plan.
+    pub fn me(&self) -> EdgeId
+        ensures { result ≡ self.now.me }
+    {
+        self.me
+    }
+}
