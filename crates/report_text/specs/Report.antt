@@ -1,5 +1,5 @@
 -- The report of a run: a first line, a line for each entry, and a last line.
-use Rattle.std.specs.Prelude.{◌++◌, ℕ, codes, Bool, true, false, List, [], ◌∷◌, count_by}
+use Rattle.std.specs.Prelude.{◌+◌, ◌++◌, if◌then◌else◌, ℕ, codes, Bool, true, false, List, [], ◌∷◌, count_by}
 use Rattle.std.specs.Fmt.{decimal}
 use Rattle.net_base.specs.declared.trace.entry.Entry.{Entry}
 use Rattle.net_base.specs.declared.trace.entry.Entry.TheVariants.{Did, Idle, Said, In, Sent, Copied, Left, Dropped, Session, Wire, Pong}
@@ -44,15 +44,28 @@ is_counted counted.Sent (Sent packet from to wire arrival origin hops octets) = 
 is_counted counted.Dropped (Dropped edge origin cause) = true
 is_counted kind entry = false
 
+-- a count after one entry more
+abbrev pub counted_more : Counted → Entry → ℕ → ℕ
+counted_more kind entry count = if is_counted kind entry then count + 1 else count
+
+-- the line of these counts
+abbrev pub told_counts : ℕ → ℕ → ℕ → ℕ → ℕ → List ℕ
+told_counts events entered left sent dropped = line_of
+    (codes "end"
+    ∷ (codes "events=" ++ decimal events)
+    ∷ (codes "in=" ++ decimal entered)
+    ∷ (codes "left=" ++ decimal left)
+    ∷ (codes "sent=" ++ decimal sent)
+    ∷ (codes "dropped=" ++ decimal dropped) ∷ [])
+
 -- how many events were done, frames entered, frames left, packets were sent, and drops there were
 abbrev pub counts_line : List Entry → List ℕ
-counts_line trace = line_of
-    (codes "end"
-    ∷ (codes "events=" ++ decimal (count_by (is_counted counted.Event) trace))
-    ∷ (codes "in=" ++ decimal (count_by (is_counted counted.Entered) trace))
-    ∷ (codes "left=" ++ decimal (count_by (is_counted counted.Left) trace))
-    ∷ (codes "sent=" ++ decimal (count_by (is_counted counted.Sent) trace))
-    ∷ (codes "dropped=" ++ decimal (count_by (is_counted counted.Dropped) trace)) ∷ [])
+counts_line trace = told_counts
+    (count_by (is_counted counted.Event) trace)
+    (count_by (is_counted counted.Entered) trace)
+    (count_by (is_counted counted.Left) trace)
+    (count_by (is_counted counted.Sent) trace)
+    (count_by (is_counted counted.Dropped) trace)
 
 -- the counts of a run that came to its end, or the bound at which it stopped
 abbrev pub last_line : List Entry → Ending → List ℕ

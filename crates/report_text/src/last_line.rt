@@ -1,13 +1,13 @@
 //! The last line of a report.
-ghost use Rattle.std.specs.Prelude.{◌≡◌, ◌++◌, codes, count_by, OnOk};
+ghost use Rattle.std.specs.Prelude.{◌≡◌, ◌<◌, ◌^◌, ◌++◌, codes, count_by, OnOk};
 ghost use Rattle.std.specs.Fmt.{decimal};
-ghost use Rattle.report_text.specs.Report.{is_counted, counts_line, last_line};
+ghost use Rattle.report_text.specs.Report.{is_counted, counted_more, counts_line, last_line, told_counts};
 
 use crate::ending::Ending;
 use net_base::{Entry, NoMemory};
 use text_pieces::{put_number, put_number_word, put_text};
 
-/// The kinds of entries that the last line counts.
+/// The kinds of entries that the last line counts. Contracts name a count by its kind.
 #[derive(Clone, Copy, Debug, PartialEq, Eq)]
 pub enum Counted {
     /// Events that were done.
@@ -22,44 +22,82 @@ pub enum Counted {
     Dropped,
 }
 
-// Whether an entry is of this kind.
-#[tactic(auto, unfolding(crate::specs::Report::is_counted))]
-fn is_kind(kind: Counted, entry: &Entry) -> bool
-    ensures { result ≡ is_counted kind entry.now }
-{
-    match kind {
-        Counted::Event => matches!(entry, Entry::Did { .. }),
-        Counted::Entered => matches!(entry, Entry::In { .. }),
-        Counted::Left => matches!(entry, Entry::Left { .. }),
-        Counted::Sent => matches!(entry, Entry::Sent { .. }),
-        Counted::Dropped => matches!(entry, Entry::Dropped { .. }),
+// How many entries of each kind there are.
+#[derive(Clone, Copy)]
+struct Counts {
+    events: u64,
+    entered: u64,
+    left: u64,
+    sent: u64,
+    dropped: u64,
+}
+
+impl Counts {
+    // Counts one entry more.
+    #[tactic(auto, unfolding(crate::specs::Report::is_counted))]
+    fn add(&mut self, entry: &Entry)
+        requires events { self.old.events < 2 ^ 63 }
+        requires entered { self.old.entered < 2 ^ 63 }
+        requires left { self.old.left < 2 ^ 63 }
+        requires sent { self.old.sent < 2 ^ 63 }
+        requires dropped { self.old.dropped < 2 ^ 63 }
+        ensures events { self.new.events ≡ counted_more Counted.Event entry.now self.old.events }
+        ensures entered { self.new.entered ≡ counted_more Counted.Entered entry.now self.old.entered }
+        ensures left { self.new.left ≡ counted_more Counted.Left entry.now self.old.left }
+        ensures sent { self.new.sent ≡ counted_more Counted.Sent entry.now self.old.sent }
+        ensures dropped { self.new.dropped ≡ counted_more Counted.Dropped entry.now self.old.dropped }
+    {
+        match entry {
+            Entry::Did { .. } => self.events += 1,
+            Entry::In { .. } => self.entered += 1,
+            Entry::Left { .. } => self.left += 1,
+            Entry::Sent { .. } => self.sent += 1,
+            Entry::Dropped { .. } => self.dropped += 1,
+            _ => {}
+        }
     }
 }
 
-// How many entries are of this kind.
-fn count_of(trace: &[Entry], kind: Counted) -> usize
-    ensures { result ≡ count_by (is_counted kind) trace.now }
+// The counts of a trace, in one pass.
+fn counts_of(trace: &[Entry]) -> Counts
+    ensures events { result.events ≡ count_by (is_counted Counted.Event) trace.now }
+    ensures entered { result.entered ≡ count_by (is_counted Counted.Entered) trace.now }
+    ensures left { result.left ≡ count_by (is_counted Counted.Left) trace.now }
+    ensures sent { result.sent ≡ count_by (is_counted Counted.Sent) trace.now }
+    ensures dropped { result.dropped ≡ count_by (is_counted Counted.Dropped) trace.now }
 {
-    let mut count = 0;
+    let mut counts = Counts {
+        events: 0,
+        entered: 0,
+        left: 0,
+        sent: 0,
+        dropped: 0,
+    };
     for entry in trace {
-        if is_kind(kind, entry) {
-            count += 1;
-        }
+        counts.add(entry);
     }
-    count
+    counts
 }
 
 // Adds a count under its label.
-fn put_count(
-    text: &mut Vec<u8>,
-    label: &[u8],
-    trace: &[Entry],
-    kind: Counted,
-) -> Result<(), NoMemory>
-    ensures { OnOk result (text.new.items ≡ text.old.items ++ (label.now ++ decimal (count_by (is_counted kind) trace.now))) }
+fn put_count(text: &mut Vec<u8>, label: &[u8], count: u64) -> Result<(), NoMemory>
+    ensures { OnOk result (text.new.items ≡ text.old.items ++ (label.now ++ decimal count)) }
 {
     put_text(text, label)?;
-    put_number(text, count_of(trace, kind) as u64)?;
+    put_number(text, count)?;
+    Ok(())
+}
+
+// Adds the line that tells these counts.
+fn put_told(text: &mut Vec<u8>, counts: Counts) -> Result<(), NoMemory>
+    ensures { OnOk result (text.new.items ≡ text.old.items ++ told_counts counts.events counts.entered counts.left counts.sent counts.dropped) }
+{
+    put_count(text, b"end events=", counts.events)?;
+    put_count(text, b" in=", counts.entered)?;
+    put_count(text, b" left=", counts.left)?;
+    put_count(text, b" sent=", counts.sent)?;
+    put_count(text, b" dropped=", counts.dropped)?;
+    put_text(text, b"\n")?;
     Ok(())
 }
 
@@ -67,13 +105,7 @@ fn put_count(
 fn put_counts(text: &mut Vec<u8>, trace: &[Entry]) -> Result<(), NoMemory>
     ensures { OnOk result (text.new.items ≡ text.old.items ++ counts_line trace.now) }
 {
-    put_count(text, b"end events=", trace, Counted::Event)?;
-    put_count(text, b" in=", trace, Counted::Entered)?;
-    put_count(text, b" left=", trace, Counted::Left)?;
-    put_count(text, b" sent=", trace, Counted::Sent)?;
-    put_count(text, b" dropped=", trace, Counted::Dropped)?;
-    put_text(text, b"\n")?;
-    Ok(())
+    put_told(text, counts_of(trace))
 }
 
 // Adds the line of a run that stopped.

@@ -1,0 +1,37 @@
+-- The digits of octets one piece after another.
+use Rattle.std.proofs.Common.{◌≡◌, ◌≤◌, ◌+◌, ◌/◌, ◌%◌, ◌++◌, ◌∙◌, ℕ, List, [], ◌∷◌, length, take, drop, refl, ap, sym, append_assoc, take-append-drop}
+use Rattle.std.specs.Prelude.{slice_index}
+use Rattle.std.proofs.lemmas.List.{append-nil, drop-drop, drop_all}
+use Rattle.hex.specs.Hex.{encode_with, lower_digits}
+use Rattle.text_pieces.specs.Pieces.{hex}
+
+digits_of-append : (digits front back : List ℕ) → encode_with digits (front ++ back) ≡ encode_with digits front ++ encode_with digits back
+unfolding encode_with
+digits_of-append digits [] back = refl
+digits_of-append digits (octet ∷ front) back = ap (λ (l : List ℕ). slice_index digits (octet / 16) ∷ slice_index digits (octet % 16) ∷ l) (digits_of-append digits front back)
+
+pub hex-append : (front back : List ℕ) → hex (front ++ back) ≡ hex front ++ hex back
+hex-append front back = digits_of-append lower_digits front back
+
+-- the digits from a place on are those of a piece there, and those behind it
+pub hex_from : (octets : List ℕ) (at count : ℕ) → hex (drop at octets) ≡ hex (take count (drop at octets)) ++ hex (drop (at + count) octets)
+hex_from octets at count =
+    ap hex (sym (take-append-drop count (drop at octets))) ∙ (hex-append (take count (drop at octets)) (drop count (drop at octets)) ∙ ap (λ (l : List ℕ). hex (take count (drop at octets)) ++ hex l) (drop-drop count at octets))
+
+hex_none : hex [] ≡ []
+unfolding encode_with
+hex_none = refl
+
+-- a piece's digits are added
+pub digits_next : (text now whole octets rest piece : List ℕ) (at mid : ℕ) → rest ≡ drop at octets → piece ≡ take mid rest → length piece ≡ mid
+    → now ≡ text ++ hex piece → text ++ hex (drop at octets) ≡ whole → now ++ hex (drop (at + length piece) octets) ≡ whole
+digits_next text now whole octets rest piece at mid behind front len adds told =
+    let more : List ℕ = hex (drop (at + length piece) octets) in
+    let is : piece ≡ take (length piece) (drop at octets) = front ∙ (ap (λ (k : ℕ). take k rest) (sym len) ∙ ap (λ (l : List ℕ). take (length piece) l) behind) in
+    let split : hex (drop at octets) ≡ hex piece ++ more = hex_from octets at (length piece) ∙ ap (λ (l : List ℕ). hex l ++ more) (sym is) in
+    (ap (λ (l : List ℕ). l ++ more) adds ∙ append_assoc text (hex piece) more) ∙ (ap (λ (l : List ℕ). text ++ l) (sym split) ∙ told)
+
+-- no octet is left
+pub digits_all : (text whole octets : List ℕ) (at : ℕ) → length octets ≤ at → text ++ hex (drop at octets) ≡ whole → text ≡ whole
+digits_all text whole octets at end told =
+    (sym (append-nil text) ∙ ap (λ (l : List ℕ). text ++ l) (sym (ap hex (drop_all at octets end) ∙ hex_none))) ∙ told
