@@ -5,7 +5,7 @@ ghost use Rattle.net_base.specs.declared.trace.state_name.StateName.TheVariants 
 ghost use Rattle.net_base.specs.plan.Accepted.{IsChecked};
 ghost use Rattle.net_base.specs.plan.Places.{service_row};
 ghost use Rattle.hvpls_spokes.specs.Port.{ports_of};
-ghost use Rattle.edge_model.specs.State.{addresses_of, empty_edge, is_on};
+ghost use Rattle.edge_model.specs.State.{addresses_of, empty_edge, has_end, is_on};
 ghost use Rattle.edge_model.specs.Step.{edge_step};
 ghost use Rattle.edge_model.specs.Work.{Agrees, Answers, GoesOn, beginning};
 ghost use Rattle.provider_edge.specs.Lists.{Keeps, seen, worked};
@@ -159,6 +159,15 @@ impl Edge {
     {
         let _ = peer;
         StateName::NonExistent
+    }
+
+    /// Whether the edge's end of its connection with a peer stands: none does yet.
+    #[tactic(auto, unfolding(crate::specs::Lists::seen))]
+    pub fn has_end(&self, peer: EdgeId) -> bool
+        ensures { result ≡ has_end (seen self.now) peer }
+    {
+        let _ = peer;
+        false
     }
 
     /// How many octets of a peer are held that are no whole PDU yet: no connection stands yet.
