@@ -189,6 +189,13 @@ impl Network {
         }
     }
 
+    /// The plan.
+    pub fn plan(&self) -> &Plan
+        ensures { result.now ≡ self.now.plan }
+    {
+        &self.plan
+    }
+
     /// The trace of what has happened.
     pub fn trace(&self) -> &Trace
         ensures { result.now ≡ self.now.trace }

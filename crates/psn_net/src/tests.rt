@@ -1,5 +1,5 @@
 //! Runs of small networks, and of the largest one that the limit lets be.
-ghost use Rattle.std.specs.Prelude.{◌≡◌, ◌<◌, ◌≤◌, length, IfOk};
+ghost use Rattle.std.specs.Prelude.{◌≤◌};
 
 use crate::{NetStop, Network};
 use net_base::{
@@ -49,14 +49,12 @@ fn plan_of(alloc: Global, edges: u8, circuits: u16) -> Result<Plan, Fail> {
 }
 
 // The network of such a plan.
-fn opened(alloc: Global, edges: u8, circuits: u16) -> Result<Network, Fail>
-    ensures { IfOk result (λ network. 0 < length network.plan.circuits) }
-{
+fn opened(alloc: Global, edges: u8, circuits: u16) -> Result<Network, Fail> {
     let plan = plan_of(alloc, edges, circuits)?;
     if plan.edges.len() > 64 || plan.services.len() > 64 {
         return Err(Fail::new("sizes"));
     }
-    if plan.circuits.len() == 0 || plan.circuits.len() > 512 || plan.wires.len() > 1024 {
+    if plan.circuits.len() > 512 || plan.wires.len() > 1024 {
         return Err(Fail::new("sizes"));
     }
     match plan.check() {
@@ -67,14 +65,27 @@ fn opened(alloc: Global, edges: u8, circuits: u16) -> Result<Network, Fail>
 
 // A broadcast of so many octets enters at the first circuit.
 fn enter(alloc: Global, network: &mut Network, octets: usize) -> Result<Result<(), NetStop>, Fail>
-    requires circuit { 0 < length network.old.plan.circuits }
-    requires octets { octets ≤ 262144 }
-    ensures plan { network.new.plan ≡ network.old.plan }
+    requires { octets ≤ 262144 }
 {
+    if network.plan().circuits.is_empty() {
+        return Err(Fail::new("no circuit"));
+    }
     let frame = vec![in alloc; 255u8; octets]?;
     let event = Event::Frame {
         circuit: CircuitId(0),
         bytes: List::from_bytes(alloc, frame.as_slice())?,
+    };
+    Ok(network.apply(alloc, &event))
+}
+
+// The first circuit is turned off.
+fn turn_off(alloc: Global, network: &mut Network) -> Result<Result<(), NetStop>, Fail> {
+    if network.plan().circuits.is_empty() {
+        return Err(Fail::new("no circuit"));
+    }
+    let event = Event::Circuit {
+        circuit: CircuitId(0),
+        on: false,
     };
     Ok(network.apply(alloc, &event))
 }
@@ -121,13 +132,8 @@ fn does_frames_circuits_and_ticks(rt: HostRuntime) -> Result<(), Fail> {
     let mut network = opened(alloc, 2, 3)?;
     assert!(rt; enter(alloc, &mut network, 14)?.is_ok());
     assert!(rt; enter(alloc, &mut network, 13)?.is_ok());
-    for _twice in 0..2 {
-        let off = Event::Circuit {
-            circuit: CircuitId(0),
-            on: false,
-        };
-        assert!(rt; network.apply(alloc, &off).is_ok());
-    }
+    assert!(rt; turn_off(alloc, &mut network)?.is_ok());
+    assert!(rt; turn_off(alloc, &mut network)?.is_ok());
     assert!(rt; enter(alloc, &mut network, 14)?.is_ok());
     assert!(rt; network.apply(alloc, &Event::Tick).is_ok());
     assert_eq!(rt; kinds(alloc, &network)?.as_str(), ">nll>nd>>i>i>");
