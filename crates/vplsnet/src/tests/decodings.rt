@@ -5,151 +5,287 @@ use std::alloc::Global;
 use std::process::Abort;
 use std::test::Fail;
 
-// The octets of a stream in hexadecimal, the lines that are taken, and the line on standard error, empty where the stream
-// is whole.
-type Row = (&'static str, &'static str, &'static str);
+// Decodes octets in a sound surrounding: the lines that are taken, and the line on standard error, empty where the
+// stream is whole.
+fn decodes(
+    rt: &impl Abort,
+    alloc: Global,
+    octets: &str,
+    lines: &str,
+    line: &str,
+) -> Result<(), Fail> {
+    let octets = octets_of(alloc, octets)?;
+    let (finish, sink) = call(alloc, "decode f", octets.as_slice(), SOUND)?;
+    assert_eq!(rt; finish.status, if line.is_empty() { 0 } else { 6 });
+    assert_eq!(rt; finish.trace().len(), 0);
+    assert_eq!(rt; sink.taken(), lines.as_bytes());
+    let told = line_of(alloc, &finish.outcome)?;
+    assert_eq!(rt; told.as_slice(), line.as_bytes());
+    Ok(())
+}
 
-// Messages of sessions (RFC 5036 section 3.5).
-const SESSION_MESSAGES: [Row; 14] = [
-    (
+#[test]
+fn writes_a_keep_alive(rt: HostRuntime) -> Result<(), Fail> {
+    decodes(
+        &rt,
+        rt.alloc(),
         "0001000e0a00000100000201000400000001",
         "0 KeepAlive id=1\n",
         "",
-    ),
-    ("", "", ""),
-    (
+    )?;
+    decodes(&rt, rt.alloc(), "", "", "")?;
+    Ok(())
+}
+
+#[test]
+fn writes_notifications(rt: HostRuntime) -> Result<(), Fail> {
+    decodes(
+        &rt,
+        rt.alloc(),
         "0001001c0a0000010000 0001001200000001 0300000a 80000010 00000001 0200",
         "0 Notification id=1 code=1/0/16/1/512\n",
         "",
-    ),
-    (
+    )?;
+    decodes(
+        &rt,
+        rt.alloc(),
         "0001001c0a0000010000 000100120000000a 0300000a 7fffffff ffffffff ffff",
         "0 Notification id=10 code=0/1/1073741823/4294967295/65535\n",
         "",
-    ),
-    (
+    )?;
+    Ok(())
+}
+
+#[test]
+fn writes_hellos(rt: HostRuntime) -> Result<(), Fail> {
+    decodes(
+        &rt,
+        rt.alloc(),
         "0001001e0a0000010000 0100001400000007 04000004002dc000 040100040a000002",
         "0 Hello id=7 hold=45/1/1 transport=10.0.0.2\n",
         "",
-    ),
-    (
+    )?;
+    decodes(
+        &rt,
+        rt.alloc(),
         "000100160a0000010000 0100000c00000008 04000004ffff4000",
         "0 Hello id=8 hold=65535/0/1\n",
         "",
-    ),
-    (
+    )?;
+    Ok(())
+}
+
+#[test]
+fn writes_initializations(rt: HostRuntime) -> Result<(), Fail> {
+    decodes(
+        &rt,
+        rt.alloc(),
         "000100340a0000020000 0200002a00000001 0500000e000100b4000010000a0000010000 850300080000000000000000 0501000400000000",
         "0 Initialization id=1 session=1/180/0/0/0/4096/10.0.0.1:0\n",
         "",
-    ),
-    (
+    )?;
+    decodes(
+        &rt,
+        rt.alloc(),
         "000100200a0000010000 02000016ffffffff 0500000e0001000fc0050100c0a801ff0007",
         "0 Initialization id=4294967295 session=1/15/1/1/5/256/192.168.1.255:7\n",
         "",
-    ),
-    (
+    )?;
+    Ok(())
+}
+
+#[test]
+fn writes_addresses(rt: HostRuntime) -> Result<(), Fail> {
+    decodes(
+        &rt,
+        rt.alloc(),
         "000100180a0000010000 0300000e00000003 0101000600010a000001",
         "0 Address id=3 addresses=1/0a000001\n",
         "",
-    ),
-    (
+    )?;
+    decodes(
+        &rt,
+        rt.alloc(),
         "000100140a0000010000 0300000a00000003 010100020019",
         "0 Address id=3 addresses=25/\n",
         "",
-    ),
-    (
+    )?;
+    decodes(
+        &rt,
+        rt.alloc(),
         "000100180a0000010000 0301000e00000004 010100060001c0a801fe",
         "0 AddressWithdraw id=4 addresses=1/c0a801fe\n",
         "",
-    ),
-    (
+    )?;
+    Ok(())
+}
+
+#[test]
+fn writes_what_is_not_processed(rt: HostRuntime) -> Result<(), Fail> {
+    decodes(
+        &rt,
+        rt.alloc(),
         "0001000e0a0000010000 bf00000400000009",
         "0 Other id=9 type=16128\n",
         "",
-    ),
-    (
+    )?;
+    decodes(
+        &rt,
+        rt.alloc(),
         "000100160a0000010000 0201000c00000002 3f000000 3f010000",
         "0 Unprocessed id=2 type=513 why=UnknownTlv:16128\n",
         "",
-    ),
-    (
+    )?;
+    decodes(
+        &rt,
+        rt.alloc(),
         "0001000e0a0000010000 0001000400000005",
         "0 Unprocessed id=5 type=1 why=Missing:Status\n",
         "",
-    ),
-];
+    )?;
+    Ok(())
+}
 
-// Messages of pseudowires (RFC 8077 section 6, RFC 4762 section 6.2, RFC 6073 section 7.4).
-const PSEUDOWIRE_MESSAGES: [Row; 12] = [
-    (
+#[test]
+fn writes_a_label_mapping(rt: HostRuntime) -> Result<(), Fail> {
+    decodes(
+        &rt,
+        rt.alloc(),
         "000100320a0000010000 0400002800000003 01000010 80800508 00000000 00000064 010405dc 0200000400000010 896a000400000000",
         "0 LabelMapping id=3 fec=1/5/0/100 mtu=1500 label=16 status=0\n",
         "",
-    ),
+    )?;
     // A parameter that is not known is passed over.
-    (
+    decodes(
+        &rt,
+        rt.alloc(),
         "000100340a0000010000 0400002a00000003 01000012 8080050a 00000000 00000064 010405dc 7f02 0200000400000010 896a000400000000",
         "0 LabelMapping id=3 fec=1/5/0/100 mtu=1500 label=16 status=0\n",
         "",
-    ),
-    (
+    )?;
+    Ok(())
+}
+
+#[test]
+fn writes_every_part_of_a_mapping(rt: HostRuntime) -> Result<(), Fail> {
+    decodes(
+        &rt,
+        rt.alloc(),
         "0001005e0a0000010000 0400005400000003 0100001c 80000414 00000007 00000064 010405dc 03046162 06040fff 0c040102 02000004000fffff 896a00040000003f 896d0012 010400000064 03040a000002 04040a000003 896d0006 03040a000003",
         "0 LabelMapping id=3 fec=0/4/7/100 mtu=1500 description=6162 vlan=4095 vccv=1/2 label=1048575 status=63 point=100/10.0.0.2/10.0.0.3 point=-/10.0.0.3/-\n",
         "",
-    ),
+    )
+}
+
+#[test]
+fn refuses_parameters(rt: HostRuntime) -> Result<(), Fail> {
+    decodes(
+        &rt,
+        rt.alloc(),
+        "000100340a0000010000 0400002a00000003 01000012 8080050a 00000000 00000064 010405dc 7f01 0200000400000010 896a000400000000",
+        "",
+        "vplsnet: stream: 0 TlvValue 39 Parameter",
+    )?;
+    decodes(
+        &rt,
+        rt.alloc(),
+        "000100320a0000010000 0400002800000003 01000010 80800514 00000000 00000064 010405dc 0200000400000010 896a000400000000",
+        "",
+        "vplsnet: stream: 0 TlvValue 25 InfoLength",
+    )?;
+    Ok(())
+}
+
+#[test]
+fn writes_a_fec_that_is_not_known(rt: HostRuntime) -> Result<(), Fail> {
     // A second element behind the first.
-    (
+    decodes(
+        &rt,
+        rt.alloc(),
         "0001003a0a0000010000 0400003000000003 01000018 80800508 00000000 00000064 010405dc 8080050000000007 0200000400000010 896a000400000000",
         "0 Unprocessed id=3 type=1024 why=UnknownFec:128\n",
         "",
-    ),
+    )?;
     // The prefix 10.0.0.3/32 with the label 3.
-    (
+    decodes(
+        &rt,
+        rt.alloc(),
         "000100220a0000010000 0400001800000003 01000008 02000120 0a000003 0200000400000003",
         "0 Unprocessed id=3 type=1024 why=UnknownFec:2\n",
         "",
-    ),
+    )?;
+    Ok(())
+}
+
+#[test]
+fn writes_requests_and_withdrawals(rt: HostRuntime) -> Result<(), Fail> {
     // An empty description is none.
-    (
+    decodes(
+        &rt,
+        rt.alloc(),
         "000100200a0000010000 0401001600000004 0100000e 80800506 00000000 00000064 0302",
         "0 LabelRequest id=4 fec=1/5/0/100\n",
         "",
-    ),
-    (
+    )?;
+    decodes(
+        &rt,
+        rt.alloc(),
         "0001001a0a0000010000 0402001000000004 01000008 80800500 00000007",
         "0 LabelWithdraw id=4 fec=1/5/7/*\n",
         "",
-    ),
-    (
+    )?;
+    decodes(
+        &rt,
+        rt.alloc(),
         "000100260a0000010000 0403001c00000009 0100000c 80800504 00000000 00000064 0200000400000010",
         "0 LabelRelease id=9 fec=1/5/0/100 label=16\n",
         "",
-    ),
-    (
+    )?;
+    decodes(
+        &rt,
+        rt.alloc(),
         "000100260a0000010000 0404001c0000000a 0100000c 80800504 00000000 00000064 0600000400000009",
         "0 LabelAbort id=10 fec=1/5/0/100 request=9\n",
         "",
-    ),
-    (
+    )?;
+    Ok(())
+}
+
+#[test]
+fn writes_the_status_of_a_pseudowire(rt: HostRuntime) -> Result<(), Fail> {
+    decodes(
+        &rt,
+        rt.alloc(),
         "000100340a0000010000 0001002a0000000b 0300000a 00000028 00000000 0000 896a000400000010 0100000c 80800504 00000000 00000064",
         "0 Notification id=11 code=0/0/40/0/0 fec=1/5/0/100 status=16\n",
         "",
-    ),
-    (
+    )
+}
+
+#[test]
+fn writes_withdrawn_mac_addresses(rt: HostRuntime) -> Result<(), Fail> {
+    decodes(
+        &rt,
+        rt.alloc(),
         "000100220a000001000003010018000000050100000c8080050400000000000000ca84040000",
         "0 AddressWithdraw id=5 fec=1/5/0/202 macs=0/\n",
         "",
-    ),
-    (
+    )?;
+    decodes(
+        &rt,
+        rt.alloc(),
         "0001002e0a0000010000 0301002400000006 0100000c 80800504 00000000 00000064 8404000c 020000000001 0200000000ff",
         "0 AddressWithdraw id=6 fec=1/5/0/100 macs=2/0200000000010200000000ff\n",
         "",
-    ),
-];
+    )?;
+    Ok(())
+}
 
-// Streams of several PDUs.
-const STREAMS: [Row; 2] = [
-    (
+#[test]
+fn writes_the_messages_of_a_session(rt: HostRuntime) -> Result<(), Fail> {
+    decodes(
+        &rt,
+        rt.alloc(),
         "000100200a0000010000 0200001600000001 0500000e 000100b4000010000a0000020000 \
          0001000e0a0000010000 0201000400000002 \
          000100320a0000010000 0400002800000003 01000010 80800508 00000000 00000064 010405dc 0200000400000010 896a000400000000 \
@@ -165,116 +301,105 @@ const STREAMS: [Row; 2] = [
          214 LabelWithdraw id=6 fec=1/5/0/100 label=16\n\
          256 LabelRelease id=7 fec=1/5/0/100 label=17\n",
         "",
-    ),
-    (
-        "000100160a0000010000 0201000400000001 0201000400000002 0001000e0a00000100000201000400000001",
-        "0 KeepAlive id=1\n0 KeepAlive id=2\n26 KeepAlive id=1\n",
-        "",
-    ),
-];
-
-// Streams that end within a PDU.
-const ENDS: [Row; 3] = [
-    (
-        "0001000e0a000001000002010004000000",
-        "",
-        "vplsnet: stream ends at 0",
-    ),
-    (
-        "0001000e0a00000100000201000400000001 00",
-        "0 KeepAlive id=1\n",
-        "vplsnet: stream ends at 18",
-    ),
-    (
-        "000100160a0000010000 0201000400000001 0201000400000002 0001000e0a00",
-        "0 KeepAlive id=1\n0 KeepAlive id=2\n",
-        "vplsnet: stream ends at 26",
-    ),
-];
-
-// Streams with a fault.
-const REFUSALS: [Row; 10] = [
-    (
-        "000100340a0000010000 0400002a00000003 01000012 8080050a 00000000 00000064 010405dc 7f01 0200000400000010 896a000400000000",
-        "",
-        "vplsnet: stream: 0 TlvValue 39 Parameter",
-    ),
-    (
-        "000100320a0000010000 0400002800000003 01000010 80800514 00000000 00000064 010405dc 0200000400000010 896a000400000000",
-        "",
-        "vplsnet: stream: 0 TlvValue 25 InfoLength",
-    ),
-    ("0001000d", "", "vplsnet: stream: 0 PduLength 2"),
-    ("00011001", "", "vplsnet: stream: 0 PduLength 2"),
-    ("0002", "", "vplsnet: stream: 0 Version 0"),
-    (
-        "0001000e0a00000100000201000400000001 0001000d",
-        "0 KeepAlive id=1\n",
-        "vplsnet: stream: 18 PduLength 2",
-    ),
-    (
-        "0001000e0a00000100000201000400000001 0001000e0a0000010000 0201000300000001",
-        "0 KeepAlive id=1\n",
-        "vplsnet: stream: 18 MessageLength 12",
-    ),
-    (
-        "0001000f0a0000010000 020100050000000100",
-        "",
-        "vplsnet: stream: 0 TlvLength 18",
-    ),
-    (
-        "0001001b0a0000010000 0001001100000001 03000009 800000100000000102",
-        "",
-        "vplsnet: stream: 0 TlvValue 20 Status",
-    ),
-    (
-        "0001001e0a0000010000 0100001400000007 04000004002dc000 04000004002dc000",
-        "",
-        "vplsnet: stream: 0 Repeated 26 Hello",
-    ),
-];
-
-// Decodes each row in a sound surrounding.
-fn decodes(rt: &impl Abort, alloc: Global, rows: &[Row]) -> Result<(), Fail> {
-    for (octets, lines, line) in rows {
-        let octets = octets_of(alloc, octets)?;
-        let (finish, sink) = call(alloc, "decode f", octets.as_slice(), SOUND)?;
-        assert_eq!(rt;
-            finish.status,
-            if line.is_empty() { 0 } else { 6 },
-            "{lines}{line}"
-        );
-        assert_eq!(rt; finish.trace().len(), 0, "{lines}{line}");
-        assert_eq!(rt; sink.taken(), lines.as_bytes(), "{lines}{line}");
-        let told = line_of(alloc, &finish.outcome)?;
-        assert_eq!(rt; told.as_slice(), line.as_bytes());
-    }
-    Ok(())
-}
-
-#[test]
-fn writes_the_messages_of_sessions(rt: HostRuntime) -> Result<(), Fail> {
-    decodes(&rt, rt.alloc(), &SESSION_MESSAGES)
-}
-
-#[test]
-fn writes_the_messages_of_pseudowires(rt: HostRuntime) -> Result<(), Fail> {
-    decodes(&rt, rt.alloc(), &PSEUDOWIRE_MESSAGES)
+    )
 }
 
 #[test]
 fn tells_where_each_pdu_begins(rt: HostRuntime) -> Result<(), Fail> {
-    decodes(&rt, rt.alloc(), &STREAMS)
+    decodes(
+        &rt,
+        rt.alloc(),
+        "000100160a0000010000 0201000400000001 0201000400000002 0001000e0a00000100000201000400000001",
+        "0 KeepAlive id=1\n0 KeepAlive id=2\n26 KeepAlive id=1\n",
+        "",
+    )?;
+    Ok(())
 }
 
 #[test]
 fn tells_where_the_last_pdu_is_cut(rt: HostRuntime) -> Result<(), Fail> {
-    decodes(&rt, rt.alloc(), &ENDS)
+    decodes(
+        &rt,
+        rt.alloc(),
+        "0001000e0a000001000002010004000000",
+        "",
+        "vplsnet: stream ends at 0",
+    )?;
+    decodes(
+        &rt,
+        rt.alloc(),
+        "0001000e0a00000100000201000400000001 00",
+        "0 KeepAlive id=1\n",
+        "vplsnet: stream ends at 18",
+    )?;
+    decodes(
+        &rt,
+        rt.alloc(),
+        "000100160a0000010000 0201000400000001 0201000400000002 0001000e0a00",
+        "0 KeepAlive id=1\n0 KeepAlive id=2\n",
+        "vplsnet: stream ends at 26",
+    )?;
+    Ok(())
 }
 
 #[test]
-fn refuses_faults(rt: HostRuntime) -> Result<(), Fail> {
-    decodes(&rt, rt.alloc(), &REFUSALS)
+fn refuses_a_header(rt: HostRuntime) -> Result<(), Fail> {
+    decodes(
+        &rt,
+        rt.alloc(),
+        "0001000d",
+        "",
+        "vplsnet: stream: 0 PduLength 2",
+    )?;
+    decodes(
+        &rt,
+        rt.alloc(),
+        "00011001",
+        "",
+        "vplsnet: stream: 0 PduLength 2",
+    )?;
+    decodes(&rt, rt.alloc(), "0002", "", "vplsnet: stream: 0 Version 0")?;
+    decodes(
+        &rt,
+        rt.alloc(),
+        "0001000e0a00000100000201000400000001 0001000d",
+        "0 KeepAlive id=1\n",
+        "vplsnet: stream: 18 PduLength 2",
+    )?;
+    Ok(())
+}
+
+#[test]
+fn refuses_a_message(rt: HostRuntime) -> Result<(), Fail> {
+    decodes(
+        &rt,
+        rt.alloc(),
+        "0001000e0a00000100000201000400000001 0001000e0a0000010000 0201000300000001",
+        "0 KeepAlive id=1\n",
+        "vplsnet: stream: 18 MessageLength 12",
+    )?;
+    decodes(
+        &rt,
+        rt.alloc(),
+        "0001000f0a0000010000 020100050000000100",
+        "",
+        "vplsnet: stream: 0 TlvLength 18",
+    )?;
+    decodes(
+        &rt,
+        rt.alloc(),
+        "0001001b0a0000010000 0001001100000001 03000009 800000100000000102",
+        "",
+        "vplsnet: stream: 0 TlvValue 20 Status",
+    )?;
+    decodes(
+        &rt,
+        rt.alloc(),
+        "0001001e0a0000010000 0100001400000007 04000004002dc000 04000004002dc000",
+        "",
+        "vplsnet: stream: 0 Repeated 26 Hello",
+    )?;
+    Ok(())
 }
 
 // A KeepAlive and a PDU with a wrong length.
