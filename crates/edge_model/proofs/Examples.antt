@@ -1,5 +1,5 @@
 -- The definitions at work at one edge: each equation below is found by evaluation alone.
-use Rattle.std.proofs.Common.{◌≡◌, ℕ, Bool, true, false, List, [], ◌∷◌, Option, Some, None, refl}
+use Rattle.std.proofs.Common.{◌≡◌, ℕ, true, false, List, [], ◌∷◌, Option, Some, None, refl}
 use Rattle.std.specs.Prelude.{codes}
 use Rattle.net_base.specs.declared.plan.Plan.{Plan}
 use Rattle.net_base.specs.declared.plan.circuit_plan.CircuitPlan.{CircuitPlan}
@@ -48,7 +48,7 @@ abbrev on_frame : ℕ → List ℕ → EdgeState → Work
 on_frame at octets edge = frame_input plan taken (circuit at) octets (circuit_row plan (circuit at)) (beginning edge [])
 
 abbrev on_tick : EdgeState → Work
-on_tick edge = tick_input plan (beginning edge [])
+on_tick edge = tick_input plan taken (beginning edge [])
 
 abbrev off : ℕ → EdgeState → Work
 off at edge = circuit_input plan (circuit at) false (circuit_row plan (circuit at)) (beginning edge [])

@@ -1,3 +1,4 @@
 mod Examples
 pub mod LocalLemmas
+mod SessionExamples
 pub mod StillLemmas

@@ -11,7 +11,7 @@ use Rattle.hvpls_spokes.specs.declared.port.Port.TheVariants as port
 use Rattle.hvpls_spokes.specs.Port.{ports_of}
 use Rattle.edge_model.specs.Circuit.{circuit_input, is_same, turned}
 use Rattle.edge_model.specs.Frame.{copies, copy_by, frame_input, hearing, is_own, port_at, received, targets_of}
-use Rattle.edge_model.specs.State.{EdgeState, is_on}
+use Rattle.edge_model.specs.State.{is_on}
 use Rattle.edge_model.specs.Work.{Answers, Work, changes, gives, idles}
 
 -- the copies of a frame leave what the input is

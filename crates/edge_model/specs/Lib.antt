@@ -1,7 +1,11 @@
 pub mod Circuit
+pub mod Connection
 pub mod Ends
 pub mod Frame
+pub mod Hear
 pub mod Local
+pub mod Put
+pub mod Session
 pub mod State
 pub mod Step
 pub mod Tick

@@ -4,12 +4,16 @@ use Rattle.net_base.specs.declared.plan.places.EdgeId.{EdgeId}
 use Rattle.net_base.specs.declared.plan.places.ServiceId.{ServiceId}
 use Rattle.net_base.specs.declared.plan.places.CircuitId.{CircuitId}
 use Rattle.mac_table.specs.declared.mac_entry.MacEntry.{MacEntry}
+use Rattle.session_core.specs.State.{SessionState}
 
--- what an edge keeps for a neighbour as long as its end of their connection stands. The session and the number of the
--- next message will stand here too
+-- what an edge keeps for a neighbour as long as its end of their connection stands
 pub record Peering : Type 0 where
+  -- its session, which stands
+  pub session : SessionState
   -- the octets that it has heard and that are no whole PDU yet
   pub held : List ℕ
+  -- the Message ID of the next message
+  pub next_id : ℕ
 
 -- what an edge holds
 pub record EdgeState : Type 0 where
@@ -59,6 +63,14 @@ with_addresses service entries edge = record edge { learned = put_at edge.learne
 -- other addresses of every service
 unfoldable pub with_learned : (ℕ → List MacEntry) → EdgeState → EdgeState
 with_learned learned edge = record edge { learned = learned }
+
+-- what is kept for one neighbour, or nothing any more
+unfoldable pub with_peering : EdgeId → Option Peering → EdgeState → EdgeState
+with_peering peer kept edge = record edge { peering = put_at edge.peering peer.0 kept }
+
+-- nothing is kept for any neighbour
+unfoldable pub without_peerings : EdgeState → EdgeState
+without_peerings edge = record edge { peering = λ peer. None }
 
 -- another count of ticks
 unfoldable pub with_ticks : ℕ → EdgeState → EdgeState

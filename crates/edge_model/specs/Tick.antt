@@ -1,11 +1,13 @@
 -- A tick passes at an edge.
-use Rattle.std.specs.Prelude.{filter, ℕ, List, Option, Some, None, slice_get}
+use Rattle.std.specs.Prelude.{◌+◌, filter, zero, suc, length, ℕ, List, Option, Some, None, slice_get}
 use Rattle.net_base.specs.declared.plan.Plan.{Plan}
 use Rattle.net_base.specs.declared.plan.service_plan.ServicePlan.{ServicePlan}
 use Rattle.mac_table.specs.Addresses.{is_young}
 use Rattle.mac_table.specs.declared.mac_entry.MacEntry.{MacEntry}
 use Rattle.edge_model.specs.State.{EdgeState, later, with_learned, with_ticks}
-use Rattle.edge_model.specs.Work.{Work, changes}
+use Rattle.session_core.specs.Table.{Ticked}
+use Rattle.edge_model.specs.Session.{happens}
+use Rattle.edge_model.specs.Work.{Work, Answers, changes}
 
 -- the addresses of a service that came less than its age limit ago (RFC 4762 section 9.1)
 abbrev pub aged : ℕ → Option ServicePlan → List MacEntry → List MacEntry
@@ -16,10 +18,15 @@ aged now (Some row) entries = filter (is_young now row.age) entries
 abbrev pub forgetting : Plan → EdgeState → EdgeState
 forgetting plan edge = with_learned (λ service. aged edge.ticks (slice_get plan.services service) (edge.learned service)) edge
 
--- the edge counts the tick, and then its bridges forget
-abbrev pub ticked : Plan → EdgeState → EdgeState
-ticked plan edge = forgetting plan (with_ticks (later edge.ticks) edge)
+-- the edge counts the tick
+abbrev pub counted : EdgeState → EdgeState
+counted edge = with_ticks (later edge.ticks) edge
 
--- the input `Tick`: it always applies
-abbrev pub tick_input : Plan → Work → Work
-tick_input plan work = changes (ticked plan) work
+-- the sessions with so many edges from a place on have the tick, in the plan's order
+abbrev pub ticks_sessions : Answers → ℕ → ℕ → Work → Work
+ticks_sessions told place zero work = work
+ticks_sessions told place (suc count) work = ticks_sessions told (place + 1) count (happens told (record { 0 = place }) Ticked work)
+
+-- the input `Tick`: it always applies. The edge counts it, its sessions have it, and then its bridges forget
+abbrev pub tick_input : Plan → Answers → Work → Work
+tick_input plan told work = changes (forgetting plan) (ticks_sessions told 0 (length plan.edges) (changes counted work))

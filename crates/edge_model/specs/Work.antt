@@ -2,6 +2,8 @@
 -- no number of a packet, no origin and no hops; the network gives them.
 use Rattle.std.specs.Prelude.{◌≡◌, ◌<◌, ◌++◌, ℕ, Bool, true, false, List, [], ◌∷◌, length, slice_index_or}
 use Rattle.net_base.specs.declared.outside.link_call.LinkCall.{LinkCall}
+use Rattle.net_base.specs.declared.plan.places.EdgeId.{EdgeId}
+use Rattle.net_base.specs.outside.Link.{call_of}
 use Rattle.edge_model.specs.declared.effect.Effect.{Effect}
 use Rattle.edge_model.specs.State.{EdgeState}
 
@@ -31,6 +33,14 @@ changes change work = record work { edge = change work.edge }
 -- one more thing is given out
 unfoldable pub gives : Effect → Work → Work
 gives effect work = record work { effects = work.effects ++ effect ∷ [] }
+
+-- the link is called with octets for a peer, and takes them or not
+unfoldable pub puts : EdgeId → List ℕ → Bool → Work → Work
+puts peer bytes taken work = record work { calls = work.calls ++ call_of peer false bytes taken ∷ [] }
+
+-- whether the link takes its next call
+abbrev pub next_answer : Answers → Work → Bool
+next_answer told work = told (length work.calls)
 
 -- the input does not apply
 unfoldable pub idles : Work → Work

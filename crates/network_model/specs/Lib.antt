@@ -1,6 +1,8 @@
 pub mod Absorb
 pub mod Calm
 pub mod Circuit
+pub mod Connection
+pub mod Delivery
 pub mod Frame
 pub mod KnownOnce
 pub mod Laws

@@ -1,5 +1,5 @@
 -- The network at one moment: the edges by their places, and what is on its way between them.
-use Rattle.std.specs.Prelude.{◌++◌, ◌+◌, ℕ, Bool, true, false, List, [], ◌∷◌, Option, Some, None}
+use Rattle.std.specs.Prelude.{◌++◌, ◌+◌, ◌==◌, ℕ, Bool, true, false, List, [], ◌∷◌, Option, Some, None, if◌then◌else◌}
 use Rattle.net_base.specs.declared.plan.places.EdgeId.{EdgeId}
 use Rattle.net_base.specs.declared.plan.places.WireId.{WireId}
 use Rattle.edge_model.specs.State.{EdgeState, Peering, empty_edge, is_there, put_at}
@@ -52,6 +52,10 @@ with_edge me edge network = record network { edges = put_at network.edges me.0 e
 -- other octets on the way from an edge to another one
 unfoldable pub with_pipe : EdgeId → EdgeId → List ℕ → NetworkState → NetworkState
 with_pipe from to octets network = record network { pipes = put_at network.pipes from.0 (put_at (network.pipes from.0) to.0 octets) }
+
+-- nothing is on its way to an edge any more
+unfoldable pub without_octets_to : EdgeId → NetworkState → NetworkState
+without_octets_to me network = record network { pipes = λ from to. if to == me.0 then [] else network.pipes from to }
 
 -- one more packet under way, with the next number
 unfoldable pub with_packet : WireId → EdgeId → EdgeId → ℕ → ℕ → List ℕ → NetworkState → NetworkState

@@ -3,12 +3,12 @@ use Rattle.std.specs.Prelude.{◌+◌, ℕ, zero, suc, length}
 use Rattle.net_base.specs.declared.plan.Plan.{Plan}
 use Rattle.net_base.specs.declared.plan.places.EdgeId.{EdgeId}
 use Rattle.edge_model.specs.Tick.{tick_input}
-use Rattle.network_model.specs.Absorb.{Stepped, absorb, and_then, begin_at, stays}
+use Rattle.network_model.specs.Absorb.{Stepped, absorb, and_then, begin_at, stays, taken_all}
 use Rattle.network_model.specs.State.{NetworkState}
 
 -- the tick of one edge
 abbrev pub tick_at : Plan → EdgeId → NetworkState → Stepped
-tick_at plan me network = absorb me 0 0 (tick_input plan (begin_at network me)) network
+tick_at plan me network = absorb me 0 0 (tick_input plan taken_all (begin_at network me)) network
 
 -- so many edges from a place on
 abbrev pub ticks_from : Plan → ℕ → ℕ → NetworkState → Stepped

@@ -1,0 +1,121 @@
+-- A session comes up between two edges: what each of them makes of what the other one said. Each equation below is found by
+-- evaluation alone.
+use Rattle.std.proofs.Common.{◌≡◌, ℕ, true, false, List, [], ◌∷◌, Some, None, refl}
+use Rattle.std.specs.Prelude.{codes}
+use Rattle.net_base.specs.declared.plan.Plan.{Plan}
+use Rattle.net_base.specs.declared.plan.edge_plan.EdgePlan.{EdgePlan}
+use Rattle.net_base.specs.declared.plan.offer.Offer.{Offer}
+use Rattle.net_base.specs.declared.plan.places.EdgeId.{EdgeId}
+use Rattle.net_base.specs.declared.plan.wire_plan.WirePlan.{WirePlan}
+use Rattle.net_base.specs.declared.plan.wire_plan.Class.TheVariants.{Mesh}
+use Rattle.net_base.specs.declared.trace.state_name.Reason.TheVariants as reason
+use Rattle.net_base.specs.declared.trace.state_name.StateName.TheVariants as name
+use Rattle.edge_model.specs.Connection.{connected_input, lost_input}
+use Rattle.edge_model.specs.declared.effect.Effect.TheVariants.{Said, Session, Closed}
+use Rattle.edge_model.specs.Hear.{hears_pdu}
+use Rattle.edge_model.specs.Put.{with_spoken}
+use Rattle.edge_model.specs.State.{EdgeState, empty_edge, with_peering}
+use Rattle.edge_model.specs.Work.{Work, Answers, beginning, changes, gives, idles, puts}
+use Rattle.ldp_grammar.specs.declared.message.Message.{Message}
+use Rattle.ldp_grammar.specs.declared.message.Message.TheVariants.{Initialization, KeepAlive}
+use Rattle.ldp_grammar.specs.declared.pdu.Pdu.{Pdu}
+use Rattle.net_base.specs.declared.values.addr.Addr.{Addr}
+use Rattle.session_core.specs.Parameters.{proposal}
+
+abbrev an_edge : ℕ → EdgePlan
+an_edge last = record { name = codes "pe"; address = record { 0 = 10 ∷ 0 ∷ 0 ∷ last ∷ [] }; first_label = 16; keepalive = 180; max_pdu = 4096 }
+
+abbrev an_offer : Offer
+an_offer = record { tagged = false; cword = true; mtu = Some 1500; vlan = None; vccv = None; status = true; group = 0; description = [] }
+
+abbrev a_wire : WirePlan
+a_wire = record { name = codes "w"; service = record { 0 = 0 }; class = Mesh; path = record { 0 = 0 } ∷ record { 0 = 1 } ∷ []; pw_id = 100; near = an_offer; far = an_offer; priority = 0 }
+
+abbrev plan : Plan
+plan = record {
+  edges = an_edge 1 ∷ an_edge 2 ∷ an_edge 3 ∷ [];
+  services = record { name = codes "s"; mtu = 1500; age = 2 } ∷ [];
+  circuits = [];
+  wires = a_wire ∷ [];
+}
+
+-- the two edges; b is the active end, because its address is the larger
+abbrev a : EdgeId
+a = record { 0 = 0 }
+
+abbrev b : EdgeId
+b = record { 0 = 1 }
+
+-- every call is taken, or the first one is not
+abbrev taken : Answers
+taken k = true
+
+abbrev failing : Answers
+failing k = false
+
+abbrev connected : Answers → EdgeId → EdgeId → Work
+connected told me peer = connected_input plan told peer (beginning (empty_edge me) [])
+
+abbrev initialization_of_b : List ℕ
+initialization_of_b = 0 ∷ 1 ∷ 0 ∷ 32 ∷ 10 ∷ 0 ∷ 0 ∷ 2 ∷ 0 ∷ 0 ∷ 2 ∷ 0 ∷ 0 ∷ 22 ∷ 0 ∷ 0 ∷ 0 ∷ 1 ∷ 5 ∷ 0 ∷ 0 ∷ 14 ∷ 0 ∷ 1 ∷ 0 ∷ 180 ∷ 0 ∷ 0 ∷ 16 ∷ 0 ∷ 10 ∷ 0 ∷ 0 ∷ 1 ∷ 0 ∷ 0 ∷ []
+
+abbrev initialization_of_a : List ℕ
+initialization_of_a = 0 ∷ 1 ∷ 0 ∷ 32 ∷ 10 ∷ 0 ∷ 0 ∷ 1 ∷ 0 ∷ 0 ∷ 2 ∷ 0 ∷ 0 ∷ 22 ∷ 0 ∷ 0 ∷ 0 ∷ 1 ∷ 5 ∷ 0 ∷ 0 ∷ 14 ∷ 0 ∷ 1 ∷ 0 ∷ 180 ∷ 0 ∷ 0 ∷ 16 ∷ 0 ∷ 10 ∷ 0 ∷ 0 ∷ 2 ∷ 0 ∷ 0 ∷ []
+
+abbrev keep_alive_of_a : List ℕ
+keep_alive_of_a = 0 ∷ 1 ∷ 0 ∷ 14 ∷ 10 ∷ 0 ∷ 0 ∷ 1 ∷ 0 ∷ 0 ∷ 2 ∷ 1 ∷ 0 ∷ 4 ∷ 0 ∷ 0 ∷ 0 ∷ 2 ∷ []
+
+abbrev keep_alive_of_b : List ℕ
+keep_alive_of_b = 0 ∷ 1 ∷ 0 ∷ 14 ∷ 10 ∷ 0 ∷ 0 ∷ 2 ∷ 0 ∷ 0 ∷ 2 ∷ 1 ∷ 0 ∷ 4 ∷ 0 ∷ 0 ∷ 0 ∷ 2 ∷ []
+
+-- the passive end waits, the active one speaks
+waits : (connected taken a b).effects ≡ Session b name.Initialized ∷ []
+unfolding changes gives idles puts with_peering with_spoken
+waits = refl
+
+speaks : (connected taken b a).effects ≡ Session a name.Initialized ∷ Said a initialization_of_b ∷ Session a name.OpenSent ∷ []
+unfolding changes gives idles puts with_peering with_spoken
+speaks = refl
+
+-- where the link does not take it, the session ends at once
+fails : (connected failing b a).effects ≡ Session a name.Initialized ∷ Session a (name.Ended reason.LinkFault) ∷ Closed a ∷ []
+unfolding changes gives idles puts with_peering with_spoken
+fails = refl
+
+-- edges that no wire joins have no connection
+apart : (connected taken a (record { 0 = 2 })).idle ≡ true
+unfolding changes gives idles puts with_peering with_spoken
+apart = refl
+
+lost : (lost_input taken b (beginning (connected taken a b).edge [])).effects ≡ Session b (name.Ended reason.Closed) ∷ Closed b ∷ []
+unfolding changes gives idles puts with_peering with_spoken
+lost = refl
+
+-- what each of them puts, as messages
+abbrev address : ℕ → Addr
+address last = record { 0 = 10 ∷ 0 ∷ 0 ∷ last ∷ [] }
+
+abbrev from_edge : ℕ → List Message → Pdu
+from_edge last messages = record { id = record { router = address last; space = 0 }; messages = messages }
+
+abbrev proposal_of : ℕ → ℕ → Message
+proposal_of last other = Initialization 1 (proposal (record { me = address last; peer = address other; keepalive = 180; max_pdu = 4096 }))
+
+abbrev hears_all : Answers → EdgeId → List Pdu → Work → Work
+hears_all told peer [] work = work
+hears_all told peer (pdu ∷ pdus) work = hears_all told peer pdus (hears_pdu told peer pdu work)
+
+abbrev hearing : Answers → EdgeId → List Pdu → EdgeState → Work
+hearing told peer pdus edge = hears_all told peer pdus (beginning edge [])
+
+-- the proposal is answered by one's own and by a KeepAlive
+answers : (hearing taken b (from_edge 2 (proposal_of 2 1 ∷ []) ∷ []) (connected taken a b).edge).effects
+    ≡ Said b initialization_of_a ∷ Said b keep_alive_of_a ∷ Session b name.OpenRec ∷ []
+unfolding changes gives idles puts with_peering with_spoken
+answers = refl
+
+-- and so the session comes up at the other end
+comes_up : (hearing taken a (from_edge 1 (proposal_of 1 2 ∷ []) ∷ from_edge 1 (KeepAlive 2 ∷ []) ∷ []) (connected taken b a).edge).effects
+    ≡ Said a keep_alive_of_b ∷ Session a name.OpenRec ∷ Session a name.Operational ∷ []
+unfolding changes gives idles puts with_peering with_spoken
+comes_up = refl

@@ -1,0 +1,120 @@
+-- An edge hears octets of LDP: one PDU after another, each within the maximum that the session then has (RFC 5036 section
+-- 3.5.3), and each message of a PDU in turn. Where the session ends, the rest is given up.
+use Rattle.std.specs.Prelude.{◌==◌, ◌++◌, ℕ, Bool, true, false, zero, suc, length, List, [], ◌∷◌, Option, Some, None, if◌then◌else◌}
+use Rattle.net_base.specs.declared.plan.places.EdgeId.{EdgeId}
+use Rattle.net_base.specs.declared.trace.state_name.Reason.TheVariants as reason
+use Rattle.ldp_grammar.specs.declared.message.Message.{Message}
+use Rattle.ldp_grammar.specs.declared.message.Message.TheVariants.{Other, Unprocessed}
+use Rattle.ldp_grammar.specs.declared.message_kind.MessageKind.TheVariants as kind
+use Rattle.ldp_grammar.specs.declared.why.Why.{Why}
+use Rattle.ldp_grammar.specs.declared.why.Why.TheVariants.{UnknownTlv, Missing, UnknownFec}
+use Rattle.ldp_grammar.specs.declared.pdu.Pdu.{Pdu}
+use Rattle.ldp_grammar.specs.Rows.{type_of}
+use Rattle.ldp_grammar.specs.Written.{id_of, written_type}
+use Rattle.ldp_codec.specs.Decoded.{refusal_of}
+use Rattle.ldp_stream.specs.FrontOf.{Front, More, Got, Bad, front_of}
+use Rattle.session_core.specs.declared.reply.Reply.{Reply}
+use Rattle.session_core.specs.declared.reply.Reply.TheVariants.{Notice}
+use Rattle.session_core.specs.Phase.{Phase}
+use Rattle.session_core.specs.Phase as phase
+use Rattle.session_core.specs.Table.{Heard, Received, Refused}
+use Rattle.edge_model.specs.Put.{Spoken, put_reply}
+use Rattle.edge_model.specs.Session.{ends, happens}
+use Rattle.edge_model.specs.State.{Peering, has_end, with_peering}
+use Rattle.edge_model.specs.Work.{Work, Answers, changes, idles}
+
+-- ---- a message in a session that is up
+
+-- the status data of an advisory (RFC 5036 sections 3.4.6 and 3.5.1.2.3)
+abbrev pub unknown_message_type : ℕ
+unknown_message_type = 0x04
+
+abbrev pub unknown_tlv : ℕ
+unknown_tlv = 0x06
+
+abbrev pub missing_parameters : ℕ
+missing_parameters = 0x16
+
+abbrev pub unknown_fec : ℕ
+unknown_fec = 0x0c
+
+abbrev pub data_for : Why → ℕ
+data_for (UnknownTlv number) = unknown_tlv
+data_for (Missing field) = missing_parameters
+data_for (UnknownFec octet) = unknown_fec
+
+-- an advisory Notification about a message
+abbrev pub advisory : Message → ℕ → Reply
+advisory message code = Notice (record { fatal = false; forward = false; code = code; message = id_of message; kind = written_type message })
+
+-- what is told of a message that is not processed: of one of an unknown type, where it says so by U = 0, and of one that
+-- lacks something or has something unknown, unless it is itself a Notification
+abbrev pub advice_of : Message → Option Reply
+advice_of (Other id false number) = Some (advisory (Other id false number) unknown_message_type)
+advice_of (Unprocessed id number why) =
+    if number == type_of kind.Notification then None else Some (advisory (Unprocessed id number why) (data_for why))
+advice_of message = None
+
+-- a message that the link did not take ends the session
+abbrev pub had_put : EdgeId → Spoken → Work
+had_put peer put = if put.failed then ends peer reason.LinkFault put.work else put.work
+
+abbrev pub advises : Answers → EdgeId → Option Reply → Work → Work
+advises told peer None work = work
+advises told peer (Some reply) work = had_put peer (put_reply told peer reply work)
+
+-- a session that was up, and still is, acts on a message. What it acts on of labels and addresses is to come
+abbrev pub acts : Answers → EdgeId → Message → Bool → Work → Work
+acts told peer message false work = work
+acts told peer message true work = if has_end work.edge peer then advises told peer (advice_of message) work else work
+
+abbrev pub is_up : Phase → Bool
+is_up phase.Operational = true
+is_up state = false
+
+abbrev pub was_up : Option Peering → Bool
+was_up None = false
+was_up (Some kept) = is_up kept.session.phase
+
+-- a message is heard; after the end of the session none is
+abbrev pub hears_message : Answers → EdgeId → Message → Work → Work
+hears_message told peer message work = acts told peer message (was_up (work.edge.peering peer.0)) (happens told peer (Received message) work)
+
+abbrev pub hears_messages : Answers → EdgeId → List Message → Work → Work
+hears_messages told peer [] work = work
+hears_messages told peer (message ∷ messages) work = hears_messages told peer messages (hears_message told peer message work)
+
+-- a PDU is heard: its sender, and then its messages
+abbrev pub hears_pdu : Answers → EdgeId → Pdu → Work → Work
+hears_pdu told peer pdu work = hears_messages told peer pdu.messages (happens told peer (Heard pdu.id) work)
+
+-- ---- octets
+
+-- octets that are no whole PDU yet are held
+abbrev pub holds : EdgeId → List ℕ → Option Peering → Work → Work
+holds peer octets None work = work
+holds peer octets (Some kept) work = changes (with_peering peer (Some (record kept { held = octets }))) work
+
+-- what stands in front of octets is heard, and the octets behind a PDU go on
+abbrev pub hears_front : Answers → EdgeId → (List ℕ → Work → Work) → Peering → List ℕ → Front → Work → Work
+hears_front told peer on kept octets More work = holds peer octets (Some kept) work
+hears_front told peer on kept octets (Got pdu rest) work = on rest (hears_pdu told peer pdu work)
+hears_front told peer on kept octets (Bad fault) work = happens told peer (Refused (refusal_of fault)) work
+
+abbrev pub hears_within : Answers → EdgeId → (List ℕ → Work → Work) → List ℕ → Option Peering → Work → Work
+hears_within told peer on octets None work = work
+hears_within told peer on octets (Some kept) work = hears_front told peer on kept octets (front_of kept.session.max_pdu octets) work
+
+-- so many PDUs at most
+abbrev pub hears_few : Answers → EdgeId → ℕ → List ℕ → Work → Work
+hears_few told peer zero octets work = holds peer octets (work.edge.peering peer.0) work
+hears_few told peer (suc n) octets work = hears_within told peer (hears_few told peer n) octets (work.edge.peering peer.0) work
+
+-- all of them: a PDU has octets, so there are no more PDUs than octets
+abbrev pub hears : Answers → EdgeId → List ℕ → Work → Work
+hears told peer octets work = hears_few told peer (suc (length octets)) octets work
+
+-- the input `Octets`: it applies where the edge's end of the connection stands
+abbrev pub octets_input : Answers → EdgeId → List ℕ → Option Peering → Work → Work
+octets_input told peer octets None work = idles work
+octets_input told peer octets (Some kept) work = hears told peer (kept.held ++ octets) work
