@@ -1,2 +1,4 @@
 pub mod Coming
+pub mod Endings
 pub mod Flight
+pub mod Messages
