@@ -1,2 +1,4 @@
+pub mod FrontLemmas
 pub mod RowLemmas
 pub mod SaidLemmas
+pub mod WorkLemmas
