@@ -4,6 +4,7 @@ use Rattle.std.proofs.lemmas.Bool.{eq-eqb}
 use Rattle.net_base.specs.declared.plan.places.EdgeId.{EdgeId}
 use Rattle.net_base.specs.declared.trace.state_name.Reason.{Reason}
 use Rattle.net_base.specs.declared.trace.state_name.Reason.TheVariants as reason
+use Rattle.net_base.specs.declared.trace.state_name.StateName.{StateName}
 use Rattle.net_base.specs.declared.trace.state_name.StateName.TheVariants as name
 use Rattle.session_core.specs.declared.reply.Reply.{Reply}
 use Rattle.session_core.specs.Phase.{Phase}
@@ -79,13 +80,13 @@ well-append (x ∷ es) e all here = (all.0, well-append es e all.1 here)
 
 -- what the work is for a place
 pub record Shows (place : ℕ) (work : Work) (kept : Option Peering) (said : List ℕ) (closed : Bool) : Type 0 where
-  pub kept : work.edge.peering place ≡ kept
-  pub said : said_to place work.effects ≡ said
-  pub closed : closes place work.effects ≡ closed
+  pub keeps : work.edge.peering place ≡ kept
+  pub says : said_to place work.effects ≡ said
+  pub ended : closes place work.effects ≡ closed
 
 -- the edge is at its place, the input still applies, and what is told of ended sessions is no refusal
 pub record IsFine (me : EdgeId) (work : Work) : Type 0 where
-  pub me : work.edge.me ≡ me
+  pub place : work.edge.me ≡ me
   pub idle : work.idle ≡ false
   pub well : TellWell work.effects
 
@@ -131,7 +132,7 @@ said_spares place peer bytes work apart = record {
   closed = closes-append place work.effects (effect.Said peer bytes ∷ []) ∙ or_false (closes place work.effects);
 }
 
-pub session_spares : (place : ℕ) (peer : EdgeId) (state : _) (work : Work) → Spares place work (gives (effect.Session peer state) work)
+pub session_spares : (place : ℕ) (peer : EdgeId) (state : StateName) (work : Work) → Spares place work (gives (effect.Session peer state) work)
 unfolding gives
 session_spares place peer state work = record {
   kept = refl;
@@ -146,3 +147,128 @@ closed_spares place peer work apart = record {
   said = said-append place work.effects (effect.Closed peer ∷ []) ∙ same_end (said_to place work.effects);
   closed = closes-append place work.effects (effect.Closed peer ∷ []) ∙ rw apart (or_false (closes place work.effects));
 }
+
+-- ---- an event of one peer spares another place
+
+put_octets_spares : (place : ℕ) (peer : EdgeId) (bytes : List ℕ) (taken : Bool) (work : Work) → nat_eq place peer.0 ≡ false → Spares place work (put_octets peer bytes taken work).work
+put_octets_spares place peer bytes true work apart =
+    let put : Work = puts peer bytes true work in
+    spares_then place work put _ (puts_spares place peer bytes true work)
+    (spares_then place put (changes (with_spoken peer) put) _ (with_spoken_spares place peer put apart) (said_spares place peer bytes (changes (with_spoken peer) put) apart))
+put_octets_spares place peer bytes false work apart = puts_spares place peer bytes false work
+
+put_reply_spares : (told : Answers) (place : ℕ) (peer : EdgeId) (r : Reply) (kept : Option Peering) (work : Work) → nat_eq place peer.0 ≡ false → Spares place work (put_reply_to told peer r kept work).work
+put_reply_spares told place peer r None work apart = spares_same place work
+put_reply_spares told place peer r (Some kept) work apart = put_octets_spares place peer (octets_of kept r) (next_answer told work) work apart
+
+put_replies_spares : (told : Answers) (place : ℕ) (peer : EdgeId) (rs : List Reply) (work : Work) → nat_eq place peer.0 ≡ false → Spares place work (put_replies told peer rs work).work
+put_replies_spares told place peer [] work apart = spares_same place work
+put_replies_spares told place peer (r ∷ rs) work apart =
+    let one : Spoken = put_reply told peer r work in
+    spares_then place work one.work _ (put_reply_spares told place peer r (work.edge.peering peer.0) work apart)
+    (on (λ (next : Work). put_replies_spares told place peer rs next apart) one.failed one.work)
+  where
+    on : ((next : Work) → Spares place next (put_replies told peer rs next).work) → (failed : Bool) (next : Work) → Spares place next (puts_on (put_replies told peer rs) failed next).work
+    on others true next = spares_same place next
+    on others false next = others next
+
+ends_spares : (place : ℕ) (peer : EdgeId) (why : Reason) (work : Work) → nat_eq place peer.0 ≡ false → Spares place work (ends peer why work)
+ends_spares place peer why work apart =
+    let gone : Work = changes (with_peering peer None) work in
+    spares_then place work gone _ (with_peering_spares place peer None work apart)
+    (spares_then place gone (gives (effect.Session peer (name.Ended why)) gone) _ (session_spares place peer (name.Ended why) gone) (closed_spares place peer (gives (effect.Session peer (name.Ended why)) gone) apart))
+
+tells_spares : (place : ℕ) (peer : EdgeId) (same : Bool) (new : Phase) (work : Work) → Spares place work (cond same work (gives (effect.Session peer (phase_name new)) work))
+tells_spares place peer true new work = spares_same place work
+tells_spares place peer false new work = session_spares place peer (phase_name new) work
+
+went_spares : (place : ℕ) (peer : EdgeId) (old new : Phase) (failed : Bool) (work : Work) → nat_eq place peer.0 ≡ false
+    → Spares place work (cond failed (ends peer reason.LinkFault work) (tells_change peer old new work))
+went_spares place peer old new true work apart = ends_spares place peer reason.LinkFault work apart
+went_spares place peer old new false work apart = tells_spares place peer (is_same_phase old new) new work
+
+comes_spares : (told : Answers) (place : ℕ) (peer : EdgeId) (kept : Peering) (o : Outcome) (work : Work) → nat_eq place peer.0 ≡ false → Spares place work (comes_of told peer kept o work)
+comes_spares told place peer kept Stay work apart = spares_same place work
+comes_spares told place peer kept (Goes next replies) work apart =
+    let moved : Work = changes (with_peering peer (Some (with_session next kept))) work in
+    let put : Spoken = put_replies told peer replies moved in
+    spares_then place work moved _ (with_peering_spares place peer (Some (with_session next kept)) work apart)
+    (spares_then place moved put.work _ (put_replies_spares told place peer replies moved apart) (went_spares place peer kept.session.phase next.phase put.failed put.work apart))
+comes_spares told place peer kept (Ends why replies) work apart =
+    spares_then place work (put_replies told peer replies work).work _ (put_replies_spares told place peer replies work apart) (ends_spares place peer why (put_replies told peer replies work).work apart)
+
+happens_to_spares : (told : Answers) (place : ℕ) (peer : EdgeId) (event : SessionEvent) (kept : Option Peering) (work : Work) → nat_eq place peer.0 ≡ false → Spares place work (happens_to told peer event kept work)
+happens_to_spares told place peer event None work apart = spares_same place work
+happens_to_spares told place peer event (Some kept) work apart = comes_spares told place peer kept (outcome_of kept.session event) work apart
+
+pub happens_spares : (told : Answers) (place : ℕ) (peer : EdgeId) (event : SessionEvent) (work : Work) → nat_eq place peer.0 ≡ false → Spares place work (happens told peer event work)
+happens_spares told place peer event work apart = happens_to_spares told place peer event (work.edge.peering peer.0) work apart
+
+-- ---- an event of a peer, where its link takes everything
+
+-- replies that are put, one after another
+abbrev pub having_put : List Reply → Peering → Peering
+having_put [] kept = kept
+having_put (r ∷ rs) kept = having_put rs (having_spoken kept)
+
+abbrev pub octets_put : List Reply → Peering → List ℕ
+octets_put [] kept = []
+octets_put (r ∷ rs) kept = octets_of kept r ++ octets_put rs (having_spoken kept)
+
+-- a link that takes every call
+abbrev pub takes : Answers
+takes k = true
+
+same_place : (n : ℕ) → nat_eq n n ≡ true
+same_place n = eq-eqb n n refl
+
+-- the work after one reply
+spoke : EdgeId → Peering → Reply → Work → Work
+spoke peer kept r work = gives (effect.Said peer (octets_of kept r)) (changes (with_spoken peer) (puts peer (octets_of kept r) true work))
+
+one_put : (peer : EdgeId) (kept : Peering) (r : Reply) (work : Work) → work.edge.peering peer.0 ≡ Some kept → put_reply takes peer r work ≡ record { work = spoke peer kept r work; failed = false }
+unfolding spoke
+one_put peer kept r work is = rw is refl
+
+spoke_shows : (peer : EdgeId) (kept : Peering) (r : Reply) (work : Work) (said : List ℕ) (closed : Bool) → Shows peer.0 work (Some kept) said closed
+    → Shows peer.0 (spoke peer kept r work) (Some (having_spoken kept)) (said ++ octets_of kept r) closed
+unfolding spoke gives changes with_spoken with_peering puts
+spoke_shows peer kept r work said closed shows = record {
+  keeps = rw (same_place peer.0, shows.keeps) refl;
+  says = said-append peer.0 work.effects (effect.Said peer (octets_of kept r) ∷ []) ∙ rw (same_place peer.0, shows.says, same_end (octets_of kept r)) refl;
+  ended = closes-append peer.0 work.effects (effect.Said peer (octets_of kept r) ∷ []) ∙ or_false (closes peer.0 work.effects) ∙ shows.ended;
+}
+
+spoke_fine : (me peer : EdgeId) (kept : Peering) (r : Reply) (work : Work) → IsFine me work → IsFine me (spoke peer kept r work)
+unfolding spoke gives changes with_spoken with_peering puts
+spoke_fine me peer kept r work fine = record { place = fine.place; idle = fine.idle; well = well-append work.effects (effect.Said peer (octets_of kept r)) fine.well tt }
+
+-- what was put, all of it
+pub record HasPut (me peer : EdgeId) (kept : Option Peering) (said : List ℕ) (closed : Bool) (put : Spoken) : Type 0 where
+  pub taken : put.failed ≡ false
+  pub shows : Shows peer.0 put.work kept said closed
+  pub fine : IsFine me put.work
+
+pub all_put : (me peer : EdgeId) (rs : List Reply) (kept : Peering) (work : Work) (said : List ℕ) (closed : Bool) → Shows peer.0 work (Some kept) said closed → IsFine me work
+    → HasPut me peer (Some (having_put rs kept)) (said ++ octets_put rs kept) closed (put_replies takes peer rs work)
+all_put me peer [] kept work said closed shows fine = record { taken = refl; shows = record { keeps = shows.keeps; says = shows.says ∙ sym (same_end said); ended = shows.ended }; fine = fine }
+all_put me peer (r ∷ rs) kept work said closed shows fine =
+    rw (one_put peer kept r work shows.keeps, ← append_assoc said (octets_of kept r) (octets_put rs (having_spoken kept)))
+    (all_put me peer rs (having_spoken kept) (spoke peer kept r work) (said ++ octets_of kept r) closed (spoke_shows peer kept r work said closed shows) (spoke_fine me peer kept r work fine))
+
+-- a session ends
+pub ends_shows : (me peer : EdgeId) (why : Reason) (kept : Option Peering) (work : Work) (said : List ℕ) (closed : Bool) → is_no_refusal why ≡ true → Shows peer.0 work kept said closed → IsFine me work
+    → Shows peer.0 (ends peer why work) None said true × IsFine me (ends peer why work)
+unfolding gives changes with_peering
+ends_shows me peer why kept work said closed well shows fine = (
+  record {
+    keeps = rw (same_place peer.0) refl;
+    says = said-append peer.0 (work.effects ++ effect.Session peer (name.Ended why) ∷ []) (effect.Closed peer ∷ []) ∙ same_end _ ∙ said-append peer.0 work.effects (effect.Session peer (name.Ended why) ∷ []) ∙ same_end _ ∙ shows.says;
+    ended = closes-append peer.0 (work.effects ++ effect.Session peer (name.Ended why) ∷ []) (effect.Closed peer ∷ []) ∙ rw (same_place peer.0) (or_true (closes peer.0 (work.effects ++ effect.Session peer (name.Ended why) ∷ [])));
+  },
+  record { place = fine.place; idle = fine.idle; well = well-append (work.effects ++ effect.Session peer (name.Ended why) ∷ []) (effect.Closed peer) (well-append work.effects (effect.Session peer (name.Ended why)) fine.well well) tt },
+)
+  where
+    or_true : (b : Bool) → b || true ≡ true
+    or_true true = refl
+    or_true false = refl
