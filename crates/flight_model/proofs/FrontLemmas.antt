@@ -12,7 +12,8 @@ use Rattle.ldp_stream.proofs.FrontOfLemmas.{front_is_read}
 use Rattle.session_core.specs.declared.peers.Peers.{Peers}
 use Rattle.edge_model.specs.Put.{platform_of}
 use Rattle.flight_model.specs.Messages.{AreSaid, octets_of_all}
-use Rattle.flight_model.proofs.SaidLemmas.{AreFit, IsReady, all_octets, ready}
+use Rattle.flight_model.specs.Pair.{AreFit}
+use Rattle.flight_model.proofs.SaidLemmas.{IsReady, all_octets, ready}
 
 -- two ways to cut one list: the first part of the one is a proper front of the first part of the other, or it goes on
 pub record IsProperFront (a b c d : List ℕ) : Type 0 where

@@ -1,4 +1,5 @@
 pub mod FrontLemmas
+pub mod ReactLemmas
 pub mod RowLemmas
 pub mod SaidLemmas
 pub mod TalkLemmas

@@ -30,6 +30,7 @@ use Rattle.edge_model.specs.Hear.{advice_of}
 use Rattle.edge_model.specs.Put.{platform_of}
 use Rattle.flight_model.specs.Flight.{is_initialization}
 use Rattle.flight_model.specs.Messages.{IsSaid, AreSaid, expiry, octets_of_all}
+use Rattle.flight_model.specs.Pair.{AreFit}
 use Rattle.flight_model.proofs.RowLemmas.{clash}
 
 -- ---- outcomes
@@ -107,13 +108,6 @@ pub fatal_ends : (s : SessionState) (ends : Peers) (m : Message) → IsSaid ends
 fatal_ends s ends m said fatal = let form = leaving_form ends m said fatal in rw form.is (leaving s form.id)
 
 -- ---- octets
-
--- the ends of a session, as a checked plan has them
-pub record AreFit (ends : Peers) : Type 0 where
-  pub proper : IsProper ends
-  pub me : IsAddress ends.me
-  pub peer : IsAddress ends.peer
-  pub keepalive : ends.keepalive ≤ 65535
 
 address_octets : (xs : List ℕ) → AllByRecursion (λ octet. octet < 256) xs → AreOctets xs
 address_octets [] all = no_octets

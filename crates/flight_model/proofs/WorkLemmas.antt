@@ -19,7 +19,7 @@ use Rattle.edge_model.specs.Session.{comes_of, ends, happens, happens_to, is_sam
 use Rattle.edge_model.specs.State.{EdgeState, Peering, put_at, with_peering}
 use Rattle.edge_model.specs.Work.{Work, Answers, changes, gives, next_answer, puts}
 use Rattle.flight_model.specs.Endings.{EndsWell, is_no_refusal}
-use Rattle.flight_model.proofs.RowLemmas.{clash}
+use Rattle.flight_model.specs.Pair.{having_put, octets_put}
 
 -- the octets that were said to a place
 abbrev pub said_to : ℕ → List Effect → List ℕ
@@ -205,15 +205,6 @@ pub happens_spares : (told : Answers) (place : ℕ) (peer : EdgeId) (event : Ses
 happens_spares told place peer event work apart = happens_to_spares told place peer event (work.edge.peering peer.0) work apart
 
 -- ---- an event of a peer, where its link takes everything
-
--- replies that are put, one after another
-abbrev pub having_put : List Reply → Peering → Peering
-having_put [] kept = kept
-having_put (r ∷ rs) kept = having_put rs (having_spoken kept)
-
-abbrev pub octets_put : List Reply → Peering → List ℕ
-octets_put [] kept = []
-octets_put (r ∷ rs) kept = octets_of kept r ++ octets_put rs (having_spoken kept)
 
 -- a link that takes every call
 abbrev pub takes : Answers

@@ -2,3 +2,4 @@ pub mod Coming
 pub mod Endings
 pub mod Flight
 pub mod Messages
+pub mod Pair
