@@ -1,6 +1,6 @@
 -- What sessions leave of an edge as it was, and what alone they have it give out.
-use Rattle.std.proofs.Common.{◌≡◌, ◌+◌, ◌++◌, ◌&&◌, ◌∙◌, ℕ, zero, suc, Bool, true, false, List, [], ◌∷◌, Option, Some, None, cond, refl, sym, ap, subst, nat_eq, append_assoc, append-nil, not, length, slice_get, inl, inr}
-use Rattle.std.proofs.lemmas.Bool.{cases_Bool, eqb-true, eq-eqb}
+use Rattle.std.proofs.Common.{◌≡◌, ◌+◌, ◌++◌, ◌&&◌, ◌∙◌, ℕ, zero, suc, Bool, true, false, List, [], ◌∷◌, Option, Some, None, cond, refl, sym, ap, nat_eq, append_assoc, append-nil, not, length, slice_get, inl, inr}
+use Rattle.std.proofs.lemmas.Bool.{cases_Bool, eqb-true}
 use Rattle.net_base.specs.declared.plan.Plan.{Plan}
 use Rattle.net_base.specs.declared.plan.edge_plan.EdgePlan.{EdgePlan}
 use Rattle.net_base.specs.declared.plan.places.EdgeId.{EdgeId}
@@ -12,22 +12,20 @@ use Rattle.ldp_codec.specs.Decoded.{refusal_of}
 use Rattle.ldp_grammar.specs.declared.message.Message.{Message}
 use Rattle.ldp_grammar.specs.declared.pdu.Pdu.{Pdu}
 use Rattle.ldp_stream.specs.FrontOf.{Front, More, Got, Bad, front_of}
-use Rattle.mac_table.specs.declared.mac_entry.MacEntry.{MacEntry}
 use Rattle.session_core.specs.declared.reply.Reply.{Reply}
 use Rattle.session_core.specs.Phase.{Phase}
 use Rattle.session_core.specs.Session.{phase_name}
-use Rattle.session_core.specs.State.{SessionState}
 use Rattle.session_core.specs.Table as table
 use Rattle.session_core.specs.Table.{SessionEvent, Outcome, Stay, Goes, Ends, Heard, Received, Refused, Ticked, outcome_of}
 use Rattle.edge_model.specs.Connection.{connected_input, connects, connects_between, lost_input, opened_with, restart_input}
 use Rattle.edge_model.specs.declared.effect.Effect.{Effect}
 use Rattle.edge_model.specs.declared.effect.Effect.TheVariants as effect
 use Rattle.edge_model.specs.Hear.{acts, advice_of, advises, had_put, hears, hears_few, hears_front, hears_message, hears_messages, hears_pdu, hears_within, holds, octets_input, was_up}
-use Rattle.edge_model.specs.Put.{Spoken, having_spoken, octets_of, put_octets, put_replies, put_reply, put_reply_to, puts_on, with_spoken}
+use Rattle.edge_model.specs.Put.{Spoken, octets_of, put_octets, put_replies, put_reply, put_reply_to, puts_on, with_spoken}
 use Rattle.edge_model.specs.Session.{comes_of, ends, happens, happens_to, is_same_phase, tells_change, went_on, with_session}
-use Rattle.edge_model.specs.State.{EdgeState, Peering, has_end, put_at, with_learned, with_peering, with_ticks, without_peerings}
-use Rattle.edge_model.specs.Tick.{counted, forgetting, tick_input, ticks_sessions}
-use Rattle.edge_model.specs.Work.{Work, Answers, beginning, changes, gives, idles, next_answer, puts}
+use Rattle.edge_model.specs.State.{EdgeState, Peering, has_end, with_learned, with_peering, with_ticks, without_peerings}
+use Rattle.edge_model.specs.Tick.{counted, tick_input, ticks_sessions}
+use Rattle.edge_model.specs.Work.{Work, Answers, changes, gives, idles, next_answer, puts}
 
 -- an effect of the session with one of these peers: the link took octets of LDP, a state is told, or the end is gone
 abbrev pub is_of_session : (ℕ → Bool) → Effect → Bool
