@@ -1,5 +1,5 @@
 -- Connections at work on a network of two edges that a wire joins. Each equation below is found by evaluation alone.
-use Rattle.std.proofs.Common.{◌≡◌, ℕ, false, List, [], ◌∷◌, Some, None, refl}
+use Rattle.std.proofs.Common.{◌≡◌, ℕ, true, false, List, [], ◌∷◌, Some, None, refl}
 use Rattle.std.specs.Prelude.{codes}
 use Rattle.net_base.specs.declared.plan.Plan.{Plan}
 use Rattle.net_base.specs.declared.plan.edge_plan.EdgePlan.{EdgePlan}
@@ -15,7 +15,7 @@ use Rattle.edge_model.specs.Put.{with_spoken}
 use Rattle.edge_model.specs.State.{with_learned, with_peering, without_peerings}
 use Rattle.edge_model.specs.Work.{changes, gives, idles, puts}
 use Rattle.network_model.specs.Delivery.{next_delivery}
-use Rattle.network_model.specs.Run.{run, state_after}
+use Rattle.network_model.specs.Run.{run}
 use Rattle.network_model.specs.State.{NetworkState, empty_network, stands, with_edge, with_pipe, without_octets_to}
 use Rattle.network_model.specs.Step.{step}
 
