@@ -1,4 +1,6 @@
 pub mod FrontLemmas
+pub mod HearLemmas
+pub mod MeetLemmas
 pub mod ReactLemmas
 pub mod RowLemmas
 pub mod SaidLemmas

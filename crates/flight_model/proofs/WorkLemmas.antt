@@ -18,29 +18,10 @@ use Rattle.edge_model.specs.Put.{Spoken, put_octets, put_reply, put_reply_to, pu
 use Rattle.edge_model.specs.Session.{comes_of, ends, happens, happens_to, is_same_phase, tells_change, went_on, with_session}
 use Rattle.edge_model.specs.State.{EdgeState, Peering, put_at, with_peering}
 use Rattle.edge_model.specs.Work.{Work, Answers, changes, gives, next_answer, puts}
+use Rattle.network_model.specs.Absorb.{taken_all}
 use Rattle.flight_model.specs.Endings.{EndsWell, is_no_refusal}
+use Rattle.flight_model.specs.Meeting.{IsFine, Shows, Spares, TellWell, TellsWell, closes, said_to}
 use Rattle.flight_model.specs.Pair.{having_put, octets_put}
-
--- the octets that were said to a place
-abbrev pub said_to : ℕ → List Effect → List ℕ
-said_to place [] = []
-said_to place (effect.Said peer octets ∷ es) = cond (nat_eq place peer.0) (octets ++ said_to place es) (said_to place es)
-said_to place (e ∷ es) = said_to place es
-
--- the end towards a place was closed
-abbrev pub closes : ℕ → List Effect → Bool
-closes place [] = false
-closes place (effect.Closed peer ∷ es) = nat_eq place peer.0 || closes place es
-closes place (e ∷ es) = closes place es
-
--- what is told of ended sessions is no refusal
-abbrev pub TellsWell : Effect → Type 0
-TellsWell (effect.Session peer state) = EndsWell state
-TellsWell e = Unit {0}
-
-abbrev pub TellWell : List Effect → Type 0
-TellWell [] = Unit {0}
-TellWell (e ∷ es) = TellsWell e × TellWell es
 
 cond_append : (b : Bool) (x y z : List ℕ) → cond b (x ++ (y ++ z)) (y ++ z) ≡ cond b (x ++ y) y ++ z
 cond_append true x y z = sym (append_assoc x y z)
@@ -78,24 +59,6 @@ pub well-append : (es : List Effect) (e : Effect) → TellWell es → TellsWell 
 well-append [] e all here = (here, tt)
 well-append (x ∷ es) e all here = (all.0, well-append es e all.1 here)
 
--- what the work is for a place
-pub record Shows (place : ℕ) (work : Work) (kept : Option Peering) (said : List ℕ) (closed : Bool) : Type 0 where
-  pub keeps : work.edge.peering place ≡ kept
-  pub says : said_to place work.effects ≡ said
-  pub ended : closes place work.effects ≡ closed
-
--- the edge is at its place, the input still applies, and what is told of ended sessions is no refusal
-pub record IsFine (me : EdgeId) (work : Work) : Type 0 where
-  pub place : work.edge.me ≡ me
-  pub idle : work.idle ≡ false
-  pub well : TellWell work.effects
-
--- it is nothing else for a place than before
-pub record Spares (place : ℕ) (old new : Work) : Type 0 where
-  pub kept : new.edge.peering place ≡ old.edge.peering place
-  pub said : said_to place new.effects ≡ said_to place old.effects
-  pub closed : closes place new.effects ≡ closes place old.effects
-
 pub spares_same : (place : ℕ) (work : Work) → Spares place work work
 spares_same place work = record { kept = refl; said = refl; closed = refl }
 
@@ -112,7 +75,7 @@ or_false : (b : Bool) → b || false ≡ b
 or_false true = refl
 or_false false = refl
 
-with_peering_spares : (place : ℕ) (peer : EdgeId) (kept : Option Peering) (work : Work) → nat_eq place peer.0 ≡ false → Spares place work (changes (with_peering peer kept) work)
+pub with_peering_spares : (place : ℕ) (peer : EdgeId) (kept : Option Peering) (work : Work) → nat_eq place peer.0 ≡ false → Spares place work (changes (with_peering peer kept) work)
 unfolding changes with_peering
 with_peering_spares place peer kept work apart = record { kept = rw apart refl; said = refl; closed = refl }
 
@@ -157,7 +120,7 @@ put_octets_spares place peer bytes true work apart =
     (spares_then place put (changes (with_spoken peer) put) _ (with_spoken_spares place peer put apart) (said_spares place peer bytes (changes (with_spoken peer) put) apart))
 put_octets_spares place peer bytes false work apart = puts_spares place peer bytes false work
 
-put_reply_spares : (told : Answers) (place : ℕ) (peer : EdgeId) (r : Reply) (kept : Option Peering) (work : Work) → nat_eq place peer.0 ≡ false → Spares place work (put_reply_to told peer r kept work).work
+pub put_reply_spares : (told : Answers) (place : ℕ) (peer : EdgeId) (r : Reply) (kept : Option Peering) (work : Work) → nat_eq place peer.0 ≡ false → Spares place work (put_reply_to told peer r kept work).work
 put_reply_spares told place peer r None work apart = spares_same place work
 put_reply_spares told place peer r (Some kept) work apart = put_octets_spares place peer (octets_of kept r) (next_answer told work) work apart
 
@@ -172,7 +135,7 @@ put_replies_spares told place peer (r ∷ rs) work apart =
     on others true next = spares_same place next
     on others false next = others next
 
-ends_spares : (place : ℕ) (peer : EdgeId) (why : Reason) (work : Work) → nat_eq place peer.0 ≡ false → Spares place work (ends peer why work)
+pub ends_spares : (place : ℕ) (peer : EdgeId) (why : Reason) (work : Work) → nat_eq place peer.0 ≡ false → Spares place work (ends peer why work)
 ends_spares place peer why work apart =
     let gone : Work = changes (with_peering peer None) work in
     spares_then place work gone _ (with_peering_spares place peer None work apart)
@@ -204,20 +167,16 @@ happens_to_spares told place peer event (Some kept) work apart = comes_spares to
 pub happens_spares : (told : Answers) (place : ℕ) (peer : EdgeId) (event : SessionEvent) (work : Work) → nat_eq place peer.0 ≡ false → Spares place work (happens told peer event work)
 happens_spares told place peer event work apart = happens_to_spares told place peer event (work.edge.peering peer.0) work apart
 
--- ---- an event of a peer, where its link takes everything
+-- ---- an event of a peer, where its link taken_all everything
 
--- a link that takes every call
-abbrev pub takes : Answers
-takes k = true
-
-same_place : (n : ℕ) → nat_eq n n ≡ true
+pub same_place : (n : ℕ) → nat_eq n n ≡ true
 same_place n = eq-eqb n n refl
 
 -- the work after one reply
 spoke : EdgeId → Peering → Reply → Work → Work
 spoke peer kept r work = gives (effect.Said peer (octets_of kept r)) (changes (with_spoken peer) (puts peer (octets_of kept r) true work))
 
-one_put : (peer : EdgeId) (kept : Peering) (r : Reply) (work : Work) → work.edge.peering peer.0 ≡ Some kept → put_reply takes peer r work ≡ record { work = spoke peer kept r work; failed = false }
+one_put : (peer : EdgeId) (kept : Peering) (r : Reply) (work : Work) → work.edge.peering peer.0 ≡ Some kept → put_reply taken_all peer r work ≡ record { work = spoke peer kept r work; failed = false }
 unfolding spoke
 one_put peer kept r work is = rw is refl
 
@@ -241,7 +200,7 @@ pub record HasPut (me peer : EdgeId) (kept : Option Peering) (said : List ℕ) (
   pub fine : IsFine me put.work
 
 pub all_put : (me peer : EdgeId) (rs : List Reply) (kept : Peering) (work : Work) (said : List ℕ) (closed : Bool) → Shows peer.0 work (Some kept) said closed → IsFine me work
-    → HasPut me peer (Some (having_put rs kept)) (said ++ octets_put rs kept) closed (put_replies takes peer rs work)
+    → HasPut me peer (Some (having_put rs kept)) (said ++ octets_put rs kept) closed (put_replies taken_all peer rs work)
 all_put me peer [] kept work said closed shows fine = record { taken = refl; shows = record { keeps = shows.keeps; says = shows.says ∙ sym (same_end said); ended = shows.ended }; fine = fine }
 all_put me peer (r ∷ rs) kept work said closed shows fine =
     rw (one_put peer kept r work shows.keeps, ← append_assoc said (octets_of kept r) (octets_put rs (having_spoken kept)))
