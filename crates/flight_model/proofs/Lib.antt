@@ -1,6 +1,7 @@
 pub mod FrontLemmas
 pub mod HearLemmas
 pub mod MeetLemmas
+pub mod PipeLemmas
 pub mod ReactLemmas
 pub mod RowLemmas
 pub mod SaidLemmas

@@ -67,7 +67,7 @@ spares_then place a b c one next = record { kept = next.kept ∙ one.kept; said 
 
 -- ---- operations on one peer spare another place
 
-same_end : (xs : List ℕ) → xs ++ [] ≡ xs
+pub same_end : (xs : List ℕ) → xs ++ [] ≡ xs
 same_end [] = refl
 same_end (x ∷ xs) = ap (λ (l : List ℕ). x ∷ l) (same_end xs)
 

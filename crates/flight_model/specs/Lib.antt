@@ -1,5 +1,6 @@
 pub mod Coming
 pub mod Endings
+pub mod Facts
 pub mod Flight
 pub mod Meeting
 pub mod Messages
