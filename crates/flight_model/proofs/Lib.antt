@@ -5,5 +5,6 @@ pub mod PipeLemmas
 pub mod ReactLemmas
 pub mod RowLemmas
 pub mod SaidLemmas
+pub mod SettleLemmas
 pub mod TalkLemmas
 pub mod WorkLemmas
