@@ -50,7 +50,7 @@ pdu_meets own other me peer far out m answers work said meets =
     (happens_meets own other me peer far out (m ∷ answers) (m ∷ answers) (Heard (platform_of other.me)) work (λ kept messages t. heard_in_step own other kept far messages (m ∷ answers) t) meets)
 
 -- what is left where the end is gone
-gone_leaves : (own other : Peers) (me peer : EdgeId) (far : Option Peering) (out more : List ℕ) (answers : List Message) (work : Work) → work.edge.peering peer.0 ≡ None
+pub gone_leaves : (own other : Peers) (me peer : EdgeId) (far : Option Peering) (out more : List ℕ) (answers : List Message) (work : Work) → work.edge.peering peer.0 ≡ None
     → Meets own other me peer far out answers work → IsFine me work × Leaves own other peer.0 far out more work
 gone_leaves own other me peer far out more answers work is meets = (meets.fine, rw (is, meets.ended, is) (record {
   messages = meets.messages;

@@ -8,3 +8,4 @@ pub mod SaidLemmas
 pub mod SettleLemmas
 pub mod TalkLemmas
 pub mod WorkLemmas
+pub mod WorksLemmas

@@ -65,7 +65,7 @@ told_shows me peer false new near said closed work shows fine =
     by_phase phase.OpenRec = tt
     by_phase phase.Operational = tt
 
-moved_shows : (me peer : EdgeId) (kept now : Peering) (said : List ℕ) (closed : Bool) (work : Work) → Shows peer.0 work (Some kept) said closed → IsFine me work
+pub moved_shows : (me peer : EdgeId) (kept now : Peering) (said : List ℕ) (closed : Bool) (work : Work) → Shows peer.0 work (Some kept) said closed → IsFine me work
     → Shows peer.0 (changes (with_peering peer (Some now)) work) (Some now) said closed × IsFine me (changes (with_peering peer (Some now)) work)
 unfolding changes with_peering
 moved_shows me peer kept now said closed work shows fine = (

@@ -1,5 +1,6 @@
 pub mod Coming
 pub mod Endings
+pub mod Ends
 pub mod Facts
 pub mod Flight
 pub mod Meeting
