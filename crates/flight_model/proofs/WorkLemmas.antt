@@ -71,7 +71,7 @@ pub same_end : (xs : List ℕ) → xs ++ [] ≡ xs
 same_end [] = refl
 same_end (x ∷ xs) = ap (λ (l : List ℕ). x ∷ l) (same_end xs)
 
-or_false : (b : Bool) → b || false ≡ b
+pub or_false : (b : Bool) → b || false ≡ b
 or_false true = refl
 or_false false = refl
 

@@ -32,7 +32,7 @@ use Rattle.flight_model.proofs.MeetLemmas.{happens_meets, moved_shows}
 use Rattle.flight_model.proofs.PipeLemmas.{all_edges, all_good}
 use Rattle.flight_model.proofs.SettleLemmas.{apart_turned, edge_else, edge_there, settle}
 use Rattle.flight_model.proofs.TalkLemmas.{turned_none, turned_rows}
-use Rattle.flight_model.proofs.WorkLemmas.{all_put, happens_spares, same_end, same_place, well-append}
+use Rattle.flight_model.proofs.WorkLemmas.{all_put, closes-append, happens_spares, or_false, said-append, same_end, same_place, well-append}
 
 -- ---- a pair from its other side
 
@@ -149,3 +149,97 @@ comes_keeps me peer kept said work (Goes next replies) shows fine =
     rw all.taken (subst (KeepsHeld kept.held)
     (sym (ap (λ (e : EdgeState). e.peering peer.0) (told_edge peer (is_same_phase kept.session.phase next.phase) next.phase put.work) ∙ all.shows.keeps)) (put_held replies now))
 comes_keeps me peer kept said work (Ends why replies) shows fine = subst (KeepsHeld kept.held) (sym (ended_edge peer why (put_replies taken_all peer replies work).work)) tt
+
+no_end : (kept : Peering) → None ≡ Some kept → ⊥
+no_end kept e = cc
+
+-- what an edge in step leaves, where it still holds what it held
+meets_left : (own other : Peers) (me peer : EdgeId) (far : Option Peering) (out octets more : List ℕ) (answers : List Message) (work : Work) → octets ++ more ≡ octets_of_all other.me answers
+    → KeepsHeld octets (work.edge.peering peer.0) → Meets own other me peer far out answers work → IsLeft own other peer.0 far out more work
+meets_left own other me peer far out octets more answers work is same meets = by_end (work.edge.peering peer.0) refl where
+  by_end : (near : Option Peering) → work.edge.peering peer.0 ≡ near → IsLeft own other peer.0 far out more work
+  by_end None at = record { leaves = (gone_leaves own other me peer far out more answers work at meets).1; unclosed = λ kept e. absurd (no_end kept (sym at ∙ e)) }
+  by_end (Some kept) at =
+      let unclosed : closes peer.0 work.effects ≡ false = meets.ended ∙ ap (λ (o : Option Peering). not (is_there o)) at in
+      let holds : kept.held ≡ octets = rw at at same in
+      record {
+        leaves = rw (at, unclosed) (record { messages = meets.messages; answers = answers; out_is = meets.out_is; back_is = rw holds is; talk = rw at at meets.talk });
+        unclosed = λ k e. unclosed;
+      }
+
+-- an event that takes nothing of what is on its way
+abbrev pub TakesNothing : SessionEvent → Type 0
+TakesNothing event = (own other : Peers) (kept : Peering) (far : Option Peering) (messages answers : List Message) → AreTalking own other (Some kept) far messages answers
+    → StayInStep own other kept far messages answers (outcome_of kept.session event)
+
+happens_left : (own other : Peers) (me peer : EdgeId) (far : Option Peering) (out more : List ℕ) (event : SessionEvent) (work : Work) → TakesNothing event → IsFine me work
+    → IsLeft own other peer.0 far out more work → IsFine me (happens taken_all peer event work) × IsLeft own other peer.0 far out more (happens taken_all peer event work)
+happens_left own other me peer far out more event work takes fine left = by_end (work.edge.peering peer.0) refl where
+  by_end : (near : Option Peering) → work.edge.peering peer.0 ≡ near → IsFine me (happens taken_all peer event work) × IsLeft own other peer.0 far out more (happens taken_all peer event work)
+  by_end None at = rw at (fine, left)
+  by_end (Some kept) at =
+      let unclosed : closes peer.0 work.effects ≡ false = left.unclosed kept at in
+      let pair : ArePaired own other (Some kept) far (and_more far out (said_to peer.0 work.effects)) (kept.held ++ more) = rw (at, unclosed) at left.leaves in
+      let meets : Meets own other me peer far out pair.answers work = record {
+            fine = fine;
+            ended = rw at unclosed;
+            messages = pair.messages;
+            out_is = pair.out_is;
+            talk = rw at pair.talk;
+          } in
+      let after : Meets own other me peer far out pair.answers (happens taken_all peer event work) =
+            happens_meets own other me peer far out pair.answers pair.answers event work (λ k messages t. takes own other k far messages pair.answers t) meets in
+      let held : KeepsHeld kept.held ((happens taken_all peer event work).edge.peering peer.0) =
+            rw at (comes_keeps me peer kept (said_to peer.0 work.effects) work (outcome_of kept.session event) (record { keeps = at; says = refl; ended = unclosed }) fine) in
+      (after.fine, meets_left own other me peer far out kept.held more pair.answers (happens taken_all peer event work) pair.back_is held after)
+
+-- it happens to the session with any place
+pub works_happens : (plan : Plan) (network : NetworkState) (me peer : EdgeId) (event : SessionEvent) (work : Work) → TakesNothing event → WorksOn plan network me work
+    → WorksOn plan network me (happens taken_all peer event work)
+works_happens plan network me peer event work takes works = elim (cases_Bool (nat_eq peer.0 me.0)) [
+  | inl same ↦ rw (ap (λ (k : ℕ). work.edge.peering k) (eqb-true peer.0 me.0 same) ∙ works.alone) works
+  | inr away ↦ (let own = happens_left (ends_at plan me.0 peer.0) (ends_at plan peer.0 me.0) me peer ((network.edges peer.0).peering me.0) (flight network me.0 peer.0) (network.pipes peer.0 me.0) event work takes works.fine (works.left peer.0 away) in
+    record {
+      fine = own.0;
+      alone = (happens_spares taken_all me.0 peer event work (apart_turned peer.0 me.0 away)).kept ∙ works.alone;
+      left = λ place gone. elim (cases_Bool (nat_eq place peer.0)) [
+        | inl this ↦ subst
+            (λ (k : ℕ). IsLeft (ends_at plan me.0 k) (ends_at plan k me.0) k ((network.edges k).peering me.0) (flight network me.0 k) (network.pipes k me.0) (happens taken_all peer event work))
+            (sym (eqb-true place peer.0 this)) own.1
+        | inr other ↦ left_spared (ends_at plan me.0 place) (ends_at plan place me.0) place ((network.edges place).peering me.0) (flight network me.0 place) (network.pipes place me.0) work (happens taken_all peer event work)
+            (happens_spares taken_all place peer event work other) (works.left place gone)
+      ];
+    })
+]
+
+-- ---- what is no matter of sessions
+
+-- a change that leaves the edge's place and what it keeps for its neighbours
+pub works_changes : (plan : Plan) (network : NetworkState) (me : EdgeId) (change : EdgeState → EdgeState) (work : Work) → (change work.edge).peering ≡ work.edge.peering → (change work.edge).me ≡ work.edge.me
+    → WorksOn plan network me work → WorksOn plan network me (changes change work)
+unfolding changes
+works_changes plan network me change work kept place works = record {
+  fine = record { place = place ∙ works.fine.place; idle = works.fine.idle; well = works.fine.well };
+  alone = ap (λ (f : ℕ → Option Peering). f me.0) kept ∙ works.alone;
+  left = λ k away. left_spared (ends_at plan me.0 k) (ends_at plan k me.0) k ((network.edges k).peering me.0) (flight network me.0 k) (network.pipes k me.0) work (changes change work)
+      (record { kept = ap (λ (f : ℕ → Option Peering). f k) kept; said = refl; closed = refl }) (works.left k away);
+}
+
+-- an effect that says nothing to a neighbour, and nothing of sessions
+pub record IsSilent (e : Effect) : Type 0 where
+  pub says : (place : ℕ) → said_to place (e ∷ []) ≡ []
+  pub closed : (place : ℕ) → closes place (e ∷ []) ≡ false
+  pub well : TellsWell e
+
+pub works_gives : (plan : Plan) (network : NetworkState) (me : EdgeId) (e : Effect) (work : Work) → IsSilent e → WorksOn plan network me work → WorksOn plan network me (gives e work)
+unfolding gives
+works_gives plan network me e work silent works = record {
+  fine = record { place = works.fine.place; idle = works.fine.idle; well = well-append work.effects e works.fine.well silent.well };
+  alone = works.alone;
+  left = λ k away. left_spared (ends_at plan me.0 k) (ends_at plan k me.0) k ((network.edges k).peering me.0) (flight network me.0 k) (network.pipes k me.0) work (gives e work)
+      (record {
+        kept = refl;
+        said = said-append k work.effects (e ∷ []) ∙ rw (silent.says k) (same_end (said_to k work.effects));
+        closed = closes-append k work.effects (e ∷ []) ∙ rw (silent.closed k) (or_false (closes k work.effects));
+      }) (works.left k away);
+}
