@@ -9,3 +9,4 @@ pub mod SettleLemmas
 pub mod TalkLemmas
 pub mod WorkLemmas
 pub mod WorksLemmas
+pub mod EventLemmas

@@ -27,15 +27,15 @@ one_edges me origin hops (effect.Closed peer) network = refl
 one_edges me origin hops e network = refl
 
 -- a pipe that another one is put beside
-pipe_there : (from to : EdgeId) (octets : List ℕ) (network : NetworkState) → (with_pipe from to octets network).pipes from.0 to.0 ≡ octets
+pub pipe_there : (from to : EdgeId) (octets : List ℕ) (network : NetworkState) → (with_pipe from to octets network).pipes from.0 to.0 ≡ octets
 unfolding with_pipe
 pipe_there from to octets network = rw (same_place from.0, same_place to.0) refl
 
-pipe_from : (from to : EdgeId) (octets : List ℕ) (network : NetworkState) (a b : ℕ) → nat_eq a from.0 ≡ false → (with_pipe from to octets network).pipes a b ≡ network.pipes a b
+pub pipe_from : (from to : EdgeId) (octets : List ℕ) (network : NetworkState) (a b : ℕ) → nat_eq a from.0 ≡ false → (with_pipe from to octets network).pipes a b ≡ network.pipes a b
 unfolding with_pipe
 pipe_from from to octets network a b apart = rw apart refl
 
-pipe_to : (from to : EdgeId) (octets : List ℕ) (network : NetworkState) (a b : ℕ) → nat_eq b to.0 ≡ false → (with_pipe from to octets network).pipes a b ≡ network.pipes a b
+pub pipe_to : (from to : EdgeId) (octets : List ℕ) (network : NetworkState) (a b : ℕ) → nat_eq b to.0 ≡ false → (with_pipe from to octets network).pipes a b ≡ network.pipes a b
 unfolding with_pipe
 pipe_to from to octets network a b apart = elim (cases_Bool (nat_eq a from.0)) [
   | inl same ↦ rw (same, apart) (ap (λ (k : ℕ). network.pipes k b) (sym (eqb-true a from.0 same)))

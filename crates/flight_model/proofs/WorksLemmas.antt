@@ -22,7 +22,7 @@ use Rattle.network_model.specs.Absorb.{absorb, absorb_all, begin_at, taken_all}
 use Rattle.network_model.specs.State.{NetworkState, at_edge, held_by, with_edge}
 use Rattle.flight_model.specs.Coming.{and_more, is_row_for}
 use Rattle.flight_model.specs.Endings.{TellGoodEnds}
-use Rattle.flight_model.specs.Ends.{IsLeft, IsOrdered, IsPaired, WorksOn, ends_at}
+use Rattle.flight_model.specs.Ends.{HasWorked, IsLeft, IsOrdered, IsPaired, KeepsOrder, WorksOn, ends_at}
 use Rattle.flight_model.specs.Facts.{Fact, HoldsAt, HoldsBut, HoldsOfTwo, Turns, flight}
 use Rattle.flight_model.specs.Meeting.{IsFine, Leaves, Meets, Shows, Spares, TellWell, TellsWell, closes, said_to}
 use Rattle.flight_model.specs.Messages.{octets_of_all}
@@ -62,10 +62,10 @@ pair_turned plan a b one other out back pair = record {
 -- ---- the work goes into the network
 
 pub works_settle : (plan : Plan) (network : NetworkState) (me : EdgeId) (origin hops : ℕ) (work : Work) → HoldsBut (IsPaired plan) me.0 network
-    → ((a : ℕ) → nat_eq a me.0 ≡ false → (network.edges a).peering a ≡ None) → ((a : ℕ) → nat_eq a me.0 ≡ false → (network.edges a).me ≡ record { 0 = a }) → WorksOn plan network me work
+    → ((a : ℕ) → nat_eq a me.0 ≡ false → (network.edges a).peering a ≡ None) → ((a : ℕ) → nat_eq a me.0 ≡ false → (network.edges a).me ≡ record { 0 = a }) → HasWorked plan network me work
     → IsOrdered plan (absorb me origin hops work network).state
 works_settle plan network me origin hops work others alone placed works = record {
-  two = settle (IsPaired plan) network me origin hops work.edge work.effects (pair_turned plan) others (λ place away. (works.left place away).leaves);
+  two = settle (IsPaired plan) network me origin hops work.edge work.effects (pair_turned plan) others (λ place away. works.leaves place away);
   alone = λ a. elim (cases_Bool (nat_eq a me.0)) [
     | inl same ↦ subst (λ (k : ℕ). (after.edges k).peering k ≡ None) (sym (eqb-true a me.0 same)) (ap (λ (e : EdgeState). e.peering me.0) own_edge ∙ works.alone)
     | inr away ↦ ap (λ (e : EdgeState). e.peering a) (other_edge a away) ∙ alone a away
@@ -88,16 +88,19 @@ works_settle plan network me origin hops work others alone placed works = record
     other_edge : (a : ℕ) → nat_eq a me.0 ≡ false → after.edges a ≡ network.edges a
     other_edge a away = ap (λ (f : ℕ → EdgeState). f a) edges ∙ edge_else me work.edge network a away
 
-pub works_ordered : (plan : Plan) (network : NetworkState) (me : EdgeId) (origin hops : ℕ) (work : Work) → IsOrdered plan network → WorksOn plan network me work → IsOrdered plan (absorb me origin hops work network).state
-works_ordered plan network me origin hops work ordered works =
-    works_settle plan network me origin hops work (λ a b apart away gone. ordered.two a b apart) (λ a away. ordered.alone a) (λ a away. ordered.placed a) works
+pub has_worked : (plan : Plan) (network : NetworkState) (me : EdgeId) (work : Work) → WorksOn plan network me work → HasWorked plan network me work
+has_worked plan network me work works = record { fine = works.fine; alone = works.alone; leaves = λ place away. (works.left place away).leaves }
 
-pub works_good : (plan : Plan) (network : NetworkState) (me : EdgeId) (origin hops : ℕ) (work : Work) → WorksOn plan network me work → TellGoodEnds (absorb me origin hops work network).entries
-works_good plan network me origin hops work works = all_good me origin hops work.effects (with_edge me work.edge network) works.fine.well
+-- work on a network in order keeps it so
+pub work_keeps : (plan : Plan) (network : NetworkState) (me : EdgeId) (origin hops : ℕ) (work : Work) → IsOrdered plan network → WorksOn plan network me work → KeepsOrder plan (absorb me origin hops work network)
+work_keeps plan network me origin hops work ordered works = record {
+  ordered = works_settle plan network me origin hops work (λ a b apart away gone. ordered.two a b apart) (λ a away. ordered.alone a) (λ a away. ordered.placed a) (has_worked plan network me work works);
+  good = all_good me origin hops work.effects (with_edge me work.edge network) works.fine.well;
+}
 
 -- ---- an edge begins
 
-no_more : (far : Option Peering) (out : List ℕ) → and_more far out [] ≡ out
+pub no_more : (far : Option Peering) (out : List ℕ) → and_more far out [] ≡ out
 no_more None out = refl
 no_more (Some y) out = same_end out
 
@@ -150,7 +153,7 @@ comes_keeps me peer kept said work (Goes next replies) shows fine =
     (sym (ap (λ (e : EdgeState). e.peering peer.0) (told_edge peer (is_same_phase kept.session.phase next.phase) next.phase put.work) ∙ all.shows.keeps)) (put_held replies now))
 comes_keeps me peer kept said work (Ends why replies) shows fine = subst (KeepsHeld kept.held) (sym (ended_edge peer why (put_replies taken_all peer replies work).work)) tt
 
-no_end : (kept : Peering) → None ≡ Some kept → ⊥
+pub no_end : (kept : Peering) → None ≡ Some kept → ⊥
 no_end kept e = cc
 
 -- what an edge in step leaves, where it still holds what it held

@@ -9,7 +9,9 @@ use Rattle.std.specs.List.{All}
 use Rattle.edge_model.specs.Connection.{peers_of}
 use Rattle.edge_model.specs.State.{Peering}
 use Rattle.edge_model.specs.Work.{Work}
+use Rattle.network_model.specs.Absorb.{Stepped}
 use Rattle.network_model.specs.State.{NetworkState}
+use Rattle.flight_model.specs.Endings.{TellGoodEnds}
 use Rattle.flight_model.specs.Facts.{Fact, HoldsOfTwo, flight}
 use Rattle.flight_model.specs.Meeting.{IsFine, Leaves, closes}
 use Rattle.flight_model.specs.Pair.{ArePaired}
@@ -49,3 +51,15 @@ pub record WorksOn (plan : Plan) (network : NetworkState) (me : EdgeId) (work : 
   pub alone : work.edge.peering me.0 ≡ None
   pub left : (place : ℕ) → nat_eq place me.0 ≡ false
       → IsLeft (ends_at plan me.0 place) (ends_at plan place me.0) place ((network.edges place).peering me.0) (flight network me.0 place) (network.pipes place me.0) work
+
+-- what it has made of the network's other ends, whatever is on its way to it now
+pub record HasWorked (plan : Plan) (network : NetworkState) (me : EdgeId) (work : Work) : Type 0 where
+  pub fine : IsFine me work
+  pub alone : work.edge.peering me.0 ≡ None
+  pub leaves : (place : ℕ) → nat_eq place me.0 ≡ false
+      → Leaves (ends_at plan me.0 place) (ends_at plan place me.0) place ((network.edges place).peering me.0) (flight network me.0 place) (network.pipes place me.0) work
+
+-- an event keeps a network in order, and what it tells of ended sessions is no refusal
+pub record KeepsOrder (plan : Plan) (after : Stepped) : Type 0 where
+  pub ordered : IsOrdered plan after.state
+  pub good : TellGoodEnds after.entries
