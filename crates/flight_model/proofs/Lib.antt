@@ -10,3 +10,4 @@ pub mod TalkLemmas
 pub mod WorkLemmas
 pub mod WorksLemmas
 pub mod EventLemmas
+pub mod CircuitLemmas
