@@ -11,3 +11,4 @@ pub mod WorkLemmas
 pub mod WorksLemmas
 pub mod EventLemmas
 pub mod CircuitLemmas
+pub mod PlanLemmas
