@@ -12,3 +12,4 @@ pub mod WorksLemmas
 pub mod EventLemmas
 pub mod CircuitLemmas
 pub mod PlanLemmas
+pub mod ConnectLemmas

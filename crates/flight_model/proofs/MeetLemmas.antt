@@ -118,3 +118,14 @@ happens_meets own other me peer far out before answers event work step meets = b
     where
       here : (kept : Peering) → work.edge.peering peer.0 ≡ Some kept → AreTalking own other (Some kept) far meets.messages before
       here kept is = rw is at meets.talk
+
+-- what comes of an event after which the session goes on
+pub goes_shows : (me peer : EdgeId) (kept : Peering) (next : SessionState) (replies : List Reply) (said : List ℕ) (work : Work) → Shows peer.0 work (Some kept) said false → IsFine me work
+    → Shows peer.0 (comes_of taken_all peer kept (Goes next replies) work) (Some (having_put replies (with_session next kept))) (said ++ octets_put replies (with_session next kept)) false
+    × IsFine me (comes_of taken_all peer kept (Goes next replies) work)
+goes_shows me peer kept next replies said work shows fine =
+    let now : Peering = with_session next kept in
+    let begun = moved_shows me peer kept now said false work shows fine in
+    let put : Spoken = put_replies taken_all peer replies (changes (with_peering peer (Some now)) work) in
+    let all : HasPut me peer (Some (having_put replies now)) (said ++ octets_put replies now) false put = all_put me peer replies now (changes (with_peering peer (Some now)) work) said false begun.0 begun.1 in
+    rw all.taken (told_shows me peer (is_same_phase kept.session.phase next.phase) next.phase (Some (having_put replies now)) (said ++ octets_put replies now) false put.work all.shows all.fine)

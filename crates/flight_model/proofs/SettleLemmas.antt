@@ -33,7 +33,7 @@ unfolding with_edge
 edge_pipes me edge network = refl
 
 -- what was said is behind what was to be heard before, where the other end stands
-said_behind : (far : Option Peering) (pipe said : List ℕ) → held_by far ++ cond (is_there far) (pipe ++ said) pipe ≡ and_more far (held_by far ++ pipe) said
+pub said_behind : (far : Option Peering) (pipe said : List ℕ) → held_by far ++ cond (is_there far) (pipe ++ said) pipe ≡ and_more far (held_by far ++ pipe) said
 said_behind None pipe said = refl
 said_behind (Some kept) pipe said = sym (append_assoc kept.held pipe said)
 
