@@ -154,3 +154,86 @@ connected_two P network from to first second turns between two one_others other_
 
     from_second : (c : ℕ) → nat_eq c from.0 ≡ false → nat_eq c to.0 ≡ false → HoldsAt P after to.0 c
     from_second c away here = moved P to.0 c (other_others c here away) (second_end c) (other_end c to.0 away here) (second_out c away here) (second_back c away here)
+
+-- ---- what an edge makes of a connection that comes up
+
+-- the session is opened: an active end has said its Initialization, and a passive end waits for one
+pub record HasOpened (own other : Peers) (me peer : EdgeId) (work : Work) : Type 0 where
+  pub kept : Peering
+  pub messages : List Message
+  pub shows : Shows peer.0 work (Some kept) (octets_of_all own.me messages) false
+  pub fine : IsFine me work
+  pub nothing : kept.held ≡ []
+  pub stands : IsStanding own other kept
+  pub said : AreSaid own messages
+  pub speaks : is_active own ≡ true → (kept.session.phase ≡ phase.OpenSent) × (messages ≡ Initialization 1 (proposal own) ∷ [])
+  pub waits : is_active own ≡ false → (kept.session.phase ≡ phase.Initialized) × (messages ≡ [])
+
+starts : (own : Peers) → is_active own ≡ true → outcome_of (opened own) Start ≡ Goes (enters phase.OpenSent (opened own)) (reply.Init ∷ [])
+starts own active = rw active refl
+
+rests : (own : Peers) → is_active own ≡ false → outcome_of (opened own) Start ≡ Stay
+rests own passive = rw passive refl
+
+-- before the session starts
+open_end : (me peer : EdgeId) (kept : Peering) (work : Work) → work.effects ≡ [] → IsFine me work
+    → Shows peer.0 (gives (Session peer name.Initialized) (changes (with_peering peer (Some kept)) work)) (Some kept) [] false × IsFine me (gives (Session peer name.Initialized) (changes (with_peering peer (Some kept)) work))
+unfolding gives changes with_peering
+open_end me peer kept work none fine = (
+  record { keeps = rw (same_place peer.0) refl; says = rw none refl; ended = rw none refl },
+  record { place = fine.place; idle = fine.idle; well = well-append work.effects (Session peer name.Initialized) fine.well tt },
+)
+
+stands_open : (one other : EdgePlan) (kept : Peering) → AreEnds (peers_of one other) (peers_of other one) → kept.session.peers ≡ peers_of one other → kept.session.max_pdu ≡ 4096 → kept.next_id < 2 ^ 32
+    → (kept.session.phase ≡ phase.Initialized → is_active (peers_of one other) ≡ false) → IsStanding (peers_of one other) (peers_of other one) kept
+stands_open one other kept ends same long id passive = record { peers = same; between = ends; least = omega (arith, long); most = omega (arith, long); numbered = id; passive = passive }
+
+connects_opens : (me peer : EdgeId) (one other : EdgePlan) (work : Work) → AreEnds (peers_of one other) (peers_of other one) → work.effects ≡ [] → IsFine me work
+    → HasOpened (peers_of one other) (peers_of other one) me peer (connects taken_all peer (opened_with one other) work)
+connects_opens me peer one other work ends none fine = elim (cases_Bool (is_active own)) [
+  | inl active ↦ (let said = goes_shows me peer kept (enters phase.OpenSent (opened own)) (reply.Init ∷ []) [] begun opening.0 opening.1 in
+    rw (opening.0.keeps, starts own active) (record {
+      kept = having_spoken (with_session (enters phase.OpenSent (opened own)) kept);
+      messages = Initialization 1 (proposal own) ∷ [];
+      shows = said.0;
+      fine = said.1;
+      nothing = refl;
+      stands = stands_open one other (having_spoken (with_session (enters phase.OpenSent (opened own)) kept)) ends refl refl (omega arith) (λ e. absurd (no e));
+      said = ((omega arith, refl), tt);
+      speaks = λ e. (refl, refl);
+      waits = λ e. clash (sym e ∙ active);
+    }))
+  | inr passive ↦ rw (opening.0.keeps, rests own passive) (record {
+      kept = kept;
+      messages = [];
+      shows = opening.0;
+      fine = opening.1;
+      nothing = refl;
+      stands = stands_open one other kept ends refl refl (omega arith) (λ e. passive);
+      said = tt;
+      speaks = λ e. clash (sym passive ∙ e);
+      waits = λ e. (refl, refl);
+    })
+]
+  where
+    own : Peers
+    own = peers_of one other
+
+    kept : Peering
+    kept = opened_with one other
+
+    begun : Work
+    begun = gives (Session peer name.Initialized) (changes (with_peering peer (Some kept)) work)
+
+    opening : Shows peer.0 begun (Some kept) [] false × IsFine me begun
+    opening = open_end me peer kept work none fine
+
+    no : phase.OpenSent ≡ phase.Initialized → ⊥
+    no e = cc
+
+connects_spares : (place : ℕ) (peer : EdgeId) (kept : Peering) (work : Work) → nat_eq place peer.0 ≡ false → Spares place work (connects taken_all peer kept work)
+connects_spares place peer kept work apart =
+    let there : Work = changes (with_peering peer (Some kept)) work in
+    let told : Work = gives (Session peer name.Initialized) there in
+    spares_then place work there _ (with_peering_spares place peer (Some kept) work apart)
+    (spares_then place there told _ (session_spares place peer name.Initialized there) (happens_spares taken_all place peer Start told apart))
