@@ -31,15 +31,16 @@ use Rattle.flight_model.specs.Coming.{and_more}
 use Rattle.flight_model.specs.Endings.{TellGoodEnds}
 use Rattle.flight_model.specs.Ends.{HasAddresses, IsOrdered, IsPaired, KeepsOrder, WorksOn, ends_at}
 use Rattle.flight_model.specs.Facts.{Fact, HoldsAt, HoldsOfTwo, Turns, flight}
-use Rattle.flight_model.specs.Meeting.{IsFine, Leaves, Shows, Spares, closes, said_to}
+use Rattle.flight_model.specs.Meeting.{IsFine, Leaves, Shows, Spares, TellWell, closes, said_to}
 use Rattle.flight_model.specs.Messages.{AreSaid, octets_of_all}
-use Rattle.flight_model.specs.Pair.{AreEnds, ArePaired, AreTalking, IsStanding}
+use Rattle.flight_model.specs.Pair.{AreEnds, ArePaired, AreTalking, IsStanding, is_in_step}
+use Rattle.flight_model.specs.Flight.{is_empty}
 use Rattle.flight_model.proofs.EventLemmas.{idle_keeps}
 use Rattle.flight_model.proofs.MeetLemmas.{goes_shows}
 use Rattle.flight_model.proofs.PipeLemmas.{all_apart, all_edges, all_from, all_good, all_to, good-append}
 use Rattle.flight_model.proofs.PlanLemmas.{ends_are, joined_apart, joined_turned}
 use Rattle.flight_model.proofs.SettleLemmas.{apart_turned, edge_else, edge_pipes, edge_there, moved, said_behind}
-use Rattle.flight_model.proofs.WorkLemmas.{happens_spares, same_place, session_spares, spares_then, well-append, with_peering_spares}
+use Rattle.flight_model.proofs.WorkLemmas.{happens_spares, same_end, same_place, session_spares, spares_then, well-append, with_peering_spares}
 use Rattle.flight_model.proofs.WorksLemmas.{left_spared, pair_turned, works_begin}
 
 clash : {P : Type 0} → false ≡ true → P
@@ -237,3 +238,153 @@ connects_spares place peer kept work apart =
     let told : Work = gives (Session peer name.Initialized) there in
     spares_then place work there _ (with_peering_spares place peer (Some kept) work apart)
     (spares_then place there told _ (session_spares place peer name.Initialized there) (happens_spares taken_all place peer Start told apart))
+
+-- ---- the network
+
+-- the work of an edge on a connection with a peer, which touches nothing else
+pub record HasConnected (network : NetworkState) (me peer : EdgeId) (work : Work) : Type 0 where
+  pub place : work.edge.me ≡ me
+  pub well : TellWell work.effects
+  pub spares : (k : ℕ) → nat_eq k peer.0 ≡ false → Spares k (begin_at network me) work
+
+leaves_others : (plan : Plan) (network : NetworkState) (me peer : EdgeId) (work : Work) → IsOrdered plan network → HasConnected network me peer work → LeavesOthers (IsPaired plan) network me peer work
+leaves_others plan network me peer work ordered connected place away here =
+    (left_spared (ends_at plan me.0 place) (ends_at plan place me.0) place ((network.edges place).peering me.0) (flight network me.0 place) (network.pipes place me.0) (begin_at network me) work
+    (connected.spares place here) ((works_begin plan network me ordered).left place away)).leaves
+
+connecting_edges : (from to : EdgeId) (first second : Work) (network : NetworkState) → (connecting from first to second network).state.edges ≡ (with_edge to second.edge (with_edge from first.edge network)).edges
+connecting_edges from to first second network =
+    all_edges to 0 0 second.effects (absorb_all from 0 0 first.effects (with_edge to second.edge (with_edge from first.edge network))) ∙ all_edges from 0 0 first.effects (with_edge to second.edge (with_edge from first.edge network))
+
+connecting_keeps : (plan : Plan) (network : NetworkState) (from to : EdgeId) (first second : Work) → nat_eq from.0 to.0 ≡ false → IsOrdered plan network → HasConnected network from to first → HasConnected network to from second
+    → IsPaired plan from.0 to.0 (first.edge.peering to.0) (second.edge.peering from.0) (out_between (second.edge.peering from.0) first second from to (network.pipes from.0 to.0)) (back_between (first.edge.peering to.0) first second from to (network.pipes to.0 from.0))
+    → KeepsOrder plan (connecting from first to second network)
+connecting_keeps plan network from to first second between ordered one other pair = record {
+  ordered = record {
+    two = connected_two (IsPaired plan) network from to first second (pair_turned plan) between ordered.two (leaves_others plan network from to first ordered one) (leaves_others plan network to from second ordered other) pair;
+    alone = λ a. by_place (λ k e. e.peering k ≡ None) a
+        ((one.spares from.0 between).kept ∙ ordered.alone from.0)
+        ((other.spares to.0 (apart_turned from.0 to.0 between)).kept ∙ ordered.alone to.0)
+        (ordered.alone a);
+    placed = λ a. by_place (λ k e. e.me ≡ record { 0 = k }) a one.place other.place (ordered.placed a);
+  };
+  good = good-append _ _ (all_good from 0 0 first.effects (with_edge to second.edge (with_edge from first.edge network)) one.well)
+      (all_good to 0 0 second.effects (absorb_all from 0 0 first.effects (with_edge to second.edge (with_edge from first.edge network))) other.well);
+}
+  where
+    by_place : (Q : ℕ → EdgeState → Type 0) (a : ℕ) → Q from.0 first.edge → Q to.0 second.edge → Q a (network.edges a) → Q a ((connecting from first to second network).state.edges a)
+    by_place Q a here there else_where = rw (connecting_edges from to first second network) (elim (cases_Bool (nat_eq a to.0)) [
+      | inl is ↦ subst (λ (k : ℕ). Q k ((with_edge to second.edge (with_edge from first.edge network)).edges k)) (sym (eqb-true a to.0 is)) (rw (edge_there to second.edge (with_edge from first.edge network)) there)
+      | inr away ↦ rw (edge_else to second.edge (with_edge from first.edge network) a away) (elim (cases_Bool (nat_eq a from.0)) [
+        | inl is ↦ subst (λ (k : ℕ). Q k ((with_edge from first.edge network).edges k)) (sym (eqb-true a from.0 is)) (rw (edge_there from first.edge network) here)
+        | inr gone ↦ rw (edge_else from first.edge network a gone) else_where
+      ])
+    ])
+
+-- between two ends that have opened, the Initialization of the active one is on its way and nothing else
+opened_steps : (own other : Peers) (me peer : EdgeId) (first second : Work) (one : HasOpened own other me peer first) (two : HasOpened other own peer me second)
+    → is_in_step own (Some one.kept) (Some two.kept) one.messages two.messages ≡ true
+opened_steps own other me peer first second one two =
+    let turned : is_active other ≡ not (is_active own) = ends_agree.one_active own other one.stands.between.facing one.stands.between.one.me one.stands.between.one.peer one.stands.between.one.proper in
+    elim (cases_Bool (is_active own)) [
+      | inl active ↦ (let here = one.speaks active in let there = two.waits (turned ∙ ap (λ (b : Bool). not b) active) in rw (active, here.0, here.1, there.0, there.1) refl)
+      | inr passive ↦ (let here = one.waits passive in let there = two.speaks (turned ∙ ap (λ (b : Bool). not b) passive) in rw (passive, here.0, here.1, there.0, there.1) refl)
+    ]
+
+opened_pair : (own other : Peers) (from to : EdgeId) (first second : Work) → HasOpened own other from to first → HasOpened other own to from second
+    → ArePaired own other (first.edge.peering to.0) (second.edge.peering from.0) (out_between (second.edge.peering from.0) first second from to []) (back_between (first.edge.peering to.0) first second from to [])
+unfolding out_between back_between
+opened_pair own other from to first second one two =
+    rw (one.shows.keeps, two.shows.keeps, one.shows.ended, two.shows.ended, one.shows.says, two.shows.says)
+    (record {
+      messages = one.messages;
+      answers = two.messages;
+      out_is = rw two.nothing refl;
+      back_is = rw one.nothing refl;
+      talk = record { said = one.said; answered = two.said; here = one.stands; there = two.stands; steps = opened_steps own other from to first second one two };
+    })
+
+-- nothing is on its way between ends of which none stands
+none_on_way : (plan : Plan) (network : NetworkState) (a b : ℕ) → IsOrdered plan network → nat_eq a b ≡ false → (network.edges a).peering b ≡ None → (network.edges b).peering a ≡ None → network.pipes a b ≡ []
+none_on_way plan network a b ordered apart one two =
+    let pair : IsPaired plan a b None None (network.pipes a b) (network.pipes b a) = rw (one, two) at (ordered.two a b apart) in
+    pair.out_is ∙ ap (octets_of_all (ends_at plan a b).me) (empty pair.messages (left _ _ pair.talk.steps))
+  where
+    left : (a b : Bool) → a && b ≡ true → a ≡ true
+    left true b h = refl
+    left false b h = clash h
+
+    empty : (ms : List Message) → is_empty ms ≡ true → ms ≡ []
+    empty [] h = refl
+    empty (m ∷ ms) h = clash h
+
+-- an edge that is joined to a peer, and whose end does not stand
+connected_is : (plan : Plan) (network : NetworkState) (me peer : EdgeId) → IsOrdered plan network → are_joined plan me.0 peer.0 ≡ true → stands network me.0 peer.0 ≡ false
+    → connected_work plan network me peer ≡ connects_between taken_all peer (slice_get plan.edges me.0) (slice_get plan.edges peer.0) (begin_at network me)
+connected_is plan network me peer ordered joined none = rw (ordered.placed me.0, joined, none) refl
+
+none_there : (near : Option Peering) → is_there near ≡ false → near ≡ None
+none_there None e = refl
+none_there (Some kept) e = clash (sym e)
+
+connects_has : (plan : Plan) (network : NetworkState) (me peer : EdgeId) (one other : EdgePlan) → HasOpened (peers_of one other) (peers_of other one) me peer (connects taken_all peer (opened_with one other) (begin_at network me))
+    → HasConnected network me peer (connects taken_all peer (opened_with one other) (begin_at network me))
+connects_has plan network me peer one other has = record {
+  place = has.fine.place;
+  well = has.fine.well;
+  spares = λ k apart. connects_spares k peer (opened_with one other) (begin_at network me) apart;
+}
+
+idles_has : (plan : Plan) (network : NetworkState) (me peer : EdgeId) → IsOrdered plan network → HasConnected network me peer (idles (begin_at network me))
+unfolding idles
+idles_has plan network me peer ordered = record { place = ordered.placed me.0; well = tt; spares = λ k apart. record { kept = refl; said = refl; closed = refl } }
+
+same_pipe : (b : Bool) (pipe : List ℕ) → cond b (pipe ++ []) pipe ≡ pipe
+same_pipe true pipe = same_end pipe
+same_pipe false pipe = refl
+
+idles_pair : (plan : Plan) (network : NetworkState) (from to : EdgeId) → IsOrdered plan network → nat_eq from.0 to.0 ≡ false
+    → IsPaired plan from.0 to.0 ((network.edges from.0).peering to.0) ((network.edges to.0).peering from.0)
+    (out_between ((network.edges to.0).peering from.0) (idles (begin_at network from)) (idles (begin_at network to)) from to (network.pipes from.0 to.0))
+    (back_between ((network.edges from.0).peering to.0) (idles (begin_at network from)) (idles (begin_at network to)) from to (network.pipes to.0 from.0))
+unfolding idles out_between back_between
+idles_pair plan network from to ordered between =
+    rw (same_pipe (is_there ((network.edges to.0).peering from.0)) (network.pipes from.0 to.0), same_pipe (is_there ((network.edges from.0).peering to.0)) (network.pipes to.0 from.0)) (ordered.two from.0 to.0 between)
+
+idles_keep : (plan : Plan) (network : NetworkState) (from to : EdgeId) → IsOrdered plan network → nat_eq from.0 to.0 ≡ false → KeepsOrder plan (connecting from (idles (begin_at network from)) to (idles (begin_at network to)) network)
+unfolding idles
+idles_keep plan network from to ordered between =
+    connecting_keeps plan network from to (idles (begin_at network from)) (idles (begin_at network to)) between ordered (idles_has plan network from to ordered) (idles_has plan network to from ordered) (idles_pair plan network from to ordered between)
+
+opens_keep : (plan : Plan) (network : NetworkState) (from to : EdgeId) (one other : EdgePlan) → IsOrdered plan network → nat_eq from.0 to.0 ≡ false → AreEnds (peers_of one other) (peers_of other one)
+    → ends_at plan from.0 to.0 ≡ peers_of one other → ends_at plan to.0 from.0 ≡ peers_of other one → network.pipes from.0 to.0 ≡ [] → network.pipes to.0 from.0 ≡ []
+    → KeepsOrder plan (connecting from (connects taken_all to (opened_with one other) (begin_at network from)) to (connects taken_all from (opened_with other one) (begin_at network to)) network)
+opens_keep plan network from to one other ordered between ends first second out back =
+    let here : HasOpened (peers_of one other) (peers_of other one) from to (connects taken_all to (opened_with one other) (begin_at network from)) =
+          connects_opens from to one other (begin_at network from) ends refl (record { place = ordered.placed from.0; idle = refl; well = tt }) in
+    let there : HasOpened (peers_of other one) (peers_of one other) to from (connects taken_all from (opened_with other one) (begin_at network to)) =
+          connects_opens to from other one (begin_at network to) (record { one = ends.two; two = ends.one; facing = ends.back; back = ends.facing }) refl (record { place = ordered.placed to.0; idle = refl; well = tt }) in
+    connecting_keeps plan network from to (connects taken_all to (opened_with one other) (begin_at network from)) (connects taken_all from (opened_with other one) (begin_at network to)) between ordered
+    (connects_has plan network from to one other here) (connects_has plan network to from other one there)
+    (rw (first, second, out, back) (opened_pair (peers_of one other) (peers_of other one) from to (connects taken_all to (opened_with one other) (begin_at network from)) (connects taken_all from (opened_with other one) (begin_at network to)) here there))
+
+pub connect_keeps : (plan : Plan) (from to : EdgeId) (network : NetworkState) → IsChecked plan → HasAddresses plan → IsOrdered plan network → KeepsOrder plan (connect_event plan from to network)
+connect_keeps plan from to network checked addresses ordered = can (are_joined plan from.0 to.0) (stands network from.0 to.0) (stands network to.0 from.0) refl refl refl where
+  rows : nat_eq from.0 to.0 ≡ false → (network.edges from.0).peering to.0 ≡ None → (network.edges to.0).peering from.0 ≡ None → (first second : Option EdgePlan) → slice_get plan.edges from.0 ≡ first → slice_get plan.edges to.0 ≡ second
+      → KeepsOrder plan (connecting from (connects_between taken_all to first second (begin_at network from)) to (connects_between taken_all from second first (begin_at network to)) network)
+  rows between none none' (Some one) (Some other) here there =
+      opens_keep plan network from to one other ordered between (ends_are plan from.0 to.0 one other checked addresses here there between) (rw (here, there) refl) (rw (there, here) refl)
+      (none_on_way plan network from.0 to.0 ordered between none none') (none_on_way plan network to.0 from.0 ordered (apart_turned from.0 to.0 between) none' none)
+  rows between none none' None None here there = idles_keep plan network from to ordered between
+  rows between none none' None (Some other) here there = idles_keep plan network from to ordered between
+  rows between none none' (Some one) None here there = idles_keep plan network from to ordered between
+
+  can : (joined one other : Bool) → are_joined plan from.0 to.0 ≡ joined → stands network from.0 to.0 ≡ one → stands network to.0 from.0 ≡ other
+      → KeepsOrder plan (cond (joined && (not one && not other)) (connecting from (connected_work plan network from to) to (connected_work plan network to from) network) (idle network))
+  can true false false is none none' =
+      rw (connected_is plan network from to ordered is none, connected_is plan network to from ordered (sym (joined_turned plan from.0 to.0) ∙ is) none')
+      (rows (joined_apart plan from.0 to.0 checked is) (none_there ((network.edges from.0).peering to.0) none) (none_there ((network.edges to.0).peering from.0) none')
+      (slice_get plan.edges from.0) (slice_get plan.edges to.0) refl refl)
+  can true true other is none none' = idle_keeps plan network ordered
+  can true false true is none none' = idle_keeps plan network ordered
+  can false one other is none none' = idle_keeps plan network ordered
