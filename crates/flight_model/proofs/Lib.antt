@@ -13,3 +13,4 @@ pub mod EventLemmas
 pub mod CircuitLemmas
 pub mod PlanLemmas
 pub mod ConnectLemmas
+pub mod RunLemmas

@@ -3,6 +3,7 @@ pub mod Endings
 pub mod Ends
 pub mod Facts
 pub mod Flight
+pub mod Laws
 pub mod Meeting
 pub mod Messages
 pub mod Pair
