@@ -1,5 +1,5 @@
 -- Frames and circuits are no matter of sessions.
-use Rattle.std.proofs.Common.{◌≡◌, ◌&&◌, ◌+◌, ◌∙◌, ℕ, Bool, true, false, cond, not, nat_eq, List, [], ◌∷◌, Option, Some, None, Result, Ok, Err, refl}
+use Rattle.std.proofs.Common.{◌≡◌, ◌&&◌, ◌+◌, ℕ, Bool, true, false, cond, not, List, [], ◌∷◌, Option, Some, None, Result, Ok, Err, refl}
 use Rattle.net_base.specs.declared.plan.Plan.{Plan}
 use Rattle.net_base.specs.declared.plan.circuit_plan.CircuitPlan.{CircuitPlan}
 use Rattle.net_base.specs.declared.plan.places.CircuitId.{CircuitId}
@@ -11,14 +11,14 @@ use Rattle.net_base.specs.values.Frame.{dress}
 use Rattle.hvpls_spokes.specs.declared.port.Port.{Port}
 use Rattle.hvpls_spokes.specs.declared.port.Port.TheVariants as port
 use Rattle.hvpls_spokes.specs.Port.{ports_of}
-use Rattle.edge_model.specs.Circuit.{circuit_input, is_same, turned}
+use Rattle.edge_model.specs.Circuit.{is_same, turned}
 use Rattle.edge_model.specs.declared.effect.Effect.TheVariants.{Dropped, Left}
-use Rattle.edge_model.specs.Frame.{copies, copy_by, forwarded, frame_input, hearing, is_own, port_at, received, tag_of, targets_of}
-use Rattle.edge_model.specs.State.{EdgeState, is_on, with_addresses, with_circuit}
-use Rattle.edge_model.specs.Work.{Work, Answers, changes, gives, idles}
+use Rattle.edge_model.specs.Frame.{copies, copy_by, forwarded, hearing, is_own, port_at, received, tag_of, targets_of}
+use Rattle.edge_model.specs.State.{is_on, with_addresses, with_circuit}
+use Rattle.edge_model.specs.Work.{Work, Answers, changes, idles}
 use Rattle.network_model.specs.Absorb.{absorb, answer, begin_at, idle, taken_all}
 use Rattle.network_model.specs.Circuit.{circuit_event}
-use Rattle.network_model.specs.Frame.{entering, frame_event, frame_work, next_origin}
+use Rattle.network_model.specs.Frame.{entering, frame_event, next_origin}
 use Rattle.network_model.specs.State.{NetworkState, with_frame}
 use Rattle.flight_model.specs.Ends.{IsOrdered, KeepsOrder, WorksOn}
 use Rattle.flight_model.proofs.EventLemmas.{idle_keeps}

@@ -1,5 +1,5 @@
 -- A connection comes up: both ends stand, and the active one has said its Initialization.
-use Rattle.std.proofs.Common.{◌≡◌, ◌≤◌, ◌<◌, ◌+◌, ◌^◌, ◌++◌, ◌&&◌, ◌∙◌, ℕ, Bool, true, false, cond, not, nat_eq, List, [], ◌∷◌, Option, Some, None, slice_get, refl, sym, ap, subst, append_assoc, inl, inr, arith}
+use Rattle.std.proofs.Common.{◌≡◌, ◌<◌, ◌^◌, ◌++◌, ◌&&◌, ◌∙◌, ℕ, Bool, true, false, cond, not, nat_eq, List, [], ◌∷◌, Option, Some, None, slice_get, refl, sym, ap, subst, inl, inr, arith}
 use Rattle.std.proofs.lemmas.Bool.{cases_Bool, eqb-true}
 use Rattle.net_base.specs.declared.plan.Plan.{Plan}
 use Rattle.net_base.specs.declared.plan.edge_plan.EdgePlan.{EdgePlan}
@@ -14,26 +14,24 @@ use Rattle.session_core.specs.declared.reply.Reply.TheVariants as reply
 use Rattle.session_core.specs.Parameters.{proposal}
 use Rattle.session_core.specs.Phase.{Phase}
 use Rattle.session_core.specs.Phase as phase
-use Rattle.session_core.specs.State.{SessionState, is_active, opened}
+use Rattle.session_core.specs.State.{is_active, opened}
 use Rattle.session_core.specs.Table.{Goes, Start, Stay, enters, outcome_of}
 use Rattle.session_core.proofs.LawLemmas.{ends_agree}
-use Rattle.edge_model.specs.Connection.{connected_input, connects, connects_between, opened_with, peers_of}
-use Rattle.edge_model.specs.declared.effect.Effect.{Effect}
+use Rattle.edge_model.specs.Connection.{connects, connects_between, opened_with, peers_of}
 use Rattle.edge_model.specs.declared.effect.Effect.TheVariants.{Session}
 use Rattle.edge_model.specs.Put.{having_spoken}
-use Rattle.edge_model.specs.Session.{comes_of, happens, with_session}
-use Rattle.edge_model.specs.State.{EdgeState, Peering, has_end, is_there, with_peering}
-use Rattle.edge_model.specs.Work.{Work, beginning, changes, gives, idles}
-use Rattle.network_model.specs.Absorb.{Stepped, absorb_all, begin_at, idle, taken_all}
-use Rattle.network_model.specs.Connection.{can_connect, connect_event, connected_work, connecting, given_out}
-use Rattle.network_model.specs.State.{NetworkState, at_edge, held_by, stands, with_edge}
+use Rattle.edge_model.specs.Session.{with_session}
+use Rattle.edge_model.specs.State.{EdgeState, Peering, is_there, with_peering}
+use Rattle.edge_model.specs.Work.{Work, changes, gives, idles}
+use Rattle.network_model.specs.Absorb.{absorb_all, begin_at, idle, taken_all}
+use Rattle.network_model.specs.Connection.{connect_event, connected_work, connecting}
+use Rattle.network_model.specs.State.{NetworkState, held_by, stands, with_edge}
 use Rattle.flight_model.specs.Coming.{and_more}
-use Rattle.flight_model.specs.Endings.{TellGoodEnds}
-use Rattle.flight_model.specs.Ends.{HasAddresses, IsOrdered, IsPaired, KeepsOrder, WorksOn, ends_at}
+use Rattle.flight_model.specs.Ends.{HasAddresses, IsOrdered, IsPaired, KeepsOrder, ends_at}
 use Rattle.flight_model.specs.Facts.{Fact, HoldsAt, HoldsOfTwo, Turns, flight}
-use Rattle.flight_model.specs.Meeting.{IsFine, Leaves, Shows, Spares, TellWell, closes, said_to}
+use Rattle.flight_model.specs.Meeting.{IsFine, Shows, Spares, TellWell, closes, said_to}
 use Rattle.flight_model.specs.Messages.{AreSaid, octets_of_all}
-use Rattle.flight_model.specs.Pair.{AreEnds, ArePaired, AreTalking, IsStanding, is_in_step}
+use Rattle.flight_model.specs.Pair.{AreEnds, ArePaired, IsStanding, is_in_step}
 use Rattle.flight_model.specs.Flight.{is_empty}
 use Rattle.flight_model.proofs.EventLemmas.{idle_keeps}
 use Rattle.flight_model.proofs.MeetLemmas.{goes_shows}
@@ -193,28 +191,28 @@ connects_opens : (me peer : EdgeId) (one other : EdgePlan) (work : Work) → Are
     → HasOpened (peers_of one other) (peers_of other one) me peer (connects taken_all peer (opened_with one other) work)
 connects_opens me peer one other work ends none fine = elim (cases_Bool (is_active own)) [
   | inl active ↦ (let said = goes_shows me peer kept (enters phase.OpenSent (opened own)) (reply.Init ∷ []) [] begun opening.0 opening.1 in
-    rw (opening.0.keeps, starts own active) (record {
-      kept = having_spoken (with_session (enters phase.OpenSent (opened own)) kept);
-      messages = Initialization 1 (proposal own) ∷ [];
-      shows = said.0;
-      fine = said.1;
-      nothing = refl;
-      stands = stands_open one other (having_spoken (with_session (enters phase.OpenSent (opened own)) kept)) ends refl refl (omega arith) (λ e. absurd (no e));
-      said = ((omega arith, refl), tt);
-      speaks = λ e. (refl, refl);
-      waits = λ e. clash (sym e ∙ active);
-    }))
+      rw (opening.0.keeps, starts own active) (record {
+        kept = having_spoken (with_session (enters phase.OpenSent (opened own)) kept);
+        messages = Initialization 1 (proposal own) ∷ [];
+        shows = said.0;
+        fine = said.1;
+        nothing = refl;
+        stands = stands_open one other (having_spoken (with_session (enters phase.OpenSent (opened own)) kept)) ends refl refl (omega arith) (λ e. absurd (no e));
+        said = ((omega arith, refl), tt);
+        speaks = λ e. (refl, refl);
+        waits = λ e. clash (sym e ∙ active);
+      }))
   | inr passive ↦ rw (opening.0.keeps, rests own passive) (record {
-      kept = kept;
-      messages = [];
-      shows = opening.0;
-      fine = opening.1;
-      nothing = refl;
-      stands = stands_open one other kept ends refl refl (omega arith) (λ e. passive);
-      said = tt;
-      speaks = λ e. clash (sym passive ∙ e);
-      waits = λ e. (refl, refl);
-    })
+    kept = kept;
+    messages = [];
+    shows = opening.0;
+    fine = opening.1;
+    nothing = refl;
+    stands = stands_open one other kept ends refl refl (omega arith) (λ e. passive);
+    said = tt;
+    speaks = λ e. clash (sym passive ∙ e);
+    waits = λ e. (refl, refl);
+  })
 ]
   where
     own : Peers
@@ -361,9 +359,9 @@ opens_keep : (plan : Plan) (network : NetworkState) (from to : EdgeId) (one othe
     → KeepsOrder plan (connecting from (connects taken_all to (opened_with one other) (begin_at network from)) to (connects taken_all from (opened_with other one) (begin_at network to)) network)
 opens_keep plan network from to one other ordered between ends first second out back =
     let here : HasOpened (peers_of one other) (peers_of other one) from to (connects taken_all to (opened_with one other) (begin_at network from)) =
-          connects_opens from to one other (begin_at network from) ends refl (record { place = ordered.placed from.0; idle = refl; well = tt }) in
+    connects_opens from to one other (begin_at network from) ends refl (record { place = ordered.placed from.0; idle = refl; well = tt }) in
     let there : HasOpened (peers_of other one) (peers_of one other) to from (connects taken_all from (opened_with other one) (begin_at network to)) =
-          connects_opens to from other one (begin_at network to) (record { one = ends.two; two = ends.one; facing = ends.back; back = ends.facing }) refl (record { place = ordered.placed to.0; idle = refl; well = tt }) in
+    connects_opens to from other one (begin_at network to) (record { one = ends.two; two = ends.one; facing = ends.back; back = ends.facing }) refl (record { place = ordered.placed to.0; idle = refl; well = tt }) in
     connecting_keeps plan network from to (connects taken_all to (opened_with one other) (begin_at network from)) (connects taken_all from (opened_with other one) (begin_at network to)) between ordered
     (connects_has plan network from to one other here) (connects_has plan network to from other one there)
     (rw (first, second, out, back) (opened_pair (peers_of one other) (peers_of other one) from to (connects taken_all to (opened_with one other) (begin_at network from)) (connects taken_all from (opened_with other one) (begin_at network to)) here there))

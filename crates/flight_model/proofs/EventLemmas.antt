@@ -1,5 +1,5 @@
 -- Events that touch the sessions of one edge: octets are delivered, an end is lost, an edge restarts, and ticks pass.
-use Rattle.std.proofs.Common.{◌≡◌, ◌++◌, ◌&&◌, ◌||◌, ◌+◌, ◌∙◌, ℕ, zero, suc, Bool, true, false, cond, not, nat_eq, length, take, drop, List, [], ◌∷◌, Option, Some, None, refl, sym, ap, subst, append_assoc, inl, inr, arith}
+use Rattle.std.proofs.Common.{◌≡◌, ◌++◌, ◌&&◌, ◌||◌, ◌+◌, ◌∙◌, ℕ, zero, suc, Bool, true, false, cond, not, nat_eq, length, take, drop, List, [], Option, Some, None, refl, sym, ap, subst, append_assoc, inl, inr}
 use Rattle.std.proofs.lemmas.Bool.{cases_Bool, eqb-true}
 use Rattle.std.proofs.lemmas.List.{take-append-drop}
 use Rattle.net_base.specs.declared.plan.Plan.{Plan}
@@ -8,30 +8,28 @@ use Rattle.net_base.specs.declared.trace.state_name.Reason.TheVariants as reason
 use Rattle.ldp_grammar.specs.declared.message.Message.{Message}
 use Rattle.session_core.specs.declared.peers.Peers.{Peers}
 use Rattle.session_core.specs.Table.{Closed, Ticked}
-use Rattle.edge_model.specs.Connection.{lost_input, restart_input, restarted}
+use Rattle.edge_model.specs.Connection.{restart_input}
 use Rattle.edge_model.specs.Hear.{hears_few, octets_input}
 use Rattle.edge_model.specs.Session.{happens}
-use Rattle.edge_model.specs.State.{EdgeState, Peering, has_end, is_there, with_learned, with_peering, with_ticks, without_peerings}
+use Rattle.edge_model.specs.State.{Peering, is_there, with_learned, with_ticks, without_peerings}
 use Rattle.edge_model.specs.Tick.{counted, forgetting, tick_input, ticks_sessions}
-use Rattle.edge_model.specs.Work.{Work, beginning, changes, idles}
-use Rattle.network_model.specs.Absorb.{Stepped, absorb, begin_at, idle, taken_all}
-use Rattle.network_model.specs.Connection.{deliver_event, delivering, hearing_work, is_deliverable, is_drained_pipe, lose_event, losing, losing_work, restart_event}
-use Rattle.network_model.specs.State.{NetworkState, at_edge, held, held_by, stands, with_edge, with_pipe, without_octets_to}
+use Rattle.edge_model.specs.Work.{Work, changes}
+use Rattle.network_model.specs.Absorb.{begin_at, idle, taken_all}
+use Rattle.network_model.specs.Connection.{deliver_event, delivering, hearing_work, is_drained_pipe, lose_event, losing, losing_work, restart_event}
+use Rattle.network_model.specs.State.{NetworkState, stands, with_edge, with_pipe, without_octets_to}
 use Rattle.network_model.specs.Tick.{tick_at, tick_event, ticks_from}
-use Rattle.flight_model.specs.Coming.{and_more, is_talk_without}
-use Rattle.flight_model.specs.Endings.{TellGoodEnds}
 use Rattle.flight_model.specs.Ends.{HasWorked, IsLeft, IsOrdered, IsPaired, KeepsOrder, WorksOn, ends_at}
-use Rattle.flight_model.specs.Facts.{HoldsAt, HoldsBut, flight}
+use Rattle.flight_model.specs.Facts.{HoldsBut, flight}
 use Rattle.flight_model.specs.Flight.{is_empty}
-use Rattle.flight_model.specs.Meeting.{IsFine, Leaves, Meets, Spares, closes, said_to}
+use Rattle.flight_model.specs.Meeting.{IsFine, Leaves, Meets, Spares}
 use Rattle.flight_model.specs.Messages.{octets_of_all}
-use Rattle.flight_model.specs.Pair.{ArePaired, AreTalking, StandsIf, is_in_step, phase_of}
+use Rattle.flight_model.specs.Pair.{ArePaired, AreTalking}
 use Rattle.flight_model.proofs.HearLemmas.{few_leave, few_spare}
 use Rattle.flight_model.proofs.PipeLemmas.{all_good, good-append, pipe_from, pipe_there, pipe_to}
 use Rattle.flight_model.proofs.ReactLemmas.{closed_in_step, goes_in_step, ticked_in_step}
-use Rattle.flight_model.proofs.SettleLemmas.{apart_turned, moved}
+use Rattle.flight_model.proofs.SettleLemmas.{apart_turned}
 use Rattle.flight_model.proofs.WorkLemmas.{same_place}
-use Rattle.flight_model.proofs.WorksLemmas.{has_worked, left_spared, no_end, no_more, work_keeps, works_begin, works_changes, works_happens, works_settle}
+use Rattle.flight_model.proofs.WorksLemmas.{left_spared, no_more, work_keeps, works_begin, works_changes, works_happens, works_settle}
 
 pub idle_keeps : (plan : Plan) (network : NetworkState) → IsOrdered plan network → KeepsOrder plan (idle network)
 idle_keeps plan network ordered = record { ordered = ordered; good = (tt, tt) }
@@ -80,7 +78,6 @@ pub tick_keeps : (plan : Plan) (network : NetworkState) → IsOrdered plan netwo
 tick_keeps plan network ordered = ticks_keep plan 0 (length plan.edges) network ordered
 
 -- ---- an edge restarts
-
 
 gone_anyway : (own other : Peers) (near far : Option Peering) (out back : List Message) → AreTalking own other near far out back → AreTalking own other None far out []
 gone_anyway own other None None out back t = record { said = t.said; answered = tt; here = tt; there = tt; steps = both (is_empty out) (is_empty back) t.steps }

@@ -2,12 +2,11 @@
 use Rattle.std.proofs.Common.{◌≡◌, ◌≤◌, ◌+◌, ◌++◌, ◌∙◌, ◌⊎◌, ℕ, List, [], ◌∷◌, inl, inr, refl, sym, ap, subst, arith, length, ⊎_elim}
 use Rattle.net_base.specs.declared.values.addr.Addr.{Addr}
 use Rattle.ldp_grammar.specs.declared.message.Message.{Message}
-use Rattle.ldp_grammar.specs.declared.pdu.Pdu.{Pdu}
 use Rattle.ldp_grammar.specs.Spells.{Spells}
 use Rattle.ldp_grammar.specs.Written.{IsId, message_octets, written}
 use Rattle.ldp_grammar.proofs.OctetLemmas.{AreOctets, octets_before}
 use Rattle.ldp_grammar.proofs.RoundTripLemmas.{written_is_read}
-use Rattle.ldp_stream.specs.FrontOf.{Front, More, Got, front_of}
+use Rattle.ldp_stream.specs.FrontOf.{More, Got, front_of}
 use Rattle.ldp_stream.proofs.FrontOfLemmas.{front_is_read}
 use Rattle.session_core.specs.declared.peers.Peers.{Peers}
 use Rattle.edge_model.specs.Put.{platform_of}

@@ -1,26 +1,23 @@
 -- Octets of a neighbour keep an edge and the neighbour in step.
-use Rattle.std.proofs.Common.{◌≡◌, ◌++◌, ◌∙◌, ◌⊎◌, ◌+◌, ℕ, zero, suc, Bool, true, false, cond, not, nat_eq, length, List, [], ◌∷◌, Option, Some, None, inl, inr, refl, sym, ap, subst, ⊎_elim}
+use Rattle.std.proofs.Common.{◌≡◌, ◌++◌, ◌∙◌, ℕ, zero, suc, Bool, true, false, cond, not, nat_eq, List, [], ◌∷◌, Option, Some, None, refl, sym, ap, subst, ⊎_elim}
 use Rattle.net_base.specs.declared.plan.places.EdgeId.{EdgeId}
 use Rattle.net_base.specs.declared.trace.state_name.Reason.TheVariants as reason
-use Rattle.ldp_grammar.specs.declared.ldp_id.LdpId.{LdpId}
 use Rattle.ldp_grammar.specs.declared.message.Message.{Message}
 use Rattle.ldp_grammar.specs.declared.pdu.Pdu.{Pdu}
 use Rattle.ldp_codec.specs.Decoded.{refusal_of}
 use Rattle.ldp_stream.specs.FrontOf.{Front, More, Got, Bad, front_of}
 use Rattle.session_core.specs.declared.peers.Peers.{Peers}
 use Rattle.session_core.specs.declared.reply.Reply.{Reply}
-use Rattle.session_core.specs.Table.{SessionEvent, Heard, Received, Refused}
-use Rattle.edge_model.specs.Hear.{acts, advice_of, advises, had_put, hears, hears_few, hears_front, hears_message, hears_messages, hears_pdu, hears_within, holds, octets_input, was_up}
+use Rattle.session_core.specs.Table.{Heard, Received, Refused}
+use Rattle.edge_model.specs.Hear.{acts, advice_of, advises, hears_few, hears_front, hears_message, hears_messages, hears_pdu, hears_within, holds, was_up}
 use Rattle.edge_model.specs.Put.{Spoken, platform_of, put_reply}
 use Rattle.edge_model.specs.Session.{ends, happens}
-use Rattle.edge_model.specs.State.{EdgeState, Peering, has_end, is_there, with_peering}
+use Rattle.edge_model.specs.State.{Peering, has_end, is_there, with_peering}
 use Rattle.edge_model.specs.Work.{Work, Answers, changes}
 use Rattle.network_model.specs.Absorb.{taken_all}
-use Rattle.network_model.specs.State.{held_by}
-use Rattle.flight_model.specs.Coming.{and_more}
-use Rattle.flight_model.specs.Meeting.{IsFine, Leaves, Meets, Spares, closes, said_to}
+use Rattle.flight_model.specs.Meeting.{IsFine, Leaves, Meets, Spares, closes}
 use Rattle.flight_model.specs.Messages.{AreSaid, IsSaid, octets_of_all}
-use Rattle.flight_model.specs.Pair.{AreEnds, AreTalking, IsStanding}
+use Rattle.flight_model.specs.Pair.{AreTalking}
 use Rattle.flight_model.proofs.FrontLemmas.{HasNext, front_is}
 use Rattle.flight_model.proofs.MeetLemmas.{happens_meets}
 use Rattle.flight_model.proofs.ReactLemmas.{heard_in_step, received_in_step, same_phase}
@@ -52,13 +49,16 @@ pdu_meets own other me peer far out m answers work said meets =
 -- what is left where the end is gone
 pub gone_leaves : (own other : Peers) (me peer : EdgeId) (far : Option Peering) (out more : List ℕ) (answers : List Message) (work : Work) → work.edge.peering peer.0 ≡ None
     → Meets own other me peer far out answers work → IsFine me work × Leaves own other peer.0 far out more work
-gone_leaves own other me peer far out more answers work is meets = (meets.fine, rw (is, meets.ended, is) (record {
-  messages = meets.messages;
-  answers = [];
-  out_is = meets.out_is;
-  back_is = refl;
-  talk = rw is at meets.talk;
-}))
+gone_leaves own other me peer far out more answers work is meets = (
+  meets.fine,
+  rw (is, meets.ended, is) (record {
+    messages = meets.messages;
+    answers = [];
+    out_is = meets.out_is;
+    back_is = refl;
+    talk = rw is at meets.talk;
+  }),
+)
 
 -- what is left where octets are held
 held_leaves : (own other : Peers) (me peer : EdgeId) (kept : Peering) (far : Option Peering) (out octets more : List ℕ) (answers : List Message) (work : Work) → work.edge.peering peer.0 ≡ Some kept
@@ -68,8 +68,7 @@ unfolding changes with_peering
 held_leaves own other me peer kept far out octets more answers work is e meets =
     let talk : AreTalking own other (Some kept) far meets.messages answers = rw is at meets.talk in
     let now : Peering = record kept { held = octets } in
-    let open_end : closes peer.0 work.effects ≡ false = meets.ended ∙ ap (λ (o : Option Peering). not (is_there o)) is in
-    (
+    let open_end : closes peer.0 work.effects ≡ false = meets.ended ∙ ap (λ (o : Option Peering). not (is_there o)) is in (
       record { place = meets.fine.place; idle = meets.fine.idle; well = meets.fine.well },
       rw (same_place peer.0, open_end) (record {
         messages = meets.messages;

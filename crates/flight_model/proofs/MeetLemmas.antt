@@ -1,5 +1,5 @@
 -- An event of a session keeps an edge and its neighbour in step.
-use Rattle.std.proofs.Common.{◌≡◌, ◌++◌, ◌∙◌, ℕ, Bool, true, false, cond, not, List, [], ◌∷◌, Option, Some, None, refl, sym, ap, subst, append_assoc}
+use Rattle.std.proofs.Common.{◌≡◌, ◌++◌, ◌∙◌, ℕ, Bool, true, false, cond, not, List, [], ◌∷◌, Option, Some, None, refl, sym, ap, append_assoc}
 use Rattle.net_base.specs.declared.plan.places.EdgeId.{EdgeId}
 use Rattle.net_base.specs.declared.values.addr.Addr.{Addr}
 use Rattle.ldp_grammar.specs.declared.message.Message.{Message}
@@ -12,12 +12,12 @@ use Rattle.session_core.specs.State.{SessionState}
 use Rattle.session_core.specs.Table.{SessionEvent, Outcome, Stay, Goes, Ends, outcome_of}
 use Rattle.edge_model.specs.declared.effect.Effect.TheVariants as effect
 use Rattle.edge_model.specs.Put.{Spoken, having_spoken, put_replies}
-use Rattle.edge_model.specs.Session.{comes_of, ends, happens, happens_to, is_same_phase, tells_change, went_on, with_session}
-use Rattle.edge_model.specs.State.{EdgeState, Peering, is_there, with_peering}
+use Rattle.edge_model.specs.Session.{comes_of, ends, happens, is_same_phase, tells_change, with_session}
+use Rattle.edge_model.specs.State.{Peering, is_there, with_peering}
 use Rattle.edge_model.specs.Work.{Work, changes, gives}
 use Rattle.network_model.specs.Absorb.{taken_all}
 use Rattle.flight_model.specs.Coming.{and_more}
-use Rattle.flight_model.specs.Meeting.{IsFine, Meets, Shows, closes, said_to}
+use Rattle.flight_model.specs.Meeting.{IsFine, Meets, Shows, said_to}
 use Rattle.flight_model.specs.Messages.{octets_of_all}
 use Rattle.flight_model.specs.Pair.{AreTalking, StayInStep, having_put, messages_put, octets_put}
 use Rattle.flight_model.proofs.ReactLemmas.{put_octets_are}
@@ -53,8 +53,7 @@ told_shows : (me peer : EdgeId) (same : Bool) (new : Phase) (near : Option Peeri
 unfolding gives
 told_shows me peer true new near said closed work shows fine = (shows, fine)
 told_shows me peer false new near said closed work shows fine =
-    let spared = session_spares peer.0 peer (phase_name new) work in
-    (
+    let spared = session_spares peer.0 peer (phase_name new) work in (
       record { keeps = spared.kept ∙ shows.keeps; says = spared.said ∙ shows.says; ended = spared.closed ∙ shows.ended },
       record { place = fine.place; idle = fine.idle; well = well-append work.effects (effect.Session peer (phase_name new)) fine.well (by_phase new) },
     )

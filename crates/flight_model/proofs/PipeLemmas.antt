@@ -1,14 +1,14 @@
 -- What the effects of an edge make of the pipes, and what they tell of sessions.
-use Rattle.std.proofs.Common.{◌≡◌, ◌++◌, ◌||◌, ◌∙◌, ◌==◌, ℕ, Bool, true, false, cond, not, nat_eq, List, [], ◌∷◌, Option, Some, None, refl, sym, ap, append_assoc, inl, inr, arith}
+use Rattle.std.proofs.Common.{◌≡◌, ◌++◌, ◌||◌, ◌∙◌, ℕ, Bool, true, false, cond, nat_eq, List, [], ◌∷◌, refl, sym, ap, append_assoc, inl, inr}
 use Rattle.std.proofs.lemmas.Bool.{cases_Bool, eqb-true}
 use Rattle.net_base.specs.declared.plan.places.EdgeId.{EdgeId}
 use Rattle.net_base.specs.declared.trace.entry.Entry.{Entry}
 use Rattle.edge_model.specs.declared.effect.Effect.{Effect}
 use Rattle.edge_model.specs.declared.effect.Effect.TheVariants as effect
-use Rattle.edge_model.specs.State.{EdgeState, Peering, is_there, put_at}
-use Rattle.network_model.specs.Absorb.{absorb_all, absorb_one, all_entries_of, entries_of, put_towards}
+use Rattle.edge_model.specs.State.{EdgeState, is_there}
+use Rattle.network_model.specs.Absorb.{absorb_all, absorb_one, all_entries_of, put_towards}
 use Rattle.network_model.specs.State.{NetworkState, stands, with_packet, with_pipe}
-use Rattle.flight_model.specs.Endings.{TellGoodEnds, TellsGoodEnd}
+use Rattle.flight_model.specs.Endings.{TellGoodEnds}
 use Rattle.flight_model.specs.Meeting.{TellWell, closes, said_to}
 use Rattle.flight_model.proofs.WorkLemmas.{closes-append, said-append, same_end, same_place}
 

@@ -1,5 +1,5 @@
 -- Two ends stay in step through each event of one of them.
-use Rattle.std.proofs.Common.{rules, ◌≡◌, ◌≤◌, ◌<◌, ◌+◌, ◌-◌, ◌^◌, ◌++◌, ◌&&◌, ◌==◌, ◌∙◌, ℕ, Bool, true, false, cond, not, min, nat_le, List, [], ◌∷◌, Option, Some, None, option_map, refl, sym, ap, subst, append_assoc, arith}
+use Rattle.std.proofs.Common.{rules, ◌≡◌, ◌≤◌, ◌<◌, ◌^◌, ◌++◌, ◌&&◌, ◌∙◌, ℕ, Bool, true, false, min, List, [], ◌∷◌, Option, Some, None, option_map, refl, sym, ap, subst, arith}
 use Rattle.std.proofs.lemmas.Bool.Decides.{nat_tests}
 use Rattle.std.proofs.lemmas.Bool.{cases_Bool}
 use Rattle.std.proofs.Common.{inl, inr}
@@ -10,23 +10,20 @@ use Rattle.ldp_grammar.specs.declared.message.Message.TheVariants.{Notification,
 use Rattle.session_core.specs.declared.peers.Peers.{Peers}
 use Rattle.session_core.specs.declared.reply.Reply.{Reply}
 use Rattle.session_core.specs.declared.reply.Reply.TheVariants as reply
-use Rattle.session_core.specs.Laws.{IsFacing}
-use Rattle.session_core.specs.Messages.{message_of}
 use Rattle.session_core.specs.Parameters.{agreed, is_platform, longest, proposal, refusal_of}
 use Rattle.session_core.specs.Phase.{Phase, is_agreed}
 use Rattle.session_core.specs.Phase as phase
-use Rattle.session_core.specs.Reasons.{is_fatal, is_keep_alive}
-use Rattle.session_core.specs.State.{SessionState, IsProper, is_active}
-use Rattle.session_core.specs.Table.{SessionEvent, Start, Heard, Received, Ticked, Closed, Outcome, Stay, Goes, Ends, enters, later, outcome_of, is_expired, is_quiet, third, ticked}
+use Rattle.session_core.specs.Reasons.{is_fatal}
+use Rattle.session_core.specs.State.{SessionState, is_active}
+use Rattle.session_core.specs.Table.{Heard, Received, Ticked, Closed, Goes, Ends, enters, later, outcome_of, is_expired, is_quiet, ticked}
 use Rattle.session_core.specs.StatusCodes.{about_none, keep_alive_timer_expired}
 use Rattle.session_core.proofs.LawLemmas.{ends_agree}
 use Rattle.edge_model.specs.Put.{following, having_spoken, octets_of, platform_of}
 use Rattle.edge_model.specs.Session.{with_session}
 use Rattle.edge_model.specs.State.{Peering}
-use Rattle.flight_model.specs.Coming.{and_more, is_talk, is_talk_without}
-use Rattle.flight_model.specs.Flight.{is_initialization}
-use Rattle.flight_model.specs.Messages.{AreSaid, IsSaid, expiry, octets_of_all}
-use Rattle.flight_model.specs.Pair.{AreEnds, AreFit, AreTalking, IsStanding, StandsIf, StayInStep, having_put, is_in_step, messages_put, octets_put, phase_of}
+use Rattle.flight_model.specs.Coming.{and_more, is_talk}
+use Rattle.flight_model.specs.Messages.{AreSaid, expiry, octets_of_all}
+use Rattle.flight_model.specs.Pair.{AreTalking, IsStanding, StayInStep, messages_put, octets_put, phase_of}
 use Rattle.flight_model.proofs.RowLemmas.{clash}
 use Rattle.flight_model.proofs.SaidLemmas.{active_init, fatal_ends, keep_alive, keeping_form, opening_form, passive_init, said-append, said_sender, stays_up}
 use Rattle.flight_model.proofs.TalkLemmas.{goes, goes_on, keeps_rec, keeps_up, opens_initialized, opens_sent, rises, tells_end}
@@ -228,15 +225,17 @@ later_stands own other kept is = record { peers = is.peers; between = is.between
 expires : (own other : Peers) (kept : Peering) (far : Option Peering) (out back : List Message) → AreTalking own other (Some kept) far out back
     → StayInStep own other kept far out back (Ends reason.Expired (about_none keep_alive_timer_expired ∷ []))
 expires own other kept far out back t =
-    let leaving : Message = Notification kept.next_id expiry None None in
-    (refl, record {
-      said = more_said own far out (leaving ∷ []) t.said ((t.here.numbered, refl, refl, refl), tt);
-      answered = tt;
-      here = tt;
-      there = t.there;
-      steps = rw (← more_by_phase far out (leaving ∷ []))
-          (tells_end (option_map phase_of far) out leaving refl (goes (is_active own) kept.session.phase (option_map phase_of far) out back t.steps));
-    })
+    let leaving : Message = Notification kept.next_id expiry None None in (
+      refl,
+      record {
+        said = more_said own far out (leaving ∷ []) t.said ((t.here.numbered, refl, refl, refl), tt);
+        answered = tt;
+        here = tt;
+        there = t.there;
+        steps = rw (← more_by_phase far out (leaving ∷ []))
+            (tells_end (option_map phase_of far) out leaving refl (goes (is_active own) kept.session.phase (option_map phase_of far) out back t.steps));
+      },
+    )
 
 -- it is time for a KeepAlive
 keeps : (own other : Peers) (kept : Peering) (far : Option Peering) (out back : List Message) → is_agreed kept.session.phase ≡ true → AreTalking own other (Some kept) far out back

@@ -1,5 +1,5 @@
 -- The table of session states and flights is kept by each thing that one end does.
-use Rattle.std.proofs.Common.{◌≡◌, ◌++◌, ◌&&◌, ◌||◌, Bool, true, false, not, List, [], ◌∷◌, refl, arith}
+use Rattle.std.proofs.Common.{◌≡◌, ◌++◌, ◌&&◌, Bool, true, false, not, List, [], ◌∷◌, refl, arith}
 use Rattle.ldp_grammar.specs.declared.message.Message.{Message}
 use Rattle.session_core.specs.Phase.{Phase, Initialized, OpenSent, OpenRec, Operational}
 use Rattle.session_core.specs.Reasons.{is_fatal, is_keep_alive}
@@ -38,7 +38,6 @@ plain-append xs m h k = all-append (λ message. not (is_initialization message))
 opens-append : (xs : List Message) (m : Message) → opens_session xs ≡ true → is_keep_alive m ≡ true → opens_session (xs ++ m ∷ []) ≡ true
 opens-append [] m h k = clash h
 opens-append (x ∷ xs) m h k = grind (arith, some_keeps-append xs m)
-
 
 -- ---- an end puts a KeepAlive
 

@@ -1,5 +1,5 @@
 -- Every run of a checked plan keeps the network in order, and what follows.
-use Rattle.std.proofs.Common.{◌≡◌, ◌++◌, ◌∙◌, ℕ, Bool, true, false, not, nat_eq, List, [], ◌∷◌, Option, Some, None, refl, sym, ap, inl, inr}
+use Rattle.std.proofs.Common.{◌≡◌, ◌∙◌, ℕ, Bool, true, false, not, nat_eq, List, [], ◌∷◌, Option, Some, None, refl, sym, ap, inl, inr}
 use Rattle.std.proofs.lemmas.Bool.{cases_Bool, eqb-true}
 use Rattle.net_base.specs.declared.plan.Plan.{Plan}
 use Rattle.net_base.specs.declared.values.addr.Addr.{Addr}
@@ -8,12 +8,9 @@ use Rattle.net_base.specs.declared.trace.event.Event.TheVariants.{Connect, Deliv
 use Rattle.net_base.specs.plan.Accepted.{IsChecked}
 use Rattle.net_base.specs.plan.Places.{circuit_row}
 use Rattle.ldp_grammar.specs.declared.message.Message.{Message}
-use Rattle.session_core.specs.declared.peers.Peers.{Peers}
-use Rattle.session_core.specs.Phase as phase
 use Rattle.session_core.specs.State.{is_active}
 use Rattle.session_core.proofs.LawLemmas.{ends_agree}
 use Rattle.edge_model.specs.State.{Peering, is_there}
-use Rattle.network_model.specs.Absorb.{Stepped}
 use Rattle.network_model.specs.Run.{entries_along, state_after}
 use Rattle.network_model.specs.State.{NetworkState, empty_network, stands}
 use Rattle.network_model.specs.Step.{brings, step}
@@ -23,7 +20,6 @@ use Rattle.flight_model.specs.Facts.{flight}
 use Rattle.flight_model.specs.Flight.{is_row}
 use Rattle.flight_model.specs.Laws.{BothStand, FollowsTable, HasRow, IsStill, IsUp, RunsComeUp, RunsEndWell, RunsFollowTable, network_after}
 use Rattle.flight_model.specs.Messages.{octets_of_all}
-use Rattle.flight_model.specs.Pair.{ArePaired, AreTalking}
 use Rattle.flight_model.proofs.CircuitLemmas.{circuit_keeps, frame_keeps}
 use Rattle.flight_model.proofs.ConnectLemmas.{connect_keeps}
 use Rattle.flight_model.proofs.EventLemmas.{deliver_keeps, lose_keeps, restart_keeps, tick_keeps}

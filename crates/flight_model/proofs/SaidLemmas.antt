@@ -1,30 +1,25 @@
 -- What the messages of a peer make of a session.
-use Rattle.std.proofs.Common.{rules, ◌≡◌, ◌≤◌, ◌<◌, ◌+◌, ◌^◌, ◌++◌, ◌&&◌, ◌∙◌, ℕ, Bool, true, false, not, List, [], ◌∷◌, length, Option, Some, None, refl, sym, ap, subst, append_assoc, arith}
+use Rattle.std.proofs.Common.{◌≡◌, ◌≤◌, ◌<◌, ◌+◌, ◌++◌, ◌∙◌, ℕ, true, false, List, [], ◌∷◌, length, None, refl, sym, ap, subst, append_assoc, arith}
 use Rattle.std.specs.List.{AllByRecursion}
-use Rattle.std.proofs.lemmas.Grind.{common_steps}
 use Rattle.net_base.specs.declared.trace.state_name.Reason.TheVariants as reason
 use Rattle.net_base.specs.declared.values.addr.Addr.{Addr}
-use Rattle.ldp_grammar.specs.declared.ldp_id.LdpId.{LdpId}
 use Rattle.ldp_grammar.specs.declared.message.Message.{Message}
 use Rattle.ldp_grammar.specs.declared.message.Message.TheVariants.{Notification, Initialization, KeepAlive}
 use Rattle.ldp_grammar.specs.declared.session_params.SessionParams.{SessionParams}
 use Rattle.ldp_grammar.specs.declared.status_code.StatusCode.{StatusCode}
-use Rattle.ldp_grammar.specs.Written.{Fits, IsId, message_octets, writable, written}
+use Rattle.ldp_grammar.specs.Written.{Fits, message_octets, writable, written}
 use Rattle.ldp_grammar.proofs.OctetLemmas.{AreOctets, octet_front}
 use Rattle.ldp_grammar.proofs.WrittenOctets.{octets_append, no_octets}
 use Rattle.session_core.specs.declared.peers.Peers.{Peers}
 use Rattle.session_core.specs.declared.reply.Reply.{Reply}
 use Rattle.session_core.specs.declared.reply.Reply.TheVariants as reply
-use Rattle.session_core.specs.Laws.{IsAddress, IsFacing}
 use Rattle.session_core.specs.Messages.{HasData, message_of}
 use Rattle.session_core.specs.Parameters.{agreed, is_platform, proposal, refusal_of}
 use Rattle.session_core.specs.Phase.{Phase, is_agreed}
 use Rattle.session_core.specs.Phase as phase
 use Rattle.session_core.specs.Reasons.{is_fatal, is_keep_alive}
-use Rattle.session_core.specs.State.{SessionState, IsProper, is_active}
-use Rattle.session_core.specs.Table.{SessionEvent, Start, Heard, Received, Ticked, Closed, Outcome, Stay, Goes, Ends, enters, outcome_of, later, is_expired, is_quiet}
-use Rattle.session_core.specs.StatusCodes.{about_none, keep_alive_timer_expired}
-use Rattle.session_core.proofs.LawLemmas.{ends_agree}
+use Rattle.session_core.specs.State.{SessionState, is_active}
+use Rattle.session_core.specs.Table.{Heard, Received, Stay, Goes, Ends, enters, outcome_of}
 use Rattle.session_core.proofs.PutLemmas.{replies_are_put}
 use Rattle.edge_model.specs.Hear.{advice_of}
 use Rattle.edge_model.specs.Put.{platform_of}
@@ -131,13 +126,16 @@ ready_reply ends r id fit has fits = record {
 pub ready : (ends : Peers) (m : Message) → AreFit ends → IsSaid ends m → IsReady m ends.me
 ready ends (Initialization id params) fit said =
     subst (λ (p : SessionParams). IsReady (Initialization id p) ends.me) (sym said.1)
-    (ready_reply ends reply.Init id fit tt (said.0, record {
-      version = omega arith;
-      keepalive = omega (arith, fit.keepalive);
-      limit = omega arith;
-      max_pdu = omega (arith, fit.proper.most);
-      receiver = record { router = fit.peer.four; space = omega arith };
-    }))
+    (ready_reply ends reply.Init id fit tt (
+      said.0,
+      record {
+        version = omega arith;
+        keepalive = omega (arith, fit.keepalive);
+        limit = omega arith;
+        max_pdu = omega (arith, fit.proper.most);
+        receiver = record { router = fit.peer.four; space = omega arith };
+      },
+    ))
 ready ends (KeepAlive id) fit said = ready_reply ends reply.KeepAlive id fit tt said
 ready ends (Notification id status pw fec) fit said =
     rw (said.1, said.2, said.3) (ready_reply ends (reply.Notice expiry) id fit (omega arith) (said.0, omega arith, omega arith, tt, tt))

@@ -1,12 +1,12 @@
 -- What an edge has done goes into the network, and a fact of two edges holds again: once for every fact.
-use Rattle.std.proofs.Common.{◌≡◌, ◌++◌, ◌∙◌, ℕ, Bool, true, false, cond, nat_eq, List, [], ◌∷◌, Option, Some, None, refl, sym, ap, subst, append_assoc, inl, inr, arith}
+use Rattle.std.proofs.Common.{◌≡◌, ◌++◌, ◌∙◌, ℕ, false, cond, nat_eq, List, [], Option, Some, None, refl, sym, ap, subst, append_assoc, inl, inr, arith}
 use Rattle.std.proofs.lemmas.Bool.{cases_Bool, eqb-true}
 use Rattle.std.proofs.lemmas.Bool.Decides.{nat_tests}
 use Rattle.net_base.specs.declared.plan.places.EdgeId.{EdgeId}
 use Rattle.edge_model.specs.declared.effect.Effect.{Effect}
 use Rattle.edge_model.specs.State.{EdgeState, Peering, is_there}
 use Rattle.network_model.specs.Absorb.{absorb_all}
-use Rattle.network_model.specs.State.{NetworkState, held, held_by, stands, with_edge}
+use Rattle.network_model.specs.State.{NetworkState, held_by, with_edge}
 use Rattle.flight_model.specs.Coming.{and_more}
 use Rattle.flight_model.specs.Facts.{Fact, HoldsAt, HoldsBut, HoldsOfTwo, Turns, flight}
 use Rattle.flight_model.specs.Meeting.{closes, said_to}

@@ -1,11 +1,11 @@
 -- What is on its way between two ends, of which one or both stand, through each thing that one of them does.
-use Rattle.std.proofs.Common.{◌≡◌, ◌++◌, ◌&&◌, ◌||◌, Bool, true, false, not, List, [], ◌∷◌, Option, Some, None, refl, arith}
+use Rattle.std.proofs.Common.{◌≡◌, ◌&&◌, Bool, true, false, not, List, [], ◌∷◌, Option, Some, None, arith}
 use Rattle.ldp_grammar.specs.declared.message.Message.{Message}
 use Rattle.session_core.specs.Phase.{Phase, Initialized, OpenSent, OpenRec, Operational}
 use Rattle.session_core.specs.Reasons.{is_fatal, is_keep_alive}
-use Rattle.flight_model.specs.Coming.{and_more, initialization_comes, is_coming, is_row_for, is_talk, is_talk_without, keep_alive_comes}
-use Rattle.flight_model.specs.Flight.{is_empty, is_initialization, is_row}
-use Rattle.flight_model.proofs.RowLemmas.{clash, active_hears, active_keeps, active_opens, active_rises, active_says, comes_back, comes_out, leaves, no_active, no_passive, passive_hears, passive_keeps, passive_opens, passive_rises, passive_says}
+use Rattle.flight_model.specs.Coming.{and_more, is_row_for, is_talk, is_talk_without}
+use Rattle.flight_model.specs.Flight.{is_initialization}
+use Rattle.flight_model.proofs.RowLemmas.{active_hears, active_keeps, active_opens, active_rises, active_says, comes_back, comes_out, leaves, no_passive, passive_hears, passive_keeps, passive_opens, passive_rises, passive_says}
 
 -- ---- an Initialization comes
 

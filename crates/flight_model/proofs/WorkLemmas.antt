@@ -1,5 +1,5 @@
 -- What an edge's work is for one neighbour: what is kept for it, what was said to it, and whether the end was closed.
-use Rattle.std.proofs.Common.{◌≡◌, ◌++◌, ◌||◌, ◌==◌, ◌∙◌, ℕ, Bool, true, false, cond, nat_eq, List, [], ◌∷◌, Option, Some, None, option_map, refl, sym, ap, append_assoc, length, arith}
+use Rattle.std.proofs.Common.{◌≡◌, ◌++◌, ◌||◌, ◌∙◌, ℕ, Bool, true, false, cond, nat_eq, List, [], ◌∷◌, Option, Some, None, refl, sym, ap, append_assoc}
 use Rattle.std.proofs.lemmas.Bool.{eq-eqb}
 use Rattle.net_base.specs.declared.plan.places.EdgeId.{EdgeId}
 use Rattle.net_base.specs.declared.trace.state_name.Reason.{Reason}
@@ -8,18 +8,16 @@ use Rattle.net_base.specs.declared.trace.state_name.StateName.{StateName}
 use Rattle.net_base.specs.declared.trace.state_name.StateName.TheVariants as name
 use Rattle.session_core.specs.declared.reply.Reply.{Reply}
 use Rattle.session_core.specs.Phase.{Phase}
-use Rattle.session_core.specs.Phase as phase
 use Rattle.session_core.specs.Session.{phase_name}
-use Rattle.session_core.specs.State.{SessionState}
 use Rattle.session_core.specs.Table.{SessionEvent, Outcome, Stay, Goes, Ends, outcome_of}
 use Rattle.edge_model.specs.declared.effect.Effect.{Effect}
 use Rattle.edge_model.specs.declared.effect.Effect.TheVariants as effect
 use Rattle.edge_model.specs.Put.{Spoken, put_octets, put_reply, put_reply_to, put_replies, puts_on, octets_of, having_spoken, with_spoken}
-use Rattle.edge_model.specs.Session.{comes_of, ends, happens, happens_to, is_same_phase, tells_change, went_on, with_session}
-use Rattle.edge_model.specs.State.{EdgeState, Peering, put_at, with_peering}
+use Rattle.edge_model.specs.Session.{comes_of, ends, happens, happens_to, is_same_phase, tells_change, with_session}
+use Rattle.edge_model.specs.State.{Peering, with_peering}
 use Rattle.edge_model.specs.Work.{Work, Answers, changes, gives, next_answer, puts}
 use Rattle.network_model.specs.Absorb.{taken_all}
-use Rattle.flight_model.specs.Endings.{EndsWell, is_no_refusal}
+use Rattle.flight_model.specs.Endings.{is_no_refusal}
 use Rattle.flight_model.specs.Meeting.{IsFine, Shows, Spares, TellWell, TellsWell, closes, said_to}
 use Rattle.flight_model.specs.Pair.{having_put, octets_put}
 

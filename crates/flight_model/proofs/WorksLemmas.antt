@@ -1,5 +1,5 @@
 -- An edge at work in a network whose edges are paired: it begins, its sessions have events, and its work goes into the network.
-use Rattle.std.proofs.Common.{◌≡◌, ◌++◌, ◌||◌, ◌∙◌, ℕ, zero, suc, Bool, true, false, cond, not, nat_eq, List, [], ◌∷◌, Option, Some, None, refl, sym, ap, subst, append_assoc, inl, inr}
+use Rattle.std.proofs.Common.{◌≡◌, ◌++◌, ◌∙◌, ℕ, Bool, true, false, cond, not, nat_eq, List, [], ◌∷◌, Option, Some, None, refl, sym, ap, subst, inl, inr}
 use Rattle.std.proofs.lemmas.Bool.{cases_Bool, eqb-true}
 use Rattle.net_base.specs.declared.plan.Plan.{Plan}
 use Rattle.net_base.specs.declared.plan.places.EdgeId.{EdgeId}
@@ -15,18 +15,17 @@ use Rattle.session_core.proofs.LawLemmas.{ends_agree}
 use Rattle.edge_model.specs.declared.effect.Effect.{Effect}
 use Rattle.edge_model.specs.declared.effect.Effect.TheVariants as effect
 use Rattle.edge_model.specs.Put.{Spoken, having_spoken, put_replies}
-use Rattle.edge_model.specs.Session.{comes_of, ends, happens, is_same_phase, tells_change, with_session}
+use Rattle.edge_model.specs.Session.{comes_of, ends, happens, is_same_phase, with_session}
 use Rattle.edge_model.specs.State.{EdgeState, Peering, is_there, with_peering}
 use Rattle.edge_model.specs.Work.{Work, changes, gives}
 use Rattle.network_model.specs.Absorb.{absorb, absorb_all, begin_at, taken_all}
-use Rattle.network_model.specs.State.{NetworkState, at_edge, held_by, with_edge}
-use Rattle.flight_model.specs.Coming.{and_more, is_row_for}
-use Rattle.flight_model.specs.Endings.{TellGoodEnds}
+use Rattle.network_model.specs.State.{NetworkState, with_edge}
+use Rattle.flight_model.specs.Coming.{and_more}
 use Rattle.flight_model.specs.Ends.{HasWorked, IsLeft, IsOrdered, IsPaired, KeepsOrder, WorksOn, ends_at}
-use Rattle.flight_model.specs.Facts.{Fact, HoldsAt, HoldsBut, HoldsOfTwo, Turns, flight}
-use Rattle.flight_model.specs.Meeting.{IsFine, Leaves, Meets, Shows, Spares, TellWell, TellsWell, closes, said_to}
+use Rattle.flight_model.specs.Facts.{HoldsBut, Turns, flight}
+use Rattle.flight_model.specs.Meeting.{IsFine, Meets, Shows, Spares, TellsWell, closes, said_to}
 use Rattle.flight_model.specs.Messages.{octets_of_all}
-use Rattle.flight_model.specs.Pair.{AreEnds, ArePaired, AreTalking, IsStanding, StandsIf, StayInStep, having_put, is_in_step, phase_of}
+use Rattle.flight_model.specs.Pair.{ArePaired, AreTalking, StandsIf, StayInStep, having_put, is_in_step}
 use Rattle.flight_model.proofs.HearLemmas.{gone_leaves}
 use Rattle.flight_model.proofs.MeetLemmas.{happens_meets, moved_shows}
 use Rattle.flight_model.proofs.PipeLemmas.{all_edges, all_good}
@@ -184,16 +183,16 @@ happens_left own other me peer far out more event work takes fine left = by_end 
       let unclosed : closes peer.0 work.effects ≡ false = left.unclosed kept at in
       let pair : ArePaired own other (Some kept) far (and_more far out (said_to peer.0 work.effects)) (kept.held ++ more) = rw (at, unclosed) at left.leaves in
       let meets : Meets own other me peer far out pair.answers work = record {
-            fine = fine;
-            ended = rw at unclosed;
-            messages = pair.messages;
-            out_is = pair.out_is;
-            talk = rw at pair.talk;
-          } in
+        fine = fine;
+        ended = rw at unclosed;
+        messages = pair.messages;
+        out_is = pair.out_is;
+        talk = rw at pair.talk;
+      } in
       let after : Meets own other me peer far out pair.answers (happens taken_all peer event work) =
-            happens_meets own other me peer far out pair.answers pair.answers event work (λ k messages t. takes own other k far messages pair.answers t) meets in
+      happens_meets own other me peer far out pair.answers pair.answers event work (λ k messages t. takes own other k far messages pair.answers t) meets in
       let held : KeepsHeld kept.held ((happens taken_all peer event work).edge.peering peer.0) =
-            rw at (comes_keeps me peer kept (said_to peer.0 work.effects) work (outcome_of kept.session event) (record { keeps = at; says = refl; ended = unclosed }) fine) in
+      rw at (comes_keeps me peer kept (said_to peer.0 work.effects) work (outcome_of kept.session event) (record { keeps = at; says = refl; ended = unclosed }) fine) in
       (after.fine, meets_left own other me peer far out kept.held more pair.answers (happens taken_all peer event work) pair.back_is held after)
 
 -- it happens to the session with any place
@@ -202,17 +201,17 @@ pub works_happens : (plan : Plan) (network : NetworkState) (me peer : EdgeId) (e
 works_happens plan network me peer event work takes works = elim (cases_Bool (nat_eq peer.0 me.0)) [
   | inl same ↦ rw (ap (λ (k : ℕ). work.edge.peering k) (eqb-true peer.0 me.0 same) ∙ works.alone) works
   | inr away ↦ (let own = happens_left (ends_at plan me.0 peer.0) (ends_at plan peer.0 me.0) me peer ((network.edges peer.0).peering me.0) (flight network me.0 peer.0) (network.pipes peer.0 me.0) event work takes works.fine (works.left peer.0 away) in
-    record {
-      fine = own.0;
-      alone = (happens_spares taken_all me.0 peer event work (apart_turned peer.0 me.0 away)).kept ∙ works.alone;
-      left = λ place gone. elim (cases_Bool (nat_eq place peer.0)) [
-        | inl this ↦ subst
-            (λ (k : ℕ). IsLeft (ends_at plan me.0 k) (ends_at plan k me.0) k ((network.edges k).peering me.0) (flight network me.0 k) (network.pipes k me.0) (happens taken_all peer event work))
-            (sym (eqb-true place peer.0 this)) own.1
-        | inr other ↦ left_spared (ends_at plan me.0 place) (ends_at plan place me.0) place ((network.edges place).peering me.0) (flight network me.0 place) (network.pipes place me.0) work (happens taken_all peer event work)
-            (happens_spares taken_all place peer event work other) (works.left place gone)
-      ];
-    })
+      record {
+        fine = own.0;
+        alone = (happens_spares taken_all me.0 peer event work (apart_turned peer.0 me.0 away)).kept ∙ works.alone;
+        left = λ place gone. elim (cases_Bool (nat_eq place peer.0)) [
+          | inl this ↦ subst
+              (λ (k : ℕ). IsLeft (ends_at plan me.0 k) (ends_at plan k me.0) k ((network.edges k).peering me.0) (flight network me.0 k) (network.pipes k me.0) (happens taken_all peer event work))
+              (sym (eqb-true place peer.0 this)) own.1
+          | inr other ↦ left_spared (ends_at plan me.0 place) (ends_at plan place me.0) place ((network.edges place).peering me.0) (flight network me.0 place) (network.pipes place me.0) work (happens taken_all peer event work)
+              (happens_spares taken_all place peer event work other) (works.left place gone)
+        ];
+      })
 ]
 
 -- ---- what is no matter of sessions

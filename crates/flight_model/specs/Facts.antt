@@ -1,6 +1,5 @@
 -- Facts of two edges, their ends of a connection and the octets on their way between them.
 use Rattle.std.specs.Prelude.{◌≡◌, ◌++◌, nat_eq, ℕ, false, List, Option}
-use Rattle.net_base.specs.declared.plan.places.EdgeId.{EdgeId}
 use Rattle.edge_model.specs.State.{Peering}
 use Rattle.network_model.specs.State.{NetworkState, held}
 

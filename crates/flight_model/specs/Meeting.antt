@@ -1,5 +1,5 @@
 -- While an edge is at work: what holds of it and of one neighbour.
-use Rattle.std.specs.Prelude.{◌≡◌, ◌++◌, ◌||◌, not, nat_eq, ℕ, Bool, true, false, List, [], ◌∷◌, Option, Some, None, if◌then◌else◌}
+use Rattle.std.specs.Prelude.{◌≡◌, ◌++◌, ◌||◌, not, nat_eq, ℕ, Bool, false, List, [], ◌∷◌, Option, if◌then◌else◌}
 use Rattle.net_base.specs.declared.plan.places.EdgeId.{EdgeId}
 use Rattle.ldp_grammar.specs.declared.message.Message.{Message}
 use Rattle.session_core.specs.declared.peers.Peers.{Peers}
