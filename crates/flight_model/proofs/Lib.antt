@@ -1,3 +1,4 @@
+mod Examples
 pub mod FrontLemmas
 pub mod HearLemmas
 pub mod MeetLemmas
