@@ -55,12 +55,12 @@ back_between near first second from to pipe = held_by near ++ cond (is_there nea
 
 -- what a work leaves for each place but its peer
 abbrev LeavesOthers : Fact → NetworkState → EdgeId → EdgeId → Work → Type 0
-LeavesOthers P network me peer work = (place : ℕ) → nat_eq place me.0 ≡ false → nat_eq place peer.0 ≡ false → P me.0 place (work.edge.peering place) ((network.edges place).peering me.0)
+LeavesOthers P network me peer work = (place : ℕ) → nat_eq place me.0 ≡ false → nat_eq place peer.0 ≡ false → P me.0 place work.edge (network.edges place)
     (and_more ((network.edges place).peering me.0) (flight network me.0 place) (said_to place work.effects)) (held_by (work.edge.peering place) ++ cond (closes place work.effects) [] (network.pipes place me.0))
 
 connected_two : (P : Fact) (network : NetworkState) (from to : EdgeId) (first second : Work) → Turns P → nat_eq from.0 to.0 ≡ false → HoldsOfTwo P network
     → LeavesOthers P network from to first → LeavesOthers P network to from second
-    → P from.0 to.0 (first.edge.peering to.0) (second.edge.peering from.0) (out_between (second.edge.peering from.0) first second from to (network.pipes from.0 to.0)) (back_between (first.edge.peering to.0) first second from to (network.pipes to.0 from.0))
+    → P from.0 to.0 first.edge second.edge (out_between (second.edge.peering from.0) first second from to (network.pipes from.0 to.0)) (back_between (first.edge.peering to.0) first second from to (network.pipes to.0 from.0))
     → HoldsOfTwo P (connecting from first to second network).state
 unfolding out_between back_between
 connected_two P network from to first second turns between two one_others other_others pair a b apart = elim (cases_Bool (nat_eq a from.0)) [
@@ -71,7 +71,7 @@ connected_two P network from to first second turns between two one_others other_
       | inl is ↦ subst (λ (k : ℕ). HoldsAt P after k b) (sym (eqb-true a to.0 is)) (from_second b gone (apart_turned to.0 b (subst (λ (k : ℕ). nat_eq k b ≡ false) (eqb-true a to.0 is) apart)))
       | inr here ↦ elim (cases_Bool (nat_eq b to.0)) [
         | inl is ↦ turns b a _ _ _ _ (subst (λ (k : ℕ). HoldsAt P after k a) (sym (eqb-true b to.0 is)) (from_second a away here))
-        | inr there ↦ moved P a b (two a b apart) (other_end a b away here) (other_end b a gone there) (other_flight a b away here gone there) (other_flight b a gone there away here)
+        | inr there ↦ moved P a b (two a b apart) (other_edge a away here) (other_edge b gone there) (other_flight a b away here gone there) (other_flight b a gone there away here)
       ]
     ]
   ]
@@ -101,37 +101,37 @@ connected_two P network from to first second turns between two one_others other_
     pipes : begun.pipes ≡ network.pipes
     pipes = edge_pipes to second.edge held_edge ∙ edge_pipes from first.edge network
 
-    other_end : (a b : ℕ) → nat_eq a from.0 ≡ false → nat_eq a to.0 ≡ false → (after.edges a).peering b ≡ (network.edges a).peering b
-    other_end a b away here = ap (λ (f : ℕ → EdgeState). (f a).peering b) edges ∙ ap (λ (e : EdgeState). e.peering b) (begun_else a away here)
+    other_edge : (a : ℕ) → nat_eq a from.0 ≡ false → nat_eq a to.0 ≡ false → after.edges a ≡ network.edges a
+    other_edge a away here = ap (λ (f : ℕ → EdgeState). f a) edges ∙ begun_else a away here
 
-    first_end : (b : ℕ) → (after.edges from.0).peering b ≡ first.edge.peering b
-    first_end b = ap (λ (f : ℕ → EdgeState). (f from.0).peering b) edges ∙ ap (λ (e : EdgeState). e.peering b) begun_first
+    first_edge : after.edges from.0 ≡ first.edge
+    first_edge = ap (λ (f : ℕ → EdgeState). f from.0) edges ∙ begun_first
 
-    second_end : (b : ℕ) → (after.edges to.0).peering b ≡ second.edge.peering b
-    second_end b = ap (λ (f : ℕ → EdgeState). (f to.0).peering b) edges ∙ ap (λ (e : EdgeState). e.peering b) (edge_there to second.edge held_edge)
+    second_edge : after.edges to.0 ≡ second.edge
+    second_edge = ap (λ (f : ℕ → EdgeState). f to.0) edges ∙ edge_there to second.edge held_edge
 
     other_flight : (a b : ℕ) → nat_eq a from.0 ≡ false → nat_eq a to.0 ≡ false → nat_eq b from.0 ≡ false → nat_eq b to.0 ≡ false → flight after a b ≡ flight network a b
     other_flight a b away here gone there =
-        rw (other_end b a gone there, all_apart to 0 0 a b second.effects middle here there, all_apart from 0 0 a b first.effects begun away gone, pipes) refl
+        rw (other_edge b gone there, all_apart to 0 0 a b second.effects middle here there, all_apart from 0 0 a b first.effects begun away gone, pipes) refl
 
     -- between the two
     out_is : flight after from.0 to.0 ≡ held_by (second.edge.peering from.0) ++ cond (closes from.0 second.effects) [] (cond (is_there (second.edge.peering from.0)) (network.pipes from.0 to.0 ++ said_to to.0 first.effects) (network.pipes from.0 to.0))
-    out_is = rw (second_end from.0, all_to to 0 0 from.0 second.effects middle between, all_from from 0 0 to.0 first.effects begun (apart_turned from.0 to.0 between), edge_there to second.edge held_edge, pipes) refl
+    out_is = rw (second_edge, all_to to 0 0 from.0 second.effects middle between, all_from from 0 0 to.0 first.effects begun (apart_turned from.0 to.0 between), edge_there to second.edge held_edge, pipes) refl
 
     middle_first : is_there ((middle.edges from.0).peering to.0) ≡ is_there (first.edge.peering to.0)
     middle_first = ap (λ (f : ℕ → EdgeState). is_there ((f from.0).peering to.0)) (all_edges from 0 0 first.effects begun) ∙ ap (λ (e : EdgeState). is_there (e.peering to.0)) begun_first
 
     back_is : flight after to.0 from.0 ≡ held_by (first.edge.peering to.0) ++ cond (is_there (first.edge.peering to.0)) (cond (closes to.0 first.effects) [] (network.pipes to.0 from.0) ++ said_to from.0 second.effects) (cond (closes to.0 first.effects) [] (network.pipes to.0 from.0))
-    back_is = rw (first_end to.0, all_from to 0 0 from.0 second.effects middle between, middle_first, all_to from 0 0 to.0 first.effects begun (apart_turned from.0 to.0 between), pipes) refl
+    back_is = rw (first_edge, all_from to 0 0 from.0 second.effects middle between, middle_first, all_to from 0 0 to.0 first.effects begun (apart_turned from.0 to.0 between), pipes) refl
 
     -- of the first and another one
     first_out : (c : ℕ) → nat_eq c from.0 ≡ false → nat_eq c to.0 ≡ false → flight after from.0 c ≡ and_more ((network.edges c).peering from.0) (flight network from.0 c) (said_to c first.effects)
     first_out c away here =
-        rw (other_end c from.0 away here, all_apart to 0 0 from.0 c second.effects middle between here, all_from from 0 0 c first.effects begun away, begun_else c away here, pipes)
+        rw (other_edge c away here, all_apart to 0 0 from.0 c second.effects middle between here, all_from from 0 0 c first.effects begun away, begun_else c away here, pipes)
         (said_behind ((network.edges c).peering from.0) (network.pipes from.0 c) (said_to c first.effects))
 
     first_back : (c : ℕ) → nat_eq c from.0 ≡ false → nat_eq c to.0 ≡ false → flight after c from.0 ≡ held_by (first.edge.peering c) ++ cond (closes c first.effects) [] (network.pipes c from.0)
-    first_back c away here = rw (first_end c, all_apart to 0 0 c from.0 second.effects middle here between, all_to from 0 0 c first.effects begun away, pipes) refl
+    first_back c away here = rw (first_edge, all_apart to 0 0 c from.0 second.effects middle here between, all_to from 0 0 c first.effects begun away, pipes) refl
 
     -- of the second and another one
     middle_else : (c : ℕ) → nat_eq c from.0 ≡ false → nat_eq c to.0 ≡ false → middle.edges c ≡ network.edges c
@@ -139,20 +139,20 @@ connected_two P network from to first second turns between two one_others other_
 
     second_out : (c : ℕ) → nat_eq c from.0 ≡ false → nat_eq c to.0 ≡ false → flight after to.0 c ≡ and_more ((network.edges c).peering to.0) (flight network to.0 c) (said_to c second.effects)
     second_out c away here =
-        rw (other_end c to.0 away here, all_from to 0 0 c second.effects middle here, middle_else c away here, all_apart from 0 0 to.0 c first.effects begun (apart_turned from.0 to.0 between) away, pipes)
+        rw (other_edge c away here, all_from to 0 0 c second.effects middle here, middle_else c away here, all_apart from 0 0 to.0 c first.effects begun (apart_turned from.0 to.0 between) away, pipes)
         (said_behind ((network.edges c).peering to.0) (network.pipes to.0 c) (said_to c second.effects))
 
     second_back : (c : ℕ) → nat_eq c from.0 ≡ false → nat_eq c to.0 ≡ false → flight after c to.0 ≡ held_by (second.edge.peering c) ++ cond (closes c second.effects) [] (network.pipes c to.0)
-    second_back c away here = rw (second_end c, all_to to 0 0 c second.effects middle here, all_apart from 0 0 c to.0 first.effects begun away (apart_turned from.0 to.0 between), pipes) refl
+    second_back c away here = rw (second_edge, all_to to 0 0 c second.effects middle here, all_apart from 0 0 c to.0 first.effects begun away (apart_turned from.0 to.0 between), pipes) refl
 
     from_first : (c : ℕ) → nat_eq c from.0 ≡ false → HoldsAt P after from.0 c
     from_first c away = elim (cases_Bool (nat_eq c to.0)) [
-      | inl is ↦ subst (λ (k : ℕ). HoldsAt P after from.0 k) (sym (eqb-true c to.0 is)) (moved P from.0 to.0 pair (first_end to.0) (second_end from.0) out_is back_is)
-      | inr here ↦ moved P from.0 c (one_others c away here) (first_end c) (other_end c from.0 away here) (first_out c away here) (first_back c away here)
+      | inl is ↦ subst (λ (k : ℕ). HoldsAt P after from.0 k) (sym (eqb-true c to.0 is)) (moved P from.0 to.0 pair first_edge second_edge out_is back_is)
+      | inr here ↦ moved P from.0 c (one_others c away here) first_edge (other_edge c away here) (first_out c away here) (first_back c away here)
     ]
 
     from_second : (c : ℕ) → nat_eq c from.0 ≡ false → nat_eq c to.0 ≡ false → HoldsAt P after to.0 c
-    from_second c away here = moved P to.0 c (other_others c here away) (second_end c) (other_end c to.0 away here) (second_out c away here) (second_back c away here)
+    from_second c away here = moved P to.0 c (other_others c here away) second_edge (other_edge c away here) (second_out c away here) (second_back c away here)
 
 -- ---- what an edge makes of a connection that comes up
 
@@ -255,7 +255,7 @@ connecting_edges from to first second network =
     all_edges to 0 0 second.effects (absorb_all from 0 0 first.effects (with_edge to second.edge (with_edge from first.edge network))) ∙ all_edges from 0 0 first.effects (with_edge to second.edge (with_edge from first.edge network))
 
 connecting_keeps : (plan : Plan) (network : NetworkState) (from to : EdgeId) (first second : Work) → nat_eq from.0 to.0 ≡ false → IsOrdered plan network → HasConnected network from to first → HasConnected network to from second
-    → IsPaired plan from.0 to.0 (first.edge.peering to.0) (second.edge.peering from.0) (out_between (second.edge.peering from.0) first second from to (network.pipes from.0 to.0)) (back_between (first.edge.peering to.0) first second from to (network.pipes to.0 from.0))
+    → IsPaired plan from.0 to.0 first.edge second.edge (out_between (second.edge.peering from.0) first second from to (network.pipes from.0 to.0)) (back_between (first.edge.peering to.0) first second from to (network.pipes to.0 from.0))
     → KeepsOrder plan (connecting from first to second network)
 connecting_keeps plan network from to first second between ordered one other pair = record {
   ordered = record {
@@ -305,7 +305,7 @@ opened_pair own other from to first second one two =
 -- nothing is on its way between ends of which none stands
 none_on_way : (plan : Plan) (network : NetworkState) (a b : ℕ) → IsOrdered plan network → nat_eq a b ≡ false → (network.edges a).peering b ≡ None → (network.edges b).peering a ≡ None → network.pipes a b ≡ []
 none_on_way plan network a b ordered apart one two =
-    let pair : IsPaired plan a b None None (network.pipes a b) (network.pipes b a) = rw (one, two) at (ordered.two a b apart) in
+    let pair : ArePaired (ends_at plan a b) (ends_at plan b a) None None (network.pipes a b) (network.pipes b a) = rw (one, two) at (ordered.two a b apart) in
     pair.out_is ∙ ap (octets_of_all (ends_at plan a b).me) (empty pair.messages (left _ _ pair.talk.steps))
   where
     left : (a b : Bool) → a && b ≡ true → a ≡ true
@@ -342,7 +342,7 @@ same_pipe true pipe = same_end pipe
 same_pipe false pipe = refl
 
 idles_pair : (plan : Plan) (network : NetworkState) (from to : EdgeId) → IsOrdered plan network → nat_eq from.0 to.0 ≡ false
-    → IsPaired plan from.0 to.0 ((network.edges from.0).peering to.0) ((network.edges to.0).peering from.0)
+    → IsPaired plan from.0 to.0 (network.edges from.0) (network.edges to.0)
     (out_between ((network.edges to.0).peering from.0) (idles (begin_at network from)) (idles (begin_at network to)) from to (network.pipes from.0 to.0))
     (back_between ((network.edges from.0).peering to.0) (idles (begin_at network from)) (idles (begin_at network to)) from to (network.pipes to.0 from.0))
 unfolding idles out_between back_between

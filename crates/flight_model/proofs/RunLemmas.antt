@@ -15,11 +15,12 @@ use Rattle.network_model.specs.Run.{entries_along, state_after}
 use Rattle.network_model.specs.State.{NetworkState, empty_network, stands}
 use Rattle.network_model.specs.Step.{brings, step}
 use Rattle.flight_model.specs.Endings.{TellGoodEnds}
-use Rattle.flight_model.specs.Ends.{HasAddresses, IsOrdered, IsPaired, KeepsOrder, ends_at}
+use Rattle.flight_model.specs.Ends.{HasAddresses, IsOrdered, KeepsOrder, ends_at}
 use Rattle.flight_model.specs.Facts.{flight}
 use Rattle.flight_model.specs.Flight.{is_row}
 use Rattle.flight_model.specs.Laws.{BothStand, FollowsTable, HasRow, IsStill, IsUp, RunsComeUp, RunsEndWell, RunsFollowTable, network_after}
 use Rattle.flight_model.specs.Messages.{octets_of_all}
+use Rattle.flight_model.specs.Pair.{ArePaired}
 use Rattle.flight_model.proofs.CircuitLemmas.{circuit_keeps, frame_keeps}
 use Rattle.flight_model.proofs.ConnectLemmas.{connect_keeps}
 use Rattle.flight_model.proofs.EventLemmas.{deliver_keeps, lose_keeps, restart_keeps, tick_keeps}
@@ -72,7 +73,7 @@ both_apart plan network a b ordered up = elim (cases_Bool (nat_eq a b)) [
 ]
 
 follows : (plan : Plan) (network : NetworkState) (a b : ℕ) (near far : Option Peering) → (network.edges a).peering b ≡ near → (network.edges b).peering a ≡ far → is_there near ≡ true → is_there far ≡ true
-    → IsPaired plan a b near far (flight network a b) (flight network b a) → FollowsTable plan network a b
+    → ArePaired (ends_at plan a b) (ends_at plan b a) near far (flight network a b) (flight network b a) → FollowsTable plan network a b
 follows plan network a b None far is is' up up' pair = clash up
 follows plan network a b (Some x) None is is' up up' pair = clash up'
 follows plan network a b (Some x) (Some y) is is' up up' pair = record {

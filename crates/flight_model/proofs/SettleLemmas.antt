@@ -17,7 +17,7 @@ pub apart_turned : (a b : ℕ) → nat_eq a b ≡ false → nat_eq b a ≡ false
 apart_turned a b apart = grind (arith, nat_tests)
 
 -- a fact is known by its six parts
-pub moved : (P : Fact) (a b : ℕ) {x x2 y y2 : Option Peering} {out out2 back back2 : List ℕ} → P a b x y out back → x2 ≡ x → y2 ≡ y → out2 ≡ out → back2 ≡ back → P a b x2 y2 out2 back2
+pub moved : (P : Fact) (a b : ℕ) {x x2 y y2 : EdgeState} {out out2 back back2 : List ℕ} → P a b x y out back → x2 ≡ x → y2 ≡ y → out2 ≡ out → back2 ≡ back → P a b x2 y2 out2 back2
 moved P a b fact i j k l = rw (i, j, k, l) fact
 
 pub edge_there : (me : EdgeId) (edge : EdgeState) (network : NetworkState) → (with_edge me edge network).edges me.0 ≡ edge
@@ -38,14 +38,14 @@ said_behind None pipe said = refl
 said_behind (Some kept) pipe said = sym (append_assoc kept.held pipe said)
 
 pub settle : (P : Fact) (network : NetworkState) (me : EdgeId) (origin hops : ℕ) (edge : EdgeState) (es : List Effect) → Turns P → HoldsBut P me.0 network
-    → ((place : ℕ) → nat_eq place me.0 ≡ false → P me.0 place (edge.peering place) ((network.edges place).peering me.0)
+    → ((place : ℕ) → nat_eq place me.0 ≡ false → P me.0 place edge (network.edges place)
     (and_more ((network.edges place).peering me.0) (flight network me.0 place) (said_to place es)) (held_by (edge.peering place) ++ cond (closes place es) [] (network.pipes place me.0)))
     → HoldsOfTwo P (absorb_all me origin hops es (with_edge me edge network))
 settle P network me origin hops edge es turns others own a b apart = elim (cases_Bool (nat_eq a me.0)) [
   | inl first ↦ subst (λ (k : ℕ). HoldsAt P after k b) (sym (eqb-true a me.0 first)) (from_me b (apart_turned me.0 b (subst (λ (k : ℕ). nat_eq k b ≡ false) (eqb-true a me.0 first) apart)))
   | inr away ↦ elim (cases_Bool (nat_eq b me.0)) [
     | inl second ↦ turns b a _ _ _ _ (subst (λ (k : ℕ). HoldsAt P after k a) (sym (eqb-true b me.0 second)) (from_me a away))
-    | inr gone ↦ moved P a b (others a b apart away gone) (other_end a b away) (other_end b a gone) (other_flight a b away gone) (other_flight b a gone away)
+    | inr gone ↦ moved P a b (others a b apart away gone) (other_edge a away) (other_edge b gone) (other_flight a b away gone) (other_flight b a gone away)
   ]
 ]
   where
@@ -58,22 +58,22 @@ settle P network me origin hops edge es turns others own a b apart = elim (cases
     edges : after.edges ≡ begun.edges
     edges = all_edges me origin hops es begun
 
-    other_end : (a b : ℕ) → nat_eq a me.0 ≡ false → (after.edges a).peering b ≡ (network.edges a).peering b
-    other_end a b away = ap (λ (f : ℕ → EdgeState). (f a).peering b) edges ∙ ap (λ (e : EdgeState). e.peering b) (edge_else me edge network a away)
+    other_edge : (a : ℕ) → nat_eq a me.0 ≡ false → after.edges a ≡ network.edges a
+    other_edge a away = ap (λ (f : ℕ → EdgeState). f a) edges ∙ edge_else me edge network a away
 
-    own_end : (b : ℕ) → (after.edges me.0).peering b ≡ edge.peering b
-    own_end b = ap (λ (f : ℕ → EdgeState). (f me.0).peering b) edges ∙ ap (λ (e : EdgeState). e.peering b) (edge_there me edge network)
+    own_edge : after.edges me.0 ≡ edge
+    own_edge = ap (λ (f : ℕ → EdgeState). f me.0) edges ∙ edge_there me edge network
 
     other_flight : (a b : ℕ) → nat_eq a me.0 ≡ false → nat_eq b me.0 ≡ false → flight after a b ≡ flight network a b
-    other_flight a b away gone = rw (other_end b a gone, all_apart me origin hops a b es begun away gone, edge_pipes me edge network) refl
+    other_flight a b away gone = rw (other_edge b gone, all_apart me origin hops a b es begun away gone, edge_pipes me edge network) refl
 
     out_flight : (place : ℕ) → nat_eq place me.0 ≡ false → flight after me.0 place ≡ and_more ((network.edges place).peering me.0) (flight network me.0 place) (said_to place es)
     out_flight place away =
-        rw (other_end place me.0 away, all_from me origin hops place es begun away, edge_else me edge network place away, edge_pipes me edge network)
+        rw (other_edge place away, all_from me origin hops place es begun away, edge_else me edge network place away, edge_pipes me edge network)
         (said_behind ((network.edges place).peering me.0) (network.pipes me.0 place) (said_to place es))
 
     back_flight : (place : ℕ) → nat_eq place me.0 ≡ false → flight after place me.0 ≡ held_by (edge.peering place) ++ cond (closes place es) [] (network.pipes place me.0)
-    back_flight place away = rw (own_end place, all_to me origin hops place es begun away, edge_pipes me edge network) refl
+    back_flight place away = rw (own_edge, all_to me origin hops place es begun away, edge_pipes me edge network) refl
 
     from_me : (place : ℕ) → nat_eq place me.0 ≡ false → HoldsAt P after me.0 place
-    from_me place away = moved P me.0 place (own place away) (own_end place) (other_end place me.0 away) (out_flight place away) (back_flight place away)
+    from_me place away = moved P me.0 place (own place away) own_edge (other_edge place away) (out_flight place away) (back_flight place away)

@@ -54,7 +54,7 @@ pair_turned plan a b one other out back pair = record {
     answered = pair.talk.said;
     here = pair.talk.there;
     there = pair.talk.here;
-    steps = turned_steps (ends_at plan a b) (ends_at plan b a) one other pair.messages pair.answers pair.talk.here pair.talk.steps;
+    steps = turned_steps (ends_at plan a b) (ends_at plan b a) (one.peering b) (other.peering a) pair.messages pair.answers pair.talk.here pair.talk.steps;
   };
 }
 

@@ -31,7 +31,7 @@ HasAddresses plan = All (λ row. IsAddress row.address) plan.edges
 
 -- two edges of the plan are paired
 abbrev pub IsPaired : Plan → Fact
-IsPaired plan a b near far out back = ArePaired (ends_at plan a b) (ends_at plan b a) near far out back
+IsPaired plan a b near far out back = ArePaired (ends_at plan a b) (ends_at plan b a) (near.peering b) (far.peering a) out back
 
 -- each two edges are paired, no edge has a connection with itself, and each is at its place
 pub record IsOrdered (plan : Plan) (network : NetworkState) : Type 0 where
