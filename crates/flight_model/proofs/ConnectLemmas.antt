@@ -28,7 +28,7 @@ use Rattle.network_model.specs.Connection.{connect_event, connected_work, connec
 use Rattle.network_model.specs.State.{NetworkState, held_by, stands, with_edge}
 use Rattle.flight_model.specs.Coming.{and_more}
 use Rattle.flight_model.specs.Ends.{HasAddresses, IsOrdered, IsPaired, KeepsOrder, ends_at}
-use Rattle.flight_model.specs.Facts.{Fact, HoldsAt, HoldsOfTwo, Turns, flight}
+use Rattle.flight_model.specs.Facts.{Fact, HoldsAt, HoldsOfTwo, LeavesFor, Turns, flight}
 use Rattle.flight_model.specs.Meeting.{IsFine, Shows, Spares, TellWell, closes, said_to}
 use Rattle.flight_model.specs.Messages.{AreSaid, octets_of_all}
 use Rattle.flight_model.specs.Pair.{AreEnds, ArePaired, IsStanding, is_in_step}
@@ -55,8 +55,7 @@ back_between near first second from to pipe = held_by near ++ cond (is_there nea
 
 -- what a work leaves for each place but its peer
 abbrev LeavesOthers : Fact → NetworkState → EdgeId → EdgeId → Work → Type 0
-LeavesOthers P network me peer work = (place : ℕ) → nat_eq place me.0 ≡ false → nat_eq place peer.0 ≡ false → P me.0 place work.edge (network.edges place)
-    (and_more ((network.edges place).peering me.0) (flight network me.0 place) (said_to place work.effects)) (held_by (work.edge.peering place) ++ cond (closes place work.effects) [] (network.pipes place me.0))
+LeavesOthers P network me peer work = (place : ℕ) → nat_eq place me.0 ≡ false → nat_eq place peer.0 ≡ false → LeavesFor P network me work place
 
 connected_two : (P : Fact) (network : NetworkState) (from to : EdgeId) (first second : Work) → Turns P → nat_eq from.0 to.0 ≡ false → HoldsOfTwo P network
     → LeavesOthers P network from to first → LeavesOthers P network to from second

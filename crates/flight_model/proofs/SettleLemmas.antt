@@ -3,15 +3,15 @@ use Rattle.std.proofs.Common.{◌≡◌, ◌++◌, ◌∙◌, ℕ, false, cond, 
 use Rattle.std.proofs.lemmas.Bool.{cases_Bool, eqb-true}
 use Rattle.std.proofs.lemmas.Bool.Decides.{nat_tests}
 use Rattle.net_base.specs.declared.plan.places.EdgeId.{EdgeId}
-use Rattle.edge_model.specs.declared.effect.Effect.{Effect}
 use Rattle.edge_model.specs.State.{EdgeState, Peering, is_there}
-use Rattle.network_model.specs.Absorb.{absorb_all}
+use Rattle.edge_model.specs.Work.{Work}
+use Rattle.network_model.specs.Absorb.{absorb, absorb_all, begin_at}
 use Rattle.network_model.specs.State.{NetworkState, held_by, with_edge}
 use Rattle.flight_model.specs.Coming.{and_more}
-use Rattle.flight_model.specs.Facts.{Fact, HoldsAt, HoldsBut, HoldsOfTwo, Turns, flight}
+use Rattle.flight_model.specs.Facts.{Fact, FromBoth, HoldsAt, HoldsBut, HoldsOfTwo, LeavesFor, Owes, Turns, flight}
 use Rattle.flight_model.specs.Meeting.{closes, said_to}
 use Rattle.flight_model.proofs.PipeLemmas.{all_apart, all_edges, all_from, all_to}
-use Rattle.flight_model.proofs.WorkLemmas.{same_place}
+use Rattle.flight_model.proofs.WorkLemmas.{same_end, same_place}
 
 pub apart_turned : (a b : ℕ) → nat_eq a b ≡ false → nat_eq b a ≡ false
 apart_turned a b apart = grind (arith, nat_tests)
@@ -37,11 +37,9 @@ pub said_behind : (far : Option Peering) (pipe said : List ℕ) → held_by far 
 said_behind None pipe said = refl
 said_behind (Some kept) pipe said = sym (append_assoc kept.held pipe said)
 
-pub settle : (P : Fact) (network : NetworkState) (me : EdgeId) (origin hops : ℕ) (edge : EdgeState) (es : List Effect) → Turns P → HoldsBut P me.0 network
-    → ((place : ℕ) → nat_eq place me.0 ≡ false → P me.0 place edge (network.edges place)
-    (and_more ((network.edges place).peering me.0) (flight network me.0 place) (said_to place es)) (held_by (edge.peering place) ++ cond (closes place es) [] (network.pipes place me.0)))
-    → HoldsOfTwo P (absorb_all me origin hops es (with_edge me edge network))
-settle P network me origin hops edge es turns others own a b apart = elim (cases_Bool (nat_eq a me.0)) [
+pub settle : (P : Fact) (network : NetworkState) (me : EdgeId) (origin hops : ℕ) (work : Work) → Turns P → HoldsBut P me.0 network → ((place : ℕ) → nat_eq place me.0 ≡ false → LeavesFor P network me work place)
+    → HoldsOfTwo P (absorb me origin hops work network).state
+settle P network me origin hops work turns others own a b apart = elim (cases_Bool (nat_eq a me.0)) [
   | inl first ↦ subst (λ (k : ℕ). HoldsAt P after k b) (sym (eqb-true a me.0 first)) (from_me b (apart_turned me.0 b (subst (λ (k : ℕ). nat_eq k b ≡ false) (eqb-true a me.0 first) apart)))
   | inr away ↦ elim (cases_Bool (nat_eq b me.0)) [
     | inl second ↦ turns b a _ _ _ _ (subst (λ (k : ℕ). HoldsAt P after k a) (sym (eqb-true b me.0 second)) (from_me a away))
@@ -50,30 +48,50 @@ settle P network me origin hops edge es turns others own a b apart = elim (cases
 ]
   where
     begun : NetworkState
-    begun = with_edge me edge network
+    begun = with_edge me work.edge network
 
     after : NetworkState
-    after = absorb_all me origin hops es begun
+    after = absorb_all me origin hops work.effects begun
 
     edges : after.edges ≡ begun.edges
-    edges = all_edges me origin hops es begun
+    edges = all_edges me origin hops work.effects begun
 
     other_edge : (a : ℕ) → nat_eq a me.0 ≡ false → after.edges a ≡ network.edges a
-    other_edge a away = ap (λ (f : ℕ → EdgeState). f a) edges ∙ edge_else me edge network a away
+    other_edge a away = ap (λ (f : ℕ → EdgeState). f a) edges ∙ edge_else me work.edge network a away
 
-    own_edge : after.edges me.0 ≡ edge
-    own_edge = ap (λ (f : ℕ → EdgeState). f me.0) edges ∙ edge_there me edge network
+    own_edge : after.edges me.0 ≡ work.edge
+    own_edge = ap (λ (f : ℕ → EdgeState). f me.0) edges ∙ edge_there me work.edge network
 
     other_flight : (a b : ℕ) → nat_eq a me.0 ≡ false → nat_eq b me.0 ≡ false → flight after a b ≡ flight network a b
-    other_flight a b away gone = rw (other_edge b gone, all_apart me origin hops a b es begun away gone, edge_pipes me edge network) refl
+    other_flight a b away gone = rw (other_edge b gone, all_apart me origin hops a b work.effects begun away gone, edge_pipes me work.edge network) refl
 
-    out_flight : (place : ℕ) → nat_eq place me.0 ≡ false → flight after me.0 place ≡ and_more ((network.edges place).peering me.0) (flight network me.0 place) (said_to place es)
+    out_flight : (place : ℕ) → nat_eq place me.0 ≡ false → flight after me.0 place ≡ and_more ((network.edges place).peering me.0) (flight network me.0 place) (said_to place work.effects)
     out_flight place away =
-        rw (other_edge place away, all_from me origin hops place es begun away, edge_else me edge network place away, edge_pipes me edge network)
-        (said_behind ((network.edges place).peering me.0) (network.pipes me.0 place) (said_to place es))
+        rw (other_edge place away, all_from me origin hops place work.effects begun away, edge_else me work.edge network place away, edge_pipes me work.edge network)
+        (said_behind ((network.edges place).peering me.0) (network.pipes me.0 place) (said_to place work.effects))
 
-    back_flight : (place : ℕ) → nat_eq place me.0 ≡ false → flight after place me.0 ≡ held_by (edge.peering place) ++ cond (closes place es) [] (network.pipes place me.0)
-    back_flight place away = rw (own_edge, all_to me origin hops place es begun away, edge_pipes me edge network) refl
+    back_flight : (place : ℕ) → nat_eq place me.0 ≡ false → flight after place me.0 ≡ held_by (work.edge.peering place) ++ cond (closes place work.effects) [] (network.pipes place me.0)
+    back_flight place away = rw (own_edge, all_to me origin hops place work.effects begun away, edge_pipes me work.edge network) refl
 
     from_me : (place : ℕ) → nat_eq place me.0 ≡ false → HoldsAt P after me.0 place
     from_me place away = moved P me.0 place (own place away) own_edge (other_edge place away) (out_flight place away) (back_flight place away)
+
+-- ---- parts of a work
+
+-- a fact from both sides
+pub both_turn : (P : Fact) → Turns (FromBoth P)
+both_turn P a b one other out back fact = (fact.1, fact.0)
+
+pub owes_same : (P : Fact) (me : EdgeId) (place : ℕ) (work : Work) → Owes P me place work work
+owes_same P me place work = record { pays = λ far out more fact. fact }
+
+pub owes_then : (P : Fact) (me : EdgeId) (place : ℕ) (a b c : Work) → Owes P me place a b → Owes P me place b c → Owes P me place a c
+owes_then P me place a b c one next = record { pays = λ far out more fact. next.pays far out more (one.pays far out more fact) }
+
+-- the fact holds when an edge begins
+pub begins : (P : Fact) (network : NetworkState) (me : EdgeId) (place : ℕ) → HoldsAt P network me.0 place → LeavesFor P network me (begin_at network me) place
+begins P network me place fact = rw (no_more ((network.edges place).peering me.0) (flight network me.0 place)) fact
+  where
+    no_more : (far : Option Peering) (out : List ℕ) → and_more far out [] ≡ out
+    no_more None out = refl
+    no_more (Some kept) out = same_end out

@@ -64,7 +64,7 @@ pub works_settle : (plan : Plan) (network : NetworkState) (me : EdgeId) (origin 
     → ((a : ℕ) → nat_eq a me.0 ≡ false → (network.edges a).peering a ≡ None) → ((a : ℕ) → nat_eq a me.0 ≡ false → (network.edges a).me ≡ record { 0 = a }) → HasWorked plan network me work
     → IsOrdered plan (absorb me origin hops work network).state
 works_settle plan network me origin hops work others alone placed works = record {
-  two = settle (IsPaired plan) network me origin hops work.edge work.effects (pair_turned plan) others (λ place away. works.leaves place away);
+  two = settle (IsPaired plan) network me origin hops work (pair_turned plan) others (λ place away. works.leaves place away);
   alone = λ a. elim (cases_Bool (nat_eq a me.0)) [
     | inl same ↦ subst (λ (k : ℕ). (after.edges k).peering k ≡ None) (sym (eqb-true a me.0 same)) (ap (λ (e : EdgeState). e.peering me.0) own_edge ∙ works.alone)
     | inr away ↦ ap (λ (e : EdgeState). e.peering a) (other_edge a away) ∙ alone a away
