@@ -9,7 +9,7 @@ use std::alloc::Global;
 use std::marker::Model;
 
 /// The labels of an edge: which number is next, and which pseudowire end owns which label. A label is given by downstream
-/// unsolicited advertisement (RFC 8077 section 5), and its end owns it until the label is freed. Contracts see the next
+/// unsolicited advertisement (RFC 5036 section 2.6.3), and its end owns it until the label is freed. Contracts see the next
 /// number, the most labels that are owned at once, and the owners in the order in which they came.
 #[derive(Debug, Drop)]
 pub struct LabelSpace {

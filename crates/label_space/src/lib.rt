@@ -1,4 +1,4 @@
-//! The labels that an edge hands out for its pseudowires, and whose they are (RFC 3032 section 2.1, RFC 8077 section 5).
+//! The labels that an edge hands out for its pseudowires, and whose they are (RFC 3032 section 2.1, RFC 5036 section 2.6.3).
 //!
 //! A label space is opened for one edge. It gives each number once, in rising order, over restarts too. It takes memory
 //! only where it is opened. Its definitions stand in `specs/Labels.antt`.
