@@ -26,54 +26,52 @@ fn told(rt: &impl Abort) -> Told {
 }
 
 // An end that advertises label 16 and is bound to label 17, and its peer tells this.
-fn up(rt: &impl Abort, far: Told) -> PwEnd {
+fn up(rt: &impl Abort, far: &Told) -> PwEnd {
     let end = PwEnd::Advertised(PwIdle::new().advertise(label(rt, 16), told(rt)));
     end.on_mapping(Binding {
         label: label(rt, 17),
-        told: far,
+        told: *far,
     })
 }
 
-// An end that is up has this cause.
-fn is_down(rt: &impl Abort, far: Told, role: EndRole, bits: u8, down: Option<Down>) {
+// An end that is up, whose peer tells this, is down for this cause.
+fn is_down(rt: &impl Abort, far: &Told, role: EndRole, bits: u8, down: Option<Down>) {
     assert!(rt; up(rt, far).why_down(role, bits) == down);
 }
 
 #[test]
 fn tells_the_first_cause(rt: HostRuntime) {
-    let same = told(&rt);
     let idle = PwEnd::Idle(PwIdle::new());
     assert!(rt; idle.why_down(EndRole::Mesh, 1) == Some(Down::NoLocal));
-    let alone = PwEnd::Advertised(PwIdle::new().advertise(label(&rt, 16), same));
+    let alone = PwEnd::Advertised(PwIdle::new().advertise(label(&rt, 16), told(&rt)));
     assert!(rt; alone.why_down(EndRole::Mesh, 1) == Some(Down::NoRemote));
-    is_down(&rt, same, EndRole::Mesh, 0, None);
     is_down(
         &rt,
-        Told { c: false, ..same },
-        EndRole::Mesh,
+        &told(&rt),
+        EndRole::NotChosen,
         1,
-        Some(Down::CBit),
+        Some(Down::LocalFault),
     );
-    is_down(
-        &rt,
-        Told { kind: 4, ..same },
-        EndRole::Mesh,
-        1,
-        Some(Down::Kind),
-    );
-    let short = Told {
-        mtu: Some(1400),
-        ..same
-    };
-    is_down(&rt, short, EndRole::Mesh, 1, Some(Down::Mtu));
-    is_down(&rt, Told { mtu: None, ..same }, EndRole::Mesh, 0, None);
-    is_down(&rt, same, EndRole::NotChosen, 1, Some(Down::LocalFault));
-    is_down(&rt, same, EndRole::NotChosen, 0, Some(Down::Standby));
+    is_down(&rt, &told(&rt), EndRole::NotChosen, 0, Some(Down::Standby));
+    is_down(&rt, &told(&rt), EndRole::Mesh, 0, None);
+}
+
+#[test]
+fn forwards_where_both_agree(rt: HostRuntime) {
+    let mut far = told(&rt);
+    far.mtu = None;
+    is_down(&rt, &far, EndRole::Mesh, 0, None);
+    far.mtu = Some(1400);
+    is_down(&rt, &far, EndRole::Mesh, 1, Some(Down::Mtu));
+    far.kind = 4;
+    is_down(&rt, &far, EndRole::Mesh, 1, Some(Down::Kind));
+    far.c = false;
+    is_down(&rt, &far, EndRole::Mesh, 1, Some(Down::CBit));
 }
 
 #[test]
 fn heeds_the_status_of_its_peer(rt: HostRuntime) {
-    let failed = up(&rt, told(&rt)).on_status(PwStatus(0x30));
+    let failed = up(&rt, &told(&rt)).on_status(PwStatus(0x30));
     assert!(rt; failed.why_down(EndRole::Core, 0) == Some(Down::RemoteFault));
     let waiting = failed.on_group_status(7, PwStatus(0x20));
     assert!(rt; waiting.why_down(EndRole::Core, 0) == Some(Down::Standby));
@@ -85,7 +83,7 @@ fn heeds_the_status_of_its_peer(rt: HostRuntime) {
 
 #[test]
 fn withdraws_its_label(rt: HostRuntime) {
-    let PwEnd::Advertised(end) = up(&rt, told(&rt)) else {
+    let PwEnd::Advertised(end) = up(&rt, &told(&rt)) else {
         return assert!(rt; false);
     };
     let end = end.tell(PwStatus(2));
@@ -106,7 +104,7 @@ fn withdraws_its_label(rt: HostRuntime) {
 
 #[test]
 fn is_declined(rt: HostRuntime) {
-    let end = up(&rt, told(&rt)).on_withdraw(Some(label(&rt, 16)));
+    let end = up(&rt, &told(&rt)).on_withdraw(Some(label(&rt, 16)));
     assert!(rt; end.remote().is_some());
     let end = end.on_withdraw(Some(label(&rt, 17)));
     assert!(rt; end.remote().is_none());
@@ -119,7 +117,7 @@ fn is_declined(rt: HostRuntime) {
 
 #[test]
 fn forgets_a_lost_session(rt: HostRuntime) {
-    let declined = up(&rt, told(&rt)).on_release(None);
+    let declined = up(&rt, &told(&rt)).on_release(None);
     let PwEnd::Idle(end) = declined.lost() else {
         return assert!(rt; false);
     };
