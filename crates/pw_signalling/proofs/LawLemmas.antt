@@ -261,6 +261,7 @@ agree role bits own far none =
     (same_bits own.c far.c first.0, same_numbers own.kind far.kind second.0, same_mtus own.mtu far.mtu third.0)
 
 both_agree : (role : EndRole) (bits : ℕ) (local : LocalPart) (remote : Option Binding) → down role bits (record { local = local; remote = remote }) ≡ None → BothAgree (record { local = local; remote = remote })
+unfolding down
 both_agree role bits (Idle declined) remote none = absurd (cc)
 both_agree role bits (Withdrawing own) remote none = absurd (cc)
 both_agree role bits (Advertised label own) None none = absurd (cc)

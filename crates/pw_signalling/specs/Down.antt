@@ -89,5 +89,5 @@ abbrev pub first_cause : EndRole → ℕ → Option Told → Option Told → Opt
 first_cause role bits own far = find (holds role bits own far) causes
 
 -- why an end with this role and these failure bits does not forward; none where it forwards
-abbrev pub down : EndRole → ℕ → EndState → Option Down
+unfoldable pub down : EndRole → ℕ → EndState → Option Down
 down role bits e = first_cause role bits (own_told e.local) (far_told e.remote)

@@ -114,6 +114,7 @@ impl PwEnd {
 
     /// Why the end does not forward, by its role and its own failure bits: the first cause that holds, in the order of
     /// `Down`. `None` exactly where the end forwards.
+    #[tactic(auto, unfolding(crate::specs::Down::down))]
     pub fn why_down(&self, role: EndRole, bits: u8) -> Option<Down>
         ensures { result ≡ down role bits (end_of self.now) }
     {
