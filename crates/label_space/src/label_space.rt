@@ -35,7 +35,7 @@ impl LabelSpace {
     pub fn open(alloc: Global, first: u32, room: u32) -> Result<LabelSpace, NoMemory>
         requires above { 16 ≤ first }
         requires below { first ≤ numbers_end }
-        ensures { IfOk result (λ space. space ≡ opened first room) }
+        ensures space { IfOk result (λ space. space ≡ opened first room) }
     {
         Ok(LabelSpace {
             next: first,

@@ -38,28 +38,28 @@ impl PwAdvertised {
 
     /// The label that is advertised.
     pub fn label(&self) -> Label
-        ensures { result ≡ self.now.label }
+        ensures label { result ≡ self.now.label }
     {
         self.label
     }
 
     /// What is told of the pseudowire, with the status that was told last.
     pub fn told(&self) -> &Told
-        ensures { result.now ≡ self.now.told }
+        ensures told { result.now ≡ self.now.told }
     {
         &self.told
     }
 
     /// What the end holds of its peer, where it holds a binding.
     pub fn remote(&self) -> Option<&Binding>
-        ensures { option_copied result ≡ self.now.remote }
+        ensures remote { option_copied result ≡ self.now.remote }
     {
         self.remote.as_ref()
     }
 
     /// A Notification with this status is put (RFC 8077 section 6.3.2).
     pub fn tell(self, status: PwStatus) -> PwAdvertised
-        ensures { advertised_end result ≡ telling status (advertised_end self) }
+        ensures state { advertised_end result ≡ telling status (advertised_end self) }
     {
         PwAdvertised {
             label: self.label,
@@ -71,7 +71,7 @@ impl PwAdvertised {
     /// A Label Withdraw is put (RFC 5036 section 3.5.10). The label stays the end's own until the peer releases it or the
     /// session is lost.
     pub fn withdraw(self) -> PwWithdrawing
-        ensures { withdrawing_end result ≡ withdrawn (advertised_end self) }
+        ensures state { withdrawing_end result ≡ withdrawn (advertised_end self) }
     {
         PwWithdrawing::with(self.label, self.remote)
     }

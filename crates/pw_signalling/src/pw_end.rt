@@ -26,7 +26,7 @@ pub enum PwEnd {
 impl PwEnd {
     /// What the end holds of its peer, where it holds a binding.
     pub fn remote(&self) -> Option<&Binding>
-        ensures { option_copied result ≡ (end_of self.now).remote }
+        ensures remote { option_copied result ≡ (end_of self.now).remote }
     {
         match self {
             PwEnd::Idle(end) => end.remote(),
@@ -37,7 +37,7 @@ impl PwEnd {
 
     /// A Label Mapping came (RFC 5036 section 3.5.7): its binding replaces the one that was held.
     pub fn on_mapping(self, binding: Binding) -> PwEnd
-        ensures { end_of result ≡ bound binding (end_of self) }
+        ensures state { end_of result ≡ bound binding (end_of self) }
     {
         self.with_remote(Some(binding))
     }
@@ -45,7 +45,7 @@ impl PwEnd {
     /// A Label Withdraw came (RFC 5036 section 3.5.10), with a label or without one: the binding goes, where the label is
     /// absent or its own.
     pub fn on_withdraw(self, label: Option<Label>) -> PwEnd
-        ensures { end_of result ≡ unbound label (end_of self) }
+        ensures state { end_of result ≡ unbound label (end_of self) }
     {
         match self.remote() {
             Some(binding) => {
@@ -60,7 +60,7 @@ impl PwEnd {
     /// own, a label that was withdrawn is now released, and one that is advertised is declined: the end is idle. A release of
     /// another label changes nothing.
     pub fn on_release(self, label: Option<Label>) -> PwEnd
-        ensures { end_of result ≡ released label (end_of self) }
+        ensures state { end_of result ≡ released label (end_of self) }
     {
         match self {
             PwEnd::Idle(end) => PwEnd::Idle(end),
@@ -71,7 +71,7 @@ impl PwEnd {
 
     /// A Notification with a status came (RFC 8077 section 6.3.2): it is the status of the binding, where one is held.
     pub fn on_status(self, status: PwStatus) -> PwEnd
-        ensures { end_of result ≡ stated status (end_of self) }
+        ensures state { end_of result ≡ stated status (end_of self) }
     {
         match self.remote() {
             Some(binding) => {
@@ -84,7 +84,7 @@ impl PwEnd {
 
     /// A Label Withdraw of a whole group came (RFC 8077 section 6.1): the binding goes, where it is of the group.
     pub fn on_group_withdraw(self, group: u32) -> PwEnd
-        ensures { end_of result ≡ group_unbound group (end_of self) }
+        ensures state { end_of result ≡ group_unbound group (end_of self) }
     {
         if is_of_group(group, self.remote()) {
             self.on_withdraw(None)
@@ -96,7 +96,7 @@ impl PwEnd {
     /// A Notification with a status of a whole group came (RFC 8077 section 6.3.2): it is the status of the binding, where
     /// it is of the group.
     pub fn on_group_status(self, group: u32, status: PwStatus) -> PwEnd
-        ensures { end_of result ≡ group_stated group status (end_of self) }
+        ensures state { end_of result ≡ group_stated group status (end_of self) }
     {
         if is_of_group(group, self.remote()) {
             self.on_status(status)
@@ -107,7 +107,7 @@ impl PwEnd {
 
     /// The session with the peer is lost: the end is idle, not declined, and holds no binding (RFC 5036 section 2.5.4).
     pub fn lost(self) -> PwEnd
-        ensures { end_of result ≡ lost (end_of self) }
+        ensures state { end_of result ≡ lost (end_of self) }
     {
         PwEnd::Idle(PwIdle::new())
     }
@@ -116,7 +116,7 @@ impl PwEnd {
     /// `Down`. `None` exactly where the end forwards.
     #[tactic(auto, unfolding(crate::specs::Down::down))]
     pub fn why_down(&self, role: EndRole, bits: u8) -> Option<Down>
-        ensures { result ≡ down role bits (end_of self.now) }
+        ensures cause { result ≡ down role bits (end_of self.now) }
     {
         match self {
             PwEnd::Advertised(end) => match end.remote() {

@@ -26,7 +26,7 @@ impl Model for PwIdle {
 impl PwIdle {
     /// An end of which nothing was told by either side: not declined, and without a binding.
     pub fn new() -> PwIdle
-        ensures { idle_end result ≡ fresh }
+        ensures state { idle_end result ≡ fresh }
     {
         PwIdle {
             declined: false,
@@ -43,28 +43,28 @@ impl PwIdle {
 
     /// Whether the peer declined the label that was advertised last.
     pub fn is_declined(&self) -> bool
-        ensures { result ≡ self.now.declined }
+        ensures declined { result ≡ self.now.declined }
     {
         self.declined
     }
 
     /// What the end holds of its peer, where it holds a binding.
     pub fn remote(&self) -> Option<&Binding>
-        ensures { option_copied result ≡ self.now.remote }
+        ensures remote { option_copied result ≡ self.now.remote }
     {
         self.remote.as_ref()
     }
 
     /// Clears the mark: the end may advertise again.
     pub fn renew(self) -> PwIdle
-        ensures { idle_end result ≡ renewed (idle_end self) }
+        ensures state { idle_end result ≡ renewed (idle_end self) }
     {
         PwIdle::with(false, self.remote)
     }
 
     /// A Label Mapping with this label and content is put (RFC 5036 section 3.5.7).
     pub fn advertise(self, label: Label, told: Told) -> PwAdvertised
-        ensures { advertised_end result ≡ advertised label told (idle_end self) }
+        ensures state { advertised_end result ≡ advertised label told (idle_end self) }
     {
         PwAdvertised::with(label, told, self.remote)
     }

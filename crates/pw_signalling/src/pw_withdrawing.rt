@@ -31,14 +31,14 @@ impl PwWithdrawing {
 
     /// The label that was withdrawn.
     pub fn label(&self) -> Label
-        ensures { result ≡ self.now.label }
+        ensures label { result ≡ self.now.label }
     {
         self.label
     }
 
     /// What the end holds of its peer, where it holds a binding.
     pub fn remote(&self) -> Option<&Binding>
-        ensures { option_copied result ≡ self.now.remote }
+        ensures remote { option_copied result ≡ self.now.remote }
     {
         self.remote.as_ref()
     }

@@ -16,14 +16,14 @@ const STANDBY_PLACE: u32 = 5;
 /// Whether the status tells a failure: one of its bits 0x01, 0x02, 0x04, 0x08 and 0x10 is set (RFC 4446 section 3.5).
 #[tactic(auto, using(crate::proofs::StatusLemmas::failure_is))]
 pub fn fails(status: PwStatus) -> bool
-    ensures { result ≡ is_failure status }
+    ensures failure { result ≡ is_failure status }
 {
     status.0 & FAILURES != 0
 }
 
 /// Whether the status tells that the pseudowire stands by: its bit 0x20 is set (RFC 6870).
 pub fn standby(status: PwStatus) -> bool
-    ensures { result ≡ is_standby status }
+    ensures standby { result ≡ is_standby status }
 {
     status.0 >> STANDBY_PLACE & 1 == 1
 }
@@ -32,7 +32,7 @@ pub fn standby(status: PwStatus) -> bool
 #[tactic(auto, using(crate::proofs::StatusLemmas::or_standby))]
 pub fn combine(bits: u8, standby: bool) -> PwStatus
     requires { bits ≤ 31 }
-    ensures { result ≡ combined bits standby }
+    ensures status { result ≡ combined bits standby }
 {
     if standby {
         PwStatus(bits as u32 | STANDBY)

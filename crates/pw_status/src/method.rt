@@ -17,7 +17,7 @@ pub enum Method {
 /// is what is known of the peer: nothing as long as no Label Mapping is known, else the status of the one that is known,
 /// where it has one. It is `Told` exactly where the end offers status and the peer's mapping is not known or has a status.
 pub fn method_of(offers: bool, remote: Option<Option<PwStatus>>) -> Method
-    ensures { result ≡ method_by offers remote }
+    ensures method { result ≡ method_by offers remote }
 {
     match remote {
         None | Some(Some(_)) if offers => Method::Told,
