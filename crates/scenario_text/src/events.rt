@@ -7,7 +7,7 @@ ghost use Rattle.scenario_text.specs.Planned.{IsAmong};
 use crate::ScenarioFault;
 use crate::plan_names::PlanNames;
 use crate::said::{
-    frame_octets, name_word, named_place, no_more, no_word, number_word, switch_word,
+    frame_octets, name_word, no_more, no_word, number_word, switch_word, word_place,
 };
 use crate::words::second_and_third;
 use net_base::{CircuitId, EdgeId, Event, WireId};
@@ -83,7 +83,7 @@ pub fn frame(
     ensures among { IfOk result (IsAmong names.now) }
 {
     let (second, third, fourth) = second_and_third(text);
-    let circuit = named_place(&names.circuits, event, 2, second)?;
+    let circuit = word_place(&names.circuits, event, 2, second)?;
     let bytes = frame_octets(alloc, event, 3, third)?;
     no_more(event, 4, fourth)?;
     Ok(Event::Frame {

@@ -25,7 +25,7 @@ pub fn bad_word(event: u32, number: u32) -> ScenarioFault
 }
 
 /// The place that a word names, where there is this word.
-pub fn named_place(
+pub fn word_place(
     names: &NameIndex<'_>,
     event: u32,
     number: u32,
@@ -54,7 +54,7 @@ pub fn name_word(
     ensures exact { result ≡ said (place_in names.now) event number text.now }
     ensures within { IfOk result (λ place. place < length names.now) }
 {
-    named_place(names, event, number, word(text, number))
+    word_place(names, event, number, word(text, number))
 }
 
 /// The number from `low` to `high` that a word writes.
