@@ -1,5 +1,5 @@
 -- The keys of a table as members.
-use Rattle.std.proofs.Common.{Less, ◌≡◌, not, Bool, true, false, List, [], ◌∷◌, ℕ, Option, Some, None, String, Global, refl, sym, ◌∙◌, ap, subst, string_bytes, string_cmp, option_map, if◌then◌else◌}
+use Rattle.std.proofs.Common.{Less, ◌≡◌, not, Bool, true, false, List, [], ◌∷◌, ℕ, Option, Some, None, String, Global, refl, sym, ap, subst, string_bytes, string_cmp, option_map, if◌then◌else◌}
 use Rattle.std.specs.Cmp.Lexicographic.{slice_cmp}
 use Rattle.std.specs.List.{find, AllByRecursion}
 use Rattle.std.specs.List.Sorted.{IsStrictlySortedBy}

@@ -3,6 +3,7 @@ use Rattle.std.specs.Prelude.{◌≤◌, length}
 use Rattle.toml.specs.View.{items_view}
 use Rattle.scenario_text.specs.Top.{Arrays as TopArrays}
 use Rattle.scenario_text.specs.declared.arrays.Arrays.{Arrays}
+use Rattle.scenario_text.specs.declared.limits.TheConstants.{MOST_EVENTS, MOST_EDGES, MOST_SERVICES, MOST_CIRCUITS, MOST_WIRES}
 
 -- the items of each array
 abbrev pub arrays_of : Arrays → TopArrays
@@ -17,8 +18,8 @@ arrays_of arrays =
 
 -- no array has too many items
 pub record HasLimits (arrays : Arrays) : Type 0 where
-  pub events : length arrays.events.now ≤ 100000
-  pub edges : length arrays.edges.now ≤ 64
-  pub services : length arrays.services.now ≤ 64
-  pub circuits : length arrays.circuits.now ≤ 512
-  pub wires : length arrays.wires.now ≤ 1024
+  pub events : length arrays.events.now ≤ MOST_EVENTS
+  pub edges : length arrays.edges.now ≤ MOST_EDGES
+  pub services : length arrays.services.now ≤ MOST_SERVICES
+  pub circuits : length arrays.circuits.now ≤ MOST_CIRCUITS
+  pub wires : length arrays.wires.now ≤ MOST_WIRES

@@ -4,6 +4,7 @@ use Rattle.toml.specs.Data.{Data, Items, no_items, Members, as_table, as_integer
 use Rattle.net_base.specs.declared.plan.place.Place.{Place}
 use Rattle.net_base.specs.declared.plan.table.Table.{Table}
 use Rattle.net_base.specs.declared.plan.table.Table.TheVariants.{Top, Events, Edge, Service, Circuit, Wire}
+use Rattle.scenario_text.specs.declared.limits.TheConstants.{MOST_EVENTS, MOST_EDGES, MOST_SERVICES, MOST_CIRCUITS, MOST_WIRES}
 use Rattle.scenario_text.specs.declared.scenario_fault.ScenarioFault.{ScenarioFault}
 use Rattle.scenario_text.specs.declared.scenario_fault.ScenarioFault.TheVariants.{WrongKind, TooMany, Version}
 use Rattle.scenario_text.specs.Reading.{◌>>=◌, checked, found}
@@ -48,11 +49,11 @@ arrays_at ms = do
 -- no array has too many items
 unfoldable pub few_in : Arrays → Result Bool ScenarioFault
 few_in arrays = do
-  events ← few 100000 Events arrays.events
-  edges ← few 64 Edge arrays.edges
-  services ← few 64 Service arrays.services
-  circuits ← few 512 Circuit arrays.circuits
-  few 1024 Wire arrays.wires
+  events ← few MOST_EVENTS Events arrays.events
+  edges ← few MOST_EDGES Edge arrays.edges
+  services ← few MOST_SERVICES Service arrays.services
+  circuits ← few MOST_CIRCUITS Circuit arrays.circuits
+  few MOST_WIRES Wire arrays.wires
 
 -- the arrays of a document of version 1
 unfoldable pub arrays_in : Members → Result Arrays ScenarioFault

@@ -11,6 +11,7 @@ ghost use Rattle.scenario_text.specs.Arrays.{arrays_of, HasLimits};
 
 use crate::ScenarioFault;
 use crate::keys::only_known_keys;
+use crate::limits::{MOST_CIRCUITS, MOST_EDGES, MOST_EVENTS, MOST_SERVICES, MOST_WIRES};
 use crate::members::{member, needed_member};
 use crate::row_place::RowPlace;
 use crate::values::strings;
@@ -130,11 +131,11 @@ fn check_limits(arrays: &Arrays<'_>) -> Result<(), ScenarioFault>
     ensures exact { MapsTo (λ _. true) result (few_in (arrays_of arrays.now)) }
     ensures few { IfOk result (λ _. HasLimits arrays.now) }
 {
-    check_few(100000, TableKind::Events, arrays.events)?;
-    check_few(64, TableKind::Edge, arrays.edges)?;
-    check_few(64, TableKind::Service, arrays.services)?;
-    check_few(512, TableKind::Circuit, arrays.circuits)?;
-    match check_few(1024, TableKind::Wire, arrays.wires) {
+    check_few(MOST_EVENTS, TableKind::Events, arrays.events)?;
+    check_few(MOST_EDGES, TableKind::Edge, arrays.edges)?;
+    check_few(MOST_SERVICES, TableKind::Service, arrays.services)?;
+    check_few(MOST_CIRCUITS, TableKind::Circuit, arrays.circuits)?;
+    match check_few(MOST_WIRES, TableKind::Wire, arrays.wires) {
         Ok(()) => Ok(()),
         Err(fault) => Err(fault),
     }

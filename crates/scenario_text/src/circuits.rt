@@ -5,6 +5,7 @@ ghost use Rattle.scenario_text.specs.References.{circuit_in, circuits_in};
 
 use crate::ScenarioFault;
 use crate::circuit_row::CircuitRow;
+use crate::limits::MOST_CIRCUITS;
 use crate::name_index::NameIndex;
 use crate::named::named_place;
 use crate::row_place::RowPlace;
@@ -41,7 +42,7 @@ pub fn circuits(
     services: &NameIndex<'_>,
     rows: &[CircuitRow],
 ) -> Result<List<CircuitPlan>, ScenarioFault>
-    requires { length rows.now ≤ 512 }
+    requires { length rows.now ≤ MOST_CIRCUITS }
     ensures exact { Gives result (circuits_in edges.now services.now 1 rows.now) }
     ensures many { IfOk result (λ circuits. length circuits ≡ length rows.now) }
 {

@@ -10,6 +10,7 @@ use crate::events::{
     circuit_switch, connect, deliver, frame, lose, packet, ping, priority, restart, status,
     wire_switch,
 };
+use crate::limits::MOST_EVENTS;
 use crate::plan_names::PlanNames;
 use crate::row_place::RowPlace;
 use crate::said::{bad_word, file_word, name_word, no_word, number_word};
@@ -124,7 +125,7 @@ fn item(
 
 // One more where the command is `play`.
 fn plays_with(plays: u32, command: &Command) -> u32
-    requires { plays ≤ 100000 }
+    requires { plays ≤ MOST_EVENTS }
     ensures value { result ≡ plays_after plays command.now }
     ensures bound { result ≤ plays + 1 }
 {
@@ -141,7 +142,7 @@ pub fn commands(
     names: &PlanNames<'_>,
     array: &[Value],
 ) -> Result<List<Command>, ScenarioFault>
-    requires { length array.now ≤ 100000 }
+    requires { length array.now ≤ MOST_EVENTS }
     ensures exact { Gives result (commands_in names.now 1 0 (items_view array.now)) }
     ensures many { IfOk result (λ commands. length commands ≡ length array.now) }
     ensures named { IfOk result (λ commands. All (IsNamed names.now) commands) }

@@ -14,6 +14,7 @@ ghost use Rattle.scenario_text.specs.Planned.{IsPlanned};
 use crate::arrays::{Arrays, document_arrays};
 use crate::circuit_row::CircuitRow;
 use crate::commands::commands;
+use crate::limits::MOST_EVENTS;
 use crate::name_index::NameIndex;
 use crate::names::{names_of_circuits, names_of_edges, names_of_wires};
 use crate::plan::plan;
@@ -33,7 +34,7 @@ fn planned_commands(
     events: &[Value],
 ) -> Result<List<Command>, ScenarioFault>
     requires names { names.now ≡ names_of plan.now }
-    requires few { length events.now ≤ 100000 }
+    requires few { length events.now ≤ MOST_EVENTS }
     ensures exact { Gives result (commands_in (names_of plan.now) 1 0 (items_view events.now)) }
     ensures many { IfOk result (λ commands. length commands ≡ length events.now) }
     ensures planned { IfOk result (λ commands. All (IsPlanned plan.now) commands) }
@@ -55,7 +56,7 @@ fn named_commands(
     requires edges { edges.now ≡ edge_names plan.now.edges }
     requires circuits { circuits.now ≡ circuit_names plan.now.circuits }
     requires wires { wires.now ≡ wire_names plan.now.wires }
-    requires few { length events.now ≤ 100000 }
+    requires few { length events.now ≤ MOST_EVENTS }
     ensures exact { Gives result (commands_in (names_of plan.now) 1 0 (items_view events.now)) }
     ensures many { IfOk result (λ commands. length commands ≡ length events.now) }
     ensures planned { IfOk result (λ commands. All (IsPlanned plan.now) commands) }
@@ -78,7 +79,7 @@ fn plan_commands(
     events: &[Value],
 ) -> Result<List<Command>, ScenarioFault>
     requires limits { IsWithinLimits plan.now }
-    requires few { length events.now ≤ 100000 }
+    requires few { length events.now ≤ MOST_EVENTS }
     ensures exact { Gives result (commands_in (names_of plan.now) 1 0 (items_view events.now)) }
     ensures many { IfOk result (λ commands. length commands ≡ length events.now) }
     ensures planned { IfOk result (λ commands. All (IsPlanned plan.now) commands) }
@@ -121,7 +122,7 @@ fn arrays_plan(alloc: Global, arrays: &Arrays<'_>) -> Result<Plan, ScenarioFault
 fn scenario(alloc: Global, table: &Table) -> Result<Scenario, ScenarioFault>
     ensures exact { Gives result (scenario_in (table_view table.now)) }
     ensures checked { IfOk result (λ scenario. IsChecked scenario.plan) }
-    ensures few { IfOk result (λ scenario. length scenario.commands ≤ 100000) }
+    ensures few { IfOk result (λ scenario. length scenario.commands ≤ MOST_EVENTS) }
     ensures planned { IfOk result (λ scenario. All (IsPlanned scenario.plan) scenario.commands) }
 {
     let arrays = document_arrays(table)?;
@@ -134,7 +135,7 @@ fn scenario(alloc: Global, table: &Table) -> Result<Scenario, ScenarioFault>
 fn read_text(alloc: Global, text: &str) -> Result<Scenario, ScenarioFault>
     ensures exact { Gives result (scenario_or (parse_document text.now)) }
     ensures checked { IfOk result (λ scenario. IsChecked scenario.plan) }
-    ensures few { IfOk result (λ scenario. length scenario.commands ≤ 100000) }
+    ensures few { IfOk result (λ scenario. length scenario.commands ≤ MOST_EVENTS) }
     ensures planned { IfOk result (λ scenario. All (IsPlanned scenario.plan) scenario.commands) }
 {
     match toml::table_from_str(alloc, text) {
@@ -161,7 +162,7 @@ fn read_text(alloc: Global, text: &str) -> Result<Scenario, ScenarioFault>
 pub fn read_scenario(alloc: Global, bytes: &[u8]) -> Result<Scenario, ScenarioFault>
     ensures document { Gives result (document bytes.now) }
     ensures checked { IfOk result (λ scenario. IsChecked scenario.plan) }
-    ensures few { IfOk result (λ scenario. length scenario.commands ≤ 100000) }
+    ensures few { IfOk result (λ scenario. length scenario.commands ≤ MOST_EVENTS) }
     ensures planned { IfOk result (λ scenario. All (IsPlanned scenario.plan) scenario.commands) }
 {
     match str::from_utf8(bytes) {

@@ -6,7 +6,10 @@ ghost use Rattle.scenario_text.specs.Planned.{IsAmong};
 
 use crate::ScenarioFault;
 use crate::plan_names::PlanNames;
-use crate::said::{frame_word, name_word, no_word, number_word, switch_word};
+use crate::said::{
+    frame_octets, name_word, no_more, no_word, number_word, switch_word, word_place,
+};
+use crate::words::second_and_third;
 use net_base::{CircuitId, EdgeId, Event, WireId};
 use std::alloc::Global;
 
@@ -68,7 +71,7 @@ pub fn restart(names: &PlanNames<'_>, event: u32, text: &str) -> Result<Event, S
     Ok(Event::Restart { edge: EdgeId(edge) })
 }
 
-/// `frame C HEX`, with 1 to 9216 octets.
+/// `frame C HEX`, with 1 to 9216 octets. These are long, so the text is walked once.
 #[tactic(auto, unfolding(crate::specs::Events::frame_in))]
 pub fn frame(
     alloc: Global,
@@ -79,9 +82,10 @@ pub fn frame(
     ensures exact { Gives result (frame_in names.now event text.now) }
     ensures among { IfOk result (IsAmong names.now) }
 {
-    let circuit = name_word(&names.circuits, event, 2, text)?;
-    let bytes = frame_word(alloc, event, 3, text)?;
-    no_word(event, 4, text)?;
+    let (second, third, fourth) = second_and_third(text);
+    let circuit = word_place(&names.circuits, event, 2, second)?;
+    let bytes = frame_octets(alloc, event, 3, third)?;
+    no_more(event, 4, fourth)?;
     Ok(Event::Frame {
         circuit: CircuitId(circuit),
         bytes,

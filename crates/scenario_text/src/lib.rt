@@ -14,6 +14,7 @@ mod events;
 mod hex;
 mod key;
 mod keys;
+mod limits;
 mod members;
 mod name_index;
 mod named;

@@ -8,6 +8,7 @@ ghost use Rattle.scenario_text.specs.References.{sound, plan_of};
 use crate::ScenarioFault;
 use crate::circuit_row::CircuitRow;
 use crate::circuits::circuits;
+use crate::limits::{MOST_CIRCUITS, MOST_EDGES, MOST_SERVICES, MOST_WIRES};
 use crate::name_index::NameIndex;
 use crate::names::{names_of_edges, names_of_plan, names_of_services};
 use crate::wire_row::WireRow;
@@ -51,10 +52,10 @@ pub fn plan(
     circuit_rows: &[CircuitRow],
     wire_rows: &[WireRow],
 ) -> Result<Plan, ScenarioFault>
-    requires few_edges { length edges ≤ 64 }
-    requires few_services { length services ≤ 64 }
-    requires few_circuits { length circuit_rows.now ≤ 512 }
-    requires few_wires { length wire_rows.now ≤ 1024 }
+    requires few_edges { length edges ≤ MOST_EDGES }
+    requires few_services { length services ≤ MOST_SERVICES }
+    requires few_circuits { length circuit_rows.now ≤ MOST_CIRCUITS }
+    requires few_wires { length wire_rows.now ≤ MOST_WIRES }
     ensures exact { Gives result (plan_of edges services circuit_rows.now wire_rows.now) }
     ensures checked { IfOk result IsChecked }
 {

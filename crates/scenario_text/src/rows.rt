@@ -5,6 +5,7 @@ ghost use Rattle.scenario_text.specs.Reading.{Gives, MapsTo};
 ghost use Rattle.scenario_text.specs.Rows.{row_members, rows_in};
 
 use crate::ScenarioFault;
+use crate::limits::MOST_WIRES;
 use crate::row::Row;
 use crate::row_place::RowPlace;
 use net_base::{List, Table as TableKind};
@@ -27,7 +28,7 @@ pub fn rows<T: Row>(
     table: TableKind,
     array: &[Value],
 ) -> Result<List<T>, ScenarioFault>
-    requires { length array.now ≤ 1024 }
+    requires { length array.now ≤ MOST_WIRES }
     ensures exact { Gives result (rows_in table T.row_of 1 (items_view array.now)) }
     ensures many { IfOk result (λ rows. length rows ≡ length array.now) }
 {

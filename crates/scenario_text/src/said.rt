@@ -1,8 +1,8 @@
 //! What the words of a command say.
-ghost use Rattle.std.specs.Prelude.{◌≡◌, ◌<◌, ◌≤◌, true, length, option_map, IfOk, IfSome};
+ghost use Rattle.std.specs.Prelude.{◌≡◌, ◌<◌, ◌≤◌, not, true, length, option_and_then, option_map, IfOk, IfSome};
 ghost use Rattle.scenario_text.specs.Hex.{frame_of, of_frame_size};
 ghost use Rattle.scenario_text.specs.Names.{place_in};
-ghost use Rattle.scenario_text.specs.Reading.{Gives, MapsTo};
+ghost use Rattle.scenario_text.specs.Reading.{Gives, MapsTo, checked, found};
 ghost use Rattle.net_base.specs.plan.Planned.{IsFrame};
 ghost use Rattle.scenario_text.specs.Words.{said, ends, decimal_from, switch_of, some_word};
 
@@ -24,6 +24,25 @@ pub fn bad_word(event: u32, number: u32) -> ScenarioFault
     }
 }
 
+/// The place that a word names, where there is this word.
+pub fn word_place(
+    names: &NameIndex<'_>,
+    event: u32,
+    number: u32,
+    word: Option<&str>,
+) -> Result<u16, ScenarioFault>
+    ensures exact { result ≡ found (ScenarioFault.BadWord event number) (option_and_then (place_in names.now) (option_map (λ w. w.now) word.entry)) }
+    ensures within { IfOk result (λ place. place < length names.now) }
+{
+    match word {
+        Some(word) => match names.place(word.as_bytes()) {
+            Some(place) => Ok(place),
+            None => Err(bad_word(event, number)),
+        },
+        None => Err(bad_word(event, number)),
+    }
+}
+
 /// The place that a word names.
 pub fn name_word(
     names: &NameIndex<'_>,
@@ -35,13 +54,7 @@ pub fn name_word(
     ensures exact { result ≡ said (place_in names.now) event number text.now }
     ensures within { IfOk result (λ place. place < length names.now) }
 {
-    match word(text, number) {
-        Some(word) => match names.place(word.as_bytes()) {
-            Some(place) => Ok(place),
-            None => Err(bad_word(event, number)),
-        },
-        None => Err(bad_word(event, number)),
-    }
+    word_place(names, event, number, word(text, number))
 }
 
 /// The number from `low` to `high` that a word writes.
@@ -114,18 +127,17 @@ fn frame(alloc: Global, digits: &[u8]) -> Result<Option<Octets>, NoMemory>
     }
 }
 
-/// The octets of a frame that a word writes.
-pub fn frame_word(
+/// The octets of a frame that a word writes, where there is this word.
+pub fn frame_octets(
     alloc: Global,
     event: u32,
     number: u32,
-    text: &str,
+    word: Option<&str>,
 ) -> Result<Octets, ScenarioFault>
-    requires { 1 ≤ number }
-    ensures exact { Gives result (said frame_of event number text.now) }
+    ensures exact { Gives result (found (ScenarioFault.BadWord event number) (option_and_then frame_of (option_map (λ w. w.now) word.entry))) }
     ensures sized { IfOk result IsFrame }
 {
-    match word(text, number) {
+    match word {
         Some(word) => match frame(alloc, word.as_bytes())? {
             Some(octets) => Ok(octets),
             None => Err(bad_word(event, number)),
@@ -155,13 +167,20 @@ pub fn file_word(alloc: Global, event: u32, number: u32, text: &str) -> Result<W
     }
 }
 
+/// Refuses a word of this number, where there is one.
+pub fn no_more(event: u32, number: u32, more: bool) -> Result<(), ScenarioFault>
+    ensures { MapsTo (λ _. true) result (checked (ScenarioFault.BadWord event number) (not more)) }
+{
+    if more {
+        return Err(bad_word(event, number));
+    }
+    Ok(())
+}
+
 /// Refuses a word of this number.
 pub fn no_word(event: u32, number: u32, text: &str) -> Result<(), ScenarioFault>
     requires { 1 ≤ number }
     ensures { MapsTo (λ _. true) result (ends event number text.now) }
 {
-    match word(text, number) {
-        Some(_) => Err(bad_word(event, number)),
-        None => Ok(()),
-    }
+    no_more(event, number, word(text, number).is_some())
 }

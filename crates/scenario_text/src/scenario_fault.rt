@@ -4,32 +4,33 @@ use net_base::{NoMemory, Place, PlanFault, Table};
 use std::alloc::{AllocError, AllocFailed};
 use thiserror::Error;
 
-/// Why a text was not read as a scenario.
+/// Why a text was not read as a scenario. A fault's own text is the front of what the program prints for it: its name, and
+/// the numbers of a wrong word.
 #[derive(Clone, Copy, Debug, PartialEq, Eq, Error)]
 pub enum ScenarioFault {
     /// The bytes are no TOML document; a TOML document is UTF-8.
-    #[error("not a TOML document")]
+    #[error("NotToml")]
     NotToml,
     /// A key that a row has to have is absent.
-    #[error("a key is missing")]
+    #[error("Missing")]
     Missing(Place),
     /// The value at a key is of another kind.
-    #[error("a value is of the wrong kind")]
+    #[error("WrongKind")]
     WrongKind(Place),
     /// A key that no row of the table has.
-    #[error("a key is unknown")]
+    #[error("UnknownKey")]
     UnknownKey(Place),
     /// A word of an event is missing, one too many, or not what has to stand there. Both numbers count from 1.
-    #[error("word {word} of event {event} is wrong")]
+    #[error("BadWord {event} {word}")]
     BadWord { event: u32, word: u32 },
     /// A table has more rows, or the document more events, than the limit.
-    #[error("more than {limit} rows")]
+    #[error("TooMany")]
     TooMany { table: Table, limit: u32 },
     /// The version is not 1.
-    #[error("not version 1")]
+    #[error("Version")]
     Version,
     /// A value outside its range, a name that no row has, or a fault of the plan as a whole.
-    #[error("the plan is at fault")]
+    #[error("Plan")]
     Plan(PlanFault),
     /// Memory was refused.
     #[error("out of memory")]

@@ -5,6 +5,7 @@ ghost use Rattle.scenario_text.specs.Reading.{Gives};
 ghost use Rattle.scenario_text.specs.References.{told, offer_from, mtu_at, path_in, wire_in, wires_in};
 
 use crate::ScenarioFault;
+use crate::limits::MOST_WIRES;
 use crate::name_index::NameIndex;
 use crate::named::named_place;
 use crate::offer_row::OfferRow;
@@ -107,7 +108,7 @@ pub fn wires(
     services: &[ServicePlan],
     rows: &[WireRow],
 ) -> Result<List<WirePlan>, ScenarioFault>
-    requires few { length rows.now ≤ 1024 }
+    requires few { length rows.now ≤ MOST_WIRES }
     requires same { service_index.now ≡ service_names services.now }
     ensures exact { Gives result (wires_in edges.now services.now 1 rows.now) }
     ensures many { IfOk result (λ wires. length wires ≡ length rows.now) }

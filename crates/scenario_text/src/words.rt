@@ -1,5 +1,5 @@
 //! Words of a command.
-ghost use Rattle.std.specs.Prelude.{◌≡◌, ◌≤◌, option_map};
+ghost use Rattle.std.specs.Prelude.{◌≡◌, ◌≤◌, is_some, option_map};
 ghost use Rattle.scenario_text.specs.Words.{after_word, first_word, word_at};
 
 // The first word, and what follows the first space.
@@ -28,6 +28,28 @@ fn after(text: &str) -> Option<&str>
 {
     let (_, rest) = cut(text);
     rest
+}
+
+/// The second and the third word, and whether there is a fourth. The text is walked once.
+#[tactic(auto, unfolding(crate::specs::Words::word_at))]
+pub fn second_and_third(text: &str) -> (Option<&str>, Option<&str>, bool)
+    ensures second { option_map (λ w. w.now) result.0 ≡ word_at 2 text.now }
+    ensures third { option_map (λ w. w.now) result.1 ≡ word_at 3 text.now }
+    ensures fourth { result.2 ≡ is_some (word_at 4 text.now) }
+{
+    match after(text) {
+        Some(rest) => {
+            let (second, rest) = cut(rest);
+            match rest {
+                Some(rest) => {
+                    let (third, rest) = cut(rest);
+                    (Some(second), Some(third), rest.is_some())
+                }
+                None => (Some(second), None, false),
+            }
+        }
+        None => (None, None, false),
+    }
 }
 
 /// The word of a number, counted from 1.

@@ -17,9 +17,8 @@ pub fn put_text(text: &mut Vec<u8>, octets: &[u8]) -> Result<(), NoMemory>
 pub fn put_word(text: &mut Vec<u8>, word: &[u8]) -> Result<(), NoMemory>
     ensures { OnOk result (text.new.items ≡ text.old.items ++ (codes " " ++ word.now)) }
 {
-    put_text(text, b" ")?;
-    put_text(text, word)?;
-    Ok(())
+    text.push(b' ')?;
+    put_text(text, word)
 }
 
 /// Adds a number in decimal.
@@ -34,7 +33,6 @@ pub fn put_number(text: &mut Vec<u8>, number: u64) -> Result<(), NoMemory>
 pub fn put_number_word(text: &mut Vec<u8>, number: u64) -> Result<(), NoMemory>
     ensures { OnOk result (text.new.items ≡ text.old.items ++ (codes " " ++ decimal number)) }
 {
-    put_text(text, b" ")?;
-    put_number(text, number)?;
-    Ok(())
+    text.push(b' ')?;
+    put_number(text, number)
 }

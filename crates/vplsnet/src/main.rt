@@ -33,7 +33,7 @@ use crate::run::run;
 use crate::std_sink::StdSink;
 use std::io::Write;
 use std::process::ExitCode;
-use std::{env, io};
+use std::{env, io, mem};
 
 /// Runs the program over the system's files and standard output. Where it is not done, it tells on standard error
 /// how it ended. Its status is that of the outcome.
@@ -43,7 +43,10 @@ fn main(rt: HostRuntime) -> ExitCode {
         // Where standard error takes nothing, the status still tells.
         let _ = tell(&rt, &finish.outcome);
     }
-    ExitCode::from(finish.status)
+    let status = ExitCode::from(finish.status);
+    // The system takes all memory back at once, which is quicker than to free a run piece by piece.
+    mem::forget(finish);
+    status
 }
 
 // Writes the line of an outcome to standard error.

@@ -3,6 +3,7 @@
 mod around;
 mod bridges;
 mod decodings;
+mod faults;
 mod files;
 mod replays;
 mod sessions;

@@ -1,0 +1,64 @@
+-- The words of an event, written and read.
+use Rattle.std.specs.Prelude.{◌≡◌, ◌<◌, ◌≤◌, ◌++◌, ◌^◌, ℕ, codes, List, [], ◌∷◌, length, Ok}
+use Rattle.net_base.specs.declared.plan.Plan.{Plan}
+use Rattle.net_base.specs.declared.trace.event.Event.{Event}
+use Rattle.net_base.specs.declared.trace.event.Event.TheVariants.{Connect, Deliver, Lose, Restart, Tick, Frame, Arrive, Discard, Again, Wire, Circuit, Status, Priority, Ping}
+use Rattle.net_base.specs.plan.Accepted.{NonePair}
+use Rattle.net_base.specs.plan.NameFaults.{edge_names, circuit_names, wire_names}
+use Rattle.net_base.specs.plan.Planned.{IsEventOf}
+use Rattle.net_base.specs.values.Name.{IsName}
+use Rattle.std.specs.List.{All}
+use Rattle.std.specs.Str.{bytes_eq}
+use Rattle.report_text.specs.Words.{event_words}
+use Rattle.scenario_text.specs.Document.{names_of}
+use Rattle.scenario_text.specs.Events.{command_in}
+use Rattle.scenario_text.specs.declared.command.Command.TheVariants.{One}
+
+-- words, parted by one blank
+abbrev pub text_of : List (List ℕ) → List ℕ
+text_of [] = []
+text_of (word ∷ []) = word
+text_of (word ∷ next ∷ words) = word ++ (codes " " ++ text_of (next ∷ words))
+
+-- names, of which each stands once
+pub record AreNames (names : List (List ℕ)) : Type 0 where
+  pub each : All IsName names
+  pub once : NonePair bytes_eq names
+
+-- the names of the plan's rows
+pub record HasNames (plan : Plan) : Type 0 where
+  pub edges : AreNames (edge_names plan.edges)
+  pub circuits : AreNames (circuit_names plan.circuits)
+  pub wires : AreNames (wire_names plan.wires)
+
+-- the number of a packet
+abbrev pub IsPacket : ℕ → Type 0
+IsPacket packet = (1 ≤ packet) × (packet < 2 ^ 64)
+
+-- a frame that a scenario can write: 1 to 9216 octets
+pub record IsWritable (octets : List ℕ) : Type 0 where
+  pub each : All (λ octet. octet < 256) octets
+  pub some : 1 ≤ length octets
+  pub few : length octets ≤ 9216
+
+-- the numbers of an event are in the ranges in which a scenario writes them
+abbrev pub IsInRange : Event → Type 0
+IsInRange (Connect from to) = Unit {0}
+IsInRange (Deliver from to count) = (1 ≤ count) × (count ≤ 65535)
+IsInRange (Lose edge peer) = Unit {0}
+IsInRange (Restart edge) = Unit {0}
+IsInRange Tick = Unit {0}
+IsInRange (Frame circuit octets) = IsWritable octets
+IsInRange (Arrive packet) = IsPacket packet
+IsInRange (Discard packet) = IsPacket packet
+IsInRange (Again packet) = IsPacket packet
+IsInRange (Wire edge wire on) = Unit {0}
+IsInRange (Circuit circuit on) = Unit {0}
+IsInRange (Status edge wire bits) = Unit {0}
+IsInRange (Priority edge wire priority) = priority ≤ 255
+IsInRange (Ping edge wire) = Unit {0}
+
+-- the words of an event are read as the event
+abbrev pub ReadsWhatIsWritten : Type 0
+ReadsWhatIsWritten = (plan : Plan) (event : Event) (number plays : ℕ) → HasNames plan → IsEventOf plan event → IsInRange event
+    → command_in (names_of plan) number plays (text_of (event_words plan event)) ≡ Ok (One event)
