@@ -18,13 +18,14 @@ use Rattle.scenario_text.specs.declared.scenario_fault.ScenarioFault.TheVariants
 use Rattle.scenario_text.specs.Document.{document}
 use Rattle.vplsnet.specs.declared.outcome.Outcome.{Outcome}
 use Rattle.vplsnet.specs.declared.outcome.Outcome.TheVariants.{Done, ScenarioRefused, NotBuilt, Stopped}
+use Rattle.vplsnet.specs.declared.request.TheConstants.{SCENARIO_LIMIT}
 use Rattle.vplsnet.specs.Built.{is_built}
 use Rattle.vplsnet.specs.Made.{made}
 use Rattle.vplsnet.specs.Promises.{KeepsPromises}
 
 -- the most octets of a scenario
 abbrev pub scenario_limit : ℕ
-scenario_limit = 8388608
+scenario_limit = SCENARIO_LIMIT
 
 -- the events that the commands of a scenario make
 abbrev pub events_of : Scenario → List Event
