@@ -5,9 +5,9 @@ use Rattle.network_model.specs.Absorb.{begin_at, taken_all}
 use Rattle.provider_edge.specs.Said.{AllFit}
 use Rattle.psn_net.specs.Lists.{HasDriven, NetLists, seen}
 use Rattle.psn_net.proofs.NetworkLemmas.{driving_at, fitting_at}
-use Rattle.psn_net.proofs.network.Network.drive.Goals as goal
+use Rattle.psn_net.proofs.parts.Parts.drive.Goals as goal
 
--- src/network.rt:182:5
+-- src/parts.rt:182:5
 pub returns-in-Ok-clause-driven : goal.returns-in-Ok-clause-driven
 returns-in-Ok-clause-driven c =
     let below : c.args.me.0 < length c.self.inside.edges.items =
@@ -17,7 +17,7 @@ returns-in-Ok-clause-driven c =
     (c.self.invariant.planned c.args.me.0 below) c.index_mut.ensures.value c.new-link.ensures (c.in-Ok.ensures.step taken_all (subst (Agrees taken_all) c.link.view_is c.link.invariant)) in
     subst (λ (n : NetLists). HasDriven c.args.me n (record before { edges = slice_set before.edges c.args.me.0 c.take.new.self }) (edge_step n.plan taken_all c.args.input (begin_at (seen n) c.args.me)) c.in-Ok.effects) c.self.view_is done
 
--- src/network.rt:182:5
+-- src/parts.rt:182:5
 pub returns-in-Ok-clause-fit : goal.returns-in-Ok-clause-fit
 returns-in-Ok-clause-fit c =
     let below : c.args.me.0 < length c.self.inside.edges.items =

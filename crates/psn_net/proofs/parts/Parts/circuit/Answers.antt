@@ -1,5 +1,5 @@
 use Rattle.psn_net.proofs.NetworkLemmas.{circuit_idle_stepped}
-use Rattle.psn_net.proofs.network.Network.circuit.Goals as goal
+use Rattle.psn_net.proofs.parts.Parts.circuit.Goals as goal
 
 pub returns-then-effects-clause-step : goal.returns-then-effects-clause-step
 returns-then-effects-clause-step c =

@@ -7,12 +7,12 @@ ghost use Rattle.network_model.specs.State.{with_frame};
 ghost use Rattle.network_model.specs.Tick.{tick_at, tick_event};
 ghost use Rattle.psn_net.specs.Lists.{HasEntered, HasRoom, HasStepped, Keeps, edge_of, seen};
 
-use crate::Network;
+use crate::parts::Parts;
 use edge_model::Input;
 use net_base::{CircuitId, EdgeId, Entry, List, NoMemory};
 use std::alloc::Global;
 
-impl Network {
+impl Parts {
     // A tick passes at each edge, in the plan's order.
     #[tactic(auto, using(crate::proofs::TickLemmas::tick_steps))]
     pub(crate) fn tick(&mut self, alloc: Global) -> Result<(), NoMemory>
@@ -84,8 +84,8 @@ impl Network {
         self.absorb(alloc, me, origin, 0, effects.list.into_items())
     }
 
-    // The edge of a circuit.
-    fn edge_of(&self, circuit: CircuitId) -> EdgeId
+    /// The edge of a circuit.
+    pub fn edge_of(&self, circuit: CircuitId) -> EdgeId
         requires { circuit.0 < length self.now.plan.circuits }
         ensures edge { edge_of (circuit_row self.now.plan circuit) ≡ Some result }
         ensures within { result.0 < length self.now.plan.edges }

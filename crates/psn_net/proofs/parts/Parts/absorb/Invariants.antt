@@ -2,7 +2,7 @@ use Rattle.std.proofs.Common.{◌≡◌, ◌++◌}
 use Rattle.network_model.specs.Absorb.{absorb_all, all_entries_of}
 use Rattle.provider_edge.specs.Said.{AllFit}
 use Rattle.psn_net.specs.Lists.{HasRoom, Keeps, seen}
-use Rattle.psn_net.proofs.network.Network.absorb.Given as goal
+use Rattle.psn_net.proofs.parts.Parts.absorb.Given as goal
 
 abbrev pub invariant-loop-effect : goal.invariant-loop-effect
 invariant-loop-effect l =

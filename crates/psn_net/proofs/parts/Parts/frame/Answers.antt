@@ -1,5 +1,5 @@
 use Rattle.psn_net.proofs.NetworkLemmas.{frame_idle_stepped}
-use Rattle.psn_net.proofs.network.Network.frame.Goals as goal
+use Rattle.psn_net.proofs.parts.Parts.frame.Goals as goal
 
 pub returns-then-effects-clause-step : goal.returns-then-effects-clause-step
 returns-then-effects-clause-step c =

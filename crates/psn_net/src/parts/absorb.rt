@@ -2,16 +2,16 @@
 ghost use Rattle.std.specs.Prelude.{◌≡◌, ◌<◌, ◌+◌, ◌++◌, ◌∷◌, ◌^◌, [], length, IfOk, OnOk};
 ghost use Rattle.net_base.specs.declared.trace.entry.Entry.TheVariants as Entry;
 ghost use Rattle.network_model.specs.Absorb.{absorb_all, absorb_one, all_entries_of, entries_of, put_towards};
-ghost use Rattle.network_model.specs.State.{stands, with_packet, with_pipe};
+ghost use Rattle.network_model.specs.State.{with_packet, with_pipe};
 ghost use Rattle.provider_edge.specs.Said.{AllFit, Fits};
 ghost use Rattle.psn_net.specs.Lists.{HasRoom, HasStepped, Keeps, seen};
 
-use crate::Network;
+use crate::parts::Parts;
 use edge_model::Effect;
 use net_base::{Arrival, EdgeId, Entry, NoMemory, Octets, WireId};
 use std::alloc::Global;
 
-impl Network {
+impl Parts {
     // All that an edge gave out on an input of this origin, which has passed so many segments, in order.
     #[tactic(auto, using(crate::proofs::AbsorbLemmas::absorb_steps))]
     pub(crate) fn absorb(
@@ -133,15 +133,6 @@ impl Network {
             self.fill_pipe(me, peer, bytes)?;
         }
         Ok(())
-    }
-
-    // An edge's end of its connection with a peer stands.
-    #[tactic(auto, unfolding(crate::specs::Lists::seen))]
-    fn stands(&self, edge: EdgeId, peer: EdgeId) -> bool
-        requires edge { edge.0 < length self.now.plan.edges }
-        ensures { result ≡ stands (seen self.now) edge.0 peer.0 }
-    {
-        self.edges[edge.0 as usize].has_end(peer)
     }
 
     // More octets on the way.
