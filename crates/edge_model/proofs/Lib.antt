@@ -1,4 +1,5 @@
 mod Examples
 pub mod LocalLemmas
 mod SessionExamples
+pub mod SessionLemmas
 pub mod StillLemmas

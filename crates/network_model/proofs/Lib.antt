@@ -1,5 +1,6 @@
 pub mod AbsorbLemmas
 pub mod CalmLemmas
+mod ConnectionExamples
 mod Examples
 pub mod FloodLemmas
 pub mod IsolatedLemmas

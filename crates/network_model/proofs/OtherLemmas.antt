@@ -1,28 +1,34 @@
 -- Steps in which a frame does not enter: they tell nothing of it, and leave its copies under way.
-use Rattle.std.proofs.Common.{◌≡◌, ◌<◌, ◌≤◌, ◌+◌, ◌++◌, ◌∙◌, ℕ, zero, suc, Bool, true, false, List, [], ◌∷◌, Option, Some, None, cond, refl, ap, nat_eq, length, arith}
+use Rattle.std.proofs.Common.{◌≡◌, ◌<◌, ◌≤◌, ◌+◌, ◌++◌, ◌∙◌, ℕ, zero, suc, Bool, true, false, List, [], ◌∷◌, Option, Some, None, cond, refl, ap, nat_eq, length, take, drop, arith}
 use Rattle.std.proofs.lemmas.Bool.{ne_eqb}
 use Rattle.net_base.specs.declared.plan.Plan.{Plan}
 use Rattle.net_base.specs.declared.plan.circuit_plan.CircuitPlan.{CircuitPlan}
 use Rattle.net_base.specs.declared.plan.places.CircuitId.{CircuitId}
 use Rattle.net_base.specs.declared.plan.places.EdgeId.{EdgeId}
 use Rattle.net_base.specs.declared.plan.places.ServiceId.{ServiceId}
+use Rattle.net_base.specs.declared.trace.entry.Entry.{Entry}
+use Rattle.net_base.specs.declared.trace.entry.Entry.TheVariants.{Left, Sent}
 use Rattle.net_base.specs.declared.trace.event.Event.{Event}
-use Rattle.net_base.specs.declared.trace.event.Event.TheVariants.{Tick, Frame, Circuit}
+use Rattle.net_base.specs.declared.trace.event.Event.TheVariants.{Connect, Deliver, Lose, Restart, Tick, Frame, Circuit}
 use Rattle.net_base.specs.plan.Places.{circuit_row}
 use Rattle.edge_model.specs.Circuit.{circuit_input}
+use Rattle.edge_model.specs.Connection.{restart_input}
+use Rattle.edge_model.specs.declared.effect.Effect.{Effect}
 use Rattle.edge_model.specs.Tick.{tick_input}
 use Rattle.edge_model.specs.Work.{Work}
 use Rattle.edge_model.proofs.LocalLemmas.{and_left, and_right}
-use Rattle.network_model.specs.Absorb.{Stepped, absorb, answer, begin_at, idle}
+use Rattle.network_model.specs.Absorb.{Stepped, absorb, and_then, answer, begin_at, idle, taken_all}
 use Rattle.network_model.specs.Circuit.{circuit_event}
+use Rattle.network_model.specs.Connection.{can_connect, connect_event, connected_work, connecting, deliver_event, delivering, given_out, hearing_work, is_deliverable, is_drained_pipe, lose_event, losing, losing_work, restart_event}
 use Rattle.network_model.specs.Frame.{entering, frame_event, frame_work, next_origin}
 use Rattle.network_model.specs.OnceEach.{LeftWithin, times_left}
 use Rattle.network_model.specs.Run.{entries_along, state_after}
-use Rattle.network_model.specs.State.{NetworkState, with_edge, with_frame}
+use Rattle.network_model.specs.State.{NetworkState, stands, with_edge, with_frame, with_pipe, without_octets_to}
 use Rattle.network_model.specs.Step.{step}
-use Rattle.network_model.specs.Tick.{tick_at, ticks_from}
+use Rattle.network_model.specs.Tick.{tick_at, tick_event, ticks_from}
 use Rattle.network_model.specs.Window.{all_spare, spares}
 use Rattle.network_model.proofs.AbsorbLemmas.{all_keep, all_leave, awaited, due, of_origin, others_tell, own_within, times_left-append, within-append}
+use Rattle.network_model.proofs.QuietLemmas.{NoneGoesOut, circuit_tells, connect_tells, deliver_tells, lose_tells, restart_tells, tick_tells}
 
 -- nothing is told of the frame, and its copies under way stay
 pub record IsApart (origin : ℕ) (circuit : CircuitId) (network : NetworkState) (stepped : Stepped) : Type 0 where
@@ -34,6 +40,12 @@ unfolding with_edge
 absorb_apart origin circuit me other hops work network apart = record {
   left = others_tell origin circuit me other hops work.effects (with_edge me work.edge network) apart;
   under_way = all_leave origin me other hops work.effects (with_edge me work.edge network) apart;
+}
+
+given_apart : (origin : ℕ) (circuit : CircuitId) (me : EdgeId) (es : List Effect) (network : NetworkState) → nat_eq 0 origin ≡ false → IsApart origin circuit network (given_out me es network)
+given_apart origin circuit me es network apart = record {
+  left = others_tell origin circuit me 0 0 es network apart;
+  under_way = all_leave origin me 0 0 es network apart;
 }
 
 answer_apart : (origin : ℕ) (circuit : CircuitId) (me : EdgeId) (other hops : ℕ) (work : Work) (network : NetworkState) → nat_eq other origin ≡ false → IsApart origin circuit network (answer me other hops work network)
@@ -84,10 +96,65 @@ ticks_apart plan origin circuit place (suc count) network apart =
     let me : EdgeId = record { 0 = place } in
     let first : Stepped = tick_at plan me network in
     apart_then origin circuit network first (ticks_from plan (place + 1) count first.state)
-    (absorb_apart origin circuit me 0 0 (tick_input plan (begin_at network me)) network apart) (ticks_apart plan origin circuit (place + 1) count first.state apart)
+    (absorb_apart origin circuit me 0 0 (tick_input plan taken_all (begin_at network me)) network apart) (ticks_apart plan origin circuit (place + 1) count first.state apart)
+
+connecting_apart : (origin : ℕ) (circuit : CircuitId) (from : EdgeId) (first : Work) (to : EdgeId) (second : Work) (network : NetworkState)
+    → nat_eq 0 origin ≡ false → IsApart origin circuit network (connecting from first to second network)
+unfolding with_edge
+connecting_apart origin circuit from first to second network apart =
+    let ready : NetworkState = with_edge to second.edge (with_edge from first.edge network) in
+    let here : Stepped = given_out from first.effects ready in
+    let there : Stepped = given_out to second.effects here.state in
+    let one : IsApart origin circuit ready here = given_apart origin circuit from first.effects ready apart in
+    let both : IsApart origin circuit ready (and_then here (given_out to second.effects)) = apart_then origin circuit ready here there one (given_apart origin circuit to second.effects here.state apart) in
+    record { left = both.left; under_way = both.under_way }
+
+connect_apart : (plan : Plan) (origin : ℕ) (circuit : CircuitId) (from to : EdgeId) (network : NetworkState) → nat_eq 0 origin ≡ false → IsApart origin circuit network (connect_event plan from to network)
+connect_apart plan origin circuit from to network apart = by (can_connect plan network from.0 to.0) where
+  by : (connects : Bool) → IsApart origin circuit network (cond connects (connecting from (connected_work plan network from to) to (connected_work plan network to from) network) (idle network))
+  by true = connecting_apart origin circuit from (connected_work plan network from to) to (connected_work plan network to from) network apart
+  by false = record { left = refl; under_way = refl }
+
+delivering_apart : (origin : ℕ) (circuit : CircuitId) (from to : EdgeId) (count : ℕ) (network : NetworkState) → nat_eq 0 origin ≡ false → IsApart origin circuit network (delivering from to count network)
+unfolding with_pipe
+delivering_apart origin circuit from to count network apart =
+    let octets : List ℕ = take count (network.pipes from.0 to.0) in
+    let same = absorb_apart origin circuit to 0 0 (hearing_work network from to octets) (with_pipe from to (drop count (network.pipes from.0 to.0)) network) apart in
+    record { left = same.left; under_way = same.under_way }
+
+deliver_apart : (origin : ℕ) (circuit : CircuitId) (from to : EdgeId) (count : ℕ) (network : NetworkState) → nat_eq 0 origin ≡ false → IsApart origin circuit network (deliver_event from to count network)
+deliver_apart origin circuit from to count network apart = by (is_deliverable network from.0 to.0) (is_drained_pipe network from.0 to.0) where
+  by : (applies drained : Bool) → IsApart origin circuit network (cond applies (cond drained (losing to from network) (delivering from to count network)) (idle network))
+  by true true = absorb_apart origin circuit to 0 0 (losing_work network to from) network apart
+  by true false = delivering_apart origin circuit from to count network apart
+  by false drained = record { left = refl; under_way = refl }
+
+lose_apart : (origin : ℕ) (circuit : CircuitId) (me peer : EdgeId) (network : NetworkState) → nat_eq 0 origin ≡ false → IsApart origin circuit network (lose_event me peer network)
+lose_apart origin circuit me peer network apart = by (stands network me.0 peer.0) where
+  by : (applies : Bool) → IsApart origin circuit network (cond applies (losing me peer network) (idle network))
+  by true = absorb_apart origin circuit me 0 0 (losing_work network me peer) network apart
+  by false = record { left = refl; under_way = refl }
+
+restart_apart : (origin : ℕ) (circuit : CircuitId) (me : EdgeId) (network : NetworkState) → nat_eq 0 origin ≡ false → IsApart origin circuit network (restart_event me network)
+unfolding without_octets_to
+restart_apart origin circuit me network apart =
+    let same = absorb_apart origin circuit me 0 0 (restart_input (begin_at network me)) (without_octets_to me network) apart in
+    record { left = same.left; under_way = same.under_way }
 
 step_apart : (plan : Plan) (origin : ℕ) (circuit : CircuitId) (network : NetworkState) (event : Event)
     → 0 < origin → (network.entered + 1 ≡ origin → (step plan network event).state.entered ≡ network.entered + 1 → ⊥) → IsApart origin circuit network (step plan network event)
+step_apart plan origin circuit network (Connect from to) some apart =
+    let same = connect_apart plan origin circuit from to network (ne_eqb 0 origin (λ e. absurd (omega arith))) in
+    record { left = same.left; under_way = same.under_way }
+step_apart plan origin circuit network (Deliver from to count) some apart =
+    let same = deliver_apart origin circuit from to count network (ne_eqb 0 origin (λ e. absurd (omega arith))) in
+    record { left = same.left; under_way = same.under_way }
+step_apart plan origin circuit network (Lose me peer) some apart =
+    let same = lose_apart origin circuit me peer network (ne_eqb 0 origin (λ e. absurd (omega arith))) in
+    record { left = same.left; under_way = same.under_way }
+step_apart plan origin circuit network (Restart me) some apart =
+    let same = restart_apart origin circuit me network (ne_eqb 0 origin (λ e. absurd (omega arith))) in
+    record { left = same.left; under_way = same.under_way }
 step_apart plan origin circuit network Tick some apart =
     let same = ticks_apart plan origin circuit 0 (length plan.edges) network (ne_eqb 0 origin (λ e. absurd (omega arith))) in
     record { left = same.left; under_way = same.under_way }
@@ -125,9 +192,47 @@ ticks_count : (plan : Plan) (place count : ℕ) (network : NetworkState) → (ti
 ticks_count plan place zero network = refl
 ticks_count plan place (suc count) network =
     let me : EdgeId = record { 0 = place } in
-    ticks_count plan (place + 1) count (tick_at plan me network).state ∙ absorb_counts me 0 0 (tick_input plan (begin_at network me)) network
+    ticks_count plan (place + 1) count (tick_at plan me network).state ∙ absorb_counts me 0 0 (tick_input plan taken_all (begin_at network me)) network
+
+connecting_counts : (from : EdgeId) (first : Work) (to : EdgeId) (second : Work) (network : NetworkState) → (connecting from first to second network).state.entered ≡ network.entered
+unfolding with_edge
+connecting_counts from first to second network =
+    let ready : NetworkState = with_edge to second.edge (with_edge from first.edge network) in
+    (all_keep to 0 0 second.effects (given_out from first.effects ready).state).entered ∙ (all_keep from 0 0 first.effects ready).entered
+
+connect_counts : (plan : Plan) (from to : EdgeId) (network : NetworkState) → (connect_event plan from to network).state.entered ≡ network.entered
+connect_counts plan from to network = by (can_connect plan network from.0 to.0) where
+  by : (connects : Bool) → (cond connects (connecting from (connected_work plan network from to) to (connected_work plan network to from) network) (idle network)).state.entered ≡ network.entered
+  by true = connecting_counts from (connected_work plan network from to) to (connected_work plan network to from) network
+  by false = refl
+
+delivering_counts : (from to : EdgeId) (count : ℕ) (network : NetworkState) → (delivering from to count network).state.entered ≡ network.entered
+unfolding with_pipe
+delivering_counts from to count network =
+    absorb_counts to 0 0 (hearing_work network from to (take count (network.pipes from.0 to.0))) (with_pipe from to (drop count (network.pipes from.0 to.0)) network)
+
+deliver_counts : (from to : EdgeId) (count : ℕ) (network : NetworkState) → (deliver_event from to count network).state.entered ≡ network.entered
+deliver_counts from to count network = by (is_deliverable network from.0 to.0) (is_drained_pipe network from.0 to.0) where
+  by : (applies drained : Bool) → (cond applies (cond drained (losing to from network) (delivering from to count network)) (idle network)).state.entered ≡ network.entered
+  by true true = absorb_counts to 0 0 (losing_work network to from) network
+  by true false = delivering_counts from to count network
+  by false drained = refl
+
+lose_counts : (me peer : EdgeId) (network : NetworkState) → (lose_event me peer network).state.entered ≡ network.entered
+lose_counts me peer network = by (stands network me.0 peer.0) where
+  by : (applies : Bool) → (cond applies (losing me peer network) (idle network)).state.entered ≡ network.entered
+  by true = absorb_counts me 0 0 (losing_work network me peer) network
+  by false = refl
+
+restart_counts : (me : EdgeId) (network : NetworkState) → (restart_event me network).state.entered ≡ network.entered
+unfolding without_octets_to
+restart_counts me network = absorb_counts me 0 0 (restart_input (begin_at network me)) (without_octets_to me network)
 
 pub step_counts : (plan : Plan) (network : NetworkState) (event : Event) → network.entered ≤ (step plan network event).state.entered
+step_counts plan network (Connect from to) = omega (arith, connect_counts plan from to network)
+step_counts plan network (Deliver from to count) = omega (arith, deliver_counts from to count network)
+step_counts plan network (Lose me peer) = omega (arith, lose_counts me peer network)
+step_counts plan network (Restart me) = omega (arith, restart_counts me network)
 step_counts plan network Tick = omega (arith, ticks_count plan 0 (length plan.edges) network)
 step_counts plan network (Frame at octets) = frame_counts plan at octets (circuit_row plan at) network
 step_counts plan network (Circuit at on) = omega (arith, circuit_counts plan at on (circuit_row plan at) network)
@@ -193,28 +298,20 @@ frame_within plan number at octets (Some row) network = taken (frame_work plan n
       let work : Work = frame_work plan network at octets row in
       own_within number row.edge (next_origin network) work.effects (with_edge row.edge work.edge (with_frame network))
 
-answer_within : (number : ℕ) (me : EdgeId) (origin : ℕ) (work : Work) (network : NetworkState) → LeftWithin number (answer me origin 0 work network).entries
-answer_within number me origin work network = answered work.idle where
-  answered : (idles : Bool) → LeftWithin number (cond idles (idle network) (absorb me origin 0 work network)).entries
-  answered true = tt
-  answered false = own_within number me origin work.effects (with_edge me work.edge network)
-
-circuit_within : (plan : Plan) (number : ℕ) (at : CircuitId) (on : Bool) (row : Option CircuitPlan) (network : NetworkState) → LeftWithin number (circuit_event plan at on row network).entries
-circuit_within plan number at on None network = tt
-circuit_within plan number at on (Some row) network = answer_within number row.edge 0 (circuit_input plan at on (Some row) (begin_at network row.edge)) network
-
-ticks_within : (plan : Plan) (number place count : ℕ) (network : NetworkState) → LeftWithin number (ticks_from plan place count network).entries
-ticks_within plan number place zero network = tt
-ticks_within plan number place (suc count) network =
-    let me : EdgeId = record { 0 = place } in
-    let first : Stepped = tick_at plan me network in
-    let work : Work = tick_input plan (begin_at network me) in
-    within-append number first.entries (ticks_from plan (place + 1) count first.state).entries (own_within number me 0 work.effects (with_edge me work.edge network)) (ticks_within plan number (place + 1) count first.state)
+none_within : (number : ℕ) (es : List Entry) → NoneGoesOut es → LeftWithin number es
+none_within number [] none = tt
+none_within number (Left circuit origin hops octets ∷ es) none = absurd none
+none_within number (Sent packet from to wire came origin hops octets ∷ es) none = absurd none
+none_within number (e ∷ es) none = none_within number es none
 
 step_within : (plan : Plan) (number : ℕ) (network : NetworkState) (event : Event) → LeftWithin number (step plan network event).entries
-step_within plan number network Tick = ticks_within plan number 0 (length plan.edges) network
+step_within plan number network (Connect from to) = none_within number (connect_event plan from to network).entries (connect_tells plan from to network)
+step_within plan number network (Deliver from to count) = none_within number (deliver_event from to count network).entries (deliver_tells from to count network)
+step_within plan number network (Lose me peer) = none_within number (lose_event me peer network).entries (lose_tells me peer network)
+step_within plan number network (Restart me) = none_within number (restart_event me network).entries (restart_tells me network)
+step_within plan number network Tick = none_within number (tick_event plan network).entries (tick_tells plan network)
 step_within plan number network (Frame at octets) = frame_within plan number at octets (circuit_row plan at) network
-step_within plan number network (Circuit at on) = circuit_within plan number at on (circuit_row plan at) network
+step_within plan number network (Circuit at on) = none_within number (circuit_event plan at on (circuit_row plan at) network).entries (circuit_tells plan network at on (circuit_row plan at))
 step_within plan number network event = tt
 
 pub along_within : (plan : Plan) (number : ℕ) (network : NetworkState) (events : List Event) → LeftWithin number (entries_along plan network events)

@@ -1,5 +1,5 @@
 -- In every state of a run the edge at a place is the edge of that place.
-use Rattle.std.proofs.Common.{◌≡◌, ◌+◌, ◌&&◌, ◌∙◌, ℕ, zero, suc, Bool, true, false, List, [], ◌∷◌, Option, Some, None, Result, Ok, Err, cond, refl, ap, sym, not, nat_eq, length, inl, inr}
+use Rattle.std.proofs.Common.{◌≡◌, ◌+◌, ◌&&◌, ◌∙◌, ℕ, zero, suc, Bool, true, false, List, [], ◌∷◌, Option, Some, None, Result, Ok, Err, cond, refl, ap, sym, not, nat_eq, length, take, drop, inl, inr}
 use Rattle.std.proofs.lemmas.Bool.{cases_Bool, eqb-true}
 use Rattle.net_base.specs.declared.plan.Plan.{Plan}
 use Rattle.net_base.specs.declared.plan.circuit_plan.CircuitPlan.{CircuitPlan}
@@ -8,22 +8,26 @@ use Rattle.net_base.specs.declared.plan.places.EdgeId.{EdgeId}
 use Rattle.net_base.specs.declared.plan.places.ServiceId.{ServiceId}
 use Rattle.net_base.specs.declared.trace.drop_cause.DropCause.{DropCause}
 use Rattle.net_base.specs.declared.trace.event.Event.{Event}
-use Rattle.net_base.specs.declared.trace.event.Event.TheVariants.{Tick, Frame, Circuit}
+use Rattle.net_base.specs.declared.trace.event.Event.TheVariants.{Connect, Deliver, Lose, Restart, Tick, Frame, Circuit}
 use Rattle.net_base.specs.plan.Places.{circuit_row}
 use Rattle.net_base.specs.trace.Isolated.{inner_at}
 use Rattle.hvpls_spokes.specs.declared.port.Port.{Port}
 use Rattle.hvpls_spokes.specs.declared.port.Port.TheVariants as port
 use Rattle.hvpls_spokes.specs.Port.{ports_of}
 use Rattle.edge_model.specs.Circuit.{circuit_input, is_same, turned}
+use Rattle.edge_model.specs.Connection.{restart_input}
+use Rattle.edge_model.specs.declared.effect.Effect.{Effect}
 use Rattle.edge_model.specs.Frame.{copies, copy_by, forwarded, frame_input, hearing, is_own, port_at, received, targets_of}
-use Rattle.edge_model.specs.State.{EdgeState, is_on, with_addresses, with_circuit, with_learned, with_ticks}
+use Rattle.edge_model.specs.State.{EdgeState, is_on, with_addresses, with_circuit}
 use Rattle.edge_model.specs.Tick.{tick_input}
 use Rattle.edge_model.specs.Work.{Work, Answers, changes, gives, idles}
-use Rattle.network_model.specs.Absorb.{absorb, answer, begin_at, idle, taken_all}
+use Rattle.edge_model.proofs.SessionLemmas.{any, connected_works, lost_works, octets_works, restart_works, tick_works}
+use Rattle.network_model.specs.Absorb.{absorb, absorb_all, answer, begin_at, idle, taken_all}
 use Rattle.network_model.specs.Circuit.{circuit_event}
+use Rattle.network_model.specs.Connection.{can_connect, connect_event, connected_work, connecting, deliver_event, delivering, hearing_work, is_deliverable, is_drained_pipe, lose_event, losing, losing_work, restart_event}
 use Rattle.network_model.specs.Frame.{entering, frame_event, frame_work, next_origin}
 use Rattle.network_model.specs.Run.{state_after}
-use Rattle.network_model.specs.State.{NetworkState, at_edge, empty_network, with_edge, with_frame}
+use Rattle.network_model.specs.State.{NetworkState, at_edge, empty_network, stands, with_edge, with_frame, with_pipe, without_octets_to}
 use Rattle.network_model.specs.Step.{step}
 use Rattle.network_model.specs.Tick.{tick_at, ticks_from}
 use Rattle.network_model.proofs.AbsorbLemmas.{all_keep}
@@ -85,25 +89,28 @@ circuit_me plan circuit on row work = taken (is_own work.edge row && not (is_sam
   taken true = turned_me plan circuit row on work.edge
   taken false = refl
 
-tick_me : (plan : Plan) (work : Work) → (tick_input plan work).edge.me ≡ work.edge.me
-unfolding changes with_learned with_ticks
-tick_me plan work = refl
-
 -- each edge of the network has its own place
 pub record IsPlaced (network : NetworkState) : Type 0 where
   pub me : (k : ℕ) → (network.edges k).me ≡ record { 0 = k }
 
--- one edge's work keeps the places
-absorb_placed : (me : EdgeId) (origin hops : ℕ) (work : Work) (network : NetworkState) → IsPlaced network → work.edge.me ≡ (at_edge network me).me → IsPlaced (absorb me origin hops work network).state
+-- another state of an edge, of the same place
+edge_placed : (me : EdgeId) (edge : EdgeState) (network : NetworkState) → IsPlaced network → edge.me ≡ (at_edge network me).me → IsPlaced (with_edge me edge network)
 unfolding with_edge
-absorb_placed me origin hops work network placed same = record {
+edge_placed me edge network placed same = record {
   me = λ k.
-      ap (λ (edges : ℕ → EdgeState). (edges k).me) (all_keep me origin hops work.effects (with_edge me work.edge network)).edges
-      ∙ elim (cases_Bool (nat_eq k me.0)) [
+      elim (cases_Bool (nat_eq k me.0)) [
         | inl here ↦ rw here (same ∙ (placed.me me.0 ∙ ap (λ (n : ℕ). record { 0 = n }) (sym (eqb-true k me.0 here))))
         | inr away ↦ rw away (placed.me k)
       ];
 }
+
+-- what an edge gives out keeps the places
+all_placed : (me : EdgeId) (origin hops : ℕ) (es : List Effect) (network : NetworkState) → IsPlaced network → IsPlaced (absorb_all me origin hops es network)
+all_placed me origin hops es network placed = record { me = λ k. ap (λ (edges : ℕ → EdgeState). (edges k).me) (all_keep me origin hops es network).edges ∙ placed.me k }
+
+-- one edge's work keeps them
+absorb_placed : (me : EdgeId) (origin hops : ℕ) (work : Work) (network : NetworkState) → IsPlaced network → work.edge.me ≡ (at_edge network me).me → IsPlaced (absorb me origin hops work network).state
+absorb_placed me origin hops work network placed same = all_placed me origin hops work.effects (with_edge me work.edge network) (edge_placed me work.edge network placed same)
 
 answer_placed : (me : EdgeId) (origin hops : ℕ) (work : Work) (network : NetworkState) → IsPlaced network → work.edge.me ≡ (at_edge network me).me → IsPlaced (answer me origin hops work network).state
 answer_placed me origin hops work network placed same = answered work.idle where
@@ -135,9 +142,68 @@ ticks_placed plan place zero network placed = placed
 ticks_placed plan place (suc count) network placed =
     let me : EdgeId = record { 0 = place } in
     ticks_placed plan (place + 1) count (tick_at plan me network).state
-    (absorb_placed me 0 0 (tick_input plan (begin_at network me)) network placed (tick_me plan (begin_at network me)))
+    (absorb_placed me 0 0 (tick_input plan taken_all (begin_at network me)) network placed (tick_works plan taken_all (begin_at network me)).me)
+
+-- ---- connections
+
+connecting_placed : (plan : Plan) (from to : EdgeId) (network : NetworkState) → IsPlaced network → IsPlaced (connecting from (connected_work plan network from to) to (connected_work plan network to from) network).state
+connecting_placed plan from to network placed =
+    let first : Work = connected_work plan network from to in
+    let second : Work = connected_work plan network to from in
+    let one : NetworkState = with_edge from first.edge network in
+    let both : NetworkState = with_edge to second.edge one in
+    let here = edge_placed from first.edge network placed (connected_works plan taken_all any to (begin_at network from) refl).edge.me in
+    let own : second.edge.me ≡ (at_edge one to).me = (connected_works plan taken_all any from (begin_at network to) refl).edge.me ∙ (placed.me to.0 ∙ sym (here.me to.0)) in
+    all_placed to 0 0 second.effects (absorb_all from 0 0 first.effects both) (all_placed from 0 0 first.effects both (edge_placed to second.edge one here own))
+
+connect_placed : (plan : Plan) (from to : EdgeId) (network : NetworkState) → IsPlaced network → IsPlaced (connect_event plan from to network).state
+connect_placed plan from to network placed = by (can_connect plan network from.0 to.0) where
+  by : (connects : Bool) → IsPlaced (cond connects (connecting from (connected_work plan network from to) to (connected_work plan network to from) network) (idle network)).state
+  by true = connecting_placed plan from to network placed
+  by false = placed
+
+losing_placed : (me peer : EdgeId) (network : NetworkState) → IsPlaced network → IsPlaced (losing me peer network).state
+losing_placed me peer network placed = absorb_placed me 0 0 (losing_work network me peer) network placed (lost_works taken_all any peer (begin_at network me) refl).edge.me
+
+piped_placed : (from to : EdgeId) (octets : List ℕ) (network : NetworkState) → IsPlaced network → IsPlaced (with_pipe from to octets network)
+unfolding with_pipe
+piped_placed from to octets network placed = record { me = placed.me }
+
+delivering_placed : (from to : EdgeId) (count : ℕ) (network : NetworkState) → IsPlaced network → IsPlaced (delivering from to count network).state
+unfolding with_pipe
+delivering_placed from to count network placed =
+    let octets : List ℕ = take count (network.pipes from.0 to.0) in
+    let others : NetworkState = with_pipe from to (drop count (network.pipes from.0 to.0)) network in
+    absorb_placed to 0 0 (hearing_work network from to octets) others (piped_placed from to (drop count (network.pipes from.0 to.0)) network placed)
+    (octets_works taken_all any from octets ((at_edge network to).peering from.0) (begin_at network to) refl).edge.me
+
+deliver_placed : (from to : EdgeId) (count : ℕ) (network : NetworkState) → IsPlaced network → IsPlaced (deliver_event from to count network).state
+deliver_placed from to count network placed = by (is_deliverable network from.0 to.0) (is_drained_pipe network from.0 to.0) where
+  by : (applies drained : Bool) → IsPlaced (cond applies (cond drained (losing to from network) (delivering from to count network)) (idle network)).state
+  by true true = losing_placed to from network placed
+  by true false = delivering_placed from to count network placed
+  by false drained = placed
+
+lose_placed : (me peer : EdgeId) (network : NetworkState) → IsPlaced network → IsPlaced (lose_event me peer network).state
+lose_placed me peer network placed = by (stands network me.0 peer.0) where
+  by : (applies : Bool) → IsPlaced (cond applies (losing me peer network) (idle network)).state
+  by true = losing_placed me peer network placed
+  by false = placed
+
+emptied_placed : (me : EdgeId) (network : NetworkState) → IsPlaced network → IsPlaced (without_octets_to me network)
+unfolding without_octets_to
+emptied_placed me network placed = record { me = placed.me }
+
+restart_placed : (me : EdgeId) (network : NetworkState) → IsPlaced network → IsPlaced (restart_event me network).state
+unfolding without_octets_to
+restart_placed me network placed =
+    absorb_placed me 0 0 (restart_input (begin_at network me)) (without_octets_to me network) (emptied_placed me network placed) (restart_works (begin_at network me)).me
 
 step_placed : (plan : Plan) (network : NetworkState) (event : Event) → IsPlaced network → IsPlaced (step plan network event).state
+step_placed plan network (Connect from to) placed = connect_placed plan from to network placed
+step_placed plan network (Deliver from to count) placed = deliver_placed from to count network placed
+step_placed plan network (Lose me peer) placed = lose_placed me peer network placed
+step_placed plan network (Restart me) placed = restart_placed me network placed
 step_placed plan network Tick placed = ticks_placed plan 0 (length plan.edges) network placed
 step_placed plan network (Frame circuit octets) placed = frame_placed plan network circuit octets (circuit_row plan circuit) placed
 step_placed plan network (Circuit circuit on) placed = circuit_placed plan network circuit on (circuit_row plan circuit) placed

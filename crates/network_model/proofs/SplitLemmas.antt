@@ -1,13 +1,14 @@
 -- Split horizon holds of every run.
-use Rattle.std.proofs.Common.{◌≡◌, ℕ, Bool, true, false, List, [], ◌∷◌, Option, Some, None, cond, refl, inl, inr, sym, subst}
+use Rattle.std.proofs.Common.{◌≡◌, ℕ, Bool, true, false, List, [], ◌∷◌, Option, Some, None, cond, refl, sym, subst}
 use Rattle.net_base.specs.declared.plan.Plan.{Plan}
 use Rattle.net_base.specs.declared.plan.circuit_plan.CircuitPlan.{CircuitPlan}
 use Rattle.net_base.specs.declared.plan.places.CircuitId.{CircuitId}
 use Rattle.net_base.specs.declared.plan.places.EdgeId.{EdgeId}
 use Rattle.net_base.specs.declared.trace.arrival.Arrival.{Arrival}
 use Rattle.net_base.specs.declared.trace.entry.Entry.{Entry}
+use Rattle.net_base.specs.declared.trace.entry.Entry.TheVariants.{Left, Sent}
 use Rattle.net_base.specs.declared.trace.event.Event.{Event}
-use Rattle.net_base.specs.declared.trace.event.Event.TheVariants.{Tick, Frame, Circuit}
+use Rattle.net_base.specs.declared.trace.event.Event.TheVariants.{Connect, Deliver, Lose, Restart, Tick, Frame, Circuit}
 use Rattle.net_base.specs.plan.Places.{circuit_row}
 use Rattle.net_base.specs.trace.Split.{Split, SplitSent}
 use Rattle.net_base.proofs.TraceLemmas.{split-append}
@@ -21,7 +22,7 @@ use Rattle.network_model.specs.Laws.{RunsAreSplit}
 use Rattle.network_model.specs.Run.{entries_along}
 use Rattle.network_model.specs.State.{NetworkState, at_edge, empty_network}
 use Rattle.network_model.specs.Step.{step}
-use Rattle.network_model.proofs.QuietLemmas.{Tells, circuit_tells, tick_tells}
+use Rattle.network_model.proofs.QuietLemmas.{NoneGoesOut, circuit_tells, connect_tells, deliver_tells, lose_tells, restart_tells, tick_tells}
 
 -- what an edge sends for a frame of a circuit came by no wire
 effects_split : (plan : Plan) (sender : CircuitId) (me : EdgeId) (origin hops : ℕ) (octets : List ℕ) (network : NetworkState) (es : List Effect)
@@ -49,13 +50,20 @@ frame_split plan network circuit octets (Some row) is = taken (frame_work plan n
     effects_split plan circuit row.edge (next_origin network) 0 octets _ (frame_work plan network circuit octets row).effects (input_stays plan taken_all (at_edge network row.edge) [] circuit octets (Some row) is),
   )
 
-tells_split : (plan : Plan) (es : List Entry) → Tells es → Split plan es
-tells_split plan es tells = elim tells [ inl none ↦ rw none tt | inr alone ↦ rw alone (tt, tt) ]
+none_split : (plan : Plan) (es : List Entry) → NoneGoesOut es → Split plan es
+none_split plan [] none = tt
+none_split plan (Left circuit origin hops octets ∷ es) none = absurd none
+none_split plan (Sent packet from to wire came origin hops octets ∷ es) none = absurd none
+none_split plan (e ∷ es) none = (tt, none_split plan es none)
 
 step_split : (plan : Plan) (network : NetworkState) (event : Event) → Split plan (step plan network event).entries
-step_split plan network Tick = (tt, tells_split plan _ (tick_tells plan network))
+step_split plan network (Connect from to) = (tt, none_split plan _ (connect_tells plan from to network))
+step_split plan network (Deliver from to count) = (tt, none_split plan _ (deliver_tells from to count network))
+step_split plan network (Lose me peer) = (tt, none_split plan _ (lose_tells me peer network))
+step_split plan network (Restart me) = (tt, none_split plan _ (restart_tells me network))
+step_split plan network Tick = (tt, none_split plan _ (tick_tells plan network))
 step_split plan network (Frame circuit octets) = (tt, frame_split plan network circuit octets (circuit_row plan circuit) refl)
-step_split plan network (Circuit circuit on) = (tt, tells_split plan _ (circuit_tells plan network circuit on (circuit_row plan circuit)))
+step_split plan network (Circuit circuit on) = (tt, none_split plan _ (circuit_tells plan network circuit on (circuit_row plan circuit)))
 step_split plan network event = (tt, tt)
 
 pub along_split : (plan : Plan) (network : NetworkState) (events : List Event) → Split plan (entries_along plan network events)
