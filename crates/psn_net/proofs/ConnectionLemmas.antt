@@ -1,5 +1,5 @@
 -- The events of connections: what the edges did lies in the lists as the definitions say.
-use Rattle.std.proofs.Common.{◌≡◌, ◌++◌, ◌∷◌, ◌&&◌, ◌||◌, ◌∙◌, [], ℕ, Bool, true, false, List, cond, not, drop, take, refl, ap, sym, nat_eq, append_assoc, inl, inr}
+use Rattle.std.proofs.Common.{◌≡◌, ◌<◌, ◌++◌, ◌∷◌, ◌&&◌, ◌||◌, ◌∙◌, [], ℕ, zero, suc, arith, length, subst, Bool, true, false, List, cond, not, drop, take, refl, ap, sym, nat_eq, append_assoc, inl, inr}
 use Rattle.std.proofs.lemmas.Bool.{cases_Bool, eqb-true}
 use Rattle.std.specs.List.{All, list_any}
 use Rattle.net_base.specs.declared.plan.Plan.{Plan}
@@ -11,55 +11,61 @@ use Rattle.net_base.specs.plan.Paths.{are_joined, has_repeat, joins}
 use Rattle.edge_model.specs.Connection.{connected_input, lost_input, restart_input}
 use Rattle.edge_model.specs.declared.effect.Effect.{Effect}
 use Rattle.edge_model.specs.declared.effects.Effects.{Effects}
+use Rattle.edge_model.specs.Hear.{octets_input}
 use Rattle.edge_model.specs.State.{EdgeState}
 use Rattle.edge_model.specs.Work.{Work}
 use Rattle.network_model.specs.Absorb.{Stepped, absorb, absorb_all, all_entries_of, begin_at, taken_all}
-use Rattle.network_model.specs.Connection.{can_connect, connected_work, connecting, delivering, hearing_work, losing, losing_work, restart_event}
-use Rattle.network_model.specs.State.{NetworkState, with_edge, with_pipe, without_octets_to}
+use Rattle.network_model.specs.Connection.{connected_work, connecting, delivering, hearing_work, losing, losing_work, restart_event}
+use Rattle.network_model.specs.State.{NetworkState, at_edge, with_edge, with_pipe, without_octets_to}
 use Rattle.psn_net.specs.Lists.{HasDriven, HasStepped, NetLists, seen}
+use Rattle.psn_net.specs.Pipes.{seen as pipes_of}
 
 -- ---- no segment joins an edge with itself
 
 joins_none : (edge : ℕ) (path : List EdgeId) → has_repeat path ≡ false → joins edge edge path ≡ false
 joins_none edge [] once = refl
 joins_none edge (last ∷ []) once = refl
-joins_none edge (first ∷ next ∷ rest) once = by (nat_eq edge first.0) refl (nat_eq edge next.0) refl where
-  later : joins edge edge (next ∷ rest) ≡ false
-  later = joins_none edge (next ∷ rest) (right (list_any (λ (e : EdgeId). nat_eq e.0 first.0) (next ∷ rest)) (has_repeat (next ∷ rest)) once) where
+joins_none edge (first ∷ next ∷ rest) once =
+    neither (nat_eq edge first.0 && nat_eq edge next.0) (joins edge edge (next ∷ rest)) (both_off (nat_eq edge first.0) (nat_eq edge next.0) repeats)
+    (joins_none edge (next ∷ rest) (right (list_any (λ (e : EdgeId). nat_eq e.0 first.0) (next ∷ rest)) (has_repeat (next ∷ rest)) once))
+  where
     right : (a b : Bool) → a || b ≡ false → b ≡ false
     right true b e = absurd (cc (e))
     right false b e = e
 
-  by : (a : Bool) → nat_eq edge first.0 ≡ a → (b : Bool) → nat_eq edge next.0 ≡ b → joins edge edge (first ∷ next ∷ rest) ≡ false
-  by true p true q = absurd (repeats p q once) where
-    repeats : nat_eq edge first.0 ≡ true → nat_eq edge next.0 ≡ true → has_repeat (first ∷ next ∷ rest) ≡ false → ⊥
-    repeats p q once =
-        let same : next.0 ≡ first.0 = sym (eqb-true edge next.0 q) ∙ eqb-true edge first.0 p in
+    neither : (x c : Bool) → x ≡ false → c ≡ false → (x || x) || c ≡ false
+    neither x c p q = rw (p, q) refl
+
+    both_off : (a b : Bool) → (a ≡ true → b ≡ true → ⊥) → a && b ≡ false
+    both_off true true h = absurd (h refl refl)
+    both_off true false h = refl
+    both_off false b h = refl
+
+    found : (a b c : Bool) → a ≡ true → (a || b) || c ≡ false → ⊥
+    found true b c h e = absurd (cc (e))
+    found false b c h e = absurd (cc (h))
+
+    repeats : nat_eq edge first.0 ≡ true → nat_eq edge next.0 ≡ true → ⊥
+    repeats p q =
         let hit : nat_eq next.0 first.0 ≡ true = ap (λ (k : ℕ). nat_eq k first.0) (sym (eqb-true edge next.0 q)) ∙ p in
         found (nat_eq next.0 first.0) (list_any (λ (e : EdgeId). nat_eq e.0 first.0) rest) (has_repeat (next ∷ rest)) hit once
-      where
-        found : (a b c : Bool) → a ≡ true → (a || b) || c ≡ false → ⊥
-        found true b c h e = absurd (cc (e))
-        found false b c h e = absurd (cc (h))
-  by true p false q = rw (p, q, later) refl
-  by false p true q = rw (p, q, later) refl
-  by false p false q = rw (p, q, later) refl
 
 unjoined : (plan : Plan) (edge : ℕ) (wires : List WirePlan) → All (IsWireOf plan) wires → list_any (λ (row : WirePlan). joins edge edge row.path) wires ≡ false
 unjoined plan edge [] all = refl
-unjoined plan edge (w ∷ ws) all = let here = joins_none edge w.path all.0.once in let later = unjoined plan edge ws all.1 in rw (here, later) refl
+unjoined plan edge (w ∷ ws) all =
+    let here = joins_none edge w.path (all 0 w (omega arith)).once in
+    let later = unjoined plan edge ws (λ k d below. all (suc k) d (omega (arith, below))) in
+    rw here later
 
--- edges that can connect are two
-pub two_edges : (plan : Plan) (n : NetworkState) (from to : EdgeId) → IsChecked plan → can_connect plan n from.0 to.0 ≡ true → nat_eq to.0 from.0 ≡ false
-two_edges plan n from to checked can = elim (cases_Bool (nat_eq to.0 from.0)) [
+-- joined edges are two
+pub two_joined : (plan : Plan) (a b : ℕ) → IsChecked plan → are_joined plan a b ≡ true → nat_eq b a ≡ false
+two_joined plan a b checked joined = elim (cases_Bool (nat_eq b a)) [
   | inl same ↦
-    let alone : are_joined plan from.0 to.0 ≡ false = ap (λ (k : ℕ). are_joined plan from.0 k) (eqb-true to.0 from.0 same) ∙ unjoined plan from.0 plan.wires checked.wires in
-    absurd (left (are_joined plan from.0 to.0) _ alone can)
+    let alone : are_joined plan a b ≡ false = ap (λ (k : ℕ). are_joined plan a k) (eqb-true b a same) ∙ unjoined plan a plan.wires checked.wires in
+    let wrong : true ≡ false = sym joined ∙ alone in
+    absurd (cc (wrong))
   | inr apart ↦ apart
-] where
-  left : (a b : Bool) → a ≡ false → a && b ≡ true → ⊥
-  left true b h e = absurd (cc (h))
-  left false b h e = absurd (cc (e))
+]
 
 -- ---- two edges connect
 
@@ -67,36 +73,38 @@ begins_apart : (n : NetworkState) (from to : EdgeId) (e : EdgeState) → nat_eq 
 unfolding with_edge
 begins_apart n from to e h = rw h refl
 
-pub connect_stepped : (old one two three now : NetLists) (from to : EdgeId) (first second : Effects)
-    → IsChecked old.plan → can_connect old.plan (seen old) from.0 to.0 ≡ true → one.plan ≡ old.plan
+pub connect_stepped : (old one two three now : NetLists) (from to : EdgeId) (first second : Effects) (given given2 : List Effect)
+    → nat_eq to.0 from.0 ≡ false → one.plan ≡ old.plan
     → HasDriven from old one (connected_input old.plan taken_all to (begin_at (seen old) from)) first
     → HasDriven to one two (connected_input one.plan taken_all from (begin_at (seen one) to)) second
-    → HasStepped two three (record { state = absorb_all from 0 0 first.list (seen two); entries = all_entries_of from 0 0 first.list (seen two) })
-    → HasStepped three now (record { state = absorb_all to 0 0 second.list (seen three); entries = all_entries_of to 0 0 second.list (seen three) })
+    → given ≡ first.list → HasStepped two three (record { state = absorb_all from 0 0 given (seen two); entries = all_entries_of from 0 0 given (seen two) })
+    → given2 ≡ second.list → HasStepped three now (record { state = absorb_all to 0 0 given2 (seen three); entries = all_entries_of to 0 0 given2 (seen three) })
     → HasStepped old now (connecting from (connected_work old.plan (seen old) from to) to (connected_work old.plan (seen old) to from) (seen old))
-connect_stepped old one two three now from to first second checked can planned drove drove2 absorbed absorbed2 = record {
+connect_stepped old one two three now from to first second given given2 apart planned drove drove2 listed absorbed listed2 absorbed2 = record {
   state = absorbed2.state
       ∙ (ap (λ (es : List Effect). absorb_all to 0 0 es (seen three)) seconds
       ∙ ap (λ (n : NetworkState). absorb_all to 0 0 work2.effects n) middle);
   told = absorbed2.told
-      ∙ (ap (λ (t : List Entry). t ++ all_entries_of to 0 0 second.list (seen three)) (absorbed.told ∙ ap (λ (t : List Entry). t ++ all_entries_of from 0 0 first.list (seen two)) (drove2.told ∙ drove.told))
-      ∙ (append_assoc old.trace (all_entries_of from 0 0 first.list (seen two)) (all_entries_of to 0 0 second.list (seen three))
+      ∙ (ap (λ (t : List Entry). t ++ all_entries_of to 0 0 given2 (seen three)) (absorbed.told ∙ ap (λ (t : List Entry). t ++ all_entries_of from 0 0 given (seen two)) (drove2.told ∙ drove.told))
+      ∙ (append_assoc old.trace (all_entries_of from 0 0 given (seen two)) (all_entries_of to 0 0 given2 (seen three))
       ∙ ap (λ (es : List Entry). old.trace ++ es) both));
 } where
-  work work2 : Work
+  work : Work
   work = connected_work old.plan (seen old) from to
+
+  work2 : Work
   work2 = connected_work old.plan (seen old) to from
 
-  firsts : first.list ≡ work.effects
-  firsts = drove.effects_are
+  firsts : given ≡ work.effects
+  firsts = listed ∙ drove.effects_are
 
   -- the second edge is as it was
   same : connected_input one.plan taken_all from (begin_at (seen one) to) ≡ work2
   same = ap (λ (p : Plan). connected_input p taken_all from (begin_at (seen one) to)) planned
-      ∙ ap (λ (w : Work). connected_input old.plan taken_all from w) (ap (λ (n : NetworkState). begin_at n to) drove.state ∙ begins_apart (seen old) from to work.edge (two_edges old.plan (seen old) from to checked can))
+      ∙ ap (λ (w : Work). connected_input old.plan taken_all from w) (ap (λ (n : NetworkState). begin_at n to) drove.state ∙ begins_apart (seen old) from to work.edge apart)
 
-  seconds : second.list ≡ work2.effects
-  seconds = drove2.effects_are ∙ ap (λ (w : Work). w.effects) same
+  seconds : given2 ≡ work2.effects
+  seconds = listed2 ∙ (drove2.effects_are ∙ ap (λ (w : Work). w.effects) same)
 
   ends : seen two ≡ with_edge to work2.edge (with_edge from work.edge (seen old))
   ends = drove2.state ∙ (ap (λ (w : Work). with_edge to w.edge (seen one)) same ∙ ap (λ (n : NetworkState). with_edge to work2.edge n) drove.state)
@@ -104,9 +112,9 @@ connect_stepped old one two three now from to first second checked can planned d
   middle : seen three ≡ absorb_all from 0 0 work.effects (with_edge to work2.edge (with_edge from work.edge (seen old)))
   middle = absorbed.state ∙ (ap (λ (es : List Effect). absorb_all from 0 0 es (seen two)) firsts ∙ ap (λ (n : NetworkState). absorb_all from 0 0 work.effects n) ends)
 
-  both : all_entries_of from 0 0 first.list (seen two) ++ all_entries_of to 0 0 second.list (seen three)
+  both : all_entries_of from 0 0 given (seen two) ++ all_entries_of to 0 0 given2 (seen three)
       ≡ (connecting from work to work2 (seen old)).entries
-  both = ap (λ (es : List Entry). es ++ all_entries_of to 0 0 second.list (seen three)) (ap (λ (es : List Effect). all_entries_of from 0 0 es (seen two)) firsts ∙ ap (λ (n : NetworkState). all_entries_of from 0 0 work.effects n) ends)
+  both = ap (λ (es : List Entry). es ++ all_entries_of to 0 0 given2 (seen three)) (ap (λ (es : List Effect). all_entries_of from 0 0 es (seen two)) firsts ∙ ap (λ (n : NetworkState). all_entries_of from 0 0 work.effects n) ends)
       ∙ ap (λ (es : List Entry). all_entries_of from 0 0 work.effects (with_edge to work2.edge (with_edge from work.edge (seen old))) ++ es)
       (ap (λ (es : List Effect). all_entries_of to 0 0 es (seen three)) seconds ∙ ap (λ (n : NetworkState). all_entries_of to 0 0 work2.effects n) middle)
 
@@ -122,6 +130,13 @@ absorbed_stepped old mid now me work effects before told is state absorbed = rec
   told = absorbed.told ∙ (ap (λ (t : List Entry). t ++ all_entries_of me 0 0 effects.list (seen mid)) told
       ∙ ap (λ (es : List Entry). old.trace ++ es) (ap (λ (es : List Effect). all_entries_of me 0 0 es (seen mid)) is ∙ ap (λ (n : NetworkState). all_entries_of me 0 0 work.effects n) state));
 }
+
+pub hearing : (n now : NetLists) (from to : EdgeId) (count : ℕ) (bytes : List ℕ) (effects : Effects) → bytes ≡ take count (pipes_of n.pipes from.0 to.0)
+    → HasDriven to n now (octets_input taken_all from bytes ((at_edge (seen n) to).peering from.0) (begin_at (seen n) to)) effects
+    → HasDriven to n now (hearing_work (seen n) from to (take count ((seen n).pipes from.0 to.0))) effects
+unfolding seen
+hearing n now from to count bytes effects e drove =
+    subst (λ (octets : List ℕ). HasDriven to n now (octets_input taken_all from octets ((at_edge (seen n) to).peering from.0) (begin_at (seen n) to)) effects) e drove
 
 pub lose_stepped : (old mid now : NetLists) (me peer : EdgeId) (effects : Effects)
     → HasDriven me old mid (lost_input taken_all peer (begin_at (seen old) me)) effects

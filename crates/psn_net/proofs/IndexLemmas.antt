@@ -83,8 +83,8 @@ anew : (n : NetLists) (me : ℕ) (old new : IndexLists) (i j : ℕ) → IsMarked
     → has new i j ≡ cond (nat_eq i me || nat_eq j me) (is_deliverable (seen n) i j) (has old i j)
 anew n me old new i j marked a b = marked.each i j ∙ by (nat_eq i me) (nat_eq j me) (nat_lt j (length n.plan.edges)) (nat_lt i (length n.plan.edges)) (grind (arith, nat_tests, b)) (grind (arith, nat_tests, a)) where
   by : (p q x y : Bool) → x ≡ true → y ≡ true → cond ((p && x) || (q && y)) (is_deliverable (seen n) i j) (has old i j) ≡ cond (p || q) (is_deliverable (seen n) i j) (has old i j)
-  by true q x y e f = rw (e, f) refl
-  by false true x y e f = rw (e, f) refl
+  by true q x y e f = rw e refl
+  by false true x y e f = rw f refl
   by false false x y e f = refl
 
 -- an index that is right beside these and an edge is right beside these, once that edge's marks are made anew

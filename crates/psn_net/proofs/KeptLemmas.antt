@@ -1,5 +1,5 @@
 -- An event changes what may be delivered only between the edges that it sets to work and others.
-use Rattle.std.proofs.Common.{◌≡◌, ◌<◌, ◌+◌, ◌&&◌, ◌||◌, ◌∙◌, subst, ℕ, zero, suc, Bool, true, false, List, [], ◌∷◌, Option, Some, None, cond, refl, ap, sym, nat_eq, length, inl, inr}
+use Rattle.std.proofs.Common.{◌≡◌, ◌<◌, ◌+◌, ◌++◌, ◌&&◌, ◌||◌, ◌∙◌, drop, take, subst, ℕ, zero, suc, Bool, true, false, List, [], ◌∷◌, Option, Some, None, cond, refl, ap, sym, nat_eq, length, inl, inr}
 use Rattle.std.proofs.lemmas.Bool.{cases_Bool, eq-eqb, eqb-true}
 use Rattle.net_base.specs.declared.plan.Plan.{Plan}
 use Rattle.net_base.specs.declared.plan.circuit_plan.CircuitPlan.{CircuitPlan}
@@ -11,11 +11,12 @@ use Rattle.net_base.specs.plan.Places.{circuit_row}
 use Rattle.edge_model.specs.declared.effect.Effect.{Effect}
 use Rattle.edge_model.specs.declared.effect.Effect.TheVariants as effect
 use Rattle.edge_model.specs.Circuit.{circuit_input}
-use Rattle.edge_model.specs.State.{EdgeState}
+use Rattle.edge_model.specs.Connection.{restart_input}
+use Rattle.edge_model.specs.State.{EdgeState, put_at}
 use Rattle.edge_model.specs.Work.{Work}
 use Rattle.network_model.specs.Absorb.{absorb, absorb_all, absorb_one, answer, begin_at, idle}
 use Rattle.network_model.specs.Circuit.{circuit_event}
-use Rattle.network_model.specs.Connection.{can_connect, connect_event, connected_work, connecting, deliver_event, delivering, is_deliverable, is_drained_pipe, lose_event, losing, restart_event}
+use Rattle.network_model.specs.Connection.{can_connect, connect_event, connected_work, connecting, deliver_event, delivering, hearing_work, is_deliverable, is_drained_pipe, lose_event, losing, losing_work, restart_event}
 use Rattle.network_model.specs.Frame.{entering, frame_event, frame_work, next_origin}
 use Rattle.network_model.specs.State.{NetworkState, stands, with_edge, with_frame, with_packet, with_pipe, without_octets_to}
 use Rattle.network_model.specs.Step.{step}
@@ -61,12 +62,12 @@ pipe_to_beside : (these : ℕ → Bool) (from to : EdgeId) (octets : List ℕ) (
 unfolding with_pipe
 pipe_to_beside these from to octets n h = record {
   edges = λ k g. refl;
-  pipes = λ i j g f. let away = apart these to.0 j h f in rw away (row i j);
+  pipes = λ i j g f. row i j (apart these to.0 j h f);
 } where
-  row : (i j : ℕ) → cond (nat_eq i from.0) (n.pipes from.0) (n.pipes i) j ≡ n.pipes i j
-  row i j = elim (cases_Bool (nat_eq i from.0)) [
-    | inl here ↦ rw here (ap (λ (k : ℕ). n.pipes k j) (sym (eqb-true i from.0 here)))
-    | inr away ↦ rw away refl
+  row : (i j : ℕ) → nat_eq j to.0 ≡ false → cond (nat_eq i from.0) (put_at (n.pipes from.0) to.0 octets) (n.pipes i) j ≡ n.pipes i j
+  row i j away = elim (cases_Bool (nat_eq i from.0)) [
+    | inl here ↦ rw here (rw away (ap (λ (k : ℕ). n.pipes k j) (sym (eqb-true i from.0 here))))
+    | inr other ↦ rw other refl
   ]
 
 emptied_beside : (these : ℕ → Bool) (me : EdgeId) (n : NetworkState) → these me.0 ≡ true → IsKeptBeside these n (without_octets_to me n)
@@ -85,8 +86,8 @@ frame_beside these n = record { edges = λ k h. refl; pipes = λ i j h g. refl }
 one_beside : (these : ℕ → Bool) (me : EdgeId) (origin hops : ℕ) (e : Effect) (n : NetworkState) → these me.0 ≡ true → IsKeptBeside these n (absorb_one me origin hops e n)
 unfolding with_packet
 one_beside these me origin hops (effect.Said peer octets) n h = by (stands n peer.0 me.0) where
-  by : (b : Bool) → IsKeptBeside these n (cond b (with_pipe me peer _ n) n)
-  by true = pipe_from_beside these me peer _ n h
+  by : (b : Bool) → IsKeptBeside these n (cond b (with_pipe me peer (n.pipes me.0 peer.0 ++ octets) n) n)
+  by true = pipe_from_beside these me peer (n.pipes me.0 peer.0 ++ octets) n h
   by false = stays_beside these n
 one_beside these me origin hops (effect.Sent peer wire came octets) n h = record { edges = λ k g. refl; pipes = λ i j g f. refl }
 one_beside these me origin hops (effect.Closed peer) n h = pipe_to_beside these peer me [] n h
@@ -137,15 +138,21 @@ connect_beside plan from to n = by (can_connect plan n from.0 to.0) where
   by false = stays_beside these n
 
 losing_beside : (me peer : EdgeId) (n : NetworkState) → IsKeptBeside (λ k. nat_eq k me.0) n (losing me peer n).state
-losing_beside me peer n = absorb_beside (λ k. nat_eq k me.0) me 0 0 _ n (at_one me.0)
+losing_beside me peer n = absorb_beside (λ k. nat_eq k me.0) me 0 0 (losing_work n me peer) n (at_one me.0)
 
 deliver_beside : (from to : EdgeId) (count : ℕ) (n : NetworkState) → IsKeptBeside (λ k. nat_eq k to.0) n (deliver_event from to count n).state
 deliver_beside from to count n = by (is_deliverable n from.0 to.0) (is_drained_pipe n from.0 to.0) where
   these : ℕ → Bool
   these k = nat_eq k to.0
 
+  work : Work
+  work = hearing_work n from to (take count (n.pipes from.0 to.0))
+
+  rest : NetworkState
+  rest = with_pipe from to (drop count (n.pipes from.0 to.0)) n
+
   heard : IsKeptBeside these n (delivering from to count n).state
-  heard = then_beside these n (with_pipe from to _ n) (delivering from to count n).state (pipe_to_beside these from to _ n (at_one to.0)) (absorb_beside these to 0 0 _ _ (at_one to.0))
+  heard = then_beside these n rest (delivering from to count n).state (pipe_to_beside these from to (drop count (n.pipes from.0 to.0)) n (at_one to.0)) (absorb_beside these to 0 0 work rest (at_one to.0))
 
   by : (a b : Bool) → IsKeptBeside these n (cond a (cond b (losing to from n) (delivering from to count n)) (idle n)).state
   by false b = stays_beside these n
@@ -161,7 +168,7 @@ lose_beside me peer n = by (stands n me.0 peer.0) where
 restart_beside : (me : EdgeId) (n : NetworkState) → IsKeptBeside (λ k. nat_eq k me.0) n (restart_event me n).state
 restart_beside me n =
     then_beside (λ k. nat_eq k me.0) n (without_octets_to me n) (restart_event me n).state
-    (emptied_beside (λ k. nat_eq k me.0) me n (at_one me.0)) (absorb_beside (λ k. nat_eq k me.0) me 0 0 _ (without_octets_to me n) (at_one me.0))
+    (emptied_beside (λ k. nat_eq k me.0) me n (at_one me.0)) (absorb_beside (λ k. nat_eq k me.0) me 0 0 (restart_input (begin_at n me)) (without_octets_to me n) (at_one me.0))
 
 framed_beside : (plan : Plan) (circuit : CircuitId) (octets : List ℕ) (row : Option CircuitPlan) (n : NetworkState) → IsKeptBeside (is_at_edge row) n (frame_event plan circuit octets row n).state
 framed_beside plan circuit octets None n = stays_beside (is_at_edge None) n

@@ -34,7 +34,7 @@ emptied_more me place old pipes e = ap (λ (p : ℕ → ℕ → List ℕ). put_a
     at_each : (i j : ℕ) → put_at (emptied_to me place old) place (put_at (emptied_to me place old place) me []) i j ≡ emptied_to me (place + 1) old i j
     at_each i j = grind (arith, nat_tests)
 
-pub emptied_all : (p : PipeLists) (me count : ℕ) → length p.rows ≤ count → emptied_to me count (seen p) ≡ without_to me (seen p)
+emptied_all : (p : PipeLists) (me count : ℕ) → length p.rows ≤ count → emptied_to me count (seen p) ≡ without_to me (seen p)
 unfolding seen
 emptied_all p me count all = λ z i j. at_each i j z
   where
@@ -48,4 +48,7 @@ emptied_all p me count all = λ z i j. at_each i j z
         by true e = grind (arith, nat_tests, e)
         by false e = let q = past e in grind (arith, nat_tests, e, q)
 
-pub ruleset emptied_steps = (emptied_none, emptied_more, emptied_all)
+pub emptied_end : (p : PipeLists) (me count : ℕ) (now : ℕ → ℕ → List ℕ) → length p.rows ≤ count → now ≡ emptied_to me count (seen p) → now ≡ without_to me (seen p)
+emptied_end p me count now all e = e ∙ emptied_all p me count all
+
+pub ruleset emptied_steps = (emptied_none, emptied_more, emptied_end)

@@ -75,7 +75,7 @@ not_on word k e = rw e (second (nat_lt k 64))
 lowest_lit : (word : ℕ) → 0 < word → word < 2 ^ 64 → in_word word (trailing_zeros w64 word) ≡ true
 lowest_lit word p f = on word (trailing_zeros w64 word) (bit_at-trailing_zeros w64 word p f).0 (bit_at-trailing_zeros w64 word p f).1
 
-below_size : (word size k : ℕ) → ((k : ℕ) → size ≤ k → in_word word k ≡ false) → in_word word k ≡ true → k < 0 + size
+below_size : (word size k : ℕ) → ((k : ℕ) → size ≤ k → in_word word k ≡ false) → in_word word k ≡ true → k < size
 below_size word size k h e = grind (arith, nat_tests, e, h k)
 
 pub lowest_within : (word size : ℕ) → 0 < word → word < 2 ^ 64 → ((k : ℕ) → size ≤ k → in_word word k ≡ false) → trailing_zeros w64 word < size
@@ -83,7 +83,7 @@ lowest_within word size p f h = below_size word size (trailing_zeros w64 word) h
 
 pub lowest_on : (word size : ℕ) → 0 < word → word < 2 ^ 64 → ((k : ℕ) → size ≤ k → in_word word k ≡ false) → first_from (in_word word) 0 size ≡ Some (trailing_zeros w64 word)
 lowest_on word size p f h =
-    first_is (in_word word) 0 size (trailing_zeros w64 word) (grind arith) (below_size word size (trailing_zeros w64 word) h (lowest_lit word p f)) (lowest_lit word p f)
+    first_is (in_word word) 0 size (trailing_zeros w64 word) (omega arith) (omega (arith, lowest_within word size p f h)) (lowest_lit word p f)
     (λ i l. not_on word i ((bit_at-trailing_zeros w64 word p f).2 i l))
 
 pub ruleset word_first = (none_on, lowest_on, lowest_within)

@@ -1,9 +1,8 @@
 //! The events of connections.
-ghost use Rattle.std.specs.Prelude.{◌≡◌, ◌<◌, ◌≤◌, ◌+◌, ◌++◌, ◌∷◌, [], true, false, drop, length, take, IfOk, OnOk};
-ghost use Rattle.edge_model.specs.Hear.{octets_input};
-ghost use Rattle.network_model.specs.Absorb.{idle, taken_all};
-ghost use Rattle.network_model.specs.Connection.{can_connect, connect_event, connected_work, connecting, deliver_event, delivering, hearing_work, is_deliverable, is_drained_pipe, lose_event, losing, restart_event};
-ghost use Rattle.network_model.specs.State.{stands, with_pipe, without_octets_to};
+ghost use Rattle.std.specs.Prelude.{◌≡◌, ◌==◌, ◌<◌, ◌++◌, false, drop, length, take, IfOk, OnOk};
+ghost use Rattle.network_model.specs.Absorb.{idle};
+ghost use Rattle.network_model.specs.Connection.{connect_event, connected_work, connecting, deliver_event, delivering, hearing_work, lose_event, losing, restart_event};
+ghost use Rattle.network_model.specs.State.{with_pipe, without_octets_to};
 ghost use Rattle.provider_edge.specs.Said.{AllFit};
 ghost use Rattle.psn_net.specs.Lists.{HasDriven, HasRoom, HasStepped, Keeps, seen};
 
@@ -29,11 +28,10 @@ impl Parts {
     }
 
     // Both ends come to stand, and then what the edges gave out is on its way.
-    #[tactic(auto, using(crate::proofs::ConnectionLemmas::connect_stepped))]
     fn connect_ends(&mut self, alloc: Global, from: EdgeId, to: EdgeId) -> Result<(), NoMemory>
         requires from { from.0 < length self.old.plan.edges }
         requires to { to.0 < length self.old.plan.edges }
-        requires can { can_connect self.old.plan (seen self.old) from.0 to.0 ≡ true }
+        requires apart { (to.0 == from.0) ≡ false }
         requires room { HasRoom self.old }
         ensures keeps { Keeps self.old self.new }
         ensures step { OnOk result (HasStepped self.old self.new (connecting from (connected_work self.old.plan (seen self.old) from to) to (connected_work self.old.plan (seen self.old) to from) (seen self.old))) }

@@ -1,5 +1,5 @@
 //! What stands, and what may be delivered.
-ghost use Rattle.std.specs.Prelude.{◌≡◌, ◌<◌, ◌≤◌, length, IfSome};
+ghost use Rattle.std.specs.Prelude.{◌≡◌, ◌==◌, ◌<◌, ◌≤◌, true, false, length, IfSome};
 ghost use Rattle.network_model.specs.Connection.{can_connect, is_deliverable, is_drained_pipe};
 ghost use Rattle.network_model.specs.Delivery.{first_from, first_pair};
 ghost use Rattle.network_model.specs.State.{stands};
@@ -26,11 +26,12 @@ impl Parts {
         self.edges[edge.0 as usize].has_end(peer)
     }
 
-    /// The two edges are joined, and neither end of a connection between them stands.
+    /// The two edges are joined, and neither end of a connection between them stands. No segment joins an edge with itself.
     pub fn can_connect(&self, a: EdgeId, b: EdgeId) -> bool
         requires a { a.0 < length self.now.plan.edges }
         requires b { b.0 < length self.now.plan.edges }
-        ensures { result ≡ can_connect self.now.plan (seen self.now) a.0 b.0 }
+        ensures can { result ≡ can_connect self.now.plan (seen self.now) a.0 b.0 }
+        ensures apart { result ≡ true → (b.0 == a.0) ≡ false }
     {
         self.plan.joined(a, b) && (!self.stands(a, b) && !self.stands(b, a))
     }
