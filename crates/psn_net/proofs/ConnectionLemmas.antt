@@ -61,9 +61,9 @@ unjoined plan edge (w ∷ ws) all =
 pub two_joined : (plan : Plan) (a b : ℕ) → IsChecked plan → are_joined plan a b ≡ true → nat_eq b a ≡ false
 two_joined plan a b checked joined = elim (cases_Bool (nat_eq b a)) [
   | inl same ↦
-    let alone : are_joined plan a b ≡ false = ap (λ (k : ℕ). are_joined plan a k) (eqb-true b a same) ∙ unjoined plan a plan.wires checked.wires in
-    let wrong : true ≡ false = sym joined ∙ alone in
-    absurd (cc (wrong))
+      let alone : are_joined plan a b ≡ false = ap (λ (k : ℕ). are_joined plan a k) (eqb-true b a same) ∙ unjoined plan a plan.wires checked.wires in
+      let wrong : true ≡ false = sym joined ∙ alone in
+      absurd (cc (wrong))
   | inr apart ↦ apart
 ]
 

@@ -21,8 +21,8 @@ mod opening;
 
 use crate::NetStop;
 use crate::ledger::Ledger;
-use crate::parts::opening::open_edges;
 use crate::packets::Packets;
+use crate::parts::opening::open_edges;
 use crate::pipes::Pipes;
 use crate::psn_link::PsnLink;
 use edge_model::{Effects, Input};

@@ -67,6 +67,14 @@ fn mark_pair(index: &mut DeliveryIndex, parts: &Parts, me: EdgeId, other: EdgeId
     ensures size { length index.new.rows ≡ length index.old.rows }
     ensures marked { HasMarkedPair parts.now me.0 other.0 index.old index.new }
 {
-    index.put(me.0 as usize, other.0 as usize, parts.is_deliverable(me, other));
-    index.put(other.0 as usize, me.0 as usize, parts.is_deliverable(other, me));
+    index.put(
+        me.0 as usize,
+        other.0 as usize,
+        parts.is_deliverable(me, other),
+    );
+    index.put(
+        other.0 as usize,
+        me.0 as usize,
+        parts.is_deliverable(other, me),
+    );
 }

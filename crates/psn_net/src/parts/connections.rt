@@ -14,7 +14,12 @@ use std::alloc::Global;
 
 impl Parts {
     // Two edges connect.
-    pub(crate) fn connect(&mut self, alloc: Global, from: EdgeId, to: EdgeId) -> Result<(), NoMemory>
+    pub(crate) fn connect(
+        &mut self,
+        alloc: Global,
+        from: EdgeId,
+        to: EdgeId,
+    ) -> Result<(), NoMemory>
         requires from { from.0 < length self.old.plan.edges }
         requires to { to.0 < length self.old.plan.edges }
         requires room { HasRoom self.old }
@@ -103,7 +108,11 @@ impl Parts {
     {
         let bytes = self.pipes.front(from, to, count as usize);
         let mut link = PsnLink::new(alloc);
-        match self.edges[to.0 as usize].take(alloc, Input::Octets { peer: from, bytes }, &mut link) {
+        match self.edges[to.0 as usize].take(
+            alloc,
+            Input::Octets { peer: from, bytes },
+            &mut link,
+        ) {
             Ok(effects) => Ok(effects),
             Err(_) => Err(NoMemory),
         }
