@@ -286,7 +286,7 @@ lost_works told mine peer work own = by (has_end work.edge peer) where
   by true = input_of mine work (happens told peer (table.Closed reason.Closed) work) (happens_works told mine peer (table.Closed reason.Closed) work own)
   by false = idles_input mine work
 
-connects_works : (told : Answers) (mine : ℕ → Bool) (peer : EdgeId) (kept : Peering) (work : Work) → mine peer.0 ≡ true → IsSessionWork mine work (connects told peer kept work)
+pub connects_works : (told : Answers) (mine : ℕ → Bool) (peer : EdgeId) (kept : Peering) (work : Work) → mine peer.0 ≡ true → IsSessionWork mine work (connects told peer kept work)
 connects_works told mine peer kept work own =
     let stands : Work = changes (with_peering peer (Some kept)) work in
     let said : Work = gives (effect.Session peer name.Initialized) stands in

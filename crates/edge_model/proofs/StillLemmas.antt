@@ -1,18 +1,27 @@
 -- An input that does not apply leaves the edge as it is.
-use Rattle.std.proofs.Common.{◌≡◌, ◌+◌, ◌&&◌, ◌∙◌, ℕ, Bool, true, false, List, [], ◌∷◌, Option, Some, None, Result, Ok, Err, cond, not, refl, sym}
+use Rattle.std.proofs.Common.{◌≡◌, ◌+◌, ◌++◌, ◌&&◌, ◌∙◌, ℕ, Bool, true, false, List, [], ◌∷◌, Option, Some, None, Result, Ok, Err, cond, not, slice_get, refl, sym, ap}
 use Rattle.net_base.specs.declared.plan.Plan.{Plan}
 use Rattle.net_base.specs.declared.plan.circuit_plan.CircuitPlan.{CircuitPlan}
+use Rattle.net_base.specs.declared.plan.edge_plan.EdgePlan.{EdgePlan}
 use Rattle.net_base.specs.declared.plan.places.CircuitId.{CircuitId}
+use Rattle.net_base.specs.declared.plan.places.EdgeId.{EdgeId}
 use Rattle.net_base.specs.declared.plan.places.ServiceId.{ServiceId}
 use Rattle.net_base.specs.declared.trace.drop_cause.DropCause.{DropCause}
+use Rattle.net_base.specs.declared.trace.state_name.Reason.TheVariants as reason
+use Rattle.net_base.specs.plan.Paths.{are_joined}
 use Rattle.net_base.specs.trace.Isolated.{inner_at}
 use Rattle.hvpls_spokes.specs.declared.port.Port.{Port}
 use Rattle.hvpls_spokes.specs.declared.port.Port.TheVariants as port
 use Rattle.hvpls_spokes.specs.Port.{ports_of}
+use Rattle.session_core.specs.Table.{Closed}
 use Rattle.edge_model.specs.Circuit.{circuit_input, is_same, turned}
+use Rattle.edge_model.specs.Connection.{connected_input, connects_between, lost_input, opened_with}
 use Rattle.edge_model.specs.Frame.{copies, copy_by, frame_input, hearing, is_own, port_at, received, targets_of}
-use Rattle.edge_model.specs.State.{is_on}
+use Rattle.edge_model.specs.Hear.{octets_input}
+use Rattle.edge_model.specs.Session.{happens}
+use Rattle.edge_model.specs.State.{Peering, has_end, is_on, is_there}
 use Rattle.edge_model.specs.Work.{Answers, Work, changes, gives, idles}
+use Rattle.edge_model.proofs.SessionLemmas.{any, connects_works, happens_works, hears_works}
 
 -- the copies of a frame leave what the input is
 copies_apply : (plan : Plan) (told : Answers) (targets : ℕ → Bool) (frame : List ℕ) (p : ℕ) (ports : List Port) (work : Work) → (copies targets (copy_by plan told frame) p ports work).idle ≡ work.idle
@@ -64,3 +73,52 @@ circuit_still plan circuit on (Some row) work begins idle = by (is_own work.edge
         let wrong : true ≡ false = sym e ∙ begins in
         absurd (cc (wrong))
     by false e = refl
+
+-- ---- connections: an end that stands already, or one that does not
+
+pub connected_still : (plan : Plan) (told : Answers) (peer : EdgeId) (work : Work)
+    → work.idle ≡ false → (connected_input plan told peer work).idle ≡ true → (connected_input plan told peer work).edge ≡ work.edge
+unfolding idles
+connected_still plan told peer work begins idle = by (are_joined plan work.edge.me.0 peer.0 && not (has_end work.edge peer)) idle
+  where
+    between : (first second : Option EdgePlan) → (connects_between told peer first second work).idle ≡ true → (connects_between told peer first second work).edge ≡ work.edge
+    between None second e = refl
+    between (Some first) None e = refl
+    between (Some first) (Some second) e =
+        let wrong : true ≡ false = sym e ∙ ((connects_works told any peer (opened_with first second) work refl).idle ∙ begins) in
+        absurd (cc (wrong))
+
+    by : (b : Bool) → (cond b (connects_between told peer (slice_get plan.edges work.edge.me.0) (slice_get plan.edges peer.0) work) (idles work)).idle ≡ true
+        → (cond b (connects_between told peer (slice_get plan.edges work.edge.me.0) (slice_get plan.edges peer.0) work) (idles work)).edge ≡ work.edge
+    by true e = between (slice_get plan.edges work.edge.me.0) (slice_get plan.edges peer.0) e
+    by false e = refl
+
+pub octets_still : (told : Answers) (peer : EdgeId) (octets : List ℕ) (kept : Option Peering) (work : Work)
+    → work.idle ≡ false → (octets_input told peer octets kept work).idle ≡ true → (octets_input told peer octets kept work).edge ≡ work.edge
+unfolding idles
+octets_still told peer octets None work begins idle = refl
+octets_still told peer octets (Some kept) work begins idle =
+    let wrong : true ≡ false = sym idle ∙ ((hears_works told any peer (kept.held ++ octets) work refl).idle ∙ begins) in
+    absurd (cc (wrong))
+
+pub lost_still : (told : Answers) (peer : EdgeId) (work : Work) → work.idle ≡ false → (lost_input told peer work).idle ≡ true → (lost_input told peer work).edge ≡ work.edge
+unfolding idles
+lost_still told peer work begins idle = by (has_end work.edge peer) idle
+  where
+    by : (b : Bool) → (cond b (happens told peer (Closed reason.Closed) work) (idles work)).idle ≡ true → (cond b (happens told peer (Closed reason.Closed) work) (idles work)).edge ≡ work.edge
+    by true e =
+        let wrong : true ≡ false = sym e ∙ ((happens_works told any peer (Closed reason.Closed) work refl).idle ∙ begins) in
+        absurd (cc (wrong))
+    by false e = refl
+
+-- where the end stands, octets and its loss apply
+pub octets_apply : (told : Answers) (peer : EdgeId) (octets : List ℕ) (work : Work) → has_end work.edge peer ≡ true → (octets_input told peer octets (work.edge.peering peer.0) work).idle ≡ work.idle
+octets_apply told peer octets work stands = by (work.edge.peering peer.0) stands
+  where
+    by : (kept : Option Peering) → is_there kept ≡ true → (octets_input told peer octets kept work).idle ≡ work.idle
+    by None there = absurd (cc (there))
+    by (Some kept) there = (hears_works told any peer (kept.held ++ octets) work refl).idle
+
+pub lost_applies : (told : Answers) (peer : EdgeId) (work : Work) → has_end work.edge peer ≡ true → (lost_input told peer work).idle ≡ work.idle
+lost_applies told peer work stands =
+    ap (λ (b : Bool). (cond b (happens told peer (Closed reason.Closed) work) (idles work)).idle) stands ∙ (happens_works told any peer (Closed reason.Closed) work refl).idle

@@ -25,7 +25,7 @@ use Rattle.edge_model.specs.Work.{Work, Answers, changes, idles}
 
 -- ---- a message in a session that is up
 
--- the status data of an advisory (RFC 5036 sections 3.4.6 and 3.5.1.2.3)
+-- the status data of an advisory (RFC 5036 sections 3.4.6, 3.5.1.2.1, 3.5.1.2.2 and 3.9)
 abbrev pub unknown_message_type : ℕ
 unknown_message_type = 0x04
 

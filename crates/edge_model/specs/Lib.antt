@@ -4,6 +4,7 @@ pub mod Ends
 pub mod Frame
 pub mod Hear
 pub mod Local
+pub mod Parts
 pub mod Put
 pub mod Session
 pub mod State

@@ -11,4 +11,4 @@ mod laws;
 pub use effect::Effect;
 pub use effects::Effects;
 pub use input::Input;
-pub use laws::frames_stay_local;
+pub use laws::{frames_stay_local, heard_in_parts};

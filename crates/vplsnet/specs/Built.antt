@@ -1,25 +1,47 @@
 -- Which accepted scenarios can be run so far.
-use Rattle.std.specs.Prelude.{◌==◌, ◌&&◌, nat_le, Bool, true, false, length}
+use Rattle.std.specs.Prelude.{◌==◌, ◌&&◌, not, ℕ, Bool, true, false, Option, Some, None, length}
 use Rattle.std.specs.List.{list_all}
+use Rattle.net_base.specs.declared.plan.offer.Offer.{Offer}
+use Rattle.net_base.specs.declared.plan.wire_plan.WirePlan.{WirePlan}
+use Rattle.net_base.specs.declared.plan.wire_plan.Class.{Class}
+use Rattle.net_base.specs.declared.plan.wire_plan.Class.TheVariants.{Mesh, Spoke}
 use Rattle.net_base.specs.declared.trace.event.Event.{Event}
-use Rattle.net_base.specs.declared.trace.event.Event.TheVariants.{Tick, Frame, Circuit}
+use Rattle.net_base.specs.declared.trace.event.Event.TheVariants.{Connect, Deliver, Lose, Restart, Tick, Frame, Circuit}
 use Rattle.scenario_text.specs.declared.command.Command.{Command}
-use Rattle.scenario_text.specs.declared.command.Command.TheVariants.{One, Ticks}
+use Rattle.scenario_text.specs.declared.command.Command.TheVariants.{One, Settle, Ticks}
 use Rattle.scenario_text.specs.declared.scenario.Scenario.{Scenario}
 
--- a frame, a tick, or a circuit that is turned
-abbrev pub is_built_event : Event → Bool
-is_built_event Tick = true
-is_built_event (Frame circuit octets) = true
-is_built_event (Circuit circuit on) = true
-is_built_event event = false
+-- an end offers no control channel
+abbrev pub is_built_offer : Option ℕ → Bool
+is_built_offer None = true
+is_built_offer (Some bits) = false
 
-abbrev pub is_built_command : Command → Bool
-is_built_command (One event) = is_built_event event
-is_built_command (Ticks count) = true
-is_built_command command = false
+abbrev pub is_built_class : Class → Bool
+is_built_class Mesh = true
+is_built_class Spoke = false
 
--- one edge at most, no wire, and such commands alone
+-- a mesh wire between two edges, of which neither offers a control channel
+abbrev pub is_built_wire : WirePlan → Bool
+is_built_wire row = (is_built_class row.class && length row.path == 2) && (is_built_offer row.near.vccv && is_built_offer row.far.vccv)
+
+-- connections and what befalls them, ticks, circuits that are turned, and, where there is no wire, frames
+abbrev pub is_built_event : Bool → Event → Bool
+is_built_event wireless (Connect from to) = true
+is_built_event wireless (Deliver from to count) = true
+is_built_event wireless (Lose edge peer) = true
+is_built_event wireless (Restart edge) = true
+is_built_event wireless Tick = true
+is_built_event wireless (Frame circuit octets) = wireless
+is_built_event wireless (Circuit circuit on) = true
+is_built_event wireless event = false
+
+abbrev pub is_built_command : Bool → Command → Bool
+is_built_command wireless (One event) = is_built_event wireless event
+is_built_command wireless (Settle count) = true
+is_built_command wireless (Ticks count) = true
+is_built_command wireless command = false
+
+-- such wires and such commands alone
 abbrev pub is_built : Scenario → Bool
 is_built scenario =
-    (nat_le (length scenario.plan.edges) 1 && length scenario.plan.wires == 0) && list_all is_built_command scenario.commands
+    list_all is_built_wire scenario.plan.wires && list_all (is_built_command (length scenario.plan.wires == 0)) scenario.commands

@@ -5,5 +5,6 @@ mod bridges;
 mod decodings;
 mod files;
 mod replays;
+mod sessions;
 mod shelf;
 mod sink;

@@ -143,14 +143,12 @@ fn ends_with_a_status_and_a_line(rt: HostRuntime) -> Result<(), Fail> {
 
 #[test]
 fn answers_what_is_not_built(rt: HostRuntime) -> Result<(), Fail> {
-    let second_edge = "[[edge]]\nname = \"f\"\naddress = \"10.0.0.2\"";
     for events in [
-        "events = [\"settle 20\"]",
         "events = [\"flow 1\"]",
-        "events = [\"restart e\"]",
         "events = [\"arrive 1\"]",
+        "events = [\"drop 1\"]",
+        "events = [\"again 1\"]",
         "events = [\"play c1 k.pcap\"]",
-        second_edge,
     ] {
         let (finish, sink) = replay(rt.alloc(), "replay f", events, SOUND)?;
         assert!(rt; matches!(finish.outcome, Outcome::NotBuilt), "{events}");

@@ -1,0 +1,39 @@
+-- A joined piece of octets is heard like its two parts in turn: how a connection cuts what is put on it tells nothing (RFC
+-- 5036 section 2.5).
+use Rattle.std.specs.Prelude.{◌≡◌, ◌≤◌, ◌++◌, ℕ, true, false, List, Option, Some, None}
+use Rattle.net_base.specs.declared.plan.Plan.{Plan}
+use Rattle.net_base.specs.declared.plan.places.EdgeId.{EdgeId}
+use Rattle.ldp_grammar.specs.Reading.{AreOctets}
+use Rattle.edge_model.specs.declared.input.Input.{Input}
+use Rattle.edge_model.specs.Hear.{hears, octets_input}
+use Rattle.edge_model.specs.State.{EdgeState, Peering, empty_edge, has_end}
+use Rattle.edge_model.specs.Step.{edge_step}
+use Rattle.edge_model.specs.Work.{Work, Answers}
+
+-- the maximum of the session with a peer, where it stands, is one that a session can have (RFC 5036 section 3.5.3)
+abbrev pub HasFitMaximum : Option Peering → Type 0
+HasFitMaximum None = Unit {0}
+HasFitMaximum (Some kept) = kept.session.max_pdu ≤ 4096
+
+-- so it is with each of an edge's sessions
+abbrev pub SessionsFit : EdgeState → Type 0
+SessionsFit edge = (k : ℕ) → HasFitMaximum (edge.peering k)
+
+-- Whatever the link answers, and whatever the maximum becomes between two PDUs.
+pub record HeardInParts : Type 0 where
+  -- what is left of the first part is held, and stands in front of the second
+  pub goes_on : (told : Answers) (peer : EdgeId) (octets more : List ℕ) (work : Work) → AreOctets (octets ++ more) → HasFitMaximum (work.edge.peering peer.0)
+      → has_end (hears told peer octets work).edge peer ≡ true
+      → hears told peer (octets ++ more) work ≡ octets_input told peer more ((hears told peer octets work).edge.peering peer.0) (hears told peer octets work)
+  -- where the session ended in the first part, the second is given up
+  pub gives_up : (told : Answers) (peer : EdgeId) (octets more : List ℕ) (work : Work) → AreOctets (octets ++ more) → HasFitMaximum (work.edge.peering peer.0)
+      → has_end (hears told peer octets work).edge peer ≡ false
+      → hears told peer (octets ++ more) work ≡ hears told peer octets work
+  -- the same of inputs, where octets may be held already
+  pub as_inputs : (told : Answers) (peer : EdgeId) (octets more : List ℕ) (kept : Peering) (work : Work) → AreOctets (kept.held ++ (octets ++ more)) → HasFitMaximum (work.edge.peering peer.0)
+      → has_end (octets_input told peer octets (Some kept) work).edge peer ≡ true
+      → octets_input told peer (octets ++ more) (Some kept) work
+      ≡ octets_input told peer more ((octets_input told peer octets (Some kept) work).edge.peering peer.0) (octets_input told peer octets (Some kept) work)
+  -- each edge that comes about has such sessions
+  pub begins : (me : EdgeId) → SessionsFit (empty_edge me)
+  pub keeps : (plan : Plan) (told : Answers) (input : Input) (work : Work) → SessionsFit work.edge → SessionsFit (edge_step plan told input work).edge

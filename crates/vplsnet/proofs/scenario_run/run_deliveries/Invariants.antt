@@ -1,0 +1,12 @@
+use Rattle.std.proofs.Common.{◌≡◌, ◌-◌}
+use Rattle.psn_net.specs.Lists.{seen}
+use Rattle.psn_net.specs.Runs.{ran}
+use Rattle.vplsnet.specs.Made.{deliveries}
+use Rattle.vplsnet.proofs.scenario_run.run_deliveries.Given as goal
+
+abbrev pub invariant-loop-done : goal.invariant-loop-done
+invariant-loop-done l = record {
+  plan : l.network.plan ≡ l.fn.network.plan;
+  ran : ran l.fn.network.plan (seen l.network) l.network.trace (deliveries l.fn.network.plan (l.count - l._done) (seen l.network))
+      ≡ ran l.fn.network.plan (seen l.fn.network) l.fn.network.trace (deliveries l.fn.network.plan l.count (seen l.fn.network));
+}
