@@ -1,5 +1,6 @@
 //! Runs of small networks, and of the largest one that the limit lets be.
-ghost use Rattle.std.specs.Prelude.{◌≤◌};
+ghost use Rattle.std.specs.Prelude.{◌≤◌, ◌<◌, length, IfOk, IfSome};
+ghost use Rattle.net_base.specs.plan.Planned.{IsEventOf};
 
 use crate::{NetStop, Network};
 use net_base::{
@@ -143,68 +144,96 @@ fn turn_off(alloc: Global, network: &mut Network) -> Result<Result<(), NetStop>,
     Ok(network.apply(alloc, &event))
 }
 
-// An event of the two edges; the edges that it names are in the plan.
-fn happen(alloc: Global, network: &mut Network, event: Event) -> Result<bool, Fail> {
-    if network.plan().edges.len() != 2 {
-        return Err(Fail::new("two edges"));
+/// What a test has a network do.
+#[derive(Clone, Copy, Debug)]
+enum Step {
+    Connect { from: u16, to: u16 },
+    Deliver { from: u16, to: u16, count: u16 },
+    Lose { edge: u16, peer: u16 },
+    Restart { edge: u16 },
+    /// Whatever is on its way is delivered.
+    Settle,
+}
+
+// An edge of the network's plan.
+fn edge(network: &Network, place: u16) -> Result<EdgeId, Fail>
+    ensures { IfOk result (λ id. id.0 < length network.now.plan.edges) }
+{
+    if usize::from(place) < network.plan().edges.len() {
+        return Ok(EdgeId(place));
     }
-    let known = match &event {
-        Event::Connect { from, to } | Event::Deliver { from, to, .. } => from.0 < 2 && to.0 < 2,
-        Event::Lose { edge, peer } => edge.0 < 2 && peer.0 < 2,
-        Event::Restart { edge } => edge.0 < 2,
-        _ => false,
-    };
-    if !known {
-        return Err(Fail::new("an event of two edges"));
-    }
-    Ok(network.apply(alloc, &event).is_ok())
+    Err(Fail::new("no such edge"))
 }
 
-// So many octets are delivered.
-fn deliver(
-    alloc: Global,
-    network: &mut Network,
-    from: u16,
-    to: u16,
-    count: u16,
-) -> Result<bool, Fail> {
-    let event = Event::Deliver {
-        from: EdgeId(from),
-        to: EdgeId(to),
-        count,
-    };
-    happen(alloc, network, event)
+// The event of a step; none where it is a settling.
+fn event_of(network: &Network, step: Step) -> Result<Option<Event>, Fail>
+    ensures { IfOk result (λ event. IfSome event (IsEventOf network.now.plan)) }
+{
+    Ok(match step {
+        Step::Connect { from, to } => Some(Event::Connect {
+            from: edge(network, from)?,
+            to: edge(network, to)?,
+        }),
+        Step::Deliver { from, to, count } => Some(Event::Deliver {
+            from: edge(network, from)?,
+            to: edge(network, to)?,
+            count,
+        }),
+        Step::Lose { edge: me, peer } => Some(Event::Lose {
+            edge: edge(network, me)?,
+            peer: edge(network, peer)?,
+        }),
+        Step::Restart { edge: me } => Some(Event::Restart {
+            edge: edge(network, me)?,
+        }),
+        Step::Settle => None,
+    })
 }
 
-// The first edge connects with the second one.
-fn connect(alloc: Global, network: &mut Network) -> Result<bool, Fail> {
-    let event = Event::Connect {
-        from: EdgeId(0),
-        to: EdgeId(1),
-    };
-    happen(alloc, network, event)
-}
-
-// Whatever is on its way is delivered, in at most 20 events; how many there were.
-fn settle(alloc: Global, network: &mut Network) -> Result<u32, Fail> {
-    for done in 0..20 {
+// Delivers whatever is on its way, in at most 20 events.
+fn settle(alloc: Global, network: &mut Network) -> Result<(), Fail> {
+    for _done in 0..20 {
         match network.next_delivery() {
             Some(event) => {
                 if network.apply(alloc, &event).is_err() {
                     return Err(Fail::new("stopped"));
                 }
             }
-            None => return Ok(done),
+            None => return Ok(()),
         }
     }
-    Ok(20)
+    Ok(())
 }
 
-// The state of the first edge's session and that of the second one's.
-fn are_in(network: &Network, first: StateName, second: StateName) -> bool {
-    match (network.edge(EdgeId(0)), network.edge(EdgeId(1))) {
-        (Some(a), Some(b)) => a.session(EdgeId(1)) == first && b.session(EdgeId(0)) == second,
-        _ => false,
+// Does a step.
+fn play_one(alloc: Global, network: &mut Network, step: Step) -> Result<(), Fail> {
+    match event_of(network, step)? {
+        Some(event) => match network.apply(alloc, &event) {
+            Ok(()) => Ok(()),
+            Err(_) => Err(Fail::new("stopped")),
+        },
+        None => settle(alloc, network),
+    }
+}
+
+// The network of two joined edges after these steps.
+fn played(alloc: Global, steps: &[Step]) -> Result<Network, Fail> {
+    let mut network = network_of(alloc, joined_plan(alloc)?)?;
+    for step in steps {
+        play_one(alloc, &mut network, *step)?;
+    }
+    Ok(network)
+}
+
+// A letter for a state of a session.
+fn letter_of(state: StateName) -> char {
+    match state {
+        StateName::Initialized => '0',
+        StateName::OpenSent => '1',
+        StateName::OpenRec => '2',
+        StateName::Operational => '3',
+        StateName::Ended(Reason::Closed) => 'c',
+        _ => '?',
     }
 }
 
@@ -212,20 +241,6 @@ fn are_in(network: &Network, first: StateName, second: StateName) -> bool {
 fn says(network: &Network, place: usize, edge: u16, octets: &[u8]) -> bool {
     match network.trace().get(place) {
         Some(Entry::Said { from, bytes, .. }) => from.0 == edge && bytes.as_slice() == octets,
-        _ => false,
-    }
-}
-
-// The last entry tells that the session of an edge has ended, since its connection was lost.
-fn has_closed(network: &Network, edge: u16) -> bool {
-    match network.trace().as_slice().last() {
-        Some(
-            Entry::Session {
-                edge: at,
-                state,
-                ..
-            },
-        ) => { at.0 == edge && *state == StateName::Ended(Reason::Closed) }
         _ => false,
     }
 }
@@ -238,7 +253,7 @@ fn kinds(alloc: Global, network: &Network) -> Result<String, Fail> {
             Entry::Did { .. } => '>',
             Entry::Idle => 'i',
             Entry::Said { .. } => 's',
-            Entry::Session { .. } => 'e',
+            Entry::Session { state, .. } => letter_of(*state),
             Entry::In { .. } => 'n',
             Entry::Left { .. } => 'l',
             Entry::Dropped { .. } => 'd',
@@ -289,14 +304,13 @@ fn does_frames_circuits_and_ticks(rt: HostRuntime) -> Result<(), Fail> {
 #[test]
 fn sets_a_session_up(rt: HostRuntime) -> Result<(), Fail> {
     let alloc = rt.alloc();
-    let mut network = network_of(alloc, joined_plan(alloc)?)?;
-    assert!(rt; network.next_delivery().is_none());
-    assert!(rt; connect(alloc, &mut network)?);
-    assert!(rt; connect(alloc, &mut network)?);
-    assert!(rt; are_in(&network, StateName::Initialized, StateName::OpenSent));
-    assert_eq!(rt; settle(alloc, &mut network)?, 3);
-    assert!(rt; are_in(&network, StateName::Operational, StateName::Operational));
-    assert_eq!(rt; kinds(alloc, &network)?.as_str(), ">eese>i>sse>see>e");
+    let steps = [
+        Step::Connect { from: 0, to: 1 },
+        Step::Connect { from: 1, to: 0 },
+        Step::Settle,
+    ];
+    let network = played(alloc, steps.as_slice())?;
+    assert_eq!(rt; kinds(alloc, &network)?.as_str(), ">00s1>i>ss2>s23>3");
     assert!(rt; says(&network, 3, 1, SECOND_OPENS.as_slice()));
     assert!(rt; says(&network, 8, 0, FIRST_OPENS.as_slice()));
     assert!(rt; says(&network, 9, 0, FIRST_LIVES.as_slice()));
@@ -307,31 +321,46 @@ fn sets_a_session_up(rt: HostRuntime) -> Result<(), Fail> {
 #[test]
 fn loses_a_connection_within_a_message(rt: HostRuntime) -> Result<(), Fail> {
     let alloc = rt.alloc();
-    let mut network = network_of(alloc, joined_plan(alloc)?)?;
-    assert!(rt; connect(alloc, &mut network)?);
-    assert!(rt; deliver(alloc, &mut network, 1, 0, 36)?);
-    assert!(rt; deliver(alloc, &mut network, 0, 1, 40)?);
+    let steps = [
+        Step::Connect { from: 0, to: 1 },
+        Step::Deliver {
+            from: 1,
+            to: 0,
+            count: 36,
+        },
+        Step::Deliver {
+            from: 0,
+            to: 1,
+            count: 40,
+        },
+        Step::Lose { edge: 0, peer: 1 },
+        Step::Deliver {
+            from: 1,
+            to: 0,
+            count: 18,
+        },
+        Step::Settle,
+        Step::Connect { from: 0, to: 1 },
+        Step::Settle,
+    ];
+    let network = played(alloc, steps.as_slice())?;
     assert_eq!(rt;
-        network.edge(EdgeId(1)).ok_or("an edge")?.held(EdgeId(0)),
-        4
+        kinds(alloc, &network)?.as_str(),
+        ">00s1>ss2>s2>c>i>3>c>00s1>ss2>s23>3"
     );
-    let lost = Event::Lose {
-        edge: EdgeId(0),
-        peer: EdgeId(1),
-    };
-    assert!(rt; happen(alloc, &mut network, lost)?);
-    assert!(rt; has_closed(&network, 0));
-    assert!(rt; deliver(alloc, &mut network, 1, 0, 18)?);
-    assert!(rt; are_in(&network, StateName::NonExistent, StateName::OpenRec));
-    assert_eq!(rt; settle(alloc, &mut network)?, 2);
-    assert!(rt; has_closed(&network, 1));
-    assert!(rt; connect(alloc, &mut network)?);
-    assert_eq!(rt; settle(alloc, &mut network)?, 3);
-    assert!(rt; are_in(&network, StateName::Operational, StateName::Operational));
-    assert!(rt; happen(alloc, &mut network, Event::Restart { edge: EdgeId(1) })?);
-    assert!(rt; are_in(&network, StateName::Operational, StateName::NonExistent));
-    assert_eq!(rt; settle(alloc, &mut network)?, 1);
-    assert!(rt; has_closed(&network, 0));
-    assert!(rt; network.next_delivery().is_none());
+    Ok(())
+}
+
+#[test]
+fn restarts_an_edge(rt: HostRuntime) -> Result<(), Fail> {
+    let alloc = rt.alloc();
+    let steps = [
+        Step::Connect { from: 0, to: 1 },
+        Step::Restart { edge: 1 },
+        Step::Lose { edge: 1, peer: 0 },
+        Step::Settle,
+    ];
+    let network = played(alloc, steps.as_slice())?;
+    assert_eq!(rt; kinds(alloc, &network)?.as_str(), ">00s1>>i>ss2>c");
     Ok(())
 }
