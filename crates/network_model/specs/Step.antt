@@ -12,7 +12,7 @@ use Rattle.network_model.specs.Frame.{frame_event}
 use Rattle.network_model.specs.State.{NetworkState}
 use Rattle.network_model.specs.Tick.{tick_event}
 
--- one definition an event. Those of the other events are to come; no scenario that is run makes them yet
+-- One definition an event. Those of packets, wires and pings are to come; no scenario that is run makes them yet
 abbrev pub brings : Plan → Event → NetworkState → Stepped
 brings plan (Connect from to) network = connect_event plan from to network
 brings plan (Deliver from to count) network = deliver_event from to count network

@@ -1,3 +1,4 @@
+pub mod AddressLemmas
 pub mod AnswerLemmas
 pub mod FileLemmas
 pub mod MadeLemmas

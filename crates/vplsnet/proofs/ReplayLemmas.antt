@@ -4,6 +4,8 @@ use Rattle.net_base.specs.declared.plan.Plan.{Plan}
 use Rattle.net_base.specs.declared.trace.event.Event.{Event}
 use Rattle.net_base.specs.plan.Accepted.{IsChecked}
 use Rattle.network_model.specs.State.{empty_network}
+use Rattle.flight_model.specs.Ends.{HasAddresses}
+use Rattle.flight_model.proofs.RunLemmas.{runs_come_up, runs_end_well, runs_follow_table}
 use Rattle.network_model.proofs.IsolatedLemmas.{run_isolated}
 use Rattle.network_model.proofs.SplitLemmas.{run_split}
 use Rattle.network_model.proofs.KnownLemmas.{run_serves_known_once}
@@ -19,12 +21,15 @@ use Rattle.vplsnet.specs.Built.{is_built}
 use Rattle.vplsnet.specs.Promises.{KeepsPromises}
 use Rattle.vplsnet.specs.Replay.{HasRunAs, IsReplay, Replays, events_of, outcome_by}
 
-promises_kept : (plan : Plan) (events : List Event) → IsChecked plan → KeepsPromises plan events
-promises_kept plan events checked = record {
+promises_kept : (plan : Plan) (events : List Event) → IsChecked plan → HasAddresses plan → KeepsPromises plan events
+promises_kept plan events checked addressed = record {
   isolated = run_isolated plan events checked;
   split = run_split plan events checked;
   once = run_serves_once plan events checked;
   known = run_serves_known_once plan events checked;
+  table = λ before after joined a b. runs_follow_table plan before checked addressed a b;
+  up = λ before after joined a b. runs_come_up plan before checked addressed a b;
+  endings = runs_end_well plan events checked addressed;
 }
 
 is_replay : (octets text : List ℕ) (scenario : Scenario) (network : Option NetLists) (outcome : Outcome) → document octets ≡ Ok scenario → is_built scenario ≡ true → IsChecked scenario.plan
@@ -43,7 +48,7 @@ is_replay octets text scenario network outcome reads built checked has =
       state_is = run.ran.state_is;
       trace_is = run.ran.trace_is;
       text_is = has.text_is;
-      promises = promises_kept scenario.plan run.done checked;
+      promises = promises_kept scenario.plan run.done checked has.addressed;
     }
 
 by_outcome : (octets text : List ℕ) (network : Option NetLists) (reason : Option NetStop) → IsReplay octets text network reason → Replays octets text network (outcome_by reason)

@@ -2,6 +2,7 @@
 use Rattle.std.specs.Prelude.{◌≡◌, ◌≢◌, ℕ, Bool, true, false, List, [], Option, Some, None, Result, Ok, Err}
 use Rattle.net_base.specs.declared.plan.Plan.{Plan}
 use Rattle.net_base.specs.declared.trace.event.Event.{Event}
+use Rattle.flight_model.specs.Ends.{HasAddresses}
 use Rattle.network_model.specs.Run.{run, state_after}
 use Rattle.network_model.specs.State.{empty_network}
 use Rattle.psn_net.specs.declared.net_stop.NetStop.{NetStop}
@@ -104,3 +105,4 @@ pub record HasRunAs (scenario : Scenario) (text : List ℕ) (network : Option Ne
   pub outcome_is : outcome ≡ outcome_by reason
   pub ends : ended left reason ≡ whole_run scenario
   pub text_is : text ≡ report scenario.plan left.trace (ending_by reason)
+  pub addressed : HasAddresses scenario.plan

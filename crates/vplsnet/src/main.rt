@@ -3,6 +3,7 @@
 
 ghost use Rattle.std.specs.Prelude.{◌≢◌};
 
+mod addresses;
 mod answer;
 mod built;
 mod decode;

@@ -7,6 +7,7 @@ ghost use Rattle.scenario_text.specs.Planned.{IsPlanned};
 ghost use Rattle.vplsnet.specs.Built.{is_built};
 ghost use Rattle.vplsnet.specs.Replay.{HasRunAs, Replays, ending_by, outcome_by};
 
+use crate::addresses::see_addresses;
 use crate::answer::Answer;
 use crate::built::is_built_scenario;
 use crate::outcome::Outcome;
@@ -42,6 +43,7 @@ fn replay_built(alloc: Global, scenario: &Scenario) -> Result<Answer, NoMemory>
     requires planned { All (IsPlanned scenario.now.plan) scenario.now.commands }
     ensures { IfOk result (λ answer. HasRunAs scenario.now answer.text.items answer.network answer.outcome) }
 {
+    see_addresses(scenario.plan.edges.as_slice());
     let (network, stop) = run_of(alloc, scenario)?;
     let text = report_of(
         alloc,

@@ -61,7 +61,7 @@ fn run_deliveries(alloc: Global, network: &mut Network, count: u32) -> Result<()
     ensures plan { network.new.plan ≡ network.old.plan }
     ensures ran { Gives result network.new (ran network.old.plan (seen network.old) network.old.trace (deliveries network.old.plan count (seen network.old))) }
 {
-    for _done in 0..count {
+    for _turn in 0..count {
         match network.next_delivery() {
             Some(event) => apply(alloc, network, &event)?,
             None => return Ok(()),

@@ -4,9 +4,9 @@ use Rattle.psn_net.specs.Runs.{ran}
 use Rattle.vplsnet.specs.Made.{deliveries}
 use Rattle.vplsnet.proofs.scenario_run.run_deliveries.Given as goal
 
-abbrev pub invariant-loop-done : goal.invariant-loop-done
-invariant-loop-done l = record {
+abbrev pub invariant-loop-turn : goal.invariant-loop-turn
+invariant-loop-turn l = record {
   plan : l.network.plan ≡ l.fn.network.plan;
-  ran : ran l.fn.network.plan (seen l.network) l.network.trace (deliveries l.fn.network.plan (l.count - l._done) (seen l.network))
+  ran : ran l.fn.network.plan (seen l.network) l.network.trace (deliveries l.fn.network.plan (l.count - l._turn) (seen l.network))
       ≡ ran l.fn.network.plan (seen l.fn.network) l.fn.network.trace (deliveries l.fn.network.plan l.count (seen l.fn.network));
 }

@@ -1,0 +1,135 @@
+-- Every run of a checked plan keeps the network in order, and what follows.
+use Rattle.std.proofs.Common.{◌≡◌, ◌∙◌, ℕ, Bool, true, false, not, nat_eq, List, [], ◌∷◌, Option, Some, None, refl, sym, ap, inl, inr}
+use Rattle.std.proofs.lemmas.Bool.{cases_Bool, eqb-true}
+use Rattle.net_base.specs.declared.plan.Plan.{Plan}
+use Rattle.net_base.specs.declared.values.addr.Addr.{Addr}
+use Rattle.net_base.specs.declared.trace.event.Event.{Event}
+use Rattle.net_base.specs.declared.trace.event.Event.TheVariants.{Connect, Deliver, Lose, Restart, Tick, Frame, Circuit}
+use Rattle.net_base.specs.plan.Accepted.{IsChecked}
+use Rattle.net_base.specs.plan.Places.{circuit_row}
+use Rattle.ldp_grammar.specs.declared.message.Message.{Message}
+use Rattle.session_core.specs.State.{is_active}
+use Rattle.session_core.proofs.LawLemmas.{ends_agree}
+use Rattle.edge_model.specs.State.{Peering, is_there}
+use Rattle.network_model.specs.Run.{entries_along, state_after}
+use Rattle.network_model.specs.State.{NetworkState, empty_network, stands}
+use Rattle.network_model.specs.Step.{brings, step}
+use Rattle.flight_model.specs.Endings.{TellGoodEnds}
+use Rattle.flight_model.specs.Ends.{HasAddresses, IsOrdered, KeepsOrder, ends_at}
+use Rattle.flight_model.specs.Facts.{flight}
+use Rattle.flight_model.specs.Flight.{is_row}
+use Rattle.flight_model.specs.Laws.{BothStand, FollowsTable, HasRow, IsStill, IsUp, RunsComeUp, RunsEndWell, RunsFollowTable, network_after}
+use Rattle.flight_model.specs.Messages.{octets_of_all}
+use Rattle.flight_model.specs.Pair.{ArePaired}
+use Rattle.flight_model.proofs.CircuitLemmas.{circuit_keeps, frame_keeps}
+use Rattle.flight_model.proofs.ConnectLemmas.{connect_keeps}
+use Rattle.flight_model.proofs.EventLemmas.{deliver_keeps, lose_keeps, restart_keeps, tick_keeps}
+use Rattle.flight_model.proofs.PipeLemmas.{good-append}
+use Rattle.flight_model.proofs.RowLemmas.{clash, quiet}
+
+-- ---- order
+
+brings_keeps : (plan : Plan) (event : Event) (network : NetworkState) → IsChecked plan → HasAddresses plan → IsOrdered plan network → KeepsOrder plan (brings plan event network)
+brings_keeps plan (Connect from to) network checked addresses ordered = connect_keeps plan from to network checked addresses ordered
+brings_keeps plan (Deliver from to count) network checked addresses ordered = deliver_keeps plan from to count network ordered
+brings_keeps plan (Lose me peer) network checked addresses ordered = lose_keeps plan me peer network ordered
+brings_keeps plan (Restart me) network checked addresses ordered = restart_keeps plan me network ordered
+brings_keeps plan Tick network checked addresses ordered = tick_keeps plan network ordered
+brings_keeps plan (Frame circuit octets) network checked addresses ordered = frame_keeps plan circuit octets (circuit_row plan circuit) network ordered
+brings_keeps plan (Circuit circuit on) network checked addresses ordered = circuit_keeps plan circuit on (circuit_row plan circuit) network ordered
+brings_keeps plan event network checked addresses ordered = record { ordered = ordered; good = tt }
+
+step_keeps : (plan : Plan) (event : Event) (network : NetworkState) → IsChecked plan → HasAddresses plan → IsOrdered plan network → KeepsOrder plan (step plan network event)
+step_keeps plan event network checked addresses ordered =
+    let kept = brings_keeps plan event network checked addresses ordered in
+    record { ordered = kept.ordered; good = (tt, kept.good) }
+
+after_ordered : (plan : Plan) (events : List Event) (network : NetworkState) → IsChecked plan → HasAddresses plan → IsOrdered plan network → IsOrdered plan (state_after plan network events)
+after_ordered plan [] network checked addresses ordered = ordered
+after_ordered plan (e ∷ es) network checked addresses ordered = after_ordered plan es (step plan network e).state checked addresses (step_keeps plan e network checked addresses ordered).ordered
+
+along_good : (plan : Plan) (events : List Event) (network : NetworkState) → IsChecked plan → HasAddresses plan → IsOrdered plan network → TellGoodEnds (entries_along plan network events)
+along_good plan [] network checked addresses ordered = tt
+along_good plan (e ∷ es) network checked addresses ordered =
+    let kept = step_keeps plan e network checked addresses ordered in
+    good-append (step plan network e).entries (entries_along plan (step plan network e).state es) kept.good (along_good plan es (step plan network e).state checked addresses kept.ordered)
+
+empty_ordered : (plan : Plan) → IsOrdered plan empty_network
+empty_ordered plan = record {
+  two = λ a b apart. record { messages = []; answers = []; out_is = refl; back_is = refl; talk = record { said = tt; answered = tt; here = tt; there = tt; steps = refl } };
+  alone = λ a. refl;
+  placed = λ a. refl;
+}
+
+pub run_ordered : (plan : Plan) (events : List Event) → IsChecked plan → HasAddresses plan → IsOrdered plan (network_after plan events)
+run_ordered plan events checked addresses = after_ordered plan events empty_network checked addresses (empty_ordered plan)
+
+-- ---- the laws
+
+both_apart : (plan : Plan) (network : NetworkState) (a b : ℕ) → IsOrdered plan network → stands network a b ≡ true → nat_eq a b ≡ false
+both_apart plan network a b ordered up = elim (cases_Bool (nat_eq a b)) [
+  | inl same ↦ clash (ap (λ (o : Option Peering). is_there o) (sym (ordered.alone a)) ∙ ap (λ (k : ℕ). stands network a k) (eqb-true a b same) ∙ up)
+  | inr apart ↦ apart
+]
+
+follows : (plan : Plan) (network : NetworkState) (a b : ℕ) (near far : Option Peering) → (network.edges a).peering b ≡ near → (network.edges b).peering a ≡ far → is_there near ≡ true → is_there far ≡ true
+    → ArePaired (ends_at plan a b) (ends_at plan b a) near far (flight network a b) (flight network b a) → FollowsTable plan network a b
+follows plan network a b None far is is' up up' pair = clash up
+follows plan network a b (Some x) None is is' up up' pair = clash up'
+follows plan network a b (Some x) (Some y) is is' up up' pair = record {
+  one_active = ends_agree.one_active (ends_at plan a b) (ends_at plan b a) pair.talk.here.between.facing pair.talk.here.between.one.me pair.talk.here.between.one.peer pair.talk.here.between.one.proper;
+  in_row = λ active. record {
+    active = x;
+    passive = y;
+    active_is = is;
+    passive_is = is';
+    out = pair.messages;
+    back = pair.answers;
+    out_is = pair.out_is;
+    back_is = pair.back_is;
+    said = pair.talk.said;
+    answered = pair.talk.answered;
+    row = rw active at pair.talk.steps;
+  };
+}
+
+follows_table : (plan : Plan) (network : NetworkState) (a b : ℕ) → IsOrdered plan network → BothStand network a b → FollowsTable plan network a b
+follows_table plan network a b ordered both =
+    follows plan network a b ((network.edges a).peering b) ((network.edges b).peering a) refl refl both.one both.other (ordered.two a b (both_apart plan network a b ordered both.one))
+
+pub runs_follow_table : RunsFollowTable
+runs_follow_table plan events checked addresses a b both = follows_table plan (network_after plan events) a b (run_ordered plan events checked addresses) both
+
+pub runs_end_well : RunsEndWell
+runs_end_well plan events checked addresses = along_good plan events empty_network checked addresses (empty_ordered plan)
+
+-- messages have octets
+none_said : (router : Addr) (ms : List Message) → [] ≡ octets_of_all router ms → ms ≡ []
+none_said router [] e = refl
+none_said router (m ∷ ms) e = absurd (cc)
+
+row_up : (plan : Plan) (network : NetworkState) (a b : ℕ) → IsStill network a b → HasRow plan network a b → IsUp network a b × IsUp network b a
+row_up plan network a b still has =
+    let out : has.out ≡ [] = none_said (ends_at plan a b).me has.out (sym still.out ∙ has.out_is) in
+    let back : has.back ≡ [] = none_said (ends_at plan b a).me has.back (sym still.back ∙ has.back_is) in
+    let row : is_row has.active.session.phase has.passive.session.phase [] [] ≡ true = rw (out, back) at has.row in
+    let up = quiet has.active.session.phase has.passive.session.phase row in
+    (record { kept = has.active; is = has.active_is; up = up.0 }, record { kept = has.passive; is = has.passive_is; up = up.1 })
+
+pub runs_come_up : RunsComeUp
+runs_come_up plan events checked addresses a b still = by_side (is_active (ends_at plan a b)) refl where
+  network : NetworkState
+  network = network_after plan events
+
+  one : FollowsTable plan network a b
+  one = runs_follow_table plan events checked addresses a b still.both
+
+  turned_still : IsStill network b a
+  turned_still = record { both = record { one = still.both.other; other = still.both.one }; out = still.back; back = still.out }
+
+  other : FollowsTable plan network b a
+  other = runs_follow_table plan events checked addresses b a turned_still.both
+
+  by_side : (active : Bool) → is_active (ends_at plan a b) ≡ active → IsUp network a b × IsUp network b a
+  by_side true is = row_up plan network a b still (one.in_row is)
+  by_side false is = (let both = row_up plan network b a turned_still (other.in_row (one.one_active ∙ ap (λ (x : Bool). not x) is)) in (both.1, both.0))

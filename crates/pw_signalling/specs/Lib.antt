@@ -1,0 +1,5 @@
+pub mod AnyEnd
+pub mod Down
+pub mod End
+pub mod Laws
+pub mod Rows
