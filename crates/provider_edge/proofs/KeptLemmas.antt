@@ -19,7 +19,7 @@ use Rattle.mac_table.specs.Addresses.{NoneAfter, is_young}
 use Rattle.mac_table.proofs.AddressLemmas.{none_after_filtered, none_after_later}
 use Rattle.vsi_bridge.specs.BridgeState.{BridgeState}
 use Rattle.edge_model.specs.Frame.{port_forwards}
-use Rattle.edge_model.specs.State.{EdgeState, addresses_of, empty_edge, put_at, with_addresses, with_circuit, with_learned}
+use Rattle.edge_model.specs.State.{EdgeState, Peering, addresses_of, empty_edge, put_at, with_addresses, with_circuit, with_learned}
 use Rattle.edge_model.specs.Tick.{aged, forgetting}
 use Rattle.provider_edge.specs.declared.domain.Domain.{Domain}
 use Rattle.provider_edge.specs.Domain.{IsDomain, IsKept, IsNew, AreNew, aged_domain, aged_kept, is_found, KeptNotAfter}
@@ -48,7 +48,7 @@ kept_same plan a b service (Some domain) me on time is = domain_same plan a b se
 
 pub seen_put : (e : EdgeLists) (service : ServiceId) (domain : Domain) → service.0 < length e.domains → seen (record e { domains = slice_set e.domains service.0 (Some domain) }) ≡ with_addresses service domain.bridge.entries (seen e)
 unfolding seen with_addresses
-seen_put e service domain within = λ i. record { me = e.me; circuit_on = view true e.circuits_on; learned = λ k. learned k i; ticks = e.ticks; peering = λ peer. None }
+seen_put e service domain within = λ i. record { me = e.me; circuit_on = view true e.circuits_on; learned = λ k. learned k i; ticks = e.ticks; peering = view None e.peerings }
   where
     chosen : (b : Bool) (other : Option Domain) → entries_of (cond b (Some domain) other) ≡ cond b domain.bridge.entries (entries_of other)
     chosen true other = refl
@@ -63,8 +63,9 @@ edge_put e service domain is within here =
     let place : service.0 < length e.domains = omega (arith, is.services) in
     let now : EdgeLists = record e { domains = slice_set e.domains service.0 (Some domain) } in
     record {
-      planned = is.planned;
+      checked = is.checked;
       circuits = is.circuits;
+      peerings = is.peerings;
       services = length-set e.domains service.0 (Some domain) ∙ is.services;
       domains = λ k below. elim (cases_Bool (nat_eq k service.0)) [
         | inl same ↦
@@ -82,8 +83,9 @@ edge_put e service domain is within here =
 pub edge_later : (e : EdgeLists) (now : ℕ) → e.ticks ≤ now → IsEdge e → IsEdge (record e { ticks = now })
 unfolding seen
 edge_later e now time is = record {
-  planned = is.planned;
+  checked = is.checked;
   circuits = is.circuits;
+  peerings = is.peerings;
   services = is.services;
   domains = λ k below. kept_same e.plan (seen e) (seen (record e { ticks = now })) (record { 0 = k }) (view None e.domains k) refl refl time (is.domains k below);
 }
@@ -108,8 +110,9 @@ kept_aged plan a b service (Some domain) me on time is = record {
 pub edge_aged : (e : EdgeLists) → IsEdge e → IsEdge (record e { domains = map (aged_kept e.ticks) e.domains })
 unfolding seen
 edge_aged e is = record {
-  planned = is.planned;
+  checked = is.checked;
   circuits = is.circuits;
+  peerings = is.peerings;
   services = length-map e.domains (aged_kept e.ticks) ∙ is.services;
   domains = λ k below.
       subst (λ (kept : Option Domain). IsKept e.plan (seen (record e { domains = map (aged_kept e.ticks) e.domains })) (record { 0 = k }) kept) (sym (view_aged e.ticks e.domains k))
@@ -135,7 +138,7 @@ entries_aged plan edge service (Some domain) (Some row) at past is = ap (λ (n :
 
 pub seen_aged : (e : EdgeLists) → IsEdge e → seen (record e { domains = map (aged_kept e.ticks) e.domains }) ≡ forgetting e.plan (seen e)
 unfolding seen with_learned
-seen_aged e is = λ i. record { me = e.me; circuit_on = view true e.circuits_on; learned = λ k. learned k i; ticks = e.ticks; peering = λ peer. None }
+seen_aged e is = λ i. record { me = e.me; circuit_on = view true e.circuits_on; learned = λ k. learned k i; ticks = e.ticks; peering = view None e.peerings }
   where
     within : (k : ℕ) (row : Option ServicePlan) → slice_get e.plan.services k ≡ row → entries_of (aged_kept e.ticks (view None e.domains k)) ≡ aged e.ticks row (entries_of (view None e.domains k))
     within k None at =
@@ -170,8 +173,13 @@ all_on zero k = refl
 all_on (suc n) zero = refl
 all_on (suc n) (suc k) = all_on n k
 
+none_kept : (n k : ℕ) → view {X = Option Peering} None (replicate n None) k ≡ None
+none_kept zero k = refl
+none_kept (suc n) zero = refl
+none_kept (suc n) (suc k) = none_kept n k
+
 abbrev pub new_edge : Plan → EdgeId → List Bool → List (Option Domain) → EdgeLists
-new_edge plan me on domains = record { plan = plan; me = me; circuits_on = on; domains = domains; ticks = 0; stopped = false }
+new_edge plan me on domains = record { plan = plan; me = me; circuits_on = on; domains = domains; peerings = replicate (length plan.edges) None; ticks = 0; stopped = false }
 
 nothing_learned : (plan : Plan) (me : EdgeId) (service : ServiceId) (years : ℕ) (kept : Option Domain) → IsNew plan me service years kept → entries_of kept ≡ []
 nothing_learned plan me service years None is = refl
@@ -190,7 +198,7 @@ seen_new plan me on domains circuits are = λ i. record {
   circuit_on = λ k. (ap (λ (list : List Bool). view true list k) circuits ∙ all_on (length plan.circuits) k) i;
   learned = λ k. learned_none plan me domains k (slice_get plan.services k) refl are i;
   ticks = 0;
-  peering = λ peer. None;
+  peering = λ k. none_kept (length plan.edges) k i;
 }
 
 kept_new : (plan : Plan) (me : EdgeId) (edge : EdgeState) (service : ServiceId) (row : ServicePlan) (kept : Option Domain) → service_row plan service ≡ Some row → edge ≡ empty_edge me → IsNew plan me service row.age kept → IsKept plan edge service kept
@@ -209,15 +217,16 @@ kept_new plan me edge service row (Some domain) at same is =
 
 pub edge_new : (plan : Plan) (me : EdgeId) (on : List Bool) (domains : List (Option Domain)) → IsChecked plan → on ≡ replicate (length plan.circuits) true → AreNew plan me (length plan.services) domains → IsEdge (new_edge plan me on domains)
 edge_new plan me on domains checked circuits are = record {
-  planned = checked.circuits;
-  circuits = ap length circuits ∙ long (length plan.circuits);
+  checked = checked;
+  circuits = ap length circuits ∙ long true (length plan.circuits);
+  peerings = long None (length plan.edges);
   services = are.len;
   domains = λ k below. of k (slice_get plan.services k) refl below;
 }
   where
-    long : (n : ℕ) → length (replicate n true) ≡ n
-    long zero = refl
-    long (suc n) = ap suc (long n)
+    long : {X : Type 0} (x : X) (n : ℕ) → length (replicate n x) ≡ n
+    long x zero = refl
+    long x (suc n) = ap suc (long x n)
 
     of : (k : ℕ) (row : Option ServicePlan) → slice_get plan.services k ≡ row → k < length plan.services → IsKept plan (seen (new_edge plan me on domains)) (record { 0 = k }) (view None domains k)
     of k None at below = absurd (omega (arith, none_past plan.services k at))
@@ -297,7 +306,7 @@ seen_turned e circuit service domain after on within place there bridge = λ i. 
   circuit_on = view_set true e.circuits_on circuit.0 on within i;
   learned = λ k. learned k i;
   ticks = e.ticks;
-  peering = λ peer. None;
+  peering = view None e.peerings;
 }
   where
     same : (k : ℕ) (b : Bool) → nat_eq k service.0 ≡ b → entries_of (cond b (Some after) (view None e.domains k)) ≡ entries_of (view None e.domains k)
@@ -314,8 +323,9 @@ pub edge_turned : (e : EdgeLists) (circuit : CircuitId) (service : ServiceId) (d
     → after.bridge ≡ domain.bridge → ((p : ℕ) → has after.forwarding p ≡ cond (is_found (position (is_circuit_port circuit) domain.bridge.ports) p) on (has domain.forwarding p))
     → IsEdge (turned_edge e circuit service on after)
 edge_turned e circuit service domain after on is own within place there bridge forward = record {
-  planned = is.planned;
+  checked = is.checked;
   circuits = length-set e.circuits_on circuit.0 on ∙ is.circuits;
+  peerings = is.peerings;
   services = length-set e.domains service.0 (Some after) ∙ is.services;
   domains = λ k below.
       subst (λ (state : EdgeState). IsKept e.plan state (record { 0 = k }) (view None (slice_set e.domains service.0 (Some after)) k)) (sym (seen_turned e circuit service domain after on within place there bridge))
@@ -371,7 +381,7 @@ bridge_past e service is found = slice_get_past e.plan.services service.0 (omega
 
 pub edge_stopped : (e : EdgeLists) (stopped : Bool) → IsEdge e → IsEdge (record e { stopped = stopped })
 unfolding seen
-edge_stopped e stopped is = record { planned = is.planned; circuits = is.circuits; services = is.services; domains = is.domains }
+edge_stopped e stopped is = record { checked = is.checked; circuits = is.circuits; peerings = is.peerings; services = is.services; domains = is.domains }
 
 -- where no bridge is lent, and where one is
 abbrev pub HasNone : EdgeLists → ServiceId → Type 0

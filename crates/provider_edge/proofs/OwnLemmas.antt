@@ -43,7 +43,7 @@ own_within e circuit service is own =
     let found = own_row (seen e) (circuit_row e.plan circuit) service own in
     let planned : IsCircuitOf e.plan found.circuit =
     subst (IsCircuitOf e.plan) (get_or_from_slice_get e.plan.circuits circuit.0 found.circuit found.circuit found.is)
-    (All-get_or (IsCircuitOf e.plan) e.plan.circuits circuit.0 found.circuit (slice_get_within e.plan.circuits circuit.0 found.circuit found.is) is.planned) in
+    (All-get_or (IsCircuitOf e.plan) e.plan.circuits circuit.0 found.circuit (slice_get_within e.plan.circuits circuit.0 found.circuit found.is) is.checked.circuits) in
     subst (λ (s : ServiceId). s.0 < length e.plan.services) found.same planned.service
 
 -- and it has a port there

@@ -33,6 +33,13 @@ aged_domain now domain = record domain { bridge = record domain.bridge { entries
 abbrev pub aged_kept : ℕ → Option Domain → Option Domain
 aged_kept now kept = option_map (aged_domain now) kept
 
+-- the domain after its bridge forgot all that it had learned
+abbrev pub cleared_domain : Domain → Domain
+cleared_domain domain = record domain { bridge = record domain.bridge { entries = [] } }
+
+abbrev pub cleared_kept : Option Domain → Option Domain
+cleared_kept kept = option_map cleared_domain kept
+
 -- no address of its bridge came after now
 abbrev pub KeptNotAfter : ℕ → Option Domain → Type 0
 KeptNotAfter now None = Unit {0}

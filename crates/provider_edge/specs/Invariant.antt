@@ -1,12 +1,12 @@
 -- What always holds of an edge.
-use Rattle.std.specs.Prelude.{◌≡◌, ◌<◌, ℕ, None, length, All}
-use Rattle.net_base.specs.plan.Accepted.{IsCircuitOf}
+use Rattle.std.specs.Prelude.{◌≡◌, ◌<◌, ℕ, None, length}
+use Rattle.net_base.specs.plan.Accepted.{IsChecked}
 use Rattle.provider_edge.specs.Domain.{IsKept}
 use Rattle.provider_edge.specs.Lists.{EdgeLists, seen, view}
 
 pub record IsEdge (edge : EdgeLists) : Type 0 where
-  -- each circuit of the plan names a service of it
-  pub planned : All (IsCircuitOf edge.plan) edge.plan.circuits
+  pub checked : IsChecked edge.plan
   pub circuits : length edge.circuits_on ≡ length edge.plan.circuits
+  pub peerings : length edge.peerings ≡ length edge.plan.edges
   pub services : length edge.domains ≡ length edge.plan.services
   pub domains : (service : ℕ) → service < length edge.plan.services → IsKept edge.plan (seen edge) (record { 0 = service }) (view None edge.domains service)

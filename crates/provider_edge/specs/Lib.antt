@@ -1,5 +1,7 @@
 pub mod Domain
+pub mod Event
 pub mod Invariant
 pub mod Lists
+pub mod Peering
 pub mod Said
 pub mod Taking

@@ -8,7 +8,7 @@ use Rattle.net_base.specs.declared.plan.places.ServiceId.{ServiceId}
 use Rattle.mac_table.specs.declared.mac_entry.MacEntry.{MacEntry}
 use Rattle.edge_model.specs.declared.effects.Effects.{Effects}
 use Rattle.edge_model.specs.Frame.{is_own}
-use Rattle.edge_model.specs.State.{EdgeState}
+use Rattle.edge_model.specs.State.{EdgeState, Peering}
 use Rattle.edge_model.specs.Work.{Work}
 use Rattle.provider_edge.specs.declared.domain.Domain.{Domain}
 
@@ -20,6 +20,8 @@ pub record EdgeLists : Type 0 where
   pub circuits_on : List Bool
   -- the domain of each service; none where the service has no port here
   pub domains : List (Option Domain)
+  -- what is kept for each edge of the plan; none where no connection with it stands
+  pub peerings : List (Option Peering)
   -- how many ticks have passed
   pub ticks : ℕ
   -- memory was refused
@@ -34,14 +36,13 @@ abbrev pub entries_of : Option Domain → List MacEntry
 entries_of None = []
 entries_of (Some domain) = domain.bridge.entries
 
--- no connection stands yet
 unfoldable pub seen : EdgeLists → EdgeState
 seen edge = record {
   me = edge.me;
   circuit_on = view true edge.circuits_on;
   learned = λ service. entries_of (view None edge.domains service);
   ticks = edge.ticks;
-  peering = λ peer. None;
+  peering = view None edge.peerings;
 }
 
 -- the work that the edge has done, over these calls of its link

@@ -7,7 +7,7 @@ ghost use Rattle.vsi_bridge.specs.Targets.{heard, is_target, known_port};
 ghost use Rattle.edge_model.specs.Circuit.{without_port};
 ghost use Rattle.edge_model.specs.Frame.{destination, port_forwards, source};
 ghost use Rattle.edge_model.specs.State.{empty_edge};
-ghost use Rattle.provider_edge.specs.Domain.{AreNew, IsNew, aged_domain, aged_kept, is_found, KeptNotAfter};
+ghost use Rattle.provider_edge.specs.Domain.{AreNew, IsNew, aged_domain, aged_kept, cleared_domain, cleared_kept, is_found, KeptNotAfter};
 
 use hvpls_spokes::{PortKind, PortSet, Ports};
 use net_base::{CircuitId, EdgeId, Mac, NoMemory, Plan, ServiceId};
@@ -102,6 +102,15 @@ impl Domain {
         }
     }
 
+    /// The bridge forgets all that it has learned, port by port.
+    pub fn clear(&mut self)
+        ensures { self.new ≡ cleared_domain self.old }
+    {
+        'clearing: while let Some(entry) = self.bridge.table().entry(0) {
+            self.bridge.drop_port(entry.port);
+        }
+    }
+
     /// The bridge hears an inner frame by a port that forwards, at the tick `now`, and answers the ports to which it goes.
     pub fn hear(&mut self, arrival: u16, frame: &[u8], now: u64) -> PortSet
         requires ports { (p : ℕ) → has self.old.forwarding p ≡ true → p < length self.old.bridge.ports }
@@ -125,6 +134,24 @@ impl Domain {
         ensures ticks { NoneAfter now self.new.bridge.entries }
     {
         self.bridge.tick(now);
+    }
+}
+
+/// Each bridge forgets all that it has learned.
+pub fn clear_all(domains: &mut Vec<Option<Domain>>)
+    ensures { domains.new.items ≡ map cleared_kept domains.old.items }
+{
+    for kept in domains.iter_mut() {
+        clear_kept(kept);
+    }
+}
+
+// The bridge forgets all, where there is one.
+fn clear_kept(kept: &mut Option<Domain>)
+    ensures { kept.new ≡ cleared_kept kept.old }
+{
+    if let Some(domain) = kept {
+        domain.clear();
     }
 }
 

@@ -1,7 +1,6 @@
 //! One provider edge.
-ghost use Rattle.std.specs.Prelude.{◌≡◌, ◌<◌, ◌≤◌, ◌↔◌, ◌⊎◌, List, Some, None, true, false, [], length, IfOk, IfErr, IfSome, IsNone, IsErrOf};
+ghost use Rattle.std.specs.Prelude.{◌≡◌, ◌<◌, ◌≤◌, ◌↔◌, ◌⊎◌, List, Some, None, true, false, [], length, IfOk, IfErr, IfSome, IsNone, IsErrOf, option_copied};
 ghost use Rattle.net_base.specs.declared.outside.link_call.LinkCall.{LinkCall};
-ghost use Rattle.net_base.specs.declared.trace.state_name.StateName.TheVariants as StateName;
 ghost use Rattle.net_base.specs.plan.Accepted.{IsChecked};
 ghost use Rattle.net_base.specs.plan.Places.{service_row};
 ghost use Rattle.hvpls_spokes.specs.Port.{ports_of};
@@ -9,15 +8,20 @@ ghost use Rattle.edge_model.specs.State.{addresses_of, empty_edge, has_end, is_o
 ghost use Rattle.edge_model.specs.Step.{edge_step};
 ghost use Rattle.edge_model.specs.Work.{Agrees, Answers, GoesOn, beginning};
 ghost use Rattle.provider_edge.specs.Lists.{Keeps, seen, worked};
+ghost use Rattle.provider_edge.specs.Peering.{held_of, session_name};
 ghost use Rattle.provider_edge.specs.Said.{AllFit, TellsTaken};
 ghost use Rattle.provider_edge.specs.Taking.{IsInRange, StaysLocal};
 
 mod circuit;
+mod connection;
 mod frame;
+mod octets;
 mod tick;
 
 use crate::EdgeStop;
 use crate::domain::{Domain, open_domains};
+use crate::edge::connection::no_peerings;
+use crate::peering::Peering;
 use crate::quiet::idle;
 use edge_model::{Effects, Input};
 use net_base::{CircuitId, EdgeId, Link, NoMemory, Plan, ServiceId, StateName};
@@ -34,6 +38,7 @@ pub struct Edge {
     me: EdgeId,
     circuits_on: Vec<bool>,
     domains: Vec<Option<Domain>>,
+    peerings: Vec<Option<Peering>>,
     ticks: u64,
     stopped: bool,
 }
@@ -44,9 +49,9 @@ impl Model for Edge {
 
     ghost Value = { EdgeLists };
 
-    ghost view = { λ e. record { plan = e.plan.value; me = e.me; circuits_on = e.circuits_on.items; domains = e.domains.items; ticks = e.ticks; stopped = e.stopped } };
+    ghost view = { λ e. record { plan = e.plan.value; me = e.me; circuits_on = e.circuits_on.items; domains = e.domains.items; peerings = e.peerings.items; ticks = e.ticks; stopped = e.stopped } };
 
-    ghost invariant = { λ e. IsEdge (record { plan = e.plan.value; me = e.me; circuits_on = e.circuits_on.items; domains = e.domains.items; ticks = e.ticks; stopped = e.stopped }) };
+    ghost invariant = { λ e. IsEdge (record { plan = e.plan.value; me = e.me; circuits_on = e.circuits_on.items; domains = e.domains.items; peerings = e.peerings.items; ticks = e.ticks; stopped = e.stopped }) };
 }
 
 impl Edge {
@@ -75,20 +80,23 @@ impl Edge {
     {
         let circuits_on = vec![in alloc; true; plan.circuits.len()]?;
         let domains = open_domains(alloc, &plan, me)?;
+        let peerings = no_peerings(alloc, plan.edges.len())?;
         Ok(Edge {
             plan,
             me,
             circuits_on,
             domains,
+            peerings,
             ticks: 0,
             stopped: false,
         })
     }
 
     /// Takes an input, and answers all that the edge gives out on it. What does not apply is idle, and changes nothing:
-    /// for `Frame` a circuit of another edge or one that is off, for `Circuit` a circuit of another edge or one that is
-    /// so already. `Tick` always applies. Inputs of connections, sessions, wires and packets do not apply yet. The bits of
-    /// a `Status` are at most 31.
+    /// for `Connected` an edge to which no segment joins this one, or a peer whose end stands; for `Octets` and `Lost` a peer
+    /// whose end does not stand; for `Frame` a circuit of another edge or one that is off; for `Circuit` a circuit of
+    /// another edge or one that is so already. `Restart` and `Tick` always apply. Inputs of wires and packets do not apply
+    /// yet. The bits of a `Status` are at most 31.
     ///
     /// `NoMemory` where memory was refused; from then on the edge is given up, and answers `Stopped` to every input.
     #[tactic(auto, using(crate::proofs::EffectLemmas::steps_fit, crate::proofs::EffectLemmas::steps_tell, crate::proofs::EffectLemmas::steps_local, crate::proofs::EffectLemmas::goes_nowhere, crate::proofs::KeptLemmas::edge_stopped))]
@@ -111,11 +119,10 @@ impl Edge {
         ensures stopped { IfErr result (λ stop. self.new.stopped ≡ true) }
         ensures going { IfOk result (λ effects. self.new.stopped ≡ false) }
     {
-        let _ = link;
         if self.stopped {
             return Err(EdgeStop::Stopped);
         }
-        match self.work(alloc, input) {
+        match self.work(alloc, input, link) {
             Ok(effects) => Ok(effects),
             Err(NoMemory) => {
                 self.stopped = true;
@@ -124,21 +131,28 @@ impl Edge {
         }
     }
 
-    // What the edge makes of an input. No input makes a call of the link yet.
-    #[tactic(auto, using(crate::proofs::WorkLemmas::idle_done))]
-    fn work(&mut self, alloc: Global, input: Input<'_>) -> Result<Effects, NoMemory>
+    // What the edge makes of an input.
+    #[tactic(auto, using(crate::proofs::WorkLemmas::idle_done, crate::proofs::EffectLemmas::goes_nowhere))]
+    fn work<L: Link>(
+        &mut self,
+        alloc: Global,
+        input: Input<'_>,
+        link: &mut L,
+    ) -> Result<Effects, NoMemory>
         ensures keeps { Keeps self.old self.new }
-        ensures step { IfOk result (λ effects. (told : Answers) (calls : List LinkCall) → worked self.new calls effects ≡ edge_step self.old.plan told input.entry (beginning (seen self.old) calls)) }
+        ensures calls { GoesOn (L.calls link.old) (L.calls link.new) }
+        ensures step { IfOk result (λ effects. (told : Answers) → Agrees told (L.calls link.new)
+            → worked self.new (L.calls link.new) effects ≡ edge_step self.old.plan told input.entry (beginning (seen self.old) (L.calls link.old))) }
     {
         match input {
-            Input::Tick => Ok(self.tick(alloc)),
+            Input::Connected { peer } => self.connected(alloc, peer, link),
+            Input::Octets { peer, bytes } => self.octets(alloc, peer, bytes, link),
+            Input::Lost { peer } => self.lost(alloc, peer),
+            Input::Restart => Ok(self.restart(alloc)),
+            Input::Tick => self.tick(alloc, link),
             Input::Frame { circuit, bytes } => self.frame(alloc, circuit, bytes),
             Input::Circuit { circuit, on } => Ok(self.circuit(alloc, circuit, on)),
-            Input::Connected { .. }
-            | Input::Octets { .. }
-            | Input::Lost { .. }
-            | Input::Restart
-            | Input::Packet { .. }
+            Input::Packet { .. }
             | Input::Wire { .. }
             | Input::Status { .. }
             | Input::Priority { .. }
@@ -153,29 +167,48 @@ impl Edge {
         self.stopped
     }
 
-    /// The state of the session with a peer: none is there yet.
+    /// The state of the session with a peer (RFC 5036 section 2.5.4): `NonExistent` exactly where the edge's end of their
+    /// connection does not stand.
+    #[tactic(auto, unfolding(crate::specs::Lists::seen))]
     pub fn session(&self, peer: EdgeId) -> StateName
-        ensures { result ≡ StateName.NonExistent }
+        ensures { result ≡ session_name ((seen self.now).peering peer.0) }
     {
-        let _ = peer;
-        StateName::NonExistent
+        match self.kept(peer) {
+            Some(kept) => kept.state(),
+            None => StateName::NonExistent,
+        }
     }
 
-    /// Whether the edge's end of its connection with a peer stands: none does yet.
+    /// Whether the edge's end of its connection with a peer stands.
     #[tactic(auto, unfolding(crate::specs::Lists::seen))]
     pub fn has_end(&self, peer: EdgeId) -> bool
         ensures { result ≡ has_end (seen self.now) peer }
     {
-        let _ = peer;
-        false
+        self.kept(peer).is_some()
     }
 
-    /// How many octets of a peer are held that are no whole PDU yet: no connection stands yet.
+    /// How many octets of a peer are held that are no whole PDU yet: at most 4,100, and none where the edge's end of their
+    /// connection does not stand.
+    #[tactic(auto, unfolding(crate::specs::Lists::seen))]
     pub fn held(&self, peer: EdgeId) -> usize
-        ensures { result ≡ 0 }
+        ensures count { result ≡ length (held_of ((seen self.now).peering peer.0)) }
+        ensures within { result ≤ 4100 }
     {
-        let _ = peer;
-        0
+        match self.kept(peer) {
+            Some(kept) => kept.held(),
+            None => 0,
+        }
+    }
+
+    // What is kept for a neighbour.
+    #[tactic(auto, unfolding(crate::specs::Lists::seen))]
+    fn kept(&self, peer: EdgeId) -> Option<&Peering>
+        ensures { option_copied result ≡ (seen self.now).peering peer.0 }
+    {
+        match self.peerings.get(peer.0 as usize) {
+            Some(Some(kept)) => Some(kept),
+            Some(None) | None => None,
+        }
     }
 
     /// The bridge of a service; `None` exactly where the plan has no such service, or the service no port at the edge.

@@ -1,12 +1,18 @@
 //! One provider edge at work (RFC 4762 section 4): it takes one input after another, and gives out what `edge_model` says.
 #![tactic(auto)]
 
+mod advice;
 mod copies;
+mod dialogue;
 mod domain;
 mod edge;
 mod edge_stop;
+mod event;
+mod hear;
 mod inner_frame;
+mod peering;
 mod quiet;
+mod speaker;
 #[cfg(test)]
 mod tests;
 

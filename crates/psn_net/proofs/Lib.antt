@@ -1,9 +1,14 @@
 pub mod AbsorbLemmas
+pub mod ConnectionLemmas
 pub mod EmptyLemmas
+pub mod IndexLemmas
+pub mod KeptLemmas
 pub mod LinkLemmas
 pub mod NetworkLemmas
 pub mod PacketLemmas
+pub mod PairLemmas
 pub mod PipeLemmas
 pub mod RunLemmas
 pub mod TickLemmas
 pub mod WeightLemmas
+pub mod WordLemmas

@@ -1,4 +1,5 @@
 pub mod Applying
+pub mod DeliveryIndex
 pub mod Lists
 pub mod Packets
 pub mod Pipes

@@ -31,7 +31,7 @@ pub record NetLists : Type 0 where
 
 -- an edge outside the plan
 abbrev pub no_edge : Plan → ℕ → EdgeLists
-no_edge plan k = record { plan = plan; me = record { 0 = k }; circuits_on = []; domains = []; ticks = 0; stopped = false }
+no_edge plan k = record { plan = plan; me = record { 0 = k }; circuits_on = []; domains = []; peerings = []; ticks = 0; stopped = false }
 
 abbrev pub edge_lists : NetLists → ℕ → EdgeLists
 edge_lists n k = slice_index_or n.edges k (no_edge n.plan k)

@@ -1,5 +1,5 @@
 -- The pipes between edges, as lists and as a map.
-use Rattle.std.specs.Prelude.{◌≡◌, ◌<◌, ℕ, List, [], length, slice_index_or}
+use Rattle.std.specs.Prelude.{◌≡◌, ◌<◌, ◌==◌, ◌&&◌, nat_lt, ℕ, List, [], length, slice_index_or, if◌then◌else◌}
 
 -- a row for each of so many edges, and in it a pipe for each
 pub record PipeLists : Type 0 where
@@ -16,3 +16,11 @@ seen pipes from to = slice_index_or (slice_index_or pipes.rows from []) to []
 -- nothing is on its way
 abbrev pub no_octets : ℕ → ℕ → List ℕ
 no_octets from to = []
+
+-- nothing is on its way to an edge
+abbrev pub without_to : ℕ → (ℕ → ℕ → List ℕ) → ℕ → ℕ → List ℕ
+without_to me pipes from to = if to == me then [] else pipes from to
+
+-- nothing is on its way to an edge from so many of the first edges
+abbrev pub emptied_to : ℕ → ℕ → (ℕ → ℕ → List ℕ) → ℕ → ℕ → List ℕ
+emptied_to me count pipes from to = if to == me && nat_lt from count then [] else pipes from to

@@ -1,10 +1,12 @@
 //! The network of a run: edges, what is on its way between them, and the trace.
 #![tactic(auto)]
 
+mod delivery_index;
 mod ledger;
 mod net_stop;
 mod network;
 mod packets;
+mod parts;
 mod pipe;
 mod pipe_row;
 mod pipes;

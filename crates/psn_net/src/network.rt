@@ -1,64 +1,55 @@
 //! The network of a run.
-ghost use Rattle.std.specs.Prelude.{◌≡◌, ◌<◌, ◌≤◌, ◌+◌, ◌++◌, ◌∷◌, ◌^◌, ◌-◌, ◌↔◌, [], min, true, false, length, None, IfErr, IfOk, IfSome, IsSome, OnErr, OnOk};
+ghost use Rattle.std.specs.Prelude.{◌≡◌, ◌<◌, ◌++◌, ◌^◌, ◌-◌, ◌↔◌, [], min, true, false, length, None, IfErr, IfOk, IfSome, IsSome, OnOk};
 ghost use Rattle.net_base.specs.plan.Accepted.{IsChecked};
 ghost use Rattle.net_base.specs.plan.Planned.{IsEventOf};
-ghost use Rattle.edge_model.specs.Step.{edge_step};
 ghost use Rattle.provider_edge.specs.Lists.{seen as seen_edge};
-ghost use Rattle.provider_edge.specs.Said.{AllFit};
-ghost use Rattle.provider_edge.specs.Taking.{IsInRange};
-ghost use Rattle.network_model.specs.Absorb.{begin_at, taken_all};
+ghost use Rattle.network_model.specs.Connection.{is_deliverable};
+ghost use Rattle.network_model.specs.Delivery.{first_pair, next_delivery};
 ghost use Rattle.network_model.specs.State.{at_edge, empty_network};
-ghost use Rattle.network_model.specs.Step.{brings, step};
+ghost use Rattle.network_model.specs.Step.{step};
 ghost use Rattle.psn_net.specs.Applying.{Stops};
-ghost use Rattle.psn_net.specs.Lists.{HasDriven, HasRoom, HasStepped, Keeps, seen};
+ghost use Rattle.psn_net.specs.Lists.{seen};
 ghost use Rattle.psn_net.specs.Weight.{stop_at, weight_of};
 
-mod absorb;
-mod events;
-mod opening;
+mod marking;
 
 use crate::NetStop;
-use crate::ledger::Ledger;
-use crate::network::opening::open_edges;
-use crate::packets::Packets;
-use crate::pipes::Pipes;
-use crate::psn_link::PsnLink;
-use edge_model::{Effects, Input};
-use net_base::{EdgeId, Entry, Event, NoMemory, Plan, Trace};
+use crate::delivery_index::DeliveryIndex;
+use crate::network::marking::mark_after;
+use crate::parts::Parts;
+use net_base::{EdgeId, Event, NoMemory, Plan, Trace};
 use provider_edge::Edge;
 use std::alloc::Global;
 use std::marker::Model;
-use std::rc::Rc;
 
-/// The most that a trace weighs before a further event is done.
-const MOST_WEIGHT: u64 = 268_435_456;
+/// More octets than are on their way between two edges at once, so that a delivery of as many takes all of them where
+/// there are fewer.
+const MOST_OCTETS: u16 = 65535;
 
 /// The edges of a plan, what is on its way between them, and the trace of what has happened. Contracts see it as lists by
-/// the plan's places, and by `seen` as the state of the network.
+/// the plan's places, and by `seen` as the state of the network. The index says what may be delivered, until memory is
+/// refused.
 #[derive(Debug, Drop)]
 pub struct Network {
-    plan: Rc<Plan>,
-    edges: Vec<Edge>,
-    pipes: Pipes,
-    packets: Packets,
-    entered: u64,
-    ledger: Ledger,
-    failed: bool,
+    parts: Parts,
+    index: DeliveryIndex,
 }
 
 impl Model for Network {
-    ghost use Rattle.psn_net.specs.Lists.{IsNetwork, NetLists};
+    ghost use Rattle.std.specs.Prelude.{◌≡◌, false, length};
+    ghost use Rattle.psn_net.specs.DeliveryIndex.{IsIndexed};
+    ghost use Rattle.psn_net.specs.Lists.{NetLists};
 
     ghost Value = { NetLists };
 
-    ghost view = { λ n. record { plan = n.plan.value; edges = n.edges.items; pipes = n.pipes; packets = n.packets; entered = n.entered; trace = n.ledger; failed = n.failed } };
+    ghost view = { λ n. n.parts };
 
-    ghost invariant = { λ n. IsNetwork (record { plan = n.plan.value; edges = n.edges.items; pipes = n.pipes; packets = n.packets; entered = n.entered; trace = n.ledger; failed = n.failed }) };
+    ghost invariant = { λ n. (length n.index.rows ≡ length n.parts.plan.edges) × (n.parts.failed ≡ false → IsIndexed n.parts n.index) };
 }
 
 impl Network {
     /// The network of a plan before its first event.
-    #[tactic(auto, using(crate::proofs::NetworkLemmas::opening))]
+    #[tactic(auto, using(crate::proofs::IndexLemmas::indexed_first))]
     pub fn open(alloc: Global, plan: &Plan) -> Result<Network, NoMemory>
         requires { IsChecked plan.now }
         ensures plan { IfOk result (λ network. network.plan ≡ plan.now) }
@@ -66,18 +57,9 @@ impl Network {
         ensures trace { IfOk result (λ network. network.trace ≡ []) }
         ensures going { IfOk result (λ network. network.failed ≡ false) }
     {
-        let count = plan.edges.len();
-        let plan = Rc::new(alloc, plan.copy(alloc)?)?;
-        let edges = open_edges(alloc, &plan, count)?;
-        Ok(Network {
-            plan,
-            edges,
-            pipes: Pipes::open(alloc, count)?,
-            packets: Packets::new(alloc),
-            entered: 0,
-            ledger: Ledger::new(alloc),
-            failed: false,
-        })
+        let parts = Parts::open(alloc, plan)?;
+        let index = DeliveryIndex::open(alloc, parts.count())?;
+        Ok(Network { parts, index })
     }
 
     /// Does one event, and adds to the trace what it tells. The event names places of the plan, and its numbers are in
@@ -85,7 +67,7 @@ impl Network {
     ///
     /// `TooMuch` exactly where the trace already weighs more than 268,435,456; network and trace are then as they were.
     /// `NoMemory` where memory was refused; from then on the network is given up, and answers the same to every event.
-    #[tactic(auto, using(crate::proofs::WeightLemmas::stops_at))]
+    #[tactic(auto, using(crate::proofs::KeptLemmas::indexed_beside, crate::proofs::IndexLemmas::indexed_still))]
     pub fn apply(&mut self, alloc: Global, event: &Event) -> Result<(), NetStop>
         requires { IsEventOf self.old.plan event.now }
         ensures plan { self.new.plan ≡ self.old.plan }
@@ -96,135 +78,74 @@ impl Network {
         ensures stops { IfErr result (Stops self.old self.new) }
         ensures given_up { self.old.failed ≡ true → IfErr result (λ stop. stop ≡ NetStop.NoMemory) }
     {
-        if self.failed {
-            return Err(NetStop::NoMemory);
-        }
-        if let Some(stop) = self.refusal() {
-            return Err(stop);
-        }
-        match self.work(alloc, event) {
-            Ok(()) => Ok(()),
-            Err(NoMemory) => {
-                self.failed = true;
-                Err(NetStop::NoMemory)
-            }
-        }
+        self.parts.apply(alloc, event)?;
+        mark_after(&mut self.index, &self.parts, event);
+        Ok(())
     }
 
-    // The limit that stops the next event, where there is one.
-    #[tactic(auto, unfolding(crate::specs::Weight::stop_at))]
-    fn refusal(&self) -> Option<NetStop>
-        ensures { result ≡ stop_at self.now.trace }
+    /// The next delivery: all octets on their way between the first two edges that have something to deliver, in the
+    /// plan's order of the sender and then of the receiver. `None` exactly where no two edges have. It is found without
+    /// looking at all pairs of edges.
+    pub fn next_delivery(&self) -> Option<Event>
+        ensures next { result ≡ next_delivery self.now.plan (seen self.now) }
+        ensures planned { IfSome result (IsEventOf self.now.plan) }
     {
-        let weight = self.ledger.weight();
-        if weight <= MOST_WEIGHT {
-            return None;
-        }
-        Some(NetStop::TooMuch {
-            weight,
-            event: self.ledger.next_event(),
+        let (from, to) = self.next_pair()?;
+        Some(Event::Deliver {
+            from: EdgeId(from as u16),
+            to: EdgeId(to as u16),
+            count: MOST_OCTETS,
         })
     }
 
-    // Tells the event, and then does it.
-    fn work(&mut self, alloc: Global, event: &Event) -> Result<(), NoMemory>
-        requires { IsEventOf self.old.plan event.now }
-        ensures keeps { Keeps self.old self.new }
-        ensures step { OnOk result (HasStepped self.old self.new (step self.old.plan (seen self.old) event.now)) }
+    // The first two edges that have something to deliver. After memory was refused the index may lack something.
+    #[tactic(auto, using(crate::proofs::IndexLemmas::found_first))]
+    fn next_pair(&self) -> Option<(usize, usize)>
+        ensures first { result ≡ first_pair (is_deliverable (seen self.now)) (length self.now.plan.edges) 0 (length self.now.plan.edges) }
+        ensures within { IfSome result (λ pair. (pair.0 < length self.now.plan.edges) × (pair.1 < length self.now.plan.edges)) }
+        ensures few { IfSome result (λ pair. (pair.0 < 64) × (pair.1 < 64)) }
     {
-        self.tell(Entry::Did {
-            event: event.copy(alloc)?,
-        })?;
-        self.bring(alloc, event)
-    }
-
-    // Does the event.
-    fn bring(&mut self, alloc: Global, event: &Event) -> Result<(), NoMemory>
-        requires event { IsEventOf self.old.plan event.now }
-        requires room { HasRoom self.old }
-        ensures keeps { Keeps self.old self.new }
-        ensures step { OnOk result (HasStepped self.old self.new (brings self.old.plan event.now (seen self.old))) }
-    {
-        match event {
-            Event::Tick => self.tick(alloc),
-            Event::Frame { circuit, bytes } => self.frame(alloc, *circuit, bytes.as_slice()),
-            Event::Circuit { circuit, on } => self.circuit(alloc, *circuit, *on),
-            _ => Ok(()),
+        let _count = self.parts.count();
+        if self.parts.has_failed() {
+            return self.parts.first_deliverable();
         }
-    }
-
-    // Adds an entry to the trace.
-    #[tactic(auto, unfolding(crate::specs::Lists::seen))]
-    pub(crate) fn tell(&mut self, entry: Entry) -> Result<(), NoMemory>
-        ensures keeps { Keeps self.old self.new }
-        ensures state { seen self.new ≡ seen self.old }
-        ensures room { HasRoom self.old → HasRoom self.new }
-        ensures made { OnOk result (HasRoom self.new) }
-        ensures more { OnOk result (length self.new.trace ≡ length self.old.trace + 1) }
-        ensures counts { (self.new.packets.last ≡ self.old.packets.last) × (self.new.entered ≡ self.old.entered) }
-        ensures ok { OnOk result (self.new.trace ≡ self.old.trace ++ entry ∷ []) }
-        ensures err { OnErr result (self.new.trace ≡ self.old.trace) }
-    {
-        self.ledger.add(entry)
-    }
-
-    // An edge takes an input, over a link that takes every call.
-    pub(crate) fn drive(
-        &mut self,
-        alloc: Global,
-        me: EdgeId,
-        input: Input<'_>,
-    ) -> Result<Effects, NoMemory>
-        requires me { me.0 < length self.old.plan.edges }
-        requires range { IsInRange input }
-        ensures keeps { Keeps self.old self.new }
-        ensures room { HasRoom self.old → HasRoom self.new }
-        ensures driven { IfOk result (HasDriven me self.old self.new (edge_step self.old.plan taken_all input.entry (begin_at (seen self.old) me))) }
-        ensures fit { IfOk result (λ effects. AllFit self.old.plan effects.list) }
-    {
-        let mut link = PsnLink::new(alloc);
-        match self.edges[me.0 as usize].take(alloc, input, &mut link) {
-            Ok(effects) => Ok(effects),
-            Err(_) => Err(NoMemory),
-        }
+        self.index.first()
     }
 
     /// The plan.
     pub fn plan(&self) -> &Plan
         ensures { result.now ≡ self.now.plan }
     {
-        &self.plan
+        self.parts.plan()
     }
 
     /// The trace of what has happened.
     pub fn trace(&self) -> &Trace
         ensures { result.now ≡ self.now.trace }
     {
-        self.ledger.trace()
+        self.parts.trace()
     }
 
     /// The trace of what has happened.
     pub fn into_trace(self) -> Trace
         ensures { result ≡ self.trace }
     {
-        self.ledger.into_trace()
+        self.parts.into_trace()
     }
 
     /// The edge with this place, in its part of the network's state; `None` exactly where the plan has no such edge.
-    #[tactic(auto, unfolding(crate::specs::Lists::seen))]
     pub fn edge(&self, id: EdgeId) -> Option<&Edge>
         ensures some { IsSome result ↔ (id.0 < length self.now.plan.edges) }
         ensures part { IfSome result (λ edge. seen_edge edge.now ≡ at_edge (seen self.now) id) }
     {
-        self.edges.get(id.0 as usize)
+        self.parts.edge(id)
     }
 
     /// How many packets are under way, counted up to 2^32 - 1.
-    #[tactic(auto, unfolding(crate::specs::Lists::seen))]
     pub fn under_way(&self) -> u32
         ensures { result ≡ min (length (seen self.now).under_way) (2 ^ 32 - 1) }
     {
-        u32::try_from(self.packets.len()).unwrap_or(u32::MAX)
+        self.parts.under_way()
     }
 
     /// What the trace weighs: 64 for each entry, and the octets of the frame, packet or PDU that it holds, counted up to
@@ -232,6 +153,6 @@ impl Network {
     pub fn weight(&self) -> u64
         ensures { result ≡ weight_of self.now.trace }
     {
-        self.ledger.weight()
+        self.parts.weight()
     }
 }

@@ -6,8 +6,8 @@ use std::alloc::Global;
 use std::marker::Model;
 
 /// The octets that an edge put towards another one and that are not delivered yet, in order. Contracts see the list of
-/// them. The octets before `start` are delivered; they go when they are more than half of what lies there, so that a
-/// delivery moves each octet at most once.
+/// them. The octets before `start` are delivered; they go when they are more than half of what lies there, so that
+/// deliveries move at most as many octets as they deliver.
 #[derive(Debug, Drop)]
 pub struct Pipe {
     octets: Vec<u8>,
@@ -35,6 +35,13 @@ impl Pipe {
         }
     }
 
+    /// How many octets are in the pipe.
+    pub fn len(&self) -> usize
+        ensures { result ≡ length self.now }
+    {
+        self.octets.len() - self.start
+    }
+
     /// Puts octets at the end. After `NoMemory` the pipe is as it was.
     pub fn put(&mut self, piece: &[u8]) -> Result<(), NoMemory>
         ensures ok { OnOk result (self.new ≡ self.old ++ piece.now) }
@@ -42,6 +49,42 @@ impl Pipe {
     {
         self.octets.extend_from_slice(piece)?;
         Ok(())
+    }
+
+    /// The first `count` octets, or all where there are fewer.
+    pub fn front(&self, count: usize) -> &[u8]
+        ensures { result.now ≡ take count self.now }
+    {
+        let (_, rest) = self.octets.as_slice().split_at(self.start);
+        let (first, _) = rest.split_at(count.min(rest.len()));
+        first
+    }
+
+    /// Gives up the first `count` octets, or all where there are fewer.
+    pub fn skip(&mut self, count: usize)
+        ensures { self.new ≡ drop count self.old }
+    {
+        self.advance(count);
+        if self.start > self.octets.len() / 2 {
+            self.compact();
+        }
+    }
+
+    // The first octets are delivered, and still lie there.
+    fn advance(&mut self, count: usize)
+        ensures { self.new ≡ drop count self.old }
+    {
+        self.start += count.min(self.octets.len() - self.start);
+    }
+
+    // The octets that are delivered go, and the others move to their place.
+    fn compact(&mut self)
+        ensures { self.new ≡ self.old }
+    {
+        let left = self.octets.len() - self.start;
+        self.octets.rotate_left(self.start);
+        self.octets.truncate(left);
+        self.start = 0;
     }
 
     /// Empties the pipe.

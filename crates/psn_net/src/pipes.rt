@@ -1,7 +1,7 @@
 //! The pipes between edges.
-ghost use Rattle.std.specs.Prelude.{◌≡◌, ◌++◌, ◌<◌, [], IfOk, OnErr, OnOk};
+ghost use Rattle.std.specs.Prelude.{◌≡◌, ◌++◌, ◌<◌, [], drop, length, take, IfOk, OnErr, OnOk};
 ghost use Rattle.edge_model.specs.State.{put_at};
-ghost use Rattle.psn_net.specs.Pipes.{seen, no_octets};
+ghost use Rattle.psn_net.specs.Pipes.{no_octets, seen, without_to};
 
 use crate::pipe_row::PipeRow;
 use net_base::{EdgeId, NoMemory};
@@ -51,14 +51,68 @@ impl Pipes {
         self.rows[from.0 as usize].pipes[to.0 as usize].put(piece)
     }
 
-    /// Empties the pipe from an edge to another one.
+    /// How many octets are on their way from an edge to another one.
+    #[tactic(auto, unfolding(crate::specs::Pipes::seen))]
+    pub fn len(&self, from: EdgeId, to: EdgeId) -> usize
+        requires from { from.0 < self.now.size }
+        requires to { to.0 < self.now.size }
+        ensures { result ≡ length (seen self.now from.0 to.0) }
+    {
+        self.rows[from.0 as usize].pipes[to.0 as usize].len()
+    }
+
+    /// The first `count` octets on their way from an edge to another one, or all where there are fewer.
+    #[tactic(auto, unfolding(crate::specs::Pipes::seen))]
+    pub fn front(&self, from: EdgeId, to: EdgeId, count: usize) -> &[u8]
+        requires from { from.0 < self.now.size }
+        requires to { to.0 < self.now.size }
+        ensures { result.now ≡ take count (seen self.now from.0 to.0) }
+    {
+        self.rows[from.0 as usize].pipes[to.0 as usize].front(count)
+    }
+
+    /// Gives up the first `count` octets on their way from an edge to another one, or all where there are fewer.
     #[tactic(auto, using(crate::proofs::PipeLemmas::seen_set), unfolding(crate::specs::Pipes::seen))]
+    pub fn skip(&mut self, from: EdgeId, to: EdgeId, count: usize)
+        requires from { from.0 < self.old.size }
+        requires to { to.0 < self.old.size }
+        ensures size { self.new.size ≡ self.old.size }
+        ensures rest { seen self.new ≡ put_at (seen self.old) from.0 (put_at (seen self.old from.0) to.0 (drop count (seen self.old from.0 to.0))) }
+    {
+        self.rows[from.0 as usize].pipes[to.0 as usize].skip(count);
+    }
+
+    /// Empties the pipe from an edge to another one.
     pub fn clear(&mut self, from: EdgeId, to: EdgeId)
         requires from { from.0 < self.old.size }
         requires to { to.0 < self.old.size }
         ensures size { self.new.size ≡ self.old.size }
         ensures empty { seen self.new ≡ put_at (seen self.old) from.0 (put_at (seen self.old from.0) to.0 []) }
     {
-        self.rows[from.0 as usize].pipes[to.0 as usize].clear();
+        self.clear_at(from.0 as usize, to.0 as usize);
+    }
+
+    // The same of edges by their places.
+    #[tactic(auto, using(crate::proofs::PipeLemmas::seen_set), unfolding(crate::specs::Pipes::seen))]
+    fn clear_at(&mut self, from: usize, to: usize)
+        requires from { from < self.old.size }
+        requires to { to < self.old.size }
+        ensures size { self.new.size ≡ self.old.size }
+        ensures empty { seen self.new ≡ put_at (seen self.old) from (put_at (seen self.old from) to []) }
+    {
+        self.rows[from].pipes[to].clear();
+    }
+
+    /// Empties all pipes to an edge.
+    #[tactic(auto, using(crate::proofs::PipeLemmas::emptied_steps))]
+    pub fn clear_to(&mut self, to: EdgeId)
+        requires to { to.0 < self.old.size }
+        ensures size { self.new.size ≡ self.old.size }
+        ensures empty { seen self.new ≡ without_to to.0 (seen self.old) }
+    {
+        let size = self.rows.len();
+        for from in 0..size {
+            self.clear_at(from, to.0 as usize);
+        }
     }
 }

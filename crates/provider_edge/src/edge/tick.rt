@@ -1,27 +1,54 @@
 //! A tick passes.
-ghost use Rattle.std.specs.Prelude.{◌≡◌, ◌≤◌, map, All, List};
-ghost use Rattle.net_base.specs.declared.outside.link_call.LinkCall.{LinkCall};
+ghost use Rattle.std.specs.Prelude.{◌≡◌, ◌≤◌, length, map, All, IfOk, OnOk};
 ghost use Rattle.edge_model.specs.State.{later, with_ticks};
-ghost use Rattle.edge_model.specs.Tick.{forgetting, tick_input};
-ghost use Rattle.edge_model.specs.Work.{beginning};
+ghost use Rattle.edge_model.specs.Tick.{forgetting, tick_input, ticks_sessions};
+ghost use Rattle.edge_model.specs.Work.{Agrees, Answers, GoesOn, beginning};
 ghost use Rattle.provider_edge.specs.Lists.{Keeps, seen, worked};
+ghost use Rattle.provider_edge.specs.Peering.{at_edge};
 
 use crate::Edge;
 use crate::domain::forget_all;
-use crate::quiet::nothing;
-use edge_model::Effects;
+use crate::event::Event;
+use edge_model::{Effect, Effects};
+use net_base::{EdgeId, Link, List, NoMemory};
 use std::alloc::Global;
 
 impl Edge {
-    // The edge counts the tick, and then its bridges forget.
-    #[tactic(auto, using(crate::proofs::WorkLemmas::tick_done, crate::proofs::WorkLemmas::keeps_both))]
-    pub(crate) fn tick(&mut self, alloc: Global) -> Effects
+    // The edge counts the tick, its sessions have it, and then its bridges forget.
+    pub(crate) fn tick<L: Link>(
+        &mut self,
+        alloc: Global,
+        link: &mut L,
+    ) -> Result<Effects, NoMemory>
         ensures keeps { Keeps self.old self.new }
-        ensures step { (calls : List LinkCall) → worked self.new calls result ≡ tick_input self.old.plan (beginning (seen self.old) calls) }
+        ensures calls { GoesOn (L.calls link.old) (L.calls link.new) }
+        ensures step { IfOk result (λ effects. (told : Answers) → Agrees told (L.calls link.new)
+            → worked self.new (L.calls link.new) effects ≡ tick_input self.old.plan told (beginning (seen self.old) (L.calls link.old))) }
     {
         self.count_tick();
+        let mut list = List::new(alloc);
+        self.tick_sessions(alloc, link, &mut list)?;
         self.forget();
-        nothing(alloc)
+        Ok(Effects { idle: false, list })
+    }
+
+    // The sessions have the tick, in the plan's order.
+    fn tick_sessions<L: Link>(
+        &mut self,
+        alloc: Global,
+        link: &mut L,
+        out: &mut List<Effect>,
+    ) -> Result<(), NoMemory>
+        ensures keeps { Keeps self.old self.new }
+        ensures calls { GoesOn (L.calls link.old) (L.calls link.new) }
+        ensures step { OnOk result ((told : Answers) → Agrees told (L.calls link.new)
+            → at_edge (seen self.new) (L.calls link.new) out.new ≡ ticks_sessions told 0 (length self.old.plan.edges) (at_edge (seen self.old) (L.calls link.old) out.old)) }
+    {
+        for place in 0..self.plan.edges.len() {
+            let peer = EdgeId(place as u16);
+            self.happens(alloc, peer, Event::Ticked, link, out)?;
+        }
+        Ok(())
     }
 
     // One tick more.

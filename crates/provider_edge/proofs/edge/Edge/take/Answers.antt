@@ -11,6 +11,7 @@ invariant_of-self g c =
       me = c.self-2.inside.me;
       circuits_on = c.self-2.inside.circuits_on.items;
       domains = c.self-2.inside.domains.items;
+      peerings = c.self-2.inside.peerings.items;
       ticks = c.self-2.inside.ticks;
       stopped = c.self-2.inside.stopped;
     } in

@@ -1,0 +1,74 @@
+-- What an edge keeps for a neighbour, and its work for that neighbour.
+use Rattle.std.specs.Prelude.{◌≡◌, ℕ, Bool, true, false, List, [], Option, Some, None}
+use Rattle.net_base.specs.declared.outside.link_call.LinkCall.{LinkCall}
+use Rattle.net_base.specs.declared.plan.places.EdgeId.{EdgeId}
+use Rattle.net_base.specs.declared.trace.state_name.StateName.{StateName}
+use Rattle.net_base.specs.declared.trace.state_name.StateName.TheVariants as name
+use Rattle.session_core.specs.declared.peers.Peers.{Peers}
+use Rattle.session_core.specs.Phase.{Phase}
+use Rattle.session_core.specs.Session.{phase_name}
+use Rattle.session_core.specs.State.{SessionState, SessionView, Stands, EndedBy, opened}
+use Rattle.edge_model.specs.declared.effect.Effect.{Effect}
+use Rattle.edge_model.specs.Put.{Spoken}
+use Rattle.edge_model.specs.Session.{ends, went_on}
+use Rattle.edge_model.specs.State.{EdgeState, Peering, with_peering}
+use Rattle.edge_model.specs.Work.{Work}
+
+-- ---- what calls of an edge tell
+
+-- the name of a session's state; where nothing is kept, there is none
+abbrev pub session_name : Option Peering → StateName
+session_name None = name.NonExistent
+session_name (Some kept) = phase_name kept.session.phase
+
+-- the octets that are held
+abbrev pub held_of : Option Peering → List ℕ
+held_of None = []
+held_of (Some kept) = kept.held
+
+-- ---- a session, and the octets beside it
+
+-- a session that stands, and the number of the next message
+pub record Dialogue : Type 0 where
+  pub session : SessionState
+  pub next_id : ℕ
+
+-- the session stands between these ends
+abbrev pub StandsBetween : Peers → SessionView → Type 0
+StandsBetween between (Stands s) = s.peers ≡ between
+StandsBetween between (EndedBy why) = ⊥
+
+-- the session stands between these ends, or it ended
+abbrev pub IsBetween : Peers → SessionView → Type 0
+IsBetween between (Stands s) = s.peers ≡ between
+IsBetween between (EndedBy why) = Unit {0}
+
+-- what the session has that stands; what is said of one that ended means nothing
+abbrev pub state_of : Peers → SessionView → SessionState
+state_of between (Stands s) = s
+state_of between (EndedBy why) = opened between
+
+-- what is kept, where these octets are held
+abbrev pub kept_with : List ℕ → Option Dialogue → Option Peering
+kept_with held None = None
+kept_with held (Some d) = Some (record { session = d.session; held = held; next_id = d.next_id })
+
+-- ---- work
+
+-- work of an edge that keeps this for a neighbour
+unfoldable pub at_peer : EdgeId → Option Peering → EdgeState → List LinkCall → List Effect → Work
+at_peer peer kept edge calls effects = record { edge = with_peering peer kept edge; calls = calls; effects = effects; idle = false }
+
+-- work of an edge
+unfoldable pub at_edge : EdgeState → List LinkCall → List Effect → Work
+at_edge edge calls effects = record { edge = edge; calls = calls; effects = effects; idle = false }
+
+-- no tick has passed since a message was put
+abbrev pub having_put : Bool → SessionState → SessionState
+having_put true s = record s { silence = 0 }
+having_put false s = s
+
+-- what becomes of a session that is now like this, once everything was put
+abbrev pub settled : EdgeId → Phase → SessionView → Spoken → Work
+settled peer old (Stands next) put = went_on peer old next.phase put
+settled peer old (EndedBy why) put = ends peer why put.work

@@ -1,0 +1,157 @@
+-- An index of what may be delivered: it begins without a mark, and is made anew for the edges that were set to work.
+use Rattle.std.proofs.Common.{◌≡◌, ◌==◌, ◌<◌, ◌≤◌, ◌+◌, ◌++◌, ◌∷◌, ◌&&◌, ◌||◌, ◌∙◌, subst, [], ℕ, zero, suc, Bool, true, false, not, List, Option, Some, None, cond, refl, ap, sym, arith, nat_eq, nat_lt, length, slice_index_or}
+use Rattle.std.proofs.lemmas.Bool.Decides.{nat_tests}
+use Rattle.net_base.specs.declared.plan.circuit_plan.CircuitPlan.{CircuitPlan}
+use Rattle.net_base.specs.declared.plan.places.CircuitId.{CircuitId}
+use Rattle.net_base.specs.declared.plan.places.EdgeId.{EdgeId}
+use Rattle.net_base.specs.plan.Places.{circuit_row}
+use Rattle.network_model.specs.Connection.{is_deliverable}
+use Rattle.network_model.specs.Delivery.{first_pair}
+use Rattle.network_model.specs.State.{NetworkState, empty_network}
+use Rattle.psn_net.specs.Applying.{Stops}
+use Rattle.psn_net.specs.declared.net_stop.NetStop.{NetStop}
+use Rattle.psn_net.specs.declared.net_stop.NetStop.TheVariants.{Crowded, TooMuch, NoMemory}
+use Rattle.psn_net.specs.DeliveryIndex.{HasMarkedPair, IndexLists, IsClear, IsIndexed, IsIndexedBeside, IsMarked, IsMarkedTo, IsWithin, has, in_word, is_at_edge, put_pair}
+use Rattle.psn_net.specs.Lists.{NetLists, edge_of, seen}
+use Rattle.psn_net.proofs.PairLemmas.{same_pair}
+use Rattle.psn_net.proofs.WordLemmas.{none_in_zero}
+
+-- ---- no mark yet
+
+zeros : (xs : List ℕ) (k : ℕ) → ((i : ℕ) → slice_index_or xs i 0 ≡ 0) → slice_index_or (xs ++ 0 ∷ []) k 0 ≡ 0
+zeros [] zero h = refl
+zeros [] (suc k) h = refl
+zeros (x ∷ xs) zero h = h 0
+zeros (x ∷ xs) (suc k) h = zeros xs k (λ i. h (suc i))
+
+pub record AreZeros (xs : List ℕ) : Type 0 where
+  pub each : (i : ℕ) → slice_index_or xs i 0 ≡ 0
+
+pub zeros_none : AreZeros []
+zeros_none = record { each = λ i. refl }
+
+pub zeros_more : (xs : List ℕ) → AreZeros xs → AreZeros (xs ++ 0 ∷ [])
+zeros_more xs z = record { each = λ k. zeros xs k z.each }
+
+pub clear : (xs : List ℕ) → AreZeros xs → IsClear xs
+clear xs z = record { each = λ from to. ap (λ word. in_word word to) (z.each from) ∙ none_in_zero to }
+
+pub within : (xs : List ℕ) → length xs ≤ 64 → AreZeros xs → IsWithin xs
+within xs h z = record { few = h; each = λ from to l. (clear xs z).each from to }
+
+pub ruleset clear_steps = (zeros_none, zeros_more, clear, within)
+
+-- ---- the marks of one edge are made anew
+
+pub marked_none : (n : NetLists) (me : ℕ) (index : IndexLists) → IsMarkedTo n me 0 index index
+marked_none n me index = record { each = at_each } where
+  none : (a b : Bool) (x y : Bool) → y ≡ cond ((a && false) || (b && false)) x y
+  none true true x y = refl
+  none true false x y = refl
+  none false true x y = refl
+  none false false x y = refl
+
+  at_each : (i j : ℕ) → has index i j ≡ cond ((i == me && nat_lt j 0) || (j == me && nat_lt i 0)) (is_deliverable (seen n) i j) (has index i j)
+  at_each i j = let a : nat_lt j 0 ≡ false = grind (arith, nat_tests) in let b : nat_lt i 0 ≡ false = grind (arith, nat_tests) in rw (a, b) (none (i == me) (j == me) _ _)
+
+marked_at : (test old new : ℕ → ℕ → Bool) (me place : ℕ) → ((i j : ℕ) → new i j ≡ cond ((i == me && nat_lt j place) || (j == me && nat_lt i place)) (test i j) (old i j))
+    → (i j : ℕ) → put_pair place me (test place me) (put_pair me place (test me place) new) i j ≡ cond ((i == me && nat_lt j (place + 1)) || (j == me && nat_lt i (place + 1))) (test i j) (old i j)
+marked_at test old new me place h i j = grind (arith, nat_tests, h i j)
+
+pub marked_pair : (n : NetLists) (me other : ℕ) (old mid new : IndexLists)
+    → has mid ≡ put_pair me other (is_deliverable (seen n) me other) (has old)
+    → has new ≡ put_pair other me (is_deliverable (seen n) other me) (has mid)
+    → HasMarkedPair n me other old new
+marked_pair n me other old mid new x p = record { is = p ∙ ap (λ (r : ℕ → ℕ → Bool). put_pair other me (is_deliverable (seen n) other me) r) x }
+
+pub marked_more : (n : NetLists) (me place : ℕ) (old now new : IndexLists) → IsMarkedTo n me place old now → HasMarkedPair n me place now new → IsMarkedTo n me (place + 1) old new
+marked_more n me place old now new to pair = record {
+  each = λ i j. ap (λ (f : ℕ → ℕ → Bool). f i j) pair.is ∙ marked_at (is_deliverable (seen n)) (has old) (has now) me place to.each i j;
+}
+
+pub marked_all : (n : NetLists) (me place : ℕ) (old new : IndexLists) → place ≡ length n.plan.edges → IsMarkedTo n me place old new → IsMarked n me old new
+marked_all n me place old new all to = subst (λ (k : ℕ). IsMarkedTo n me k old new) all to
+
+pub ruleset mark_steps = (marked_none, marked_more, marked_all)
+
+-- ---- the marks that are made anew are right
+
+pub fresh : (n : NetLists) (index : IndexLists) → IsIndexedBeside n index (λ k. false) → IsIndexed n index
+fresh n index beside = record { each = λ i j a b. beside.each i j a b refl refl }
+
+anew : (n : NetLists) (me : ℕ) (old new : IndexLists) (i j : ℕ) → IsMarked n me old new → i < length n.plan.edges → j < length n.plan.edges
+    → has new i j ≡ cond (nat_eq i me || nat_eq j me) (is_deliverable (seen n) i j) (has old i j)
+anew n me old new i j marked a b = marked.each i j ∙ by (nat_eq i me) (nat_eq j me) (nat_lt j (length n.plan.edges)) (nat_lt i (length n.plan.edges)) (grind (arith, nat_tests, b)) (grind (arith, nat_tests, a)) where
+  by : (p q x y : Bool) → x ≡ true → y ≡ true → cond ((p && x) || (q && y)) (is_deliverable (seen n) i j) (has old i j) ≡ cond (p || q) (is_deliverable (seen n) i j) (has old i j)
+  by true q x y e f = rw e refl
+  by false true x y e f = rw f refl
+  by false false x y e f = refl
+
+-- an index that is right beside these and an edge is right beside these, once that edge's marks are made anew
+right_at : (x y fit old now : Bool) → ((x ≡ false) → (y ≡ false) → old ≡ fit) → now ≡ cond (x || y) fit old → now ≡ fit
+right_at true y fit old now h e = e
+right_at false true fit old now h e = e
+right_at false false fit old now h e = e ∙ h refl refl
+
+pub marked_one : (n : NetLists) (old new : IndexLists) (me : ℕ) → IsIndexedBeside n old (λ k. nat_eq k me) → IsMarked n me old new → IsIndexed n new
+marked_one n old new me beside marked = record {
+  each = λ i j a b. right_at (nat_eq i me) (nat_eq j me) (is_deliverable (seen n) i j) (has old i j) (has new i j) (λ p q. beside.each i j a b p q) (anew n me old new i j marked a b);
+}
+
+both_false : (x y : Bool) → x ≡ false → y ≡ false → x || y ≡ false
+both_false x y p q = rw (p, q) refl
+
+pub marked_first : (n : NetLists) (old new : IndexLists) (me other : ℕ) → IsIndexedBeside n old (λ k. nat_eq k me || nat_eq k other) → IsMarked n me old new → IsIndexedBeside n new (λ k. nat_eq k other)
+marked_first n old new me other beside marked = record {
+  each = λ i j a b p q. right_at (nat_eq i me) (nat_eq j me) (is_deliverable (seen n) i j) (has old i j) (has new i j)
+      (λ x y. beside.each i j a b (both_false (nat_eq i me) (nat_eq i other) x p) (both_false (nat_eq j me) (nat_eq j other) y q)) (anew n me old new i j marked a b);
+}
+
+-- the edges from a place on
+pub from_none : (n : NetLists) (index : IndexLists) → IsIndexedBeside n index (λ k. not (nat_lt k 0))
+from_none n index = record { each = λ i j a b p q. absurd (wrong i p) } where
+  wrong : (i : ℕ) → not (nat_lt i 0) ≡ false → ⊥
+  wrong i p = grind (arith, nat_tests, p)
+
+pub from_more : (n : NetLists) (old new : IndexLists) (place : ℕ) → IsIndexedBeside n old (λ k. not (nat_lt k place)) → IsMarked n place old new → IsIndexedBeside n new (λ k. not (nat_lt k (place + 1)))
+from_more n old new place beside marked = record {
+  each = λ i j a b p q. right_at (nat_eq i place) (nat_eq j place) (is_deliverable (seen n) i j) (has old i j) (has new i j)
+      (λ x y. beside.each i j a b (before i x p) (before j y q)) (anew n place old new i j marked a b);
+} where
+  before : (i : ℕ) → nat_eq i place ≡ false → not (nat_lt i (place + 1)) ≡ false → not (nat_lt i place) ≡ false
+  before i x p = grind (arith, nat_tests, x, p)
+
+pub from_all : (n : NetLists) (index : IndexLists) (place : ℕ) → length n.plan.edges ≤ place → IsIndexedBeside n index (λ k. not (nat_lt k place)) → IsIndexed n index
+from_all n index place all beside = record { each = λ i j a b. beside.each i j a b (before i a) (before j b) } where
+  before : (i : ℕ) → i < length n.plan.edges → not (nat_lt i place) ≡ false
+  before i a = grind (arith, nat_tests, a, all)
+
+-- the edge of a circuit
+pub marked_circuit : (n : NetLists) (old new : IndexLists) (row : Option CircuitPlan) (me : EdgeId) → edge_of row ≡ Some me → IsIndexedBeside n old (is_at_edge row) → IsMarked n me.0 old new → IsIndexed n new
+marked_circuit n old new None me at beside marked = absurd (cc (at))
+marked_circuit n old new (Some row) me at beside marked =
+    let same : row.edge ≡ me = cc (at) in
+    marked_one n old new me.0 (record { each = λ i j a b p q. beside.each i j a b (ap (λ (e : EdgeId). nat_eq i e.0) same ∙ p) (ap (λ (e : EdgeId). nat_eq j e.0) same ∙ q) }) marked
+
+-- ---- what the index finds
+
+pub found_first : (n : NetLists) (index : IndexLists) (size : ℕ) → size ≡ length n.plan.edges → IsIndexed n index
+    → first_pair (has index) size 0 size ≡ first_pair (is_deliverable (seen n)) (length n.plan.edges) 0 (length n.plan.edges)
+found_first n index size e indexed =
+    ap (λ (k : ℕ). first_pair (has index) k 0 k) e
+    ∙ same_pair (has index) (is_deliverable (seen n)) (length n.plan.edges) 0 (length n.plan.edges) (omega arith) indexed.each
+
+pub ruleset all_steps = (from_none, from_more, from_all)
+
+pub ruleset marking_steps = (fresh, marked_one, marked_first, marked_circuit)
+
+-- before the first event nothing may be delivered
+pub indexed_first : (n : NetLists) (index : IndexLists) → seen n ≡ empty_network → IsClear index.rows → IsIndexed n index
+indexed_first n index empty clear = record { each = λ i j a b. clear.each i j ∙ sym (ap (λ (s : NetworkState). is_deliverable s i j) empty) }
+
+-- an event that was not done
+pub indexed_still : (old now : NetLists) (index : IndexLists) (stop : NetStop) → Stops old now stop → (old.failed ≡ false → IsIndexed old index) → now.failed ≡ false → IsIndexed now index
+indexed_still old now index (Crowded count event) stops indexed going = absurd stops
+indexed_still old now index (TooMuch weight event) stops indexed going =
+    subst (λ (n : NetLists). IsIndexed n index) (sym stops.1) (indexed (ap (λ (n : NetLists). n.failed) (sym stops.1) ∙ going))
+indexed_still old now index NoMemory stops indexed going = let wrong : true ≡ false = sym stops ∙ going in absurd (cc (wrong))

@@ -1,6 +1,0 @@
-use Rattle.std.proofs.Common.{◌≡◌}
-use Rattle.psn_net.specs.Lists.{AreOpen}
-use Rattle.psn_net.proofs.network.opening.open_edges.Given as goal
-
-abbrev pub invariant-loop-place : goal.invariant-loop-place
-invariant-loop-place l = AreOpen l.plan.value l.place l.edges.items

@@ -1,0 +1,73 @@
+-- Which edges have something to deliver, as words of bits.
+use Rattle.std.specs.Prelude.{◌≡◌, ◌<◌, ◌≤◌, ◌==◌, ◌&&◌, ◌||◌, not, nat_lt, ℕ, Bool, true, false, List, Option, Some, None, length, slice_index_or, if◌then◌else◌}
+use Rattle.std.specs.Int.{bit_at}
+use Rattle.net_base.specs.declared.plan.Plan.{Plan}
+use Rattle.net_base.specs.declared.plan.circuit_plan.CircuitPlan.{CircuitPlan}
+use Rattle.net_base.specs.declared.trace.event.Event.{Event}
+use Rattle.net_base.specs.declared.trace.event.Event.TheVariants.{Connect, Deliver, Lose, Restart, Tick, Frame, Circuit}
+use Rattle.net_base.specs.plan.Places.{circuit_row}
+use Rattle.network_model.specs.Connection.{is_deliverable}
+use Rattle.psn_net.specs.Lists.{NetLists, seen}
+
+-- a word for each first edge
+pub record IndexLists : Type 0 where
+  pub rows : List ℕ
+
+-- a bit of a word of 64 bits is on
+unfoldable pub in_word : ℕ → ℕ → Bool
+in_word word k = nat_lt k 64 && bit_at word k == 1
+
+-- a pair has a mark
+abbrev pub has : IndexLists → ℕ → ℕ → Bool
+has index from to = in_word (slice_index_or index.rows from 0) to
+
+-- another mark of one pair
+abbrev pub put_pair : ℕ → ℕ → Bool → (ℕ → ℕ → Bool) → ℕ → ℕ → Bool
+put_pair from to on pairs i j = if i == from && j == to then on else pairs i j
+
+-- what always holds of an index: no pair beyond the edges has a mark
+pub record IsWithin (words : List ℕ) : Type 0 where
+  pub few : length words ≤ 64
+  pub each : (from to : ℕ) → length words ≤ to → in_word (slice_index_or words from 0) to ≡ false
+
+-- no pair has a mark
+pub record IsClear (words : List ℕ) : Type 0 where
+  pub each : (from to : ℕ) → in_word (slice_index_or words from 0) to ≡ false
+
+-- ---- the index of a network
+
+-- the marks say what may be delivered
+pub record IsIndexed (n : NetLists) (index : IndexLists) : Type 0 where
+  pub each : (i j : ℕ) → i < length n.plan.edges → j < length n.plan.edges → has index i j ≡ is_deliverable (seen n) i j
+
+-- they do between all edges but these
+pub record IsIndexedBeside (n : NetLists) (index : IndexLists) (these : ℕ → Bool) : Type 0 where
+  pub each : (i j : ℕ) → i < length n.plan.edges → j < length n.plan.edges → these i ≡ false → these j ≡ false → has index i j ≡ is_deliverable (seen n) i j
+
+-- the marks of the pairs of an edge with those before a place were made anew, and the others stay
+pub record IsMarkedTo (n : NetLists) (me place : ℕ) (old new : IndexLists) : Type 0 where
+  pub each : (i j : ℕ) → has new i j ≡ (if (i == me && nat_lt j place) || (j == me && nat_lt i place) then is_deliverable (seen n) i j else has old i j)
+
+-- the marks of the two pairs of two edges were
+pub record HasMarkedPair (n : NetLists) (me other : ℕ) (old new : IndexLists) : Type 0 where
+  pub is : has new ≡ put_pair other me (is_deliverable (seen n) other me) (put_pair me other (is_deliverable (seen n) me other) (has old))
+
+-- the marks of all pairs of an edge were made anew
+abbrev pub IsMarked : NetLists → ℕ → IndexLists → IndexLists → Type 0
+IsMarked n me old new = IsMarkedTo n me (length n.plan.edges) old new
+
+-- ---- which edges an event sets to work
+
+abbrev pub is_at_edge : Option CircuitPlan → ℕ → Bool
+is_at_edge None k = false
+is_at_edge (Some row) k = k == row.edge.0
+
+abbrev pub sets_to_work : Plan → Event → ℕ → Bool
+sets_to_work plan (Connect from to) k = k == from.0 || k == to.0
+sets_to_work plan (Deliver from to count) k = k == to.0
+sets_to_work plan (Lose me peer) k = k == me.0
+sets_to_work plan (Restart me) k = k == me.0
+sets_to_work plan Tick k = true
+sets_to_work plan (Frame circuit octets) k = is_at_edge (circuit_row plan circuit) k
+sets_to_work plan (Circuit circuit on) k = is_at_edge (circuit_row plan circuit) k
+sets_to_work plan event k = false

@@ -1,0 +1,250 @@
+//! The parts of a network.
+ghost use Rattle.std.specs.Prelude.{◌≡◌, ◌<◌, ◌≤◌, ◌+◌, ◌++◌, ◌∷◌, ◌^◌, ◌-◌, ◌↔◌, [], min, true, false, length, None, IfErr, IfOk, IfSome, IsSome, OnErr, OnOk};
+ghost use Rattle.net_base.specs.plan.Accepted.{IsChecked};
+ghost use Rattle.net_base.specs.plan.Planned.{IsEventOf};
+ghost use Rattle.edge_model.specs.Step.{edge_step};
+ghost use Rattle.provider_edge.specs.Lists.{seen as seen_edge};
+ghost use Rattle.provider_edge.specs.Said.{AllFit};
+ghost use Rattle.provider_edge.specs.Taking.{IsInRange};
+ghost use Rattle.network_model.specs.Absorb.{begin_at, taken_all};
+ghost use Rattle.network_model.specs.State.{at_edge, empty_network};
+ghost use Rattle.network_model.specs.Step.{brings, step};
+ghost use Rattle.psn_net.specs.Applying.{Stops};
+ghost use Rattle.psn_net.specs.Lists.{HasDriven, HasRoom, HasStepped, Keeps, seen};
+ghost use Rattle.psn_net.specs.Weight.{stop_at, weight_of};
+
+mod absorb;
+mod connections;
+mod events;
+mod lookups;
+mod opening;
+
+use crate::NetStop;
+use crate::ledger::Ledger;
+use crate::packets::Packets;
+use crate::parts::opening::open_edges;
+use crate::pipes::Pipes;
+use crate::psn_link::PsnLink;
+use edge_model::{Effects, Input};
+use net_base::{EdgeId, Entry, Event, NoMemory, Plan, Trace};
+use provider_edge::Edge;
+use std::alloc::Global;
+use std::marker::Model;
+use std::rc::Rc;
+
+/// The most that a trace weighs before a further event is done.
+const MOST_WEIGHT: u64 = 268_435_456;
+
+/// The edges of a plan, what is on its way between them, and the trace of what has happened. Contracts see it as lists by
+/// the plan's places, and by `seen` as the state of the network.
+#[derive(Debug, Drop)]
+pub struct Parts {
+    plan: Rc<Plan>,
+    edges: Vec<Edge>,
+    pipes: Pipes,
+    packets: Packets,
+    entered: u64,
+    ledger: Ledger,
+    failed: bool,
+}
+
+impl Model for Parts {
+    ghost use Rattle.psn_net.specs.Lists.{IsNetwork, NetLists};
+
+    ghost Value = { NetLists };
+
+    ghost view = { λ n. record { plan = n.plan.value; edges = n.edges.items; pipes = n.pipes; packets = n.packets; entered = n.entered; trace = n.ledger; failed = n.failed } };
+
+    ghost invariant = { λ n. IsNetwork (record { plan = n.plan.value; edges = n.edges.items; pipes = n.pipes; packets = n.packets; entered = n.entered; trace = n.ledger; failed = n.failed }) };
+}
+
+impl Parts {
+    /// The network of a plan before its first event.
+    #[tactic(auto, using(crate::proofs::NetworkLemmas::opening))]
+    pub fn open(alloc: Global, plan: &Plan) -> Result<Parts, NoMemory>
+        requires { IsChecked plan.now }
+        ensures plan { IfOk result (λ parts. parts.plan ≡ plan.now) }
+        ensures state { IfOk result (λ parts. seen parts ≡ empty_network) }
+        ensures trace { IfOk result (λ parts. parts.trace ≡ []) }
+        ensures going { IfOk result (λ parts. parts.failed ≡ false) }
+    {
+        let count = plan.edges.len();
+        let plan = Rc::new(alloc, plan.copy(alloc)?)?;
+        let edges = open_edges(alloc, &plan, count)?;
+        Ok(Parts {
+            plan,
+            edges,
+            pipes: Pipes::open(alloc, count)?,
+            packets: Packets::new(alloc),
+            entered: 0,
+            ledger: Ledger::new(alloc),
+            failed: false,
+        })
+    }
+
+    /// Does one event, and adds to the trace what it tells. The event names places of the plan, and its numbers are in
+    /// their ranges; a frame has at most 262,144 octets.
+    ///
+    /// `TooMuch` exactly where the trace already weighs more than 268,435,456; network and trace are then as they were.
+    /// `NoMemory` where memory was refused; from then on the network is given up, and answers the same to every event.
+    #[tactic(auto, using(crate::proofs::WeightLemmas::stops_at))]
+    pub fn apply(&mut self, alloc: Global, event: &Event) -> Result<(), NetStop>
+        requires { IsEventOf self.old.plan event.now }
+        ensures plan { self.new.plan ≡ self.old.plan }
+        ensures state { OnOk result (seen self.new ≡ (step self.old.plan (seen self.old) event.now).state) }
+        ensures told { OnOk result (self.new.trace ≡ self.old.trace ++ (step self.old.plan (seen self.old) event.now).entries) }
+        ensures within { OnOk result (stop_at self.old.trace ≡ None) }
+        ensures going { OnOk result ((self.old.failed ≡ false) × (self.new.failed ≡ false)) }
+        ensures stops { IfErr result (Stops self.old self.new) }
+        ensures given_up { self.old.failed ≡ true → IfErr result (λ stop. stop ≡ NetStop.NoMemory) }
+    {
+        if self.failed {
+            return Err(NetStop::NoMemory);
+        }
+        if let Some(stop) = self.refusal() {
+            return Err(stop);
+        }
+        match self.work(alloc, event) {
+            Ok(()) => Ok(()),
+            Err(NoMemory) => {
+                self.failed = true;
+                Err(NetStop::NoMemory)
+            }
+        }
+    }
+
+    // The limit that stops the next event, where there is one.
+    #[tactic(auto, unfolding(crate::specs::Weight::stop_at))]
+    fn refusal(&self) -> Option<NetStop>
+        ensures { result ≡ stop_at self.now.trace }
+    {
+        let weight = self.ledger.weight();
+        if weight <= MOST_WEIGHT {
+            return None;
+        }
+        Some(NetStop::TooMuch {
+            weight,
+            event: self.ledger.next_event(),
+        })
+    }
+
+    // Tells the event, and then does it.
+    fn work(&mut self, alloc: Global, event: &Event) -> Result<(), NoMemory>
+        requires { IsEventOf self.old.plan event.now }
+        ensures keeps { Keeps self.old self.new }
+        ensures step { OnOk result (HasStepped self.old self.new (step self.old.plan (seen self.old) event.now)) }
+    {
+        self.tell(Entry::Did {
+            event: event.copy(alloc)?,
+        })?;
+        self.bring(alloc, event)
+    }
+
+    // Does the event.
+    fn bring(&mut self, alloc: Global, event: &Event) -> Result<(), NoMemory>
+        requires event { IsEventOf self.old.plan event.now }
+        requires room { HasRoom self.old }
+        ensures keeps { Keeps self.old self.new }
+        ensures step { OnOk result (HasStepped self.old self.new (brings self.old.plan event.now (seen self.old))) }
+    {
+        match event {
+            Event::Connect { from, to } => self.connect(alloc, *from, *to),
+            Event::Deliver { from, to, count } => self.deliver(alloc, *from, *to, *count),
+            Event::Lose { edge, peer } => self.lose(alloc, *edge, *peer),
+            Event::Restart { edge } => self.restart(alloc, *edge),
+            Event::Tick => self.tick(alloc),
+            Event::Frame { circuit, bytes } => self.frame(alloc, *circuit, bytes.as_slice()),
+            Event::Circuit { circuit, on } => self.circuit(alloc, *circuit, *on),
+            _ => Ok(()),
+        }
+    }
+
+    // Adds an entry to the trace.
+    #[tactic(auto, unfolding(crate::specs::Lists::seen))]
+    pub(crate) fn tell(&mut self, entry: Entry) -> Result<(), NoMemory>
+        ensures keeps { Keeps self.old self.new }
+        ensures state { seen self.new ≡ seen self.old }
+        ensures room { HasRoom self.old → HasRoom self.new }
+        ensures made { OnOk result (HasRoom self.new) }
+        ensures more { OnOk result (length self.new.trace ≡ length self.old.trace + 1) }
+        ensures counts { (self.new.packets.last ≡ self.old.packets.last) × (self.new.entered ≡ self.old.entered) }
+        ensures ok { OnOk result (self.new.trace ≡ self.old.trace ++ entry ∷ []) }
+        ensures err { OnErr result (self.new.trace ≡ self.old.trace) }
+    {
+        self.ledger.add(entry)
+    }
+
+    /// Memory was refused.
+    pub fn has_failed(&self) -> bool
+        ensures { result ≡ self.now.failed }
+    {
+        self.failed
+    }
+
+    // An edge takes an input, over a link that takes every call.
+    pub(crate) fn drive(
+        &mut self,
+        alloc: Global,
+        me: EdgeId,
+        input: Input<'_>,
+    ) -> Result<Effects, NoMemory>
+        requires me { me.0 < length self.old.plan.edges }
+        requires range { IsInRange input }
+        ensures keeps { Keeps self.old self.new }
+        ensures room { HasRoom self.old → HasRoom self.new }
+        ensures driven { IfOk result (HasDriven me self.old self.new (edge_step self.old.plan taken_all input.entry (begin_at (seen self.old) me))) }
+        ensures fit { IfOk result (λ effects. AllFit self.old.plan effects.list) }
+    {
+        let mut link = PsnLink::new(alloc);
+        match self.edges[me.0 as usize].take(alloc, input, &mut link) {
+            Ok(effects) => Ok(effects),
+            Err(_) => Err(NoMemory),
+        }
+    }
+
+    /// The plan.
+    pub fn plan(&self) -> &Plan
+        ensures { result.now ≡ self.now.plan }
+    {
+        &self.plan
+    }
+
+    /// The trace of what has happened.
+    pub fn trace(&self) -> &Trace
+        ensures { result.now ≡ self.now.trace }
+    {
+        self.ledger.trace()
+    }
+
+    /// The trace of what has happened.
+    pub fn into_trace(self) -> Trace
+        ensures { result ≡ self.trace }
+    {
+        self.ledger.into_trace()
+    }
+
+    /// The edge with this place, in its part of the network's state; `None` exactly where the plan has no such edge.
+    #[tactic(auto, unfolding(crate::specs::Lists::seen))]
+    pub fn edge(&self, id: EdgeId) -> Option<&Edge>
+        ensures some { IsSome result ↔ (id.0 < length self.now.plan.edges) }
+        ensures part { IfSome result (λ edge. seen_edge edge.now ≡ at_edge (seen self.now) id) }
+    {
+        self.edges.get(id.0 as usize)
+    }
+
+    /// How many packets are under way, counted up to 2^32 - 1.
+    #[tactic(auto, unfolding(crate::specs::Lists::seen))]
+    pub fn under_way(&self) -> u32
+        ensures { result ≡ min (length (seen self.now).under_way) (2 ^ 32 - 1) }
+    {
+        u32::try_from(self.packets.len()).unwrap_or(u32::MAX)
+    }
+
+    /// What the trace weighs: 64 for each entry, and the octets of the frame, packet or PDU that it holds, counted up to
+    /// 2^64 - 1.
+    pub fn weight(&self) -> u64
+        ensures { result ≡ weight_of self.now.trace }
+    {
+        self.ledger.weight()
+    }
+}

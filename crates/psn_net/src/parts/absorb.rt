@@ -1,0 +1,220 @@
+//! An edge's work goes into the network.
+ghost use Rattle.std.specs.Prelude.{◌≡◌, ◌<◌, ◌+◌, ◌++◌, ◌∷◌, ◌^◌, [], length, IfOk, OnOk};
+ghost use Rattle.net_base.specs.declared.trace.entry.Entry.TheVariants as Entry;
+ghost use Rattle.network_model.specs.Absorb.{absorb_all, absorb_one, all_entries_of, entries_of, put_towards};
+ghost use Rattle.network_model.specs.State.{with_packet, with_pipe};
+ghost use Rattle.provider_edge.specs.Said.{AllFit, Fits};
+ghost use Rattle.psn_net.specs.Lists.{HasRoom, HasStepped, Keeps, seen};
+
+use crate::parts::Parts;
+use edge_model::Effect;
+use net_base::{Arrival, EdgeId, Entry, NoMemory, Octets, WireId};
+use std::alloc::Global;
+
+impl Parts {
+    // All that an edge gave out on an input of this origin, which has passed so many segments, in order.
+    #[tactic(auto, using(crate::proofs::AbsorbLemmas::absorb_steps))]
+    pub(crate) fn absorb(
+        &mut self,
+        alloc: Global,
+        me: EdgeId,
+        origin: u64,
+        hops: u64,
+        effects: Vec<Effect>,
+    ) -> Result<(), NoMemory>
+        requires me { me.0 < length self.old.plan.edges }
+        requires fit { AllFit self.old.plan effects.items }
+        requires hops { hops + 1 < 2 ^ 64 }
+        requires room { HasRoom self.old }
+        ensures keeps { Keeps self.old self.new }
+        ensures room { OnOk result (HasRoom self.new) }
+        ensures step { OnOk result (HasStepped self.old self.new (record {
+          state = absorb_all me origin hops effects.items (seen self.old);
+          entries = all_entries_of me origin hops effects.items (seen self.old);
+        })) }
+    {
+        for effect in effects {
+            self.absorb_one(alloc, me, origin, hops, effect)?;
+        }
+        Ok(())
+    }
+
+    // One thing that an edge gave out.
+    fn absorb_one(
+        &mut self,
+        alloc: Global,
+        me: EdgeId,
+        origin: u64,
+        hops: u64,
+        effect: Effect,
+    ) -> Result<(), NoMemory>
+        requires me { me.0 < length self.old.plan.edges }
+        requires fit { Fits self.old.plan effect }
+        requires hops { hops + 1 < 2 ^ 64 }
+        requires room { HasRoom self.old }
+        ensures keeps { Keeps self.old self.new }
+        ensures room { OnOk result (HasRoom self.new) }
+        ensures step { OnOk result (HasStepped self.old self.new (record {
+          state = absorb_one me origin hops effect (seen self.old);
+          entries = entries_of me origin hops effect (seen self.old);
+        })) }
+    {
+        match effect {
+            Effect::Said { peer, bytes } => self.say(me, peer, bytes),
+            Effect::Sent {
+                peer,
+                wire,
+                arrival,
+                bytes,
+            } => self.send(alloc, me, peer, wire, arrival, origin, hops + 1, bytes),
+            Effect::Left { circuit, bytes } => self.tell(Entry::Left {
+                circuit,
+                origin,
+                hops,
+                bytes,
+            }),
+            Effect::Dropped(cause) => self.tell(Entry::Dropped {
+                edge: me,
+                origin,
+                cause,
+            }),
+            Effect::Session { peer, state } => self.tell(Entry::Session {
+                edge: me,
+                peer,
+                state,
+            }),
+            Effect::Wire { wire, down } => self.tell(Entry::Wire {
+                edge: me,
+                wire,
+                down,
+            }),
+            Effect::Pong { wire, sequence } => self.tell(Entry::Pong {
+                edge: me,
+                wire,
+                sequence,
+            }),
+            Effect::Closed { peer } => {
+                self.empty_pipe(peer, me);
+                Ok(())
+            }
+        }
+    }
+
+    // Octets of LDP towards a peer.
+    fn say(&mut self, me: EdgeId, peer: EdgeId, bytes: Octets) -> Result<(), NoMemory>
+        requires me { me.0 < length self.old.plan.edges }
+        requires peer { peer.0 < length self.old.plan.edges }
+        requires room { HasRoom self.old }
+        ensures keeps { Keeps self.old self.new }
+        ensures room { OnOk result (HasRoom self.new) }
+        ensures step { OnOk result (HasStepped self.old self.new (record {
+          state = put_towards me peer bytes (seen self.old);
+          entries = Entry.Said me peer bytes ∷ [];
+        })) }
+    {
+        self.put_towards(me, peer, bytes.as_slice())?;
+        self.tell(Entry::Said {
+            from: me,
+            to: peer,
+            bytes,
+        })
+    }
+
+    // Octets go into the pipe towards a peer whose end stands.
+    fn put_towards(&mut self, me: EdgeId, peer: EdgeId, bytes: &[u8]) -> Result<(), NoMemory>
+        requires me { me.0 < length self.old.plan.edges }
+        requires peer { peer.0 < length self.old.plan.edges }
+        ensures keeps { Keeps self.old self.new }
+        ensures trace { self.new.trace ≡ self.old.trace }
+        ensures room { HasRoom self.old → HasRoom self.new }
+        ensures state { OnOk result (seen self.new ≡ put_towards me peer bytes.now (seen self.old)) }
+    {
+        if self.stands(peer, me) {
+            self.fill_pipe(me, peer, bytes)?;
+        }
+        Ok(())
+    }
+
+    // More octets on the way.
+    #[tactic(auto, unfolding(crate::specs::Lists::seen, network_model::specs::State::with_pipe))]
+    fn fill_pipe(&mut self, from: EdgeId, to: EdgeId, bytes: &[u8]) -> Result<(), NoMemory>
+        requires from { from.0 < length self.old.plan.edges }
+        requires to { to.0 < length self.old.plan.edges }
+        ensures keeps { Keeps self.old self.new }
+        ensures trace { self.new.trace ≡ self.old.trace }
+        ensures room { HasRoom self.old → HasRoom self.new }
+        ensures state { OnOk result (seen self.new ≡ with_pipe from to ((seen self.old).pipes from.0 to.0 ++ bytes.now) (seen self.old)) }
+    {
+        self.pipes.put(from, to, bytes)
+    }
+
+    // Nothing is on the way any more.
+    #[tactic(auto, unfolding(crate::specs::Lists::seen, network_model::specs::State::with_pipe))]
+    fn empty_pipe(&mut self, from: EdgeId, to: EdgeId)
+        requires from { from.0 < length self.old.plan.edges }
+        requires to { to.0 < length self.old.plan.edges }
+        ensures keeps { Keeps self.old self.new }
+        ensures trace { self.new.trace ≡ self.old.trace }
+        ensures room { HasRoom self.old → HasRoom self.new }
+        ensures state { seen self.new ≡ with_pipe from to [] (seen self.old) }
+    {
+        self.pipes.clear(from, to);
+    }
+
+    // A packet towards a neighbour, which will have passed so many segments.
+    fn send(
+        &mut self,
+        alloc: Global,
+        me: EdgeId,
+        peer: EdgeId,
+        wire: WireId,
+        arrival: Arrival,
+        origin: u64,
+        hops: u64,
+        bytes: Octets,
+    ) -> Result<(), NoMemory>
+        requires room { HasRoom self.old }
+        ensures keeps { Keeps self.old self.new }
+        ensures room { OnOk result (HasRoom self.new) }
+        ensures step { OnOk result (HasStepped self.old self.new (record {
+          state = with_packet wire me peer origin hops bytes (seen self.old);
+          entries = Entry.Sent ((seen self.old).sent + 1) me peer wire arrival origin hops bytes ∷ [];
+        })) }
+    {
+        let packet = self.add_packet(wire, me, peer, origin, hops, bytes.copy(alloc)?)?;
+        self.tell(Entry::Sent {
+            packet,
+            from: me,
+            to: peer,
+            wire,
+            arrival,
+            origin,
+            hops,
+            bytes,
+        })
+    }
+
+    // A packet is under way, and has the next number.
+    #[tactic(auto, unfolding(crate::specs::Lists::seen, network_model::specs::State::with_packet))]
+    fn add_packet(
+        &mut self,
+        wire: WireId,
+        from: EdgeId,
+        to: EdgeId,
+        origin: u64,
+        hops: u64,
+        bytes: Octets,
+    ) -> Result<u64, NoMemory>
+        requires room { HasRoom self.old }
+        ensures keeps { Keeps self.old self.new }
+        ensures trace { self.new.trace ≡ self.old.trace }
+        ensures entered { self.new.entered ≡ self.old.entered }
+        ensures last { OnOk result (self.new.packets.last ≡ self.old.packets.last + 1) }
+        ensures number { IfOk result (λ number. number ≡ (seen self.old).sent + 1) }
+        ensures state { OnOk result (seen self.new ≡ with_packet wire from to origin hops bytes (seen self.old)) }
+    {
+        let _told = self.ledger.trace().len();
+        self.packets.add(wire, from, to, origin, hops, bytes)?;
+        Ok(self.packets.last())
+    }
+}

@@ -1,0 +1,191 @@
+//! The events of connections.
+ghost use Rattle.std.specs.Prelude.{◌≡◌, ◌==◌, ◌<◌, ◌++◌, false, drop, length, take, IfOk, OnOk};
+ghost use Rattle.network_model.specs.Absorb.{idle};
+ghost use Rattle.network_model.specs.Connection.{connect_event, connected_work, connecting, deliver_event, delivering, hearing_work, lose_event, losing, restart_event};
+ghost use Rattle.network_model.specs.State.{with_pipe, without_octets_to};
+ghost use Rattle.provider_edge.specs.Said.{AllFit};
+ghost use Rattle.psn_net.specs.Lists.{HasDriven, HasRoom, HasStepped, Keeps, seen};
+
+use crate::parts::Parts;
+use crate::psn_link::PsnLink;
+use edge_model::{Effects, Input};
+use net_base::{EdgeId, Entry, NoMemory};
+use std::alloc::Global;
+
+impl Parts {
+    // Two edges connect.
+    pub(crate) fn connect(
+        &mut self,
+        alloc: Global,
+        from: EdgeId,
+        to: EdgeId,
+    ) -> Result<(), NoMemory>
+        requires from { from.0 < length self.old.plan.edges }
+        requires to { to.0 < length self.old.plan.edges }
+        requires room { HasRoom self.old }
+        ensures keeps { Keeps self.old self.new }
+        ensures step { OnOk result (HasStepped self.old self.new (connect_event self.old.plan from to (seen self.old))) }
+    {
+        if self.can_connect(from, to) {
+            return self.connect_ends(alloc, from, to);
+        }
+        self.tell_idle()
+    }
+
+    // Both ends come to stand, and then what the edges gave out is on its way.
+    fn connect_ends(&mut self, alloc: Global, from: EdgeId, to: EdgeId) -> Result<(), NoMemory>
+        requires from { from.0 < length self.old.plan.edges }
+        requires to { to.0 < length self.old.plan.edges }
+        requires apart { (to.0 == from.0) ≡ false }
+        requires room { HasRoom self.old }
+        ensures keeps { Keeps self.old self.new }
+        ensures step { OnOk result (HasStepped self.old self.new (connecting from (connected_work self.old.plan (seen self.old) from to) to (connected_work self.old.plan (seen self.old) to from) (seen self.old))) }
+    {
+        let first = self.drive(alloc, from, Input::Connected { peer: to })?;
+        let second = self.drive(alloc, to, Input::Connected { peer: from })?;
+        self.absorb(alloc, from, 0, 0, first.list.into_items())?;
+        self.absorb(alloc, to, 0, 0, second.list.into_items())
+    }
+
+    // The first octets on their way between two edges are delivered. Where none are and the end that put them is gone, the
+    // receiver's end is lost.
+    pub(crate) fn deliver(
+        &mut self,
+        alloc: Global,
+        from: EdgeId,
+        to: EdgeId,
+        count: u16,
+    ) -> Result<(), NoMemory>
+        requires from { from.0 < length self.old.plan.edges }
+        requires to { to.0 < length self.old.plan.edges }
+        requires room { HasRoom self.old }
+        ensures keeps { Keeps self.old self.new }
+        ensures step { OnOk result (HasStepped self.old self.new (deliver_event from to count (seen self.old))) }
+    {
+        if !self.is_deliverable(from, to) {
+            return self.tell_idle();
+        }
+        if self.is_drained(from, to) {
+            return self.lose_end(alloc, to, from);
+        }
+        self.deliver_octets(alloc, from, to, count)
+    }
+
+    // Octets on their way are delivered.
+    #[tactic(auto, using(crate::proofs::ConnectionLemmas::deliver_stepped))]
+    fn deliver_octets(
+        &mut self,
+        alloc: Global,
+        from: EdgeId,
+        to: EdgeId,
+        count: u16,
+    ) -> Result<(), NoMemory>
+        requires from { from.0 < length self.old.plan.edges }
+        requires to { to.0 < length self.old.plan.edges }
+        requires room { HasRoom self.old }
+        ensures keeps { Keeps self.old self.new }
+        ensures step { OnOk result (HasStepped self.old self.new (delivering from to count (seen self.old))) }
+    {
+        let effects = self.hand_over(alloc, from, to, count)?;
+        self.give_up(from, to, count);
+        self.absorb(alloc, to, 0, 0, effects.list.into_items())
+    }
+
+    // The receiver hears the octets, which still lie in the pipe.
+    fn hand_over(
+        &mut self,
+        alloc: Global,
+        from: EdgeId,
+        to: EdgeId,
+        count: u16,
+    ) -> Result<Effects, NoMemory>
+        requires from { from.0 < length self.old.plan.edges }
+        requires to { to.0 < length self.old.plan.edges }
+        ensures keeps { Keeps self.old self.new }
+        ensures room { HasRoom self.old → HasRoom self.new }
+        ensures driven { IfOk result (HasDriven to self.old self.new (hearing_work (seen self.old) from to (take count ((seen self.old).pipes from.0 to.0)))) }
+        ensures fit { IfOk result (λ effects. AllFit self.old.plan effects.list) }
+    {
+        let bytes = self.pipes.front(from, to, count as usize);
+        let mut link = PsnLink::new(alloc);
+        match self.edges[to.0 as usize].take(
+            alloc,
+            Input::Octets { peer: from, bytes },
+            &mut link,
+        ) {
+            Ok(effects) => Ok(effects),
+            Err(_) => Err(NoMemory),
+        }
+    }
+
+    // The pipe gives up the octets.
+    #[tactic(auto, unfolding(crate::specs::Lists::seen, network_model::specs::State::with_pipe))]
+    fn give_up(&mut self, from: EdgeId, to: EdgeId, count: u16)
+        requires from { from.0 < length self.old.plan.edges }
+        requires to { to.0 < length self.old.plan.edges }
+        ensures keeps { Keeps self.old self.new }
+        ensures trace { self.new.trace ≡ self.old.trace }
+        ensures room { HasRoom self.old → HasRoom self.new }
+        ensures state { seen self.new ≡ with_pipe from to (drop count ((seen self.old).pipes from.0 to.0)) (seen self.old) }
+    {
+        self.pipes.skip(from, to, count as usize);
+    }
+
+    // An edge loses its end of the connection with a peer.
+    pub(crate) fn lose(&mut self, alloc: Global, me: EdgeId, peer: EdgeId) -> Result<(), NoMemory>
+        requires me { me.0 < length self.old.plan.edges }
+        requires room { HasRoom self.old }
+        ensures keeps { Keeps self.old self.new }
+        ensures step { OnOk result (HasStepped self.old self.new (lose_event me peer (seen self.old))) }
+    {
+        if self.stands(me, peer) {
+            return self.lose_end(alloc, me, peer);
+        }
+        self.tell_idle()
+    }
+
+    // The edge's end is lost.
+    #[tactic(auto, using(crate::proofs::ConnectionLemmas::lose_stepped))]
+    fn lose_end(&mut self, alloc: Global, me: EdgeId, peer: EdgeId) -> Result<(), NoMemory>
+        requires me { me.0 < length self.old.plan.edges }
+        requires room { HasRoom self.old }
+        ensures keeps { Keeps self.old self.new }
+        ensures step { OnOk result (HasStepped self.old self.new (losing me peer (seen self.old))) }
+    {
+        let effects = self.drive(alloc, me, Input::Lost { peer })?;
+        self.absorb(alloc, me, 0, 0, effects.list.into_items())
+    }
+
+    // An edge restarts.
+    #[tactic(auto, using(crate::proofs::ConnectionLemmas::restart_stepped))]
+    pub(crate) fn restart(&mut self, alloc: Global, me: EdgeId) -> Result<(), NoMemory>
+        requires me { me.0 < length self.old.plan.edges }
+        requires room { HasRoom self.old }
+        ensures keeps { Keeps self.old self.new }
+        ensures step { OnOk result (HasStepped self.old self.new (restart_event me (seen self.old))) }
+    {
+        let effects = self.drive(alloc, me, Input::Restart)?;
+        self.empty_pipes_to(me);
+        self.absorb(alloc, me, 0, 0, effects.list.into_items())
+    }
+
+    // Nothing is on the way to an edge any more.
+    #[tactic(auto, unfolding(crate::specs::Lists::seen, network_model::specs::State::without_octets_to))]
+    fn empty_pipes_to(&mut self, me: EdgeId)
+        requires me { me.0 < length self.old.plan.edges }
+        ensures keeps { Keeps self.old self.new }
+        ensures trace { self.new.trace ≡ self.old.trace }
+        ensures room { HasRoom self.old → HasRoom self.new }
+        ensures state { seen self.new ≡ without_octets_to me (seen self.old) }
+    {
+        self.pipes.clear_to(me);
+    }
+
+    // The event does not apply.
+    fn tell_idle(&mut self) -> Result<(), NoMemory>
+        ensures keeps { Keeps self.old self.new }
+        ensures step { OnOk result (HasStepped self.old self.new (idle (seen self.old))) }
+    {
+        self.tell(Entry::Idle)
+    }
+}

@@ -1,0 +1,114 @@
+//! The events of the network.
+ghost use Rattle.std.specs.Prelude.{◌≡◌, ◌<◌, ◌≤◌, ◌+◌, ◌++◌, ◌∷◌, [], Some, length, IfOk, OnOk};
+ghost use Rattle.net_base.specs.plan.Places.{circuit_row};
+ghost use Rattle.network_model.specs.Circuit.{circuit_event};
+ghost use Rattle.network_model.specs.Frame.{frame_event};
+ghost use Rattle.network_model.specs.State.{with_frame};
+ghost use Rattle.network_model.specs.Tick.{tick_at, tick_event};
+ghost use Rattle.psn_net.specs.Lists.{HasEntered, HasRoom, HasStepped, Keeps, edge_of, seen};
+
+use crate::parts::Parts;
+use edge_model::Input;
+use net_base::{CircuitId, EdgeId, Entry, List, NoMemory};
+use std::alloc::Global;
+
+impl Parts {
+    // A tick passes at each edge, in the plan's order.
+    #[tactic(auto, using(crate::proofs::TickLemmas::tick_steps))]
+    pub(crate) fn tick(&mut self, alloc: Global) -> Result<(), NoMemory>
+        requires room { HasRoom self.old }
+        ensures keeps { Keeps self.old self.new }
+        ensures step { OnOk result (HasStepped self.old self.new (tick_event self.old.plan (seen self.old))) }
+    {
+        let count = self.plan.edges.len();
+        for place in 0..count {
+            self.tick_at(alloc, EdgeId(place as u16))?;
+        }
+        Ok(())
+    }
+
+    // A tick passes at an edge.
+    fn tick_at(&mut self, alloc: Global, me: EdgeId) -> Result<(), NoMemory>
+        requires me { me.0 < length self.old.plan.edges }
+        requires room { HasRoom self.old }
+        ensures keeps { Keeps self.old self.new }
+        ensures room { OnOk result (HasRoom self.new) }
+        ensures step { OnOk result (HasStepped self.old self.new (tick_at self.old.plan me (seen self.old))) }
+    {
+        let effects = self.drive(alloc, me, Input::Tick)?;
+        self.absorb(alloc, me, 0, 0, effects.list.into_items())
+    }
+
+    // A circuit is turned on or off.
+    #[tactic(auto, using(crate::proofs::NetworkLemmas::circuit_idle_stepped, crate::proofs::NetworkLemmas::circuit_stepped))]
+    pub(crate) fn circuit(
+        &mut self,
+        alloc: Global,
+        circuit: CircuitId,
+        on: bool,
+    ) -> Result<(), NoMemory>
+        requires circuit { circuit.0 < length self.old.plan.circuits }
+        requires room { HasRoom self.old }
+        ensures keeps { Keeps self.old self.new }
+        ensures step { OnOk result (HasStepped self.old self.new (circuit_event self.old.plan circuit on (circuit_row self.old.plan circuit) (seen self.old))) }
+    {
+        let me = self.edge_of(circuit);
+        let effects = self.drive(alloc, me, Input::Circuit { circuit, on })?;
+        if effects.idle {
+            self.tell(Entry::Idle)?;
+            return Ok(());
+        }
+        self.absorb(alloc, me, 0, 0, effects.list.into_items())
+    }
+
+    // A customer's frame enters at a circuit.
+    #[tactic(auto, using(crate::proofs::NetworkLemmas::frame_idle_stepped, crate::proofs::NetworkLemmas::frame_stepped))]
+    pub(crate) fn frame(
+        &mut self,
+        alloc: Global,
+        circuit: CircuitId,
+        bytes: &[u8],
+    ) -> Result<(), NoMemory>
+        requires circuit { circuit.0 < length self.old.plan.circuits }
+        requires room { HasRoom self.old }
+        ensures keeps { Keeps self.old self.new }
+        ensures step { OnOk result (HasStepped self.old self.new (frame_event self.old.plan circuit bytes.now (circuit_row self.old.plan circuit) (seen self.old))) }
+    {
+        let me = self.edge_of(circuit);
+        let effects = self.drive(alloc, me, Input::Frame { circuit, bytes })?;
+        if effects.idle {
+            self.tell(Entry::Idle)?;
+            return Ok(());
+        }
+        let origin = self.enter(alloc, circuit, bytes)?;
+        self.absorb(alloc, me, origin, 0, effects.list.into_items())
+    }
+
+    /// The edge of a circuit.
+    pub fn edge_of(&self, circuit: CircuitId) -> EdgeId
+        requires { circuit.0 < length self.now.plan.circuits }
+        ensures edge { edge_of (circuit_row self.now.plan circuit) ≡ Some result }
+        ensures within { result.0 < length self.now.plan.edges }
+    {
+        self.plan.circuits.as_slice()[circuit.0 as usize].edge
+    }
+
+    // The frame has the next number, and is told as it enters.
+    #[tactic(auto, unfolding(crate::specs::Lists::seen, network_model::specs::State::with_frame))]
+    fn enter(&mut self, alloc: Global, circuit: CircuitId, bytes: &[u8]) -> Result<u64, NoMemory>
+        requires room { HasRoom self.old }
+        ensures keeps { Keeps self.old self.new }
+        ensures room { OnOk result (HasRoom self.new) }
+        ensures entered { IfOk result (HasEntered self.old self.new circuit bytes.now) }
+    {
+        let _told = self.ledger.trace().len();
+        let number = self.entered + 1;
+        self.entered = number;
+        self.tell(Entry::In {
+            circuit,
+            number,
+            bytes: List::from_bytes(alloc, bytes)?,
+        })?;
+        Ok(number)
+    }
+}
