@@ -1,11 +1,12 @@
 -- A list whose items are changed one by one.
-use Rattle.std.proofs.Common.{◌≡◌, ◌<◌, ◌+◌, ◌++◌, ◌∙◌, ◌⊎◌, ℕ, zero, suc, List, [], ◌∷◌, Option, Some, None, length, slice_get, slice_index_or, set, get_or, take, drop, map, refl, ap, sym, subst, inl, inr, arith}
-use Rattle.std.proofs.lemmas.Bool.{cases_order}
+use Rattle.std.proofs.Common.{◌≡◌, ◌<◌, ◌≤◌, ◌+◌, ◌++◌, ◌∙◌, ◌⊎◌, ◌==◌, ℕ, zero, suc, Bool, true, false, cond, filter, not, List, [], ◌∷◌, Option, Some, None, length, slice_get, slice_index_or, set, get_or, take, drop, map, refl, ap, sym, subst, inl, inr, arith}
+use Rattle.std.proofs.lemmas.Bool.{cases_order, eq-eqb}
 use Rattle.std.proofs.lemmas.Option.{slice_get_read}
 use Rattle.std.specs.Prelude.{All}
 use Rattle.net_base.specs.declared.plan.Plan.{Plan}
 use Rattle.net_base.specs.declared.plan.places.EdgeId.{EdgeId}
 use Rattle.net_base.specs.declared.plan.service_plan.ServicePlan.{ServicePlan}
+use Rattle.mac_table.specs.declared.mac_entry.MacEntry.{MacEntry}
 use Rattle.provider_edge.specs.declared.domain.Domain.{Domain}
 use Rattle.provider_edge.specs.Domain.{AreNew, IsNew}
 
@@ -46,7 +47,7 @@ each_at {X = X} P f xs now i x all so_far within read =
     subst P (sym (read ∙ (ap (λ (l : List X). get_or l i x) so_far ∙ at_front f xs i x below))) (all i x below)
 
 -- one new domain more
-past_push : {X : Type 0} (xs : List X) (x d : X) → slice_index_or (xs ++ x ∷ []) (length xs) d ≡ x
+pub past_push : {X : Type 0} (xs : List X) (x d : X) → slice_index_or (xs ++ x ∷ []) (length xs) d ≡ x
 past_push [] x d = refl
 past_push (y ∷ xs) x d = past_push xs x d
 
@@ -89,3 +90,25 @@ pub new_next : (plan : Plan) (me : EdgeId) (place : ℕ) (domains now : List (Op
 new_next plan me place domains now kept services service are same within read is pushed =
     let at : slice_get plan.services place ≡ Some service = subst (λ (l : List ServicePlan). slice_get l place ≡ Some service) same (slice_get_read services (length services) place service refl within read) in
     subst (AreNew plan me (place + 1)) (sym pushed) (next_new plan me place domains kept service are at is)
+
+-- a port's addresses are dropped, the first one among them
+filtered : (port : ℕ) (entries : List MacEntry) → length (filter (λ e. not (e.port == port)) entries) ≤ length entries
+filtered port [] = omega arith
+filtered port (x ∷ entries) = by (x.port == port) (filtered port entries) where
+  by : (b : Bool) → length (filter (λ e. not (e.port == port)) entries) ≤ length entries → length (cond (not b) (x ∷ filter (λ e. not (e.port == port)) entries) (filter (λ e. not (e.port == port)) entries)) ≤ suc (length entries)
+  by true few = omega (arith, few)
+  by false few = omega (arith, few)
+
+pub first_dropped : (entries : List MacEntry) (first : MacEntry) → slice_get entries 0 ≡ Some first → length (filter (λ e. not (e.port == first.port)) entries) < length entries
+first_dropped [] first is = absurd (cc (is))
+first_dropped (x ∷ entries) first is =
+    let same : x ≡ first = cc (is) in
+    subst (λ (e : MacEntry). length (filter (λ o. not (o.port == e.port)) (x ∷ entries)) < length (x ∷ entries)) same (by (x.port == x.port) (eq-eqb x.port x.port refl))
+  where
+    by : (b : Bool) → b ≡ true → length (cond (not b) (x ∷ filter (λ e. not (e.port == x.port)) entries) (filter (λ e. not (e.port == x.port)) entries)) < suc (length entries)
+    by true here = omega (arith, filtered x.port entries)
+    by false here = absurd (cc (here))
+
+pub none_first : (entries : List MacEntry) → slice_get entries 0 ≡ None → entries ≡ []
+none_first [] is = refl
+none_first (x ∷ entries) is = absurd (cc (is))

@@ -1,17 +1,32 @@
 -- What an edge gives out: it names what is in the plan, stays in its service, and tells what the link took.
-use Rattle.std.proofs.Common.{◌≡◌, ◌<◌, ◌+◌, ◌++◌, ◌&&◌, ℕ, suc, Bool, true, false, List, [], ◌∷◌, Option, Some, None, Result, Ok, Err, cond, length, not, refl, ap, sym, subst}
+use Rattle.std.proofs.Common.{◌≡◌, ◌<◌, ◌≤◌, ◌+◌, ◌++◌, ◌&&◌, ◌∙◌, ℕ, zero, suc, Bool, true, false, List, [], ◌∷◌, Option, Some, None, Result, Ok, Err, cond, filter, length, not, slice_get, slice_index_or, refl, ap, sym, subst, arith, append_assoc}
 use Rattle.std.proofs.lemmas.List.{append-nil}
 use Rattle.std.proofs.lemmas.Option.{slice_get_within}
 use Rattle.net_base.specs.declared.outside.link_call.LinkCall.{LinkCall}
 use Rattle.net_base.specs.declared.plan.Plan.{Plan}
 use Rattle.net_base.specs.declared.plan.circuit_plan.CircuitPlan.{CircuitPlan}
+use Rattle.net_base.specs.declared.plan.edge_plan.EdgePlan.{EdgePlan}
 use Rattle.net_base.specs.declared.plan.places.CircuitId.{CircuitId}
 use Rattle.net_base.specs.declared.plan.places.EdgeId.{EdgeId}
 use Rattle.net_base.specs.declared.plan.places.ServiceId.{ServiceId}
 use Rattle.net_base.specs.declared.trace.drop_cause.DropCause.{DropCause}
+use Rattle.net_base.specs.declared.trace.state_name.Reason.{Reason}
+use Rattle.net_base.specs.declared.trace.state_name.Reason.TheVariants as reason
+use Rattle.net_base.specs.declared.trace.state_name.StateName.{StateName}
+use Rattle.net_base.specs.declared.trace.state_name.StateName.TheVariants as name
+use Rattle.net_base.specs.outside.Link.{call_of}
+use Rattle.net_base.specs.plan.Paths.{are_joined}
 use Rattle.net_base.specs.plan.Places.{circuit_row}
 use Rattle.net_base.specs.trace.Isolated.{inner_at}
 use Rattle.net_base.specs.values.Frame.{dress}
+use Rattle.ldp_codec.specs.Decoded.{refusal_of}
+use Rattle.ldp_grammar.specs.declared.message.Message.{Message}
+use Rattle.ldp_stream.specs.FrontOf.{Front, More, Got, Bad, front_of}
+use Rattle.session_core.specs.declared.reply.Reply.{Reply}
+use Rattle.session_core.specs.Phase.{Phase}
+use Rattle.session_core.specs.Session.{phase_name}
+use Rattle.session_core.specs.Table.{SessionEvent, Heard, Received, Refused, Ticked, Outcome, Stay, Goes, Ends, outcome_of}
+use Rattle.session_core.specs.Table as table
 use Rattle.hvpls_spokes.specs.declared.port.Port.{Port}
 use Rattle.hvpls_spokes.specs.declared.port.Port.TheVariants as port
 use Rattle.hvpls_spokes.specs.Port.{ports_of}
@@ -22,152 +37,357 @@ use Rattle.edge_model.specs.declared.effects.Effects.{Effects}
 use Rattle.edge_model.specs.declared.input.Input.{Input}
 use Rattle.edge_model.specs.declared.input.Input.TheVariants as input
 use Rattle.edge_model.specs.Circuit.{circuit_input, is_same, turned}
+use Rattle.edge_model.specs.Connection.{connected_input, connects_between, lost_input, opened_with, restarted}
 use Rattle.edge_model.specs.Frame.{copies, copy_by, forwarded, frame_input, hearing, is_own, port_at, received, tag_of, targets_of}
+use Rattle.edge_model.specs.Hear.{acts, advice_of, advises, had_put, hears_few, hears_front, hears_message, hears_messages, hears_pdu, hears_within, holds, octets_input, was_up}
 use Rattle.edge_model.specs.Local.{AllStayBeside}
-use Rattle.edge_model.specs.State.{is_on, with_addresses}
+use Rattle.edge_model.specs.Put.{Spoken, octets_of, put_octets, put_replies, put_reply, put_reply_to, puts_on, with_spoken}
+use Rattle.edge_model.specs.Session.{comes_of, ends, happens, happens_to, is_same_phase, tells_change, went_on, with_session}
+use Rattle.edge_model.specs.State.{EdgeState, Peering, has_end, is_on, is_there, with_peering}
 use Rattle.edge_model.specs.Step.{edge_step}
-use Rattle.edge_model.specs.Work.{Answers, GoesOn, Work, beginning, changes, gives, idles}
+use Rattle.edge_model.specs.Tick.{counted, forgetting, ticks_sessions}
+use Rattle.edge_model.specs.Work.{Agrees, Answers, GoesOn, Work, beginning, changes, gives, idles, next_answer, puts}
 use Rattle.edge_model.proofs.LocalLemmas.{served_at, stays_local}
-use Rattle.provider_edge.specs.Lists.{EdgeLists, seen, worked}
+use Rattle.provider_edge.specs.Invariant.{IsEdge}
+use Rattle.provider_edge.specs.Lists.{EdgeLists, seen, view, worked}
 use Rattle.provider_edge.specs.Said.{AllFit, Fits, TellsTaken, calls_told}
 use Rattle.provider_edge.specs.Taking.{StaysLocal}
+use Rattle.provider_edge.proofs.KeptLemmas.{same_read}
 
--- a frame left at a circuit of the plan, or something was dropped
-abbrev Plain : Plan → Effect → Type 0
-Plain plan (Left circuit bytes) = circuit.0 < length plan.circuits
-Plain plan (Dropped cause) = Unit {0}
-Plain plan effect = ⊥
+-- Of an edge at work this holds of its work, whatever it does for its neighbours and its circuits.
+pub record AreKept (plan : Plan) (Holds : Work → Type 0) : Type 0 where
+  pub changed : (change : EdgeState → EdgeState) (w : Work) → Holds w → Holds (changes change w)
+  pub idle : (w : Work) → Holds w → Holds (idles w)
+  pub left : (circuit : CircuitId) (bytes : List ℕ) (w : Work) → circuit.0 < length plan.circuits → Holds w → Holds (gives (Left circuit bytes) w)
+  pub dropped : (cause : DropCause) (w : Work) → Holds w → Holds (gives (Dropped cause) w)
+  pub session : (peer : EdgeId) (state : StateName) (w : Work) → peer.0 < length plan.edges → Holds w → Holds (gives (Session peer state) w)
+  pub gone : (peer : EdgeId) (w : Work) → peer.0 < length plan.edges → Holds w → Holds (gives (Closed peer) w)
+  pub said : (peer : EdgeId) (bytes : List ℕ) (change : EdgeState → EdgeState) (w : Work) → peer.0 < length plan.edges → Holds w → Holds (gives (Said peer bytes) (changes change (puts peer bytes true w)))
+  pub refused : (peer : EdgeId) (bytes : List ℕ) (w : Work) → Holds w → Holds (puts peer bytes false w)
 
-abbrev AllPlain : Plan → List Effect → Type 0
-AllPlain plan [] = Unit {0}
-AllPlain plan (e ∷ es) = Plain plan e × AllPlain plan es
+-- ---- frames and circuits
 
-plain-append : (plan : Plan) (es : List Effect) (e : Effect) → AllPlain plan es → Plain plan e → AllPlain plan (es ++ e ∷ [])
-plain-append plan [] e all here = (here, tt)
-plain-append plan (x ∷ es) e all here = (all.0, plain-append plan es e all.1 here)
+copy_kept : (plan : Plan) (Holds : Work → Type 0) → AreKept plan Holds → (told : Answers) (frame : List ℕ) (x : Port) (b : Bool) (work : Work) → ((c : CircuitId) → x ≡ port.Circuit c → c.0 < length plan.circuits)
+    → Holds work → Holds (cond b (copy_by plan told frame x work) work)
+copy_kept plan Holds kept told frame x false work planned here = here
+copy_kept plan Holds kept told frame (port.Circuit c) true work planned here = kept.left c (dress (tag_of plan c) frame) work (planned c refl) here
+copy_kept plan Holds kept told frame (port.Mesh wire) true work planned here = here
+copy_kept plan Holds kept told frame (port.Spoke wire) true work planned here = here
 
-copy_plain : (plan : Plan) (told : Answers) (frame : List ℕ) (x : Port) (b : Bool) (work : Work) → ((c : CircuitId) → x ≡ port.Circuit c → c.0 < length plan.circuits)
-    → AllPlain plan work.effects → AllPlain plan (cond b (copy_by plan told frame x work) work).effects
-unfolding gives
-copy_plain plan told frame x false work planned all = all
-copy_plain plan told frame (port.Circuit c) true work planned all = plain-append plan work.effects (Left c (dress (tag_of plan c) frame)) all (planned c refl)
-copy_plain plan told frame (port.Mesh wire) true work planned all = all
-copy_plain plan told frame (port.Spoke wire) true work planned all = all
-
-copies_plain : (plan : Plan) (told : Answers) (frame : List ℕ) (targets : ℕ → Bool) (p : ℕ) (ports : List Port) (work : Work) → ((q : ℕ) (c : CircuitId) → LeadsTo ports q c.0 → c.0 < length plan.circuits)
-    → AllPlain plan work.effects → AllPlain plan (copies targets (copy_by plan told frame) p ports work).effects
-copies_plain plan told frame targets p [] work planned all = all
-copies_plain plan told frame targets p (x ∷ ports) work planned all =
-    copies_plain plan told frame targets (p + 1) ports (cond (targets p) (copy_by plan told frame x work) work)
+copies_kept : (plan : Plan) (Holds : Work → Type 0) → AreKept plan Holds → (told : Answers) (frame : List ℕ) (targets : ℕ → Bool) (p : ℕ) (ports : List Port) (work : Work) → ((q : ℕ) (c : CircuitId) → LeadsTo ports q c.0 → c.0 < length plan.circuits)
+    → Holds work → Holds (copies targets (copy_by plan told frame) p ports work)
+copies_kept plan Holds kept told frame targets p [] work planned here = here
+copies_kept plan Holds kept told frame targets p (x ∷ ports) work planned here =
+    copies_kept plan Holds kept told frame targets (p + 1) ports (cond (targets p) (copy_by plan told frame x work) work)
     (λ q c leads. planned (suc q) c (record { is = leads.is }))
-    (copy_plain plan told frame x (targets p) work (λ c is. planned 0 c (record { is = ap (λ (x : Port). Some x) is })) all)
+    (copy_kept plan Holds kept told frame x (targets p) work (λ c is. planned 0 c (record { is = ap (λ (x : Port). Some x) is })) here)
 
 in_plan : (plan : Plan) (service : ServiceId) (me : EdgeId) (q : ℕ) (c : CircuitId) → LeadsTo (ports_of plan service me) q c.0 → c.0 < length plan.circuits
 in_plan plan service me q c leads =
     let served = served_at plan.circuits service me (ports_of plan service me) q c.0 (ports_served plan service me) leads in
     slice_get_within plan.circuits c.0 served.row served.is
 
-forwarded_plain : (plan : Plan) (told : Answers) (service : ServiceId) (frame : List ℕ) (arrival : Option ℕ) (work : Work) → AllPlain plan work.effects → AllPlain plan (forwarded plan told service frame arrival work).effects
-unfolding changes with_addresses
-forwarded_plain plan told service frame None work all = all
-forwarded_plain plan told service frame (Some arrival) work all =
+forwarded_kept : (plan : Plan) (Holds : Work → Type 0) → AreKept plan Holds → (told : Answers) (service : ServiceId) (frame : List ℕ) (arrival : Option ℕ) (work : Work) → Holds work → Holds (forwarded plan told service frame arrival work)
+forwarded_kept plan Holds kept told service frame None work here = here
+forwarded_kept plan Holds kept told service frame (Some arrival) work here =
     let heard : Work = changes (hearing service frame arrival) work in
-    let ports : List Port = ports_of plan service work.edge.me in
-    copies_plain plan told frame (targets_of plan heard.edge service ports frame arrival) 0 ports heard (in_plan plan service work.edge.me) all
+    copies_kept plan Holds kept told frame (targets_of plan heard.edge service (ports_of plan service heard.edge.me) frame arrival) 0 (ports_of plan service heard.edge.me) heard (in_plan plan service heard.edge.me)
+    (kept.changed (hearing service frame arrival) work here)
 
-received_plain : (plan : Plan) (told : Answers) (service : ServiceId) (arrival : Option ℕ) (read : Result (List ℕ) DropCause) (work : Work) → AllPlain plan work.effects → AllPlain plan (received plan told service arrival read work).effects
-unfolding gives
-received_plain plan told service arrival (Ok frame) work all = forwarded_plain plan told service frame arrival work all
-received_plain plan told service arrival (Err cause) work all = plain-append plan work.effects (Dropped cause) all tt
+received_kept : (plan : Plan) (Holds : Work → Type 0) → AreKept plan Holds → (told : Answers) (service : ServiceId) (arrival : Option ℕ) (read : Result (List ℕ) DropCause) (work : Work) → Holds work → Holds (received plan told service arrival read work)
+received_kept plan Holds kept told service arrival (Ok frame) work here = forwarded_kept plan Holds kept told service frame arrival work here
+received_kept plan Holds kept told service arrival (Err cause) work here = kept.dropped cause work here
 
-frame_plain : (plan : Plan) (told : Answers) (circuit : CircuitId) (octets : List ℕ) (row : Option CircuitPlan) (work : Work) → AllPlain plan work.effects → AllPlain plan (frame_input plan told circuit octets row work).effects
-unfolding idles
-frame_plain plan told circuit octets None work all = all
-frame_plain plan told circuit octets (Some row) work all = taken (is_own work.edge row && is_on work.edge circuit) where
-  taken : (b : Bool) → AllPlain plan (cond b (received plan told row.service (port_at plan work.edge circuit row) (inner_at plan circuit octets) work) (idles work)).effects
-  taken false = all
-  taken true = received_plain plan told row.service (port_at plan work.edge circuit row) (inner_at plan circuit octets) work all
+frame_kept : (plan : Plan) (Holds : Work → Type 0) → AreKept plan Holds → (told : Answers) (circuit : CircuitId) (octets : List ℕ) (row : Option CircuitPlan) (work : Work) → Holds work → Holds (frame_input plan told circuit octets row work)
+frame_kept plan Holds kept told circuit octets None work here = kept.idle work here
+frame_kept plan Holds kept told circuit octets (Some row) work here = taken (is_own work.edge row && is_on work.edge circuit) where
+  taken : (b : Bool) → Holds (cond b (received plan told row.service (port_at plan work.edge circuit row) (inner_at plan circuit octets) work) (idles work))
+  taken false = kept.idle work here
+  taken true = received_kept plan Holds kept told row.service (port_at plan work.edge circuit row) (inner_at plan circuit octets) work here
 
-circuit_plain : (plan : Plan) (circuit : CircuitId) (on : Bool) (row : Option CircuitPlan) (work : Work) → AllPlain plan work.effects → AllPlain plan (circuit_input plan circuit on row work).effects
-unfolding idles changes
-circuit_plain plan circuit on None work all = all
-circuit_plain plan circuit on (Some row) work all = taken (is_own work.edge row && not (is_same on (is_on work.edge circuit))) where
-  taken : (b : Bool) → AllPlain plan (cond b (changes (turned plan circuit row on) work) (idles work)).effects
-  taken false = all
-  taken true = all
+circuit_kept : (plan : Plan) (Holds : Work → Type 0) → AreKept plan Holds → (circuit : CircuitId) (on : Bool) (row : Option CircuitPlan) (work : Work) → Holds work → Holds (circuit_input plan circuit on row work)
+circuit_kept plan Holds kept circuit on None work here = kept.idle work here
+circuit_kept plan Holds kept circuit on (Some row) work here = taken (is_own work.edge row && not (is_same on (is_on work.edge circuit))) where
+  taken : (b : Bool) → Holds (cond b (changes (turned plan circuit row on) work) (idles work))
+  taken false = kept.idle work here
+  taken true = kept.changed (turned plan circuit row on) work here
 
-step_plain : (plan : Plan) (told : Answers) (given : Input) (work : Work) → AllPlain plan work.effects → AllPlain plan (edge_step plan told given work).effects
-unfolding idles changes
-step_plain plan told (input.Connected peer) work all = all
-step_plain plan told (input.Octets peer bytes) work all = all
-step_plain plan told (input.Lost peer) work all = all
-step_plain plan told input.Restart work all = all
-step_plain plan told input.Tick work all = all
-step_plain plan told (input.Frame circuit bytes) work all = frame_plain plan told circuit bytes.now (circuit_row plan circuit) work all
-step_plain plan told (input.Packet bytes) work all = all
-step_plain plan told (input.Wire wire on) work all = all
-step_plain plan told (input.Circuit circuit on) work all = circuit_plain plan circuit on (circuit_row plan circuit) work all
-step_plain plan told (input.Status wire bits) work all = all
-step_plain plan told (input.Priority wire priority) work all = all
-step_plain plan told (input.Ping wire) work all = all
+-- ---- sessions
 
-plain_fit : (plan : Plan) (es : List Effect) → AllPlain plan es → AllFit plan es
-plain_fit plan [] all = tt
-plain_fit plan (e ∷ es) all = (fits e all.0, plain_fit plan es all.1) where
-  fits : (e : Effect) → Plain plan e → Fits plan e
-  fits (Said peer bytes) plain = absurd plain
-  fits (Sent peer wire came bytes) plain = absurd plain
-  fits (Left circuit bytes) plain = plain
-  fits (Dropped cause) plain = tt
-  fits (Session peer state) plain = absurd plain
-  fits (Wire wire down) plain = absurd plain
-  fits (Pong wire sequence) plain = absurd plain
-  fits (Closed peer) plain = absurd plain
+octets_kept : (plan : Plan) (Holds : Work → Type 0) → AreKept plan Holds → (peer : EdgeId) → peer.0 < length plan.edges → (bytes : List ℕ) (taken : Bool) (work : Work) → Holds work → Holds (put_octets peer bytes taken work).work
+octets_kept plan Holds kept peer within bytes true work here = kept.said peer bytes (with_spoken peer) work within here
+octets_kept plan Holds kept peer within bytes false work here = kept.refused peer bytes work here
 
-plain_told : (plan : Plan) (es : List Effect) → AllPlain plan es → calls_told es ≡ []
-plain_told plan [] all = refl
-plain_told plan (Said peer bytes ∷ es) all = absurd all.0
-plain_told plan (Sent peer wire came bytes ∷ es) all = absurd all.0
-plain_told plan (Left circuit bytes ∷ es) all = plain_told plan es all.1
-plain_told plan (Dropped cause ∷ es) all = plain_told plan es all.1
-plain_told plan (Session peer state ∷ es) all = absurd all.0
-plain_told plan (Wire wire down ∷ es) all = absurd all.0
-plain_told plan (Pong wire sequence ∷ es) all = absurd all.0
-plain_told plan (Closed peer ∷ es) all = absurd all.0
+reply_kept : (plan : Plan) (Holds : Work → Type 0) → AreKept plan Holds → (told : Answers) (peer : EdgeId) → peer.0 < length plan.edges → (reply : Reply) (work : Work) → Holds work → Holds (put_reply told peer reply work).work
+reply_kept plan Holds kept told peer within reply work here = to (work.edge.peering peer.0) where
+  to : (x : Option Peering) → Holds (put_reply_to told peer reply x work).work
+  to None = here
+  to (Some p) = octets_kept plan Holds kept peer within (octets_of p reply) (next_answer told work) work here
+
+replies_kept : (plan : Plan) (Holds : Work → Type 0) → AreKept plan Holds → (told : Answers) (peer : EdgeId) → peer.0 < length plan.edges → (replies : List Reply) (work : Work) → Holds work → Holds (put_replies told peer replies work).work
+replies_kept plan Holds kept told peer within [] work here = here
+replies_kept plan Holds kept told peer within (reply ∷ replies) work here =
+    on (λ w h. replies_kept plan Holds kept told peer within replies w h) (put_reply told peer reply work).failed (put_reply told peer reply work).work (reply_kept plan Holds kept told peer within reply work here)
+  where
+    on : ((w : Work) → Holds w → Holds (put_replies told peer replies w).work) → (failed : Bool) (w : Work) → Holds w → Holds (puts_on (put_replies told peer replies) failed w).work
+    on rest true w h = h
+    on rest false w h = rest w h
+
+ends_kept : (plan : Plan) (Holds : Work → Type 0) → AreKept plan Holds → (peer : EdgeId) → peer.0 < length plan.edges → (why : Reason) (work : Work) → Holds work → Holds (ends peer why work)
+ends_kept plan Holds kept peer within why work here =
+    kept.gone peer (gives (Session peer (name.Ended why)) (changes (with_peering peer None) work)) within
+    (kept.session peer (name.Ended why) (changes (with_peering peer None) work) within (kept.changed (with_peering peer None) work here))
+
+went_kept : (plan : Plan) (Holds : Work → Type 0) → AreKept plan Holds → (peer : EdgeId) → peer.0 < length plan.edges → (old new : Phase) (put : Spoken) → Holds put.work → Holds (went_on peer old new put)
+went_kept plan Holds kept peer within old new put here = by put.failed where
+  tells : (b : Bool) → Holds (cond b put.work (gives (Session peer (phase_name new)) put.work))
+  tells true = here
+  tells false = kept.session peer (phase_name new) put.work within here
+
+  by : (b : Bool) → Holds (cond b (ends peer reason.LinkFault put.work) (tells_change peer old new put.work))
+  by true = ends_kept plan Holds kept peer within reason.LinkFault put.work here
+  by false = tells (is_same_phase old new)
+
+had_kept : (plan : Plan) (Holds : Work → Type 0) → AreKept plan Holds → (peer : EdgeId) → peer.0 < length plan.edges → (put : Spoken) → Holds put.work → Holds (had_put peer put)
+had_kept plan Holds kept peer within put here = by put.failed where
+  by : (b : Bool) → Holds (cond b (ends peer reason.LinkFault put.work) put.work)
+  by true = ends_kept plan Holds kept peer within reason.LinkFault put.work here
+  by false = here
+
+happens_kept : (plan : Plan) (Holds : Work → Type 0) → AreKept plan Holds → (told : Answers) (peer : EdgeId) → peer.0 < length plan.edges → (event : SessionEvent) (work : Work) → Holds work → Holds (happens told peer event work)
+happens_kept plan Holds kept told peer within event work here = to (work.edge.peering peer.0) where
+  comes : (p : Peering) (outcome : Outcome) → Holds (comes_of told peer p outcome work)
+  comes p Stay = here
+  comes p (Goes next replies) =
+      went_kept plan Holds kept peer within p.session.phase next.phase (put_replies told peer replies (changes (with_peering peer (Some (with_session next p))) work))
+      (replies_kept plan Holds kept told peer within replies (changes (with_peering peer (Some (with_session next p))) work) (kept.changed (with_peering peer (Some (with_session next p))) work here))
+  comes p (Ends why replies) = ends_kept plan Holds kept peer within why (put_replies told peer replies work).work (replies_kept plan Holds kept told peer within replies work here)
+
+  to : (x : Option Peering) → Holds (happens_to told peer event x work)
+  to None = here
+  to (Some p) = comes p (outcome_of p.session event)
+
+-- ---- what is heard
+
+message_kept : (plan : Plan) (Holds : Work → Type 0) → AreKept plan Holds → (told : Answers) (peer : EdgeId) → peer.0 < length plan.edges → (message : Message) (work : Work) → Holds work → Holds (hears_message told peer message work)
+message_kept plan Holds kept told peer within message work here = up (was_up (work.edge.peering peer.0)) where
+  mid : Work
+  mid = happens told peer (Received message) work
+
+  after : Holds mid
+  after = happens_kept plan Holds kept told peer within (Received message) work here
+
+  advised : (advice : Option Reply) → Holds (advises told peer advice mid)
+  advised None = after
+  advised (Some reply) = had_kept plan Holds kept peer within (put_reply told peer reply mid) (reply_kept plan Holds kept told peer within reply mid after)
+
+  still : (b : Bool) → Holds (cond b (advises told peer (advice_of message) mid) mid)
+  still true = advised (advice_of message)
+  still false = after
+
+  up : (b : Bool) → Holds (acts told peer message b mid)
+  up false = after
+  up true = still (has_end mid.edge peer)
+
+messages_kept : (plan : Plan) (Holds : Work → Type 0) → AreKept plan Holds → (told : Answers) (peer : EdgeId) → peer.0 < length plan.edges → (messages : List Message) (work : Work) → Holds work → Holds (hears_messages told peer messages work)
+messages_kept plan Holds kept told peer within [] work here = here
+messages_kept plan Holds kept told peer within (message ∷ messages) work here =
+    messages_kept plan Holds kept told peer within messages (hears_message told peer message work) (message_kept plan Holds kept told peer within message work here)
+
+few_kept : (plan : Plan) (Holds : Work → Type 0) → AreKept plan Holds → (told : Answers) (peer : EdgeId) → peer.0 < length plan.edges → (n : ℕ) (octets : List ℕ) (work : Work) → Holds work → Holds (hears_few told peer n octets work)
+few_kept plan Holds kept told peer within zero octets work here = held (work.edge.peering peer.0) where
+  held : (x : Option Peering) → Holds (holds peer octets x work)
+  held None = here
+  held (Some p) = kept.changed (with_peering peer (Some (record p { held = octets }))) work here
+few_kept plan Holds kept told peer within (suc n) octets work here = to (λ rest w h. few_kept plan Holds kept told peer within n rest w h) (work.edge.peering peer.0) where
+  front : ((rest : List ℕ) (w : Work) → Holds w → Holds (hears_few told peer n rest w)) → (p : Peering) (f : Front) → Holds (hears_front told peer (hears_few told peer n) p octets f work)
+  front on p More = kept.changed (with_peering peer (Some (record p { held = octets }))) work here
+  front on p (Got pdu rest) =
+      on rest (hears_pdu told peer pdu work)
+      (messages_kept plan Holds kept told peer within pdu.messages (happens told peer (Heard pdu.id) work) (happens_kept plan Holds kept told peer within (Heard pdu.id) work here))
+  front on p (Bad fault) = happens_kept plan Holds kept told peer within (Refused (refusal_of fault)) work here
+
+  to : ((rest : List ℕ) (w : Work) → Holds w → Holds (hears_few told peer n rest w)) → (x : Option Peering) → Holds (hears_within told peer (hears_few told peer n) octets x work)
+  to on None = here
+  to on (Some p) = front on p (front_of p.session.max_pdu octets)
+
+-- ---- inputs
+
+-- the edge has an end of a connection only with edges of the plan
+pub record HasPeers (plan : Plan) (edge : EdgeState) : Type 0 where
+  pub each : (peer : EdgeId) → has_end edge peer ≡ true → peer.0 < length plan.edges
+
+heard_kept : (plan : Plan) (Holds : Work → Type 0) → AreKept plan Holds → (told : Answers) (peer : EdgeId) (octets : List ℕ) (work : Work) → HasPeers plan work.edge → Holds work → Holds (octets_input told peer octets (work.edge.peering peer.0) work)
+heard_kept plan Holds kept told peer octets work peers here = to (work.edge.peering peer.0) refl where
+  to : (x : Option Peering) → work.edge.peering peer.0 ≡ x → Holds (octets_input told peer octets x work)
+  to None is = kept.idle work here
+  to (Some p) is = few_kept plan Holds kept told peer (peers.each peer (ap is_there is)) (suc (length (p.held ++ octets))) (p.held ++ octets) work here
+
+lost_kept : (plan : Plan) (Holds : Work → Type 0) → AreKept plan Holds → (told : Answers) (peer : EdgeId) (work : Work) → HasPeers plan work.edge → Holds work → Holds (lost_input told peer work)
+lost_kept plan Holds kept told peer work peers here = by (has_end work.edge peer) refl where
+  by : (b : Bool) → has_end work.edge peer ≡ b → Holds (cond b (happens told peer (table.Closed reason.Closed) work) (idles work))
+  by true is = happens_kept plan Holds kept told peer (peers.each peer is) (table.Closed reason.Closed) work here
+  by false is = kept.idle work here
+
+connected_kept : (plan : Plan) (Holds : Work → Type 0) → AreKept plan Holds → (told : Answers) (peer : EdgeId) (work : Work) → Holds work → Holds (connected_input plan told peer work)
+connected_kept plan Holds kept told peer work here = by (are_joined plan work.edge.me.0 peer.0 && not (has_end work.edge peer)) where
+  between : (own other : Option EdgePlan) → slice_get plan.edges peer.0 ≡ other → Holds (connects_between told peer own other work)
+  between None other is = kept.idle work here
+  between (Some own) None is = kept.idle work here
+  between (Some own) (Some other) is =
+      let within : peer.0 < length plan.edges = slice_get_within plan.edges peer.0 other is in
+      let stands : Work = changes (with_peering peer (Some (opened_with own other))) work in
+      happens_kept plan Holds kept told peer within table.Start (gives (Session peer name.Initialized) stands)
+      (kept.session peer name.Initialized stands within (kept.changed (with_peering peer (Some (opened_with own other))) work here))
+
+  by : (b : Bool) → Holds (cond b (connects_between told peer (slice_get plan.edges work.edge.me.0) (slice_get plan.edges peer.0) work) (idles work))
+  by true = between (slice_get plan.edges work.edge.me.0) (slice_get plan.edges peer.0) refl
+  by false = kept.idle work here
+
+sessions_kept : (plan : Plan) (Holds : Work → Type 0) → AreKept plan Holds → (told : Answers) (place count : ℕ) (work : Work) → place + count ≤ length plan.edges → Holds work → Holds (ticks_sessions told place count work)
+sessions_kept plan Holds kept told place zero work within here = here
+sessions_kept plan Holds kept told place (suc count) work within here =
+    sessions_kept plan Holds kept told (place + 1) count (happens told (record { 0 = place }) Ticked work) (omega (arith, within))
+    (happens_kept plan Holds kept told (record { 0 = place }) (omega (arith, within)) Ticked work here)
+
+step_kept : (plan : Plan) (Holds : Work → Type 0) → AreKept plan Holds → (told : Answers) (given : Input) (work : Work) → HasPeers plan work.edge → Holds work → Holds (edge_step plan told given work)
+step_kept plan Holds kept told (input.Connected peer) work peers here = connected_kept plan Holds kept told peer work here
+step_kept plan Holds kept told (input.Octets peer bytes) work peers here = heard_kept plan Holds kept told peer bytes.now work peers here
+step_kept plan Holds kept told (input.Lost peer) work peers here = lost_kept plan Holds kept told peer work peers here
+step_kept plan Holds kept told input.Restart work peers here = kept.changed restarted work here
+step_kept plan Holds kept told input.Tick work peers here =
+    kept.changed (forgetting plan) (ticks_sessions told 0 (length plan.edges) (changes counted work))
+    (sessions_kept plan Holds kept told 0 (length plan.edges) (changes counted work) (omega arith) (kept.changed counted work here))
+step_kept plan Holds kept told (input.Frame circuit bytes) work peers here = frame_kept plan Holds kept told circuit bytes.now (circuit_row plan circuit) work here
+step_kept plan Holds kept told (input.Packet bytes) work peers here = kept.idle work here
+step_kept plan Holds kept told (input.Wire wire on) work peers here = kept.idle work here
+step_kept plan Holds kept told (input.Circuit circuit on) work peers here = circuit_kept plan Holds kept circuit on (circuit_row plan circuit) work here
+step_kept plan Holds kept told (input.Status wire bits) work peers here = kept.idle work here
+step_kept plan Holds kept told (input.Priority wire priority) work peers here = kept.idle work here
+step_kept plan Holds kept told (input.Ping wire) work peers here = kept.idle work here
+
+-- ---- effects name what is in the plan
+
+fit-append : (plan : Plan) (es : List Effect) (e : Effect) → AllFit plan es → Fits plan e → AllFit plan (es ++ e ∷ [])
+fit-append plan [] e all here = (here, tt)
+fit-append plan (x ∷ es) e all here = (all.0, fit-append plan es e all.1 here)
+
+fit_kept : (plan : Plan) → AreKept plan (λ w. AllFit plan w.effects)
+unfolding changes idles gives puts
+fit_kept plan = record {
+  changed = λ change w here. here;
+  idle = λ w here. here;
+  left = λ circuit bytes w within here. fit-append plan w.effects (Left circuit bytes) here within;
+  dropped = λ cause w here. fit-append plan w.effects (Dropped cause) here tt;
+  session = λ peer state w within here. fit-append plan w.effects (Session peer state) here within;
+  gone = λ peer w within here. fit-append plan w.effects (Closed peer) here within;
+  said = λ peer bytes change w within here. fit-append plan w.effects (Said peer bytes) here within;
+  refused = λ peer bytes w here. here;
+}
+
+-- ---- effects tell what the link took
+
+told-append : (es fs : List Effect) → calls_told (es ++ fs) ≡ calls_told es ++ calls_told fs
+told-append [] fs = refl
+told-append (Said peer bytes ∷ es) fs = ap (λ (l : List LinkCall). call_of peer false bytes true ∷ l) (told-append es fs)
+told-append (Sent peer wire came bytes ∷ es) fs = ap (λ (l : List LinkCall). call_of peer true bytes true ∷ l) (told-append es fs)
+told-append (Left circuit bytes ∷ es) fs = told-append es fs
+told-append (Dropped cause ∷ es) fs = told-append es fs
+told-append (Session peer state ∷ es) fs = told-append es fs
+told-append (Wire wire down ∷ es) fs = told-append es fs
+told-append (Pong wire sequence ∷ es) fs = told-append es fs
+told-append (Closed peer ∷ es) fs = told-append es fs
+
+taken-append : (xs ys : List LinkCall) → filter (λ call. call.taken) (xs ++ ys) ≡ filter (λ call. call.taken) xs ++ filter (λ call. call.taken) ys
+taken-append [] ys = refl
+taken-append (x ∷ xs) ys = by x.taken (taken-append xs ys) where
+  by : (b : Bool) → filter (λ call. call.taken) (xs ++ ys) ≡ filter (λ call. call.taken) xs ++ filter (λ call. call.taken) ys
+      → cond b (x ∷ filter (λ call. call.taken) (xs ++ ys)) (filter (λ call. call.taken) (xs ++ ys)) ≡ cond b (x ∷ filter (λ call. call.taken) xs) (filter (λ call. call.taken) xs) ++ filter (λ call. call.taken) ys
+  by true rest = ap (λ (l : List LinkCall). x ∷ l) rest
+  by false rest = rest
+
+-- one thing more that tells no call
+tells_same : (before now : List LinkCall) (es : List Effect) (e : Effect) → calls_told (e ∷ []) ≡ [] → TellsTaken before now es → TellsTaken before now (es ++ e ∷ [])
+tells_same before now es e none tells = record {
+  more = tells.more;
+  joined = tells.joined;
+  told = told-append es (e ∷ []) ∙ (ap (λ (l : List LinkCall). calls_told es ++ l) none ∙ (append-nil (calls_told es) ∙ tells.told));
+}
+
+-- one call more, and what tells it
+tells_more : (before now : List LinkCall) (es fs : List Effect) (call : LinkCall) → calls_told fs ≡ filter (λ call. call.taken) (call ∷ []) → TellsTaken before now es → TellsTaken before (now ++ call ∷ []) (es ++ fs)
+tells_more before now es fs call one tells = record {
+  more = tells.more ++ call ∷ [];
+  joined = ap (λ (l : List LinkCall). l ++ call ∷ []) tells.joined ∙ append_assoc before tells.more (call ∷ []);
+  told = told-append es fs ∙ (ap (λ (l : List LinkCall). l ++ calls_told fs) tells.told ∙ (ap (λ (l : List LinkCall). filter (λ call. call.taken) tells.more ++ l) one ∙ sym (taken-append tells.more (call ∷ []))));
+}
+
+tell_kept : (plan : Plan) (before : List LinkCall) → AreKept plan (λ w. TellsTaken before w.calls w.effects)
+unfolding changes idles gives puts
+tell_kept plan before = record {
+  changed = λ change w here. here;
+  idle = λ w here. here;
+  left = λ circuit bytes w within here. tells_same before w.calls w.effects (Left circuit bytes) refl here;
+  dropped = λ cause w here. tells_same before w.calls w.effects (Dropped cause) refl here;
+  session = λ peer state w within here. tells_same before w.calls w.effects (Session peer state) refl here;
+  gone = λ peer w within here. tells_same before w.calls w.effects (Closed peer) refl here;
+  said = λ peer bytes change w within here. tells_more before w.calls w.effects (Said peer bytes ∷ []) (call_of peer false bytes true) refl here;
+  refused = λ peer bytes w here.
+      subst (TellsTaken before (w.calls ++ call_of peer false bytes false ∷ [])) (append-nil w.effects) (tells_more before w.calls w.effects [] (call_of peer false bytes false) refl here);
+}
 
 -- ---- of an edge that has done the work of an input, whatever its link answers
 
+-- what the link answered, told by its calls
+abbrev no_call : LinkCall
+no_call = call_of (record { 0 = 0 }) false [] false
+
+abbrev told_by : List LinkCall → Answers
+told_by calls k = (slice_index_or calls k no_call).taken
+
+agrees_itself : (calls : List LinkCall) → Agrees (told_by calls) calls
+agrees_itself calls = record { each = λ k other within. ap (λ (c : LinkCall). c.taken) (same_read calls k other no_call within) }
+
 -- the work of an input is that of the edge's step
-abbrev pub Steps : EdgeLists → EdgeLists → Input → Effects → Type 0
-Steps e now given effects = (told : Answers) (calls : List LinkCall) → worked now calls effects ≡ edge_step e.plan told given (beginning (seen e) calls)
+abbrev pub Steps : EdgeLists → EdgeLists → Input → Effects → List LinkCall → List LinkCall → Type 0
+Steps e now given effects before after = (told : Answers) → Agrees told after → worked now after effects ≡ edge_step e.plan told given (beginning (seen e) before)
 
-list_is : (e now : EdgeLists) (given : Input) (effects : Effects) → Steps e now given effects → (edge_step e.plan (λ k. true) given (beginning (seen e) [])).effects ≡ effects.list
+has_peers : (e : EdgeLists) → IsEdge e → HasPeers e.plan (seen e)
+unfolding seen
+has_peers e is = record { each = λ peer there. omega (arith, within e.peerings peer.0 there, is.peerings) } where
+  within : (xs : List (Option Peering)) (k : ℕ) → is_there (view None xs k) ≡ true → k < length xs
+  within [] k there = absurd (cc (there))
+  within (x ∷ xs) zero there = omega arith
+  within (x ∷ xs) (suc k) there = omega (arith, within xs k there)
+
+pub steps_fit : (e now : EdgeLists) (given : Input) (effects : Effects) (before after : List LinkCall) → IsEdge e → Steps e now given effects before after → AllFit e.plan effects.list
 unfolding worked
-list_is e now given effects steps = sym (ap (λ (w : Work). w.effects) (steps (λ k. true) []))
+steps_fit e now given effects before after is steps =
+    subst (λ (w : Work). AllFit e.plan w.effects) (sym (steps (told_by after) (agrees_itself after)))
+    (step_kept e.plan (λ w. AllFit e.plan w.effects) (fit_kept e.plan) (told_by after) given (beginning (seen e) before) (has_peers e is) tt)
 
-effects_plain : (e now : EdgeLists) (given : Input) (effects : Effects) → Steps e now given effects → AllPlain e.plan effects.list
-effects_plain e now given effects steps = subst (AllPlain e.plan) (list_is e now given effects steps) (step_plain e.plan (λ k. true) given (beginning (seen e) []) tt)
+pub steps_tell : (e now : EdgeLists) (given : Input) (effects : Effects) (before after : List LinkCall) → IsEdge e → Steps e now given effects before after → TellsTaken before after effects.list
+unfolding worked
+steps_tell e now given effects before after is steps =
+    subst (λ (w : Work). TellsTaken before w.calls w.effects) (sym (steps (told_by after) (agrees_itself after)))
+    (step_kept e.plan (λ w. TellsTaken before w.calls w.effects) (tell_kept e.plan before) (told_by after) given (beginning (seen e) before) (has_peers e is)
+    (record { more = []; joined = sym (append-nil before); told = refl }))
 
-pub steps_fit : (e now : EdgeLists) (given : Input) (effects : Effects) → Steps e now given effects → AllFit e.plan effects.list
-steps_fit e now given effects steps = plain_fit e.plan effects.list (effects_plain e now given effects steps)
-
-pub steps_tell : (e now : EdgeLists) (given : Input) (effects : Effects) (calls : List LinkCall) → Steps e now given effects → TellsTaken calls calls effects.list
-steps_tell e now given effects calls steps = record { more = []; joined = sym (append-nil calls); told = plain_told e.plan effects.list (effects_plain e now given effects steps) }
-
-pub steps_local : (e now : EdgeLists) (given : Input) (effects : Effects) → Steps e now given effects → StaysLocal e.plan given effects.list
-steps_local e now (input.Connected peer) effects steps = tt
-steps_local e now (input.Octets peer bytes) effects steps = tt
-steps_local e now (input.Lost peer) effects steps = tt
-steps_local e now input.Restart effects steps = tt
-steps_local e now input.Tick effects steps = tt
-steps_local e now (input.Frame circuit bytes) effects steps =
-    subst (AllStayBeside e.plan circuit bytes.now) (list_is e now (input.Frame circuit bytes) effects steps) (stays_local e.plan (λ k. true) (seen e) [] circuit bytes.now)
-steps_local e now (input.Packet bytes) effects steps = tt
-steps_local e now (input.Wire wire on) effects steps = tt
-steps_local e now (input.Circuit circuit on) effects steps = tt
-steps_local e now (input.Status wire bits) effects steps = tt
-steps_local e now (input.Priority wire priority) effects steps = tt
-steps_local e now (input.Ping wire) effects steps = tt
+pub steps_local : (e now : EdgeLists) (given : Input) (effects : Effects) (before after : List LinkCall) → Steps e now given effects before after → StaysLocal e.plan given effects.list
+unfolding worked
+steps_local e now (input.Connected peer) effects before after steps = tt
+steps_local e now (input.Octets peer bytes) effects before after steps = tt
+steps_local e now (input.Lost peer) effects before after steps = tt
+steps_local e now input.Restart effects before after steps = tt
+steps_local e now input.Tick effects before after steps = tt
+steps_local e now (input.Frame circuit bytes) effects before after steps =
+    subst (λ (w : Work). AllStayBeside e.plan circuit bytes.now w.effects) (sym (steps (told_by after) (agrees_itself after))) (stays_local e.plan (told_by after) (seen e) before circuit bytes.now)
+steps_local e now (input.Packet bytes) effects before after steps = tt
+steps_local e now (input.Wire wire on) effects before after steps = tt
+steps_local e now (input.Circuit circuit on) effects before after steps = tt
+steps_local e now (input.Status wire bits) effects before after steps = tt
+steps_local e now (input.Priority wire priority) effects before after steps = tt
+steps_local e now (input.Ping wire) effects before after steps = tt
 
 pub goes_nowhere : (calls : List LinkCall) → GoesOn calls calls
 goes_nowhere calls = record { more = []; joined = sym (append-nil calls) }

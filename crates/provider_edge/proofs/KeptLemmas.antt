@@ -40,7 +40,7 @@ domain_same plan a b service domain me on time is = record {
   ticks = none_after_later a.ticks b.ticks domain.bridge.entries is.ticks time;
 }
 
-kept_same : (plan : Plan) (a b : EdgeState) (service : ServiceId) (kept : Option Domain) → a.me ≡ b.me → a.circuit_on ≡ b.circuit_on → a.ticks ≤ b.ticks → IsKept plan a service kept → IsKept plan b service kept
+pub kept_same : (plan : Plan) (a b : EdgeState) (service : ServiceId) (kept : Option Domain) → a.me ≡ b.me → a.circuit_on ≡ b.circuit_on → a.ticks ≤ b.ticks → IsKept plan a service kept → IsKept plan b service kept
 kept_same plan a b service None me on time is = sym (ap (ports_of plan service) me) ∙ is
 kept_same plan a b service (Some domain) me on time is = domain_same plan a b service domain me on time is
 
@@ -119,7 +119,7 @@ edge_aged e is = record {
       (kept_aged e.plan (seen e) (seen (record e { domains = map (aged_kept e.ticks) e.domains })) (record { 0 = k }) (view None e.domains k) refl refl refl (is.domains k below));
 }
 
-past_end : {X : Type 0} (d : X) (xs : List X) (k : ℕ) → length xs ≤ k → view d xs k ≡ d
+pub past_end : {X : Type 0} (d : X) (xs : List X) (k : ℕ) → length xs ≤ k → view d xs k ≡ d
 past_end d [] k past = refl
 past_end d (x ∷ xs) zero past = absurd (omega arith)
 past_end d (x ∷ xs) (suc k) past = past_end d xs k (omega arith)
@@ -151,7 +151,7 @@ seen_aged e is = λ i. record { me = e.me; circuit_on = view true e.circuits_on;
     learned k = ap entries_of (view_aged e.ticks e.domains k) ∙ within k (slice_get e.plan.services k) refl
 
 -- what is read within does not depend on the value past the end
-same_read : {X : Type 0} (xs : List X) (k : ℕ) (d other : X) → k < length xs → slice_index_or xs k d ≡ slice_index_or xs k other
+pub same_read : {X : Type 0} (xs : List X) (k : ℕ) (d other : X) → k < length xs → slice_index_or xs k d ≡ slice_index_or xs k other
 same_read [] k d other within = absurd (omega arith)
 same_read (x ∷ xs) zero d other within = refl
 same_read (x ∷ xs) (suc k) d other within = same_read xs k d other (omega arith)
@@ -178,8 +178,8 @@ none_kept zero k = refl
 none_kept (suc n) zero = refl
 none_kept (suc n) (suc k) = none_kept n k
 
-abbrev pub new_edge : Plan → EdgeId → List Bool → List (Option Domain) → EdgeLists
-new_edge plan me on domains = record { plan = plan; me = me; circuits_on = on; domains = domains; peerings = replicate (length plan.edges) None; ticks = 0; stopped = false }
+abbrev pub new_edge : Plan → EdgeId → List Bool → List (Option Domain) → List (Option Peering) → EdgeLists
+new_edge plan me on domains peerings = record { plan = plan; me = me; circuits_on = on; domains = domains; peerings = peerings; ticks = 0; stopped = false }
 
 nothing_learned : (plan : Plan) (me : EdgeId) (service : ServiceId) (years : ℕ) (kept : Option Domain) → IsNew plan me service years kept → entries_of kept ≡ []
 nothing_learned plan me service years None is = refl
@@ -191,14 +191,15 @@ learned_none plan me domains k None at are =
     rw past refl
 learned_none plan me domains k (Some row) at are = nothing_learned plan me (record { 0 = k }) row.age (view None domains k) (are.each k row (slice_get_within plan.services k row at) at)
 
-pub seen_new : (plan : Plan) (me : EdgeId) (on : List Bool) (domains : List (Option Domain)) → on ≡ replicate (length plan.circuits) true → AreNew plan me (length plan.services) domains → seen (new_edge plan me on domains) ≡ empty_edge me
+pub seen_new : (plan : Plan) (me : EdgeId) (on : List Bool) (domains : List (Option Domain)) (peerings : List (Option Peering)) → on ≡ replicate (length plan.circuits) true → AreNew plan me (length plan.services) domains → peerings ≡ replicate (length plan.edges) None
+    → seen (new_edge plan me on domains peerings) ≡ empty_edge me
 unfolding seen
-seen_new plan me on domains circuits are = λ i. record {
+seen_new plan me on domains peerings circuits are none = λ i. record {
   me = me;
   circuit_on = λ k. (ap (λ (list : List Bool). view true list k) circuits ∙ all_on (length plan.circuits) k) i;
   learned = λ k. learned_none plan me domains k (slice_get plan.services k) refl are i;
   ticks = 0;
-  peering = λ k. none_kept (length plan.edges) k i;
+  peering = λ k. (ap (λ (list : List (Option Peering)). view None list k) none ∙ none_kept (length plan.edges) k) i;
 }
 
 kept_new : (plan : Plan) (me : EdgeId) (edge : EdgeState) (service : ServiceId) (row : ServicePlan) (kept : Option Domain) → service_row plan service ≡ Some row → edge ≡ empty_edge me → IsNew plan me service row.age kept → IsKept plan edge service kept
@@ -215,11 +216,12 @@ kept_new plan me edge service row (Some domain) at same is =
       ticks = subst (λ (b : BridgeState). NoneAfter 0 b.entries) (sym is.bridge) (λ k d within. absurd (omega arith));
     })
 
-pub edge_new : (plan : Plan) (me : EdgeId) (on : List Bool) (domains : List (Option Domain)) → IsChecked plan → on ≡ replicate (length plan.circuits) true → AreNew plan me (length plan.services) domains → IsEdge (new_edge plan me on domains)
-edge_new plan me on domains checked circuits are = record {
+pub edge_new : (plan : Plan) (me : EdgeId) (on : List Bool) (domains : List (Option Domain)) (peerings : List (Option Peering)) → IsChecked plan → on ≡ replicate (length plan.circuits) true → AreNew plan me (length plan.services) domains → peerings ≡ replicate (length plan.edges) None
+    → IsEdge (new_edge plan me on domains peerings)
+edge_new plan me on domains peerings checked circuits are none = record {
   checked = checked;
   circuits = ap length circuits ∙ long true (length plan.circuits);
-  peerings = long None (length plan.edges);
+  peerings = ap length none ∙ long None (length plan.edges);
   services = are.len;
   domains = λ k below. of k (slice_get plan.services k) refl below;
 }
@@ -228,9 +230,9 @@ edge_new plan me on domains checked circuits are = record {
     long x zero = refl
     long x (suc n) = ap suc (long x n)
 
-    of : (k : ℕ) (row : Option ServicePlan) → slice_get plan.services k ≡ row → k < length plan.services → IsKept plan (seen (new_edge plan me on domains)) (record { 0 = k }) (view None domains k)
+    of : (k : ℕ) (row : Option ServicePlan) → slice_get plan.services k ≡ row → k < length plan.services → IsKept plan (seen (new_edge plan me on domains peerings)) (record { 0 = k }) (view None domains k)
     of k None at below = absurd (omega (arith, none_past plan.services k at))
-    of k (Some row) at below = kept_new plan me (seen (new_edge plan me on domains)) (record { 0 = k }) row (view None domains k) at (seen_new plan me on domains circuits are) (are.each k row below at)
+    of k (Some row) at below = kept_new plan me (seen (new_edge plan me on domains peerings)) (record { 0 = k }) row (view None domains k) at (seen_new plan me on domains peerings circuits are none) (are.each k row below at)
 
 -- ---- a circuit is turned
 

@@ -2,8 +2,13 @@ pub mod ChangeLemmas
 pub mod CopyLemmas
 pub mod EachLemmas
 pub mod EffectLemmas
+pub mod HearLemmas
 pub mod KeptLemmas
 pub mod OwnLemmas
+pub mod PeeringLemmas
 pub mod PortLemmas
+pub mod ProperLemmas
+pub mod SettleLemmas
+pub mod SpeakerLemmas
 pub mod Views
 pub mod WorkLemmas

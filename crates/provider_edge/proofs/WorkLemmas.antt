@@ -17,8 +17,7 @@ use Rattle.edge_model.specs.declared.effect.Effect.TheVariants.{Dropped}
 use Rattle.edge_model.specs.declared.effects.Effects.{Effects}
 use Rattle.edge_model.specs.Circuit.{circuit_input, is_same, turned, without_port}
 use Rattle.edge_model.specs.Frame.{copies, copy_by, forwarded, frame_input, hearing, received, targets_of}
-use Rattle.edge_model.specs.State.{EdgeState, addresses_of, is_on, later, with_addresses, with_circuit, with_ticks}
-use Rattle.edge_model.specs.Tick.{forgetting, tick_input}
+use Rattle.edge_model.specs.State.{EdgeState, addresses_of, is_on, with_addresses, with_circuit}
 use Rattle.edge_model.specs.Work.{Answers, Work, beginning, changes, gives, idles}
 use Rattle.provider_edge.specs.Lists.{EdgeLists, Keeps, own_service, seen, worked}
 use Rattle.provider_edge.proofs.OwnLemmas.{OwnRow, own_row, other_row}
@@ -105,18 +104,6 @@ circuit_turned_off e mid now circuit false row service calls own other here keep
     ∙ (ap (λ (m : EdgeId). with_addresses service (without_port (position (is_circuit_port circuit) (ports_of e.plan service m)) (addresses_of (seen mid) service)) (seen mid)) keeps.me
     ∙ (ap (λ (s : EdgeState). with_addresses service (without_port (position (is_circuit_port circuit) (ports_of e.plan service e.me)) (addresses_of s service)) s) turns
     ∙ forgets e circuit found.circuit service found.same))))
-
--- ---- ticks
-
-ticks_of : (e : EdgeLists) → e.ticks ≡ (seen e).ticks
-unfolding seen
-ticks_of e = refl
-
-pub tick_done : (e mid now : EdgeLists) (calls : List LinkCall) → Keeps e mid → seen mid ≡ with_ticks (later e.ticks) (seen e) → seen now ≡ forgetting mid.plan (seen mid) → worked now calls (no_effects false) ≡ tick_input e.plan (beginning (seen e) calls)
-unfolding worked changes
-tick_done e mid now calls keeps counts is =
-    ap (λ (s : EdgeState). record { edge = s; calls = calls; effects = []; idle = false })
-    (is ∙ (ap (λ (p : Plan). forgetting p (seen mid)) keeps.plan ∙ (ap (forgetting e.plan) counts ∙ ap (λ (n : ℕ). forgetting e.plan (with_ticks (later n) (seen e))) (ticks_of e))))
 
 -- ---- frames
 

@@ -1,5 +1,6 @@
 pub mod Domain
 pub mod Event
+pub mod Hearing
 pub mod Invariant
 pub mod Lists
 pub mod Peering

@@ -1,13 +1,16 @@
 -- What an edge keeps for a neighbour, and its work for that neighbour.
 use Rattle.std.specs.Prelude.{◌≡◌, ℕ, Bool, true, false, List, [], Option, Some, None}
 use Rattle.net_base.specs.declared.outside.link_call.LinkCall.{LinkCall}
+use Rattle.net_base.specs.declared.plan.edge_plan.EdgePlan.{EdgePlan}
 use Rattle.net_base.specs.declared.plan.places.EdgeId.{EdgeId}
+use Rattle.net_base.specs.declared.trace.state_name.Reason.{Reason}
 use Rattle.net_base.specs.declared.trace.state_name.StateName.{StateName}
 use Rattle.net_base.specs.declared.trace.state_name.StateName.TheVariants as name
 use Rattle.session_core.specs.declared.peers.Peers.{Peers}
 use Rattle.session_core.specs.Phase.{Phase}
 use Rattle.session_core.specs.Session.{phase_name}
 use Rattle.session_core.specs.State.{SessionState, SessionView, Stands, EndedBy, opened}
+use Rattle.edge_model.specs.Connection.{peers_of}
 use Rattle.edge_model.specs.declared.effect.Effect.{Effect}
 use Rattle.edge_model.specs.Put.{Spoken}
 use Rattle.edge_model.specs.Session.{ends, went_on}
@@ -25,6 +28,15 @@ session_name (Some kept) = phase_name kept.session.phase
 abbrev pub held_of : Option Peering → List ℕ
 held_of None = []
 held_of (Some kept) = kept.held
+
+-- nothing is kept any more
+abbrev pub dropped : Option Peering → Option Peering
+dropped kept = None
+
+-- the two ends of a session, where both edges are in the plan
+abbrev pub peers_between : Option EdgePlan → Option EdgePlan → Option Peers
+peers_between (Some own) (Some other) = Some (peers_of own other)
+peers_between own other = None
 
 -- ---- a session, and the octets beside it
 
@@ -67,6 +79,16 @@ at_edge edge calls effects = record { edge = edge; calls = calls; effects = effe
 abbrev pub having_put : Bool → SessionState → SessionState
 having_put true s = record s { silence = 0 }
 having_put false s = s
+
+-- why the session ended
+abbrev pub reason_in : SessionView → Option Reason
+reason_in (Stands s) = None
+reason_in (EndedBy why) = Some why
+
+-- the session as it is now, or as it was where it ended
+abbrev pub next_state : SessionState → SessionView → SessionState
+next_state s (Stands next) = next
+next_state s (EndedBy why) = s
 
 -- what becomes of a session that is now like this, once everything was put
 abbrev pub settled : EdgeId → Phase → SessionView → Spoken → Work

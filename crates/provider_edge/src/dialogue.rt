@@ -1,20 +1,21 @@
 //! A session of an edge at work.
-ghost use Rattle.std.specs.Prelude.{◌≡◌, ◌≤◌, ◌++◌, ◌∷◌, [], ℕ, List, length, true, false, not, IfOk, OnOk, Some, None};
-ghost use Rattle.std.specs.List.{AllByRecursion};
+ghost use Rattle.std.specs.Prelude.{◌≡◌, ◌≤◌, ◌++◌, ◌∷◌, [], ℕ, List, IfOk, OnOk, Some, None};
 ghost use Rattle.net_base.specs.declared.outside.link_call.LinkCall.{LinkCall};
 ghost use Rattle.net_base.specs.declared.trace.state_name.StateName.TheVariants as name;
+ghost use Rattle.net_base.specs.declared.trace.state_name.Reason.{Reason};
+ghost use Rattle.ldp_codec.specs.declared.decode_fault.DecodeFault.{DecodeFault};
 ghost use Rattle.session_core.specs.Messages.{HasData};
-ghost use Rattle.session_core.specs.Phase.{Phase};
 ghost use Rattle.session_core.specs.Session.{phase_name, view_of};
-ghost use Rattle.session_core.specs.State.{IsProper, SessionState, opened};
-ghost use Rattle.session_core.specs.Table.{Closed, view_next, view_said};
-ghost use Rattle.edge_model.specs.Put.{put_replies, put_reply};
-ghost use Rattle.edge_model.specs.Session.{ends, happens};
-ghost use Rattle.edge_model.specs.Hear.{had_put};
+ghost use Rattle.session_core.specs.State.{EndedBy, IsProper, SessionState, Stands, opened};
+ghost use Rattle.session_core.specs.Table.{Closed, Refused, view_next, view_said};
+ghost use Rattle.edge_model.specs.declared.effect.Effect.TheVariants as told;
+ghost use Rattle.edge_model.specs.Put.{put_reply};
+ghost use Rattle.edge_model.specs.Session.{happens};
+ghost use Rattle.edge_model.specs.Hear.{had_put, is_up};
 ghost use Rattle.edge_model.specs.State.{EdgeState};
 ghost use Rattle.edge_model.specs.Work.{Agrees, Answers, GoesOn};
 ghost use Rattle.provider_edge.specs.Event.{MayHappen, event_of};
-ghost use Rattle.provider_edge.specs.Peering.{IsBetween, StandsBetween, at_peer, having_put, kept_with, settled};
+ghost use Rattle.provider_edge.specs.Peering.{IsBetween, at_peer, having_put, kept_with, next_state, reason_in, settled};
 
 use crate::event::Event;
 use crate::speaker::{Put, Speaker};
@@ -62,6 +63,13 @@ impl Dialogue {
         self.session.state()
     }
 
+    /// Whether the session is up.
+    pub fn is_up(&self) -> bool
+        ensures { result ≡ is_up self.now.session.phase }
+    {
+        matches!(self.session, Session::Operational(_))
+    }
+
     /// The most that a PDU Length may be, 256 to 4096 octets (RFC 5036 section 3.5.3).
     pub fn max_pdu(&self) -> u16
         ensures value { result ≡ self.now.session.max_pdu }
@@ -83,8 +91,9 @@ impl Dialogue {
         link: &mut L,
         out: &mut List<Effect>,
     ) -> Result<Option<Dialogue>, NoMemory>
-        requires may { MayHappen event }
+        requires { MayHappen event }
         ensures calls { GoesOn (L.calls link.old) (L.calls link.new) }
+        ensures refused { IfOk result (λ left. (wrong : DecodeFault) → event_of event.entry ≡ Refused wrong → left ≡ None) }
         ensures step { IfOk result (λ left. (told : Answers) (held : List ℕ) (edge : EdgeState) → Agrees told (L.calls link.new)
             → at_peer peer (kept_with held left) edge (L.calls link.new) out.new ≡ happens told peer (event_of event.entry) (at_peer peer (kept_with held (Some self)) edge (L.calls link.old) out.old)) }
     {
@@ -107,7 +116,7 @@ impl Dialogue {
         link: &mut L,
         out: &mut List<Effect>,
     ) -> Result<Option<Dialogue>, NoMemory>
-        requires data { HasData reply }
+        requires { HasData reply }
         ensures calls { GoesOn (L.calls link.old) (L.calls link.new) }
         ensures step { IfOk result (λ left. (told : Answers) (held : List ℕ) (edge : EdgeState) → Agrees told (L.calls link.new)
             → at_peer peer (kept_with held left) edge (L.calls link.new) out.new ≡ had_put peer (put_reply told peer reply (at_peer peer (kept_with held (Some self)) edge (L.calls link.old) out.old))) }
@@ -128,7 +137,7 @@ impl Dialogue {
 
     /// The connection is lost, and so the session ends.
     pub fn lose(self, peer: EdgeId, out: &mut List<Effect>) -> Result<(), NoMemory>
-        ensures step { OnOk result ((told : Answers) (held : List ℕ) (edge : EdgeState) (calls : List LinkCall) → at_peer peer None edge calls out.new ≡ happens told peer (Closed Reason.Closed) (at_peer peer (kept_with held (Some self)) edge calls out.old)) }
+        ensures { OnOk result ((told : Answers) (held : List ℕ) (edge : EdgeState) (calls : List LinkCall) → at_peer peer None edge calls out.new ≡ happens told peer (Closed Reason.Closed) (at_peer peer (kept_with held (Some self)) edge calls out.old)) }
     {
         end(peer, Reason::Closed, out)
     }
@@ -136,7 +145,7 @@ impl Dialogue {
 
 // The session after an event, and what is put.
 fn after(session: Session, event: Event<'_>) -> (Session, Replies)
-    requires may { MayHappen event }
+    requires { MayHappen event }
     ensures session { view_of result.0 ≡ view_next (view_of session) (event_of event.entry) }
     ensures replies { result.1 ≡ view_said (view_of session) (event_of event.entry) }
 {
@@ -158,10 +167,14 @@ fn settle(
     put: Put,
     out: &mut List<Effect>,
 ) -> Result<Option<Dialogue>, NoMemory>
-    requires between { IsBetween speaker.peers (view_of next) }
+    requires { IsBetween speaker.peers (view_of next) }
+    ensures ended { IfOk result (λ left. (why : Reason) → view_of next ≡ EndedBy why → left ≡ None) }
+    ensures step { IfOk result (λ left. (before : SessionState) (held : List ℕ) (edge : EdgeState) (calls : List LinkCall) → phase_name before.phase ≡ old
+        → at_peer peer (kept_with held left) edge calls out.new
+        ≡ settled peer before.phase (view_of next) (record { work = at_peer peer (kept_with held (Some (record { session = having_put put.spoke (next_state before (view_of next)); next_id = speaker.next_id }))) edge calls out.old; failed = put.failed })) }
 {
-    if let Session::Ended(ended) = next {
-        end(peer, ended.reason(), out)?;
+    if let Some(reason) = reason_of(&next) {
+        end(peer, reason, out)?;
         return Ok(None);
     }
     if put.failed {
@@ -169,8 +182,29 @@ fn settle(
         return Ok(None);
     }
     tell_change(peer, old, next.state(), out)?;
-    let session = if put.spoke { next.spoke() } else { next };
+    let session = with_put(next, put.spoke);
     Ok(Some(Dialogue { session, speaker }))
+}
+
+// Why the session ended; `None` exactly where it stands.
+fn reason_of(session: &Session) -> Option<Reason>
+    ensures { result ≡ reason_in (view_of session.now) }
+{
+    match session {
+        Session::Ended(ended) => Some(ended.reason()),
+        Session::Initialized(_)
+        | Session::OpenSent(_)
+        | Session::OpenRec(_)
+        | Session::Operational(_) => None,
+    }
+}
+
+// The same session, once something was put or nothing was.
+#[tactic(auto, using(crate::proofs::SettleLemmas::spoken_is))]
+fn with_put(session: Session, spoke: bool) -> Session
+    ensures { (s : SessionState) → view_of session ≡ Stands s → view_of result ≡ Stands (having_put spoke s) }
+{
+    if spoke { session.spoke() } else { session }
 }
 
 // A state that has changed is told.
@@ -179,7 +213,10 @@ fn tell_change(
     old: StateName,
     new: StateName,
     out: &mut List<Effect>,
-) -> Result<(), NoMemory> {
+) -> Result<(), NoMemory>
+    ensures same { OnOk result (old ≡ new → out.new ≡ out.old) }
+    ensures other { OnOk result ((old ≡ new → ⊥) → out.new ≡ out.old ++ told.Session peer new ∷ []) }
+{
     if old == new {
         return Ok(());
     }
@@ -187,7 +224,9 @@ fn tell_change(
 }
 
 // The session has ended: it is told, and then that the edge's end of the connection is gone.
-fn end(peer: EdgeId, reason: Reason, out: &mut List<Effect>) -> Result<(), NoMemory> {
+fn end(peer: EdgeId, reason: Reason, out: &mut List<Effect>) -> Result<(), NoMemory>
+    ensures { OnOk result (out.new ≡ (out.old ++ told.Session peer (name.Ended reason) ∷ []) ++ told.Closed peer ∷ []) }
+{
     out.push(Effect::Session {
         peer,
         state: StateName::Ended(reason),

@@ -103,6 +103,7 @@ impl Domain {
     }
 
     /// The bridge forgets all that it has learned, port by port.
+    #[tactic(auto, using(crate::proofs::EachLemmas::first_dropped, crate::proofs::EachLemmas::none_first))]
     pub fn clear(&mut self)
         ensures { self.new ≡ cleared_domain self.old }
     {
@@ -138,6 +139,7 @@ impl Domain {
 }
 
 /// Each bridge forgets all that it has learned.
+#[tactic(auto, using(crate::proofs::EachLemmas::each_next))]
 pub fn clear_all(domains: &mut Vec<Option<Domain>>)
     ensures { domains.new.items ≡ map cleared_kept domains.old.items }
 {

@@ -13,8 +13,6 @@ mod inner_frame;
 mod peering;
 mod quiet;
 mod speaker;
-#[cfg(test)]
-mod tests;
 
 pub use edge::Edge;
 pub use edge_stop::EdgeStop;

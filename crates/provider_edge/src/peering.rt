@@ -1,8 +1,7 @@
 //! What an edge keeps for a neighbour.
-ghost use Rattle.std.specs.Prelude.{◌≡◌, ◌≤◌, ◌++◌, [], List, ℕ, length, Some, None, IfOk, OnOk};
+ghost use Rattle.std.specs.Prelude.{◌≡◌, ◌≤◌, ◌++◌, [], List, ℕ, length, Some, None, IfOk, IfSome, OnOk};
 ghost use Rattle.net_base.specs.declared.outside.link_call.LinkCall.{LinkCall};
 ghost use Rattle.net_base.specs.declared.trace.state_name.Reason.TheVariants as reason;
-ghost use Rattle.ldp_grammar.specs.Reading.{AreOctets};
 ghost use Rattle.session_core.specs.Session.{phase_name};
 ghost use Rattle.session_core.specs.State.{IsProper, opened};
 ghost use Rattle.session_core.specs.Table.{Closed};
@@ -11,6 +10,7 @@ ghost use Rattle.edge_model.specs.Session.{happens};
 ghost use Rattle.edge_model.specs.State.{EdgeState};
 ghost use Rattle.edge_model.specs.Work.{Agrees, Answers, GoesOn};
 ghost use Rattle.provider_edge.specs.Event.{MayHappen, event_of};
+ghost use Rattle.provider_edge.specs.Hearing.{IsReady};
 ghost use Rattle.provider_edge.specs.Peering.{at_peer, kept_with};
 
 use crate::dialogue::Dialogue;
@@ -32,15 +32,14 @@ pub struct Peering {
 }
 
 impl Model for Peering {
-    ghost use Rattle.std.specs.Prelude.{◌≡◌, None};
-    ghost use Rattle.ldp_grammar.specs.Reading.{AreOctets};
     ghost use Rattle.edge_model.specs.State.{Peering};
+    ghost use Rattle.provider_edge.specs.Hearing.{IsReady};
 
     ghost Value = { Peering };
 
     ghost view = { λ p. record { session = p.dialogue.session; held = p.stream.held; next_id = p.dialogue.next_id } };
 
-    ghost invariant = { λ p. AreOctets p.stream.held × (p.stream.refused ≡ None) };
+    ghost invariant = { λ p. IsReady p.stream };
 }
 
 impl Peering {
@@ -79,7 +78,7 @@ impl Peering {
         link: &mut L,
         out: &mut List<Effect>,
     ) -> Result<Option<Peering>, NoMemory>
-        requires may { MayHappen event }
+        requires { MayHappen event }
         ensures calls { GoesOn (L.calls link.old) (L.calls link.new) }
         ensures step { IfOk result (λ left. (told : Answers) (edge : EdgeState) → Agrees told (L.calls link.new)
             → at_peer peer left edge (L.calls link.new) out.new ≡ happens told peer (event_of event.entry) (at_peer peer (Some self) edge (L.calls link.old) out.old)) }
@@ -112,7 +111,7 @@ impl Peering {
 
     /// The connection is lost, and so the session ends.
     pub fn lose(self, peer: EdgeId, out: &mut List<Effect>) -> Result<(), NoMemory>
-        ensures step { OnOk result ((told : Answers) (edge : EdgeState) (calls : List LinkCall) → at_peer peer None edge calls out.new ≡ happens told peer (Closed reason.Closed) (at_peer peer (Some self) edge calls out.old)) }
+        ensures { OnOk result ((told : Answers) (edge : EdgeState) (calls : List LinkCall) → at_peer peer None edge calls out.new ≡ happens told peer (Closed reason.Closed) (at_peer peer (Some self) edge calls out.old)) }
     {
         self.dialogue.lose(peer, out)
     }
@@ -120,8 +119,7 @@ impl Peering {
 
 // What is kept of a session that is left, with the octets that are held.
 fn beside(left: Option<Dialogue>, stream: Stream) -> Option<Peering>
-    requires octets { AreOctets stream.held }
-    requires going { stream.refused ≡ None }
+    requires { IfSome left (λ dialogue. IsReady stream) }
     ensures { result ≡ kept_with stream.held left }
 {
     match left {

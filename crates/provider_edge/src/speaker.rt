@@ -1,5 +1,5 @@
 //! Who puts messages to a neighbour.
-ghost use Rattle.std.specs.Prelude.{◌≡◌, ◌++◌, ◌∷◌, [], ◌≤◌, ◌+◌, ℕ, List, length, true, not, drop, IfOk, OnOk};
+ghost use Rattle.std.specs.Prelude.{◌≡◌, ◌≤◌, ◌+◌, ◌++◌, ◌∷◌, [], ℕ, List, Some, length, true, false, not, IfOk};
 ghost use Rattle.std.specs.List.{AllByRecursion};
 ghost use Rattle.net_base.specs.declared.outside.link_call.LinkCall.{LinkCall};
 ghost use Rattle.net_base.specs.outside.Link.{Answers as IsAnswer};
@@ -13,7 +13,7 @@ ghost use Rattle.provider_edge.specs.Peering.{at_peer, having_put, kept_with};
 
 use edge_model::Effect;
 use ldp_codec::encode_into;
-use ldp_grammar::LdpId;
+use ldp_grammar::{LdpId, Message};
 use net_base::{Addr, EdgeId, Link, LinkStop, List, NoMemory, Octets};
 use session_core::{Peers, Replies, Reply};
 use std::alloc::Global;
@@ -39,6 +39,7 @@ pub struct Put {
 
 impl Speaker {
     /// Puts replies in order, until the link does not take one.
+    #[tactic(auto, using(crate::proofs::SpeakerLemmas::goes_both, crate::proofs::SpeakerLemmas::data_at))]
     pub fn put_replies<L: Link>(
         &mut self,
         alloc: Global,
@@ -47,7 +48,7 @@ impl Speaker {
         link: &mut L,
         out: &mut List<Effect>,
     ) -> Result<Put, NoMemory>
-        requires data { AllByRecursion HasData replies.now }
+        requires { AllByRecursion HasData replies.now }
         ensures peers { self.new.peers ≡ self.old.peers }
         ensures calls { GoesOn (L.calls link.old) (L.calls link.new) }
         ensures step { IfOk result (λ put. (told : Answers) (s : SessionState) (held : List ℕ) (edge : EdgeState) → Agrees told (L.calls link.new) → s.peers ≡ self.old.peers
@@ -56,15 +57,19 @@ impl Speaker {
     {
         let mut spoke = false;
         for place in 0..replies.len() {
-            if let Some(reply) = replies.get(place) {
-                if !self.put_reply(alloc, peer, reply, link, out)? {
-                    return Ok(Put {
-                        spoke,
-                        failed: true,
-                    });
-                }
-                spoke = true;
+            let Some(reply) = replies.get(place) else {
+                return Ok(Put {
+                    spoke,
+                    failed: false,
+                });
+            };
+            if !self.put_reply(alloc, peer, reply, link, out)? {
+                return Ok(Put {
+                    spoke,
+                    failed: true,
+                });
             }
+            spoke = true;
         }
         Ok(Put {
             spoke,
@@ -81,7 +86,7 @@ impl Speaker {
         link: &mut L,
         out: &mut List<Effect>,
     ) -> Result<bool, NoMemory>
-        requires data { HasData reply }
+        requires { HasData reply }
         ensures peers { self.new.peers ≡ self.old.peers }
         ensures calls { GoesOn (L.calls link.old) (L.calls link.new) }
         ensures step { IfOk result (λ taken. (told : Answers) (s : SessionState) (held : List ℕ) (edge : EdgeState) → Agrees told (L.calls link.new) → s.peers ≡ self.old.peers
@@ -107,10 +112,21 @@ impl Speaker {
     {
         let message = reply.message(self.next_id, &self.peers);
         let mut out = [0u8; LONGEST];
-        let count = encode_into(&message, platform_of(self.peers.me), &mut out);
-        let (octets, _) = out.split_at(count);
-        List::from_bytes(alloc, octets)
+        encoded(alloc, &message, platform_of(self.peers.me), &mut out)
     }
+}
+
+// The octets of a message, in a PDU of its own; `out` has room for them.
+#[tactic(auto, using(crate::proofs::SpeakerLemmas::front_is))]
+fn encoded(alloc: Global, message: &Message, id: LdpId, out: &mut [u8]) -> Result<Octets, NoMemory>
+    requires writable { writable message.now ≡ true }
+    requires short { 6 + length (message_octets message.now) ≤ 256 }
+    requires room { 260 ≤ length out.old }
+    ensures { IfOk result (λ octets. octets ≡ written message.now id) }
+{
+    let count = encode_into(message, id, out);
+    let (octets, _) = out.split_at(count);
+    List::from_bytes(alloc, octets)
 }
 
 // Puts octets, and answers whether the link took them.

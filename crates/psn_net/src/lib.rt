@@ -14,6 +14,3 @@ mod psn_link;
 
 pub use net_stop::NetStop;
 pub use network::Network;
-
-#[cfg(test)]
-mod tests;

@@ -1,13 +1,13 @@
 //! Connections of the edge: one stands, one is lost, and the edge restarts.
-ghost use Rattle.std.specs.Prelude.{◌≡◌, ◌<◌, [], List, ℕ, length, replicate, Some, None, IfOk, IfSome, OnOk};
+ghost use Rattle.std.specs.Prelude.{◌≡◌, ◌<◌, [], List, length, map, replicate, slice_get, None, IfOk, IfSome, OnOk};
 ghost use Rattle.net_base.specs.declared.outside.link_call.LinkCall.{LinkCall};
-ghost use Rattle.edge_model.specs.Connection.{connected_input, lost_input, restart_input, restarted};
+ghost use Rattle.edge_model.specs.Connection.{connected_input, connects, lost_input, restart_input};
 ghost use Rattle.edge_model.specs.Session.{happens};
-ghost use Rattle.edge_model.specs.State.{with_peering};
+ghost use Rattle.edge_model.specs.State.{with_learned, with_peering, without_peerings};
 ghost use Rattle.edge_model.specs.Work.{Agrees, Answers, GoesOn, beginning};
 ghost use Rattle.provider_edge.specs.Event.{MayHappen, event_of};
 ghost use Rattle.provider_edge.specs.Lists.{Keeps, seen, worked};
-ghost use Rattle.provider_edge.specs.Peering.{at_edge};
+ghost use Rattle.provider_edge.specs.Peering.{at_edge, dropped, peers_between};
 
 use crate::Edge;
 use crate::domain::clear_all;
@@ -45,6 +45,7 @@ impl Edge {
     }
 
     // A connection stands, and its session begins.
+    #[tactic(auto, using(crate::proofs::WorkLemmas::keeps_both))]
     fn connect<L: Link>(
         &mut self,
         alloc: Global,
@@ -52,7 +53,13 @@ impl Edge {
         kept: Peering,
         link: &mut L,
         out: &mut List<Effect>,
-    ) -> Result<(), NoMemory> {
+    ) -> Result<(), NoMemory>
+        requires { peer.0 < length self.old.plan.edges }
+        ensures keeps { Keeps self.old self.new }
+        ensures calls { GoesOn (L.calls link.old) (L.calls link.new) }
+        ensures step { OnOk result ((told : Answers) → Agrees told (L.calls link.new)
+            → at_edge (seen self.new) (L.calls link.new) out.new ≡ connects told peer kept (at_edge (seen self.old) (L.calls link.old) out.old)) }
+    {
         self.put_peering(peer, Some(kept));
         out.push(Effect::Session {
             peer,
@@ -62,7 +69,9 @@ impl Edge {
     }
 
     // The two ends of a session, as the plan has them.
-    fn peers_with(&self, peer: EdgeId) -> Option<Peers> {
+    fn peers_with(&self, peer: EdgeId) -> Option<Peers>
+        ensures { result ≡ peers_between (slice_get self.now.plan.edges self.now.me.0) (slice_get self.now.plan.edges peer.0) }
+    {
         let own = self.plan.edges.get(self.me.0 as usize)?;
         let other = self.plan.edges.get(peer.0 as usize)?;
         Some(Peers {
@@ -87,6 +96,7 @@ impl Edge {
     }
 
     // The edge restarts: it keeps its ticks and its circuits.
+    #[tactic(auto, using(crate::proofs::WorkLemmas::keeps_both, crate::proofs::PeeringLemmas::restart_done))]
     pub(crate) fn restart(&mut self, alloc: Global) -> Effects
         ensures keeps { Keeps self.old self.new }
         ensures step { (calls : List LinkCall) → worked self.new calls result ≡ restart_input (beginning (seen self.old) calls) }
@@ -97,16 +107,23 @@ impl Edge {
     }
 
     // Nothing is kept for any neighbour.
-    fn drop_peerings(&mut self) {
+    fn drop_peerings(&mut self)
+        ensures keeps { Keeps self.old self.new }
+        ensures step { seen self.new ≡ without_peerings (seen self.old) }
+    {
         drop_all(&mut self.peerings);
     }
 
     // Each bridge forgets all that it has learned.
-    fn forget_stations(&mut self) {
+    fn forget_stations(&mut self)
+        ensures keeps { Keeps self.old self.new }
+        ensures step { seen self.new ≡ with_learned (λ service. []) (seen self.old) }
+    {
         clear_all(&mut self.domains);
     }
 
     // Something happens to the session with a peer, where it stands.
+    #[tactic(auto, using(crate::proofs::WorkLemmas::keeps_both, crate::proofs::EffectLemmas::goes_nowhere))]
     pub(crate) fn happens<L: Link>(
         &mut self,
         alloc: Global,
@@ -115,7 +132,7 @@ impl Edge {
         link: &mut L,
         out: &mut List<Effect>,
     ) -> Result<(), NoMemory>
-        requires may { MayHappen event }
+        requires { MayHappen event }
         ensures keeps { Keeps self.old self.new }
         ensures calls { GoesOn (L.calls link.old) (L.calls link.new) }
         ensures step { OnOk result ((told : Answers) → Agrees told (L.calls link.new)
@@ -136,10 +153,10 @@ impl Edge {
         ensures within { IfSome result (λ kept. peer.0 < length self.old.plan.edges) }
         ensures step { seen self.new ≡ with_peering peer None (seen self.old) }
     {
-        match self.peerings.get_mut(peer.0 as usize) {
-            Some(kept) => kept.take(),
-            None => None,
+        if peer.0 as usize >= self.peerings.len() {
+            return None;
         }
+        self.peerings[peer.0 as usize].take()
     }
 
     // Keeps something for a neighbour, or nothing any more.
@@ -153,19 +170,21 @@ impl Edge {
 }
 
 /// Nothing is kept for any of so many neighbours.
+#[tactic(auto, using(crate::proofs::PeeringLemmas::one_none_more))]
 pub fn no_peerings(alloc: Global, count: usize) -> Result<Vec<Option<Peering>>, NoMemory>
     ensures { IfOk result (λ kept. kept.items ≡ replicate count None) }
 {
     let mut peerings = Vec::with_capacity(alloc, count)?;
-    for _ in 0..count {
+    for _place in 0..count {
         peerings.push(None)?;
     }
     Ok(peerings)
 }
 
 // Nothing is kept for any neighbour any more.
+#[tactic(auto, using(crate::proofs::EachLemmas::each_next))]
 fn drop_all(peerings: &mut Vec<Option<Peering>>)
-    ensures { peerings.new.items ≡ replicate (length peerings.old.items) None }
+    ensures { peerings.new.items ≡ map dropped peerings.old.items }
 {
     for kept in peerings.iter_mut() {
         *kept = None;

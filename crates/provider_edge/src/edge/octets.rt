@@ -12,6 +12,7 @@ use std::alloc::Global;
 
 impl Edge {
     // Octets of LDP come from a peer.
+    #[tactic(auto, using(crate::proofs::WorkLemmas::keeps_both, crate::proofs::EffectLemmas::goes_nowhere))]
     pub(crate) fn octets<L: Link>(
         &mut self,
         alloc: Global,

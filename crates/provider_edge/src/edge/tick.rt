@@ -15,11 +15,7 @@ use std::alloc::Global;
 
 impl Edge {
     // The edge counts the tick, its sessions have it, and then its bridges forget.
-    pub(crate) fn tick<L: Link>(
-        &mut self,
-        alloc: Global,
-        link: &mut L,
-    ) -> Result<Effects, NoMemory>
+    pub(crate) fn tick<L: Link>(&mut self, alloc: Global, link: &mut L) -> Result<Effects, NoMemory>
         ensures keeps { Keeps self.old self.new }
         ensures calls { GoesOn (L.calls link.old) (L.calls link.new) }
         ensures step { IfOk result (λ effects. (told : Answers) → Agrees told (L.calls link.new)

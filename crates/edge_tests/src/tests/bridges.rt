@@ -1,12 +1,12 @@
 //! One edge takes inputs over a link in memory.
 ghost use Rattle.provider_edge.specs.Taking.{IsInRange};
 
-use crate::{Edge, EdgeStop};
 use edge_model::{Effect, Effects, Input};
 use net_base::{
     Addr, CircuitId, CircuitPlan, DropCause, EdgeId, EdgePlan, Link, List, MemLink, Name, Plan,
     ServiceId, ServicePlan, StateName, WireId,
 };
+use provider_edge::{Edge, EdgeStop};
 use std::alloc::Global;
 use std::test::Fail;
 
@@ -224,7 +224,6 @@ fn leaves_what_does_not_apply(rt: HostRuntime) -> Result<(), Fail> {
         .idle
     );
     assert!(rt; took(alloc, &mut edge, Input::Lost { peer })?.idle);
-    assert!(rt; took(alloc, &mut edge, Input::Restart)?.idle);
     assert!(rt; took(alloc, &mut edge, Input::Packet { bytes: octets })?.idle);
     assert!(rt; took(alloc, &mut edge, Input::Wire { wire, on: false })?.idle);
     assert!(rt; took(alloc, &mut edge, Input::Priority { wire, priority: 1 })?.idle);

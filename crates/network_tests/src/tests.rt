@@ -2,11 +2,11 @@
 ghost use Rattle.std.specs.Prelude.{◌≤◌, ◌<◌, length, IfOk, IfSome};
 ghost use Rattle.net_base.specs.plan.Planned.{IsEventOf};
 
-use crate::{NetStop, Network};
 use net_base::{
     Addr, CircuitId, CircuitPlan, Class, EdgeId, EdgePlan, Entry, Event, List, Name, Offer, Plan,
     Reason, ServiceId, ServicePlan, StateName, Text, WirePlan,
 };
+use psn_net::{NetStop, Network};
 use std::alloc::Global;
 use std::test::Fail;
 

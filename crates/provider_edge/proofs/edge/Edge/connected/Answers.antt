@@ -1,0 +1,49 @@
+use Rattle.std.proofs.Common.{◌≡◌, ◌∙◌, ◌<◌, [], true, false, length, slice_get, ap, sym, subst}
+use Rattle.net_base.specs.declared.plan.Plan.{Plan}
+use Rattle.net_base.specs.plan.Accepted.{IsChecked}
+use Rattle.net_base.specs.plan.Paths.{are_joined}
+use Rattle.edge_model.specs.declared.effects.Effects.{Effects}
+use Rattle.edge_model.specs.Connection.{connected_input, connects}
+use Rattle.edge_model.specs.State.{has_end}
+use Rattle.edge_model.specs.Work.{beginning}
+use Rattle.provider_edge.specs.Lists.{EdgeLists, seen, worked}
+use Rattle.provider_edge.specs.Peering.{at_edge}
+use Rattle.provider_edge.proofs.PeeringLemmas.{apart_test, connected_idle, connected_none, connected_some, joined_test, peer_within, stands_test}
+use Rattle.provider_edge.proofs.ProperLemmas.{proper_between}
+use Rattle.provider_edge.proofs.edge.Edge.connected.Goals.{then-not-joined-via-then-not-joined, then-not-joined-via-else-not-joined+then-has_end}
+use Rattle.provider_edge.proofs.edge.Edge.connected.Goals as goal
+
+pub returns-then-not-joined-clause-step : goal.returns-then-not-joined-clause-step
+returns-then-not-joined-clause-step g c = λ told agrees.
+    let joined : c.joined.result ≡ are_joined c.args.self.now.plan c.args.self.now.me.0 c.args.peer.0 =
+    c.joined.ensures ∙ (ap (λ (p : Plan). are_joined p c.self.inside.me.0 c.args.peer.0) c.deref.ensures ∙ ap (λ (e : EdgeLists). are_joined e.plan e.me.0 c.args.peer.0) c.self.view_is) in
+    subst (λ (e : Effects). worked c.args.self.now (g.L.Link.calls c.args.link.now) e ≡ connected_input c.args.self.now.plan told c.args.peer (beginning (seen c.args.self.now) (g.L.Link.calls c.args.link.now))) (sym c.idle.ensures)
+    (connected_idle c.args.self.now told c.args.peer (g.L.Link.calls c.args.link.now) (elim c.then-not-joined.branch [
+      | then-not-joined-via-then-not-joined w ↦ apart_test (are_joined c.args.self.now.plan c.args.self.now.me.0 c.args.peer.0) (has_end (seen c.args.self.now) c.args.peer) (sym joined ∙ w.if-not-joined.true)
+      | then-not-joined-via-else-not-joined+then-has_end w ↦ stands_test (are_joined c.args.self.now.plan c.args.self.now.me.0 c.args.peer.0) (has_end (seen c.args.self.now) c.args.peer) (sym w.has_end.ensures ∙ w.if-has_end.true)
+    ]))
+
+pub returns-in_default-clause-step : goal.returns-in_default-clause-step
+returns-in_default-clause-step g c = λ told agrees.
+    let joined : c.joined.result ≡ are_joined c.args.self.now.plan c.args.self.now.me.0 c.args.peer.0 =
+    c.joined.ensures ∙ (ap (λ (p : Plan). are_joined p c.self.inside.me.0 c.args.peer.0) c.deref.ensures ∙ ap (λ (e : EdgeLists). are_joined e.plan e.me.0 c.args.peer.0) c.self.view_is) in
+    subst (λ (e : Effects). worked c.args.self.now (g.L.Link.calls c.args.link.now) e ≡ connected_input c.args.self.now.plan told c.args.peer (beginning (seen c.args.self.now) (g.L.Link.calls c.args.link.now))) (sym c.idle-in_default.ensures)
+    (connected_none c.args.self.now told c.args.peer c.peers_with.result (g.L.Link.calls c.args.link.now) (joined_test (are_joined c.args.self.now.plan c.args.self.now.me.0 c.args.peer.0) (has_end (seen c.args.self.now) c.args.peer) (sym joined ∙ c.if-not-joined.false) (sym c.has_end.ensures ∙ c.if-has_end.false)) c.peers_with.ensures c.in_default.is)
+
+pub open-requires : goal.open-requires
+open-requires g c =
+    let joined : c.joined.result ≡ are_joined c.args.self.now.plan c.args.self.now.me.0 c.args.peer.0 =
+    c.joined.ensures ∙ (ap (λ (p : Plan). are_joined p c.self.inside.me.0 c.args.peer.0) c.deref.ensures ∙ ap (λ (e : EdgeLists). are_joined e.plan e.me.0 c.args.peer.0) c.self.view_is) in
+    proper_between c.args.self.now.plan c.args.self.now.me.0 c.args.peer.0 c.peers_with.result c.in-Some.peers (subst (λ (e : EdgeLists). IsChecked e.plan) c.self.view_is c.self.invariant.checked) (sym joined ∙ c.if-not-joined.false) c.peers_with.ensures c.in-Some.is
+
+pub connect-requires : goal.connect-requires
+connect-requires g c = peer_within c.args.self.now.plan _ c.args.peer c.in-Some.peers (sym c.peers_with.ensures ∙ c.in-Some.is)
+
+pub returns-clause-step : goal.returns-clause-step
+returns-clause-step g c = λ told agrees.
+    let joined : c.joined.result ≡ are_joined c.args.self.now.plan c.args.self.now.me.0 c.args.peer.0 =
+    c.joined.ensures ∙ (ap (λ (p : Plan). are_joined p c.self.inside.me.0 c.args.peer.0) c.deref.ensures ∙ ap (λ (e : EdgeLists). are_joined e.plan e.me.0 c.args.peer.0) c.self.view_is) in
+    connected_some c.args.self.now c.connect.new.self told c.args.peer c.peers_with.result c.in-Some.peers c.in_ok-kept.kept (g.L.Link.calls c.args.link.now) (g.L.Link.calls c.connect.new.link) c.connect.new.out (joined_test (are_joined c.args.self.now.plan c.args.self.now.me.0 c.args.peer.0) (has_end (seen c.args.self.now) c.args.peer) (sym joined ∙ c.if-not-joined.false) (sym c.has_end.ensures ∙ c.if-has_end.false))
+    c.peers_with.ensures c.in-Some.is c.in_ok-kept.ensures
+    (subst (λ l. at_edge (seen c.connect.new.self) (g.L.Link.calls c.connect.new.link) c.connect.new.out ≡ connects told c.args.peer c.in_ok-kept.kept (at_edge (seen c.args.self.now) (g.L.Link.calls c.args.link.now) l)) c.new-list.ensures
+    (c.in_ok-connect.ensures.step told agrees))
