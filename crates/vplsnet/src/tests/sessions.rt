@@ -68,7 +68,10 @@ fn answers_what_is_not_built_of_wires(rt: HostRuntime) -> Result<(), Fail> {
     ] {
         let text = format!(in rt.alloc(); "version = 1\nevents = [{events}]\n{JOINED}{wire}")?;
         let (finish, sink) = call(rt.alloc(), "replay f", text.as_bytes(), SOUND)?;
-        assert!(rt; matches!(finish.outcome, Outcome::NotBuilt), "{events} {wire}");
+        assert!(rt;
+            matches!(finish.outcome, Outcome::NotBuilt),
+            "{events} {wire}"
+        );
         assert_eq!(rt; sink.taken().len(), 0);
     }
     Ok(())
