@@ -3,7 +3,6 @@
 mod around;
 mod bridges;
 mod decodings;
-mod faults;
 mod files;
 mod replays;
 mod sessions;
