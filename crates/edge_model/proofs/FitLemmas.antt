@@ -1,28 +1,21 @@
 -- The maximum of each session of an edge is one that a session can have, whatever comes.
-use Rattle.std.proofs.Common.{◌≡◌, ◌≤◌, ◌+◌, ◌&&◌, ◌∙◌, ℕ, zero, suc, Bool, true, false, List, [], ◌∷◌, length, Option, Some, None, Result, Ok, Err, cond, not, min, refl, sym, ap, subst, nat_eq, nat_le, slice_get, option_map, arith, inl, inr}
-use Rattle.std.proofs.lemmas.Bool.{cases_Bool, eqb-true, eq-eqb}
+use Rattle.std.proofs.Common.{◌≡◌, ◌≤◌, ℕ, Bool, true, false, List, [], ◌∷◌, Option, Some, None, cond, min, refl, sym, ap, subst, nat_eq, nat_le, option_map, arith}
+use Rattle.std.proofs.lemmas.Bool.{eqb-true}
 use Rattle.net_base.specs.declared.plan.Plan.{Plan}
 use Rattle.net_base.specs.declared.plan.circuit_plan.CircuitPlan.{CircuitPlan}
-use Rattle.net_base.specs.declared.plan.edge_plan.EdgePlan.{EdgePlan}
 use Rattle.net_base.specs.declared.plan.places.CircuitId.{CircuitId}
 use Rattle.net_base.specs.declared.plan.places.EdgeId.{EdgeId}
-use Rattle.net_base.specs.declared.plan.places.ServiceId.{ServiceId}
-use Rattle.net_base.specs.declared.trace.drop_cause.DropCause.{DropCause}
+use Rattle.net_base.specs.declared.plan.places.WireId.{WireId}
 use Rattle.net_base.specs.declared.trace.state_name.Reason.{Reason}
 use Rattle.net_base.specs.declared.trace.state_name.Reason.TheVariants as reason
-use Rattle.net_base.specs.declared.trace.state_name.StateName.TheVariants as name
-use Rattle.net_base.specs.plan.Paths.{are_joined}
-use Rattle.net_base.specs.plan.Places.{circuit_row}
-use Rattle.net_base.specs.trace.Isolated.{inner_at}
-use Rattle.hvpls_spokes.specs.declared.port.Port.{Port}
-use Rattle.hvpls_spokes.specs.declared.port.Port.TheVariants as port
-use Rattle.hvpls_spokes.specs.Port.{ports_of}
-use Rattle.ldp_codec.specs.Decoded.{refusal_of}
 use Rattle.ldp_grammar.specs.declared.message.Message.{Message}
 use Rattle.ldp_grammar.specs.declared.message.Message.TheVariants.{Notification, Initialization, KeepAlive}
 use Rattle.ldp_grammar.specs.declared.pdu.Pdu.{Pdu}
 use Rattle.ldp_grammar.specs.declared.session_params.SessionParams.{SessionParams}
-use Rattle.ldp_stream.specs.FrontOf.{Front, More, Got, Bad, front_of}
+use Rattle.pw_tlvs.specs.declared.pw_fec.PwFec.{PwFec}
+use Rattle.pw_tlvs.specs.declared.pw_status.PwStatus.{PwStatus}
+use Rattle.pw_signalling.specs.End.{EndState}
+use Rattle.pw_signalling.specs.Rows.{bound, group_stated, group_unbound, released, stated, unbound}
 use Rattle.session_core.specs.declared.refusal.Refusal.{Refusal}
 use Rattle.session_core.specs.declared.reply.Reply.{Reply}
 use Rattle.session_core.specs.declared.reply.Reply.TheVariants as reply
@@ -34,22 +27,26 @@ use Rattle.session_core.specs.Session.{phase_name}
 use Rattle.session_core.specs.State.{SessionState, is_active}
 use Rattle.session_core.specs.StatusCodes.{about_none, bad_ldp_identifier, keep_alive_timer_expired}
 use Rattle.session_core.specs.Table.{SessionEvent, Outcome, Stay, Goes, Ends, Start, Heard, Received, Refused, Spoke, Ticked, Closed, is_expired, is_quiet, judged, later, notified, outcome_of, reason_in, table, ticked}
-use Rattle.edge_model.specs.Circuit.{circuit_input, is_same, turned}
-use Rattle.edge_model.specs.Connection.{connected_input, connects_between, lost_input, opened_with}
+use Rattle.edge_model.specs.Circuit.{turned}
+use Rattle.edge_model.specs.Connection.{opened_with}
+use Rattle.edge_model.specs.Content.{mapping, release, status_notification, withdrawal}
 use Rattle.edge_model.specs.declared.effect.Effect.TheVariants as effect
+use Rattle.edge_model.specs.declared.end_place.EndPlace.{EndPlace}
 use Rattle.edge_model.specs.declared.input.Input.{Input}
-use Rattle.edge_model.specs.declared.input.Input.TheVariants.{Connected, Octets, Lost, Restart, Tick, Frame, Circuit}
-use Rattle.edge_model.specs.Frame.{copies, copy_by, frame_input, hearing, is_own, port_at, received, targets_of}
-use Rattle.edge_model.specs.Hear.{acts, advice_of, advises, had_put, hears, hears_few, hears_front, hears_message, hears_messages, hears_pdu, hears_within, holds, octets_input, was_up}
+use Rattle.edge_model.specs.EndPlaces.{end_named}
+use Rattle.edge_model.specs.Hear.{hears_pdu}
+use Rattle.edge_model.specs.Mend.{advertising, telling_status, withdrawing}
 use Rattle.edge_model.specs.Parts.{HasFitMaximum, SessionsFit}
-use Rattle.edge_model.specs.Put.{Spoken, having_spoken, octets_of, put_octets, put_replies, put_reply, put_reply_to, puts_on, with_spoken}
-use Rattle.edge_model.specs.Session.{comes_of, ends, happens, happens_to, is_same_phase, tells_change, went_on, with_session}
-use Rattle.edge_model.specs.State.{EdgeState, Peering, has_end, is_on, with_addresses, with_circuit, with_learned, with_peering, with_ticks, without_peerings}
+use Rattle.edge_model.specs.Put.{Spoken, having_spoken, message_octets_of, octets_of, put_octets, put_replies, put_reply, put_reply_to, puts_on, with_spoken}
+use Rattle.edge_model.specs.Role.{status_to_tell}
+use Rattle.edge_model.specs.Session.{clears_ends, comes_of, ends, had_said, happens, happens_to, happens_with_ends, is_same_phase, says, says_to, tells_change, went_on, with_session}
+use Rattle.edge_model.specs.Signal.{end_of_fec, with_end_changed, with_named}
+use Rattle.edge_model.specs.State.{EdgeState, Peering, with_addresses, with_bits, with_circuit, with_end, with_ends_beside, with_learned, with_next_label, with_peering, with_renewed, with_ticks, with_told_down, with_wire, without_ends, without_peerings}
 use Rattle.edge_model.specs.Step.{edge_step}
-use Rattle.edge_model.specs.Tick.{counted, ticks_sessions}
+use Rattle.edge_model.specs.Wire.{turned_wire}
 use Rattle.edge_model.specs.Work.{Work, Answers, changes, gives, idles, next_answer, puts}
-use Rattle.edge_model.proofs.HeldLemmas.{altered}
-use Rattle.edge_model.proofs.SessionLemmas.{IsSessionInput, connected_works, happens_works, lost_works, octets_works}
+use Rattle.edge_model.proofs.HeldLemmas.{clears_keep}
+use Rattle.edge_model.proofs.WalkLemmas.{HearSteps, InputSteps, MendSteps, hears_pdu_holds, step_holds}
 
 -- ---- the table of a session
 
@@ -98,217 +95,188 @@ table_fits state Ticked active s fits = ticked_fits (later s) fits
 table_fits state (Closed why) active s fits = tt
 table_fits state Start active s fits = tt
 
--- ---- work for a peer
+-- ---- work beside a peer
 
-abbrev Fits : EdgeId → Work → Type 0
-Fits peer work = HasFitMaximum (work.edge.peering peer.0)
+-- the session beside one place, of whichever peer the work is
+abbrev pub Fits : ℕ → Work → Type 0
+Fits k work = HasFitMaximum (work.edge.peering k)
 
-set_fits : (peer : EdgeId) (kept : Option Peering) (work : Work) → HasFitMaximum kept → Fits peer (changes (with_peering peer kept) work)
-set_fits peer kept work fits = subst HasFitMaximum (sym (altered peer (λ old. kept) work)) fits
+-- what is kept for a peer may become this
+abbrev FitsFor : ℕ → EdgeId → Option Peering → Type 0
+FitsFor k peer kept = nat_eq k peer.0 ≡ true → HasFitMaximum kept
+
+-- what is kept for the peer fits already
+fits_now : (k : ℕ) (peer : EdgeId) (work : Work) → Fits k work → FitsFor k peer (work.edge.peering peer.0)
+fits_now k peer work fits here = subst (λ (n : ℕ). HasFitMaximum (work.edge.peering n)) (eqb-true k peer.0 here) fits
+
+set_fits : (k : ℕ) (peer : EdgeId) (kept : Option Peering) (work : Work) → FitsFor k peer kept → Fits k work → Fits k (changes (with_peering peer kept) work)
+unfolding changes with_peering
+set_fits k peer kept work mine fits = by (nat_eq k peer.0) mine where
+  by : (b : Bool) → (b ≡ true → HasFitMaximum kept) → HasFitMaximum (cond b kept (work.edge.peering k))
+  by true own = own refl
+  by false own = fits
 
 spoken_fits : (kept : Option Peering) → HasFitMaximum kept → HasFitMaximum (option_map having_spoken kept)
 spoken_fits None fits = tt
 spoken_fits (Some kept) fits = fits
 
-put_octets_fit : (peer : EdgeId) (bytes : List ℕ) (taken : Bool) (work : Work) → Fits peer work → Fits peer (put_octets peer bytes taken work).work
+put_octets_fit : (k : ℕ) (peer : EdgeId) (bytes : List ℕ) (taken : Bool) (work : Work) → Fits k work → Fits k (put_octets peer bytes taken work).work
 unfolding changes gives puts with_spoken
-put_octets_fit peer bytes false work fits = fits
-put_octets_fit peer bytes true work fits = subst HasFitMaximum (sym (altered peer (option_map having_spoken) (puts peer bytes true work))) (spoken_fits (work.edge.peering peer.0) fits)
+put_octets_fit k peer bytes false work fits = fits
+put_octets_fit k peer bytes true work fits =
+    set_fits k peer (option_map having_spoken (work.edge.peering peer.0)) (puts peer bytes true work) (λ here. spoken_fits (work.edge.peering peer.0) (fits_now k peer work fits here)) fits
 
-put_reply_fits : (told : Answers) (peer : EdgeId) (reply : Reply) (kept : Option Peering) (work : Work) → Fits peer work → Fits peer (put_reply_to told peer reply kept work).work
-put_reply_fits told peer reply None work fits = fits
-put_reply_fits told peer reply (Some kept) work fits = put_octets_fit peer (octets_of kept reply) (next_answer told work) work fits
+put_reply_fits : (told : Answers) (k : ℕ) (peer : EdgeId) (reply : Reply) (kept : Option Peering) (work : Work) → Fits k work → Fits k (put_reply_to told peer reply kept work).work
+put_reply_fits told k peer reply None work fits = fits
+put_reply_fits told k peer reply (Some kept) work fits = put_octets_fit k peer (octets_of kept reply) (next_answer told work) work fits
 
-put_replies_fit : (told : Answers) (peer : EdgeId) (replies : List Reply) (work : Work) → Fits peer work → Fits peer (put_replies told peer replies work).work
-put_replies_fit told peer [] work fits = fits
-put_replies_fit told peer (reply ∷ replies) work fits =
+put_replies_fit : (told : Answers) (k : ℕ) (peer : EdgeId) (replies : List Reply) (work : Work) → Fits k work → Fits k (put_replies told peer replies work).work
+put_replies_fit told k peer [] work fits = fits
+put_replies_fit told k peer (reply ∷ replies) work fits =
     let put : Spoken = put_reply told peer reply work in
-    let here : Fits peer put.work = put_reply_fits told peer reply (work.edge.peering peer.0) work fits in
-    on put.failed put.work here (put_replies_fit told peer replies put.work here)
+    let here : Fits k put.work = put_reply_fits told k peer reply (work.edge.peering peer.0) work fits in
+    on put.failed put.work here (put_replies_fit told k peer replies put.work here)
   where
-    on : (failed : Bool) (next : Work) → Fits peer next → Fits peer (put_replies told peer replies next).work → Fits peer (puts_on (put_replies told peer replies) failed next).work
+    on : (failed : Bool) (next : Work) → Fits k next → Fits k (put_replies told peer replies next).work → Fits k (puts_on (put_replies told peer replies) failed next).work
     on true next here rest = here
     on false next here rest = rest
 
-ends_fit : (peer : EdgeId) (why : Reason) (work : Work) → Fits peer (ends peer why work)
+ends_fit : (k : ℕ) (peer : EdgeId) (why : Reason) (work : Work) → Fits k work → Fits k (ends peer why work)
 unfolding gives
-ends_fit peer why work = set_fits peer None work tt
+ends_fit k peer why work fits = set_fits k peer None work (λ here. tt) fits
 
-tells_fit : (peer : EdgeId) (old new : Phase) (work : Work) → Fits peer work → Fits peer (tells_change peer old new work)
+tells_fit : (k : ℕ) (peer : EdgeId) (old new : Phase) (work : Work) → Fits k work → Fits k (tells_change peer old new work)
 unfolding gives
-tells_fit peer old new work fits = by (is_same_phase old new) where
-  by : (same : Bool) → Fits peer (cond same work (gives (effect.Session peer (phase_name new)) work))
+tells_fit k peer old new work fits = by (is_same_phase old new) where
+  by : (same : Bool) → Fits k (cond same work (gives (effect.Session peer (phase_name new)) work))
   by true = fits
   by false = fits
 
-went_on_fits : (peer : EdgeId) (old new : Phase) (failed : Bool) (work : Work) → Fits peer work → Fits peer (went_on peer old new (record { work = work; failed = failed }))
-went_on_fits peer old new true work fits = ends_fit peer reason.LinkFault work
-went_on_fits peer old new false work fits = tells_fit peer old new work fits
+went_on_fits : (k : ℕ) (peer : EdgeId) (old new : Phase) (failed : Bool) (work : Work) → Fits k work → Fits k (went_on peer old new (record { work = work; failed = failed }))
+went_on_fits k peer old new true work fits = ends_fit k peer reason.LinkFault work fits
+went_on_fits k peer old new false work fits = tells_fit k peer old new work fits
 
-comes_of_fits : (told : Answers) (peer : EdgeId) (kept : Peering) (outcome : Outcome) (work : Work) → FitsAfter outcome → Fits peer work → Fits peer (comes_of told peer kept outcome work)
-comes_of_fits told peer kept Stay work after fits = fits
-comes_of_fits told peer kept (Goes next replies) work after fits =
+comes_of_fits : (told : Answers) (k : ℕ) (peer : EdgeId) (kept : Peering) (outcome : Outcome) (work : Work) → (nat_eq k peer.0 ≡ true → FitsAfter outcome) → Fits k work → Fits k (comes_of told peer kept outcome work)
+comes_of_fits told k peer kept Stay work after fits = fits
+comes_of_fits told k peer kept (Goes next replies) work after fits =
     let gone : Work = changes (with_peering peer (Some (with_session next kept))) work in
     let put : Spoken = put_replies told peer replies gone in
-    went_on_fits peer kept.session.phase next.phase put.failed put.work (put_replies_fit told peer replies gone (set_fits peer (Some (with_session next kept)) work after))
-comes_of_fits told peer kept (Ends why replies) work after fits = ends_fit peer why (put_replies told peer replies work).work
+    went_on_fits k peer kept.session.phase next.phase put.failed put.work (put_replies_fit told k peer replies gone (set_fits k peer (Some (with_session next kept)) work after fits))
+comes_of_fits told k peer kept (Ends why replies) work after fits = ends_fit k peer why (put_replies told peer replies work).work (put_replies_fit told k peer replies work fits)
 
-pub happens_fits : (told : Answers) (peer : EdgeId) (event : SessionEvent) (work : Work) → Fits peer work → Fits peer (happens told peer event work)
-happens_fits told peer event work fits = to (work.edge.peering peer.0) fits where
-  to : (kept : Option Peering) → HasFitMaximum kept → Fits peer (happens_to told peer event kept work)
+happens_fits : (told : Answers) (k : ℕ) (peer : EdgeId) (event : SessionEvent) (work : Work) → Fits k work → Fits k (happens told peer event work)
+happens_fits told k peer event work fits = to (work.edge.peering peer.0) (fits_now k peer work fits) where
+  to : (kept : Option Peering) → FitsFor k peer kept → Fits k (happens_to told peer event kept work)
   to None mine = fits
-  to (Some kept) mine = comes_of_fits told peer kept (outcome_of kept.session event) work (table_fits kept.session.phase event (is_active kept.session.peers) kept.session mine) fits
+  to (Some kept) mine = comes_of_fits told k peer kept (outcome_of kept.session event) work (λ here. table_fits kept.session.phase event (is_active kept.session.peers) kept.session (mine here)) fits
 
-advises_fit : (told : Answers) (peer : EdgeId) (advice : Option Reply) (work : Work) → Fits peer work → Fits peer (advises told peer advice work)
-advises_fit told peer None work fits = fits
-advises_fit told peer (Some reply) work fits =
-    let put : Spoken = put_reply told peer reply work in
-    had put.failed put.work (put_reply_fits told peer reply (work.edge.peering peer.0) work fits)
-  where
-    had : (failed : Bool) (next : Work) → Fits peer next → Fits peer (had_put peer (record { work = next; failed = failed }))
-    had true next here = ends_fit peer reason.LinkFault next
-    had false next here = here
+-- where the sessions are the same they fit
+same_fits : (k : ℕ) (old new : Work) → new.edge.peering ≡ old.edge.peering → Fits k old → Fits k new
+same_fits k old new same fits = subst HasFitMaximum (ap (λ (peering : ℕ → Option Peering). peering k) (sym same)) fits
 
-acts_fit : (told : Answers) (peer : EdgeId) (message : Message) (up : Bool) (work : Work) → Fits peer work → Fits peer (acts told peer message up work)
-acts_fit told peer message false work fits = fits
-acts_fit told peer message true work fits = by (has_end work.edge peer) where
-  by : (stands : Bool) → Fits peer (cond stands (advises told peer (advice_of message) work) work)
-  by true = advises_fit told peer (advice_of message) work fits
-  by false = fits
+clears_fit : (k : ℕ) (peer : EdgeId) (work : Work) → Fits k work → Fits k (clears_ends peer work)
+clears_fit k peer work fits = same_fits k work (clears_ends peer work) (clears_keep peer work) fits
 
-hears_messages_fit : (told : Answers) (peer : EdgeId) (messages : List Message) (work : Work) → Fits peer work → Fits peer (hears_messages told peer messages work)
-hears_messages_fit told peer [] work fits = fits
-hears_messages_fit told peer (message ∷ messages) work fits =
-    hears_messages_fit told peer messages (hears_message told peer message work)
-    (acts_fit told peer message (was_up (work.edge.peering peer.0)) (happens told peer (Received message) work) (happens_fits told peer (Received message) work fits))
+pub with_ends_fit : (told : Answers) (k : ℕ) (peer : EdgeId) (event : SessionEvent) (work : Work) → Fits k work → Fits k (happens_with_ends told peer event work)
+with_ends_fit told k peer event work fits = clears_fit k peer (happens told peer event work) (happens_fits told k peer event work fits)
 
-pub hears_pdu_fits : (told : Answers) (peer : EdgeId) (pdu : Pdu) (work : Work) → Fits peer work → Fits peer (hears_pdu told peer pdu work)
-hears_pdu_fits told peer pdu work fits = hears_messages_fit told peer pdu.messages (happens told peer (Heard pdu.id) work) (happens_fits told peer (Heard pdu.id) work fits)
+had_said_fits : (k : ℕ) (peer : EdgeId) (failed : Bool) (work : Work) → Fits k work → Fits k (had_said peer (record { work = work; failed = failed })).work
+had_said_fits k peer true work fits = clears_fit k peer (ends peer reason.LinkFault work) (ends_fit k peer reason.LinkFault work fits)
+had_said_fits k peer false work fits = clears_fit k peer work fits
 
-holds_fit : (peer : EdgeId) (octets : List ℕ) (kept : Option Peering) (work : Work) → HasFitMaximum kept → Fits peer work → Fits peer (holds peer octets kept work)
-holds_fit peer octets None work mine fits = fits
-holds_fit peer octets (Some kept) work mine fits = set_fits peer (Some (record kept { held = octets })) work mine
+says_fits : (told : Answers) (k : ℕ) (peer : EdgeId) (message : ℕ → Message) (work : Work) → Fits k work → Fits k (says told peer message work).work
+says_fits told k peer message work fits = to (work.edge.peering peer.0) where
+  to : (kept : Option Peering) → Fits k (says_to told peer message kept work).work
+  to None = fits
+  to (Some kept) =
+      let bytes : List ℕ = message_octets_of kept message in
+      let put : Spoken = put_octets peer bytes (next_answer told work) work in
+      had_said_fits k peer put.failed put.work (put_octets_fit k peer bytes (next_answer told work) work fits)
 
-hears_few_fit : (told : Answers) (peer : EdgeId) (n : ℕ) (octets : List ℕ) (work : Work) → Fits peer work → Fits peer (hears_few told peer n octets work)
-hears_few_fit told peer zero octets work fits = holds_fit peer octets (work.edge.peering peer.0) work fits fits
-hears_few_fit told peer (suc n) octets work fits = within (λ rest next here. hears_few_fit told peer n rest next here) (work.edge.peering peer.0) fits where
-  front : ((rest : List ℕ) (next : Work) → Fits peer next → Fits peer (hears_few told peer n rest next)) → (kept : Peering) → HasFitMaximum (Some kept) → (stands : Front)
-      → Fits peer (hears_front told peer (hears_few told peer n) kept octets stands work)
-  front again kept mine More = holds_fit peer octets (Some kept) work mine fits
-  front again kept mine (Got pdu rest) = again rest (hears_pdu told peer pdu work) (hears_pdu_fits told peer pdu work fits)
-  front again kept mine (Bad fault) = happens_fits told peer (Refused (refusal_of fault)) work fits
+-- ---- all that an edge does
 
-  within : ((rest : List ℕ) (next : Work) → Fits peer next → Fits peer (hears_few told peer n rest next)) → (kept : Option Peering) → HasFitMaximum kept
-      → Fits peer (hears_within told peer (hears_few told peer n) octets kept work)
-  within again None mine = fits
-  within again (Some kept) mine = front again kept mine (front_of kept.session.max_pdu octets)
+-- it keeps a fit maximum
+abbrev pub FitsOn : ℕ → Work → Work → Type 0
+FitsOn k a b = Fits k a → Fits k b
 
-pub hears_fit : (told : Answers) (peer : EdgeId) (octets : List ℕ) (work : Work) → Fits peer work → Fits peer (hears told peer octets work)
-hears_fit told peer octets work fits = hears_few_fit told peer (suc (length octets)) octets work fits
+-- what leaves the sessions as they were
+changes_fit : (k : ℕ) (change : EdgeState → EdgeState) (work : Work) → (change work.edge).peering ≡ work.edge.peering → FitsOn k work (changes change work)
+unfolding changes
+changes_fit k change work same fits = same_fits k work (changes change work) same fits
 
--- ---- all sessions of an edge
+changed_keeps : (change : EndState → EndState) (place : Option EndPlace) (edge : EdgeState) → (with_end_changed change place edge).peering ≡ edge.peering
+unfolding with_end
+changed_keeps change None edge = refl
+changed_keeps change (Some place) edge = refl
 
--- this peer alone
-abbrev pub only : EdgeId → ℕ → Bool
-only peer k = nat_eq k peer.0
-
--- where work for a peer leaves the other sessions, they fit if its own does
-pub all_fit : (peer : EdgeId) (old new : Work) → IsSessionInput (only peer) old new → SessionsFit old.edge → Fits peer new → SessionsFit new.edge
-all_fit peer old new works fit mine k = elim (cases_Bool (nat_eq k peer.0)) [
-  | inl here ↦ subst (λ (n : ℕ). HasFitMaximum (new.edge.peering n)) (sym (eqb-true k peer.0 here)) mine
-  | inr away ↦ subst HasFitMaximum (sym (works.edge.others k away)) (fit k)
-]
-
-same_fit : (old new : EdgeState) → new.peering ≡ old.peering → SessionsFit old → SessionsFit new
-same_fit old new same fit k = subst HasFitMaximum (ap (λ (peering : ℕ → Option Peering). peering k) (sym same)) (fit k)
-
-connected_fit : (plan : Plan) (told : Answers) (peer : EdgeId) (work : Work) → Fits peer work → Fits peer (connected_input plan told peer work)
-unfolding gives idles
-connected_fit plan told peer work fits = by (are_joined plan work.edge.me.0 peer.0 && not (has_end work.edge peer)) where
-  between : (first second : Option EdgePlan) → Fits peer (connects_between told peer first second work)
-  between None second = fits
-  between (Some first) None = fits
-  between (Some first) (Some second) =
-      let stands : Work = changes (with_peering peer (Some (opened_with first second))) work in
-      happens_fits told peer Start (gives (effect.Session peer name.Initialized) stands) (set_fits peer (Some (opened_with first second)) work (omega arith))
-
-  by : (applies : Bool) → Fits peer (cond applies (connects_between told peer (slice_get plan.edges work.edge.me.0) (slice_get plan.edges peer.0) work) (idles work))
-  by true = between (slice_get plan.edges work.edge.me.0) (slice_get plan.edges peer.0)
-  by false = fits
-
-octets_fit : (told : Answers) (peer : EdgeId) (octets : List ℕ) (kept : Option Peering) (work : Work) → Fits peer work → Fits peer (octets_input told peer octets kept work)
-unfolding idles
-octets_fit told peer octets None work fits = fits
-octets_fit told peer octets (Some kept) work fits = hears_fit told peer _ work fits
-
-lost_fit : (told : Answers) (peer : EdgeId) (work : Work) → Fits peer work → Fits peer (lost_input told peer work)
-unfolding idles
-lost_fit told peer work fits = by (has_end work.edge peer) where
-  by : (stands : Bool) → Fits peer (cond stands (happens told peer (Closed reason.Closed) work) (idles work))
-  by true = happens_fits told peer (Closed reason.Closed) work fits
-  by false = fits
-
-ticks_fit : (told : Answers) (place count : ℕ) (work : Work) → SessionsFit work.edge → SessionsFit (ticks_sessions told place count work).edge
-ticks_fit told place zero work fit = fit
-ticks_fit told place (suc count) work fit =
-    let peer : EdgeId = record { 0 = place } in
-    let works = happens_works told (only peer) peer Ticked work (eq-eqb place place refl) in
-    ticks_fit told (place + 1) count (happens told peer Ticked work)
-    (all_fit peer work (happens told peer Ticked work) (record { edge = works.edge; effects = works.effects }) fit (happens_fits told peer Ticked work (fit place)))
-
--- frames and circuits leave all sessions as they were
-copies_keep : (plan : Plan) (told : Answers) (frame : List ℕ) (targets : ℕ → Bool) (p : ℕ) (ports : List Port) (work : Work) → (copies targets (copy_by plan told frame) p ports work).edge.peering ≡ work.edge.peering
-unfolding gives
-copies_keep plan told frame targets p [] work = refl
-copies_keep plan told frame targets p (x ∷ ports) work = copies_keep plan told frame targets (p + 1) ports (cond (targets p) (copy_by plan told frame x work) work) ∙ one x (targets p) where
-  one : (x : Port) (b : Bool) → (cond b (copy_by plan told frame x work) work).edge.peering ≡ work.edge.peering
-  one x false = refl
-  one (port.Circuit at) true = refl
-  one (port.Mesh wire) true = refl
-  one (port.Spoke wire) true = refl
-
-received_keeps : (plan : Plan) (told : Answers) (service : ServiceId) (arrival : Option ℕ) (read : Result (List ℕ) DropCause) (work : Work) → (received plan told service arrival read work).edge.peering ≡ work.edge.peering
-unfolding changes gives with_addresses
-received_keeps plan told service None (Ok frame) work = refl
-received_keeps plan told service (Some arrival) (Ok frame) work =
-    let heard : Work = changes (hearing service frame arrival) work in
-    let ports : List Port = ports_of plan service heard.edge.me in
-    copies_keep plan told frame (targets_of plan heard.edge service ports frame arrival) 0 ports heard
-received_keeps plan told service arrival (Err cause) work = refl
-
-pub frame_keeps : (plan : Plan) (told : Answers) (circuit : CircuitId) (octets : List ℕ) (row : Option CircuitPlan) (work : Work) → (frame_input plan told circuit octets row work).edge.peering ≡ work.edge.peering
-unfolding idles
-frame_keeps plan told circuit octets None work = refl
-frame_keeps plan told circuit octets (Some row) work = by (is_own work.edge row && is_on work.edge circuit) where
-  by : (b : Bool) → (cond b (received plan told row.service (port_at plan work.edge circuit row) (inner_at plan circuit octets) work) (idles work)).edge.peering ≡ work.edge.peering
-  by true = received_keeps plan told row.service (port_at plan work.edge circuit row) (inner_at plan circuit octets) work
-  by false = refl
+named_keeps : (plan : Plan) (peer : EdgeId) (fec : PwFec) (one all : EndState → EndState) (pw_id : Option ℕ) (edge : EdgeState) → (with_named plan peer fec one all pw_id edge).peering ≡ edge.peering
+unfolding with_ends_beside
+named_keeps plan peer fec one all None edge = refl
+named_keeps plan peer fec one all (Some pw_id) edge = changed_keeps one (end_named plan edge.me peer pw_id) edge
 
 turned_keeps : (plan : Plan) (circuit : CircuitId) (row : CircuitPlan) (on : Bool) (edge : EdgeState) → (turned plan circuit row on edge).peering ≡ edge.peering
 unfolding with_addresses with_circuit
 turned_keeps plan circuit row true edge = refl
 turned_keeps plan circuit row false edge = refl
 
-pub circuit_keeps : (plan : Plan) (circuit : CircuitId) (on : Bool) (row : Option CircuitPlan) (work : Work) → (circuit_input plan circuit on row work).edge.peering ≡ work.edge.peering
-unfolding changes idles
-circuit_keeps plan circuit on None work = refl
-circuit_keeps plan circuit on (Some row) work = by (is_own work.edge row && not (is_same on (is_on work.edge circuit))) where
-  by : (b : Bool) → (cond b (changes (turned plan circuit row on) work) (idles work)).edge.peering ≡ work.edge.peering
-  by true = turned_keeps plan circuit row on work.edge
-  by false = refl
+turned_wire_keeps : (wire : WireId) (on : Bool) (edge : EdgeState) → (turned_wire wire on edge).peering ≡ edge.peering
+unfolding with_renewed with_wire
+turned_wire_keeps wire true edge = refl
+turned_wire_keeps wire false edge = refl
 
+mend_steps : (plan : Plan) (told : Answers) (k : ℕ) → MendSteps plan told (FitsOn k)
+unfolding changes gives with_end with_next_label with_told_down
+mend_steps plan told k = record {
+  same = λ work fits. fits;
+  joined = λ a b c first next fits. next (first fits);
+  advertises = λ place content work is idle wished left fits.
+      says_fits told k place.peer (mapping place.pw_id work.edge.next_label content) (changes (advertising place work.edge.next_label content) work) fits;
+  withdraws = λ place label content work is advertised wished fits. says_fits told k place.peer (withdrawal place.pw_id label content) (changes (withdrawing place) work) fits;
+  tells_status = λ place label content last work is advertised told_it other fits.
+      let status : PwStatus = status_to_tell plan work.edge place in
+      says_fits told k place.peer (status_notification place.pw_id status content) (changes (telling_status place status) work) fits;
+  tells_down = λ place work is terminal other fits. fits;
+}
+
+hear_steps : (plan : Plan) (told : Answers) (k : ℕ) → HearSteps plan told (FitsOn k)
+hear_steps plan told k = record {
+  mend = mend_steps plan told k;
+  happens = λ peer event work fits. with_ends_fit told k peer event work fits;
+  advises = λ peer reply work fits.
+      let put : Spoken = put_reply told peer reply work in
+      had_said_fits k peer put.failed put.work (put_reply_fits told k peer reply (work.edge.peering peer.0) work fits);
+  holds = λ peer kept octets work is fits.
+      set_fits k peer (Some (record kept { held = octets })) work (λ here. subst HasFitMaximum is (fits_now k peer work fits here)) fits;
+  releases = λ peer fec label work fits. says_fits told k peer (release fec label) work fits;
+  binds = λ peer fec place binding work there is fits. changes_fit k (with_end_changed (bound binding) (Some place)) work (changed_keeps (bound binding) (Some place) work.edge) fits;
+  unbinds = λ peer fec label work there fits.
+      changes_fit k (with_named plan peer fec (unbound label) (group_unbound fec.group) fec.pw_id) work (named_keeps plan peer fec (unbound label) (group_unbound fec.group) fec.pw_id work.edge) fits;
+  released = λ peer fec label work there fits.
+      changes_fit k (λ edge. with_end_changed (released label) (end_of_fec plan edge peer fec) edge) work (changed_keeps (released label) (end_of_fec plan work.edge peer fec) work.edge) fits;
+  states = λ peer fec status work there fits.
+      changes_fit k (with_named plan peer fec (stated status) (group_stated fec.group status) fec.pw_id) work (named_keeps plan peer fec (stated status) (group_stated fec.group status) fec.pw_id work.edge) fits;
+}
+
+input_steps : (plan : Plan) (told : Answers) (k : ℕ) → InputSteps plan told (FitsOn k)
+unfolding changes gives idles with_addresses with_bits with_learned with_ticks without_ends without_peerings
+input_steps plan told k = record {
+  hear = hear_steps plan told k;
+  idles = λ work fits. fits;
+  opens = λ peer own other work none fits. set_fits k peer (Some (opened_with own other)) work (λ here. omega arith) fits;
+  restarts = λ work fits. tt;
+  counts = λ work fits. fits;
+  forgets = λ work fits. fits;
+  turns = λ circuit row on work fits. changes_fit k (turned plan circuit row on) work (turned_keeps plan circuit row on work.edge) fits;
+  turns_wire = λ wire on work fits. changes_fit k (turned_wire wire on) work (turned_wire_keeps wire on work.edge) fits;
+  sets_bits = λ wire bits work fits. fits;
+  learns = λ service frame arrival work fits. fits;
+  leaves = λ circuit octets work fits. fits;
+  drops = λ cause work fits. fits;
+}
+
+pub hears_pdu_fits : (plan : Plan) (told : Answers) (k : ℕ) (peer : EdgeId) (pdu : Pdu) (work : Work) → FitsOn k work (hears_pdu plan told peer pdu work)
+hears_pdu_fits plan told k peer pdu work = hears_pdu_holds plan told (FitsOn k) (hear_steps plan told k) peer pdu work
+
+-- whatever comes
 pub step_fits : (plan : Plan) (told : Answers) (input : Input) (work : Work) → SessionsFit work.edge → SessionsFit (edge_step plan told input work).edge
-unfolding changes idles with_learned with_ticks without_peerings
-step_fits plan told (Connected peer) work fit =
-    all_fit peer work (connected_input plan told peer work) (connected_works plan told (only peer) peer work (eq-eqb peer.0 peer.0 refl)) fit (connected_fit plan told peer work (fit peer.0))
-step_fits plan told (Octets peer bytes) work fit =
-    let kept : Option Peering = work.edge.peering peer.0 in
-    all_fit peer work (octets_input told peer bytes.now kept work) (octets_works told (only peer) peer bytes.now kept work (eq-eqb peer.0 peer.0 refl)) fit (octets_fit told peer bytes.now kept work (fit peer.0))
-step_fits plan told (Lost peer) work fit = all_fit peer work (lost_input told peer work) (lost_works told (only peer) peer work (eq-eqb peer.0 peer.0 refl)) fit (lost_fit told peer work (fit peer.0))
-step_fits plan told Restart work fit = λ k. tt
-step_fits plan told Tick work fit = ticks_fit told 0 (length plan.edges) (changes counted work) fit
-step_fits plan told (Frame circuit bytes) work fit =
-    same_fit work.edge (frame_input plan told circuit bytes.now (circuit_row plan circuit) work).edge (frame_keeps plan told circuit bytes.now (circuit_row plan circuit) work) fit
-step_fits plan told (Circuit circuit on) work fit =
-    same_fit work.edge (circuit_input plan circuit on (circuit_row plan circuit) work).edge (circuit_keeps plan circuit on (circuit_row plan circuit) work) fit
-step_fits plan told input work fit = fit
+step_fits plan told input work fit k = step_holds plan told (FitsOn k) (input_steps plan told k) input work (fit k)

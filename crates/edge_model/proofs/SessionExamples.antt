@@ -8,18 +8,20 @@ use Rattle.net_base.specs.declared.plan.offer.Offer.{Offer}
 use Rattle.net_base.specs.declared.plan.places.EdgeId.{EdgeId}
 use Rattle.net_base.specs.declared.plan.wire_plan.WirePlan.{WirePlan}
 use Rattle.net_base.specs.declared.plan.wire_plan.Class.TheVariants.{Mesh}
+use Rattle.net_base.specs.declared.trace.down.Down.TheVariants.{NoRemote}
 use Rattle.net_base.specs.declared.trace.state_name.Reason.TheVariants as reason
 use Rattle.net_base.specs.declared.trace.state_name.StateName.TheVariants as name
 use Rattle.edge_model.specs.Connection.{connected_input, lost_input}
-use Rattle.edge_model.specs.declared.effect.Effect.TheVariants.{Said, Session, Closed}
+use Rattle.edge_model.specs.declared.effect.Effect.TheVariants.{Said, Session, Wire, Closed}
 use Rattle.edge_model.specs.Hear.{hears_pdu}
 use Rattle.edge_model.specs.Put.{with_spoken}
-use Rattle.edge_model.specs.State.{EdgeState, empty_edge, with_peering}
+use Rattle.edge_model.specs.State.{EdgeState, empty_edge, with_end, with_ends_beside, with_next_label, with_peering, with_told_down}
 use Rattle.edge_model.specs.Work.{Work, Answers, beginning, changes, gives, idles, puts}
 use Rattle.ldp_grammar.specs.declared.message.Message.{Message}
 use Rattle.ldp_grammar.specs.declared.message.Message.TheVariants.{Initialization, KeepAlive}
 use Rattle.ldp_grammar.specs.declared.pdu.Pdu.{Pdu}
 use Rattle.net_base.specs.declared.values.addr.Addr.{Addr}
+use Rattle.pw_signalling.specs.Down.{down}
 use Rattle.session_core.specs.Parameters.{proposal}
 
 abbrev an_edge : ℕ → EdgePlan
@@ -54,7 +56,7 @@ abbrev failing : Answers
 failing k = false
 
 abbrev connected : Answers → EdgeId → EdgeId → Work
-connected told me peer = connected_input plan told peer (beginning (empty_edge me) [])
+connected told me peer = connected_input plan told peer (beginning (empty_edge plan me) [])
 
 abbrev initialization_of_b : List ℕ
 initialization_of_b = 0 ∷ 1 ∷ 0 ∷ 32 ∷ 10 ∷ 0 ∷ 0 ∷ 2 ∷ 0 ∷ 0 ∷ 2 ∷ 0 ∷ 0 ∷ 22 ∷ 0 ∷ 0 ∷ 0 ∷ 1 ∷ 5 ∷ 0 ∷ 0 ∷ 14 ∷ 0 ∷ 1 ∷ 0 ∷ 180 ∷ 0 ∷ 0 ∷ 16 ∷ 0 ∷ 10 ∷ 0 ∷ 0 ∷ 1 ∷ 0 ∷ 0 ∷ []
@@ -68,27 +70,31 @@ keep_alive_of_a = 0 ∷ 1 ∷ 0 ∷ 14 ∷ 10 ∷ 0 ∷ 0 ∷ 1 ∷ 0 ∷ 0 ∷ 
 abbrev keep_alive_of_b : List ℕ
 keep_alive_of_b = 0 ∷ 1 ∷ 0 ∷ 14 ∷ 10 ∷ 0 ∷ 0 ∷ 2 ∷ 0 ∷ 0 ∷ 2 ∷ 1 ∷ 0 ∷ 4 ∷ 0 ∷ 0 ∷ 0 ∷ 2 ∷ []
 
+-- label 16 for the wire with PW ID 100, raw, with the control word, an MTU of 1500 octets and no failure
+abbrev mapping_of_b : List ℕ
+mapping_of_b = 0 ∷ 1 ∷ 0 ∷ 50 ∷ 10 ∷ 0 ∷ 0 ∷ 2 ∷ 0 ∷ 0 ∷ 4 ∷ 0 ∷ 0 ∷ 40 ∷ 0 ∷ 0 ∷ 0 ∷ 3 ∷ 1 ∷ 0 ∷ 0 ∷ 16 ∷ 128 ∷ 128 ∷ 5 ∷ 8 ∷ 0 ∷ 0 ∷ 0 ∷ 0 ∷ 0 ∷ 0 ∷ 0 ∷ 100 ∷ 1 ∷ 4 ∷ 5 ∷ 220 ∷ 2 ∷ 0 ∷ 0 ∷ 4 ∷ 0 ∷ 0 ∷ 0 ∷ 16 ∷ 137 ∷ 106 ∷ 0 ∷ 4 ∷ 0 ∷ 0 ∷ 0 ∷ 0 ∷ []
+
 -- the passive end waits, the active one speaks
 waits : (connected taken a b).effects ≡ Session b name.Initialized ∷ []
-unfolding changes gives idles puts with_peering with_spoken
+unfolding changes down gives idles puts with_end with_ends_beside with_next_label with_peering with_spoken with_told_down
 waits = refl
 
 speaks : (connected taken b a).effects ≡ Session a name.Initialized ∷ Said a initialization_of_b ∷ Session a name.OpenSent ∷ []
-unfolding changes gives idles puts with_peering with_spoken
+unfolding changes down gives idles puts with_end with_ends_beside with_next_label with_peering with_spoken with_told_down
 speaks = refl
 
 -- where the link does not take it, the session ends at once
 fails : (connected failing b a).effects ≡ Session a name.Initialized ∷ Session a (name.Ended reason.LinkFault) ∷ Closed a ∷ []
-unfolding changes gives idles puts with_peering with_spoken
+unfolding changes down gives idles puts with_end with_ends_beside with_next_label with_peering with_spoken with_told_down
 fails = refl
 
 -- edges that no wire joins have no connection
 apart : (connected taken a (record { 0 = 2 })).idle ≡ true
-unfolding changes gives idles puts with_peering with_spoken
+unfolding changes down gives idles puts with_end with_ends_beside with_next_label with_peering with_spoken with_told_down
 apart = refl
 
-lost : (lost_input taken b (beginning (connected taken a b).edge [])).effects ≡ Session b (name.Ended reason.Closed) ∷ Closed b ∷ []
-unfolding changes gives idles puts with_peering with_spoken
+lost : (lost_input plan taken b (beginning (connected taken a b).edge [])).effects ≡ Session b (name.Ended reason.Closed) ∷ Closed b ∷ []
+unfolding changes down gives idles puts with_end with_ends_beside with_next_label with_peering with_spoken with_told_down
 lost = refl
 
 -- what each of them puts, as messages
@@ -103,7 +109,7 @@ proposal_of last other = Initialization 1 (proposal (record { me = address last;
 
 abbrev hears_all : Answers → EdgeId → List Pdu → Work → Work
 hears_all told peer [] work = work
-hears_all told peer (pdu ∷ pdus) work = hears_all told peer pdus (hears_pdu told peer pdu work)
+hears_all told peer (pdu ∷ pdus) work = hears_all told peer pdus (hears_pdu plan told peer pdu work)
 
 abbrev hearing : Answers → EdgeId → List Pdu → EdgeState → Work
 hearing told peer pdus edge = hears_all told peer pdus (beginning edge [])
@@ -111,11 +117,11 @@ hearing told peer pdus edge = hears_all told peer pdus (beginning edge [])
 -- the proposal is answered by one's own and by a KeepAlive
 answers : (hearing taken b (from_edge 2 (proposal_of 2 1 ∷ []) ∷ []) (connected taken a b).edge).effects
     ≡ Said b initialization_of_a ∷ Said b keep_alive_of_a ∷ Session b name.OpenRec ∷ []
-unfolding changes gives idles puts with_peering with_spoken
+unfolding changes down gives idles puts with_end with_ends_beside with_next_label with_peering with_spoken with_told_down
 answers = refl
 
--- and so the session comes up at the other end
+-- and so the session comes up at the other end, which advertises its end of the wire
 comes_up : (hearing taken a (from_edge 1 (proposal_of 1 2 ∷ []) ∷ from_edge 1 (KeepAlive 2 ∷ []) ∷ []) (connected taken b a).edge).effects
-    ≡ Said a keep_alive_of_b ∷ Session a name.OpenRec ∷ Session a name.Operational ∷ []
-unfolding changes gives idles puts with_peering with_spoken
+    ≡ Said a keep_alive_of_b ∷ Session a name.OpenRec ∷ Session a name.Operational ∷ Said a mapping_of_b ∷ Wire (record { 0 = 0 }) (Some NoRemote) ∷ []
+unfolding changes down gives idles puts with_end with_ends_beside with_next_label with_peering with_spoken with_told_down
 comes_up = refl

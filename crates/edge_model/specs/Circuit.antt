@@ -5,8 +5,9 @@ use Rattle.net_base.specs.declared.plan.circuit_plan.CircuitPlan.{CircuitPlan}
 use Rattle.net_base.specs.declared.plan.places.CircuitId.{CircuitId}
 use Rattle.mac_table.specs.declared.mac_entry.MacEntry.{MacEntry}
 use Rattle.edge_model.specs.Frame.{is_own, port_at}
+use Rattle.edge_model.specs.Mend.{mends}
 use Rattle.edge_model.specs.State.{EdgeState, addresses_of, is_on, with_addresses, with_circuit}
-use Rattle.edge_model.specs.Work.{Work, changes, idles}
+use Rattle.edge_model.specs.Work.{Work, Answers, changes, idles}
 
 -- the entries without those at a port
 abbrev pub without_port : Option ℕ → List MacEntry → List MacEntry
@@ -24,8 +25,10 @@ abbrev pub is_same : Bool → Bool → Bool
 is_same true now = now
 is_same false now = not now
 
--- the input `Circuit`: it applies at a circuit of the edge that is not so already
-abbrev pub circuit_input : Plan → CircuitId → Bool → Option CircuitPlan → Work → Work
-circuit_input plan circuit on None work = idles work
-circuit_input plan circuit on (Some row) work =
-    if is_own work.edge row && not (is_same on (is_on work.edge circuit)) then changes (turned plan circuit row on) work else idles work
+-- the input `Circuit`: it applies at a circuit of the edge that is not so already; then the edge mends its ends
+abbrev pub circuit_input : Plan → Answers → CircuitId → Bool → Option CircuitPlan → Work → Work
+circuit_input plan told circuit on None work = idles work
+circuit_input plan told circuit on (Some row) work =
+    if is_own work.edge row && not (is_same on (is_on work.edge circuit))
+    then mends plan told (changes (turned plan circuit row on) work)
+    else idles work

@@ -10,8 +10,9 @@ use Rattle.session_core.specs.declared.peers.Peers.{Peers}
 use Rattle.session_core.specs.State.{opened}
 use Rattle.session_core.specs.Table as table
 use Rattle.edge_model.specs.declared.effect.Effect.TheVariants.{Session}
-use Rattle.edge_model.specs.Session.{happens}
-use Rattle.edge_model.specs.State.{EdgeState, Peering, has_end, with_learned, with_peering, without_peerings}
+use Rattle.edge_model.specs.Mend.{mends}
+use Rattle.edge_model.specs.Session.{happens_with_ends}
+use Rattle.edge_model.specs.State.{EdgeState, Peering, has_end, with_learned, with_peering, without_ends, without_peerings}
 use Rattle.edge_model.specs.Work.{Work, Answers, changes, gives, idles}
 
 -- the two ends of a session, as the plan has them
@@ -25,26 +26,28 @@ opened_with own other = record { session = opened (peers_of own other); held = [
 -- the edge's end of the connection stands, and its session begins; the active end speaks first (RFC 5036 section 2.5.3)
 abbrev pub connects : Answers → EdgeId → Peering → Work → Work
 connects told peer kept work =
-    happens told peer table.Start (gives (Session peer name.Initialized) (changes (with_peering peer (Some kept)) work))
+    happens_with_ends told peer table.Start (gives (Session peer name.Initialized) (changes (with_peering peer (Some kept)) work))
 
-abbrev pub connects_between : Answers → EdgeId → Option EdgePlan → Option EdgePlan → Work → Work
-connects_between told peer (Some own) (Some other) work = connects told peer (opened_with own other) work
-connects_between told peer own other work = idles work
+abbrev pub connects_between : Plan → Answers → EdgeId → Option EdgePlan → Option EdgePlan → Work → Work
+connects_between plan told peer (Some own) (Some other) work = mends plan told (connects told peer (opened_with own other) work)
+connects_between plan told peer own other work = idles work
 
 -- the input `Connected`: it applies at an edge that a segment joins to the peer, and whose end does not stand
 abbrev pub connected_input : Plan → Answers → EdgeId → Work → Work
 connected_input plan told peer work =
     if are_joined plan work.edge.me.0 peer.0 && not (has_end work.edge peer)
-    then connects_between told peer (slice_get plan.edges work.edge.me.0) (slice_get plan.edges peer.0) work
+    then connects_between plan told peer (slice_get plan.edges work.edge.me.0) (slice_get plan.edges peer.0) work
     else idles work
 
 -- the input `Lost`: it applies where the edge's end stands
-abbrev pub lost_input : Answers → EdgeId → Work → Work
-lost_input told peer work = if has_end work.edge peer then happens told peer (table.Closed reason.Closed) work else idles work
+abbrev pub lost_input : Plan → Answers → EdgeId → Work → Work
+lost_input plan told peer work =
+    if has_end work.edge peer then mends plan told (happens_with_ends told peer (table.Closed reason.Closed) work) else idles work
 
--- the edge restarts: it keeps its ticks and its circuits, and tells nothing
+-- the edge restarts: it keeps its ticks, what was set of its circuits and wires, and the label that it gives next, so that no
+-- label is given again; it tells nothing
 abbrev pub restarted : EdgeState → EdgeState
-restarted edge = with_learned (λ service. []) (without_peerings edge)
+restarted edge = without_ends (with_learned (λ service. []) (without_peerings edge))
 
 -- the input `Restart`: it always applies
 abbrev pub restart_input : Work → Work

@@ -1,10 +1,10 @@
 -- An edge hears octets of LDP: one PDU after another, each within the maximum that the session then has (RFC 5036 section
 -- 3.5.3), and each message of a PDU in turn. Where the session ends, the rest is given up.
 use Rattle.std.specs.Prelude.{◌==◌, ◌++◌, ℕ, Bool, true, false, zero, suc, length, List, [], ◌∷◌, Option, Some, None, if◌then◌else◌}
+use Rattle.net_base.specs.declared.plan.Plan.{Plan}
 use Rattle.net_base.specs.declared.plan.places.EdgeId.{EdgeId}
-use Rattle.net_base.specs.declared.trace.state_name.Reason.TheVariants as reason
 use Rattle.ldp_grammar.specs.declared.message.Message.{Message}
-use Rattle.ldp_grammar.specs.declared.message.Message.TheVariants.{Other, Unprocessed}
+use Rattle.ldp_grammar.specs.declared.message.Message.TheVariants.{Notification, LabelMapping, LabelWithdraw, LabelRelease, Other, Unprocessed}
 use Rattle.ldp_grammar.specs.declared.message_kind.MessageKind.TheVariants as kind
 use Rattle.ldp_grammar.specs.declared.why.Why.{Why}
 use Rattle.ldp_grammar.specs.declared.why.Why.TheVariants.{UnknownTlv, Missing, UnknownFec}
@@ -18,8 +18,10 @@ use Rattle.session_core.specs.declared.reply.Reply.TheVariants.{Notice}
 use Rattle.session_core.specs.Phase.{Phase}
 use Rattle.session_core.specs.Phase as phase
 use Rattle.session_core.specs.Table.{Heard, Received, Refused}
-use Rattle.edge_model.specs.Put.{Spoken, put_reply}
-use Rattle.edge_model.specs.Session.{ends, happens}
+use Rattle.edge_model.specs.Mend.{mends}
+use Rattle.edge_model.specs.Put.{put_reply}
+use Rattle.edge_model.specs.Session.{had_said, happens_with_ends}
+use Rattle.edge_model.specs.Signal.{hears_mapping, hears_release, hears_status, hears_withdraw}
 use Rattle.edge_model.specs.State.{Peering, has_end, with_peering}
 use Rattle.edge_model.specs.Work.{Work, Answers, changes, idles}
 
@@ -55,18 +57,22 @@ advice_of (Unprocessed id number why) =
     if number == type_of kind.Notification then None else Some (advisory (Unprocessed id number why) (data_for why))
 advice_of message = None
 
--- a message that the link did not take ends the session
-abbrev pub had_put : EdgeId → Spoken → Work
-had_put peer put = if put.failed then ends peer reason.LinkFault put.work else put.work
-
 abbrev pub advises : Answers → EdgeId → Option Reply → Work → Work
 advises told peer None work = work
-advises told peer (Some reply) work = had_put peer (put_reply told peer reply work)
+advises told peer (Some reply) work = (had_said peer (put_reply told peer reply work)).work
 
--- a session that was up, and still is, acts on a message. What it acts on of labels and addresses is to come
-abbrev pub acts : Answers → EdgeId → Message → Bool → Work → Work
-acts told peer message false work = work
-acts told peer message true work = if has_end work.edge peer then advises told peer (advice_of message) work else work
+-- what an edge does on a message, one definition each. What it does of addresses is to come
+abbrev pub acts_on : Plan → Answers → EdgeId → Message → Work → Work
+acts_on plan told peer (LabelMapping id fec label status points) work = hears_mapping plan told peer fec label status points work
+acts_on plan told peer (LabelWithdraw id fec label) work = hears_withdraw plan told peer fec label work
+acts_on plan told peer (LabelRelease id fec label) work = hears_release plan peer fec label work
+acts_on plan told peer (Notification id code status fec) work = hears_status plan peer code status fec work
+acts_on plan told peer message work = advises told peer (advice_of message) work
+
+-- a session that was up, and still is, acts on a message
+abbrev pub acts : Plan → Answers → EdgeId → Message → Bool → Work → Work
+acts plan told peer message false work = work
+acts plan told peer message true work = if has_end work.edge peer then acts_on plan told peer message work else work
 
 abbrev pub is_up : Phase → Bool
 is_up phase.Operational = true
@@ -76,17 +82,21 @@ abbrev pub was_up : Option Peering → Bool
 was_up None = false
 was_up (Some kept) = is_up kept.session.phase
 
--- a message is heard; after the end of the session none is
-abbrev pub hears_message : Answers → EdgeId → Message → Work → Work
-hears_message told peer message work = acts told peer message (was_up (work.edge.peering peer.0)) (happens told peer (Received message) work)
+-- what a message makes of the session, and what the edge then does
+abbrev pub hears_one : Plan → Answers → EdgeId → Message → Work → Work
+hears_one plan told peer message work = acts plan told peer message (was_up (work.edge.peering peer.0)) (happens_with_ends told peer (Received message) work)
 
-abbrev pub hears_messages : Answers → EdgeId → List Message → Work → Work
-hears_messages told peer [] work = work
-hears_messages told peer (message ∷ messages) work = hears_messages told peer messages (hears_message told peer message work)
+-- a message is heard, and the edge mends its ends; after the end of the session none is
+abbrev pub hears_message : Plan → Answers → EdgeId → Message → Work → Work
+hears_message plan told peer message work = if has_end work.edge peer then mends plan told (hears_one plan told peer message work) else work
+
+abbrev pub hears_messages : Plan → Answers → EdgeId → List Message → Work → Work
+hears_messages plan told peer [] work = work
+hears_messages plan told peer (message ∷ messages) work = hears_messages plan told peer messages (hears_message plan told peer message work)
 
 -- a PDU is heard: its sender, and then its messages
-abbrev pub hears_pdu : Answers → EdgeId → Pdu → Work → Work
-hears_pdu told peer pdu work = hears_messages told peer pdu.messages (happens told peer (Heard pdu.id) work)
+abbrev pub hears_pdu : Plan → Answers → EdgeId → Pdu → Work → Work
+hears_pdu plan told peer pdu work = hears_messages plan told peer pdu.messages (happens_with_ends told peer (Heard pdu.id) work)
 
 -- ---- octets
 
@@ -96,25 +106,30 @@ holds peer octets None work = work
 holds peer octets (Some kept) work = changes (with_peering peer (Some (record kept { held = octets }))) work
 
 -- what stands in front of octets is heard, and the octets behind a PDU go on
-abbrev pub hears_front : Answers → EdgeId → (List ℕ → Work → Work) → Peering → List ℕ → Front → Work → Work
-hears_front told peer on kept octets More work = holds peer octets (Some kept) work
-hears_front told peer on kept octets (Got pdu rest) work = on rest (hears_pdu told peer pdu work)
-hears_front told peer on kept octets (Bad fault) work = happens told peer (Refused (refusal_of fault)) work
+abbrev pub hears_front : Plan → Answers → EdgeId → (List ℕ → Work → Work) → Peering → List ℕ → Front → Work → Work
+hears_front plan told peer on kept octets More work = holds peer octets (Some kept) work
+hears_front plan told peer on kept octets (Got pdu rest) work = on rest (hears_pdu plan told peer pdu work)
+hears_front plan told peer on kept octets (Bad fault) work = happens_with_ends told peer (Refused (refusal_of fault)) work
 
-abbrev pub hears_within : Answers → EdgeId → (List ℕ → Work → Work) → List ℕ → Option Peering → Work → Work
-hears_within told peer on octets None work = work
-hears_within told peer on octets (Some kept) work = hears_front told peer on kept octets (front_of kept.session.max_pdu octets) work
+abbrev pub hears_within : Plan → Answers → EdgeId → (List ℕ → Work → Work) → List ℕ → Option Peering → Work → Work
+hears_within plan told peer on octets None work = work
+hears_within plan told peer on octets (Some kept) work = hears_front plan told peer on kept octets (front_of kept.session.max_pdu octets) work
 
 -- so many PDUs at most
-abbrev pub hears_few : Answers → EdgeId → ℕ → List ℕ → Work → Work
-hears_few told peer zero octets work = holds peer octets (work.edge.peering peer.0) work
-hears_few told peer (suc n) octets work = hears_within told peer (hears_few told peer n) octets (work.edge.peering peer.0) work
+abbrev pub hears_few : Plan → Answers → EdgeId → ℕ → List ℕ → Work → Work
+hears_few plan told peer zero octets work = holds peer octets (work.edge.peering peer.0) work
+hears_few plan told peer (suc n) octets work = hears_within plan told peer (hears_few plan told peer n) octets (work.edge.peering peer.0) work
 
 -- all of them: a PDU has octets, so there are no more PDUs than octets
-abbrev pub hears : Answers → EdgeId → List ℕ → Work → Work
-hears told peer octets work = hears_few told peer (suc (length octets)) octets work
+abbrev pub hears : Plan → Answers → EdgeId → List ℕ → Work → Work
+hears plan told peer octets work = hears_few plan told peer (suc (length octets)) octets work
 
--- the input `Octets`: it applies where the edge's end of the connection stands
-abbrev pub octets_input : Answers → EdgeId → List ℕ → Option Peering → Work → Work
-octets_input told peer octets None work = idles work
-octets_input told peer octets (Some kept) work = hears told peer (kept.held ++ octets) work
+-- octets are heard behind those that are held; nothing is where the session ended
+abbrev pub hears_on : Plan → Answers → EdgeId → List ℕ → Option Peering → Work → Work
+hears_on plan told peer octets None work = work
+hears_on plan told peer octets (Some kept) work = hears plan told peer (kept.held ++ octets) work
+
+-- the input `Octets`: it applies where the edge's end of the connection stands; once all is heard, the edge mends its ends
+abbrev pub octets_input : Plan → Answers → EdgeId → List ℕ → Option Peering → Work → Work
+octets_input plan told peer octets None work = idles work
+octets_input plan told peer octets (Some kept) work = mends plan told (hears_on plan told peer octets (Some kept) work)

@@ -5,7 +5,7 @@ use Rattle.net_base.specs.declared.plan.Plan.{Plan}
 use Rattle.net_base.specs.declared.plan.places.EdgeId.{EdgeId}
 use Rattle.ldp_grammar.specs.Reading.{AreOctets}
 use Rattle.edge_model.specs.declared.input.Input.{Input}
-use Rattle.edge_model.specs.Hear.{hears, octets_input}
+use Rattle.edge_model.specs.Hear.{hears, hears_on}
 use Rattle.edge_model.specs.State.{EdgeState, Peering, empty_edge, has_end}
 use Rattle.edge_model.specs.Step.{edge_step}
 use Rattle.edge_model.specs.Work.{Work, Answers}
@@ -22,18 +22,18 @@ SessionsFit edge = (k : ℕ) → HasFitMaximum (edge.peering k)
 -- Whatever the link answers, and whatever the maximum becomes between two PDUs.
 pub record HeardInParts : Type 0 where
   -- what is left of the first part is held, and stands in front of the second
-  pub goes_on : (told : Answers) (peer : EdgeId) (octets more : List ℕ) (work : Work) → AreOctets (octets ++ more) → HasFitMaximum (work.edge.peering peer.0)
-      → has_end (hears told peer octets work).edge peer ≡ true
-      → hears told peer (octets ++ more) work ≡ octets_input told peer more ((hears told peer octets work).edge.peering peer.0) (hears told peer octets work)
+  pub goes_on : (plan : Plan) (told : Answers) (peer : EdgeId) (octets more : List ℕ) (work : Work) → AreOctets (octets ++ more) → HasFitMaximum (work.edge.peering peer.0)
+      → has_end (hears plan told peer octets work).edge peer ≡ true
+      → hears plan told peer (octets ++ more) work ≡ hears_on plan told peer more ((hears plan told peer octets work).edge.peering peer.0) (hears plan told peer octets work)
   -- where the session ended in the first part, the second is given up
-  pub gives_up : (told : Answers) (peer : EdgeId) (octets more : List ℕ) (work : Work) → AreOctets (octets ++ more) → HasFitMaximum (work.edge.peering peer.0)
-      → has_end (hears told peer octets work).edge peer ≡ false
-      → hears told peer (octets ++ more) work ≡ hears told peer octets work
-  -- the same of inputs, where octets may be held already
-  pub as_inputs : (told : Answers) (peer : EdgeId) (octets more : List ℕ) (kept : Peering) (work : Work) → AreOctets (kept.held ++ (octets ++ more)) → HasFitMaximum (work.edge.peering peer.0)
-      → has_end (octets_input told peer octets (Some kept) work).edge peer ≡ true
-      → octets_input told peer (octets ++ more) (Some kept) work
-      ≡ octets_input told peer more ((octets_input told peer octets (Some kept) work).edge.peering peer.0) (octets_input told peer octets (Some kept) work)
+  pub gives_up : (plan : Plan) (told : Answers) (peer : EdgeId) (octets more : List ℕ) (work : Work) → AreOctets (octets ++ more) → HasFitMaximum (work.edge.peering peer.0)
+      → has_end (hears plan told peer octets work).edge peer ≡ false
+      → hears plan told peer (octets ++ more) work ≡ hears plan told peer octets work
+  -- the same where octets may be held already
+  pub with_held : (plan : Plan) (told : Answers) (peer : EdgeId) (octets more : List ℕ) (kept : Peering) (work : Work) → AreOctets (kept.held ++ (octets ++ more)) → HasFitMaximum (work.edge.peering peer.0)
+      → has_end (hears_on plan told peer octets (Some kept) work).edge peer ≡ true
+      → hears_on plan told peer (octets ++ more) (Some kept) work
+      ≡ hears_on plan told peer more ((hears_on plan told peer octets (Some kept) work).edge.peering peer.0) (hears_on plan told peer octets (Some kept) work)
   -- each edge that comes about has such sessions
-  pub begins : (me : EdgeId) → SessionsFit (empty_edge me)
+  pub begins : (plan : Plan) (me : EdgeId) → SessionsFit (empty_edge plan me)
   pub keeps : (plan : Plan) (told : Answers) (input : Input) (work : Work) → SessionsFit work.edge → SessionsFit (edge_step plan told input work).edge

@@ -3,6 +3,7 @@ use Rattle.std.specs.Prelude.{◌+◌, ◌^◌, ◌-◌, ◌==◌, ℕ, Bool, tr
 use Rattle.net_base.specs.declared.plan.places.EdgeId.{EdgeId}
 use Rattle.net_base.specs.declared.values.addr.Addr.{Addr}
 use Rattle.ldp_grammar.specs.declared.ldp_id.LdpId.{LdpId}
+use Rattle.ldp_grammar.specs.declared.message.Message.{Message}
 use Rattle.ldp_grammar.specs.Written.{written}
 use Rattle.session_core.specs.declared.reply.Reply.{Reply}
 use Rattle.session_core.specs.Messages.{message_of}
@@ -38,6 +39,10 @@ put_octets peer bytes false work = record { work = puts peer bytes false work; f
 -- the octets of a reply, in a PDU of its own
 abbrev pub octets_of : Peering → Reply → List ℕ
 octets_of kept reply = written (message_of reply kept.next_id kept.session.peers) (platform_of kept.session.peers.me)
+
+-- the octets of a message with the next Message ID, in a PDU of its own
+abbrev pub message_octets_of : Peering → (ℕ → Message) → List ℕ
+message_octets_of kept message = written (message kept.next_id) (platform_of kept.session.peers.me)
 
 -- a reply is put to a peer; nothing is where no session with it stands
 abbrev pub put_reply_to : Answers → EdgeId → Reply → Option Peering → Work → Spoken

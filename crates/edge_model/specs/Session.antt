@@ -1,18 +1,20 @@
 -- An edge's sessions: what an event makes of one, as the table of a session says (RFC 5036 sections 2.5.3, 2.5.4 and 2.5.6).
-use Rattle.std.specs.Prelude.{Bool, true, false, Option, Some, None, if◌then◌else◌}
+use Rattle.std.specs.Prelude.{ℕ, Bool, true, false, Option, Some, None, if◌then◌else◌}
 use Rattle.net_base.specs.declared.plan.places.EdgeId.{EdgeId}
 use Rattle.net_base.specs.declared.trace.state_name.Reason.{Reason}
 use Rattle.net_base.specs.declared.trace.state_name.Reason.TheVariants as reason
 use Rattle.net_base.specs.declared.trace.state_name.StateName.TheVariants as name
+use Rattle.ldp_grammar.specs.declared.message.Message.{Message}
+use Rattle.pw_signalling.specs.Rows.{lost}
 use Rattle.session_core.specs.Phase.{Phase}
 use Rattle.session_core.specs.Phase as phase
 use Rattle.session_core.specs.Session.{phase_name}
 use Rattle.session_core.specs.State.{SessionState}
 use Rattle.session_core.specs.Table.{SessionEvent, Outcome, Stay, Goes, Ends, outcome_of}
 use Rattle.edge_model.specs.declared.effect.Effect.TheVariants.{Session, Closed}
-use Rattle.edge_model.specs.Put.{Spoken, put_replies}
-use Rattle.edge_model.specs.State.{Peering, with_peering}
-use Rattle.edge_model.specs.Work.{Work, Answers, changes, gives}
+use Rattle.edge_model.specs.Put.{Spoken, message_octets_of, put_octets, put_replies}
+use Rattle.edge_model.specs.State.{Peering, has_end, with_ends_beside, with_peering}
+use Rattle.edge_model.specs.Work.{Work, Answers, changes, gives, next_answer}
 
 -- the session has ended: it is told, and then that the edge's end of the connection is gone. What was held is given up
 abbrev pub ends : EdgeId → Reason → Work → Work
@@ -53,3 +55,29 @@ happens_to told peer event (Some kept) work = comes_of told peer kept (outcome_o
 -- an event happens to the session with a peer, where it stands
 abbrev pub happens : Answers → EdgeId → SessionEvent → Work → Work
 happens told peer event work = happens_to told peer event (work.edge.peering peer.0) work
+
+-- where no session with a peer stands, each end beside it is lost (RFC 5036 section 2.5.4)
+abbrev pub clears_ends : EdgeId → Work → Work
+clears_ends peer work = if has_end work.edge peer then work else changes (with_ends_beside peer lost) work
+
+-- an event happens to the session with a peer, and its ends are lost where it ends
+abbrev pub happens_with_ends : Answers → EdgeId → SessionEvent → Work → Work
+happens_with_ends told peer event work = clears_ends peer (happens told peer event work)
+
+-- ---- a message is put apart from the events of the session
+
+-- a message that the link did not take ends the session at once
+abbrev pub had_put : EdgeId → Spoken → Work
+had_put peer put = if put.failed then ends peer reason.LinkFault put.work else put.work
+
+-- and with it the ends beside the peer are lost
+abbrev pub had_said : EdgeId → Spoken → Spoken
+had_said peer put = record { work = clears_ends peer (had_put peer put); failed = put.failed }
+
+abbrev pub says_to : Answers → EdgeId → (ℕ → Message) → Option Peering → Work → Spoken
+says_to told peer message None work = record { work = work; failed = false }
+says_to told peer message (Some kept) work = had_said peer (put_octets peer (message_octets_of kept message) (next_answer told work) work)
+
+-- a message, with the Message ID that is next, is put to a peer; nothing is where no session with it stands
+abbrev pub says : Answers → EdgeId → (ℕ → Message) → Work → Spoken
+says told peer message work = says_to told peer message (work.edge.peering peer.0) work

@@ -1,10 +1,18 @@
 -- An edge at one moment: maps from places in the plan.
-use Rattle.std.specs.Prelude.{◌==◌, ◌+◌, ◌^◌, ◌-◌, nat_lt, ℕ, Bool, true, false, List, [], Option, Some, None, if◌then◌else◌}
+use Rattle.std.specs.Prelude.{◌==◌, ◌+◌, ◌^◌, ◌-◌, nat_lt, ℕ, Bool, true, false, List, [], Option, Some, None, slice_get, if◌then◌else◌}
+use Rattle.net_base.specs.declared.plan.Plan.{Plan}
+use Rattle.net_base.specs.declared.plan.edge_plan.EdgePlan.{EdgePlan}
 use Rattle.net_base.specs.declared.plan.places.EdgeId.{EdgeId}
 use Rattle.net_base.specs.declared.plan.places.ServiceId.{ServiceId}
 use Rattle.net_base.specs.declared.plan.places.CircuitId.{CircuitId}
+use Rattle.net_base.specs.declared.plan.places.WireId.{WireId}
+use Rattle.net_base.specs.declared.trace.down.Down.{Down}
+use Rattle.net_base.specs.declared.trace.down.Down.TheVariants.{NoLocal}
 use Rattle.mac_table.specs.declared.mac_entry.MacEntry.{MacEntry}
+use Rattle.pw_signalling.specs.End.{EndState, fresh}
+use Rattle.pw_signalling.specs.Rows.{renewed}
 use Rattle.session_core.specs.State.{SessionState}
+use Rattle.edge_model.specs.declared.end_place.EndPlace.{EndPlace}
 
 -- what an edge keeps for a neighbour as long as its end of their connection stands
 pub record Peering : Type 0 where
@@ -27,10 +35,40 @@ pub record EdgeState : Type 0 where
   pub ticks : ℕ
   -- what it keeps for each neighbour; its end of the connection stands exactly where there is something
   pub peering : ℕ → Option Peering
+  -- the wires that are on
+  pub wire_on : ℕ → Bool
+  -- the failure bits of its end of each wire (RFC 4446 section 3.5)
+  pub bits : ℕ → ℕ
+  -- its end of each wire beside each neighbour
+  pub ends : ℕ → ℕ → EndState
+  -- why its end of each wire does not forward, as it was told last; an end of which nothing was told counts as one that
+  -- advertises no label
+  pub told_down : ℕ → Option Down
+  -- the label that it gives next (RFC 3032 section 2.1)
+  pub next_label : ℕ
 
--- before the first input: every circuit is on, nothing is learned, no connection stands
-abbrev pub empty_edge : EdgeId → EdgeState
-empty_edge me = record { me = me; circuit_on = λ circuit. true; learned = λ service. []; ticks = 0; peering = λ peer. None }
+abbrev pub label_of : Option EdgePlan → ℕ
+label_of None = 16
+label_of (Some row) = row.first_label
+
+-- the first label of an edge of the plan
+abbrev pub first_label : Plan → EdgeId → ℕ
+first_label plan me = label_of (slice_get plan.edges me.0)
+
+-- before the first input: every circuit and every wire is on, nothing is learned, no connection stands, and nothing was told
+abbrev pub empty_edge : Plan → EdgeId → EdgeState
+empty_edge plan me = record {
+  me = me;
+  circuit_on = λ circuit. true;
+  learned = λ service. [];
+  ticks = 0;
+  peering = λ peer. None;
+  wire_on = λ wire. true;
+  bits = λ wire. 0;
+  ends = λ wire peer. fresh;
+  told_down = λ wire. Some NoLocal;
+  next_label = first_label plan me;
+}
 
 abbrev pub is_on : EdgeState → CircuitId → Bool
 is_on edge circuit = edge.circuit_on circuit.0
@@ -45,6 +83,10 @@ is_there (Some x) = true
 -- the edge's end of its connection with a peer stands
 abbrev pub has_end : EdgeState → EdgeId → Bool
 has_end edge peer = is_there (edge.peering peer.0)
+
+-- an end by its place
+abbrev pub end_at : EdgeState → EndPlace → EndState
+end_at edge place = edge.ends place.wire.0 place.peer.0
 
 -- a map with another value at one place
 abbrev pub put_at : {X : Type 0} → (ℕ → X) → ℕ → X → ℕ → X
@@ -75,6 +117,38 @@ without_peerings edge = record edge { peering = λ peer. None }
 -- another count of ticks
 unfoldable pub with_ticks : ℕ → EdgeState → EdgeState
 with_ticks ticks edge = record edge { ticks = ticks }
+
+-- one wire on or off
+unfoldable pub with_wire : WireId → Bool → EdgeState → EdgeState
+with_wire wire on edge = record edge { wire_on = put_at edge.wire_on wire.0 on }
+
+-- other failure bits of the end of one wire
+unfoldable pub with_bits : WireId → ℕ → EdgeState → EdgeState
+with_bits wire bits edge = record edge { bits = put_at edge.bits wire.0 bits }
+
+-- another state of one end
+unfoldable pub with_end : EndPlace → EndState → EdgeState → EdgeState
+with_end place end edge = record edge { ends = put_at edge.ends place.wire.0 (put_at (edge.ends place.wire.0) place.peer.0 end) }
+
+-- each end beside a peer is changed
+unfoldable pub with_ends_beside : EdgeId → (EndState → EndState) → EdgeState → EdgeState
+with_ends_beside peer change edge = record edge { ends = λ wire k. if k == peer.0 then change (edge.ends wire k) else edge.ends wire k }
+
+-- the ends of a wire are declined no longer
+unfoldable pub with_renewed : WireId → EdgeState → EdgeState
+with_renewed wire edge = record edge { ends = λ k peer. if k == wire.0 then renewed (edge.ends k peer) else edge.ends k peer }
+
+-- each end is as before the first input, and what was told of it is forgotten
+unfoldable pub without_ends : EdgeState → EdgeState
+without_ends edge = record edge { ends = λ wire peer. fresh; told_down = λ wire. Some NoLocal }
+
+-- why the end of a wire does not forward was told
+unfoldable pub with_told_down : WireId → Option Down → EdgeState → EdgeState
+with_told_down wire down edge = record edge { told_down = put_at edge.told_down wire.0 down }
+
+-- another label is next
+unfoldable pub with_next_label : ℕ → EdgeState → EdgeState
+with_next_label label edge = record edge { next_label = label }
 
 -- an edge counts its ticks up to 2^64 - 1
 abbrev pub later : ℕ → ℕ

@@ -6,7 +6,8 @@ use Rattle.mac_table.specs.Addresses.{is_young}
 use Rattle.mac_table.specs.declared.mac_entry.MacEntry.{MacEntry}
 use Rattle.edge_model.specs.State.{EdgeState, later, with_learned, with_ticks}
 use Rattle.session_core.specs.Table.{Ticked}
-use Rattle.edge_model.specs.Session.{happens}
+use Rattle.edge_model.specs.Mend.{mends}
+use Rattle.edge_model.specs.Session.{happens_with_ends}
 use Rattle.edge_model.specs.Work.{Work, Answers, changes}
 
 -- the addresses of a service that came less than its age limit ago (RFC 4762 section 9.1)
@@ -25,8 +26,8 @@ counted edge = with_ticks (later edge.ticks) edge
 -- the sessions with so many edges from a place on have the tick, in the plan's order
 abbrev pub ticks_sessions : Answers → ℕ → ℕ → Work → Work
 ticks_sessions told place zero work = work
-ticks_sessions told place (suc count) work = ticks_sessions told (place + 1) count (happens told (record { 0 = place }) Ticked work)
+ticks_sessions told place (suc count) work = ticks_sessions told (place + 1) count (happens_with_ends told (record { 0 = place }) Ticked work)
 
--- the input `Tick`: it always applies. The edge counts it, its sessions have it, and then its bridges forget
+-- the input `Tick`: it always applies. The edge counts it, its sessions have it, its bridges forget, and then it mends its ends
 abbrev pub tick_input : Plan → Answers → Work → Work
-tick_input plan told work = changes (forgetting plan) (ticks_sessions told 0 (length plan.edges) (changes counted work))
+tick_input plan told work = mends plan told (changes (forgetting plan) (ticks_sessions told 0 (length plan.edges) (changes counted work)))

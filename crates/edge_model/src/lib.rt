@@ -5,10 +5,12 @@
 
 mod effect;
 mod effects;
+mod end_place;
 mod input;
 mod laws;
 
 pub use effect::Effect;
 pub use effects::Effects;
+pub use end_place::EndPlace;
 pub use input::Input;
 pub use laws::{frames_stay_local, heard_in_parts};

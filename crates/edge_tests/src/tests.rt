@@ -3,4 +3,7 @@
 mod around;
 mod bridges;
 mod dialogue;
+mod edge_ends;
+mod packets;
+mod pseudowires;
 mod sessions;

@@ -11,6 +11,7 @@ use Rattle.net_base.specs.declared.plan.wire_plan.Class.TheVariants.{Mesh}
 use Rattle.net_base.specs.declared.trace.event.Event.{Event}
 use Rattle.net_base.specs.declared.trace.event.Event.TheVariants.{Connect}
 use Rattle.ldp_grammar.specs.declared.message.Message.TheVariants.{Initialization}
+use Rattle.pw_signalling.specs.Down.{down}
 use Rattle.session_core.specs.Parameters.{proposal}
 use Rattle.session_core.specs.Phase.{Phase}
 use Rattle.session_core.specs.Phase as phase
@@ -60,11 +61,11 @@ connected = Connect a b ∷ []
 
 -- the active end has spoken, and the passive end waits
 first_row : states connected ≡ (Some phase.OpenSent, Some phase.Initialized)
-unfolding changes gives idles puts with_edge with_peering with_pipe with_spoken
+unfolding changes down gives idles puts with_edge with_peering with_pipe with_spoken
 first_row = refl
 
 on_its_way : flight (network_after plan connected) 0 1 ≡ octets_of_all (ends_at plan 0 1).me (Initialization 1 (proposal (ends_at plan 0 1)) ∷ [])
-unfolding changes gives idles puts with_edge with_peering with_pipe with_spoken
+unfolding changes down gives idles puts with_edge with_peering with_pipe with_spoken
 on_its_way = refl
 
 -- the ends of the plan are as the laws ask

@@ -37,7 +37,7 @@ meets_shown own other me peer far near out said messages answers work shows fine
 }
 
 -- more is said
-more_octets : (router : Addr) (far : Option Peering) (out said more : List ℕ) (messages new : List Message) → and_more far out said ≡ octets_of_all router messages → more ≡ octets_of_all router new
+pub more_octets : (router : Addr) (far : Option Peering) (out said more : List ℕ) (messages new : List Message) → and_more far out said ≡ octets_of_all router messages → more ≡ octets_of_all router new
     → and_more far out (said ++ more) ≡ octets_of_all router (and_more far messages new)
 more_octets router None out said more messages new is more_is = is
 more_octets router (Some y) out said more messages new is more_is =

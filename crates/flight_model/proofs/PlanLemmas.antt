@@ -15,14 +15,14 @@ use Rattle.net_base.specs.plan.Paths.{are_joined, joins}
 use Rattle.net_base.proofs.PathLemmas.{joins_apart, joins_turned}
 use Rattle.session_core.specs.Laws.{IsAddress}
 use Rattle.edge_model.specs.Connection.{peers_of}
-use Rattle.flight_model.specs.Ends.{HasAddresses}
+use Rattle.flight_model.specs.Ends.{HasTypes}
 use Rattle.flight_model.specs.Pair.{AreEnds, AreFit}
 
 clash : {P : Type 0} → false ≡ true → P
 clash e = absurd (cc)
 
 -- what holds of each row holds of the row at a place
-row_holds : {A : Type 0} (P : A → Type 0) (rows : List A) (place : ℕ) (row : A) → slice_get rows place ≡ Some row → All P rows → P row
+pub row_holds : {A : Type 0} (P : A → Type 0) (rows : List A) (place : ℕ) (row : A) → slice_get rows place ≡ Some row → All P rows → P row
 row_holds P rows place row is all = subst P (get_or_from_slice_get rows place row row is) (All-get_or P rows place row (slice_get_within rows place row is) all)
 
 -- the addresses of two rows differ
@@ -58,13 +58,13 @@ ends_fit one other edge me peer apart = record {
 }
 
 -- the ends between two rows of a checked plan
-pub ends_are : (plan : Plan) (a b : ℕ) (one other : EdgePlan) → IsChecked plan → HasAddresses plan → slice_get plan.edges a ≡ Some one → slice_get plan.edges b ≡ Some other → nat_eq a b ≡ false
+pub ends_are : (plan : Plan) (a b : ℕ) (one other : EdgePlan) → IsChecked plan → HasTypes plan → slice_get plan.edges a ≡ Some one → slice_get plan.edges b ≡ Some other → nat_eq a b ≡ false
     → AreEnds (peers_of one other) (peers_of other one)
-ends_are plan a b one other checked addresses first second apart =
+ends_are plan a b one other checked types first second apart =
     let edge : IsEdge one = row_holds IsEdge plan.edges a one first checked.edges in
     let far : IsEdge other = row_holds IsEdge plan.edges b other second checked.edges in
-    let me : IsAddress one.address = row_holds (λ (row : EdgePlan). IsAddress row.address) plan.edges a one first addresses in
-    let peer : IsAddress other.address = row_holds (λ (row : EdgePlan). IsAddress row.address) plan.edges b other second addresses in
+    let me : IsAddress one.address = row_holds (λ (row : EdgePlan). IsAddress row.address) plan.edges a one first types.addresses in
+    let peer : IsAddress other.address = row_holds (λ (row : EdgePlan). IsAddress row.address) plan.edges b other second types.addresses in
     let differ : bytes_eq one.address.0 other.address.0 ≡ false = addresses_apart plan a b one other checked first second apart in
     record {
       one = ends_fit one other edge me peer differ;

@@ -1,5 +1,5 @@
 -- Two ends stay in step through each event of one of them.
-use Rattle.std.proofs.Common.{rules, ◌≡◌, ◌≤◌, ◌<◌, ◌^◌, ◌++◌, ◌&&◌, ◌∙◌, ℕ, Bool, true, false, min, List, [], ◌∷◌, Option, Some, None, option_map, refl, sym, ap, subst, arith}
+use Rattle.std.proofs.Common.{rules, ◌≡◌, ◌≤◌, ◌<◌, ◌^◌, ◌++◌, ◌&&◌, ◌∙◌, ℕ, Bool, true, false, not, min, List, [], ◌∷◌, Option, Some, None, option_map, refl, sym, ap, subst, arith}
 use Rattle.std.proofs.lemmas.Bool.Decides.{nat_tests}
 use Rattle.std.proofs.lemmas.Bool.{cases_Bool}
 use Rattle.std.proofs.Common.{inl, inr}
@@ -7,6 +7,7 @@ use Rattle.std.specs.Str.{bytes_eq}
 use Rattle.net_base.specs.declared.trace.state_name.Reason.TheVariants as reason
 use Rattle.ldp_grammar.specs.declared.message.Message.{Message}
 use Rattle.ldp_grammar.specs.declared.message.Message.TheVariants.{Notification, Initialization, KeepAlive}
+use Rattle.ldp_grammar.proofs.WrittenOctets.{status_are}
 use Rattle.session_core.specs.declared.peers.Peers.{Peers}
 use Rattle.session_core.specs.declared.reply.Reply.{Reply}
 use Rattle.session_core.specs.declared.reply.Reply.TheVariants as reply
@@ -22,11 +23,12 @@ use Rattle.edge_model.specs.Put.{following, having_spoken, octets_of, platform_o
 use Rattle.edge_model.specs.Session.{with_session}
 use Rattle.edge_model.specs.State.{Peering}
 use Rattle.flight_model.specs.Coming.{and_more, is_talk}
-use Rattle.flight_model.specs.Messages.{AreSaid, expiry, octets_of_all}
+use Rattle.flight_model.specs.Flight.{is_initialization}
+use Rattle.flight_model.specs.Messages.{AreSaid, IsSaid, expiry, octets_of_all}
 use Rattle.flight_model.specs.Pair.{AreTalking, IsStanding, StayInStep, messages_put, octets_put, phase_of}
 use Rattle.flight_model.proofs.RowLemmas.{clash}
 use Rattle.flight_model.proofs.SaidLemmas.{active_init, fatal_ends, keep_alive, keeping_form, opening_form, passive_init, said-append, said_sender, stays_up}
-use Rattle.flight_model.proofs.TalkLemmas.{goes, goes_on, keeps_rec, keeps_up, opens_initialized, opens_sent, rises, tells_end}
+use Rattle.flight_model.proofs.TalkLemmas.{goes, goes_on, keeps_rec, keeps_up, opens_initialized, opens_sent, rises, says_up, tells_end}
 
 left : (a b : Bool) → a && b ≡ true → a ≡ true
 left true b h = refl
@@ -179,17 +181,21 @@ received_open_rec own other kept far out back m plain at t =
       same_end [] = refl
       same_end (x ∷ xs) = ap (λ (l : List Message). x ∷ l) (same_end xs)
 
+-- a session that is up hears it and goes on
+pub heard_up : (own other : Peers) (kept : Peering) (far : Option Peering) (out back : List Message) (m : Message) → kept.session.phase ≡ phase.Operational
+    → AreTalking own other (Some kept) far out (m ∷ back) → AreTalking own other (Some kept) far out back
+heard_up own other kept far out back m at t = record {
+  said = t.said;
+  answered = t.answered.1;
+  here = t.here;
+  there = t.there;
+  steps = rw at (goes_on (is_active own) (option_map phase_of far) out back m (rw at at t.steps));
+}
+
 received_operational : (own other : Peers) (kept : Peering) (far : Option Peering) (out back : List Message) (m : Message) → is_fatal m ≡ false → kept.session.phase ≡ phase.Operational
     → AreTalking own other (Some kept) far out (m ∷ back) → StayInStep own other kept far out back (outcome_of kept.session (Received m))
 received_operational own other kept far out back m plain at t =
-    subst (StayInStep own other kept far out back) (sym (stays_up kept.session other m at t.answered.0 plain))
-    (record {
-      said = t.said;
-      answered = t.answered.1;
-      here = t.here;
-      there = t.there;
-      steps = rw at (goes_on (is_active own) (option_map phase_of far) out back m (rw at at t.steps));
-    })
+    subst (StayInStep own other kept far out back) (sym (stays_up kept.session other m at t.answered.0 plain)) (heard_up own other kept far out back m at t)
 
 pub received_in_step : (own other : Peers) (kept : Peering) (far : Option Peering) (out back : List Message) (m : Message)
     → AreTalking own other (Some kept) far out (m ∷ back) → StayInStep own other kept far out back (outcome_of kept.session (Received m))
@@ -203,6 +209,18 @@ received_in_step own other kept far out back m t = elim (cases_Bool (is_fatal m)
     by_phase plain phase.OpenSent at = received_open_sent own other kept far out back m plain at t
     by_phase plain phase.OpenRec at = received_open_rec own other kept far out back m plain at t
     by_phase plain phase.Operational at = received_operational own other kept far out back m plain at t
+
+-- ---- a message about pseudowires is said
+
+pub says_in_step : (own other : Peers) (kept : Peering) (far : Option Peering) (out back : List Message) (m : Message) → kept.session.phase ≡ phase.Operational → IsSaid own m → not (is_initialization m) ≡ true
+    → AreTalking own other (Some kept) far out back → AreTalking own other (Some (having_spoken kept)) far (and_more far out (m ∷ [])) back
+says_in_step own other kept far out back m at said plain t = record {
+  said = more_said own far out (m ∷ []) t.said (said, tt);
+  answered = t.answered;
+  here = spoken_stands own other kept t.here;
+  there = t.there;
+  steps = rw (← more_by_phase far out (m ∷ [])) (rw at (says_up (is_active own) (option_map phase_of far) out back m plain (rw at at t.steps)));
+}
 
 -- ---- the connection is lost
 
@@ -221,6 +239,10 @@ tick_is s = refl
 later_stands : (own other : Peers) (kept : Peering) → IsStanding own other kept → IsStanding own other (with_session (later kept.session) kept)
 later_stands own other kept is = record { peers = is.peers; between = is.between; least = is.least; most = is.most; numbered = is.numbered; passive = is.passive }
 
+-- the Notification of an end that leaves
+expiry_said : (ends : Peers) (id : ℕ) → id < 2 ^ 32 → IsSaid ends (Notification id expiry None None)
+expiry_said ends id small = (((small, omega arith, omega arith, tt, tt), refl, (status_are expiry, tt)), inl (refl, refl, refl))
+
 -- nothing was heard for the hold time
 expires : (own other : Peers) (kept : Peering) (far : Option Peering) (out back : List Message) → AreTalking own other (Some kept) far out back
     → StayInStep own other kept far out back (Ends reason.Expired (about_none keep_alive_timer_expired ∷ []))
@@ -228,7 +250,7 @@ expires own other kept far out back t =
     let leaving : Message = Notification kept.next_id expiry None None in (
       refl,
       record {
-        said = more_said own far out (leaving ∷ []) t.said ((t.here.numbered, refl, refl, refl), tt);
+        said = more_said own far out (leaving ∷ []) t.said (expiry_said own kept.next_id t.here.numbered, tt);
         answered = tt;
         here = tt;
         there = t.there;

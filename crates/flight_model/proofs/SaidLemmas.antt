@@ -1,15 +1,17 @@
 -- What the messages of a peer make of a session.
-use Rattle.std.proofs.Common.{◌≡◌, ◌≤◌, ◌<◌, ◌+◌, ◌++◌, ◌∙◌, ℕ, true, false, List, [], ◌∷◌, length, None, refl, sym, ap, subst, append_assoc, arith}
+use Rattle.std.proofs.Common.{◌≡◌, ◌≤◌, ◌<◌, ◌+◌, ◌++◌, ◌∙◌, ℕ, true, false, List, [], ◌∷◌, length, None, refl, sym, ap, subst, append_assoc, arith, ⊎_elim}
 use Rattle.std.specs.List.{AllByRecursion}
 use Rattle.net_base.specs.declared.trace.state_name.Reason.TheVariants as reason
 use Rattle.net_base.specs.declared.values.addr.Addr.{Addr}
 use Rattle.ldp_grammar.specs.declared.message.Message.{Message}
-use Rattle.ldp_grammar.specs.declared.message.Message.TheVariants.{Notification, Initialization, KeepAlive}
+use Rattle.ldp_grammar.specs.declared.message.Message.TheVariants.{Notification, Initialization, KeepAlive, LabelMapping, LabelWithdraw, LabelRelease}
 use Rattle.ldp_grammar.specs.declared.session_params.SessionParams.{SessionParams}
 use Rattle.ldp_grammar.specs.declared.status_code.StatusCode.{StatusCode}
-use Rattle.ldp_grammar.specs.Written.{Fits, message_octets, writable, written}
+use Rattle.ldp_grammar.specs.Written.{Fits, mac_count, message_octets, writable, written}
+use Rattle.ldp_grammar.specs.Written.{address_octets as address_octets_of}
 use Rattle.ldp_grammar.proofs.OctetLemmas.{AreOctets, octet_front}
-use Rattle.ldp_grammar.proofs.WrittenOctets.{octets_append, no_octets}
+use Rattle.ldp_grammar.proofs.ShortLemmas.{written_is_short}
+use Rattle.ldp_grammar.proofs.WrittenOctets.{octets_append, no_octets, written_are}
 use Rattle.session_core.specs.declared.peers.Peers.{Peers}
 use Rattle.session_core.specs.declared.reply.Reply.{Reply}
 use Rattle.session_core.specs.declared.reply.Reply.TheVariants as reply
@@ -21,10 +23,9 @@ use Rattle.session_core.specs.Reasons.{is_fatal, is_keep_alive}
 use Rattle.session_core.specs.State.{SessionState, is_active}
 use Rattle.session_core.specs.Table.{Heard, Received, Stay, Goes, Ends, enters, outcome_of}
 use Rattle.session_core.proofs.PutLemmas.{replies_are_put}
-use Rattle.edge_model.specs.Hear.{advice_of}
 use Rattle.edge_model.specs.Put.{platform_of}
 use Rattle.flight_model.specs.Flight.{is_initialization}
-use Rattle.flight_model.specs.Messages.{IsSaid, AreSaid, expiry, octets_of_all}
+use Rattle.flight_model.specs.Messages.{IsLeaving, IsSaid, IsSound, IsStatusNotice, AreSaid, expiry, octets_of_all}
 use Rattle.flight_model.specs.Pair.{AreFit}
 use Rattle.flight_model.proofs.RowLemmas.{clash}
 
@@ -54,7 +55,10 @@ leaving s id = by_phase s.phase refl where
 pub stays_up : (s : SessionState) (ends : Peers) (m : Message) → s.phase ≡ phase.Operational → IsSaid ends m → is_fatal m ≡ false → outcome_of s (Received m) ≡ Stay
 stays_up s ends (Initialization id params) at said fatal = rw at refl
 stays_up s ends (KeepAlive id) at said fatal = rw at refl
-stays_up s ends (Notification id status pw fec) at said fatal = clash (sym fatal ∙ ap (λ (c : StatusCode). c.fatal) said.1)
+stays_up s ends (Notification id status pw fec) at said fatal = rw (at, fatal) refl
+stays_up s ends (LabelMapping id fec label status points) at said fatal = rw at refl
+stays_up s ends (LabelWithdraw id fec label) at said fatal = rw at refl
+stays_up s ends (LabelRelease id fec label) at said fatal = rw at refl
 stays_up s ends m at said fatal = absurd said
 
 pub said_sender : (s : SessionState) (router : Addr) → is_platform s.peers.peer (platform_of router) ≡ true → outcome_of s (Heard (platform_of router)) ≡ Goes (record s { wait = 0 }) []
@@ -65,23 +69,22 @@ said_sender s router right = by_phase s.phase refl where
   by_phase phase.OpenRec at = rw (at, right) refl
   by_phase phase.Operational at = rw (at, right) refl
 
--- nothing is advised about what is said
-pub no_advice : (ends : Peers) (m : Message) → IsSaid ends m → advice_of m ≡ None
-no_advice ends (Initialization id params) said = refl
-no_advice ends (KeepAlive id) said = refl
-no_advice ends (Notification id status pw fec) said = refl
-no_advice ends m said = absurd said
-
 -- a message that leaves is one form
-pub record IsLeaving (m : Message) : Type 0 where
+pub record HasLeft (m : Message) : Type 0 where
   pub id : ℕ
   pub is : m ≡ Notification id expiry None None
 
-pub leaving_form : (ends : Peers) (m : Message) → IsSaid ends m → is_fatal m ≡ true → IsLeaving m
+pub leaving_form : (ends : Peers) (m : Message) → IsSaid ends m → is_fatal m ≡ true → HasLeft m
 leaving_form ends (Initialization id params) said fatal = clash fatal
 leaving_form ends (KeepAlive id) said fatal = clash fatal
-leaving_form ends (Notification id status pw fec) said fatal = record { id = id; is = rw (said.1, said.2, said.3) refl }
-leaving_form ends m said fatal = clash fatal
+leaving_form ends (Notification id status pw fec) said fatal = ⊎_elim
+    (λ (h : IsLeaving status pw fec). record { id = id; is = rw (h.0, h.1, h.2) refl })
+    (λ (h : IsStatusNotice status pw fec). clash (sym (ap (λ (c : StatusCode). c.fatal) h.0) ∙ fatal))
+    said.1
+leaving_form ends (LabelMapping id fec label status points) said fatal = clash fatal
+leaving_form ends (LabelWithdraw id fec label) said fatal = clash fatal
+leaving_form ends (LabelRelease id fec label) said fatal = clash fatal
+leaving_form ends m said fatal = absurd said
 
 pub record IsOpening (ends : Peers) (m : Message) : Type 0 where
   pub id : ℕ
@@ -115,12 +118,21 @@ pub record IsReady (m : Message) (router : Addr) : Type 0 where
   pub short : 6 + length (message_octets m) ≤ 256
   pub octets : AreOctets (written m (platform_of router))
 
-ready_reply : (ends : Peers) (r : Reply) (id : ℕ) → AreFit ends → HasData r → Fits (message_of r id ends) → IsReady (message_of r id ends) ends.me
+pub ready_reply : (ends : Peers) (r : Reply) (id : ℕ) → AreFit ends → HasData r → Fits (message_of r id ends) → IsReady (message_of r id ends) ends.me
 ready_reply ends r id fit has fits = record {
   can = replies_are_put.writable r id ends has;
   fits = fits;
   short = replies_are_put.short r id ends fit.peer.four;
   octets = replies_are_put.octets r id ends (platform_of ends.me) (address_octets ends.peer.0 fit.peer.octets) (address_octets ends.me.0 fit.me.octets);
+}
+
+-- a message without addresses
+pub ready_sound : (ends : Peers) (m : Message) → AreFit ends → address_octets_of m ≡ 0 → mac_count m ≤ 16 → IsSound m → IsReady m ends.me
+ready_sound ends m fit none few sound = record {
+  can = sound.1;
+  fits = sound.0;
+  short = written_is_short m sound.0 none few;
+  octets = written_are m (platform_of ends.me) sound.2 (address_octets ends.me.0 fit.me.octets);
 }
 
 pub ready : (ends : Peers) (m : Message) → AreFit ends → IsSaid ends m → IsReady m ends.me
@@ -137,8 +149,10 @@ ready ends (Initialization id params) fit said =
       },
     ))
 ready ends (KeepAlive id) fit said = ready_reply ends reply.KeepAlive id fit tt said
-ready ends (Notification id status pw fec) fit said =
-    rw (said.1, said.2, said.3) (ready_reply ends (reply.Notice expiry) id fit (omega arith) (said.0, omega arith, omega arith, tt, tt))
+ready ends (Notification id status pw fec) fit said = ready_sound ends (Notification id status pw fec) fit refl (omega arith) said.0
+ready ends (LabelMapping id fec label status points) fit said = ready_sound ends (LabelMapping id fec label status points) fit refl (omega arith) said
+ready ends (LabelWithdraw id fec label) fit said = ready_sound ends (LabelWithdraw id fec label) fit refl (omega arith) said
+ready ends (LabelRelease id fec label) fit said = ready_sound ends (LabelRelease id fec label) fit refl (omega arith) said
 ready ends m fit said = absurd said
 
 pub all_octets : (ends : Peers) (ms : List Message) → AreFit ends → AreSaid ends ms → AreOctets (octets_of_all ends.me ms)

@@ -50,6 +50,13 @@ keeps_up active None out back k is h = h
 keeps_up true (Some q) out back k is h = active_says q out back k (keep_is_none k is) h
 keeps_up false (Some q) out back k is h = passive_says q back out k (keep_is_none k is) h
 
+-- ---- anything but an Initialization is said in a session that is up
+
+pub says_up : (active : Bool) (far : Option Phase) (out back : List Message) (m : Message) → not (is_initialization m) ≡ true → is_talk active Operational far out back ≡ true → is_talk active Operational far (and_more far out (m ∷ [])) back ≡ true
+says_up active None out back m plain h = h
+says_up true (Some q) out back m plain h = active_says q out back m plain h
+says_up false (Some q) out back m plain h = passive_says q back out m plain h
+
 -- ---- an end goes, with a fatal Notification or without
 
 pub goes : (active : Bool) (own : Phase) (far : Option Phase) (out back : List Message) → is_talk active own far out back ≡ true → is_talk_without far out [] ≡ true

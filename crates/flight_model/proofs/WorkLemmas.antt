@@ -170,26 +170,30 @@ happens_spares told place peer event work apart = happens_to_spares told place p
 pub same_place : (n : ℕ) → nat_eq n n ≡ true
 same_place n = eq-eqb n n refl
 
--- the work after one reply
-spoke : EdgeId → Peering → Reply → Work → Work
-spoke peer kept r work = gives (effect.Said peer (octets_of kept r)) (changes (with_spoken peer) (puts peer (octets_of kept r) true work))
+-- the work after octets were put
+unfoldable pub wrote : EdgeId → List ℕ → Work → Work
+wrote peer bytes work = gives (effect.Said peer bytes) (changes (with_spoken peer) (puts peer bytes true work))
 
-one_put : (peer : EdgeId) (kept : Peering) (r : Reply) (work : Work) → work.edge.peering peer.0 ≡ Some kept → put_reply taken_all peer r work ≡ record { work = spoke peer kept r work; failed = false }
-unfolding spoke
+one_put : (peer : EdgeId) (kept : Peering) (r : Reply) (work : Work) → work.edge.peering peer.0 ≡ Some kept → put_reply taken_all peer r work ≡ record { work = wrote peer (octets_of kept r) work; failed = false }
+unfolding wrote
 one_put peer kept r work is = rw is refl
 
-spoke_shows : (peer : EdgeId) (kept : Peering) (r : Reply) (work : Work) (said : List ℕ) (closed : Bool) → Shows peer.0 work (Some kept) said closed
-    → Shows peer.0 (spoke peer kept r work) (Some (having_spoken kept)) (said ++ octets_of kept r) closed
-unfolding spoke gives changes with_spoken with_peering puts
-spoke_shows peer kept r work said closed shows = record {
+pub wrote_shows : (peer : EdgeId) (kept : Peering) (bytes : List ℕ) (work : Work) (said : List ℕ) (closed : Bool) → Shows peer.0 work (Some kept) said closed
+    → Shows peer.0 (wrote peer bytes work) (Some (having_spoken kept)) (said ++ bytes) closed
+unfolding wrote gives changes with_spoken with_peering puts
+wrote_shows peer kept bytes work said closed shows = record {
   keeps = rw (same_place peer.0, shows.keeps) refl;
-  says = said-append peer.0 work.effects (effect.Said peer (octets_of kept r) ∷ []) ∙ rw (same_place peer.0, shows.says, same_end (octets_of kept r)) refl;
-  ended = closes-append peer.0 work.effects (effect.Said peer (octets_of kept r) ∷ []) ∙ or_false (closes peer.0 work.effects) ∙ shows.ended;
+  says = said-append peer.0 work.effects (effect.Said peer bytes ∷ []) ∙ rw (same_place peer.0, shows.says, same_end bytes) refl;
+  ended = closes-append peer.0 work.effects (effect.Said peer bytes ∷ []) ∙ or_false (closes peer.0 work.effects) ∙ shows.ended;
 }
 
-spoke_fine : (me peer : EdgeId) (kept : Peering) (r : Reply) (work : Work) → IsFine me work → IsFine me (spoke peer kept r work)
-unfolding spoke gives changes with_spoken with_peering puts
-spoke_fine me peer kept r work fine = record { place = fine.place; idle = fine.idle; well = well-append work.effects (effect.Said peer (octets_of kept r)) fine.well tt }
+pub wrote_fine : (me peer : EdgeId) (bytes : List ℕ) (work : Work) → IsFine me work → IsFine me (wrote peer bytes work)
+unfolding wrote gives changes with_spoken with_peering puts
+wrote_fine me peer bytes work fine = record { place = fine.place; idle = fine.idle; well = well-append work.effects (effect.Said peer bytes) fine.well tt }
+
+pub wrote_spares : (place : ℕ) (peer : EdgeId) (bytes : List ℕ) (work : Work) → nat_eq place peer.0 ≡ false → Spares place work (wrote peer bytes work)
+unfolding wrote
+wrote_spares place peer bytes work apart = put_octets_spares place peer bytes true work apart
 
 -- what was put, all of it
 pub record HasPut (me peer : EdgeId) (kept : Option Peering) (said : List ℕ) (closed : Bool) (put : Spoken) : Type 0 where
@@ -202,7 +206,7 @@ pub all_put : (me peer : EdgeId) (rs : List Reply) (kept : Peering) (work : Work
 all_put me peer [] kept work said closed shows fine = record { taken = refl; shows = record { keeps = shows.keeps; says = shows.says ∙ sym (same_end said); ended = shows.ended }; fine = fine }
 all_put me peer (r ∷ rs) kept work said closed shows fine =
     rw (one_put peer kept r work shows.keeps, ← append_assoc said (octets_of kept r) (octets_put rs (having_spoken kept)))
-    (all_put me peer rs (having_spoken kept) (spoke peer kept r work) (said ++ octets_of kept r) closed (spoke_shows peer kept r work said closed shows) (spoke_fine me peer kept r work fine))
+    (all_put me peer rs (having_spoken kept) (wrote peer (octets_of kept r) work) (said ++ octets_of kept r) closed (wrote_shows peer kept (octets_of kept r) work said closed shows) (wrote_fine me peer (octets_of kept r) work fine))
 
 -- a session ends
 pub ends_shows : (me peer : EdgeId) (why : Reason) (kept : Option Peering) (work : Work) (said : List ℕ) (closed : Bool) → is_no_refusal why ≡ true → Shows peer.0 work kept said closed → IsFine me work

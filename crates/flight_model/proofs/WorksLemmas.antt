@@ -1,37 +1,50 @@
 -- An edge at work in a network whose edges are paired: it begins, its sessions have events, and its work goes into the network.
-use Rattle.std.proofs.Common.{◌≡◌, ◌++◌, ◌∙◌, ℕ, Bool, true, false, cond, not, nat_eq, List, [], ◌∷◌, Option, Some, None, refl, sym, ap, subst, inl, inr}
+use Rattle.std.proofs.Common.{◌≡◌, ◌++◌, ◌∙◌, ◌≤◌, ℕ, Bool, true, false, cond, not, nat_eq, List, [], ◌∷◌, Option, Some, None, refl, sym, ap, subst, inl, inr}
 use Rattle.std.proofs.lemmas.Bool.{cases_Bool, eqb-true}
 use Rattle.net_base.specs.declared.plan.Plan.{Plan}
 use Rattle.net_base.specs.declared.plan.places.EdgeId.{EdgeId}
+use Rattle.net_base.specs.declared.plan.places.WireId.{WireId}
+use Rattle.net_base.specs.plan.Accepted.{IsChecked}
+use Rattle.net_base.specs.declared.trace.state_name.Reason.TheVariants as reason
 use Rattle.net_base.specs.declared.trace.state_name.Reason.{Reason}
 use Rattle.ldp_grammar.specs.declared.message.Message.{Message}
 use Rattle.session_core.specs.declared.peers.Peers.{Peers}
 use Rattle.session_core.specs.declared.reply.Reply.{Reply}
 use Rattle.session_core.specs.Phase.{Phase}
+use Rattle.session_core.specs.Phase as phase
 use Rattle.session_core.specs.Session.{phase_name}
 use Rattle.session_core.specs.State.{is_active}
-use Rattle.session_core.specs.Table.{SessionEvent, Outcome, Stay, Goes, Ends, outcome_of}
+use Rattle.session_core.specs.Table.{Closed, SessionEvent, Ticked, Outcome, Stay, Goes, Ends, outcome_of}
 use Rattle.session_core.proofs.LawLemmas.{ends_agree}
 use Rattle.edge_model.specs.declared.effect.Effect.{Effect}
 use Rattle.edge_model.specs.declared.effect.Effect.TheVariants as effect
-use Rattle.edge_model.specs.Put.{Spoken, having_spoken, put_replies}
-use Rattle.edge_model.specs.Session.{comes_of, ends, happens, is_same_phase, with_session}
-use Rattle.edge_model.specs.State.{EdgeState, Peering, is_there, with_peering}
-use Rattle.edge_model.specs.Work.{Work, changes, gives}
+use Rattle.edge_model.specs.Mend.{is_up_with}
+use Rattle.edge_model.specs.Put.{Spoken, having_spoken, message_octets_of, put_replies, with_spoken}
+use Rattle.edge_model.specs.Session.{clears_ends, comes_of, ends, happens, happens_with_ends, is_same_phase, says, with_session}
+use Rattle.edge_model.specs.State.{EdgeState, Peering, is_there, with_bits, with_peering, with_renewed, with_wire}
+use Rattle.edge_model.specs.Wire.{turned_wire}
+use Rattle.edge_model.specs.Work.{Work, changes, gives, puts}
 use Rattle.network_model.specs.Absorb.{absorb, absorb_all, begin_at, taken_all}
 use Rattle.network_model.specs.State.{NetworkState, with_edge}
 use Rattle.flight_model.specs.Coming.{and_more}
-use Rattle.flight_model.specs.Ends.{HasWorked, IsLeft, IsOrdered, IsPaired, KeepsOrder, WorksOn, ends_at}
+use Rattle.flight_model.specs.Ends.{HasTypes, IsLeft, IsOrdered, IsPaired, KeepsOrder, LeftFor, WorksOn, ends_at}
+use Rattle.flight_model.specs.Sound.{TellsSoundly}
 use Rattle.flight_model.specs.Facts.{HoldsBut, Turns, flight}
-use Rattle.flight_model.specs.Meeting.{IsFine, Meets, Shows, Spares, TellsWell, closes, said_to}
+use Rattle.flight_model.specs.Meeting.{IsFine, Leaves, Meets, Shows, Spares, closes, said_to}
 use Rattle.flight_model.specs.Messages.{octets_of_all}
 use Rattle.flight_model.specs.Pair.{ArePaired, AreTalking, StandsIf, StayInStep, having_put, is_in_step}
-use Rattle.flight_model.proofs.HearLemmas.{gone_leaves}
 use Rattle.flight_model.proofs.MeetLemmas.{happens_meets, moved_shows}
+use Rattle.flight_model.proofs.OfferLemmas.{IsOfWires}
 use Rattle.flight_model.proofs.PipeLemmas.{all_edges, all_good}
+use Rattle.flight_model.proofs.RowLemmas.{clash}
+use Rattle.flight_model.proofs.SayLemmas.{clears_fine, clears_spares, left_says, says_fine, says_is, says_none, says_spares}
 use Rattle.flight_model.proofs.SettleLemmas.{apart_turned, edge_else, edge_there, settle}
+use Rattle.flight_model.proofs.ReactLemmas.{closed_in_step, ticked_in_step}
+use Rattle.flight_model.proofs.SoundLemmas.{happens_sound, renewed_sound, sound_ends, sound_same, up_is}
+use Rattle.flight_model.proofs.SteadyLemmas.{IsSilent, IsSteady, steady_rows}
+use Rattle.flight_model.proofs.WorkingLemmas.{KeptByWork}
 use Rattle.flight_model.proofs.TalkLemmas.{turned_none, turned_rows}
-use Rattle.flight_model.proofs.WorkLemmas.{all_put, closes-append, happens_spares, or_false, said-append, same_end, same_place, well-append}
+use Rattle.flight_model.proofs.WorkLemmas.{all_put, closes-append, happens_spares, or_false, said-append, same_end, same_place, spares_then, well-append, wrote}
 
 -- ---- a pair from its other side
 
@@ -60,19 +73,22 @@ pair_turned plan a b one other out back pair = record {
 
 -- ---- the work goes into the network
 
-pub works_settle : (plan : Plan) (network : NetworkState) (me : EdgeId) (origin hops : ℕ) (work : Work) → HoldsBut (IsPaired plan) me.0 network
-    → ((a : ℕ) → nat_eq a me.0 ≡ false → (network.edges a).peering a ≡ None) → ((a : ℕ) → nat_eq a me.0 ≡ false → (network.edges a).me ≡ record { 0 = a }) → HasWorked plan network me work
+-- what is so of each other edge by itself
+pub record AreOthers (me : EdgeId) (network : NetworkState) : Type 0 where
+  pub alone : (a : ℕ) → nat_eq a me.0 ≡ false → (network.edges a).peering a ≡ None
+  pub placed : (a : ℕ) → nat_eq a me.0 ≡ false → (network.edges a).me ≡ record { 0 = a }
+  pub sound : (a : ℕ) → nat_eq a me.0 ≡ false → TellsSoundly (network.edges a)
+
+pub others_are : (plan : Plan) (me : EdgeId) (network : NetworkState) → IsOrdered plan network → AreOthers me network
+others_are plan me network ordered = record { alone = λ a away. ordered.alone a; placed = λ a away. ordered.placed a; sound = λ a away. ordered.sound a }
+
+pub works_settle : (plan : Plan) (network : NetworkState) (me : EdgeId) (origin hops : ℕ) (work : Work) → HoldsBut (IsPaired plan) me.0 network → AreOthers me network → WorksOn plan network me work
     → IsOrdered plan (absorb me origin hops work network).state
-works_settle plan network me origin hops work others alone placed works = record {
-  two = settle (IsPaired plan) network me origin hops work (pair_turned plan) others (λ place away. works.leaves place away);
-  alone = λ a. elim (cases_Bool (nat_eq a me.0)) [
-    | inl same ↦ subst (λ (k : ℕ). (after.edges k).peering k ≡ None) (sym (eqb-true a me.0 same)) (ap (λ (e : EdgeState). e.peering me.0) own_edge ∙ works.alone)
-    | inr away ↦ ap (λ (e : EdgeState). e.peering a) (other_edge a away) ∙ alone a away
-  ];
-  placed = λ a. elim (cases_Bool (nat_eq a me.0)) [
-    | inl same ↦ subst (λ (k : ℕ). (after.edges k).me ≡ record { 0 = k }) (sym (eqb-true a me.0 same)) (ap (λ (e : EdgeState). e.me) own_edge ∙ works.fine.place)
-    | inr away ↦ ap (λ (e : EdgeState). e.me) (other_edge a away) ∙ placed a away
-  ];
+works_settle plan network me origin hops work two others works = record {
+  two = settle (IsPaired plan) network me origin hops work (pair_turned plan) two (λ place away. (works.left place away).leaves);
+  alone = λ a. by_place (λ k e. e.peering k ≡ None) a works.alone (others.alone a);
+  placed = λ a. by_place (λ k e. e.me ≡ record { 0 = k }) a works.fine.place (others.placed a);
+  sound = λ a. by_place (λ k e. TellsSoundly e) a works.sound (others.sound a);
 }
   where
     after : NetworkState
@@ -87,13 +103,16 @@ works_settle plan network me origin hops work others alone placed works = record
     other_edge : (a : ℕ) → nat_eq a me.0 ≡ false → after.edges a ≡ network.edges a
     other_edge a away = ap (λ (f : ℕ → EdgeState). f a) edges ∙ edge_else me work.edge network a away
 
-pub has_worked : (plan : Plan) (network : NetworkState) (me : EdgeId) (work : Work) → WorksOn plan network me work → HasWorked plan network me work
-has_worked plan network me work works = record { fine = works.fine; alone = works.alone; leaves = λ place away. (works.left place away).leaves }
+    by_place : (Q : ℕ → EdgeState → Type 0) (a : ℕ) → Q me.0 work.edge → (nat_eq a me.0 ≡ false → Q a (network.edges a)) → Q a (after.edges a)
+    by_place Q a here there = elim (cases_Bool (nat_eq a me.0)) [
+      | inl same ↦ subst (λ (k : ℕ). Q k (after.edges k)) (sym (eqb-true a me.0 same)) (rw own_edge here)
+      | inr away ↦ rw (other_edge a away) (there away)
+    ]
 
 -- work on a network in order keeps it so
 pub work_keeps : (plan : Plan) (network : NetworkState) (me : EdgeId) (origin hops : ℕ) (work : Work) → IsOrdered plan network → WorksOn plan network me work → KeepsOrder plan (absorb me origin hops work network)
 work_keeps plan network me origin hops work ordered works = record {
-  ordered = works_settle plan network me origin hops work (λ a b apart away gone. ordered.two a b apart) (λ a away. ordered.alone a) (λ a away. ordered.placed a) (has_worked plan network me work works);
+  ordered = works_settle plan network me origin hops work (λ a b apart away gone. ordered.two a b apart) (others_are plan me network ordered) works;
   good = all_good me origin hops work.effects (with_edge me work.edge network) works.fine.well;
 }
 
@@ -106,6 +125,7 @@ no_more (Some y) out = same_end out
 pub works_begin : (plan : Plan) (network : NetworkState) (me : EdgeId) → IsOrdered plan network → WorksOn plan network me (begin_at network me)
 works_begin plan network me ordered = record {
   fine = record { place = ordered.placed me.0; idle = refl; well = tt };
+  sound = ordered.sound me.0;
   alone = ordered.alone me.0;
   left = λ place away. record {
     leaves = rw (no_more ((network.edges place).peering me.0) (flight network me.0 place)) (ordered.two me.0 place (apart_turned place me.0 away));
@@ -122,6 +142,20 @@ left_spared own other place far out more old new spared left = record {
 }
 
 -- ---- an event of a session
+
+-- what is left where the end is gone
+pub gone_leaves : (own other : Peers) (me peer : EdgeId) (far : Option Peering) (out more : List ℕ) (answers : List Message) (work : Work) → work.edge.peering peer.0 ≡ None
+    → Meets own other me peer far out answers work → IsFine me work × Leaves own other peer.0 far out more work
+gone_leaves own other me peer far out more answers work is meets = (
+  meets.fine,
+  rw (is, meets.ended, is) (record {
+    messages = meets.messages;
+    answers = [];
+    out_is = meets.out_is;
+    back_is = refl;
+    talk = rw is at meets.talk;
+  }),
+)
 
 abbrev KeepsHeld : List ℕ → Option Peering → Type 0
 KeepsHeld held None = Unit {0}
@@ -174,9 +208,16 @@ abbrev pub TakesNothing : SessionEvent → Type 0
 TakesNothing event = (own other : Peers) (kept : Peering) (far : Option Peering) (messages answers : List Message) → AreTalking own other (Some kept) far messages answers
     → StayInStep own other kept far messages answers (outcome_of kept.session event)
 
-happens_left : (own other : Peers) (me peer : EdgeId) (far : Option Peering) (out more : List ℕ) (event : SessionEvent) (work : Work) → TakesNothing event → IsFine me work
-    → IsLeft own other peer.0 far out more work → IsFine me (happens taken_all peer event work) × IsLeft own other peer.0 far out more (happens taken_all peer event work)
-happens_left own other me peer far out more event work takes fine left = by_end (work.edge.peering peer.0) refl where
+pub happens_left : (own other : Peers) (me peer : EdgeId) (far : Option Peering) (out more : List ℕ) (event : SessionEvent) (work : Work) → TakesNothing event → IsFine me work
+    → IsLeft own other peer.0 far out more work → IsFine me (happens_with_ends taken_all peer event work) × IsLeft own other peer.0 far out more (happens_with_ends taken_all peer event work)
+happens_left own other me peer far out more event work takes fine left = cleared (by_end (work.edge.peering peer.0) refl) where
+  cleared : IsFine me (happens taken_all peer event work) × IsLeft own other peer.0 far out more (happens taken_all peer event work)
+      → IsFine me (happens_with_ends taken_all peer event work) × IsLeft own other peer.0 far out more (happens_with_ends taken_all peer event work)
+  cleared both = (
+    clears_fine me peer (happens taken_all peer event work) both.0,
+    left_spared own other peer.0 far out more (happens taken_all peer event work) (happens_with_ends taken_all peer event work) (clears_spares peer.0 peer (happens taken_all peer event work)) both.1,
+  )
+
   by_end : (near : Option Peering) → work.edge.peering peer.0 ≡ near → IsFine me (happens taken_all peer event work) × IsLeft own other peer.0 far out more (happens taken_all peer event work)
   by_end None at = rw at (fine, left)
   by_end (Some kept) at =
@@ -195,53 +236,191 @@ happens_left own other me peer far out more event work takes fine left = by_end 
       rw at (comes_keeps me peer kept (said_to peer.0 work.effects) work (outcome_of kept.session event) (record { keeps = at; says = refl; ended = unclosed }) fine) in
       (after.fine, meets_left own other me peer far out kept.held more pair.answers (happens taken_all peer event work) pair.back_is held after)
 
+-- it is nothing else for another place
+pub event_spares : (place : ℕ) (peer : EdgeId) (event : SessionEvent) (work : Work) → nat_eq place peer.0 ≡ false → Spares place work (happens_with_ends taken_all peer event work)
+event_spares place peer event work apart =
+    spares_then place work (happens taken_all peer event work) _ (happens_spares taken_all place peer event work apart) (clears_spares place peer (happens taken_all peer event work))
+
+-- a session without a connection has no event
+pub no_event : (peer : EdgeId) (event : SessionEvent) (work : Work) → work.edge.peering peer.0 ≡ None → happens_with_ends taken_all peer event work ≡ clears_ends peer work
+no_event peer event work at = ap (clears_ends peer) same where
+  same : happens taken_all peer event work ≡ work
+  same = rw at refl
+
+pub works_clears : (plan : Plan) (network : NetworkState) (me peer : EdgeId) (work : Work) → TellsSoundly (clears_ends peer work).edge → WorksOn plan network me work → WorksOn plan network me (clears_ends peer work)
+works_clears plan network me peer work sound works = record {
+  fine = clears_fine me peer work works.fine;
+  sound = sound;
+  alone = (clears_spares me.0 peer work).kept ∙ works.alone;
+  left = λ place away. left_spared (ends_at plan me.0 place) (ends_at plan place me.0) place ((network.edges place).peering me.0) (flight network me.0 place) (network.pipes place me.0) work (clears_ends peer work)
+      (clears_spares place peer work) (works.left place away);
+}
+
 -- it happens to the session with any place
 pub works_happens : (plan : Plan) (network : NetworkState) (me peer : EdgeId) (event : SessionEvent) (work : Work) → TakesNothing event → WorksOn plan network me work
-    → WorksOn plan network me (happens taken_all peer event work)
+    → WorksOn plan network me (happens_with_ends taken_all peer event work)
 works_happens plan network me peer event work takes works = elim (cases_Bool (nat_eq peer.0 me.0)) [
-  | inl same ↦ rw (ap (λ (k : ℕ). work.edge.peering k) (eqb-true peer.0 me.0 same) ∙ works.alone) works
+  | inl same ↦ (let none : work.edge.peering peer.0 ≡ None = ap (λ (k : ℕ). work.edge.peering k) (eqb-true peer.0 me.0 same) ∙ works.alone in
+      subst (WorksOn plan network me) (sym (no_event peer event work none))
+      (works_clears plan network me peer work (subst (λ (w : Work). TellsSoundly w.edge) (no_event peer event work none) sound) works))
   | inr away ↦ (let own = happens_left (ends_at plan me.0 peer.0) (ends_at plan peer.0 me.0) me peer ((network.edges peer.0).peering me.0) (flight network me.0 peer.0) (network.pipes peer.0 me.0) event work takes works.fine (works.left peer.0 away) in
       record {
         fine = own.0;
-        alone = (happens_spares taken_all me.0 peer event work (apart_turned peer.0 me.0 away)).kept ∙ works.alone;
+        sound = sound;
+        alone = (event_spares me.0 peer event work (apart_turned peer.0 me.0 away)).kept ∙ works.alone;
         left = λ place gone. elim (cases_Bool (nat_eq place peer.0)) [
-          | inl this ↦ subst
-              (λ (k : ℕ). IsLeft (ends_at plan me.0 k) (ends_at plan k me.0) k ((network.edges k).peering me.0) (flight network me.0 k) (network.pipes k me.0) (happens taken_all peer event work))
-              (sym (eqb-true place peer.0 this)) own.1
-          | inr other ↦ left_spared (ends_at plan me.0 place) (ends_at plan place me.0) place ((network.edges place).peering me.0) (flight network me.0 place) (network.pipes place me.0) work (happens taken_all peer event work)
-              (happens_spares taken_all place peer event work other) (works.left place gone)
+          | inl this ↦ subst (LeftFor plan network me (happens_with_ends taken_all peer event work)) (sym (eqb-true place peer.0 this)) own.1
+          | inr other ↦ left_spared (ends_at plan me.0 place) (ends_at plan place me.0) place ((network.edges place).peering me.0) (flight network me.0 place) (network.pipes place me.0) work (happens_with_ends taken_all peer event work)
+              (event_spares place peer event work other) (works.left place gone)
         ];
       })
 ]
+  where
+    sound : TellsSoundly (happens_with_ends taken_all peer event work).edge
+    sound = happens_sound taken_all peer event work works.sound
 
--- ---- what is no matter of sessions
+-- ---- calm steps
 
 -- a change that leaves the edge's place and what it keeps for its neighbours
-pub works_changes : (plan : Plan) (network : NetworkState) (me : EdgeId) (change : EdgeState → EdgeState) (work : Work) → (change work.edge).peering ≡ work.edge.peering → (change work.edge).me ≡ work.edge.me
-    → WorksOn plan network me work → WorksOn plan network me (changes change work)
+pub change_spares : (place : ℕ) (change : EdgeState → EdgeState) (work : Work) → (change work.edge).peering ≡ work.edge.peering → Spares place work (changes change work)
 unfolding changes
-works_changes plan network me change work kept place works = record {
-  fine = record { place = place ∙ works.fine.place; idle = works.fine.idle; well = works.fine.well };
-  alone = ap (λ (f : ℕ → Option Peering). f me.0) kept ∙ works.alone;
-  left = λ k away. left_spared (ends_at plan me.0 k) (ends_at plan k me.0) k ((network.edges k).peering me.0) (flight network me.0 k) (network.pipes k me.0) work (changes change work)
-      (record { kept = ap (λ (f : ℕ → Option Peering). f k) kept; said = refl; closed = refl }) (works.left k away);
-}
+change_spares place change work kept = record { kept = ap (λ (f : ℕ → Option Peering). f place) kept; said = refl; closed = refl }
 
--- an effect that says nothing to a neighbour, and nothing of sessions
-pub record IsSilent (e : Effect) : Type 0 where
-  pub says : (place : ℕ) → said_to place (e ∷ []) ≡ []
-  pub closed : (place : ℕ) → closes place (e ∷ []) ≡ false
-  pub well : TellsWell e
+pub change_fine : (me : EdgeId) (change : EdgeState → EdgeState) (work : Work) → (change work.edge).me ≡ work.edge.me → IsFine me work → IsFine me (changes change work)
+unfolding changes
+change_fine me change work place fine = record { place = place ∙ fine.place; idle = fine.idle; well = fine.well }
 
-pub works_gives : (plan : Plan) (network : NetworkState) (me : EdgeId) (e : Effect) (work : Work) → IsSilent e → WorksOn plan network me work → WorksOn plan network me (gives e work)
+pub changed_edge : (change : EdgeState → EdgeState) (work : Work) → (changes change work).edge ≡ change work.edge
+unfolding changes
+changed_edge change work = refl
+
+pub given_edge : (e : Effect) (work : Work) → (gives e work).edge ≡ work.edge
 unfolding gives
-works_gives plan network me e work silent works = record {
-  fine = record { place = works.fine.place; idle = works.fine.idle; well = well-append work.effects e works.fine.well silent.well };
-  alone = works.alone;
-  left = λ k away. left_spared (ends_at plan me.0 k) (ends_at plan k me.0) k ((network.edges k).peering me.0) (flight network me.0 k) (network.pipes k me.0) work (gives e work)
-      (record {
-        kept = refl;
-        said = said-append k work.effects (e ∷ []) ∙ rw (silent.says k) (same_end (said_to k work.effects));
-        closed = closes-append k work.effects (e ∷ []) ∙ rw (silent.closed k) (or_false (closes k work.effects));
-      }) (works.left k away);
+given_edge e work = refl
+
+pub gives_spares : (place : ℕ) (e : Effect) (work : Work) → IsSilent e → Spares place work (gives e work)
+unfolding gives
+gives_spares place e work silent = record {
+  kept = refl;
+  said = said-append place work.effects (e ∷ []) ∙ rw (silent.says place) (same_end (said_to place work.effects));
+  closed = closes-append place work.effects (e ∷ []) ∙ rw (silent.closed place) (or_false (closes place work.effects));
 }
+
+pub gives_fine : (me : EdgeId) (e : Effect) (work : Work) → IsSilent e → IsFine me work → IsFine me (gives e work)
+unfolding gives
+gives_fine me e work silent fine = record { place = fine.place; idle = fine.idle; well = well-append work.effects e fine.well silent.well }
+
+wrote_sound : (peer : EdgeId) (kept : Peering) (bytes : List ℕ) (work : Work) → work.edge.peering peer.0 ≡ Some kept → TellsSoundly work.edge → TellsSoundly (wrote peer bytes work).edge
+unfolding wrote gives changes with_spoken with_peering puts
+wrote_sound peer kept bytes work at sound = record {
+  least = sound.least;
+  most = sound.most;
+  bits = sound.bits;
+  ends = λ wire k. elim (cases_Bool (nat_eq k peer.0)) [
+    | inl same ↦ rw same (rw (at, eqb-true k peer.0 same) (rw at at (sound.ends wire peer.0)))
+    | inr apart ↦ rw apart (sound.ends wire k)
+  ];
+}
+
+pub says_sound : (peer : EdgeId) (message : ℕ → Message) (work : Work) → TellsSoundly work.edge → TellsSoundly (says taken_all peer message work).work.edge
+says_sound peer message work sound = by_end (work.edge.peering peer.0) refl where
+  by_end : (near : Option Peering) → work.edge.peering peer.0 ≡ near → TellsSoundly (says taken_all peer message work).work.edge
+  by_end None at = subst (λ (w : Work). TellsSoundly w.edge) (sym (says_none peer message work at)) sound
+  by_end (Some kept) at = subst (λ (w : Work). TellsSoundly w.edge) (sym (says_is peer message kept work at)) (wrote_sound peer kept (message_octets_of kept message) work at sound)
+
+-- the places but those where this test passes
+abbrev pub LeftBut : Plan → NetworkState → EdgeId → (ℕ → Bool) → Work → Type 0
+LeftBut plan network me besides work = (place : ℕ) → nat_eq place me.0 ≡ false → besides place ≡ false → LeftFor plan network me work place
+
+pub but_spared : (plan : Plan) (network : NetworkState) (me : EdgeId) (besides : ℕ → Bool) (old new : Work) → ((place : ℕ) → Spares place old new) → LeftBut plan network me besides old → LeftBut plan network me besides new
+but_spared plan network me besides old new spares left place away here =
+    left_spared (ends_at plan me.0 place) (ends_at plan place me.0) place ((network.edges place).peering me.0) (flight network me.0 place) (network.pipes place me.0) old new (spares place) (left place away here)
+
+pub but_says : (plan : Plan) (network : NetworkState) (me : EdgeId) (besides : ℕ → Bool) (peer : EdgeId) (message : ℕ → Message) (kept : Peering) (work : Work) → work.edge.peering peer.0 ≡ Some kept → kept.session.phase ≡ phase.Operational
+    → IsOfWires message → LeftBut plan network me besides work → LeftBut plan network me besides (says taken_all peer message work).work
+but_says plan network me besides peer message kept work at up is left place away here = elim (cases_Bool (nat_eq place peer.0)) [
+  | inl this ↦ subst (LeftFor plan network me (says taken_all peer message work).work) (sym (eqb-true place peer.0 this))
+      (left_says (ends_at plan me.0 peer.0) (ends_at plan peer.0 me.0) peer kept ((network.edges peer.0).peering me.0) (flight network me.0 peer.0) (network.pipes peer.0 me.0) message work at up is
+      (subst (LeftFor plan network me work) (eqb-true place peer.0 this) (left place away here)))
+  | inr other ↦ left_spared (ends_at plan me.0 place) (ends_at plan place me.0) place ((network.edges place).peering me.0) (flight network me.0 place) (network.pipes place me.0) work (says taken_all peer message work).work
+      (says_spares place peer message work other) (left place away here)
+]
+
+pub there_up : (near : Option Peering) (P : Type 0) → is_up_with near ≡ true → ((kept : Peering) → near ≡ Some kept → kept.session.phase ≡ phase.Operational → P) → P
+there_up None P up follows = clash up
+there_up (Some kept) P up follows = follows kept refl (up_is kept.session.phase up)
+
+-- an end that stands is of another edge
+pub apart_from : (me peer : EdgeId) (kept : Peering) (work : Work) → work.edge.peering me.0 ≡ None → work.edge.peering peer.0 ≡ Some kept → nat_eq me.0 peer.0 ≡ false
+apart_from me peer kept work alone at = elim (cases_Bool (nat_eq me.0 peer.0)) [
+  | inl same ↦ absurd (no_end kept (sym alone ∙ (ap work.edge.peering (eqb-true me.0 peer.0 same) ∙ at)))
+  | inr apart ↦ apart
+]
+
+-- every place
+all_places : ℕ → Bool
+all_places place = false
+
+-- an edge at work keeps to calm steps
+pub works_steady : (plan : Plan) (network : NetworkState) (me : EdgeId) → IsSteady me (WorksOn plan network me)
+unfolding all_places
+works_steady plan network me = record {
+  placed = λ work works. works.fine.place;
+  sound = λ work works. works.sound;
+  changes = λ change work kept place sound works. record {
+    fine = change_fine me change work place works.fine;
+    sound = rw (changed_edge change work) sound;
+    alone = (change_spares me.0 change work kept).kept ∙ works.alone;
+    left = λ k away. but_spared plan network me all_places work (changes change work) (λ j. change_spares j change work kept) (λ j there here. works.left j there) k away refl;
+  };
+  gives = λ e work silent works. record {
+    fine = gives_fine me e work silent works.fine;
+    sound = rw (given_edge e work) works.sound;
+    alone = (gives_spares me.0 e work silent).kept ∙ works.alone;
+    left = λ k away. but_spared plan network me all_places work (gives e work) (λ j. gives_spares j e work silent) (λ j there here. works.left j there) k away refl;
+  };
+  says = λ peer message work up is works. there_up (work.edge.peering peer.0) (WorksOn plan network me (says taken_all peer message work).work) up (λ kept at state. record {
+    fine = says_fine me peer message work works.fine;
+    sound = says_sound peer message work works.sound;
+    alone = (says_spares me.0 peer message work (apart_from me peer kept work works.alone at)).kept ∙ works.alone;
+    left = λ k away. but_says plan network me all_places peer message kept work at state is (λ j there here. works.left j there) k away refl;
+  });
+}
+
+-- ---- all parts of an input
+
+turned_same : (wire : WireId) (on : Bool) (edge : EdgeState) → ((turned_wire wire on edge).peering ≡ edge.peering) × ((turned_wire wire on edge).me ≡ edge.me) × (TellsSoundly edge → TellsSoundly (turned_wire wire on edge))
+unfolding with_renewed with_wire
+turned_same wire true edge = (refl, refl, λ sound. sound_ends edge _ refl refl refl (λ w peer is. renewed_sound (nat_eq w wire.0) (is_up_with (edge.peering peer)) (edge.ends w peer) is) sound)
+turned_same wire false edge = (refl, refl, λ sound. sound_same edge _ refl refl refl refl sound)
+
+bits_same : (wire : WireId) (bits : ℕ) (edge : EdgeState) → bits ≤ 31 → ((with_bits wire bits edge).peering ≡ edge.peering) × ((with_bits wire bits edge).me ≡ edge.me) × (TellsSoundly edge → TellsSoundly (with_bits wire bits edge))
+unfolding with_bits
+bits_same wire bits edge few = (
+  refl,
+  refl,
+  λ sound. record {
+    least = sound.least;
+    most = sound.most;
+    bits = λ w. either (nat_eq w wire.0) (edge.bits w) (sound.bits w);
+    ends = sound.ends;
+  },
+)
+  where
+    either : (b : Bool) (other : ℕ) → other ≤ 31 → cond b bits other ≤ 31
+    either true other is = few
+    either false other is = is
+
+pub works_kept : (plan : Plan) (network : NetworkState) (me : EdgeId) → IsChecked plan → HasTypes plan → KeptByWork plan me (WorksOn plan network me)
+works_kept plan network me checked types =
+    let steady : IsSteady me (WorksOn plan network me) = works_steady plan network me in
+    record {
+      rows = steady_rows plan me checked types (WorksOn plan network me) steady;
+      closed = λ peer work works. works_happens plan network me peer (Closed reason.Closed) work (λ own other kept far messages answers t. closed_in_step own other kept far messages answers t) works;
+      ticked = λ peer work works. works_happens plan network me peer Ticked work (λ own other kept far messages answers t. ticked_in_step own other kept far messages answers t) works;
+      others = λ change work keeps peering works.
+          steady.changes change work peering keeps.me (sound_same work.edge (change work.edge) keeps.next_label keeps.bits peering keeps.ends works.sound) works;
+      gives = λ e work silent works. steady.gives e work silent works;
+      turned = λ wire on work works. (let same = turned_same wire on work.edge in steady.changes (turned_wire wire on) work same.0 same.1 (same.2 works.sound) works);
+      bits = λ wire bits work few works. (let same = bits_same wire bits work.edge few in steady.changes (with_bits wire bits) work same.0 same.1 (same.2 works.sound) works);
+    }

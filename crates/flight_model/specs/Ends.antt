@@ -1,8 +1,11 @@
 -- The ends of a plan's connections, and what holds of each two edges of a network.
-use Rattle.std.specs.Prelude.{◌≡◌, nat_eq, ℕ, false, List, [], Option, Some, None, slice_get}
+use Rattle.std.specs.Prelude.{◌≡◌, ◌≤◌, ◌<◌, ◌^◌, nat_eq, ℕ, false, List, [], Option, Some, None, IfSome, length, slice_get}
 use Rattle.net_base.specs.declared.plan.Plan.{Plan}
 use Rattle.net_base.specs.declared.plan.edge_plan.EdgePlan.{EdgePlan}
+use Rattle.net_base.specs.declared.plan.offer.Offer.{Offer}
 use Rattle.net_base.specs.declared.plan.places.EdgeId.{EdgeId}
+use Rattle.net_base.specs.declared.plan.wire_plan.WirePlan.{WirePlan}
+use Rattle.ldp_grammar.specs.Reading.{AreOctets}
 use Rattle.session_core.specs.declared.peers.Peers.{Peers}
 use Rattle.session_core.specs.Laws.{IsAddress}
 use Rattle.std.specs.List.{All}
@@ -15,6 +18,7 @@ use Rattle.flight_model.specs.Endings.{TellGoodEnds}
 use Rattle.flight_model.specs.Facts.{Fact, HoldsOfTwo, flight}
 use Rattle.flight_model.specs.Meeting.{IsFine, Leaves, closes}
 use Rattle.flight_model.specs.Pair.{ArePaired}
+use Rattle.flight_model.specs.Sound.{TellsSoundly}
 
 -- the ends of a session between two rows of a plan, as the first one sees them; without two rows there is none
 abbrev pub ends_between : Option EdgePlan → Option EdgePlan → Peers
@@ -25,19 +29,32 @@ ends_between own other = record { me = record { 0 = [] }; peer = record { 0 = []
 abbrev pub ends_at : Plan → ℕ → ℕ → Peers
 ends_at plan a b = ends_between (slice_get plan.edges a) (slice_get plan.edges b)
 
--- the addresses of a plan have four octets each, as all addresses have
-abbrev pub HasAddresses : Plan → Type 0
-HasAddresses plan = All (λ row. IsAddress row.address) plan.edges
+-- the numbers and the text of an offer fit the fields that they are written in
+pub record IsFieldOffer (offer : Offer) : Type 0 where
+  pub mtu : IfSome offer.mtu (λ mtu. mtu < 2 ^ 16)
+  pub group : offer.group < 2 ^ 32
+  pub description : length offer.description ≤ 80
+  pub octets : AreOctets offer.description
+
+pub record AreFieldOffers (row : WirePlan) : Type 0 where
+  pub near : IsFieldOffer row.near
+  pub far : IsFieldOffer row.far
+
+-- what the types of a plan say: its addresses have four octets each, and its offers fit
+pub record HasTypes (plan : Plan) : Type 0 where
+  pub addresses : All (λ row. IsAddress row.address) plan.edges
+  pub offers : All AreFieldOffers plan.wires
 
 -- two edges of the plan are paired
 abbrev pub IsPaired : Plan → Fact
 IsPaired plan a b near far out back = ArePaired (ends_at plan a b) (ends_at plan b a) (near.peering b) (far.peering a) out back
 
--- each two edges are paired, no edge has a connection with itself, and each is at its place
+-- each two edges are paired, no edge has a connection with itself, each is at its place, and what it tells is sound
 pub record IsOrdered (plan : Plan) (network : NetworkState) : Type 0 where
   pub two : HoldsOfTwo (IsPaired plan) network
   pub alone : (a : ℕ) → (network.edges a).peering a ≡ None
   pub placed : (a : ℕ) → (network.edges a).me ≡ record { 0 = a }
+  pub sound : (a : ℕ) → TellsSoundly (network.edges a)
 
 -- ---- an edge at work in such a network
 
@@ -46,18 +63,16 @@ pub record IsLeft (own other : Peers) (place : ℕ) (far : Option Peering) (out 
   pub leaves : Leaves own other place far out more work
   pub unclosed : (kept : Peering) → work.edge.peering place ≡ Some kept → closes place work.effects ≡ false
 
+-- the same of a place of the network
+abbrev pub LeftFor : Plan → NetworkState → EdgeId → Work → ℕ → Type 0
+LeftFor plan network me work place =
+    IsLeft (ends_at plan me.0 place) (ends_at plan place me.0) place ((network.edges place).peering me.0) (flight network me.0 place) (network.pipes place me.0) work
+
 pub record WorksOn (plan : Plan) (network : NetworkState) (me : EdgeId) (work : Work) : Type 0 where
   pub fine : IsFine me work
+  pub sound : TellsSoundly work.edge
   pub alone : work.edge.peering me.0 ≡ None
-  pub left : (place : ℕ) → nat_eq place me.0 ≡ false
-      → IsLeft (ends_at plan me.0 place) (ends_at plan place me.0) place ((network.edges place).peering me.0) (flight network me.0 place) (network.pipes place me.0) work
-
--- what it has made of the network's other ends, whatever is on its way to it now
-pub record HasWorked (plan : Plan) (network : NetworkState) (me : EdgeId) (work : Work) : Type 0 where
-  pub fine : IsFine me work
-  pub alone : work.edge.peering me.0 ≡ None
-  pub leaves : (place : ℕ) → nat_eq place me.0 ≡ false
-      → Leaves (ends_at plan me.0 place) (ends_at plan place me.0) place ((network.edges place).peering me.0) (flight network me.0 place) (network.pipes place me.0) work
+  pub left : (place : ℕ) → nat_eq place me.0 ≡ false → LeftFor plan network me work place
 
 -- an event keeps a network in order, and what it tells of ended sessions is no refusal
 pub record KeepsOrder (plan : Plan) (after : Stepped) : Type 0 where

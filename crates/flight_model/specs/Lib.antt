@@ -1,3 +1,5 @@
+pub mod Binding
+pub mod Bound
 pub mod Coming
 pub mod Endings
 pub mod Ends
@@ -7,3 +9,5 @@ pub mod Laws
 pub mod Meeting
 pub mod Messages
 pub mod Pair
+pub mod Rules
+pub mod Sound

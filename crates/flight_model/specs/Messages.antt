@@ -1,13 +1,19 @@
 -- The messages that an edge says on a connection, and their octets.
-use Rattle.std.specs.Prelude.{◌≡◌, ◌<◌, ◌^◌, ◌++◌, ℕ, true, false, List, [], ◌∷◌, None}
+use Rattle.std.specs.Prelude.{◌≡◌, ◌<◌, ◌^◌, ◌++◌, ◌⊎◌, ℕ, true, false, List, [], ◌∷◌, Option, None, is_some}
+use Rattle.std.specs.List.{AllByRecursion}
 use Rattle.net_base.specs.declared.values.addr.Addr.{Addr}
 use Rattle.ldp_grammar.specs.declared.message.Message.{Message}
-use Rattle.ldp_grammar.specs.declared.message.Message.TheVariants.{Notification, Initialization, KeepAlive}
+use Rattle.ldp_grammar.specs.declared.message.Message.TheVariants.{Notification, Initialization, KeepAlive, LabelMapping, LabelWithdraw, LabelRelease}
 use Rattle.ldp_grammar.specs.declared.status_code.StatusCode.{StatusCode}
-use Rattle.ldp_grammar.specs.Written.{written}
+use Rattle.ldp_grammar.specs.Reading.{AreOctets}
+use Rattle.ldp_grammar.specs.Tlvs.{Tlv}
+use Rattle.ldp_grammar.specs.Written.{Fits, writable, written, written_tlvs}
+use Rattle.pw_tlvs.specs.declared.pw_fec.PwFec.{PwFec}
+use Rattle.pw_tlvs.specs.declared.pw_status.PwStatus.{PwStatus}
 use Rattle.session_core.specs.declared.peers.Peers.{Peers}
 use Rattle.session_core.specs.Parameters.{proposal}
 use Rattle.session_core.specs.StatusCodes.{keep_alive_timer_expired}
+use Rattle.edge_model.specs.Content.{pw_status_notice}
 use Rattle.edge_model.specs.Put.{platform_of}
 
 -- the octets of messages of one router, each in a PDU of its own
@@ -19,11 +25,29 @@ octets_of_all router (message ∷ messages) = written message (platform_of route
 abbrev pub expiry : StatusCode
 expiry = record { fatal = true; forward = false; code = keep_alive_timer_expired; message = 0; kind = 0 }
 
--- an end says its proposal, KeepAlives, and the Notification with which it leaves
+-- the Notification with which an end leaves, and the one that tells the status of a pseudowire
+abbrev pub IsLeaving : StatusCode → Option PwStatus → Option PwFec → Type 0
+IsLeaving code status fec = (code ≡ expiry) × (status ≡ None) × (fec ≡ None)
+
+abbrev pub IsStatusNotice : StatusCode → Option PwStatus → Option PwFec → Type 0
+IsStatusNotice code status fec = (code ≡ pw_status_notice) × (is_some status ≡ true) × (is_some fec ≡ true)
+
+-- the values of TLVs are octets
+abbrev pub HaveOctets : List Tlv → Type 0
+HaveOctets tlvs = AllByRecursion (λ tlv. AreOctets tlv.value) tlvs
+
+-- a message that can be written, whose numbers fit, and whose values are octets
+abbrev pub IsSound : Message → Type 0
+IsSound message = Fits message × (writable message ≡ true) × HaveOctets (written_tlvs message)
+
+-- an end says its proposal, KeepAlives, what it has to say of pseudowires, and the Notification with which it leaves
 abbrev pub IsSaid : Peers → Message → Type 0
 IsSaid ends (Initialization id params) = (id < 2 ^ 32) × (params ≡ proposal ends)
 IsSaid ends (KeepAlive id) = id < 2 ^ 32
-IsSaid ends (Notification id status pw_status fec) = (id < 2 ^ 32) × (status ≡ expiry) × (pw_status ≡ None) × (fec ≡ None)
+IsSaid ends (Notification id code status fec) = IsSound (Notification id code status fec) × (IsLeaving code status fec ⊎ IsStatusNotice code status fec)
+IsSaid ends (LabelMapping id fec label status points) = IsSound (LabelMapping id fec label status points)
+IsSaid ends (LabelWithdraw id fec label) = IsSound (LabelWithdraw id fec label)
+IsSaid ends (LabelRelease id fec label) = IsSound (LabelRelease id fec label)
 IsSaid ends message = ⊥
 
 abbrev pub AreSaid : Peers → List Message → Type 0

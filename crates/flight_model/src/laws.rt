@@ -1,5 +1,5 @@
-//! What holds of sessions in every run of the network.
-ghost use Rattle.flight_model.specs.Laws.{RunsComeUp, RunsEndWell, RunsFollowTable};
+//! What holds of sessions and pseudowires in every run of the network.
+ghost use Rattle.flight_model.specs.Laws.{RunsAgreeAfterFlight, RunsComeUp, RunsEndWell, RunsFollowTable, RunsKeepLabelRule, RunsKeepToldRule, RunsSettle};
 
 /// Of two ends that stand one is active, and their session states with what is on its way between them are a row of the table:
 /// the octets that each is still to hear of the other one are those of whole messages (RFC 5036 sections 2.5.3 and 2.5.4).
@@ -19,4 +19,36 @@ pub fn runs_end_well()
 #[tactic(auto, using(crate::proofs::RunLemmas::runs_come_up))]
 pub fn runs_come_up()
     ensures { RunsComeUp }
+{}
+
+/// Where both ends of a connection stand, an edge that has heard the messages on their way to it holds of each wire between the
+/// two exactly what the other edge advertises now: its label and content, or nothing (RFC 8077 section 6, RFC 5036 sections
+/// 3.5.7 and 3.5.10).
+#[tactic(auto, using(crate::proofs::BoundRunLemmas::runs_agree_after_flight))]
+pub fn runs_agree_after_flight()
+    ensures { RunsAgreeAfterFlight }
+{}
+
+/// In a state in which a service is quiet, of each two edges that it joins either both sessions are up, each end of each wire
+/// between them holds what the other one advertises, and none waits for a release; or they have no connection, and no end of
+/// their wires tells or holds anything.
+#[tactic(auto, using(crate::proofs::BoundRunLemmas::runs_settle))]
+pub fn runs_settle()
+    ensures { RunsSettle }
+{}
+
+/// Wherever a label of an edge is named, at one of its own ends, in a message on its way from it or towards it, or in a binding
+/// of a neighbour, it was given before, and whoever owns it is the end that it is named with (RFC 3032 section 2.1, RFC 5036
+/// sections 3.5.7, 3.5.10 and 3.5.11).
+#[tactic(auto, using(crate::proofs::RuledRunLemmas::runs_keep_label_rule))]
+pub fn runs_keep_label_rule()
+    ensures { RunsKeepLabelRule }
+{}
+
+/// Wherever a content of a pseudowire is told, at the end that advertises it, on its way, or in a binding of the neighbour, it is
+/// the one that the plan has the edge tell the neighbour, but for its status, and it has a status exactly where the offer has one
+/// (RFC 8077 section 6).
+#[tactic(auto, using(crate::proofs::RuledRunLemmas::runs_keep_told_rule))]
+pub fn runs_keep_told_rule()
+    ensures { RunsKeepToldRule }
 {}

@@ -14,6 +14,3 @@ pub use label_owner::LabelOwner;
 pub use label_space::LabelSpace;
 pub use laws::labels_rise;
 pub use no_label::NoLabel;
-
-#[cfg(test)]
-mod tests;

@@ -26,6 +26,3 @@ pub use decode::{decode_pdu, read_pdu};
 pub use decode_fault::DecodeFault;
 pub use encode::encode_into;
 pub use stop::Stop;
-
-#[cfg(test)]
-mod tests;

@@ -16,6 +16,3 @@ pub use laws::{
 };
 pub use stream::Stream;
 pub use stream_fault::StreamFault;
-
-#[cfg(test)]
-mod tests;

@@ -12,6 +12,3 @@ mod search;
 pub use learned::Learned;
 pub use mac_entry::MacEntry;
 pub use mac_table::MacTable;
-
-#[cfg(test)]
-mod tests;

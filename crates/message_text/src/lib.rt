@@ -9,8 +9,6 @@ mod names;
 mod parts;
 mod pieces;
 mod pseudowire;
-#[cfg(test)]
-mod tests;
 
 pub use line::put_messages;
 pub use names::field_text;

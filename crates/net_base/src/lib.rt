@@ -45,6 +45,3 @@ pub use values::no_memory::NoMemory;
 pub use values::octets::put;
 pub use values::text::Text;
 pub use values::word::Word;
-
-#[cfg(test)]
-mod tests;

@@ -5,7 +5,7 @@ use Rattle.net_base.specs.declared.plan.circuit_plan.CircuitPlan.{CircuitPlan}
 use Rattle.net_base.specs.declared.trace.entry.Entry.{Entry}
 use Rattle.net_base.specs.declared.trace.entry.Entry.TheVariants.{Did, In, Left, Sent}
 use Rattle.net_base.specs.declared.trace.event.Event.{Event}
-use Rattle.net_base.specs.declared.trace.event.Event.TheVariants.{Connect, Deliver, Lose, Restart, Tick, Frame, Circuit}
+use Rattle.net_base.specs.declared.trace.event.Event.TheVariants.{Connect, Deliver, Lose, Restart, Tick, Frame, Wire, Circuit, Status}
 use Rattle.net_base.specs.declared.plan.places.CircuitId.{CircuitId}
 use Rattle.net_base.specs.declared.plan.places.EdgeId.{EdgeId}
 use Rattle.net_base.specs.declared.plan.places.ServiceId.{ServiceId}
@@ -27,7 +27,7 @@ use Rattle.network_model.specs.Run.{entries_along}
 use Rattle.network_model.specs.State.{NetworkState, at_edge, empty_network}
 use Rattle.network_model.specs.Step.{step}
 use Rattle.network_model.proofs.PlanLemmas.{circuit_of, vlan_of}
-use Rattle.network_model.proofs.QuietLemmas.{NoneGoesOut, circuit_tells, connect_tells, deliver_tells, lose_tells, restart_tells, tick_tells}
+use Rattle.network_model.proofs.QuietLemmas.{NoneGoesOut, circuit_tells, connect_tells, deliver_tells, lose_tells, restart_tells, status_tells, tick_tells, wire_tells}
 
 -- a frame has the same inner frame at each circuit of its service
 inner_by_again : (row receiver : CircuitPlan) (mtu : Option ℕ) (octets frame : List ℕ) → IsVlanId receiver.tag → inner_by (Some row) mtu octets ≡ Ok frame → inner_by (Some receiver) mtu (dress receiver.tag frame) ≡ Ok frame
@@ -119,12 +119,14 @@ none_isolated plan earlier (e ∷ es) none = (tt, none_isolated plan (earlier ++
 
 step_isolated : (plan : Plan) (network : NetworkState) (event : Event) (earlier : List Entry) → IsChecked plan → IsolatedAfter plan earlier (step plan network event).entries
 step_isolated plan network (Connect from to) earlier checked = (tt, none_isolated plan _ _ (connect_tells plan from to network))
-step_isolated plan network (Deliver from to count) earlier checked = (tt, none_isolated plan _ _ (deliver_tells from to count network))
-step_isolated plan network (Lose me peer) earlier checked = (tt, none_isolated plan _ _ (lose_tells me peer network))
+step_isolated plan network (Deliver from to count) earlier checked = (tt, none_isolated plan _ _ (deliver_tells plan from to count network))
+step_isolated plan network (Lose me peer) earlier checked = (tt, none_isolated plan _ _ (lose_tells plan me peer network))
 step_isolated plan network (Restart me) earlier checked = (tt, none_isolated plan _ _ (restart_tells me network))
 step_isolated plan network Tick earlier checked = (tt, none_isolated plan _ _ (tick_tells plan network))
 step_isolated plan network (Frame circuit octets) earlier checked = (tt, frame_isolated plan network circuit octets (circuit_row plan circuit) (earlier ++ Did (Frame circuit octets) ∷ []) checked refl)
 step_isolated plan network (Circuit circuit on) earlier checked = (tt, none_isolated plan _ _ (circuit_tells plan network circuit on (circuit_row plan circuit)))
+step_isolated plan network (Wire me wire on) earlier checked = (tt, none_isolated plan _ _ (wire_tells plan me wire on network))
+step_isolated plan network (Status me wire bits) earlier checked = (tt, none_isolated plan _ _ (status_tells plan me wire bits network))
 step_isolated plan network event earlier checked = (tt, tt)
 
 pub along_isolated : (plan : Plan) (network : NetworkState) (events : List Event) (earlier : List Entry) → IsChecked plan → IsolatedAfter plan earlier (entries_along plan network events)
@@ -134,4 +136,4 @@ along_isolated plan network (e ∷ es) earlier checked =
     (along_isolated plan (step plan network e).state es (earlier ++ (step plan network e).entries) checked)
 
 pub run_isolated : RunsAreIsolated
-run_isolated plan events checked = along_isolated plan empty_network events [] checked
+run_isolated plan events checked = along_isolated plan (empty_network plan) events [] checked

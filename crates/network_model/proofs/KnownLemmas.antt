@@ -121,6 +121,6 @@ known_event plan network circuit row octets frame q formed known = taken (frame_
 
 pub run_serves_known_once : RunsServeKnownOnce
 run_serves_known_once plan events checked before after split circuit row octets frame q is formed known =
-    let network : NetworkState = state_after plan empty_network before in
+    let network : NetworkState = state_after plan (empty_network plan) before in
     subst (λ (r : Option CircuitPlan). times_out (next_origin network) (frame_event plan circuit octets r network).entries ≤ 1) (sym is)
     (known_event plan network circuit row octets frame q formed known)

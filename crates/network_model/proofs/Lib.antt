@@ -1,6 +1,7 @@
 pub mod AbsorbLemmas
 pub mod CalmLemmas
 mod ConnectionExamples
+pub mod EdgeLemmas
 mod Examples
 pub mod FloodLemmas
 pub mod IsolatedLemmas

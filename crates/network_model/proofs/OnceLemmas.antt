@@ -248,18 +248,18 @@ none_of_origin origin (p ∷ ps) none = kept (nat_eq p.origin origin) none (none
 
 pub run_serves_once : RunsServeOnce
 run_serves_once plan events checked before at octets during after service split window =
-    let network : NetworkState = state_after plan empty_network before in
+    let network : NetworkState = state_after plan (empty_network plan) before in
     let origin : ℕ = next_origin network in
     let entry : Stepped = step plan network (Frame at octets) in
     let there : NetworkState = state_after plan entry.state during in
-    let told : entries_along plan empty_network events
-    ≡ entries_along plan empty_network before ++ (entry.entries ++ (entries_along plan entry.state during ++ entries_along plan there after)) =
-    ap (λ (l : List Event). entries_along plan empty_network l) split
-    ∙ (along-append plan empty_network before (Frame at octets ∷ (during ++ after))
-    ∙ ap (λ (l : List Entry). entries_along plan empty_network before ++ (entry.entries ++ l)) (along-append plan entry.state during after)) in
+    let told : entries_along plan (empty_network plan) events
+    ≡ entries_along plan (empty_network plan) before ++ (entry.entries ++ (entries_along plan entry.state during ++ entries_along plan there after)) =
+    ap (λ (l : List Event). entries_along plan (empty_network plan) l) split
+    ∙ (along-append plan (empty_network plan) before (Frame at octets ∷ (during ++ after))
+    ∙ ap (λ (l : List Entry). entries_along plan (empty_network plan) before ++ (entry.entries ++ l)) (along-append plan entry.state during after)) in
     record {
       once = λ circuit.
-          let early = apart_before plan origin circuit empty_network before (omega arith) in
+          let early = apart_before plan origin circuit (empty_network plan) before (omega arith) in
           let here = frame_once plan network at circuit octets window.frame service (circuit_row plan at) during checked (run_placed plan before) window.calm refl window.sender window.on window.formed window.flooded in
           let entered : origin ≤ entry.state.entered = omega (arith, here.entered) in
           let open_due = window_due plan network service circuit origin entry.state during (omega arith) entered window.spared in
@@ -270,7 +270,7 @@ run_serves_once plan events checked before at octets during after service split 
           ap (times_left origin circuit) told
           ∙ omega (
             arith,
-            times_left-append origin circuit (entries_along plan empty_network before) (entry.entries ++ (entries_along plan entry.state during ++ entries_along plan there after)),
+            times_left-append origin circuit (entries_along plan (empty_network plan) before) (entry.entries ++ (entries_along plan entry.state during ++ entries_along plan there after)),
             times_left-append origin circuit entry.entries (entries_along plan entry.state during ++ entries_along plan there after),
             times_left-append origin circuit (entries_along plan entry.state during) (entries_along plan there after),
             early.left,
@@ -280,5 +280,5 @@ run_serves_once plan events checked before at octets during after service split 
             none_left,
             late.left,
           );
-      within = along_within plan origin empty_network events;
+      within = along_within plan origin (empty_network plan) events;
     }

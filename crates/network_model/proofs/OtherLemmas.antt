@@ -6,15 +6,17 @@ use Rattle.net_base.specs.declared.plan.circuit_plan.CircuitPlan.{CircuitPlan}
 use Rattle.net_base.specs.declared.plan.places.CircuitId.{CircuitId}
 use Rattle.net_base.specs.declared.plan.places.EdgeId.{EdgeId}
 use Rattle.net_base.specs.declared.plan.places.ServiceId.{ServiceId}
+use Rattle.net_base.specs.declared.plan.places.WireId.{WireId}
 use Rattle.net_base.specs.declared.trace.entry.Entry.{Entry}
 use Rattle.net_base.specs.declared.trace.entry.Entry.TheVariants.{Left, Sent}
 use Rattle.net_base.specs.declared.trace.event.Event.{Event}
-use Rattle.net_base.specs.declared.trace.event.Event.TheVariants.{Connect, Deliver, Lose, Restart, Tick, Frame, Circuit}
+use Rattle.net_base.specs.declared.trace.event.Event.TheVariants.{Connect, Deliver, Lose, Restart, Tick, Frame, Wire, Circuit, Status}
 use Rattle.net_base.specs.plan.Places.{circuit_row}
 use Rattle.edge_model.specs.Circuit.{circuit_input}
 use Rattle.edge_model.specs.Connection.{restart_input}
 use Rattle.edge_model.specs.declared.effect.Effect.{Effect}
 use Rattle.edge_model.specs.Tick.{tick_input}
+use Rattle.edge_model.specs.Wire.{status_input, wire_input}
 use Rattle.edge_model.specs.Work.{Work}
 use Rattle.edge_model.proofs.LocalLemmas.{and_left, and_right}
 use Rattle.network_model.specs.Absorb.{Stepped, absorb, and_then, answer, begin_at, idle, taken_all}
@@ -27,8 +29,9 @@ use Rattle.network_model.specs.State.{NetworkState, stands, with_edge, with_fram
 use Rattle.network_model.specs.Step.{step}
 use Rattle.network_model.specs.Tick.{tick_at, tick_event, ticks_from}
 use Rattle.network_model.specs.Window.{all_spare, spares}
+use Rattle.network_model.specs.Wire.{status_event, wire_event}
 use Rattle.network_model.proofs.AbsorbLemmas.{all_keep, all_leave, awaited, due, of_origin, others_tell, own_within, times_left-append, within-append}
-use Rattle.network_model.proofs.QuietLemmas.{NoneGoesOut, circuit_tells, connect_tells, deliver_tells, lose_tells, restart_tells, tick_tells}
+use Rattle.network_model.proofs.QuietLemmas.{NoneGoesOut, circuit_tells, connect_tells, deliver_tells, lose_tells, restart_tells, status_tells, tick_tells, wire_tells}
 
 -- nothing is told of the frame, and its copies under way stay
 pub record IsApart (origin : ℕ) (circuit : CircuitId) (network : NetworkState) (stepped : Stepped) : Type 0 where
@@ -80,7 +83,15 @@ frame_apart plan origin circuit at octets (Some row) network apart = taken (fram
 
 circuit_apart : (plan : Plan) (origin : ℕ) (circuit at : CircuitId) (on : Bool) (row : Option CircuitPlan) (network : NetworkState) → nat_eq 0 origin ≡ false → IsApart origin circuit network (circuit_event plan at on row network)
 circuit_apart plan origin circuit at on None network apart = record { left = refl; under_way = refl }
-circuit_apart plan origin circuit at on (Some row) network apart = answer_apart origin circuit row.edge 0 0 (circuit_input plan at on (Some row) (begin_at network row.edge)) network apart
+circuit_apart plan origin circuit at on (Some row) network apart = answer_apart origin circuit row.edge 0 0 (circuit_input plan taken_all at on (Some row) (begin_at network row.edge)) network apart
+
+wire_apart : (plan : Plan) (origin : ℕ) (circuit : CircuitId) (me : EdgeId) (wire : WireId) (on : Bool) (network : NetworkState) → nat_eq 0 origin ≡ false
+    → IsApart origin circuit network (wire_event plan me wire on network)
+wire_apart plan origin circuit me wire on network apart = answer_apart origin circuit me 0 0 (wire_input plan taken_all wire on (begin_at network me)) network apart
+
+status_apart : (plan : Plan) (origin : ℕ) (circuit : CircuitId) (me : EdgeId) (wire : WireId) (bits : ℕ) (network : NetworkState) → nat_eq 0 origin ≡ false
+    → IsApart origin circuit network (status_event plan me wire bits network)
+status_apart plan origin circuit me wire bits network apart = answer_apart origin circuit me 0 0 (status_input plan taken_all wire bits (begin_at network me)) network apart
 
 -- one step after another
 apart_then : (origin : ℕ) (circuit : CircuitId) (network : NetworkState) (first next : Stepped) → IsApart origin circuit network first → IsApart origin circuit first.state next
@@ -115,24 +126,24 @@ connect_apart plan origin circuit from to network apart = by (can_connect plan n
   by true = connecting_apart origin circuit from (connected_work plan network from to) to (connected_work plan network to from) network apart
   by false = record { left = refl; under_way = refl }
 
-delivering_apart : (origin : ℕ) (circuit : CircuitId) (from to : EdgeId) (count : ℕ) (network : NetworkState) → nat_eq 0 origin ≡ false → IsApart origin circuit network (delivering from to count network)
+delivering_apart : (plan : Plan) (origin : ℕ) (circuit : CircuitId) (from to : EdgeId) (count : ℕ) (network : NetworkState) → nat_eq 0 origin ≡ false → IsApart origin circuit network (delivering plan from to count network)
 unfolding with_pipe
-delivering_apart origin circuit from to count network apart =
+delivering_apart plan origin circuit from to count network apart =
     let octets : List ℕ = take count (network.pipes from.0 to.0) in
-    let same = absorb_apart origin circuit to 0 0 (hearing_work network from to octets) (with_pipe from to (drop count (network.pipes from.0 to.0)) network) apart in
+    let same = absorb_apart origin circuit to 0 0 (hearing_work plan network from to octets) (with_pipe from to (drop count (network.pipes from.0 to.0)) network) apart in
     record { left = same.left; under_way = same.under_way }
 
-deliver_apart : (origin : ℕ) (circuit : CircuitId) (from to : EdgeId) (count : ℕ) (network : NetworkState) → nat_eq 0 origin ≡ false → IsApart origin circuit network (deliver_event from to count network)
-deliver_apart origin circuit from to count network apart = by (is_deliverable network from.0 to.0) (is_drained_pipe network from.0 to.0) where
-  by : (applies drained : Bool) → IsApart origin circuit network (cond applies (cond drained (losing to from network) (delivering from to count network)) (idle network))
-  by true true = absorb_apart origin circuit to 0 0 (losing_work network to from) network apart
-  by true false = delivering_apart origin circuit from to count network apart
+deliver_apart : (plan : Plan) (origin : ℕ) (circuit : CircuitId) (from to : EdgeId) (count : ℕ) (network : NetworkState) → nat_eq 0 origin ≡ false → IsApart origin circuit network (deliver_event plan from to count network)
+deliver_apart plan origin circuit from to count network apart = by (is_deliverable network from.0 to.0) (is_drained_pipe network from.0 to.0) where
+  by : (applies drained : Bool) → IsApart origin circuit network (cond applies (cond drained (losing plan to from network) (delivering plan from to count network)) (idle network))
+  by true true = absorb_apart origin circuit to 0 0 (losing_work plan network to from) network apart
+  by true false = delivering_apart plan origin circuit from to count network apart
   by false drained = record { left = refl; under_way = refl }
 
-lose_apart : (origin : ℕ) (circuit : CircuitId) (me peer : EdgeId) (network : NetworkState) → nat_eq 0 origin ≡ false → IsApart origin circuit network (lose_event me peer network)
-lose_apart origin circuit me peer network apart = by (stands network me.0 peer.0) where
-  by : (applies : Bool) → IsApart origin circuit network (cond applies (losing me peer network) (idle network))
-  by true = absorb_apart origin circuit me 0 0 (losing_work network me peer) network apart
+lose_apart : (plan : Plan) (origin : ℕ) (circuit : CircuitId) (me peer : EdgeId) (network : NetworkState) → nat_eq 0 origin ≡ false → IsApart origin circuit network (lose_event plan me peer network)
+lose_apart plan origin circuit me peer network apart = by (stands network me.0 peer.0) where
+  by : (applies : Bool) → IsApart origin circuit network (cond applies (losing plan me peer network) (idle network))
+  by true = absorb_apart origin circuit me 0 0 (losing_work plan network me peer) network apart
   by false = record { left = refl; under_way = refl }
 
 restart_apart : (origin : ℕ) (circuit : CircuitId) (me : EdgeId) (network : NetworkState) → nat_eq 0 origin ≡ false → IsApart origin circuit network (restart_event me network)
@@ -147,10 +158,10 @@ step_apart plan origin circuit network (Connect from to) some apart =
     let same = connect_apart plan origin circuit from to network (ne_eqb 0 origin (λ e. absurd (omega arith))) in
     record { left = same.left; under_way = same.under_way }
 step_apart plan origin circuit network (Deliver from to count) some apart =
-    let same = deliver_apart origin circuit from to count network (ne_eqb 0 origin (λ e. absurd (omega arith))) in
+    let same = deliver_apart plan origin circuit from to count network (ne_eqb 0 origin (λ e. absurd (omega arith))) in
     record { left = same.left; under_way = same.under_way }
 step_apart plan origin circuit network (Lose me peer) some apart =
-    let same = lose_apart origin circuit me peer network (ne_eqb 0 origin (λ e. absurd (omega arith))) in
+    let same = lose_apart plan origin circuit me peer network (ne_eqb 0 origin (λ e. absurd (omega arith))) in
     record { left = same.left; under_way = same.under_way }
 step_apart plan origin circuit network (Restart me) some apart =
     let same = restart_apart origin circuit me network (ne_eqb 0 origin (λ e. absurd (omega arith))) in
@@ -163,6 +174,12 @@ step_apart plan origin circuit network (Frame at octets) some apart =
     record { left = same.left; under_way = same.under_way }
 step_apart plan origin circuit network (Circuit at on) some apart =
     let same = circuit_apart plan origin circuit at on (circuit_row plan at) network (ne_eqb 0 origin (λ e. absurd (omega arith))) in
+    record { left = same.left; under_way = same.under_way }
+step_apart plan origin circuit network (Wire me wire on) some apart =
+    let same = wire_apart plan origin circuit me wire on network (ne_eqb 0 origin (λ e. absurd (omega arith))) in
+    record { left = same.left; under_way = same.under_way }
+step_apart plan origin circuit network (Status me wire bits) some apart =
+    let same = status_apart plan origin circuit me wire bits network (ne_eqb 0 origin (λ e. absurd (omega arith))) in
     record { left = same.left; under_way = same.under_way }
 step_apart plan origin circuit network event some apart = record { left = refl; under_way = refl }
 
@@ -186,7 +203,13 @@ answer_counts me origin hops work network = answered work.idle where
 
 circuit_counts : (plan : Plan) (at : CircuitId) (on : Bool) (row : Option CircuitPlan) (network : NetworkState) → (circuit_event plan at on row network).state.entered ≡ network.entered
 circuit_counts plan at on None network = refl
-circuit_counts plan at on (Some row) network = answer_counts row.edge 0 0 (circuit_input plan at on (Some row) (begin_at network row.edge)) network
+circuit_counts plan at on (Some row) network = answer_counts row.edge 0 0 (circuit_input plan taken_all at on (Some row) (begin_at network row.edge)) network
+
+wire_counts : (plan : Plan) (me : EdgeId) (wire : WireId) (on : Bool) (network : NetworkState) → (wire_event plan me wire on network).state.entered ≡ network.entered
+wire_counts plan me wire on network = answer_counts me 0 0 (wire_input plan taken_all wire on (begin_at network me)) network
+
+status_counts : (plan : Plan) (me : EdgeId) (wire : WireId) (bits : ℕ) (network : NetworkState) → (status_event plan me wire bits network).state.entered ≡ network.entered
+status_counts plan me wire bits network = answer_counts me 0 0 (status_input plan taken_all wire bits (begin_at network me)) network
 
 ticks_count : (plan : Plan) (place count : ℕ) (network : NetworkState) → (ticks_from plan place count network).state.entered ≡ network.entered
 ticks_count plan place zero network = refl
@@ -206,22 +229,22 @@ connect_counts plan from to network = by (can_connect plan network from.0 to.0) 
   by true = connecting_counts from (connected_work plan network from to) to (connected_work plan network to from) network
   by false = refl
 
-delivering_counts : (from to : EdgeId) (count : ℕ) (network : NetworkState) → (delivering from to count network).state.entered ≡ network.entered
+delivering_counts : (plan : Plan) (from to : EdgeId) (count : ℕ) (network : NetworkState) → (delivering plan from to count network).state.entered ≡ network.entered
 unfolding with_pipe
-delivering_counts from to count network =
-    absorb_counts to 0 0 (hearing_work network from to (take count (network.pipes from.0 to.0))) (with_pipe from to (drop count (network.pipes from.0 to.0)) network)
+delivering_counts plan from to count network =
+    absorb_counts to 0 0 (hearing_work plan network from to (take count (network.pipes from.0 to.0))) (with_pipe from to (drop count (network.pipes from.0 to.0)) network)
 
-deliver_counts : (from to : EdgeId) (count : ℕ) (network : NetworkState) → (deliver_event from to count network).state.entered ≡ network.entered
-deliver_counts from to count network = by (is_deliverable network from.0 to.0) (is_drained_pipe network from.0 to.0) where
-  by : (applies drained : Bool) → (cond applies (cond drained (losing to from network) (delivering from to count network)) (idle network)).state.entered ≡ network.entered
-  by true true = absorb_counts to 0 0 (losing_work network to from) network
-  by true false = delivering_counts from to count network
+deliver_counts : (plan : Plan) (from to : EdgeId) (count : ℕ) (network : NetworkState) → (deliver_event plan from to count network).state.entered ≡ network.entered
+deliver_counts plan from to count network = by (is_deliverable network from.0 to.0) (is_drained_pipe network from.0 to.0) where
+  by : (applies drained : Bool) → (cond applies (cond drained (losing plan to from network) (delivering plan from to count network)) (idle network)).state.entered ≡ network.entered
+  by true true = absorb_counts to 0 0 (losing_work plan network to from) network
+  by true false = delivering_counts plan from to count network
   by false drained = refl
 
-lose_counts : (me peer : EdgeId) (network : NetworkState) → (lose_event me peer network).state.entered ≡ network.entered
-lose_counts me peer network = by (stands network me.0 peer.0) where
-  by : (applies : Bool) → (cond applies (losing me peer network) (idle network)).state.entered ≡ network.entered
-  by true = absorb_counts me 0 0 (losing_work network me peer) network
+lose_counts : (plan : Plan) (me peer : EdgeId) (network : NetworkState) → (lose_event plan me peer network).state.entered ≡ network.entered
+lose_counts plan me peer network = by (stands network me.0 peer.0) where
+  by : (applies : Bool) → (cond applies (losing plan me peer network) (idle network)).state.entered ≡ network.entered
+  by true = absorb_counts me 0 0 (losing_work plan network me peer) network
   by false = refl
 
 restart_counts : (me : EdgeId) (network : NetworkState) → (restart_event me network).state.entered ≡ network.entered
@@ -230,12 +253,14 @@ restart_counts me network = absorb_counts me 0 0 (restart_input (begin_at networ
 
 pub step_counts : (plan : Plan) (network : NetworkState) (event : Event) → network.entered ≤ (step plan network event).state.entered
 step_counts plan network (Connect from to) = omega (arith, connect_counts plan from to network)
-step_counts plan network (Deliver from to count) = omega (arith, deliver_counts from to count network)
-step_counts plan network (Lose me peer) = omega (arith, lose_counts me peer network)
+step_counts plan network (Deliver from to count) = omega (arith, deliver_counts plan from to count network)
+step_counts plan network (Lose me peer) = omega (arith, lose_counts plan me peer network)
 step_counts plan network (Restart me) = omega (arith, restart_counts me network)
 step_counts plan network Tick = omega (arith, ticks_count plan 0 (length plan.edges) network)
 step_counts plan network (Frame at octets) = frame_counts plan at octets (circuit_row plan at) network
 step_counts plan network (Circuit at on) = omega (arith, circuit_counts plan at on (circuit_row plan at) network)
+step_counts plan network (Wire me wire on) = omega (arith, wire_counts plan me wire on network)
+step_counts plan network (Status me wire bits) = omega (arith, status_counts plan me wire bits network)
 step_counts plan network event = omega arith
 
 pub counts_rise : (plan : Plan) (network : NetworkState) (events : List Event) → network.entered ≤ (state_after plan network events).entered
@@ -306,12 +331,14 @@ none_within number (e ∷ es) none = none_within number es none
 
 step_within : (plan : Plan) (number : ℕ) (network : NetworkState) (event : Event) → LeftWithin number (step plan network event).entries
 step_within plan number network (Connect from to) = none_within number (connect_event plan from to network).entries (connect_tells plan from to network)
-step_within plan number network (Deliver from to count) = none_within number (deliver_event from to count network).entries (deliver_tells from to count network)
-step_within plan number network (Lose me peer) = none_within number (lose_event me peer network).entries (lose_tells me peer network)
+step_within plan number network (Deliver from to count) = none_within number (deliver_event plan from to count network).entries (deliver_tells plan from to count network)
+step_within plan number network (Lose me peer) = none_within number (lose_event plan me peer network).entries (lose_tells plan me peer network)
 step_within plan number network (Restart me) = none_within number (restart_event me network).entries (restart_tells me network)
 step_within plan number network Tick = none_within number (tick_event plan network).entries (tick_tells plan network)
 step_within plan number network (Frame at octets) = frame_within plan number at octets (circuit_row plan at) network
 step_within plan number network (Circuit at on) = none_within number (circuit_event plan at on (circuit_row plan at) network).entries (circuit_tells plan network at on (circuit_row plan at))
+step_within plan number network (Wire me wire on) = none_within number (wire_event plan me wire on network).entries (wire_tells plan me wire on network)
+step_within plan number network (Status me wire bits) = none_within number (status_event plan me wire bits network).entries (status_tells plan me wire bits network)
 step_within plan number network event = tt
 
 pub along_within : (plan : Plan) (number : ℕ) (network : NetworkState) (events : List Event) → LeftWithin number (entries_along plan network events)

@@ -1,27 +1,30 @@
 -- In every state of a run the edge at a place is the edge of that place.
-use Rattle.std.proofs.Common.{◌≡◌, ◌+◌, ◌&&◌, ◌∙◌, ℕ, zero, suc, Bool, true, false, List, [], ◌∷◌, Option, Some, None, Result, Ok, Err, cond, refl, ap, sym, not, nat_eq, length, take, drop, inl, inr}
+use Rattle.std.proofs.Common.{◌≡◌, ◌+◌, ◌&&◌, ◌∙◌, ℕ, zero, suc, Bool, true, false, List, [], ◌∷◌, Option, Some, None, Result, Ok, Err, cond, refl, ap, sym, nat_eq, length, take, drop, inl, inr}
 use Rattle.std.proofs.lemmas.Bool.{cases_Bool, eqb-true}
 use Rattle.net_base.specs.declared.plan.Plan.{Plan}
 use Rattle.net_base.specs.declared.plan.circuit_plan.CircuitPlan.{CircuitPlan}
 use Rattle.net_base.specs.declared.plan.places.CircuitId.{CircuitId}
 use Rattle.net_base.specs.declared.plan.places.EdgeId.{EdgeId}
 use Rattle.net_base.specs.declared.plan.places.ServiceId.{ServiceId}
+use Rattle.net_base.specs.declared.plan.places.WireId.{WireId}
 use Rattle.net_base.specs.declared.trace.drop_cause.DropCause.{DropCause}
 use Rattle.net_base.specs.declared.trace.event.Event.{Event}
-use Rattle.net_base.specs.declared.trace.event.Event.TheVariants.{Connect, Deliver, Lose, Restart, Tick, Frame, Circuit}
+use Rattle.net_base.specs.declared.trace.event.Event.TheVariants.{Connect, Deliver, Lose, Restart, Tick, Frame, Wire, Circuit, Status}
 use Rattle.net_base.specs.plan.Places.{circuit_row}
 use Rattle.net_base.specs.trace.Isolated.{inner_at}
 use Rattle.hvpls_spokes.specs.declared.port.Port.{Port}
 use Rattle.hvpls_spokes.specs.declared.port.Port.TheVariants as port
 use Rattle.hvpls_spokes.specs.Port.{ports_of}
-use Rattle.edge_model.specs.Circuit.{circuit_input, is_same, turned}
+use Rattle.edge_model.specs.Circuit.{circuit_input}
 use Rattle.edge_model.specs.Connection.{restart_input}
 use Rattle.edge_model.specs.declared.effect.Effect.{Effect}
 use Rattle.edge_model.specs.Frame.{copies, copy_by, forwarded, frame_input, hearing, is_own, port_at, received, targets_of}
-use Rattle.edge_model.specs.State.{EdgeState, is_on, with_addresses, with_circuit}
+use Rattle.edge_model.specs.State.{EdgeState, is_on, with_addresses}
 use Rattle.edge_model.specs.Tick.{tick_input}
 use Rattle.edge_model.specs.Work.{Work, Answers, changes, gives, idles}
-use Rattle.edge_model.proofs.SessionLemmas.{any, connected_works, lost_works, octets_works, restart_works, tick_works}
+use Rattle.edge_model.specs.Wire.{status_input, wire_input}
+use Rattle.edge_model.proofs.SessionLemmas.{restart_works}
+use Rattle.edge_model.proofs.SignalLemmas.{circuit_signals, connected_signals, lost_signals, octets_signal, status_signals, tick_works, wire_signals}
 use Rattle.network_model.specs.Absorb.{absorb, absorb_all, answer, begin_at, idle, taken_all}
 use Rattle.network_model.specs.Circuit.{circuit_event}
 use Rattle.network_model.specs.Connection.{can_connect, connect_event, connected_work, connecting, deliver_event, delivering, hearing_work, is_deliverable, is_drained_pipe, lose_event, losing, losing_work, restart_event}
@@ -30,6 +33,7 @@ use Rattle.network_model.specs.Run.{state_after}
 use Rattle.network_model.specs.State.{NetworkState, at_edge, empty_network, stands, with_edge, with_frame, with_pipe, without_octets_to}
 use Rattle.network_model.specs.Step.{step}
 use Rattle.network_model.specs.Tick.{tick_at, ticks_from}
+use Rattle.network_model.specs.Wire.{status_event, wire_event}
 use Rattle.network_model.proofs.AbsorbLemmas.{all_keep}
 
 -- the work has the same edge, and applies where it did
@@ -75,18 +79,6 @@ unfolding idles
 frame_me plan told circuit octets row work = taken (is_own work.edge row && is_on work.edge circuit) where
   taken : (b : Bool) → (cond b (received plan told row.service (port_at plan work.edge circuit row) (inner_at plan circuit octets) work) (idles work)).edge.me ≡ work.edge.me
   taken true = (received_same plan told row.service (port_at plan work.edge circuit row) (inner_at plan circuit octets) work).me
-  taken false = refl
-
-turned_me : (plan : Plan) (circuit : CircuitId) (row : CircuitPlan) (on : Bool) (edge : EdgeState) → (turned plan circuit row on edge).me ≡ edge.me
-unfolding with_addresses with_circuit
-turned_me plan circuit row true edge = refl
-turned_me plan circuit row false edge = refl
-
-circuit_me : (plan : Plan) (circuit : CircuitId) (on : Bool) (row : CircuitPlan) (work : Work) → (circuit_input plan circuit on (Some row) work).edge.me ≡ work.edge.me
-unfolding changes idles
-circuit_me plan circuit on row work = taken (is_own work.edge row && not (is_same on (is_on work.edge circuit))) where
-  taken : (b : Bool) → (cond b (changes (turned plan circuit row on) work) (idles work)).edge.me ≡ work.edge.me
-  taken true = turned_me plan circuit row on work.edge
   taken false = refl
 
 -- each edge of the network has its own place
@@ -135,7 +127,15 @@ frame_placed plan network circuit octets (Some row) placed = taken (frame_work p
 circuit_placed : (plan : Plan) (network : NetworkState) (circuit : CircuitId) (on : Bool) (row : Option CircuitPlan) → IsPlaced network → IsPlaced (circuit_event plan circuit on row network).state
 circuit_placed plan network circuit on None placed = placed
 circuit_placed plan network circuit on (Some row) placed =
-    answer_placed row.edge 0 0 (circuit_input plan circuit on (Some row) (begin_at network row.edge)) network placed (circuit_me plan circuit on row (begin_at network row.edge))
+    answer_placed row.edge 0 0 (circuit_input plan taken_all circuit on (Some row) (begin_at network row.edge)) network placed (circuit_signals plan taken_all circuit on (Some row) (begin_at network row.edge)).me
+
+wire_placed : (plan : Plan) (me : EdgeId) (wire : WireId) (on : Bool) (network : NetworkState) → IsPlaced network → IsPlaced (wire_event plan me wire on network).state
+wire_placed plan me wire on network placed =
+    answer_placed me 0 0 (wire_input plan taken_all wire on (begin_at network me)) network placed (wire_signals plan taken_all wire on (begin_at network me)).me
+
+status_placed : (plan : Plan) (me : EdgeId) (wire : WireId) (bits : ℕ) (network : NetworkState) → IsPlaced network → IsPlaced (status_event plan me wire bits network).state
+status_placed plan me wire bits network placed =
+    answer_placed me 0 0 (status_input plan taken_all wire bits (begin_at network me)) network placed (status_signals plan taken_all wire bits (begin_at network me)).me
 
 ticks_placed : (plan : Plan) (place count : ℕ) (network : NetworkState) → IsPlaced network → IsPlaced (ticks_from plan place count network).state
 ticks_placed plan place zero network placed = placed
@@ -152,8 +152,8 @@ connecting_placed plan from to network placed =
     let second : Work = connected_work plan network to from in
     let one : NetworkState = with_edge from first.edge network in
     let both : NetworkState = with_edge to second.edge one in
-    let here = edge_placed from first.edge network placed (connected_works plan taken_all any to (begin_at network from) refl).edge.me in
-    let own : second.edge.me ≡ (at_edge one to).me = (connected_works plan taken_all any from (begin_at network to) refl).edge.me ∙ (placed.me to.0 ∙ sym (here.me to.0)) in
+    let here = edge_placed from first.edge network placed (connected_signals plan taken_all to (begin_at network from)).edge.me in
+    let own : second.edge.me ≡ (at_edge one to).me = (connected_signals plan taken_all from (begin_at network to)).edge.me ∙ (placed.me to.0 ∙ sym (here.me to.0)) in
     all_placed to 0 0 second.effects (absorb_all from 0 0 first.effects both) (all_placed from 0 0 first.effects both (edge_placed to second.edge one here own))
 
 connect_placed : (plan : Plan) (from to : EdgeId) (network : NetworkState) → IsPlaced network → IsPlaced (connect_event plan from to network).state
@@ -162,32 +162,32 @@ connect_placed plan from to network placed = by (can_connect plan network from.0
   by true = connecting_placed plan from to network placed
   by false = placed
 
-losing_placed : (me peer : EdgeId) (network : NetworkState) → IsPlaced network → IsPlaced (losing me peer network).state
-losing_placed me peer network placed = absorb_placed me 0 0 (losing_work network me peer) network placed (lost_works taken_all any peer (begin_at network me) refl).edge.me
+losing_placed : (plan : Plan) (me peer : EdgeId) (network : NetworkState) → IsPlaced network → IsPlaced (losing plan me peer network).state
+losing_placed plan me peer network placed = absorb_placed me 0 0 (losing_work plan network me peer) network placed (lost_signals plan taken_all peer (begin_at network me)).edge.me
 
 piped_placed : (from to : EdgeId) (octets : List ℕ) (network : NetworkState) → IsPlaced network → IsPlaced (with_pipe from to octets network)
 unfolding with_pipe
 piped_placed from to octets network placed = record { me = placed.me }
 
-delivering_placed : (from to : EdgeId) (count : ℕ) (network : NetworkState) → IsPlaced network → IsPlaced (delivering from to count network).state
+delivering_placed : (plan : Plan) (from to : EdgeId) (count : ℕ) (network : NetworkState) → IsPlaced network → IsPlaced (delivering plan from to count network).state
 unfolding with_pipe
-delivering_placed from to count network placed =
+delivering_placed plan from to count network placed =
     let octets : List ℕ = take count (network.pipes from.0 to.0) in
     let others : NetworkState = with_pipe from to (drop count (network.pipes from.0 to.0)) network in
-    absorb_placed to 0 0 (hearing_work network from to octets) others (piped_placed from to (drop count (network.pipes from.0 to.0)) network placed)
-    (octets_works taken_all any from octets ((at_edge network to).peering from.0) (begin_at network to) refl).edge.me
+    absorb_placed to 0 0 (hearing_work plan network from to octets) others (piped_placed from to (drop count (network.pipes from.0 to.0)) network placed)
+    (octets_signal plan taken_all from octets ((at_edge network to).peering from.0) (begin_at network to)).edge.me
 
-deliver_placed : (from to : EdgeId) (count : ℕ) (network : NetworkState) → IsPlaced network → IsPlaced (deliver_event from to count network).state
-deliver_placed from to count network placed = by (is_deliverable network from.0 to.0) (is_drained_pipe network from.0 to.0) where
-  by : (applies drained : Bool) → IsPlaced (cond applies (cond drained (losing to from network) (delivering from to count network)) (idle network)).state
-  by true true = losing_placed to from network placed
-  by true false = delivering_placed from to count network placed
+deliver_placed : (plan : Plan) (from to : EdgeId) (count : ℕ) (network : NetworkState) → IsPlaced network → IsPlaced (deliver_event plan from to count network).state
+deliver_placed plan from to count network placed = by (is_deliverable network from.0 to.0) (is_drained_pipe network from.0 to.0) where
+  by : (applies drained : Bool) → IsPlaced (cond applies (cond drained (losing plan to from network) (delivering plan from to count network)) (idle network)).state
+  by true true = losing_placed plan to from network placed
+  by true false = delivering_placed plan from to count network placed
   by false drained = placed
 
-lose_placed : (me peer : EdgeId) (network : NetworkState) → IsPlaced network → IsPlaced (lose_event me peer network).state
-lose_placed me peer network placed = by (stands network me.0 peer.0) where
-  by : (applies : Bool) → IsPlaced (cond applies (losing me peer network) (idle network)).state
-  by true = losing_placed me peer network placed
+lose_placed : (plan : Plan) (me peer : EdgeId) (network : NetworkState) → IsPlaced network → IsPlaced (lose_event plan me peer network).state
+lose_placed plan me peer network placed = by (stands network me.0 peer.0) where
+  by : (applies : Bool) → IsPlaced (cond applies (losing plan me peer network) (idle network)).state
+  by true = losing_placed plan me peer network placed
   by false = placed
 
 emptied_placed : (me : EdgeId) (network : NetworkState) → IsPlaced network → IsPlaced (without_octets_to me network)
@@ -201,17 +201,19 @@ restart_placed me network placed =
 
 step_placed : (plan : Plan) (network : NetworkState) (event : Event) → IsPlaced network → IsPlaced (step plan network event).state
 step_placed plan network (Connect from to) placed = connect_placed plan from to network placed
-step_placed plan network (Deliver from to count) placed = deliver_placed from to count network placed
-step_placed plan network (Lose me peer) placed = lose_placed me peer network placed
+step_placed plan network (Deliver from to count) placed = deliver_placed plan from to count network placed
+step_placed plan network (Lose me peer) placed = lose_placed plan me peer network placed
 step_placed plan network (Restart me) placed = restart_placed me network placed
 step_placed plan network Tick placed = ticks_placed plan 0 (length plan.edges) network placed
 step_placed plan network (Frame circuit octets) placed = frame_placed plan network circuit octets (circuit_row plan circuit) placed
 step_placed plan network (Circuit circuit on) placed = circuit_placed plan network circuit on (circuit_row plan circuit) placed
+step_placed plan network (Wire me wire on) placed = wire_placed plan me wire on network placed
+step_placed plan network (Status me wire bits) placed = status_placed plan me wire bits network placed
 step_placed plan network event placed = placed
 
 after_placed : (plan : Plan) (network : NetworkState) (events : List Event) → IsPlaced network → IsPlaced (state_after plan network events)
 after_placed plan network [] placed = placed
 after_placed plan network (e ∷ es) placed = after_placed plan (step plan network e).state es (step_placed plan network e placed)
 
-pub run_placed : (plan : Plan) (events : List Event) → IsPlaced (state_after plan empty_network events)
-run_placed plan events = after_placed plan empty_network events (record { me = λ k. refl })
+pub run_placed : (plan : Plan) (events : List Event) → IsPlaced (state_after plan (empty_network plan) events)
+run_placed plan events = after_placed plan (empty_network plan) events (record { me = λ k. refl })

@@ -8,7 +8,7 @@ use Rattle.net_base.specs.declared.trace.arrival.Arrival.{Arrival}
 use Rattle.net_base.specs.declared.trace.entry.Entry.{Entry}
 use Rattle.net_base.specs.declared.trace.entry.Entry.TheVariants.{Left, Sent}
 use Rattle.net_base.specs.declared.trace.event.Event.{Event}
-use Rattle.net_base.specs.declared.trace.event.Event.TheVariants.{Connect, Deliver, Lose, Restart, Tick, Frame, Circuit}
+use Rattle.net_base.specs.declared.trace.event.Event.TheVariants.{Connect, Deliver, Lose, Restart, Tick, Frame, Wire, Circuit, Status}
 use Rattle.net_base.specs.plan.Places.{circuit_row}
 use Rattle.net_base.specs.trace.Split.{Split, SplitSent}
 use Rattle.net_base.proofs.TraceLemmas.{split-append}
@@ -22,7 +22,7 @@ use Rattle.network_model.specs.Laws.{RunsAreSplit}
 use Rattle.network_model.specs.Run.{entries_along}
 use Rattle.network_model.specs.State.{NetworkState, at_edge, empty_network}
 use Rattle.network_model.specs.Step.{step}
-use Rattle.network_model.proofs.QuietLemmas.{NoneGoesOut, circuit_tells, connect_tells, deliver_tells, lose_tells, restart_tells, tick_tells}
+use Rattle.network_model.proofs.QuietLemmas.{NoneGoesOut, circuit_tells, connect_tells, deliver_tells, lose_tells, restart_tells, status_tells, tick_tells, wire_tells}
 
 -- what an edge sends for a frame of a circuit came by no wire
 effects_split : (plan : Plan) (sender : CircuitId) (me : EdgeId) (origin hops : ℕ) (octets : List ℕ) (network : NetworkState) (es : List Effect)
@@ -58,12 +58,14 @@ none_split plan (e ∷ es) none = (tt, none_split plan es none)
 
 step_split : (plan : Plan) (network : NetworkState) (event : Event) → Split plan (step plan network event).entries
 step_split plan network (Connect from to) = (tt, none_split plan _ (connect_tells plan from to network))
-step_split plan network (Deliver from to count) = (tt, none_split plan _ (deliver_tells from to count network))
-step_split plan network (Lose me peer) = (tt, none_split plan _ (lose_tells me peer network))
+step_split plan network (Deliver from to count) = (tt, none_split plan _ (deliver_tells plan from to count network))
+step_split plan network (Lose me peer) = (tt, none_split plan _ (lose_tells plan me peer network))
 step_split plan network (Restart me) = (tt, none_split plan _ (restart_tells me network))
 step_split plan network Tick = (tt, none_split plan _ (tick_tells plan network))
 step_split plan network (Frame circuit octets) = (tt, frame_split plan network circuit octets (circuit_row plan circuit) refl)
 step_split plan network (Circuit circuit on) = (tt, none_split plan _ (circuit_tells plan network circuit on (circuit_row plan circuit)))
+step_split plan network (Wire me wire on) = (tt, none_split plan _ (wire_tells plan me wire on network))
+step_split plan network (Status me wire bits) = (tt, none_split plan _ (status_tells plan me wire bits network))
 step_split plan network event = (tt, tt)
 
 pub along_split : (plan : Plan) (network : NetworkState) (events : List Event) → Split plan (entries_along plan network events)
@@ -72,4 +74,4 @@ along_split plan network (e ∷ es) =
     split-append plan (step plan network e).entries (entries_along plan (step plan network e).state es) (step_split plan network e) (along_split plan (step plan network e).state es)
 
 pub run_split : RunsAreSplit
-run_split plan events checked = along_split plan empty_network events
+run_split plan events checked = along_split plan (empty_network plan) events

@@ -47,31 +47,31 @@ abbrev pub is_deliverable : NetworkState → ℕ → ℕ → Bool
 is_deliverable network from to = stands network to from && (not (is_drained_pipe network from to) || not (stands network from to))
 
 -- the work of an edge that hears octets, and of one whose end is lost
-abbrev pub hearing_work : NetworkState → EdgeId → EdgeId → List ℕ → Work
-hearing_work network from to octets = octets_input taken_all from octets ((at_edge network to).peering from.0) (begin_at network to)
+abbrev pub hearing_work : Plan → NetworkState → EdgeId → EdgeId → List ℕ → Work
+hearing_work plan network from to octets = octets_input plan taken_all from octets ((at_edge network to).peering from.0) (begin_at network to)
 
-abbrev pub losing_work : NetworkState → EdgeId → EdgeId → Work
-losing_work network me peer = lost_input taken_all peer (begin_at network me)
+abbrev pub losing_work : Plan → NetworkState → EdgeId → EdgeId → Work
+losing_work plan network me peer = lost_input plan taken_all peer (begin_at network me)
 
 -- the first octets of the pipe go to the receiver; those behind them stay on their way
-abbrev pub delivering : EdgeId → EdgeId → ℕ → NetworkState → Stepped
-delivering from to count network =
-    absorb to 0 0 (hearing_work network from to (take count (network.pipes from.0 to.0))) (with_pipe from to (drop count (network.pipes from.0 to.0)) network)
+abbrev pub delivering : Plan → EdgeId → EdgeId → ℕ → NetworkState → Stepped
+delivering plan from to count network =
+    absorb to 0 0 (hearing_work plan network from to (take count (network.pipes from.0 to.0))) (with_pipe from to (drop count (network.pipes from.0 to.0)) network)
 
 -- the end that put octets is gone, and all of them were delivered: the receiver's end is lost
-abbrev pub losing : EdgeId → EdgeId → NetworkState → Stepped
-losing me peer network = absorb me 0 0 (losing_work network me peer) network
+abbrev pub losing : Plan → EdgeId → EdgeId → NetworkState → Stepped
+losing plan me peer network = absorb me 0 0 (losing_work plan network me peer) network
 
-abbrev pub deliver_event : EdgeId → EdgeId → ℕ → NetworkState → Stepped
-deliver_event from to count network =
+abbrev pub deliver_event : Plan → EdgeId → EdgeId → ℕ → NetworkState → Stepped
+deliver_event plan from to count network =
     if is_deliverable network from.0 to.0
-    then (if is_drained_pipe network from.0 to.0 then losing to from network else delivering from to count network)
+    then (if is_drained_pipe network from.0 to.0 then losing plan to from network else delivering plan from to count network)
     else idle network
 
 -- ---- ends are lost
 
-abbrev pub lose_event : EdgeId → EdgeId → NetworkState → Stepped
-lose_event me peer network = if stands network me.0 peer.0 then losing me peer network else idle network
+abbrev pub lose_event : Plan → EdgeId → EdgeId → NetworkState → Stepped
+lose_event plan me peer network = if stands network me.0 peer.0 then losing plan me peer network else idle network
 
 -- the edge restarts: its ends are lost, and so is what was on its way to them
 abbrev pub restart_event : EdgeId → NetworkState → Stepped

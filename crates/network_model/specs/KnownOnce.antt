@@ -45,4 +45,4 @@ ServesKnownOnce plan network = (circuit : CircuitId) (row : CircuitPlan) (octets
 
 -- in every state of a run
 abbrev pub KnownOnce : Plan → List Event → Type 0
-KnownOnce plan events = (before after : List Event) → events ≡ before ++ after → ServesKnownOnce plan (state_after plan empty_network before)
+KnownOnce plan events = (before after : List Event) → events ≡ before ++ after → ServesKnownOnce plan (state_after plan (empty_network plan) before)

@@ -13,3 +13,4 @@ pub mod State
 pub mod Step
 pub mod Tick
 pub mod Window
+pub mod Wire

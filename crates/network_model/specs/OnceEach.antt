@@ -29,9 +29,9 @@ LeftWithin origin (e ∷ es) = LeftWithin origin es
 -- once at each site of the service but the sender, and nowhere else
 pub record ServedOnce (plan : Plan) (before : List Event) (sender : CircuitId) (service : ServiceId) (entries : List Entry) : Type 0 where
   pub once : (circuit : CircuitId)
-      → times_left (next_origin (state_after plan empty_network before)) circuit entries
-      ≡ (if is_site plan (state_after plan empty_network before) service circuit && not (circuit.0 == sender.0) then 1 else 0)
-  pub within : LeftWithin (next_origin (state_after plan empty_network before)) entries
+      → times_left (next_origin (state_after plan (empty_network plan) before)) circuit entries
+      ≡ (if is_site plan (state_after plan (empty_network plan) before) service circuit && not (circuit.0 == sender.0) then 1 else 0)
+  pub within : LeftWithin (next_origin (state_after plan (empty_network plan) before)) entries
 
 -- every window of the run: the events are those before the frame, the frame, those of the window and those after it
 abbrev pub OnceEach : Plan → List Event → Type 0

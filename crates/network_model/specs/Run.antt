@@ -25,4 +25,4 @@ pub record Ran : Type 0 where
   pub entries : List Entry
 
 abbrev pub run : Plan → List Event → Ran
-run plan events = record { states = states_along plan empty_network events; entries = entries_along plan empty_network events }
+run plan events = record { states = states_along plan (empty_network plan) events; entries = entries_along plan (empty_network plan) events }

@@ -1,5 +1,6 @@
 -- The network at one moment: the edges by their places, and what is on its way between them.
 use Rattle.std.specs.Prelude.{◌++◌, ◌+◌, ◌==◌, ℕ, Bool, true, false, List, [], ◌∷◌, Option, Some, None, if◌then◌else◌}
+use Rattle.net_base.specs.declared.plan.Plan.{Plan}
 use Rattle.net_base.specs.declared.plan.places.EdgeId.{EdgeId}
 use Rattle.net_base.specs.declared.plan.places.WireId.{WireId}
 use Rattle.edge_model.specs.State.{EdgeState, Peering, empty_edge, is_there, put_at}
@@ -18,9 +19,9 @@ pub record NetworkState : Type 0 where
   pub entered : ℕ
 
 -- before the first event
-abbrev pub empty_network : NetworkState
-empty_network = record {
-  edges = λ k. empty_edge (record { 0 = k });
+abbrev pub empty_network : Plan → NetworkState
+empty_network plan = record {
+  edges = λ k. empty_edge plan (record { 0 = k });
   pipes = λ from to. [];
   under_way = [];
   sent = 0;

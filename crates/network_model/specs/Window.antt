@@ -89,10 +89,10 @@ is_flooded_frame plan network service frame events =
 -- the window of a frame that enters after the events `before`, up to the last event of `during`
 pub record Window (plan : Plan) (before : List Event) (circuit : CircuitId) (octets : List ℕ) (during : List Event) (service : ServiceId) : Type 0 where
   pub sender : service_of plan circuit ≡ Some service
-  pub on : is_circuit_on plan (state_after plan empty_network before) circuit ≡ true
+  pub on : is_circuit_on plan (state_after plan (empty_network plan) before) circuit ≡ true
   pub frame : List ℕ
   pub formed : inner_at plan circuit octets ≡ Ok frame
-  pub calm : is_calm plan (state_after plan empty_network before) service ≡ true
-  pub flooded : is_flooded_frame plan (state_after plan empty_network before) service frame (Frame circuit octets ∷ during) ≡ true
-  pub spared : all_spare plan (next_origin (state_after plan empty_network before)) (step plan (state_after plan empty_network before) (Frame circuit octets)).state during ≡ true
-  pub over : has_copies (state_after plan (step plan (state_after plan empty_network before) (Frame circuit octets)).state during) (next_origin (state_after plan empty_network before)) ≡ false
+  pub calm : is_calm plan (state_after plan (empty_network plan) before) service ≡ true
+  pub flooded : is_flooded_frame plan (state_after plan (empty_network plan) before) service frame (Frame circuit octets ∷ during) ≡ true
+  pub spared : all_spare plan (next_origin (state_after plan (empty_network plan) before)) (step plan (state_after plan (empty_network plan) before) (Frame circuit octets)).state during ≡ true
+  pub over : has_copies (state_after plan (step plan (state_after plan (empty_network plan) before) (Frame circuit octets)).state during) (next_origin (state_after plan (empty_network plan) before)) ≡ false

@@ -17,6 +17,3 @@ pub use capture_field::CaptureField;
 pub use laws::{each_is_read, one_reading, written_is_read};
 pub use reading::read_capture;
 pub use writing::{write_header, write_record};
-
-#[cfg(test)]
-mod tests;

@@ -3,12 +3,7 @@ use Rattle.std.proofs.Common.{◌≡◌, ◌<◌, ◌≤◌, ◌+◌, ◌++◌, 
 use Rattle.std.proofs.lemmas.Bool.{cases_order, eq-eqb}
 use Rattle.std.proofs.lemmas.Option.{slice_get_read}
 use Rattle.std.specs.Prelude.{All}
-use Rattle.net_base.specs.declared.plan.Plan.{Plan}
-use Rattle.net_base.specs.declared.plan.places.EdgeId.{EdgeId}
-use Rattle.net_base.specs.declared.plan.service_plan.ServicePlan.{ServicePlan}
 use Rattle.mac_table.specs.declared.mac_entry.MacEntry.{MacEntry}
-use Rattle.provider_edge.specs.declared.domain.Domain.{Domain}
-use Rattle.provider_edge.specs.Domain.{AreNew, IsNew}
 
 aged_from : {X : Type 0} (f : X → X) (xs : List X) (i : ℕ) (d : X) → i < length xs
     → set (map f (take i xs) ++ drop i xs) i (f (get_or (map f (take i xs) ++ drop i xs) i d)) ≡ map f (take (suc i) xs) ++ drop (suc i) xs
@@ -51,45 +46,14 @@ pub past_push : {X : Type 0} (xs : List X) (x d : X) → slice_index_or (xs ++ x
 past_push [] x d = refl
 past_push (y ∷ xs) x d = past_push xs x d
 
-before_push : {X : Type 0} (xs : List X) (x d : X) (k : ℕ) → k < length xs → slice_index_or (xs ++ x ∷ []) k d ≡ slice_index_or xs k d
+pub before_push : {X : Type 0} (xs : List X) (x d : X) (k : ℕ) → k < length xs → slice_index_or (xs ++ x ∷ []) k d ≡ slice_index_or xs k d
 before_push [] x d k within = absurd (omega arith)
 before_push (y ∷ xs) x d zero within = refl
 before_push (y ∷ xs) x d (suc k) within = before_push xs x d k (omega arith)
 
-long_push : {X : Type 0} (xs : List X) (x : X) → length (xs ++ x ∷ []) ≡ length xs + 1
+pub long_push : {X : Type 0} (xs : List X) (x : X) → length (xs ++ x ∷ []) ≡ length xs + 1
 long_push [] x = refl
 long_push (y ∷ xs) x = omega (arith, long_push xs x)
-
-next_new : (plan : Plan) (me : EdgeId) (place : ℕ) (domains : List (Option Domain)) (kept : Option Domain) (service : ServicePlan)
-    → AreNew plan me place domains → slice_get plan.services place ≡ Some service → IsNew plan me (record { 0 = place }) service.age kept
-    → AreNew plan me (place + 1) (domains ++ kept ∷ [])
-next_new plan me place domains kept service are at is = record {
-  len = long_push domains kept ∙ ap (λ (n : ℕ). n + 1) are.len;
-  each = λ k row below found. elim (cases_order k place) [
-    | inl same ↦ of k row found (inr same)
-    | inr rest ↦ elim rest [
-      | inl less ↦ of k row found (inl less)
-      | inr more ↦ absurd (omega arith)
-    ]
-  ];
-}
-  where
-    of : (k : ℕ) (row : ServicePlan) → slice_get plan.services k ≡ Some row → (k < place) ⊎ (k ≡ place) → IsNew plan me (record { 0 = k }) row.age (slice_index_or (domains ++ kept ∷ []) k None)
-    of k row found (inl earlier) =
-        subst (IsNew plan me (record { 0 = k }) row.age) (sym (before_push domains kept None k (omega (arith, are.len)))) (are.each k row earlier found)
-    of k row found (inr here) =
-        let one : service ≡ row = cc (at, found, here) in
-        let placed : slice_index_or (domains ++ kept ∷ []) k None ≡ kept = ap (λ (n : ℕ). slice_index_or (domains ++ kept ∷ []) n None) (here ∙ sym are.len) ∙ past_push domains kept None in
-        subst (IsNew plan me (record { 0 = k }) row.age) (sym placed)
-        (subst (λ (n : ℕ). IsNew plan me (record { 0 = n }) row.age kept) (sym here) (subst (λ (r : ServicePlan). IsNew plan me (record { 0 = place }) r.age kept) one is))
-
-pub new_next : (plan : Plan) (me : EdgeId) (place : ℕ) (domains now : List (Option Domain)) (kept : Option Domain) (services : List ServicePlan) (service : ServicePlan)
-    → AreNew plan me place domains → services ≡ plan.services → place < length services → service ≡ get_or services place service
-    → IsNew plan me (record { 0 = place }) service.age kept → now ≡ domains ++ kept ∷ []
-    → AreNew plan me (place + 1) now
-new_next plan me place domains now kept services service are same within read is pushed =
-    let at : slice_get plan.services place ≡ Some service = subst (λ (l : List ServicePlan). slice_get l place ≡ Some service) same (slice_get_read services (length services) place service refl within read) in
-    subst (AreNew plan me (place + 1)) (sym pushed) (next_new plan me place domains kept service are at is)
 
 -- a port's addresses are dropped, the first one among them
 filtered : (port : ℕ) (entries : List MacEntry) → length (filter (λ e. not (e.port == port)) entries) ≤ length entries

@@ -1,7 +1,8 @@
 -- What an edge gives out: it names what is in the plan, stays in its service, and tells what the link took.
-use Rattle.std.proofs.Common.{◌≡◌, ◌<◌, ◌≤◌, ◌+◌, ◌++◌, ◌&&◌, ◌∙◌, ℕ, zero, suc, Bool, true, false, List, [], ◌∷◌, Option, Some, None, Result, Ok, Err, cond, filter, length, not, slice_get, slice_index_or, refl, ap, sym, subst, arith, append_assoc}
+use Rattle.std.proofs.Common.{◌≡◌, ◌<◌, ◌≤◌, ◌+◌, ◌++◌, ◌&&◌, ◌||◌, ◌∙◌, ℕ, zero, suc, Bool, true, false, List, [], ◌∷◌, Option, Some, None, Result, Ok, Err, cond, filter, length, nat_eq, nat_lt, not, slice_get, slice_index_or, refl, ap, sym, subst, arith, append_assoc}
+use Rattle.std.proofs.lemmas.Bool.Decides.{nat_tests}
 use Rattle.std.proofs.lemmas.List.{append-nil}
-use Rattle.std.proofs.lemmas.Option.{slice_get_within}
+use Rattle.std.proofs.lemmas.Option.{get_or_from_slice_get, slice_get_within}
 use Rattle.net_base.specs.declared.outside.link_call.LinkCall.{LinkCall}
 use Rattle.net_base.specs.declared.plan.Plan.{Plan}
 use Rattle.net_base.specs.declared.plan.circuit_plan.CircuitPlan.{CircuitPlan}
@@ -15,12 +16,28 @@ use Rattle.net_base.specs.declared.trace.state_name.Reason.TheVariants as reason
 use Rattle.net_base.specs.declared.trace.state_name.StateName.{StateName}
 use Rattle.net_base.specs.declared.trace.state_name.StateName.TheVariants as name
 use Rattle.net_base.specs.outside.Link.{call_of}
-use Rattle.net_base.specs.plan.Paths.{are_joined}
+use Rattle.net_base.specs.plan.Accepted.{IsChecked, IsWireOf}
+use Rattle.net_base.specs.plan.Paths.{are_joined, joins}
+use Rattle.net_base.specs.plan.RowFaults.{is_edge_of}
+use Rattle.std.specs.List.{AllByRecursion, list_all}
+use Rattle.std.proofs.lemmas.Bool.{eqb-true}
+use Rattle.std.proofs.lemmas.List.Elements.{All-get_or}
+use Rattle.net_base.specs.declared.plan.places.WireId.{WireId}
+use Rattle.net_base.specs.declared.trace.down.Down.{Down}
+use Rattle.label_space.specs.Labels.{numbers_end}
+use Rattle.ldp_grammar.specs.declared.status_code.StatusCode.{StatusCode}
+use Rattle.pw_tlvs.specs.declared.point.Point.{Point}
+use Rattle.pw_tlvs.specs.declared.pw_fec.PwFec.{PwFec}
+use Rattle.pw_tlvs.specs.declared.pw_status.PwStatus.{PwStatus}
+use Rattle.pw_signalling.specs.declared.told.Told.{Told}
+use Rattle.pw_signalling.specs.End.{LocalPart, Idle, Advertised, Withdrawing}
+use Rattle.pw_signalling.specs.Rows.{bound, group_stated, group_unbound, lost, released, stated, unbound}
 use Rattle.net_base.specs.plan.Places.{circuit_row}
 use Rattle.net_base.specs.trace.Isolated.{inner_at}
 use Rattle.net_base.specs.values.Frame.{dress}
 use Rattle.ldp_codec.specs.Decoded.{refusal_of}
 use Rattle.ldp_grammar.specs.declared.message.Message.{Message}
+use Rattle.ldp_grammar.specs.declared.message.Message.TheVariants as message
 use Rattle.ldp_stream.specs.FrontOf.{Front, More, Got, Bad, front_of}
 use Rattle.session_core.specs.declared.reply.Reply.{Reply}
 use Rattle.session_core.specs.Phase.{Phase}
@@ -39,20 +56,30 @@ use Rattle.edge_model.specs.declared.input.Input.TheVariants as input
 use Rattle.edge_model.specs.Circuit.{circuit_input, is_same, turned}
 use Rattle.edge_model.specs.Connection.{connected_input, connects_between, lost_input, opened_with, restarted}
 use Rattle.edge_model.specs.Frame.{copies, copy_by, forwarded, frame_input, hearing, is_own, port_at, received, tag_of, targets_of}
-use Rattle.edge_model.specs.Hear.{acts, advice_of, advises, had_put, hears_few, hears_front, hears_message, hears_messages, hears_pdu, hears_within, holds, octets_input, was_up}
+use Rattle.edge_model.specs.Hear.{acts, acts_on, advice_of, advises, hears_few, hears_front, hears_message, hears_messages, hears_on, hears_one, hears_pdu, hears_within, holds, octets_input, was_up}
 use Rattle.edge_model.specs.Local.{AllStayBeside}
-use Rattle.edge_model.specs.Put.{Spoken, octets_of, put_octets, put_replies, put_reply, put_reply_to, puts_on, with_spoken}
-use Rattle.edge_model.specs.Session.{comes_of, ends, happens, happens_to, is_same_phase, tells_change, went_on, with_session}
-use Rattle.edge_model.specs.State.{EdgeState, Peering, has_end, is_on, is_there, with_peering}
+use Rattle.edge_model.specs.Put.{Spoken, message_octets_of, octets_of, put_octets, put_replies, put_reply, put_reply_to, puts_on, with_spoken}
+use Rattle.edge_model.specs.Session.{clears_ends, comes_of, ends, had_put, had_said, happens, happens_to, happens_with_ends, says, says_to, is_same_phase, tells_change, went_on, with_session}
+use Rattle.edge_model.specs.declared.end_place.EndPlace.{EndPlace}
+use Rattle.edge_model.specs.Content.{binding_in, mapping, pw_status_code, release, status_notification, withdrawal}
+use Rattle.edge_model.specs.EndPlaces.{end_places, ends_here, passes}
+use Rattle.edge_model.specs.Mend.{advertises_wish, advertising, and_says, cause_number, each_end, mends, mends_end, mends_few, mends_local, mends_once, mends_status, mends_status_of, stays, telling_status, tells_down, tells_downs, tells_new_status, tells_over, wish, withdrawing, withdraws_unless}
+use Rattle.edge_model.specs.Role.{down_at, status_to_tell}
+use Rattle.edge_model.specs.Signal.{end_of_fec, hears_status, maps_to, with_end_changed, with_named}
+use Rattle.edge_model.specs.Wire.{turned_wire}
+use Rattle.edge_model.specs.State.{EdgeState, Peering, end_at, has_end, is_on, is_there, with_bits, with_ends_beside, with_peering, with_told_down}
 use Rattle.edge_model.specs.Step.{edge_step}
 use Rattle.edge_model.specs.Tick.{counted, forgetting, ticks_sessions}
 use Rattle.edge_model.specs.Work.{Agrees, Answers, GoesOn, Work, beginning, changes, gives, idles, next_answer, puts}
 use Rattle.edge_model.proofs.LocalLemmas.{served_at, stays_local}
+use Rattle.edge_model.proofs.PlaceLemmas.{IsEndOf, all-map, places_are}
 use Rattle.provider_edge.specs.Invariant.{IsEdge}
-use Rattle.provider_edge.specs.Lists.{EdgeLists, seen, view, worked}
+use Rattle.provider_edge.specs.Lists.{EdgeLists, seen, worked}
+use Rattle.provider_edge.specs.Peering.{Dialogue, kept_with}
+use Rattle.provider_edge.specs.Views.{view}
 use Rattle.provider_edge.specs.Said.{AllFit, Fits, TellsTaken, calls_told}
 use Rattle.provider_edge.specs.Taking.{StaysLocal}
-use Rattle.provider_edge.proofs.KeptLemmas.{same_read}
+use Rattle.provider_edge.proofs.Views.{same_read}
 
 -- Of an edge at work this holds of its work, whatever it does for its neighbours and its circuits.
 pub record AreKept (plan : Plan) (Holds : Work → Type 0) : Type 0 where
@@ -61,6 +88,7 @@ pub record AreKept (plan : Plan) (Holds : Work → Type 0) : Type 0 where
   pub left : (circuit : CircuitId) (bytes : List ℕ) (w : Work) → circuit.0 < length plan.circuits → Holds w → Holds (gives (Left circuit bytes) w)
   pub dropped : (cause : DropCause) (w : Work) → Holds w → Holds (gives (Dropped cause) w)
   pub session : (peer : EdgeId) (state : StateName) (w : Work) → peer.0 < length plan.edges → Holds w → Holds (gives (Session peer state) w)
+  pub wire : (wire : WireId) (down : Option Down) (w : Work) → wire.0 < length plan.wires → Holds w → Holds (gives (Wire wire down) w)
   pub gone : (peer : EdgeId) (w : Work) → peer.0 < length plan.edges → Holds w → Holds (gives (Closed peer) w)
   pub said : (peer : EdgeId) (bytes : List ℕ) (change : EdgeState → EdgeState) (w : Work) → peer.0 < length plan.edges → Holds w → Holds (gives (Said peer bytes) (changes change (puts peer bytes true w)))
   pub refused : (peer : EdgeId) (bytes : List ℕ) (w : Work) → Holds w → Holds (puts peer bytes false w)
@@ -104,13 +132,6 @@ frame_kept plan Holds kept told circuit octets (Some row) work here = taken (is_
   taken : (b : Bool) → Holds (cond b (received plan told row.service (port_at plan work.edge circuit row) (inner_at plan circuit octets) work) (idles work))
   taken false = kept.idle work here
   taken true = received_kept plan Holds kept told row.service (port_at plan work.edge circuit row) (inner_at plan circuit octets) work here
-
-circuit_kept : (plan : Plan) (Holds : Work → Type 0) → AreKept plan Holds → (circuit : CircuitId) (on : Bool) (row : Option CircuitPlan) (work : Work) → Holds work → Holds (circuit_input plan circuit on row work)
-circuit_kept plan Holds kept circuit on None work here = kept.idle work here
-circuit_kept plan Holds kept circuit on (Some row) work here = taken (is_own work.edge row && not (is_same on (is_on work.edge circuit))) where
-  taken : (b : Bool) → Holds (cond b (changes (turned plan circuit row on) work) (idles work))
-  taken false = kept.idle work here
-  taken true = kept.changed (turned plan circuit row on) work here
 
 -- ---- sessions
 
@@ -167,47 +188,228 @@ happens_kept plan Holds kept told peer within event work here = to (work.edge.pe
   to None = here
   to (Some p) = comes p (outcome_of p.session event)
 
+-- ---- ends, and messages apart from the events
+
+clears_kept : (plan : Plan) (Holds : Work → Type 0) → AreKept plan Holds → (peer : EdgeId) (work : Work) → Holds work → Holds (clears_ends peer work)
+clears_kept plan Holds kept peer work here = by (has_end work.edge peer) where
+  by : (b : Bool) → Holds (cond b work (changes (with_ends_beside peer lost) work))
+  by true = here
+  by false = kept.changed (with_ends_beside peer lost) work here
+
+with_ends_kept : (plan : Plan) (Holds : Work → Type 0) → AreKept plan Holds → (told : Answers) (peer : EdgeId) → peer.0 < length plan.edges → (event : SessionEvent) (work : Work) → Holds work → Holds (happens_with_ends told peer event work)
+with_ends_kept plan Holds kept told peer within event work here = clears_kept plan Holds kept peer (happens told peer event work) (happens_kept plan Holds kept told peer within event work here)
+
+had_said_kept : (plan : Plan) (Holds : Work → Type 0) → AreKept plan Holds → (peer : EdgeId) → peer.0 < length plan.edges → (put : Spoken) → Holds put.work → Holds (had_said peer put).work
+had_said_kept plan Holds kept peer within put here = clears_kept plan Holds kept peer (had_put peer put) (had_kept plan Holds kept peer within put here)
+
+says_kept : (plan : Plan) (Holds : Work → Type 0) → AreKept plan Holds → (told : Answers) (peer : EdgeId) → peer.0 < length plan.edges → (message : ℕ → Message) (work : Work) → Holds work → Holds (says told peer message work).work
+says_kept plan Holds kept told peer within message work here = to (work.edge.peering peer.0) where
+  to : (x : Option Peering) → Holds (says_to told peer message x work).work
+  to None = here
+  to (Some p) =
+      had_said_kept plan Holds kept peer within (put_octets peer (message_octets_of p message) (next_answer told work) work)
+      (octets_kept plan Holds kept peer within (message_octets_of p message) (next_answer told work) work here)
+
+advised_kept : (plan : Plan) (Holds : Work → Type 0) → AreKept plan Holds → (told : Answers) (peer : EdgeId) → peer.0 < length plan.edges → (advice : Option Reply) (work : Work) → Holds work → Holds (advises told peer advice work)
+advised_kept plan Holds kept told peer within None work here = here
+advised_kept plan Holds kept told peer within (Some reply) work here = had_said_kept plan Holds kept peer within (put_reply told peer reply work) (reply_kept plan Holds kept told peer within reply work here)
+
+-- ---- an edge mends
+
+-- the place is one of the plan
+pub record IsPlaced (plan : Plan) (place : EndPlace) : Type 0 where
+  pub peer : place.peer.0 < length plan.edges
+  pub wire : place.wire.0 < length plan.wires
+
+and_one : (a b : Bool) → a && b ≡ true → a ≡ true
+and_one true b both = refl
+and_one false b both = absurd (cc (both))
+
+and_other : (a b : Bool) → a && b ≡ true → b ≡ true
+and_other true b both = both
+and_other false b both = absurd (cc (both))
+
+below_edges : (plan : Plan) (edge : EdgeId) → is_edge_of plan edge ≡ true → edge.0 < length plan.edges
+below_edges plan edge is = below edge.0 (length plan.edges) is where
+  below : (n len : ℕ) → nat_lt n len ≡ true → n < len
+  below n len less = grind (arith, nat_tests)
+
+joined_within : (plan : Plan) (a b : ℕ) (path : List EdgeId) → joins a b path ≡ true → list_all (is_edge_of plan) path ≡ true → b < length plan.edges
+joined_within plan a b [] joined all = absurd (cc (joined))
+joined_within plan a b (last ∷ []) joined all = absurd (cc (joined))
+joined_within plan a b (first ∷ next ∷ rest) joined all =
+    let one : first.0 < length plan.edges = below_edges plan first (and_one (is_edge_of plan first) (list_all (is_edge_of plan) (next ∷ rest)) all) in
+    let tail : list_all (is_edge_of plan) (next ∷ rest) ≡ true = and_other (is_edge_of plan first) (list_all (is_edge_of plan) (next ∷ rest)) all in
+    let two : next.0 < length plan.edges = below_edges plan next (and_one (is_edge_of plan next) (list_all (is_edge_of plan) rest) tail) in
+    by one two (λ further. joined_within plan a b (next ∷ rest) further tail) (nat_eq a first.0 && nat_eq b next.0) refl (nat_eq b first.0 && nat_eq a next.0) refl joined
+  where
+    by : first.0 < length plan.edges → next.0 < length plan.edges → (joins a b (next ∷ rest) ≡ true → b < length plan.edges) → (x : Bool) → (nat_eq a first.0 && nat_eq b next.0) ≡ x → (y : Bool) → (nat_eq b first.0 && nat_eq a next.0) ≡ y
+        → (x || y) || joins a b (next ∷ rest) ≡ true → b < length plan.edges
+    by one two further true is y other any = subst (λ (n : ℕ). n < length plan.edges) (sym (eqb-true b next.0 (and_other (nat_eq a first.0) (nat_eq b next.0) is))) two
+    by one two further false is true other any = subst (λ (n : ℕ). n < length plan.edges) (sym (eqb-true b first.0 (and_one (nat_eq b first.0) (nat_eq a next.0) other))) one
+    by one two further false is false other any = further any
+
+place_placed : (plan : Plan) (me : EdgeId) → IsChecked plan → (place : EndPlace) → IsEndOf plan me place → IsPlaced plan place
+place_placed plan me checked place is =
+    let within : place.wire.0 < length plan.wires = slice_get_within plan.wires place.wire.0 is.row is.is in
+    let row : IsWireOf plan is.row =
+    subst (IsWireOf plan) (get_or_from_slice_get plan.wires place.wire.0 is.row is.row is.is) (All-get_or (IsWireOf plan) plan.wires place.wire.0 is.row within checked.wires) in
+    record { peer = joined_within plan me.0 place.peer.0 is.row.path is.joined row.edges; wire = within }
+
+places_placed : (plan : Plan) (me : EdgeId) → IsChecked plan → AllByRecursion (IsPlaced plan) (end_places plan me)
+places_placed plan me checked = all-map (IsEndOf plan me) (IsPlaced plan) (end_places plan me) (λ place is. place_placed plan me checked place is) (places_are plan me)
+
+end_kept : (plan : Plan) (Holds : Work → Type 0) → AreKept plan Holds → (told : Answers) (place : EndPlace) → IsPlaced plan place → (work : Work) → Holds work → Holds (mends_end plan told place work).work
+end_kept plan Holds kept told place placed work here = to (end_at work.edge place).local where
+  wished : (w : Option Told) → Holds (advertises_wish told place w work).work
+  wished None = here
+  wished (Some content) = by (nat_eq work.edge.next_label numbers_end) where
+    begun : Work
+    begun = changes (advertising place work.edge.next_label content) work
+
+    by : (b : Bool) → Holds (cond b (stays work) (says told place.peer (mapping place.pw_id work.edge.next_label content) begun)).work
+    by true = here
+    by false = says_kept plan Holds kept told place.peer placed.peer (mapping place.pw_id work.edge.next_label content) begun (kept.changed (advertising place work.edge.next_label content) work here)
+
+  unless : (label : ℕ) (content : Told) (w : Option Told) → Holds (withdraws_unless told place label content w work).work
+  unless label content None = says_kept plan Holds kept told place.peer placed.peer (withdrawal place.pw_id label content) (changes (withdrawing place) work) (kept.changed (withdrawing place) work here)
+  unless label content (Some wished) = here
+
+  idle : (b : Bool) → Holds (cond b (stays work) (advertises_wish told place (wish plan work.edge place) work)).work
+  idle true = here
+  idle false = wished (wish plan work.edge place)
+
+  to : (local : LocalPart) → Holds (mends_local plan told place local work).work
+  to (Idle declined) = idle declined
+  to (Advertised label content) = unless label content (wish plan work.edge place)
+  to (Withdrawing label) = here
+
+status_kept : (plan : Plan) (Holds : Work → Type 0) → AreKept plan Holds → (told : Answers) (place : EndPlace) → IsPlaced plan place → (work : Work) → Holds work → Holds (mends_status plan told place work).work
+status_kept plan Holds kept told place placed work here = to (end_at work.edge place).local where
+  over : (content : Told) (status : PwStatus) (last : Option PwStatus) → Holds (tells_over told place content status last work).work
+  over content status None = here
+  over content status (Some last) = by (nat_eq last.0 status.0) where
+    by : (b : Bool) → Holds (cond b (stays work) (tells_new_status told place content status work)).work
+    by true = here
+    by false = says_kept plan Holds kept told place.peer placed.peer (status_notification place.pw_id status content) (changes (telling_status place status) work) (kept.changed (telling_status place status) work here)
+
+  to : (local : LocalPart) → Holds (mends_status_of plan told place local work).work
+  to (Idle declined) = here
+  to (Advertised label content) = over content (status_to_tell plan work.edge place) content.status
+  to (Withdrawing label) = here
+
+each_kept : (plan : Plan) (Holds : Work → Type 0) (mend : EndPlace → Work → Spoken) → ((place : EndPlace) → IsPlaced plan place → (work : Work) → Holds work → Holds (mend place work).work)
+    → (places : List EndPlace) → AllByRecursion (IsPlaced plan) places → (m : Spoken) → Holds m.work → Holds (each_end mend places m).work
+each_kept plan Holds mend one [] placed m here = here
+each_kept plan Holds mend one (place ∷ places) placed m here = each_kept plan Holds mend one places placed.1 (and_says m (mend place)) (one place placed.0 m.work here)
+
+downs_kept : (plan : Plan) (Holds : Work → Type 0) → AreKept plan Holds → (places : List EndPlace) → AllByRecursion (IsPlaced plan) places → (work : Work) → Holds work → Holds (tells_downs plan places work)
+downs_kept plan Holds kept [] placed work here = here
+downs_kept plan Holds kept (place ∷ places) placed work here = downs_kept plan Holds kept places placed.1 (cond place.terminal (tells_down place (down_at plan work.edge place) work) work) (by place.terminal) where
+  told_one : (b : Bool) → Holds (cond b work (gives (Wire place.wire (down_at plan work.edge place)) (changes (with_told_down place.wire (down_at plan work.edge place)) work)))
+  told_one true = here
+  told_one false = kept.wire place.wire (down_at plan work.edge place) (changes (with_told_down place.wire (down_at plan work.edge place)) work) placed.0.wire (kept.changed (with_told_down place.wire (down_at plan work.edge place)) work here)
+
+  by : (b : Bool) → Holds (cond b (tells_down place (down_at plan work.edge place) work) work)
+  by true = told_one (nat_eq (cause_number (work.edge.told_down place.wire.0)) (cause_number (down_at plan work.edge place)))
+  by false = here
+
+once_kept : (plan : Plan) (Holds : Work → Type 0) → AreKept plan Holds → IsChecked plan → (told : Answers) (work : Work) → Holds work → Holds (mends_once plan told work).work
+once_kept plan Holds kept checked told work here =
+    let placed : AllByRecursion (IsPlaced plan) (end_places plan work.edge.me) = places_placed plan work.edge.me checked in
+    let ends : Spoken = each_end (mends_end plan told) (end_places plan work.edge.me) (stays work) in
+    let statuses : Spoken = each_end (mends_status plan told) (end_places plan work.edge.me) ends in
+    downs_kept plan Holds kept (end_places plan work.edge.me) placed statuses.work
+    (each_kept plan Holds (mends_status plan told) (λ place here w h. status_kept plan Holds kept told place here w h) (end_places plan work.edge.me) placed ends
+    (each_kept plan Holds (mends_end plan told) (λ place here w h. end_kept plan Holds kept told place here w h) (end_places plan work.edge.me) placed (stays work) here))
+
+rounds_kept : (plan : Plan) (Holds : Work → Type 0) → AreKept plan Holds → IsChecked plan → (told : Answers) (n : ℕ) (work : Work) → Holds work → Holds (mends_few plan told n work)
+rounds_kept plan Holds kept checked told zero work here = here
+rounds_kept plan Holds kept checked told (suc n) work here =
+    again (λ w h. rounds_kept plan Holds kept checked told n w h) (mends_once plan told work).failed (mends_once plan told work).work (once_kept plan Holds kept checked told work here)
+  where
+    again : ((w : Work) → Holds w → Holds (mends_few plan told n w)) → (failed : Bool) (w : Work) → Holds w → Holds (cond failed (mends_few plan told n w) w)
+    again on true w h = on w h
+    again on false w h = h
+
+mends_kept : (plan : Plan) (Holds : Work → Type 0) → AreKept plan Holds → IsChecked plan → (told : Answers) (work : Work) → Holds work → Holds (mends plan told work)
+mends_kept plan Holds kept checked told work here = rounds_kept plan Holds kept checked told (suc (length plan.edges)) work here
+
 -- ---- what is heard
 
-message_kept : (plan : Plan) (Holds : Work → Type 0) → AreKept plan Holds → (told : Answers) (peer : EdgeId) → peer.0 < length plan.edges → (message : Message) (work : Work) → Holds work → Holds (hears_message told peer message work)
-message_kept plan Holds kept told peer within message work here = up (was_up (work.edge.peering peer.0)) where
+acted_kept : (plan : Plan) (Holds : Work → Type 0) → AreKept plan Holds → (told : Answers) (peer : EdgeId) → peer.0 < length plan.edges → (message : Message) (work : Work) → Holds work → Holds (acts_on plan told peer message work)
+acted_kept plan Holds kept told peer within m work here = to m where
+  maps : (fec : PwFec) (label : ℕ) (status : Option PwStatus) (points : List Point) (x : Option EndPlace) → Holds (maps_to told peer fec label status points x work)
+  maps fec label status points None = says_kept plan Holds kept told peer within (release fec (Some label)) work here
+  maps fec label status points (Some place) = kept.changed (with_end_changed (bound (binding_in fec label status points)) (Some place)) work here
+
+  states : (code : StatusCode) (status : Option PwStatus) (fec : Option PwFec) → Holds (hears_status plan peer code status fec work)
+  states code None fec = here
+  states code (Some status) None = here
+  states code (Some status) (Some fec) = by (nat_eq code.code pw_status_code) where
+    by : (b : Bool) → Holds (cond b (changes (with_named plan peer fec (stated status) (group_stated fec.group status) fec.pw_id) work) work)
+    by true = kept.changed (with_named plan peer fec (stated status) (group_stated fec.group status) fec.pw_id) work here
+    by false = here
+
+  advised : (advice : Option Reply) → Holds (advises told peer advice work)
+  advised advice = advised_kept plan Holds kept told peer within advice work here
+
+  to : (m : Message) → Holds (acts_on plan told peer m work)
+  to (message.LabelMapping id fec label status points) = maps fec label status points (end_of_fec plan work.edge peer fec)
+  to (message.LabelWithdraw id fec label) =
+      says_kept plan Holds kept told peer within (release fec label) (changes (with_named plan peer fec (unbound label) (group_unbound fec.group) fec.pw_id) work)
+      (kept.changed (with_named plan peer fec (unbound label) (group_unbound fec.group) fec.pw_id) work here)
+  to (message.LabelRelease id fec label) = kept.changed (λ edge. with_end_changed (released label) (end_of_fec plan edge peer fec) edge) work here
+  to (message.Notification id code status fec) = states code status fec
+  to (message.Hello id hold targeted request transport) = advised (advice_of (message.Hello id hold targeted request transport))
+  to (message.Initialization id params) = advised (advice_of (message.Initialization id params))
+  to (message.KeepAlive id) = advised (advice_of (message.KeepAlive id))
+  to (message.Address id family octets) = advised (advice_of (message.Address id family octets))
+  to (message.AddressWithdraw id addresses pw macs) = advised (advice_of (message.AddressWithdraw id addresses pw macs))
+  to (message.LabelRequest id pw) = advised (advice_of (message.LabelRequest id pw))
+  to (message.LabelAbort id pw request) = advised (advice_of (message.LabelAbort id pw request))
+  to (message.Other id u number) = advised (advice_of (message.Other id u number))
+  to (message.Unprocessed id number why) = advised (advice_of (message.Unprocessed id number why))
+
+message_kept : (plan : Plan) (Holds : Work → Type 0) → AreKept plan Holds → IsChecked plan → (told : Answers) (peer : EdgeId) → peer.0 < length plan.edges → (message : Message) (work : Work) → Holds work → Holds (hears_message plan told peer message work)
+message_kept plan Holds kept checked told peer within m work here = heard (has_end work.edge peer) where
   mid : Work
-  mid = happens told peer (Received message) work
+  mid = happens_with_ends told peer (Received m) work
 
   after : Holds mid
-  after = happens_kept plan Holds kept told peer within (Received message) work here
+  after = with_ends_kept plan Holds kept told peer within (Received m) work here
 
-  advised : (advice : Option Reply) → Holds (advises told peer advice mid)
-  advised None = after
-  advised (Some reply) = had_kept plan Holds kept peer within (put_reply told peer reply mid) (reply_kept plan Holds kept told peer within reply mid after)
-
-  still : (b : Bool) → Holds (cond b (advises told peer (advice_of message) mid) mid)
-  still true = advised (advice_of message)
+  still : (b : Bool) → Holds (cond b (acts_on plan told peer m mid) mid)
+  still true = acted_kept plan Holds kept told peer within m mid after
   still false = after
 
-  up : (b : Bool) → Holds (acts told peer message b mid)
+  up : (b : Bool) → Holds (acts plan told peer m b mid)
   up false = after
   up true = still (has_end mid.edge peer)
 
-messages_kept : (plan : Plan) (Holds : Work → Type 0) → AreKept plan Holds → (told : Answers) (peer : EdgeId) → peer.0 < length plan.edges → (messages : List Message) (work : Work) → Holds work → Holds (hears_messages told peer messages work)
-messages_kept plan Holds kept told peer within [] work here = here
-messages_kept plan Holds kept told peer within (message ∷ messages) work here =
-    messages_kept plan Holds kept told peer within messages (hears_message told peer message work) (message_kept plan Holds kept told peer within message work here)
+  heard : (b : Bool) → Holds (cond b (mends plan told (hears_one plan told peer m work)) work)
+  heard true = mends_kept plan Holds kept checked told (hears_one plan told peer m work) (up (was_up (work.edge.peering peer.0)))
+  heard false = here
 
-few_kept : (plan : Plan) (Holds : Work → Type 0) → AreKept plan Holds → (told : Answers) (peer : EdgeId) → peer.0 < length plan.edges → (n : ℕ) (octets : List ℕ) (work : Work) → Holds work → Holds (hears_few told peer n octets work)
-few_kept plan Holds kept told peer within zero octets work here = held (work.edge.peering peer.0) where
+messages_kept : (plan : Plan) (Holds : Work → Type 0) → AreKept plan Holds → IsChecked plan → (told : Answers) (peer : EdgeId) → peer.0 < length plan.edges → (messages : List Message) (work : Work) → Holds work → Holds (hears_messages plan told peer messages work)
+messages_kept plan Holds kept checked told peer within [] work here = here
+messages_kept plan Holds kept checked told peer within (m ∷ messages) work here =
+    messages_kept plan Holds kept checked told peer within messages (hears_message plan told peer m work) (message_kept plan Holds kept checked told peer within m work here)
+
+few_kept : (plan : Plan) (Holds : Work → Type 0) → AreKept plan Holds → IsChecked plan → (told : Answers) (peer : EdgeId) → peer.0 < length plan.edges → (n : ℕ) (octets : List ℕ) (work : Work) → Holds work → Holds (hears_few plan told peer n octets work)
+few_kept plan Holds kept checked told peer within zero octets work here = held (work.edge.peering peer.0) where
   held : (x : Option Peering) → Holds (holds peer octets x work)
   held None = here
   held (Some p) = kept.changed (with_peering peer (Some (record p { held = octets }))) work here
-few_kept plan Holds kept told peer within (suc n) octets work here = to (λ rest w h. few_kept plan Holds kept told peer within n rest w h) (work.edge.peering peer.0) where
-  front : ((rest : List ℕ) (w : Work) → Holds w → Holds (hears_few told peer n rest w)) → (p : Peering) (f : Front) → Holds (hears_front told peer (hears_few told peer n) p octets f work)
+few_kept plan Holds kept checked told peer within (suc n) octets work here = to (λ rest w h. few_kept plan Holds kept checked told peer within n rest w h) (work.edge.peering peer.0) where
+  front : ((rest : List ℕ) (w : Work) → Holds w → Holds (hears_few plan told peer n rest w)) → (p : Peering) (f : Front) → Holds (hears_front plan told peer (hears_few plan told peer n) p octets f work)
   front on p More = kept.changed (with_peering peer (Some (record p { held = octets }))) work here
   front on p (Got pdu rest) =
-      on rest (hears_pdu told peer pdu work)
-      (messages_kept plan Holds kept told peer within pdu.messages (happens told peer (Heard pdu.id) work) (happens_kept plan Holds kept told peer within (Heard pdu.id) work here))
-  front on p (Bad fault) = happens_kept plan Holds kept told peer within (Refused (refusal_of fault)) work here
+      on rest (hears_pdu plan told peer pdu work)
+      (messages_kept plan Holds kept checked told peer within pdu.messages (happens_with_ends told peer (Heard pdu.id) work) (with_ends_kept plan Holds kept told peer within (Heard pdu.id) work here))
+  front on p (Bad fault) = with_ends_kept plan Holds kept told peer within (Refused (refusal_of fault)) work here
 
-  to : ((rest : List ℕ) (w : Work) → Holds w → Holds (hears_few told peer n rest w)) → (x : Option Peering) → Holds (hears_within told peer (hears_few told peer n) octets x work)
+  to : ((rest : List ℕ) (w : Work) → Holds w → Holds (hears_few plan told peer n rest w)) → (x : Option Peering) → Holds (hears_within plan told peer (hears_few plan told peer n) octets x work)
   to on None = here
   to on (Some p) = front on p (front_of p.session.max_pdu octets)
 
@@ -217,54 +419,66 @@ few_kept plan Holds kept told peer within (suc n) octets work here = to (λ rest
 pub record HasPeers (plan : Plan) (edge : EdgeState) : Type 0 where
   pub each : (peer : EdgeId) → has_end edge peer ≡ true → peer.0 < length plan.edges
 
-heard_kept : (plan : Plan) (Holds : Work → Type 0) → AreKept plan Holds → (told : Answers) (peer : EdgeId) (octets : List ℕ) (work : Work) → HasPeers plan work.edge → Holds work → Holds (octets_input told peer octets (work.edge.peering peer.0) work)
-heard_kept plan Holds kept told peer octets work peers here = to (work.edge.peering peer.0) refl where
-  to : (x : Option Peering) → work.edge.peering peer.0 ≡ x → Holds (octets_input told peer octets x work)
+heard_kept : (plan : Plan) (Holds : Work → Type 0) → AreKept plan Holds → IsChecked plan → (told : Answers) (peer : EdgeId) (octets : List ℕ) (work : Work) → HasPeers plan work.edge → Holds work → Holds (octets_input plan told peer octets (work.edge.peering peer.0) work)
+heard_kept plan Holds kept checked told peer octets work peers here = to (work.edge.peering peer.0) refl where
+  to : (x : Option Peering) → work.edge.peering peer.0 ≡ x → Holds (octets_input plan told peer octets x work)
   to None is = kept.idle work here
-  to (Some p) is = few_kept plan Holds kept told peer (peers.each peer (ap is_there is)) (suc (length (p.held ++ octets))) (p.held ++ octets) work here
+  to (Some p) is =
+      mends_kept plan Holds kept checked told (hears_on plan told peer octets (Some p) work)
+      (few_kept plan Holds kept checked told peer (peers.each peer (ap is_there is)) (suc (length (p.held ++ octets))) (p.held ++ octets) work here)
 
-lost_kept : (plan : Plan) (Holds : Work → Type 0) → AreKept plan Holds → (told : Answers) (peer : EdgeId) (work : Work) → HasPeers plan work.edge → Holds work → Holds (lost_input told peer work)
-lost_kept plan Holds kept told peer work peers here = by (has_end work.edge peer) refl where
-  by : (b : Bool) → has_end work.edge peer ≡ b → Holds (cond b (happens told peer (table.Closed reason.Closed) work) (idles work))
-  by true is = happens_kept plan Holds kept told peer (peers.each peer is) (table.Closed reason.Closed) work here
+lost_kept : (plan : Plan) (Holds : Work → Type 0) → AreKept plan Holds → IsChecked plan → (told : Answers) (peer : EdgeId) (work : Work) → HasPeers plan work.edge → Holds work → Holds (lost_input plan told peer work)
+lost_kept plan Holds kept checked told peer work peers here = by (has_end work.edge peer) refl where
+  by : (b : Bool) → has_end work.edge peer ≡ b → Holds (cond b (mends plan told (happens_with_ends told peer (table.Closed reason.Closed) work)) (idles work))
+  by true is = mends_kept plan Holds kept checked told (happens_with_ends told peer (table.Closed reason.Closed) work) (with_ends_kept plan Holds kept told peer (peers.each peer is) (table.Closed reason.Closed) work here)
   by false is = kept.idle work here
 
-connected_kept : (plan : Plan) (Holds : Work → Type 0) → AreKept plan Holds → (told : Answers) (peer : EdgeId) (work : Work) → Holds work → Holds (connected_input plan told peer work)
-connected_kept plan Holds kept told peer work here = by (are_joined plan work.edge.me.0 peer.0 && not (has_end work.edge peer)) where
-  between : (own other : Option EdgePlan) → slice_get plan.edges peer.0 ≡ other → Holds (connects_between told peer own other work)
+connected_kept : (plan : Plan) (Holds : Work → Type 0) → AreKept plan Holds → IsChecked plan → (told : Answers) (peer : EdgeId) (work : Work) → Holds work → Holds (connected_input plan told peer work)
+connected_kept plan Holds kept checked told peer work here = by (are_joined plan work.edge.me.0 peer.0 && not (has_end work.edge peer)) where
+  between : (own other : Option EdgePlan) → slice_get plan.edges peer.0 ≡ other → Holds (connects_between plan told peer own other work)
   between None other is = kept.idle work here
   between (Some own) None is = kept.idle work here
   between (Some own) (Some other) is =
       let within : peer.0 < length plan.edges = slice_get_within plan.edges peer.0 other is in
       let stands : Work = changes (with_peering peer (Some (opened_with own other))) work in
-      happens_kept plan Holds kept told peer within table.Start (gives (Session peer name.Initialized) stands)
-      (kept.session peer name.Initialized stands within (kept.changed (with_peering peer (Some (opened_with own other))) work here))
+      mends_kept plan Holds kept checked told (happens_with_ends told peer table.Start (gives (Session peer name.Initialized) stands))
+      (with_ends_kept plan Holds kept told peer within table.Start (gives (Session peer name.Initialized) stands)
+      (kept.session peer name.Initialized stands within (kept.changed (with_peering peer (Some (opened_with own other))) work here)))
 
-  by : (b : Bool) → Holds (cond b (connects_between told peer (slice_get plan.edges work.edge.me.0) (slice_get plan.edges peer.0) work) (idles work))
+  by : (b : Bool) → Holds (cond b (connects_between plan told peer (slice_get plan.edges work.edge.me.0) (slice_get plan.edges peer.0) work) (idles work))
   by true = between (slice_get plan.edges work.edge.me.0) (slice_get plan.edges peer.0) refl
   by false = kept.idle work here
 
 sessions_kept : (plan : Plan) (Holds : Work → Type 0) → AreKept plan Holds → (told : Answers) (place count : ℕ) (work : Work) → place + count ≤ length plan.edges → Holds work → Holds (ticks_sessions told place count work)
 sessions_kept plan Holds kept told place zero work within here = here
 sessions_kept plan Holds kept told place (suc count) work within here =
-    sessions_kept plan Holds kept told (place + 1) count (happens told (record { 0 = place }) Ticked work) (omega (arith, within))
-    (happens_kept plan Holds kept told (record { 0 = place }) (omega (arith, within)) Ticked work here)
+    sessions_kept plan Holds kept told (place + 1) count (happens_with_ends told (record { 0 = place }) Ticked work) (omega (arith, within))
+    (with_ends_kept plan Holds kept told (record { 0 = place }) (omega (arith, within)) Ticked work here)
 
-step_kept : (plan : Plan) (Holds : Work → Type 0) → AreKept plan Holds → (told : Answers) (given : Input) (work : Work) → HasPeers plan work.edge → Holds work → Holds (edge_step plan told given work)
-step_kept plan Holds kept told (input.Connected peer) work peers here = connected_kept plan Holds kept told peer work here
-step_kept plan Holds kept told (input.Octets peer bytes) work peers here = heard_kept plan Holds kept told peer bytes.now work peers here
-step_kept plan Holds kept told (input.Lost peer) work peers here = lost_kept plan Holds kept told peer work peers here
-step_kept plan Holds kept told input.Restart work peers here = kept.changed restarted work here
-step_kept plan Holds kept told input.Tick work peers here =
-    kept.changed (forgetting plan) (ticks_sessions told 0 (length plan.edges) (changes counted work))
-    (sessions_kept plan Holds kept told 0 (length plan.edges) (changes counted work) (omega arith) (kept.changed counted work here))
-step_kept plan Holds kept told (input.Frame circuit bytes) work peers here = frame_kept plan Holds kept told circuit bytes.now (circuit_row plan circuit) work here
-step_kept plan Holds kept told (input.Packet bytes) work peers here = kept.idle work here
-step_kept plan Holds kept told (input.Wire wire on) work peers here = kept.idle work here
-step_kept plan Holds kept told (input.Circuit circuit on) work peers here = circuit_kept plan Holds kept circuit on (circuit_row plan circuit) work here
-step_kept plan Holds kept told (input.Status wire bits) work peers here = kept.idle work here
-step_kept plan Holds kept told (input.Priority wire priority) work peers here = kept.idle work here
-step_kept plan Holds kept told (input.Ping wire) work peers here = kept.idle work here
+changed_kept : (plan : Plan) (Holds : Work → Type 0) → AreKept plan Holds → IsChecked plan → (told : Answers) (change : EdgeState → EdgeState) (work : Work) (b : Bool) → Holds work → Holds (cond b (mends plan told (changes change work)) (idles work))
+changed_kept plan Holds kept checked told change work true here = mends_kept plan Holds kept checked told (changes change work) (kept.changed change work here)
+changed_kept plan Holds kept checked told change work false here = kept.idle work here
+
+circuit_kept : (plan : Plan) (Holds : Work → Type 0) → AreKept plan Holds → IsChecked plan → (told : Answers) (circuit : CircuitId) (on : Bool) (row : Option CircuitPlan) (work : Work) → Holds work → Holds (circuit_input plan told circuit on row work)
+circuit_kept plan Holds kept checked told circuit on None work here = kept.idle work here
+circuit_kept plan Holds kept checked told circuit on (Some row) work here = changed_kept plan Holds kept checked told (turned plan circuit row on) work (is_own work.edge row && not (is_same on (is_on work.edge circuit))) here
+
+step_kept : (plan : Plan) (Holds : Work → Type 0) → AreKept plan Holds → IsChecked plan → (told : Answers) (given : Input) (work : Work) → HasPeers plan work.edge → Holds work → Holds (edge_step plan told given work)
+step_kept plan Holds kept checked told (input.Connected peer) work peers here = connected_kept plan Holds kept checked told peer work here
+step_kept plan Holds kept checked told (input.Octets peer bytes) work peers here = heard_kept plan Holds kept checked told peer bytes.now work peers here
+step_kept plan Holds kept checked told (input.Lost peer) work peers here = lost_kept plan Holds kept checked told peer work peers here
+step_kept plan Holds kept checked told input.Restart work peers here = kept.changed restarted work here
+step_kept plan Holds kept checked told input.Tick work peers here =
+    mends_kept plan Holds kept checked told (changes (forgetting plan) (ticks_sessions told 0 (length plan.edges) (changes counted work)))
+    (kept.changed (forgetting plan) (ticks_sessions told 0 (length plan.edges) (changes counted work))
+    (sessions_kept plan Holds kept told 0 (length plan.edges) (changes counted work) (omega arith) (kept.changed counted work here)))
+step_kept plan Holds kept checked told (input.Frame circuit bytes) work peers here = frame_kept plan Holds kept told circuit bytes.now (circuit_row plan circuit) work here
+step_kept plan Holds kept checked told (input.Packet bytes) work peers here = kept.idle work here
+step_kept plan Holds kept checked told (input.Wire wire on) work peers here = changed_kept plan Holds kept checked told (turned_wire wire on) work (passes plan work.edge.me wire && not (is_same on (work.edge.wire_on wire.0))) here
+step_kept plan Holds kept checked told (input.Circuit circuit on) work peers here = circuit_kept plan Holds kept checked told circuit on (circuit_row plan circuit) work here
+step_kept plan Holds kept checked told (input.Status wire bits) work peers here = changed_kept plan Holds kept checked told (with_bits wire bits) work (ends_here plan work.edge.me wire && not (nat_eq bits (work.edge.bits wire.0))) here
+step_kept plan Holds kept checked told (input.Priority wire priority) work peers here = kept.idle work here
+step_kept plan Holds kept checked told (input.Ping wire) work peers here = kept.idle work here
 
 -- ---- effects name what is in the plan
 
@@ -280,6 +494,7 @@ fit_kept plan = record {
   left = λ circuit bytes w within here. fit-append plan w.effects (Left circuit bytes) here within;
   dropped = λ cause w here. fit-append plan w.effects (Dropped cause) here tt;
   session = λ peer state w within here. fit-append plan w.effects (Session peer state) here within;
+  wire = λ wire down w within here. fit-append plan w.effects (Wire wire down) here within;
   gone = λ peer w within here. fit-append plan w.effects (Closed peer) here within;
   said = λ peer bytes change w within here. fit-append plan w.effects (Said peer bytes) here within;
   refused = λ peer bytes w here. here;
@@ -330,6 +545,7 @@ tell_kept plan before = record {
   left = λ circuit bytes w within here. tells_same before w.calls w.effects (Left circuit bytes) refl here;
   dropped = λ cause w here. tells_same before w.calls w.effects (Dropped cause) refl here;
   session = λ peer state w within here. tells_same before w.calls w.effects (Session peer state) refl here;
+  wire = λ wire down w within here. tells_same before w.calls w.effects (Wire wire down) refl here;
   gone = λ peer w within here. tells_same before w.calls w.effects (Closed peer) refl here;
   said = λ peer bytes change w within here. tells_more before w.calls w.effects (Said peer bytes ∷ []) (call_of peer false bytes true) refl here;
   refused = λ peer bytes w here.
@@ -352,10 +568,14 @@ agrees_itself calls = record { each = λ k other within. ap (λ (c : LinkCall). 
 abbrev pub Steps : EdgeLists → EdgeLists → Input → Effects → List LinkCall → List LinkCall → Type 0
 Steps e now given effects before after = (told : Answers) → Agrees told after → worked now after effects ≡ edge_step e.plan told given (beginning (seen e) before)
 
-has_peers : (e : EdgeLists) → IsEdge e → HasPeers e.plan (seen e)
+there_of : (held : List ℕ) (d : Option Dialogue) → is_there (kept_with held d) ≡ true → is_there d ≡ true
+there_of held None there = there
+there_of held (Some d) there = refl
+
+has_peers : (e : EdgeLists) → IsEdge e → length e.control.dialogues ≡ length e.plan.edges → HasPeers e.plan (seen e)
 unfolding seen
-has_peers e is = record { each = λ peer there. omega (arith, within e.peerings peer.0 there, is.peerings) } where
-  within : (xs : List (Option Peering)) (k : ℕ) → is_there (view None xs k) ≡ true → k < length xs
+has_peers e is long = record { each = λ peer there. omega (arith, within e.control.dialogues peer.0 (there_of (view [] e.held peer.0) (view None e.control.dialogues peer.0) there), long) } where
+  within : (xs : List (Option Dialogue)) (k : ℕ) → is_there (view None xs k) ≡ true → k < length xs
   within [] k there = absurd (cc (there))
   within (x ∷ xs) zero there = omega arith
   within (x ∷ xs) (suc k) there = omega (arith, within xs k there)
@@ -364,13 +584,13 @@ pub steps_fit : (e now : EdgeLists) (given : Input) (effects : Effects) (before 
 unfolding worked
 steps_fit e now given effects before after is steps =
     subst (λ (w : Work). AllFit e.plan w.effects) (sym (steps (told_by after) (agrees_itself after)))
-    (step_kept e.plan (λ w. AllFit e.plan w.effects) (fit_kept e.plan) (told_by after) given (beginning (seen e) before) (has_peers e is) tt)
+    (step_kept e.plan (λ w. AllFit e.plan w.effects) (fit_kept e.plan) is.checked (told_by after) given (beginning (seen e) before) (has_peers e is is.dialogues) tt)
 
 pub steps_tell : (e now : EdgeLists) (given : Input) (effects : Effects) (before after : List LinkCall) → IsEdge e → Steps e now given effects before after → TellsTaken before after effects.list
 unfolding worked
 steps_tell e now given effects before after is steps =
     subst (λ (w : Work). TellsTaken before w.calls w.effects) (sym (steps (told_by after) (agrees_itself after)))
-    (step_kept e.plan (λ w. TellsTaken before w.calls w.effects) (tell_kept e.plan before) (told_by after) given (beginning (seen e) before) (has_peers e is)
+    (step_kept e.plan (λ w. TellsTaken before w.calls w.effects) (tell_kept e.plan before) is.checked (told_by after) given (beginning (seen e) before) (has_peers e is is.dialogues)
     (record { more = []; joined = sym (append-nil before); told = refl }))
 
 pub steps_local : (e now : EdgeLists) (given : Input) (effects : Effects) (before after : List LinkCall) → Steps e now given effects before after → StaysLocal e.plan given effects.list

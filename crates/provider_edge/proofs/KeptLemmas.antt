@@ -19,15 +19,18 @@ use Rattle.mac_table.specs.Addresses.{NoneAfter, is_young}
 use Rattle.mac_table.proofs.AddressLemmas.{none_after_filtered, none_after_later}
 use Rattle.vsi_bridge.specs.BridgeState.{BridgeState}
 use Rattle.edge_model.specs.Frame.{port_forwards}
-use Rattle.edge_model.specs.State.{EdgeState, Peering, addresses_of, empty_edge, put_at, with_addresses, with_circuit, with_learned}
+use Rattle.edge_model.specs.State.{EdgeState, addresses_of, empty_edge, put_at, with_addresses, with_circuit, with_learned}
 use Rattle.edge_model.specs.Tick.{aged, forgetting}
+use Rattle.pw_ends.specs.Ends.{seen_ends}
 use Rattle.provider_edge.specs.declared.domain.Domain.{Domain}
 use Rattle.provider_edge.specs.Domain.{IsDomain, IsKept, IsNew, AreNew, aged_domain, aged_kept, is_found, KeptNotAfter}
 use Rattle.provider_edge.specs.Invariant.{IsEdge}
-use Rattle.provider_edge.specs.Lists.{EdgeLists, entries_of, own_service, seen, view}
+use Rattle.provider_edge.specs.Control.{ControlLists, IsNewControl, controlled, opened_control}
+use Rattle.provider_edge.specs.Lists.{EdgeLists, entries_of, no_edge, own_service, rest_of, seen}
+use Rattle.provider_edge.specs.Views.{view}
 use Rattle.provider_edge.proofs.OwnLemmas.{own_port, own_row, own_within}
 use Rattle.provider_edge.proofs.PortLemmas.{forwards_same, turned_elsewhere, turned_port}
-use Rattle.provider_edge.proofs.Views.{view_at, view_set}
+use Rattle.provider_edge.proofs.Views.{past_end, same_read, view_at, view_set}
 
 -- ---- an edge that is the same but for what is learned, and for time
 
@@ -48,7 +51,7 @@ kept_same plan a b service (Some domain) me on time is = domain_same plan a b se
 
 pub seen_put : (e : EdgeLists) (service : ServiceId) (domain : Domain) → service.0 < length e.domains → seen (record e { domains = slice_set e.domains service.0 (Some domain) }) ≡ with_addresses service domain.bridge.entries (seen e)
 unfolding seen with_addresses
-seen_put e service domain within = λ i. record { me = e.me; circuit_on = view true e.circuits_on; learned = λ k. learned k i; ticks = e.ticks; peering = view None e.peerings }
+seen_put e service domain within = λ i. record (seen e) { learned = λ k. learned k i }
   where
     chosen : (b : Bool) (other : Option Domain) → entries_of (cond b (Some domain) other) ≡ cond b domain.bridge.entries (entries_of other)
     chosen true other = refl
@@ -65,7 +68,10 @@ edge_put e service domain is within here =
     record {
       checked = is.checked;
       circuits = is.circuits;
-      peerings = is.peerings;
+      plan = is.plan;
+      me = is.me;
+      dialogues = is.dialogues;
+      held = is.held;
       services = length-set e.domains service.0 (Some domain) ∙ is.services;
       domains = λ k below. elim (cases_Bool (nat_eq k service.0)) [
         | inl same ↦
@@ -85,7 +91,10 @@ unfolding seen
 edge_later e now time is = record {
   checked = is.checked;
   circuits = is.circuits;
-  peerings = is.peerings;
+  plan = is.plan;
+  me = is.me;
+  dialogues = is.dialogues;
+  held = is.held;
   services = is.services;
   domains = λ k below. kept_same e.plan (seen e) (seen (record e { ticks = now })) (record { 0 = k }) (view None e.domains k) refl refl time (is.domains k below);
 }
@@ -112,17 +121,15 @@ unfolding seen
 edge_aged e is = record {
   checked = is.checked;
   circuits = is.circuits;
-  peerings = is.peerings;
+  plan = is.plan;
+  me = is.me;
+  dialogues = is.dialogues;
+  held = is.held;
   services = length-map e.domains (aged_kept e.ticks) ∙ is.services;
   domains = λ k below.
       subst (λ (kept : Option Domain). IsKept e.plan (seen (record e { domains = map (aged_kept e.ticks) e.domains })) (record { 0 = k }) kept) (sym (view_aged e.ticks e.domains k))
       (kept_aged e.plan (seen e) (seen (record e { domains = map (aged_kept e.ticks) e.domains })) (record { 0 = k }) (view None e.domains k) refl refl refl (is.domains k below));
 }
-
-pub past_end : {X : Type 0} (d : X) (xs : List X) (k : ℕ) → length xs ≤ k → view d xs k ≡ d
-past_end d [] k past = refl
-past_end d (x ∷ xs) zero past = absurd (omega arith)
-past_end d (x ∷ xs) (suc k) past = past_end d xs k (omega arith)
 
 none_past : {X : Type 0} (xs : List X) (k : ℕ) → slice_get xs k ≡ None → length xs ≤ k
 none_past [] k is = omega arith
@@ -138,7 +145,7 @@ entries_aged plan edge service (Some domain) (Some row) at past is = ap (λ (n :
 
 pub seen_aged : (e : EdgeLists) → IsEdge e → seen (record e { domains = map (aged_kept e.ticks) e.domains }) ≡ forgetting e.plan (seen e)
 unfolding seen with_learned
-seen_aged e is = λ i. record { me = e.me; circuit_on = view true e.circuits_on; learned = λ k. learned k i; ticks = e.ticks; peering = view None e.peerings }
+seen_aged e is = λ i. record (seen e) { learned = λ k. learned k i }
   where
     within : (k : ℕ) (row : Option ServicePlan) → slice_get e.plan.services k ≡ row → entries_of (aged_kept e.ticks (view None e.domains k)) ≡ aged e.ticks row (entries_of (view None e.domains k))
     within k None at =
@@ -149,12 +156,6 @@ seen_aged e is = λ i. record { me = e.me; circuit_on = view true e.circuits_on;
 
     learned : (k : ℕ) → entries_of (view None (map (aged_kept e.ticks) e.domains) k) ≡ aged e.ticks (slice_get e.plan.services k) (entries_of (view None e.domains k))
     learned k = ap entries_of (view_aged e.ticks e.domains k) ∙ within k (slice_get e.plan.services k) refl
-
--- what is read within does not depend on the value past the end
-pub same_read : {X : Type 0} (xs : List X) (k : ℕ) (d other : X) → k < length xs → slice_index_or xs k d ≡ slice_index_or xs k other
-same_read [] k d other within = absurd (omega arith)
-same_read (x ∷ xs) zero d other within = refl
-same_read (x ∷ xs) (suc k) d other within = same_read xs k d other (omega arith)
 
 -- no address came after the edge's tick
 pub none_later : (e : EdgeLists) → IsEdge e → All (KeptNotAfter e.ticks) e.domains
@@ -173,13 +174,8 @@ all_on zero k = refl
 all_on (suc n) zero = refl
 all_on (suc n) (suc k) = all_on n k
 
-none_kept : (n k : ℕ) → view {X = Option Peering} None (replicate n None) k ≡ None
-none_kept zero k = refl
-none_kept (suc n) zero = refl
-none_kept (suc n) (suc k) = none_kept n k
-
-abbrev pub new_edge : Plan → EdgeId → List Bool → List (Option Domain) → List (Option Peering) → EdgeLists
-new_edge plan me on domains peerings = record { plan = plan; me = me; circuits_on = on; domains = domains; peerings = peerings; ticks = 0; stopped = false }
+abbrev pub new_edge : Plan → EdgeId → List Bool → List (Option Domain) → ControlLists → List (List ℕ) → EdgeLists
+new_edge plan me on domains control held = record { plan = plan; me = me; circuits_on = on; domains = domains; control = control; held = held; ticks = 0; stopped = false }
 
 nothing_learned : (plan : Plan) (me : EdgeId) (service : ServiceId) (years : ℕ) (kept : Option Domain) → IsNew plan me service years kept → entries_of kept ≡ []
 nothing_learned plan me service years None is = refl
@@ -191,18 +187,26 @@ learned_none plan me domains k None at are =
     rw past refl
 learned_none plan me domains k (Some row) at are = nothing_learned plan me (record { 0 = k }) row.age (view None domains k) (are.each k row (slice_get_within plan.services k row at) at)
 
-pub seen_new : (plan : Plan) (me : EdgeId) (on : List Bool) (domains : List (Option Domain)) (peerings : List (Option Peering)) → on ≡ replicate (length plan.circuits) true → AreNew plan me (length plan.services) domains → peerings ≡ replicate (length plan.edges) None
-    → seen (new_edge plan me on domains peerings) ≡ empty_edge me
-unfolding seen
-seen_new plan me on domains peerings circuits are none = λ i. record {
+pub seen_new : (plan : Plan) (me : EdgeId) (on : List Bool) (domains : List (Option Domain)) (control : ControlLists) (held : List (List ℕ)) → on ≡ replicate (length plan.circuits) true → AreNew plan me (length plan.services) domains → IsNewControl plan me control
+    → seen (new_edge plan me on domains control held) ≡ empty_edge plan me
+unfolding seen controlled opened_control
+seen_new plan me on domains control held circuits are opened = λ i. record {
   me = me;
   circuit_on = λ k. (ap (λ (list : List Bool). view true list k) circuits ∙ all_on (length plan.circuits) k) i;
   learned = λ k. learned_none plan me domains k (slice_get plan.services k) refl are i;
   ticks = 0;
-  peering = λ k. (ap (λ (list : List (Option Peering)). view None list k) none ∙ none_kept (length plan.edges) k) i;
+  peering = (is i).peering;
+  wire_on = (is i).wire_on;
+  bits = (is i).bits;
+  ends = (is i).ends;
+  told_down = (is i).told_down;
+  next_label = (is i).next_label;
 }
+  where
+    is : controlled control (rest_of (new_edge plan me on domains control held)) ≡ opened_control plan me (rest_of (new_edge plan me on domains control held))
+    is = opened.is (rest_of (new_edge plan me on domains control held))
 
-kept_new : (plan : Plan) (me : EdgeId) (edge : EdgeState) (service : ServiceId) (row : ServicePlan) (kept : Option Domain) → service_row plan service ≡ Some row → edge ≡ empty_edge me → IsNew plan me service row.age kept → IsKept plan edge service kept
+kept_new : (plan : Plan) (me : EdgeId) (edge : EdgeState) (service : ServiceId) (row : ServicePlan) (kept : Option Domain) → service_row plan service ≡ Some row → edge ≡ empty_edge plan me → IsNew plan me service row.age kept → IsKept plan edge service kept
 kept_new plan me edge service row None at same is = ap (λ (e : EdgeState). ports_of plan service e.me) same ∙ is
 kept_new plan me edge service row (Some domain) at same is =
     let ports : domain.bridge.ports ≡ ports_of plan service me = ap (λ (b : BridgeState). b.ports) is.bridge in
@@ -212,16 +216,19 @@ kept_new plan me edge service row (Some domain) at same is =
       age = λ other found.
           let one : row ≡ other = cc (at, found) in
           ap (λ (b : BridgeState). b.age) is.bridge ∙ ap (λ (r : ServicePlan). r.age) one;
-      forwarding = λ p. is.forwarding p ∙ ap (λ (ps : List Port). port_forwards plan (empty_edge me) ps p) (sym ports);
+      forwarding = λ p. is.forwarding p ∙ ap (λ (ps : List Port). port_forwards plan (empty_edge plan me) ps p) (sym ports);
       ticks = subst (λ (b : BridgeState). NoneAfter 0 b.entries) (sym is.bridge) (λ k d within. absurd (omega arith));
     })
 
-pub edge_new : (plan : Plan) (me : EdgeId) (on : List Bool) (domains : List (Option Domain)) (peerings : List (Option Peering)) → IsChecked plan → on ≡ replicate (length plan.circuits) true → AreNew plan me (length plan.services) domains → peerings ≡ replicate (length plan.edges) None
-    → IsEdge (new_edge plan me on domains peerings)
-edge_new plan me on domains peerings checked circuits are none = record {
+pub edge_new : (plan : Plan) (me : EdgeId) (on : List Bool) (domains : List (Option Domain)) (control : ControlLists) (held : List (List ℕ)) → IsChecked plan → on ≡ replicate (length plan.circuits) true → AreNew plan me (length plan.services) domains → IsNewControl plan me control
+    → held ≡ replicate (length plan.edges) [] → IsEdge (new_edge plan me on domains control held)
+edge_new plan me on domains control held checked circuits are opened none = record {
   checked = checked;
   circuits = ap length circuits ∙ long true (length plan.circuits);
-  peerings = ap length none ∙ long None (length plan.edges);
+  plan = opened.keeps;
+  me = opened.here;
+  dialogues = opened.count;
+  held = ap length none ∙ long [] (length plan.edges);
   services = are.len;
   domains = λ k below. of k (slice_get plan.services k) refl below;
 }
@@ -230,9 +237,14 @@ edge_new plan me on domains peerings checked circuits are none = record {
     long x zero = refl
     long x (suc n) = ap suc (long x n)
 
-    of : (k : ℕ) (row : Option ServicePlan) → slice_get plan.services k ≡ row → k < length plan.services → IsKept plan (seen (new_edge plan me on domains peerings)) (record { 0 = k }) (view None domains k)
+    of : (k : ℕ) (row : Option ServicePlan) → slice_get plan.services k ≡ row → k < length plan.services → IsKept plan (seen (new_edge plan me on domains control held)) (record { 0 = k }) (view None domains k)
     of k None at below = absurd (omega (arith, none_past plan.services k at))
-    of k (Some row) at below = kept_new plan me (seen (new_edge plan me on domains peerings)) (record { 0 = k }) row (view None domains k) at (seen_new plan me on domains peerings circuits are none) (are.each k row below at)
+    of k (Some row) at below = kept_new plan me (seen (new_edge plan me on domains control held)) (record { 0 = k }) row (view None domains k) at (seen_new plan me on domains control held circuits are opened) (are.each k row below at)
+
+-- an edge that has no place in its plan is as one before its first input
+pub no_edge_seen : (plan : Plan) (me : EdgeId) → seen (no_edge plan me) ≡ empty_edge plan me
+unfolding seen seen_ends
+no_edge_seen plan me = refl
 
 -- ---- a circuit is turned
 
@@ -303,13 +315,7 @@ pub seen_turned : (e : EdgeLists) (circuit : CircuitId) (service : ServiceId) (d
     → circuit.0 < length e.circuits_on → service.0 < length e.domains → view None e.domains service.0 ≡ Some domain → after.bridge ≡ domain.bridge
     → seen (turned_edge e circuit service on after) ≡ with_circuit circuit on (seen e)
 unfolding seen with_circuit
-seen_turned e circuit service domain after on within place there bridge = λ i. record {
-  me = e.me;
-  circuit_on = view_set true e.circuits_on circuit.0 on within i;
-  learned = λ k. learned k i;
-  ticks = e.ticks;
-  peering = view None e.peerings;
-}
+seen_turned e circuit service domain after on within place there bridge = λ i. record (seen e) { circuit_on = view_set true e.circuits_on circuit.0 on within i; learned = λ k. learned k i }
   where
     same : (k : ℕ) (b : Bool) → nat_eq k service.0 ≡ b → entries_of (cond b (Some after) (view None e.domains k)) ≡ entries_of (view None e.domains k)
     same k false is = refl
@@ -327,7 +333,10 @@ pub edge_turned : (e : EdgeLists) (circuit : CircuitId) (service : ServiceId) (d
 edge_turned e circuit service domain after on is own within place there bridge forward = record {
   checked = is.checked;
   circuits = length-set e.circuits_on circuit.0 on ∙ is.circuits;
-  peerings = is.peerings;
+  plan = is.plan;
+  me = is.me;
+  dialogues = is.dialogues;
+  held = is.held;
   services = length-set e.domains service.0 (Some after) ∙ is.services;
   domains = λ k below.
       subst (λ (state : EdgeState). IsKept e.plan state (record { 0 = k }) (view None (slice_set e.domains service.0 (Some after)) k)) (sym (seen_turned e circuit service domain after on within place there bridge))
@@ -383,7 +392,16 @@ bridge_past e service is found = slice_get_past e.plan.services service.0 (omega
 
 pub edge_stopped : (e : EdgeLists) (stopped : Bool) → IsEdge e → IsEdge (record e { stopped = stopped })
 unfolding seen
-edge_stopped e stopped is = record { checked = is.checked; circuits = is.circuits; peerings = is.peerings; services = is.services; domains = is.domains }
+edge_stopped e stopped is = record {
+  checked = is.checked;
+  circuits = is.circuits;
+  plan = is.plan;
+  me = is.me;
+  dialogues = is.dialogues;
+  held = is.held;
+  services = is.services;
+  domains = is.domains;
+}
 
 -- where no bridge is lent, and where one is
 abbrev pub HasNone : EdgeLists → ServiceId → Type 0

@@ -22,11 +22,10 @@ use Rattle.session_core.proofs.PutLemmas.{replies_are_put}
 use Rattle.edge_model.specs.declared.effect.Effect.{Effect}
 use Rattle.edge_model.specs.declared.effect.Effect.TheVariants.{Session, Closed as Gone}
 use Rattle.edge_model.specs.Put.{Spoken, put_replies, put_reply}
-use Rattle.edge_model.specs.Hear.{had_put}
-use Rattle.edge_model.specs.Session.{comes_of, ends, happens, happens_to, is_same_phase, tells_change, went_on, with_session}
+use Rattle.edge_model.specs.Session.{had_put, comes_of, ends, happens, happens_to, is_same_phase, tells_change, went_on, with_session}
 use Rattle.edge_model.specs.State.{EdgeState, Peering, with_peering}
 use Rattle.edge_model.specs.Work.{Answers, Work, changes, gives}
-use Rattle.provider_edge.specs.Peering.{Dialogue, IsBetween, StandsBetween, at_peer, having_put, kept_with, next_state, reason_in, settled, state_of}
+use Rattle.provider_edge.specs.Peering.{Dialogue, IsBetween, StandsBetween, at_peer, had_spoken, having_put, kept_with, next_state, reason_in, settled, state_of}
 use Rattle.provider_edge.proofs.SpeakerLemmas.{changed_at, peer_of, put_twice}
 
 -- ---- what is known of every outcome
@@ -222,33 +221,33 @@ pub map_ok : {A E : Type 0} (P Q : A → Type 0) (r : Result A E) → ((x : A) �
 map_ok P Q (Ok x) more here = more x here
 map_ok P Q (Err stop) more here = tt
 
--- ---- one reply is put
+-- ---- one message is put apart from the events
 
-pub put_on : (told : Answers) (peer : EdgeId) (held : List ℕ) (between : Peers) (view now : SessionView) (id after : ℕ) (taken : Bool) (reply : Reply) (edge : EdgeState) (calls new : List LinkCall) (out given : List Effect)
+pub put_on : (does : Work → Spoken) (peer : EdgeId) (held : List ℕ) (between other : Peers) (view now : SessionView) (id after : ℕ) (taken : Bool) (edge : EdgeState) (calls new : List LinkCall) (out given : List Effect)
     → StandsBetween between view → now ≡ view_next view Spoke → taken ≡ true
-    → ((s : SessionState) → s.peers ≡ between → put_reply told peer reply (at_peer peer (kept_with held (Some (record { session = s; next_id = id }))) edge calls out)
+    → ((s : SessionState) → s.peers ≡ between → does (at_peer peer (kept_with held (Some (record { session = s; next_id = id }))) edge calls out)
     ≡ record { work = at_peer peer (kept_with held (Some (record { session = having_put taken s; next_id = after }))) edge new given; failed = not taken })
-    → at_peer peer (kept_with held (Some (record { session = state_of between now; next_id = after }))) edge new given
-    ≡ had_put peer (put_reply told peer reply (at_peer peer (kept_with held (Some (record { session = state_of between view; next_id = id }))) edge calls out))
-put_on told peer held between (EndedBy why) now id after taken reply edge calls new out given stands is took put = absurd stands
-put_on told peer held between (Stands s) now id after false reply edge calls new out given stands is took put = absurd (cc (took))
-put_on told peer held between (Stands s) now id after true reply edge calls new out given stands is took put =
-    ap (λ (v : SessionView). at_peer peer (kept_with held (Some (record { session = state_of between v; next_id = after }))) edge new given) (spoken_is (Stands s) now s refl is)
-    ∙ ap (had_put peer) (sym (put s stands))
+    → record { work = at_peer peer (kept_with held (Some (record { session = state_of other now; next_id = after }))) edge new given; failed = false }
+    ≡ had_spoken peer (does (at_peer peer (kept_with held (Some (record { session = state_of between view; next_id = id }))) edge calls out))
+put_on does peer held between other (EndedBy why) now id after taken edge calls new out given stands is took put = absurd stands
+put_on does peer held between other (Stands s) now id after false edge calls new out given stands is took put = absurd (cc (took))
+put_on does peer held between other (Stands s) now id after true edge calls new out given stands is took put =
+    ap (λ (v : SessionView). record { work = at_peer peer (kept_with held (Some (record { session = state_of other v; next_id = after }))) edge new given; failed = false }) (spoken_is (Stands s) now s refl is)
+    ∙ ap (had_spoken peer) (sym (put s stands))
 
-pub put_off : (told : Answers) (peer : EdgeId) (held : List ℕ) (between : Peers) (view : SessionView) (id after : ℕ) (taken : Bool) (reply : Reply) (edge : EdgeState) (calls new : List LinkCall) (out mid given : List Effect)
+pub put_off : (does : Work → Spoken) (peer : EdgeId) (held : List ℕ) (between : Peers) (view : SessionView) (id after : ℕ) (taken : Bool) (edge : EdgeState) (calls new : List LinkCall) (out mid given : List Effect)
     → StandsBetween between view → taken ≡ false
-    → ((s : SessionState) → s.peers ≡ between → put_reply told peer reply (at_peer peer (kept_with held (Some (record { session = s; next_id = id }))) edge calls out)
+    → ((s : SessionState) → s.peers ≡ between → does (at_peer peer (kept_with held (Some (record { session = s; next_id = id }))) edge calls out)
     ≡ record { work = at_peer peer (kept_with held (Some (record { session = having_put taken s; next_id = after }))) edge new mid; failed = not taken })
     → given ≡ (mid ++ Session peer (name.Ended reason.LinkFault) ∷ []) ++ Gone peer ∷ []
-    → at_peer peer None edge new given
-    ≡ had_put peer (put_reply told peer reply (at_peer peer (kept_with held (Some (record { session = state_of between view; next_id = id }))) edge calls out))
-put_off told peer held between (EndedBy why) id after taken reply edge calls new out mid given stands refused put gave = absurd stands
-put_off told peer held between (Stands s) id after true reply edge calls new out mid given stands refused put gave = absurd (cc (refused))
-put_off told peer held between (Stands s) id after false reply edge calls new out mid given stands refused put gave =
-    ap (at_peer peer None edge new) gave
-    ∙ (sym (ended_at peer reason.LinkFault (kept_with held (Some (record { session = s; next_id = after }))) edge new mid)
-    ∙ ap (had_put peer) (sym (put s stands)))
+    → record { work = at_peer peer None edge new given; failed = true }
+    ≡ had_spoken peer (does (at_peer peer (kept_with held (Some (record { session = state_of between view; next_id = id }))) edge calls out))
+put_off does peer held between (EndedBy why) id after taken edge calls new out mid given stands refused put gave = absurd stands
+put_off does peer held between (Stands s) id after true edge calls new out mid given stands refused put gave = absurd (cc (refused))
+put_off does peer held between (Stands s) id after false edge calls new out mid given stands refused put gave =
+    ap (λ (l : List Effect). record { work = at_peer peer None edge new l; failed = true }) gave
+    ∙ (ap (λ (w : Work). record { work = w; failed = true }) (sym (ended_at peer reason.LinkFault (kept_with held (Some (record { session = s; next_id = after }))) edge new mid))
+    ∙ ap (had_spoken peer) (sym (put s stands)))
 
 -- ---- the connection is lost
 

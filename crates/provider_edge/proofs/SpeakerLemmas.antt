@@ -5,6 +5,7 @@ use Rattle.std.specs.List.{AllByRecursion}
 use Rattle.net_base.specs.declared.outside.link_call.LinkCall.{LinkCall}
 use Rattle.net_base.specs.declared.plan.places.EdgeId.{EdgeId}
 use Rattle.net_base.specs.outside.Link.{call_of}
+use Rattle.ldp_grammar.specs.declared.message.Message.{Message}
 use Rattle.ldp_grammar.specs.Written.{written}
 use Rattle.session_core.specs.declared.peers.Peers.{Peers}
 use Rattle.session_core.specs.declared.reply.Reply.{Reply}
@@ -12,10 +13,10 @@ use Rattle.session_core.specs.Messages.{HasData, message_of}
 use Rattle.session_core.specs.State.{SessionState}
 use Rattle.edge_model.specs.declared.effect.Effect.{Effect}
 use Rattle.edge_model.specs.declared.effect.Effect.TheVariants.{Said}
-use Rattle.edge_model.specs.Put.{Spoken, following, having_spoken, octets_of, platform_of, put_octets, put_replies, put_reply, put_reply_to, puts_on, with_spoken}
+use Rattle.edge_model.specs.Put.{Spoken, following, having_spoken, message_octets_of, octets_of, platform_of, put_octets, put_replies, put_reply, put_reply_to, puts_on, with_spoken}
 use Rattle.edge_model.specs.State.{EdgeState, Peering, put_at, with_peering}
 use Rattle.edge_model.specs.Work.{Agrees, Answers, GoesOn, Work, changes, gives, puts}
-use Rattle.provider_edge.specs.Peering.{Dialogue, at_peer, having_put, kept_with}
+use Rattle.provider_edge.specs.Peering.{Dialogue, at_peer, having_put, kept_with, put_message, put_message_to}
 use Rattle.provider_edge.proofs.EachLemmas.{past_push}
 
 -- ---- what is kept for one neighbour
@@ -85,29 +86,32 @@ same_octets : (peers : Peers) (reply : Reply) (next : ℕ) (bytes held : List �
     → octets_of (record { session = s; held = held; next_id = next }) reply ≡ bytes
 same_octets peers reply next bytes held s is between = ap (λ (p : Peers). written (message_of reply next p) (platform_of p.me)) between ∙ sym is
 
-pub put_taken : (told : Answers) (peer : EdgeId) (peers : Peers) (reply : Reply) (next : ℕ) (bytes held : List ℕ) (s : SessionState) (edge : EdgeState) (calls now : List LinkCall) (out : List Effect)
-    → bytes ≡ written (message_of reply next peers) (platform_of peers.me) → s.peers ≡ peers → now ≡ calls ++ call_of peer false bytes true ∷ [] → Agrees told now
-    → put_reply told peer reply (at_peer peer (kept_with held (Some (record { session = s; next_id = next }))) edge calls out)
-    ≡ record { work = at_peer peer (kept_with held (Some (record { session = having_put true s; next_id = following next }))) edge now (out ++ Said peer bytes ∷ []); failed = false }
-put_taken told peer peers reply next bytes held s edge calls now out octets between called agrees =
+pub reply_by_octets : (told : Answers) (peer : EdgeId) (peers : Peers) (reply : Reply) (next : ℕ) (bytes held : List ℕ) (s : SessionState) (edge : EdgeState) (calls : List LinkCall) (out : List Effect) (put : Spoken)
+    → bytes ≡ written (message_of reply next peers) (platform_of peers.me) → s.peers ≡ peers
+    → put_octets peer bytes (told (length calls)) (at_peer peer (kept_with held (Some (record { session = s; next_id = next }))) edge calls out) ≡ put
+    → put_reply told peer reply (at_peer peer (kept_with held (Some (record { session = s; next_id = next }))) edge calls out) ≡ put
+reply_by_octets told peer peers reply next bytes held s edge calls out put octets between is =
     let kept : Peering = record { session = s; held = held; next_id = next } in
     reply_at told peer reply kept edge calls out
-    ∙ (ap (λ (b : Bool). put_octets peer (octets_of kept reply) b (at_peer peer (Some kept) edge calls out)) (told_last told calls (call_of peer false bytes true) (subst (Agrees told) called agrees))
-    ∙ (ap (λ (o : List ℕ). put_octets peer o true (at_peer peer (Some kept) edge calls out)) (same_octets peers reply next bytes held s octets between)
-    ∙ (said_at peer kept bytes edge calls out
-    ∙ ap (λ (c : List LinkCall). record { work = at_peer peer (Some (having_spoken kept)) edge c (out ++ Said peer bytes ∷ []); failed = false }) (sym called))))
+    ∙ (ap (λ (o : List ℕ). put_octets peer o (told (length calls)) (at_peer peer (Some kept) edge calls out)) (same_octets peers reply next bytes held s octets between)
+    ∙ is)
 
-pub put_failed : (told : Answers) (peer : EdgeId) (peers : Peers) (reply : Reply) (next : ℕ) (bytes held : List ℕ) (s : SessionState) (edge : EdgeState) (calls now : List LinkCall) (out : List Effect)
-    → bytes ≡ written (message_of reply next peers) (platform_of peers.me) → s.peers ≡ peers → now ≡ calls ++ call_of peer false bytes false ∷ [] → Agrees told now
-    → put_reply told peer reply (at_peer peer (kept_with held (Some (record { session = s; next_id = next }))) edge calls out)
-    ≡ record { work = at_peer peer (kept_with held (Some (record { session = having_put false s; next_id = next }))) edge now out; failed = true }
-put_failed told peer peers reply next bytes held s edge calls now out octets between called agrees =
+-- ---- one message
+
+message_at : (told : Answers) (peer : EdgeId) (message : ℕ → Message) (kept : Peering) (edge : EdgeState) (calls : List LinkCall) (out : List Effect)
+    → put_message told peer message (at_peer peer (Some kept) edge calls out) ≡ put_octets peer (message_octets_of kept message) (told (length calls)) (at_peer peer (Some kept) edge calls out)
+unfolding at_peer
+message_at told peer message kept edge calls out = ap (λ (x : Option Peering). put_message_to told peer message x (at_peer peer (Some kept) edge calls out)) (read_peer peer (Some kept) edge)
+
+pub message_by_octets : (told : Answers) (peer : EdgeId) (peers : Peers) (message : ℕ → Message) (next : ℕ) (bytes held : List ℕ) (s : SessionState) (edge : EdgeState) (calls : List LinkCall) (out : List Effect) (put : Spoken)
+    → bytes ≡ written (message next) (platform_of peers.me) → s.peers ≡ peers
+    → put_octets peer bytes (told (length calls)) (at_peer peer (kept_with held (Some (record { session = s; next_id = next }))) edge calls out) ≡ put
+    → put_message told peer message (at_peer peer (kept_with held (Some (record { session = s; next_id = next }))) edge calls out) ≡ put
+message_by_octets told peer peers message next bytes held s edge calls out put octets between is =
     let kept : Peering = record { session = s; held = held; next_id = next } in
-    reply_at told peer reply kept edge calls out
-    ∙ (ap (λ (b : Bool). put_octets peer (octets_of kept reply) b (at_peer peer (Some kept) edge calls out)) (told_last told calls (call_of peer false bytes false) (subst (Agrees told) called agrees))
-    ∙ (ap (λ (o : List ℕ). put_octets peer o false (at_peer peer (Some kept) edge calls out)) (same_octets peers reply next bytes held s octets between)
-    ∙ (failed_at peer (Some kept) bytes edge calls out
-    ∙ ap (λ (c : List LinkCall). record { work = at_peer peer (Some kept) edge c out; failed = true }) (sym called))))
+    message_at told peer message kept edge calls out
+    ∙ (ap (λ (o : List ℕ). put_octets peer o (told (length calls)) (at_peer peer (Some kept) edge calls out)) (ap (λ (p : Peers). written (message next) (platform_of p.me)) between ∙ sym octets)
+    ∙ is)
 
 -- the front of a buffer in which octets were written
 take_front : (w rest : List ℕ) → take (length w) (w ++ rest) ≡ w
@@ -196,25 +200,33 @@ data_at (x ∷ replies) zero reply all at =
     subst HasData same all.0
 data_at (x ∷ replies) (suc place) reply all at = data_at replies place reply all.1 at
 
--- ---- a reply at the exits of the code
+-- ---- octets at the exits of the code
 
-pub was_failed : (told : Answers) (peer : EdgeId) (peers : Peers) (reply : Reply) (next : ℕ) (bytes slice held : List ℕ) (taken : Bool) (s : SessionState) (edge : EdgeState) (calls now : List LinkCall) (out : List Effect)
-    → bytes ≡ written (message_of reply next peers) (platform_of peers.me) → slice ≡ bytes → taken ≡ false → now ≡ calls ++ call_of peer false slice taken ∷ [] → s.peers ≡ peers → Agrees told now
-    → put_reply told peer reply (at_peer peer (kept_with held (Some (record { session = s; next_id = next }))) edge calls out)
+pub was_failed : (told : Answers) (peer : EdgeId) (next : ℕ) (bytes slice held : List ℕ) (taken : Bool) (s : SessionState) (edge : EdgeState) (calls now : List LinkCall) (out : List Effect)
+    → slice ≡ bytes → taken ≡ false → now ≡ calls ++ call_of peer false slice taken ∷ [] → Agrees told now
+    → put_octets peer bytes (told (length calls)) (at_peer peer (kept_with held (Some (record { session = s; next_id = next }))) edge calls out)
     ≡ record { work = at_peer peer (kept_with held (Some (record { session = s; next_id = next }))) edge now out; failed = true }
-was_failed told peer peers reply next bytes slice held true s edge calls now out octets same refused called between agrees = absurd (cc (refused))
-was_failed told peer peers reply next bytes slice held false s edge calls now out octets same refused called between agrees =
-    put_failed told peer peers reply next bytes held s edge calls now out octets between (called ∙ ap (λ (b : List ℕ). calls ++ call_of peer false b false ∷ []) same) agrees
+was_failed told peer next bytes slice held true s edge calls now out same refused called agrees = absurd (cc (refused))
+was_failed told peer next bytes slice held false s edge calls now out same refused called agrees =
+    let kept : Peering = record { session = s; held = held; next_id = next } in
+    let here : now ≡ calls ++ call_of peer false bytes false ∷ [] = called ∙ ap (λ (b : List ℕ). calls ++ call_of peer false b false ∷ []) same in
+    ap (λ (b : Bool). put_octets peer bytes b (at_peer peer (Some kept) edge calls out)) (told_last told calls (call_of peer false bytes false) (subst (Agrees told) here agrees))
+    ∙ (failed_at peer (Some kept) bytes edge calls out
+    ∙ ap (λ (c : List LinkCall). record { work = at_peer peer (Some kept) edge c out; failed = true }) (sym here))
 
-pub was_taken : (told : Answers) (peer : EdgeId) (peers : Peers) (reply : Reply) (next after : ℕ) (bytes slice held : List ℕ) (taken : Bool) (s : SessionState) (edge : EdgeState) (calls now : List LinkCall) (out given : List Effect)
-    → bytes ≡ written (message_of reply next peers) (platform_of peers.me) → slice ≡ bytes → taken ≡ true → now ≡ calls ++ call_of peer false slice taken ∷ [] → given ≡ out ++ Said peer bytes ∷ [] → after ≡ following next → s.peers ≡ peers → Agrees told now
-    → put_reply told peer reply (at_peer peer (kept_with held (Some (record { session = s; next_id = next }))) edge calls out)
+pub was_taken : (told : Answers) (peer : EdgeId) (next after : ℕ) (bytes slice held : List ℕ) (taken : Bool) (s : SessionState) (edge : EdgeState) (calls now : List LinkCall) (out given : List Effect)
+    → slice ≡ bytes → taken ≡ true → now ≡ calls ++ call_of peer false slice taken ∷ [] → given ≡ out ++ Said peer bytes ∷ [] → after ≡ following next → Agrees told now
+    → put_octets peer bytes (told (length calls)) (at_peer peer (kept_with held (Some (record { session = s; next_id = next }))) edge calls out)
     ≡ record { work = at_peer peer (kept_with held (Some (record { session = having_put true s; next_id = after }))) edge now given; failed = false }
-was_taken told peer peers reply next after bytes slice held false s edge calls now out given octets same refused called gave counted between agrees = absurd (cc (refused))
-was_taken told peer peers reply next after bytes slice held true s edge calls now out given octets same refused called gave counted between agrees =
-    put_taken told peer peers reply next bytes held s edge calls now out octets between (called ∙ ap (λ (b : List ℕ). calls ++ call_of peer false b true ∷ []) same) agrees
-    ∙ (ap (λ (l : List Effect). record { work = at_peer peer (kept_with held (Some (record { session = having_put true s; next_id = following next }))) edge now l; failed = false }) (sym gave)
-    ∙ ap (λ (n : ℕ). record { work = at_peer peer (kept_with held (Some (record { session = having_put true s; next_id = n }))) edge now given; failed = false }) (sym counted))
+was_taken told peer next after bytes slice held false s edge calls now out given same refused called gave counted agrees = absurd (cc (refused))
+was_taken told peer next after bytes slice held true s edge calls now out given same refused called gave counted agrees =
+    let kept : Peering = record { session = s; held = held; next_id = next } in
+    let here : now ≡ calls ++ call_of peer false bytes true ∷ [] = called ∙ ap (λ (b : List ℕ). calls ++ call_of peer false b true ∷ []) same in
+    ap (λ (b : Bool). put_octets peer bytes b (at_peer peer (Some kept) edge calls out)) (told_last told calls (call_of peer false bytes true) (subst (Agrees told) here agrees))
+    ∙ (said_at peer kept bytes edge calls out
+    ∙ (ap (λ (c : List LinkCall). record { work = at_peer peer (Some (having_spoken kept)) edge c (out ++ Said peer bytes ∷ []); failed = false }) (sym here)
+    ∙ (ap (λ (l : List Effect). record { work = at_peer peer (Some (having_spoken kept)) edge now l; failed = false }) (sym gave)
+    ∙ ap (λ (n : ℕ). record { work = at_peer peer (kept_with held (Some (record { session = having_put true s; next_id = n }))) edge now given; failed = false }) (sym counted))))
 
 -- ---- replies at the turns of the loop
 

@@ -17,6 +17,7 @@ use Rattle.edge_model.specs.declared.effect.Effect.TheVariants.{Dropped}
 use Rattle.edge_model.specs.declared.effects.Effects.{Effects}
 use Rattle.edge_model.specs.Circuit.{circuit_input, is_same, turned, without_port}
 use Rattle.edge_model.specs.Frame.{copies, copy_by, forwarded, frame_input, hearing, received, targets_of}
+use Rattle.edge_model.specs.Mend.{mends}
 use Rattle.edge_model.specs.State.{EdgeState, addresses_of, is_on, with_addresses, with_circuit}
 use Rattle.edge_model.specs.Work.{Answers, Work, beginning, changes, gives, idles}
 use Rattle.provider_edge.specs.Lists.{EdgeLists, Keeps, own_service, seen, worked}
@@ -35,44 +36,37 @@ keeps_both a b c first next = record { plan = next.plan ∙ first.plan; me = nex
 
 -- ---- circuits
 
-pub circuit_other : (e : EdgeLists) (circuit : CircuitId) (on : Bool) (row : Option CircuitPlan) (calls : List LinkCall) → own_service (seen e) row ≡ None → worked e calls (no_effects true) ≡ circuit_input e.plan circuit on row (beginning (seen e) calls)
+pub circuit_other : (e : EdgeLists) (told : Answers) (circuit : CircuitId) (on : Bool) (row : Option CircuitPlan) (calls : List LinkCall) → own_service (seen e) row ≡ None → worked e calls (no_effects true) ≡ circuit_input e.plan told circuit on row (beginning (seen e) calls)
 unfolding worked idles
-circuit_other e circuit on None calls none = refl
-circuit_other e circuit on (Some row) calls none = rw (other_row (seen e) row none) refl
+circuit_other e told circuit on None calls none = refl
+circuit_other e told circuit on (Some row) calls none = rw (other_row (seen e) row none) refl
 
-same_already : (on now : Bool) → beq now on ≡ true → is_same on now ≡ true
+pub same_already : (on now : Bool) → beq now on ≡ true → is_same on now ≡ true
 same_already true true same = refl
 same_already true false same = absurd (cc (same))
 same_already false true same = absurd (cc (same))
 same_already false false same = refl
 
-other_before : (on now : Bool) → beq now on ≡ false → is_same on now ≡ false
+pub other_before : (on now : Bool) → beq now on ≡ false → is_same on now ≡ false
 other_before true true other = absurd (cc (other))
 other_before true false other = refl
 other_before false true other = refl
 other_before false false other = absurd (cc (other))
 
-pub circuit_already : (e : EdgeLists) (circuit : CircuitId) (on : Bool) (row : Option CircuitPlan) (service : ServiceId) (calls : List LinkCall) → own_service (seen e) row ≡ Some service → beq (is_on (seen e) circuit) on ≡ true
-    → worked e calls (no_effects true) ≡ circuit_input e.plan circuit on row (beginning (seen e) calls)
+pub circuit_already : (e : EdgeLists) (told : Answers) (circuit : CircuitId) (on : Bool) (row : Option CircuitPlan) (service : ServiceId) (calls : List LinkCall) → own_service (seen e) row ≡ Some service → beq (is_on (seen e) circuit) on ≡ true
+    → worked e calls (no_effects true) ≡ circuit_input e.plan told circuit on row (beginning (seen e) calls)
 unfolding worked idles
-circuit_already e circuit on row service calls own same =
+circuit_already e told circuit on row service calls own same =
     let found = own_row (seen e) row service own in
     let already : is_same on (is_on (seen e) circuit) ≡ true = same_already on (is_on (seen e) circuit) same in
     rw (found.is, found.own, already) refl
 
-turned_is : (e now : EdgeLists) (circuit : CircuitId) (on : Bool) (row : Option CircuitPlan) (service : ServiceId) (calls : List LinkCall) (found : OwnRow (seen e) row service) → beq (is_on (seen e) circuit) on ≡ false
-    → seen now ≡ turned e.plan circuit found.circuit on (seen e)
-    → worked now calls (no_effects false) ≡ circuit_input e.plan circuit on row (beginning (seen e) calls)
-unfolding worked changes
-turned_is e now circuit on row service calls found other is =
+pub circuit_done : (e : EdgeLists) (told : Answers) (circuit : CircuitId) (on : Bool) (row : Option CircuitPlan) (service : ServiceId) (calls : List LinkCall) (work : Work) (found : OwnRow (seen e) row service) → beq (is_on (seen e) circuit) on ≡ false
+    → work ≡ mends e.plan told (changes (turned e.plan circuit found.circuit on) (beginning (seen e) calls))
+    → work ≡ circuit_input e.plan told circuit on row (beginning (seen e) calls)
+circuit_done e told circuit on row service calls work found other is =
     let before : is_same on (is_on (seen e) circuit) ≡ false = other_before on (is_on (seen e) circuit) other in
-    rw (found.is, found.own, before) (ap (λ (s : EdgeState). record { edge = s; calls = calls; effects = []; idle = false }) is)
-
-pub circuit_turned_on : (e now : EdgeLists) (circuit : CircuitId) (on : Bool) (row : Option CircuitPlan) (service : ServiceId) (calls : List LinkCall) → own_service (seen e) row ≡ Some service → beq (is_on (seen e) circuit) on ≡ false → on ≡ true
-    → seen now ≡ with_circuit circuit on (seen e)
-    → worked now calls (no_effects false) ≡ circuit_input e.plan circuit on row (beginning (seen e) calls)
-circuit_turned_on e now circuit true row service calls own other here is = turned_is e now circuit true row service calls (own_row (seen e) row service own) other is
-circuit_turned_on e now circuit false row service calls own other here is = absurd (cc (here))
+    rw (found.is, found.own, before) is
 
 -- an edge's own circuit stays its own
 pub still_own : (e mid : EdgeLists) (circuit : CircuitId) (on : Bool) (service : ServiceId) → own_service (seen e) (circuit_row e.plan circuit) ≡ Some service → Keeps e mid → seen mid ≡ with_circuit circuit on (seen e)
@@ -91,19 +85,19 @@ unfolding seen with_circuit
 forgets e circuit row service same =
     ap (λ (at : ServiceId). with_addresses at (without_port (position (is_circuit_port circuit) (ports_of e.plan at e.me)) (addresses_of (seen e) at)) (with_circuit circuit false (seen e))) (sym same)
 
-pub circuit_turned_off : (e mid now : EdgeLists) (circuit : CircuitId) (on : Bool) (row : Option CircuitPlan) (service : ServiceId) (calls : List LinkCall) → own_service (seen e) row ≡ Some service → beq (is_on (seen e) circuit) on ≡ false → on ≡ false
+pub turned_off : (e mid now : EdgeLists) (circuit : CircuitId) (on : Bool) (row : CircuitPlan) (service : ServiceId) → own_service (seen e) (circuit_row e.plan circuit) ≡ Some service → circuit_row e.plan circuit ≡ Some row → on ≡ false
     → Keeps e mid → seen mid ≡ with_circuit circuit on (seen e)
     → seen now ≡ with_addresses service (without_port (position (is_circuit_port circuit) (ports_of mid.plan service mid.me)) (addresses_of (seen mid) service)) (seen mid)
-    → worked now calls (no_effects false) ≡ circuit_input e.plan circuit on row (beginning (seen e) calls)
-circuit_turned_off e mid now circuit true row service calls own other here keeps turns is = absurd (cc (here))
-circuit_turned_off e mid now circuit false row service calls own other here keeps turns is =
-    let found = own_row (seen e) row service own in
-    turned_is e now circuit false row service calls found other
-    (is
+    → seen now ≡ turned e.plan circuit row on (seen e)
+turned_off e mid now circuit true row service own at here keeps turns is = absurd (cc (here))
+turned_off e mid now circuit false row service own at here keeps turns is =
+    let found = own_row (seen e) (circuit_row e.plan circuit) service own in
+    let one : found.circuit ≡ row = cc (found.is, at) in
+    is
     ∙ (ap (λ (p : Plan). with_addresses service (without_port (position (is_circuit_port circuit) (ports_of p service mid.me)) (addresses_of (seen mid) service)) (seen mid)) keeps.plan
     ∙ (ap (λ (m : EdgeId). with_addresses service (without_port (position (is_circuit_port circuit) (ports_of e.plan service m)) (addresses_of (seen mid) service)) (seen mid)) keeps.me
     ∙ (ap (λ (s : EdgeState). with_addresses service (without_port (position (is_circuit_port circuit) (ports_of e.plan service e.me)) (addresses_of s service)) s) turns
-    ∙ forgets e circuit found.circuit service found.same))))
+    ∙ forgets e circuit row service (ap (λ (r : CircuitPlan). r.service) (sym one) ∙ found.same))))
 
 -- ---- frames
 

@@ -54,7 +54,7 @@ is_found (Some port) p = p == port
 pub record IsNewDomain (plan : Plan) (me : EdgeId) (service : ServiceId) (years : ℕ) (domain : Domain) : Type 0 where
   pub some : ports_of plan service me ≡ [] → ⊥
   pub bridge : domain.bridge ≡ record { ports = ports_of plan service me; age = years; entries = [] }
-  pub forwarding : (p : ℕ) → has domain.forwarding p ≡ port_forwards plan (empty_edge me) (ports_of plan service me) p
+  pub forwarding : (p : ℕ) → has domain.forwarding p ≡ port_forwards plan (empty_edge plan me) (ports_of plan service me) p
 
 abbrev pub IsNew : Plan → EdgeId → ServiceId → ℕ → Option Domain → Type 0
 IsNew plan me service age None = ports_of plan service me ≡ []

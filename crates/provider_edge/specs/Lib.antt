@@ -1,8 +1,14 @@
+pub mod Control
 pub mod Domain
+pub mod EndOf
 pub mod Event
+pub mod Heard
 pub mod Hearing
 pub mod Invariant
 pub mod Lists
+pub mod Mending
 pub mod Peering
+pub mod PwMessage
 pub mod Said
 pub mod Taking
+pub mod Views

@@ -6,16 +6,17 @@ use Rattle.net_base.specs.declared.plan.places.EdgeId.{EdgeId}
 use Rattle.net_base.specs.declared.trace.state_name.Reason.{Reason}
 use Rattle.net_base.specs.declared.trace.state_name.StateName.{StateName}
 use Rattle.net_base.specs.declared.trace.state_name.StateName.TheVariants as name
+use Rattle.ldp_grammar.specs.declared.message.Message.{Message}
 use Rattle.session_core.specs.declared.peers.Peers.{Peers}
 use Rattle.session_core.specs.Phase.{Phase}
 use Rattle.session_core.specs.Session.{phase_name}
 use Rattle.session_core.specs.State.{SessionState, SessionView, Stands, EndedBy, opened}
 use Rattle.edge_model.specs.Connection.{peers_of}
 use Rattle.edge_model.specs.declared.effect.Effect.{Effect}
-use Rattle.edge_model.specs.Put.{Spoken}
-use Rattle.edge_model.specs.Session.{ends, went_on}
+use Rattle.edge_model.specs.Put.{Spoken, message_octets_of, put_octets}
+use Rattle.edge_model.specs.Session.{ends, had_put, went_on}
 use Rattle.edge_model.specs.State.{EdgeState, Peering, with_peering}
-use Rattle.edge_model.specs.Work.{Work}
+use Rattle.edge_model.specs.Work.{Work, Answers, next_answer}
 
 -- ---- what calls of an edge tell
 
@@ -29,14 +30,14 @@ abbrev pub held_of : Option Peering → List ℕ
 held_of None = []
 held_of (Some kept) = kept.held
 
--- nothing is kept any more
-abbrev pub dropped : Option Peering → Option Peering
-dropped kept = None
-
 -- the two ends of a session, where both edges are in the plan
 abbrev pub peers_between : Option EdgePlan → Option EdgePlan → Option Peers
 peers_between (Some own) (Some other) = Some (peers_of own other)
 peers_between own other = None
+
+-- a connection of which nothing came yet
+abbrev pub connection_with : Peers → Peering
+connection_with peers = record { session = opened peers; held = []; next_id = 1 }
 
 -- ---- a session, and the octets beside it
 
@@ -44,6 +45,10 @@ peers_between own other = None
 pub record Dialogue : Type 0 where
   pub session : SessionState
   pub next_id : ℕ
+
+-- no session stands any more
+abbrev pub gone : Option Dialogue → Option Dialogue
+gone kept = None
 
 -- the session stands between these ends
 abbrev pub StandsBetween : Peers → SessionView → Type 0
@@ -94,3 +99,22 @@ next_state s (EndedBy why) = s
 abbrev pub settled : EdgeId → Phase → SessionView → Spoken → Work
 settled peer old (Stands next) put = went_on peer old next.phase put
 settled peer old (EndedBy why) put = ends peer why put.work
+
+-- ---- a message apart from the events of the session
+
+-- a message is put to a peer with which a session stands
+abbrev pub put_message_to : Answers → EdgeId → (ℕ → Message) → Option Peering → Work → Spoken
+put_message_to told peer message None work = record { work = work; failed = false }
+put_message_to told peer message (Some kept) work = put_octets peer (message_octets_of kept message) (next_answer told work) work
+
+abbrev pub put_message : Answers → EdgeId → (ℕ → Message) → Work → Spoken
+put_message told peer message work = put_message_to told peer message (work.edge.peering peer.0) work
+
+-- a message that the link did not take has ended the session
+abbrev pub had_spoken : EdgeId → Spoken → Spoken
+had_spoken peer put = record { work = had_put peer put; failed = put.failed }
+
+-- no session is left
+abbrev pub is_over : Option Dialogue → Bool
+is_over None = true
+is_over (Some d) = false

@@ -10,14 +10,16 @@ ghost use Rattle.session_core.specs.State.{EndedBy, IsProper, SessionState, Stan
 ghost use Rattle.session_core.specs.Table.{Closed, Refused, view_next, view_said};
 ghost use Rattle.edge_model.specs.declared.effect.Effect.TheVariants as told;
 ghost use Rattle.edge_model.specs.Put.{put_reply};
-ghost use Rattle.edge_model.specs.Session.{happens};
-ghost use Rattle.edge_model.specs.Hear.{had_put, is_up};
+ghost use Rattle.edge_model.specs.Session.{had_put, happens};
+ghost use Rattle.edge_model.specs.Hear.{is_up};
 ghost use Rattle.edge_model.specs.State.{EdgeState};
 ghost use Rattle.edge_model.specs.Work.{Agrees, Answers, GoesOn};
 ghost use Rattle.provider_edge.specs.Event.{MayHappen, event_of};
-ghost use Rattle.provider_edge.specs.Peering.{IsBetween, at_peer, having_put, kept_with, next_state, reason_in, settled};
+ghost use Rattle.provider_edge.specs.Peering.{IsBetween, at_peer, had_spoken, having_put, is_over, kept_with, next_state, put_message, reason_in, settled};
+ghost use Rattle.provider_edge.specs.PwMessage.{CanBeSaid, numbered};
 
 use crate::event::Event;
+use crate::pw_message::PwMessage;
 use crate::speaker::{Put, Speaker};
 use edge_model::Effect;
 use net_base::{EdgeId, Link, List, NoMemory, Reason, StateName};
@@ -126,6 +128,35 @@ impl Dialogue {
             mut speaker,
         } = self;
         if speaker.put_reply(alloc, peer, reply, link, out)? {
+            return Ok(Some(Dialogue {
+                session: session.spoke(),
+                speaker,
+            }));
+        }
+        end(peer, Reason::LinkFault, out)?;
+        Ok(None)
+    }
+
+    /// What is left once a message about a pseudowire was put: nothing, where the link did not take it.
+    pub fn say<L: Link>(
+        self,
+        alloc: Global,
+        peer: EdgeId,
+        message: &PwMessage,
+        link: &mut L,
+        out: &mut List<Effect>,
+    ) -> Result<Option<Dialogue>, NoMemory>
+        requires { CanBeSaid message.now }
+        ensures calls { GoesOn (L.calls link.old) (L.calls link.new) }
+        ensures step { IfOk result (λ left. (told : Answers) (held : List ℕ) (edge : EdgeState) → Agrees told (L.calls link.new)
+            → record { work = at_peer peer (kept_with held left) edge (L.calls link.new) out.new; failed = is_over left }
+            ≡ had_spoken peer (put_message told peer (numbered message.now) (at_peer peer (kept_with held (Some self)) edge (L.calls link.old) out.old))) }
+    {
+        let Dialogue {
+            session,
+            mut speaker,
+        } = self;
+        if speaker.say(alloc, peer, message, link, out)? {
             return Ok(Some(Dialogue {
                 session: session.spoke(),
                 speaker,

@@ -22,7 +22,7 @@ pub struct Domain {
 }
 
 /// The domain of each service that has a port at the edge, in the plan's order, with every circuit on.
-#[tactic(auto, using(crate::proofs::EachLemmas::new_next))]
+#[tactic(auto, using(crate::proofs::DomainLemmas::new_next))]
 pub fn open_domains(alloc: Global, plan: &Plan, me: EdgeId) -> Result<Vec<Option<Domain>>, NoMemory>
     requires services { length plan.now.services ≤ 64 }
     requires circuits { length plan.now.circuits ≤ 512 }
@@ -58,7 +58,7 @@ fn open_domain(
 
 // The ports that forward: every circuit is on.
 fn forwarding_of(ports: &Ports) -> PortSet
-    ensures { (plan : Plan) (me : EdgeId) (p : ℕ) → has result p ≡ port_forwards plan (empty_edge me) ports.now p }
+    ensures { (plan : Plan) (me : EdgeId) (p : ℕ) → has result p ≡ port_forwards plan (empty_edge plan me) ports.now p }
 {
     let mut forwarding = PortSet::empty();
     for port in 0..ports.len() {

@@ -1,12 +1,17 @@
 //! One provider edge.
-ghost use Rattle.std.specs.Prelude.{◌≡◌, ◌<◌, ◌≤◌, ◌↔◌, ◌⊎◌, List, Some, None, true, false, [], length, IfOk, IfErr, IfSome, IsNone, IsErrOf, option_copied};
+ghost use Rattle.std.specs.Prelude.{◌≡◌, ◌<◌, ◌≤◌, ◌↔◌, ◌⊎◌, List, Some, None, true, false, [], length, replicate, slice_index_or, IfOk, IfErr, IfSome, IsNone, IsErrOf};
+ghost use Rattle.std.specs.List.{find};
 ghost use Rattle.net_base.specs.declared.outside.link_call.LinkCall.{LinkCall};
 ghost use Rattle.net_base.specs.plan.Accepted.{IsChecked};
 ghost use Rattle.net_base.specs.plan.Places.{service_row};
 ghost use Rattle.hvpls_spokes.specs.Port.{ports_of};
-ghost use Rattle.edge_model.specs.State.{addresses_of, empty_edge, has_end, is_on};
+ghost use Rattle.pw_signalling.specs.AnyEnd.{end_of};
+ghost use Rattle.edge_model.specs.EndPlaces.{end_places, ends_here, is_end_of_wire};
+ghost use Rattle.edge_model.specs.Role.{down_at};
+ghost use Rattle.edge_model.specs.State.{addresses_of, empty_edge, end_at, has_end, is_on};
 ghost use Rattle.edge_model.specs.Step.{edge_step};
 ghost use Rattle.edge_model.specs.Work.{Agrees, Answers, GoesOn, beginning};
+ghost use Rattle.provider_edge.specs.EndOf.{is_of_segment};
 ghost use Rattle.provider_edge.specs.Lists.{Keeps, seen, worked};
 ghost use Rattle.provider_edge.specs.Peering.{held_of, session_name};
 ghost use Rattle.provider_edge.specs.Said.{AllFit, TellsTaken};
@@ -17,14 +22,18 @@ mod connection;
 mod frame;
 mod octets;
 mod tick;
+mod wire;
 
 use crate::EdgeStop;
+use crate::control::Control;
 use crate::domain::{Domain, open_domains};
-use crate::edge::connection::no_peerings;
-use crate::peering::Peering;
+use crate::held::Held;
 use crate::quiet::idle;
 use edge_model::{Effects, Input};
-use net_base::{CircuitId, EdgeId, Link, NoMemory, Plan, ServiceId, StateName};
+use net_base::{
+    CircuitId, Down, EdgeId, Link, NoMemory, Plan, SegKey, ServiceId, StateName, WireId,
+};
+use pw_signalling::PwEnd;
 use std::alloc::Global;
 use std::marker::Model;
 use std::rc::Rc;
@@ -38,7 +47,8 @@ pub struct Edge {
     me: EdgeId,
     circuits_on: Vec<bool>,
     domains: Vec<Option<Domain>>,
-    peerings: Vec<Option<Peering>>,
+    control: Control,
+    held: Vec<Held>,
     ticks: u64,
     stopped: bool,
 }
@@ -49,19 +59,20 @@ impl Model for Edge {
 
     ghost Value = { EdgeLists };
 
-    ghost view = { λ e. record { plan = e.plan.value; me = e.me; circuits_on = e.circuits_on.items; domains = e.domains.items; peerings = e.peerings.items; ticks = e.ticks; stopped = e.stopped } };
+    ghost view = { λ e. record { plan = e.plan.value; me = e.me; circuits_on = e.circuits_on.items; domains = e.domains.items; control = e.control; held = e.held.items; ticks = e.ticks; stopped = e.stopped } };
 
-    ghost invariant = { λ e. IsEdge (record { plan = e.plan.value; me = e.me; circuits_on = e.circuits_on.items; domains = e.domains.items; peerings = e.peerings.items; ticks = e.ticks; stopped = e.stopped }) };
+    ghost invariant = { λ e. IsEdge (record { plan = e.plan.value; me = e.me; circuits_on = e.circuits_on.items; domains = e.domains.items; control = e.control; held = e.held.items; ticks = e.ticks; stopped = e.stopped }) };
 }
 
 impl Edge {
-    /// The edge of a plan before its first input, with a copy of the plan: every circuit is on, nothing is learned.
+    /// The edge of a plan before its first input, with a copy of the plan: every circuit and every wire is on, nothing is learned, and no
+    /// connection stands.
     pub fn open(alloc: Global, plan: &Plan, me: EdgeId) -> Result<Edge, NoMemory>
         requires checked { IsChecked plan.now }
         requires me { me.0 < length plan.now.edges }
         ensures plan { IfOk result (λ edge. edge.plan ≡ plan.now) }
         ensures me { IfOk result (λ edge. edge.me ≡ me) }
-        ensures empty { IfOk result (λ edge. seen edge ≡ empty_edge me) }
+        ensures empty { IfOk result (λ edge. seen edge ≡ empty_edge edge.plan me) }
         ensures stopped { IfOk result (λ edge. edge.stopped ≡ false) }
     {
         let plan = Rc::new(alloc, plan.copy(alloc)?)?;
@@ -75,18 +86,20 @@ impl Edge {
         requires me { me.0 < length plan.value.edges }
         ensures plan { IfOk result (λ edge. edge.plan ≡ plan.value) }
         ensures me { IfOk result (λ edge. edge.me ≡ me) }
-        ensures empty { IfOk result (λ edge. seen edge ≡ empty_edge me) }
+        ensures empty { IfOk result (λ edge. seen edge ≡ empty_edge edge.plan me) }
         ensures stopped { IfOk result (λ edge. edge.stopped ≡ false) }
     {
         let circuits_on = vec![in alloc; true; plan.circuits.len()]?;
         let domains = open_domains(alloc, &plan, me)?;
-        let peerings = no_peerings(alloc, plan.edges.len())?;
+        let control = Control::open(alloc, plan.clone()?, me)?;
+        let held = none_held(alloc, plan.edges.len())?;
         Ok(Edge {
             plan,
             me,
             circuits_on,
             domains,
-            peerings,
+            control,
+            held,
             ticks: 0,
             stopped: false,
         })
@@ -95,8 +108,9 @@ impl Edge {
     /// Takes an input, and answers all that the edge gives out on it. What does not apply is idle, and changes nothing:
     /// for `Connected` an edge to which no segment joins this one, or a peer whose end stands; for `Octets` and `Lost` a peer
     /// whose end does not stand; for `Frame` a circuit of another edge or one that is off; for `Circuit` a circuit of
-    /// another edge or one that is so already. `Restart` and `Tick` always apply. Inputs of wires and packets do not apply
-    /// yet. The bits of a `Status` are at most 31.
+    /// another edge or one that is so already; for `Wire` a wire that does not pass the edge or one that is so already; for
+    /// `Status` a wire of which the edge is no terminal edge, or bits that are set already. `Restart` and `Tick` always
+    /// apply. Packets, priorities and pings do not apply yet. The bits of a `Status` are at most 31.
     ///
     /// `NoMemory` where memory was refused; from then on the edge is given up, and answers `Stopped` to every input.
     #[tactic(auto, using(crate::proofs::EffectLemmas::steps_fit, crate::proofs::EffectLemmas::steps_tell, crate::proofs::EffectLemmas::steps_local, crate::proofs::EffectLemmas::goes_nowhere, crate::proofs::KeptLemmas::edge_stopped))]
@@ -139,6 +153,7 @@ impl Edge {
         input: Input<'_>,
         link: &mut L,
     ) -> Result<Effects, NoMemory>
+        requires range { IsInRange input }
         ensures keeps { Keeps self.old self.new }
         ensures calls { GoesOn (L.calls link.old) (L.calls link.new) }
         ensures step { IfOk result (λ effects. (told : Answers) → Agrees told (L.calls link.new)
@@ -147,16 +162,14 @@ impl Edge {
         match input {
             Input::Connected { peer } => self.connected(alloc, peer, link),
             Input::Octets { peer, bytes } => self.octets(alloc, peer, bytes, link),
-            Input::Lost { peer } => self.lost(alloc, peer),
+            Input::Lost { peer } => self.lost(alloc, peer, link),
             Input::Restart => Ok(self.restart(alloc)),
             Input::Tick => self.tick(alloc, link),
             Input::Frame { circuit, bytes } => self.frame(alloc, circuit, bytes),
-            Input::Circuit { circuit, on } => Ok(self.circuit(alloc, circuit, on)),
-            Input::Packet { .. }
-            | Input::Wire { .. }
-            | Input::Status { .. }
-            | Input::Priority { .. }
-            | Input::Ping { .. } => Ok(idle(alloc)),
+            Input::Circuit { circuit, on } => self.circuit(alloc, circuit, on, link),
+            Input::Wire { wire, on } => self.wire(alloc, wire, on, link),
+            Input::Status { wire, bits } => self.status(alloc, wire, bits, link),
+            Input::Packet { .. } | Input::Priority { .. } | Input::Ping { .. } => Ok(idle(alloc)),
         }
     }
 
@@ -173,10 +186,7 @@ impl Edge {
     pub fn session(&self, peer: EdgeId) -> StateName
         ensures { result ≡ session_name ((seen self.now).peering peer.0) }
     {
-        match self.kept(peer) {
-            Some(kept) => kept.state(),
-            None => StateName::NonExistent,
-        }
+        self.control.session(peer)
     }
 
     /// Whether the edge's end of its connection with a peer stands.
@@ -184,7 +194,7 @@ impl Edge {
     pub fn has_end(&self, peer: EdgeId) -> bool
         ensures { result ≡ has_end (seen self.now) peer }
     {
-        self.kept(peer).is_some()
+        self.control.has_session(peer)
     }
 
     /// How many octets of a peer are held that are no whole PDU yet: at most 4,100, and none where the edge's end of their
@@ -194,21 +204,46 @@ impl Edge {
         ensures count { result ≡ length (held_of ((seen self.now).peering peer.0)) }
         ensures within { result ≤ 4100 }
     {
-        match self.kept(peer) {
-            Some(kept) => kept.held(),
+        if !self.has_end(peer) {
+            return 0;
+        }
+        self.octets_of(peer)
+    }
+
+    // How many octets of a peer are held.
+    fn octets_of(&self, peer: EdgeId) -> usize
+        ensures count { result ≡ length (slice_index_or self.now.held peer.0 []) }
+        ensures within { result ≤ 4100 }
+    {
+        match self.held.get(peer.0 as usize) {
+            Some(held) => held.len(),
             None => 0,
         }
     }
 
-    // What is kept for a neighbour.
-    #[tactic(auto, unfolding(crate::specs::Lists::seen))]
-    fn kept(&self, peer: EdgeId) -> Option<&Peering>
-        ensures { option_copied result ≡ (seen self.now).peering peer.0 }
+    /// The edge's end of a pseudowire at a segment of a wire; `None` exactly where the edge has no end of that segment
+    /// (RFC 6073 section 4).
+    pub fn end(&self, key: SegKey) -> Option<&PwEnd>
+        ensures none { IsNone result ↔ (find (is_of_segment key) (end_places self.now.plan self.now.me) ≡ None) }
+        ensures state { IfSome result (λ end. IfSome (find (is_of_segment key) (end_places self.now.plan self.now.me)) (λ place. end_of end.now ≡ end_at (seen self.now) place)) }
     {
-        match self.peerings.get(peer.0 as usize) {
-            Some(Some(kept)) => Some(kept),
-            Some(None) | None => None,
-        }
+        self.control.end(key)
+    }
+
+    /// Why the edge's end of a wire does not forward; `None` exactly where it forwards (RFC 8077 sections 6 and 6.3). The edge
+    /// is a terminal edge of the wire.
+    pub fn down(&self, wire: WireId) -> Option<Down>
+        requires { ends_here self.now.plan self.now.me wire ≡ true }
+        ensures { IfSome (find (is_end_of_wire wire) (end_places self.now.plan self.now.me)) (λ place. result ≡ down_at self.now.plan (seen self.now) place) }
+    {
+        self.control.down(wire)
+    }
+
+    /// The label that the edge gives next, 16 to 1048576 (RFC 3032 section 2.1); at 1048576 no label is left.
+    pub fn next_label(&self) -> u32
+        ensures { result ≡ (seen self.now).next_label }
+    {
+        self.control.next_label()
     }
 
     /// The bridge of a service; `None` exactly where the plan has no such service, or the service no port at the edge.
@@ -252,4 +287,16 @@ impl Edge {
     {
         self.me
     }
+}
+
+// Nothing is held of any of so many neighbours.
+#[tactic(auto, using(crate::proofs::ControlLemmas::one_more))]
+fn none_held(alloc: Global, count: usize) -> Result<Vec<Held>, NoMemory>
+    ensures { IfOk result (λ held. held.items ≡ replicate count []) }
+{
+    let mut held = Vec::with_capacity(alloc, count)?;
+    for _place in 0..count {
+        held.push(Held::none())?;
+    }
+    Ok(held)
 }

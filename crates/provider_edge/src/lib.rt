@@ -2,15 +2,17 @@
 #![tactic(auto)]
 
 mod advice;
+mod control;
 mod copies;
 mod dialogue;
 mod domain;
 mod edge;
 mod edge_stop;
 mod event;
-mod hear;
+mod held;
 mod inner_frame;
-mod peering;
+mod next;
+mod pw_message;
 mod quiet;
 mod speaker;
 

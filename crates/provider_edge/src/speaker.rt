@@ -6,11 +6,13 @@ ghost use Rattle.net_base.specs.outside.Link.{Answers as IsAnswer};
 ghost use Rattle.ldp_grammar.specs.Written.{message_octets, writable, written};
 ghost use Rattle.session_core.specs.Messages.{HasData, message_of};
 ghost use Rattle.session_core.specs.State.{SessionState};
-ghost use Rattle.edge_model.specs.Put.{following, platform_of, put_replies, put_reply};
+ghost use Rattle.edge_model.specs.Put.{following, platform_of, put_octets, put_replies, put_reply};
 ghost use Rattle.edge_model.specs.State.{EdgeState};
 ghost use Rattle.edge_model.specs.Work.{Agrees, Answers, GoesOn};
-ghost use Rattle.provider_edge.specs.Peering.{at_peer, having_put, kept_with};
+ghost use Rattle.provider_edge.specs.Peering.{at_peer, having_put, kept_with, put_message};
+ghost use Rattle.provider_edge.specs.PwMessage.{CanBeSaid, numbered};
 
+use crate::pw_message::PwMessage;
 use edge_model::Effect;
 use ldp_codec::encode_into;
 use ldp_grammar::{LdpId, Message};
@@ -94,7 +96,44 @@ impl Speaker {
             ≡ record { work = at_peer peer (kept_with held (Some (record { session = having_put taken s; next_id = self.new.next_id }))) edge (L.calls link.new) out.new; failed = not taken }) }
     {
         let octets = self.octets_of(alloc, reply)?;
-        if !put_octets(peer, octets.as_slice(), link)? {
+        self.put_octets(peer, octets, link, out)
+    }
+
+    /// Puts a message about a pseudowire, and answers whether the link took it; what it takes is said.
+    pub fn say<L: Link>(
+        &mut self,
+        alloc: Global,
+        peer: EdgeId,
+        message: &PwMessage,
+        link: &mut L,
+        out: &mut List<Effect>,
+    ) -> Result<bool, NoMemory>
+        requires { CanBeSaid message.now }
+        ensures peers { self.new.peers ≡ self.old.peers }
+        ensures calls { GoesOn (L.calls link.old) (L.calls link.new) }
+        ensures step { IfOk result (λ taken. (told : Answers) (s : SessionState) (held : List ℕ) (edge : EdgeState) → Agrees told (L.calls link.new) → s.peers ≡ self.old.peers
+            → put_message told peer (numbered message.now) (at_peer peer (kept_with held (Some (record { session = s; next_id = self.old.next_id }))) edge (L.calls link.old) out.old)
+            ≡ record { work = at_peer peer (kept_with held (Some (record { session = having_put taken s; next_id = self.new.next_id }))) edge (L.calls link.new) out.new; failed = not taken }) }
+    {
+        let octets = self.message_octets_of(alloc, message)?;
+        self.put_octets(peer, octets, link, out)
+    }
+
+    // Puts octets, and answers whether the link took them; what it takes is said.
+    fn put_octets<L: Link>(
+        &mut self,
+        peer: EdgeId,
+        octets: Octets,
+        link: &mut L,
+        out: &mut List<Effect>,
+    ) -> Result<bool, NoMemory>
+        ensures peers { self.new.peers ≡ self.old.peers }
+        ensures calls { GoesOn (L.calls link.old) (L.calls link.new) }
+        ensures step { IfOk result (λ taken. (told : Answers) (s : SessionState) (held : List ℕ) (edge : EdgeState) → Agrees told (L.calls link.new)
+            → put_octets peer octets (told (length (L.calls link.old))) (at_peer peer (kept_with held (Some (record { session = s; next_id = self.old.next_id }))) edge (L.calls link.old) out.old)
+            ≡ record { work = at_peer peer (kept_with held (Some (record { session = having_put taken s; next_id = self.new.next_id }))) edge (L.calls link.new) out.new; failed = not taken }) }
+    {
+        if !put_bytes(peer, octets.as_slice(), link)? {
             return Ok(false);
         }
         out.push(Effect::Said {
@@ -114,6 +153,16 @@ impl Speaker {
         let mut out = [0u8; LONGEST];
         encoded(alloc, &message, platform_of(self.peers.me), &mut out)
     }
+
+    // The octets of a message about a pseudowire, in a PDU of its own.
+    fn message_octets_of(&self, alloc: Global, message: &PwMessage) -> Result<Octets, NoMemory>
+        requires { CanBeSaid message.now }
+        ensures { IfOk result (λ octets. octets ≡ written (numbered message.now self.now.next_id) (platform_of self.now.peers.me)) }
+    {
+        let message = message.with_id(self.next_id);
+        let mut out = [0u8; LONGEST];
+        encoded(alloc, &message, platform_of(self.peers.me), &mut out)
+    }
 }
 
 // The octets of a message, in a PDU of its own; `out` has room for them.
@@ -130,7 +179,7 @@ fn encoded(alloc: Global, message: &Message, id: LdpId, out: &mut [u8]) -> Resul
 }
 
 // Puts octets, and answers whether the link took them.
-fn put_octets<L: Link>(peer: EdgeId, bytes: &[u8], link: &mut L) -> Result<bool, NoMemory>
+fn put_bytes<L: Link>(peer: EdgeId, bytes: &[u8], link: &mut L) -> Result<bool, NoMemory>
     ensures called { IfOk result (λ taken. L.calls link.new ≡ L.calls link.old ++ record { peer = peer; packet = false; bytes = bytes.now; taken = taken } ∷ []) }
     ensures calls { GoesOn (L.calls link.old) (L.calls link.new) }
 {

@@ -132,17 +132,17 @@ absorbed_stepped old mid now me work effects before told is state absorbed = rec
 }
 
 pub hearing : (n now : NetLists) (from to : EdgeId) (count : ℕ) (bytes : List ℕ) (effects : Effects) → bytes ≡ take count (pipes_of n.pipes from.0 to.0)
-    → HasDriven to n now (octets_input taken_all from bytes ((at_edge (seen n) to).peering from.0) (begin_at (seen n) to)) effects
-    → HasDriven to n now (hearing_work (seen n) from to (take count ((seen n).pipes from.0 to.0))) effects
+    → HasDriven to n now (octets_input n.plan taken_all from bytes ((at_edge (seen n) to).peering from.0) (begin_at (seen n) to)) effects
+    → HasDriven to n now (hearing_work n.plan (seen n) from to (take count ((seen n).pipes from.0 to.0))) effects
 unfolding seen
 hearing n now from to count bytes effects e drove =
-    subst (λ (octets : List ℕ). HasDriven to n now (octets_input taken_all from octets ((at_edge (seen n) to).peering from.0) (begin_at (seen n) to)) effects) e drove
+    subst (λ (octets : List ℕ). HasDriven to n now (octets_input n.plan taken_all from octets ((at_edge (seen n) to).peering from.0) (begin_at (seen n) to)) effects) e drove
 
 pub lose_stepped : (old mid now : NetLists) (me peer : EdgeId) (effects : Effects)
-    → HasDriven me old mid (lost_input taken_all peer (begin_at (seen old) me)) effects
+    → HasDriven me old mid (lost_input old.plan taken_all peer (begin_at (seen old) me)) effects
     → HasStepped mid now (record { state = absorb_all me 0 0 effects.list (seen mid); entries = all_entries_of me 0 0 effects.list (seen mid) })
-    → HasStepped old now (losing me peer (seen old))
-lose_stepped old mid now me peer effects drove absorbed = absorbed_stepped old mid now me (losing_work (seen old) me peer) effects (seen old) drove.told drove.effects_are drove.state absorbed
+    → HasStepped old now (losing old.plan me peer (seen old))
+lose_stepped old mid now me peer effects drove absorbed = absorbed_stepped old mid now me (losing_work old.plan (seen old) me peer) effects (seen old) drove.told drove.effects_are drove.state absorbed
 
 edge_with_pipe : (n : NetworkState) (from to me : EdgeId) (count : ℕ) (e : EdgeState)
     → with_pipe from to (drop count ((with_edge me e n).pipes from.0 to.0)) (with_edge me e n) ≡ with_edge me e (with_pipe from to (drop count (n.pipes from.0 to.0)) n)
@@ -154,16 +154,16 @@ unfolding with_edge without_octets_to
 edge_emptied n me e = refl
 
 pub deliver_stepped : (old one two now : NetLists) (from to : EdgeId) (count : ℕ) (effects : Effects)
-    → HasDriven to old one (hearing_work (seen old) from to (take count ((seen old).pipes from.0 to.0))) effects
+    → HasDriven to old one (hearing_work old.plan (seen old) from to (take count ((seen old).pipes from.0 to.0))) effects
     → seen two ≡ with_pipe from to (drop count ((seen one).pipes from.0 to.0)) (seen one) → two.trace ≡ one.trace
     → HasStepped two now (record { state = absorb_all to 0 0 effects.list (seen two); entries = all_entries_of to 0 0 effects.list (seen two) })
-    → HasStepped old now (delivering from to count (seen old))
+    → HasStepped old now (delivering old.plan from to count (seen old))
 deliver_stepped old one two now from to count effects drove gave told absorbed =
     absorbed_stepped old two now to work effects (with_pipe from to (drop count ((seen old).pipes from.0 to.0)) (seen old)) (told ∙ drove.told) drove.effects_are
     (gave ∙ (ap (λ (n : NetworkState). with_pipe from to (drop count (n.pipes from.0 to.0)) n) drove.state ∙ edge_with_pipe (seen old) from to to count work.edge)) absorbed
   where
     work : Work
-    work = hearing_work (seen old) from to (take count ((seen old).pipes from.0 to.0))
+    work = hearing_work old.plan (seen old) from to (take count ((seen old).pipes from.0 to.0))
 
 pub restart_stepped : (old one two now : NetLists) (me : EdgeId) (effects : Effects)
     → HasDriven me old one (restart_input (begin_at (seen old) me)) effects

@@ -146,7 +146,7 @@ pub ruleset all_steps = (from_none, from_more, from_all)
 pub ruleset marking_steps = (fresh, marked_one, marked_first, marked_circuit)
 
 -- before the first event nothing may be delivered
-pub indexed_first : (n : NetLists) (index : IndexLists) → seen n ≡ empty_network → IsClear index.rows → IsIndexed n index
+pub indexed_first : (n : NetLists) (index : IndexLists) → seen n ≡ empty_network n.plan → IsClear index.rows → IsIndexed n index
 indexed_first n index empty clear = record { each = λ i j a b. clear.each i j ∙ sym (ap (λ (s : NetworkState). is_deliverable s i j) empty) }
 
 -- an event that was not done

@@ -13,8 +13,9 @@ use Rattle.edge_model.specs.declared.effect.Effect.TheVariants as effect
 use Rattle.edge_model.specs.Circuit.{circuit_input}
 use Rattle.edge_model.specs.Connection.{restart_input}
 use Rattle.edge_model.specs.State.{EdgeState, put_at}
+use Rattle.edge_model.specs.Wire.{status_input, wire_input}
 use Rattle.edge_model.specs.Work.{Work}
-use Rattle.network_model.specs.Absorb.{absorb, absorb_all, absorb_one, answer, begin_at, idle}
+use Rattle.network_model.specs.Absorb.{absorb, absorb_all, absorb_one, answer, begin_at, idle, taken_all}
 use Rattle.network_model.specs.Circuit.{circuit_event}
 use Rattle.network_model.specs.Connection.{can_connect, connect_event, connected_work, connecting, deliver_event, delivering, hearing_work, is_deliverable, is_drained_pipe, lose_event, losing, losing_work, restart_event}
 use Rattle.network_model.specs.Frame.{entering, frame_event, frame_work, next_origin}
@@ -137,32 +138,32 @@ connect_beside plan from to n = by (can_connect plan n from.0 to.0) where
   by true = connecting_beside these from to (connected_work plan n from to) (connected_work plan n to from) n has_first has_second
   by false = stays_beside these n
 
-losing_beside : (me peer : EdgeId) (n : NetworkState) → IsKeptBeside (λ k. nat_eq k me.0) n (losing me peer n).state
-losing_beside me peer n = absorb_beside (λ k. nat_eq k me.0) me 0 0 (losing_work n me peer) n (at_one me.0)
+losing_beside : (plan : Plan) (me peer : EdgeId) (n : NetworkState) → IsKeptBeside (λ k. nat_eq k me.0) n (losing plan me peer n).state
+losing_beside plan me peer n = absorb_beside (λ k. nat_eq k me.0) me 0 0 (losing_work plan n me peer) n (at_one me.0)
 
-deliver_beside : (from to : EdgeId) (count : ℕ) (n : NetworkState) → IsKeptBeside (λ k. nat_eq k to.0) n (deliver_event from to count n).state
-deliver_beside from to count n = by (is_deliverable n from.0 to.0) (is_drained_pipe n from.0 to.0) where
+deliver_beside : (plan : Plan) (from to : EdgeId) (count : ℕ) (n : NetworkState) → IsKeptBeside (λ k. nat_eq k to.0) n (deliver_event plan from to count n).state
+deliver_beside plan from to count n = by (is_deliverable n from.0 to.0) (is_drained_pipe n from.0 to.0) where
   these : ℕ → Bool
   these k = nat_eq k to.0
 
   work : Work
-  work = hearing_work n from to (take count (n.pipes from.0 to.0))
+  work = hearing_work plan n from to (take count (n.pipes from.0 to.0))
 
   rest : NetworkState
   rest = with_pipe from to (drop count (n.pipes from.0 to.0)) n
 
-  heard : IsKeptBeside these n (delivering from to count n).state
-  heard = then_beside these n rest (delivering from to count n).state (pipe_to_beside these from to (drop count (n.pipes from.0 to.0)) n (at_one to.0)) (absorb_beside these to 0 0 work rest (at_one to.0))
+  heard : IsKeptBeside these n (delivering plan from to count n).state
+  heard = then_beside these n rest (delivering plan from to count n).state (pipe_to_beside these from to (drop count (n.pipes from.0 to.0)) n (at_one to.0)) (absorb_beside these to 0 0 work rest (at_one to.0))
 
-  by : (a b : Bool) → IsKeptBeside these n (cond a (cond b (losing to from n) (delivering from to count n)) (idle n)).state
+  by : (a b : Bool) → IsKeptBeside these n (cond a (cond b (losing plan to from n) (delivering plan from to count n)) (idle n)).state
   by false b = stays_beside these n
-  by true true = losing_beside to from n
+  by true true = losing_beside plan to from n
   by true false = heard
 
-lose_beside : (me peer : EdgeId) (n : NetworkState) → IsKeptBeside (λ k. nat_eq k me.0) n (lose_event me peer n).state
-lose_beside me peer n = by (stands n me.0 peer.0) where
-  by : (b : Bool) → IsKeptBeside (λ k. nat_eq k me.0) n (cond b (losing me peer n) (idle n)).state
-  by true = losing_beside me peer n
+lose_beside : (plan : Plan) (me peer : EdgeId) (n : NetworkState) → IsKeptBeside (λ k. nat_eq k me.0) n (lose_event plan me peer n).state
+lose_beside plan me peer n = by (stands n me.0 peer.0) where
+  by : (b : Bool) → IsKeptBeside (λ k. nat_eq k me.0) n (cond b (losing plan me peer n) (idle n)).state
+  by true = losing_beside plan me peer n
   by false = stays_beside (λ k. nat_eq k me.0) n
 
 restart_beside : (me : EdgeId) (n : NetworkState) → IsKeptBeside (λ k. nat_eq k me.0) n (restart_event me n).state
@@ -192,11 +193,18 @@ circuit_beside plan circuit on (Some row) n = by work.idle where
   these k = nat_eq k row.edge.0
 
   work : Work
-  work = circuit_input plan circuit on (Some row) (begin_at n row.edge)
+  work = circuit_input plan taken_all circuit on (Some row) (begin_at n row.edge)
 
   by : (b : Bool) → IsKeptBeside these n (cond b (idle n) (absorb row.edge 0 0 work n)).state
   by true = stays_beside these n
   by false = absorb_beside these row.edge 0 0 work n (at_one row.edge.0)
+
+-- an edge answers
+answer_beside : (me : EdgeId) (work : Work) (n : NetworkState) → IsKeptBeside (λ k. nat_eq k me.0) n (answer me 0 0 work n).state
+answer_beside me work n = by work.idle where
+  by : (b : Bool) → IsKeptBeside (λ k. nat_eq k me.0) n (cond b (idle n) (absorb me 0 0 work n)).state
+  by true = stays_beside (λ k. nat_eq k me.0) n
+  by false = absorb_beside (λ k. nat_eq k me.0) me 0 0 work n (at_one me.0)
 
 every_beside : (old now : NetworkState) → IsKeptBeside (λ k. true) old now
 every_beside old now = record {
@@ -206,12 +214,14 @@ every_beside old now = record {
 
 pub step_beside : (plan : Plan) (n : NetworkState) (e : Event) → IsKeptBeside (sets_to_work plan e) n (step plan n e).state
 step_beside plan n (event.Connect from to) = connect_beside plan from to n
-step_beside plan n (event.Deliver from to count) = deliver_beside from to count n
-step_beside plan n (event.Lose me peer) = lose_beside me peer n
+step_beside plan n (event.Deliver from to count) = deliver_beside plan from to count n
+step_beside plan n (event.Lose me peer) = lose_beside plan me peer n
 step_beside plan n (event.Restart me) = restart_beside me n
 step_beside plan n event.Tick = every_beside n (step plan n event.Tick).state
 step_beside plan n (event.Frame circuit octets) = framed_beside plan circuit octets (circuit_row plan circuit) n
 step_beside plan n (event.Circuit circuit on) = circuit_beside plan circuit on (circuit_row plan circuit) n
+step_beside plan n (event.Wire me wire on) = answer_beside me (wire_input plan taken_all wire on (begin_at n me)) n
+step_beside plan n (event.Status me wire bits) = answer_beside me (status_input plan taken_all wire bits (begin_at n me)) n
 step_beside plan n e = stays_beside (sets_to_work plan e) n
 
 -- ---- so the index is right beside them

@@ -1,4 +1,5 @@
 pub mod AbsorbLemmas
+pub mod AnswerLemmas
 pub mod ConnectionLemmas
 pub mod EmptyLemmas
 pub mod IndexLemmas

@@ -19,6 +19,7 @@ use Rattle.provider_edge.specs.Said.{AllFit}
 use Rattle.network_model.specs.Circuit.{circuit_event}
 use Rattle.network_model.specs.Frame.{frame_event, next_origin}
 use Rattle.network_model.specs.State.{NetworkState, at_edge, empty_network, with_edge, with_frame}
+use Rattle.provider_edge.proofs.KeptLemmas.{no_edge_seen}
 use Rattle.psn_net.proofs.PipeLemmas.{view_set}
 use Rattle.net_base.specs.declared.outside.link_call.LinkCall.{LinkCall}
 use Rattle.net_base.specs.declared.plan.Plan.{Plan}
@@ -87,7 +88,7 @@ fitting_at n me found effects h planned is fit =
     subst (λ (p : Plan). AllFit p effects) (ap (λ (e : EdgeLists). e.plan) same ∙ planned) fit
 
 -- an edge that stays as it is
-edge_stays : (network : NetworkState) (me : EdgeId) (state : EdgeState) → state ≡ at_edge network me → with_edge me state network ≡ network
+pub edge_stays : (network : NetworkState) (me : EdgeId) (state : EdgeState) → state ≡ at_edge network me → with_edge me state network ≡ network
 unfolding with_edge
 edge_stays network me state same = λ i. record { edges = λ k. at_each k i; pipes = network.pipes; under_way = network.under_way; sent = network.sent; entered = network.entered }
   where
@@ -97,7 +98,7 @@ edge_stays network me state same = λ i. record { edges = λ k. at_each k i; pip
       | inr away ↦ rw away refl
     ]
 
-some_edge : (row : CircuitPlan) (me : EdgeId) → Some row.edge ≡ Some me → row.edge ≡ me
+pub some_edge : (row : CircuitPlan) (me : EdgeId) → Some row.edge ≡ Some me → row.edge ≡ me
 some_edge row me e = cc (e)
 
 -- the frame enters, and then what the edge did is told
@@ -180,51 +181,9 @@ frame_stepped old mid in_ now circuit octets me effects origin at driven idle en
       ∙ (ap (λ (es : List Effect). In circuit (next_origin (seen old)) octets ∷ all_entries_of me (next_origin (seen old)) 0 es (with_edge me work.edge (with_frame (seen old)))) driven.effects_are
       ∙ sym (ap (λ (s : Stepped). s.entries) event)))
 
--- a circuit that is so already, and one that turns
-circuit_answer : (plan : Plan) (circuit : CircuitId) (on : Bool) (row : Option CircuitPlan) (me : EdgeId) (network : NetworkState)
-    → edge_of row ≡ Some me → circuit_event plan circuit on row network ≡ answer me 0 0 (circuit_input plan circuit on row (begin_at network me)) network
-circuit_answer plan circuit on None me network at = absurd (cc (at))
-circuit_answer plan circuit on (Some row) me network at =
-    subst (λ (e : EdgeId). circuit_event plan circuit on (Some row) network ≡ answer e 0 0 (circuit_input plan circuit on (Some row) (begin_at network e)) network) (some_edge row me at) refl
-
-pub circuit_idle_stepped : (old mid now : NetLists) (circuit : CircuitId) (on : Bool) (me : EdgeId) (effects : Effects)
-    → edge_of (circuit_row old.plan circuit) ≡ Some me
-    → HasDriven me old mid (circuit_input old.plan circuit on (circuit_row old.plan circuit) (begin_at (seen old) me)) effects
-    → effects.idle ≡ true → seen now ≡ seen mid → now.trace ≡ mid.trace ++ Idle ∷ []
-    → HasStepped old now (circuit_event old.plan circuit on (circuit_row old.plan circuit) (seen old))
-circuit_idle_stepped old mid now circuit on me effects at driven idle state told = record {
-  state = state ∙ (driven.state ∙ (edge_stays (seen old) me work.edge (circuit_still old.plan circuit on (circuit_row old.plan circuit) (begin_at (seen old) me) refl is_idle) ∙ sym (ap (λ (s : Stepped). s.state) event)));
-  told = told ∙ (ap (λ (t : List Entry). t ++ Idle ∷ []) driven.told ∙ ap (λ (es : List Entry). old.trace ++ es) (sym (ap (λ (s : Stepped). s.entries) event)));
-} where
-  work : Work
-  work = circuit_input old.plan circuit on (circuit_row old.plan circuit) (begin_at (seen old) me)
-
-  is_idle : work.idle ≡ true
-  is_idle = sym driven.idle_is ∙ idle
-
-  event : circuit_event old.plan circuit on (circuit_row old.plan circuit) (seen old) ≡ idle_event (seen old)
-  event = circuit_answer old.plan circuit on (circuit_row old.plan circuit) me (seen old) at ∙ rw is_idle refl
-
-pub circuit_stepped : (old mid now : NetLists) (circuit : CircuitId) (on : Bool) (me : EdgeId) (effects : Effects)
-    → edge_of (circuit_row old.plan circuit) ≡ Some me
-    → HasDriven me old mid (circuit_input old.plan circuit on (circuit_row old.plan circuit) (begin_at (seen old) me)) effects
-    → effects.idle ≡ false
-    → HasStepped mid now (record { state = absorb_all me 0 0 effects.list (seen mid); entries = all_entries_of me 0 0 effects.list (seen mid) })
-    → HasStepped old now (circuit_event old.plan circuit on (circuit_row old.plan circuit) (seen old))
-circuit_stepped old mid now circuit on me effects at driven idle absorbed = record {
-  state = absorbed.state ∙ (ap (λ (n : NetworkState). absorb_all me 0 0 effects.list n) driven.state ∙ (ap (λ (es : List Effect). absorb_all me 0 0 es (with_edge me work.edge (seen old))) driven.effects_are ∙ sym (ap (λ (s : Stepped). s.state) event)));
-  told = absorbed.told ∙ (ap (λ (t : List Entry). t ++ all_entries_of me 0 0 effects.list (seen mid)) driven.told
-      ∙ ap (λ (es : List Entry). old.trace ++ es) (ap (λ (n : NetworkState). all_entries_of me 0 0 effects.list n) driven.state ∙ (ap (λ (es : List Effect). all_entries_of me 0 0 es (with_edge me work.edge (seen old))) driven.effects_are ∙ sym (ap (λ (s : Stepped). s.entries) event))));
-} where
-  work : Work
-  work = circuit_input old.plan circuit on (circuit_row old.plan circuit) (begin_at (seen old) me)
-
-  event : circuit_event old.plan circuit on (circuit_row old.plan circuit) (seen old) ≡ absorb me 0 0 work (seen old)
-  event = circuit_answer old.plan circuit on (circuit_row old.plan circuit) me (seen old) at ∙ (let e : work.idle ≡ false = sym driven.idle_is ∙ idle in rw e refl)
-
 -- the network of a plan before its first event
 pub opening : (plan : Plan) (edges : List EdgeLists) (pipes : PipeLists) → AreOpen plan (length plan.edges) edges → pipes_of pipes ≡ no_octets
-    → seen (record { plan = plan; edges = edges; pipes = pipes; packets = record { list = []; last = 0 }; entered = 0; trace = []; failed = false }) ≡ empty_network
+    → seen (record { plan = plan; edges = edges; pipes = pipes; packets = record { list = []; last = 0 }; entered = 0; trace = []; failed = false }) ≡ empty_network plan
 unfolding seen
 opening plan edges pipes are empty = λ i. record { edges = λ k. are.empty k i; pipes = empty i; under_way = []; sent = 0; entered = 0 }
 
@@ -235,10 +194,9 @@ index_end (y ∷ ys) x d zero = grind (arith, nat_tests)
 index_end (y ∷ ys) x d (suc k) = grind (arith, nat_tests, index_end ys x d k)
 
 pub open_none : (plan : Plan) → AreOpen plan 0 []
-unfolding edge.seen
-open_none plan = record { len = refl; planned = λ k below. refl; empty = λ k. refl }
+open_none plan = record { len = refl; planned = λ k below. refl; empty = λ k. no_edge_seen plan (record { 0 = k }) }
 
-pub open_more : (plan : Plan) (count : ℕ) (edges : List EdgeLists) (more : EdgeLists) → AreOpen plan count edges → more.plan ≡ plan → edge.seen more ≡ empty_edge (record { 0 = count })
+pub open_more : (plan : Plan) (count : ℕ) (edges : List EdgeLists) (more : EdgeLists) → AreOpen plan count edges → more.plan ≡ plan → edge.seen more ≡ empty_edge plan (record { 0 = count })
     → AreOpen plan (count + 1) (edges ++ more ∷ [])
 open_more plan count edges more are planned empty = record {
   len = length-append edges (more ∷ []) ∙ omega (arith, are.len);
@@ -254,6 +212,6 @@ open_more plan count edges more are planned empty = record {
         | inr rest ↦ omega (arith, below, are.len)
       ])
 
-  empty_by : (k : ℕ) (b : Bool) → nat_eq k (length edges) ≡ b → edge.seen (cond b more (slice_index_or edges k (no_edge plan k))) ≡ empty_edge (record { 0 = k })
-  empty_by k true e = empty ∙ ap (λ (n : ℕ). empty_edge (record { 0 = n })) (sym are.len ∙ sym (eqb-true k (length edges) e))
+  empty_by : (k : ℕ) (b : Bool) → nat_eq k (length edges) ≡ b → edge.seen (cond b more (slice_index_or edges k (no_edge plan k))) ≡ empty_edge plan (record { 0 = k })
+  empty_by k true e = empty ∙ ap (λ (n : ℕ). empty_edge plan (record { 0 = n })) (sym are.len ∙ sym (eqb-true k (length edges) e))
   empty_by k false e = are.empty k

@@ -31,7 +31,7 @@ pub record NetLists : Type 0 where
 
 -- an edge outside the plan
 abbrev pub no_edge : Plan → ℕ → EdgeLists
-no_edge plan k = record { plan = plan; me = record { 0 = k }; circuits_on = []; domains = []; peerings = []; ticks = 0; stopped = false }
+no_edge plan k = edge.no_edge plan (record { 0 = k })
 
 abbrev pub edge_lists : NetLists → ℕ → EdgeLists
 edge_lists n k = slice_index_or n.edges k (no_edge n.plan k)
@@ -81,7 +81,7 @@ pub record HasDriven (me : EdgeId) (old now : NetLists) (work : Work) (effects :
 pub record AreOpen (plan : Plan) (count : ℕ) (edges : List EdgeLists) : Type 0 where
   pub len : length edges ≡ count
   pub planned : (k : ℕ) → k < count → (slice_index_or edges k (no_edge plan k)).plan ≡ plan
-  pub empty : (k : ℕ) → edge.seen (slice_index_or edges k (no_edge plan k)) ≡ empty_edge (record { 0 = k })
+  pub empty : (k : ℕ) → edge.seen (slice_index_or edges k (no_edge plan k)) ≡ empty_edge plan (record { 0 = k })
 
 -- a frame entered with the next number, and was told
 pub record HasEntered (old now : NetLists) (circuit : CircuitId) (octets : List ℕ) (number : ℕ) : Type 0 where

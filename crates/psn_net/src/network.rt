@@ -53,7 +53,7 @@ impl Network {
     pub fn open(alloc: Global, plan: &Plan) -> Result<Network, NoMemory>
         requires { IsChecked plan.now }
         ensures plan { IfOk result (λ network. network.plan ≡ plan.now) }
-        ensures state { IfOk result (λ network. seen network ≡ empty_network) }
+        ensures state { IfOk result (λ network. seen network ≡ empty_network plan.now) }
         ensures trace { IfOk result (λ network. network.trace ≡ []) }
         ensures going { IfOk result (λ network. network.failed ≡ false) }
     {

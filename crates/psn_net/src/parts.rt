@@ -64,7 +64,7 @@ impl Parts {
     pub fn open(alloc: Global, plan: &Plan) -> Result<Parts, NoMemory>
         requires { IsChecked plan.now }
         ensures plan { IfOk result (λ parts. parts.plan ≡ plan.now) }
-        ensures state { IfOk result (λ parts. seen parts ≡ empty_network) }
+        ensures state { IfOk result (λ parts. seen parts ≡ empty_network plan.now) }
         ensures trace { IfOk result (λ parts. parts.trace ≡ []) }
         ensures going { IfOk result (λ parts. parts.failed ≡ false) }
     {
@@ -154,7 +154,9 @@ impl Parts {
             Event::Restart { edge } => self.restart(alloc, *edge),
             Event::Tick => self.tick(alloc),
             Event::Frame { circuit, bytes } => self.frame(alloc, *circuit, bytes.as_slice()),
+            Event::Wire { edge, wire, on } => self.wire(alloc, *edge, *wire, *on),
             Event::Circuit { circuit, on } => self.circuit(alloc, *circuit, *on),
+            Event::Status { edge, wire, bits } => self.status(alloc, *edge, *wire, *bits),
             _ => Ok(()),
         }
     }

@@ -26,6 +26,3 @@ pub use pw_end::PwEnd;
 pub use pw_idle::PwIdle;
 pub use pw_withdrawing::PwWithdrawing;
 pub use told::Told;
-
-#[cfg(test)]
-mod tests;

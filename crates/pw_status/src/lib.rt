@@ -10,6 +10,3 @@ mod method;
 pub use bits::{combine, fails, standby};
 pub use laws::combined_again;
 pub use method::{Method, method_of};
-
-#[cfg(test)]
-mod tests;

@@ -43,6 +43,3 @@ pub use point_writing::{point_size, write_point};
 pub use points::Points;
 pub use pw_fec::{PwFec, is_writable_fec};
 pub use pw_status::{PwStatus, read_status, write_status};
-
-#[cfg(test)]
-mod tests;

@@ -11,8 +11,6 @@ mod last_line;
 mod lines;
 mod names;
 mod report;
-#[cfg(test)]
-mod tests;
 
 pub use ending::Ending;
 pub use last_line::Counted;

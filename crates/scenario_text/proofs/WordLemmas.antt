@@ -1,6 +1,7 @@
 -- Words by their numbers.
-use Rattle.std.proofs.Common.{◌≡◌, ◌<◌, ◌∙◌, ◌-◌, ℕ, zero, suc, List, length, Some, None, option_and_then, sym, ap, arith}
-use Rattle.std.proofs.lemmas.Bool.Decides.{nat_tests}
+use Rattle.std.proofs.Common.{◌≡◌, ◌<◌, ◌∙◌, ◌-◌, ℕ, zero, suc, List, length, nat_lt, Some, None, option_and_then, if◌then◌else◌, sym, ap, arith}
+use Rattle.std.proofs.lemmas.Bool.{false_from_ne_true}
+use Rattle.std.proofs.lemmas.Bool.Decides.{Decides-ltb}
 use Rattle.std.proofs.lemmas.List.{take_all}
 use Rattle.std.specs.List.{position_or_len, after_first}
 use Rattle.scenario_text.specs.Words.{is_space, after_word, first_word, word_after}
@@ -16,10 +17,14 @@ word_none zero rest some e = absurd (omega arith)
 word_none (suc n) rest some e = ap (λ o. option_and_then (word_after n) o) (sym e)
 
 pub no_space_after : (text : List ℕ) → position_or_len is_space text ≡ length text → after_word text ≡ None
-no_space_after text e = grind (arith, nat_tests)
+no_space_after text e =
+    let test = Decides-ltb (position_or_len is_space text) (length text) in
+    ap (λ b. if b then Some (after_first is_space text) else None) (false_from_ne_true (nat_lt (position_or_len is_space text) (length text)) (λ h. absurd (omega (arith, e, test.0 h))))
 
 pub space_after : (text : List ℕ) → position_or_len is_space text < length text → after_word text ≡ Some (after_first is_space text)
-space_after text e = grind (arith, nat_tests)
+space_after text e =
+    let test = Decides-ltb (position_or_len is_space text) (length text) in
+    ap (λ b. if b then Some (after_first is_space text) else None) (test.1 e)
 
 pub no_space_before : (text : List ℕ) → position_or_len is_space text ≡ length text → first_word text ≡ text
 no_space_before text e = take_all (position_or_len is_space text) text (omega (arith, e))

@@ -2,9 +2,9 @@
 ghost use Rattle.std.specs.Prelude.{◌≡◌, ◌≤◌, ◌+◌, length, IfOk};
 ghost use Rattle.std.specs.List.{All};
 ghost use Rattle.toml.specs.View.{view, items_view};
-ghost use Rattle.scenario_text.specs.Events.{repeats_in, tick_in, play_in, command_of, command_in, event_in, plays_after, commands_in};
+ghost use Rattle.scenario_text.specs.Events.{repeats_in, tick_in, play_in, one, command_of, command_in, event_in, plays_after, commands_in};
 ghost use Rattle.scenario_text.specs.Reading.{Gives};
-ghost use Rattle.scenario_text.specs.Planned.{IsCount, IsNamed};
+ghost use Rattle.scenario_text.specs.Planned.{IsCount, IsAmong, IsNamed};
 
 use crate::events::{
     circuit_switch, connect, deliver, frame, lose, packet, ping, priority, restart, status,
@@ -65,6 +65,22 @@ fn play(
     Ok(Command::Play(CircuitId(circuit), file))
 }
 
+// The command of one event.
+fn one_event(
+    names: &PlanNames<'_>,
+    read: Result<Event, ScenarioFault>,
+) -> Result<Command, ScenarioFault>
+    requires { IfOk read (IsAmong names.now) }
+    ensures exact { result ≡ one read }
+    ensures named { IfOk result (IsNamed names.now) }
+{
+    let _names = names;
+    match read {
+        Ok(event) => Ok(Command::One(event)),
+        Err(fault) => Err(fault),
+    }
+}
+
 // The command of a first word.
 #[tactic(auto, unfolding(crate::specs::Events::command_of))]
 fn command_of_word(
@@ -79,10 +95,10 @@ fn command_of_word(
     ensures named { IfOk result (IsNamed names.now) }
 {
     match word {
-        "connect" => Ok(Command::One(connect(names, event, text)?)),
-        "deliver" => Ok(Command::One(deliver(names, event, text)?)),
-        "lose" => Ok(Command::One(lose(names, event, text)?)),
-        "restart" => Ok(Command::One(restart(names, event, text)?)),
+        "connect" => one_event(names, connect(names, event, text)),
+        "deliver" => one_event(names, deliver(names, event, text)),
+        "lose" => one_event(names, lose(names, event, text)),
+        "restart" => one_event(names, restart(names, event, text)),
         "tick" => tick(names, event, text),
         "frame" => Ok(Command::One(frame(alloc, names, event, text)?)),
         "arrive" => Ok(Command::One(Event::Arrive {
@@ -94,11 +110,11 @@ fn command_of_word(
         "again" => Ok(Command::One(Event::Again {
             packet: packet(event, text)?,
         })),
-        "wire" => Ok(Command::One(wire_switch(names, event, text)?)),
-        "circuit" => Ok(Command::One(circuit_switch(names, event, text)?)),
-        "status" => Ok(Command::One(status(names, event, text)?)),
-        "priority" => Ok(Command::One(priority(names, event, text)?)),
-        "ping" => Ok(Command::One(ping(names, event, text)?)),
+        "wire" => one_event(names, wire_switch(names, event, text)),
+        "circuit" => one_event(names, circuit_switch(names, event, text)),
+        "status" => one_event(names, status(names, event, text)),
+        "priority" => one_event(names, priority(names, event, text)),
+        "ping" => one_event(names, ping(names, event, text)),
         "settle" => Ok(Command::Settle(repeats(event, text)?)),
         "flow" => Ok(Command::Flow(repeats(event, text)?)),
         "play" => play(alloc, names, event, plays, text),

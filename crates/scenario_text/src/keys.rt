@@ -9,80 +9,81 @@ ghost use Rattle.scenario_text.specs.Reading.{MapsTo};
 
 use crate::ScenarioFault;
 use crate::row_place::RowPlace;
+use crate::same::is_same;
 use net_base::Table as TableKind;
 use toml::Table;
 
 fn is_top(key: &str) -> bool
     ensures { result ≡ is_top_key key.now }
 {
-    key == "version"
-        || key == "events"
-        || key == "edge"
-        || key == "service"
-        || key == "circuit"
-        || key == "wire"
+    is_same(key, "version")
+        || is_same(key, "events")
+        || is_same(key, "edge")
+        || is_same(key, "service")
+        || is_same(key, "circuit")
+        || is_same(key, "wire")
 }
 
 fn is_edge(key: &str) -> bool
     ensures { result ≡ is_edge_key key.now }
 {
-    key == "name"
-        || key == "address"
-        || key == "first_label"
-        || key == "keepalive"
-        || key == "max_pdu"
+    is_same(key, "name")
+        || is_same(key, "address")
+        || is_same(key, "first_label")
+        || is_same(key, "keepalive")
+        || is_same(key, "max_pdu")
 }
 
 fn is_service(key: &str) -> bool
     ensures { result ≡ is_service_key key.now }
 {
-    key == "name" || key == "mtu" || key == "age"
+    is_same(key, "name") || is_same(key, "mtu") || is_same(key, "age")
 }
 
 fn is_circuit(key: &str) -> bool
     ensures { result ≡ is_circuit_key key.now }
 {
-    key == "name" || key == "edge" || key == "service" || key == "tag"
+    is_same(key, "name") || is_same(key, "edge") || is_same(key, "service") || is_same(key, "tag")
 }
 
 // Whether this is a key of a wire as a whole.
 fn is_wire(key: &str) -> bool
     ensures { result ≡ is_wire_key key.now }
 {
-    key == "name"
-        || key == "service"
-        || key == "class"
-        || key == "path"
-        || key == "pw_id"
-        || key == "priority"
+    is_same(key, "name")
+        || is_same(key, "service")
+        || is_same(key, "class")
+        || is_same(key, "path")
+        || is_same(key, "pw_id")
+        || is_same(key, "priority")
 }
 
 // Whether this is a key of what an end of a wire offers.
 fn is_offer(key: &str) -> bool
     ensures { result ≡ is_offer_key key.now }
 {
-    key == "mode"
-        || key == "control_word"
-        || key == "mtu"
-        || key == "vlan"
-        || key == "vccv"
-        || key == "status"
-        || key == "group"
-        || key == "description"
+    is_same(key, "mode")
+        || is_same(key, "control_word")
+        || is_same(key, "mtu")
+        || is_same(key, "vlan")
+        || is_same(key, "vccv")
+        || is_same(key, "status")
+        || is_same(key, "group")
+        || is_same(key, "description")
 }
 
 // Whether this is a key of what the far end alone offers.
 fn is_far(key: &str) -> bool
     ensures { result ≡ is_far_key key.now }
 {
-    key == "far_mode"
-        || key == "far_control_word"
-        || key == "far_mtu"
-        || key == "far_vlan"
-        || key == "far_vccv"
-        || key == "far_status"
-        || key == "far_group"
-        || key == "far_description"
+    is_same(key, "far_mode")
+        || is_same(key, "far_control_word")
+        || is_same(key, "far_mtu")
+        || is_same(key, "far_vlan")
+        || is_same(key, "far_vccv")
+        || is_same(key, "far_status")
+        || is_same(key, "far_group")
+        || is_same(key, "far_description")
 }
 
 // Whether a row of the table may have the key.

@@ -27,6 +27,7 @@ mod row;
 mod row_place;
 mod rows;
 mod said;
+mod same;
 mod scenario;
 mod scenario_fault;
 mod values;

@@ -10,6 +10,7 @@ use crate::ScenarioFault;
 use crate::decimal::decimal;
 use crate::hex::decode;
 use crate::name_index::NameIndex;
+use crate::same::is_same;
 use crate::words::word;
 use net_base::{NoMemory, Octets, Word};
 use std::alloc::Global;
@@ -82,9 +83,9 @@ pub fn number_word(
 fn switch(word: &str) -> Option<bool>
     ensures { result ≡ switch_of word.now }
 {
-    if word == "on" {
+    if is_same(word, "on") {
         Some(true)
-    } else if word == "off" {
+    } else if is_same(word, "off") {
         Some(false)
     } else {
         None

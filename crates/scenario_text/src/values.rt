@@ -8,6 +8,7 @@ ghost use Rattle.scenario_text.specs.Values.{a_text, a_name, quad_of, address_of
 
 use crate::ScenarioFault;
 use crate::row_place::RowPlace;
+use crate::same::is_same;
 use net_base::{Addr, Class, List, Name, Text};
 use std::alloc::Global;
 use std::net::Ipv4Addr;
@@ -116,9 +117,9 @@ pub fn boolean(row: RowPlace, key: &str, value: &Value) -> Result<bool, Scenario
 fn class_of_text(text: &str) -> Option<Class>
     ensures { result ≡ class_of text.now }
 {
-    if text == "mesh" {
+    if is_same(text, "mesh") {
         Some(Class::Mesh)
-    } else if text == "spoke" {
+    } else if is_same(text, "spoke") {
         Some(Class::Spoke)
     } else {
         None
@@ -140,9 +141,9 @@ pub fn class(row: RowPlace, key: &str, value: &Value) -> Result<Class, ScenarioF
 fn mode_of_text(text: &str) -> Option<bool>
     ensures { result ≡ mode_of text.now }
 {
-    if text == "raw" {
+    if is_same(text, "raw") {
         Some(false)
-    } else if text == "tagged" {
+    } else if is_same(text, "tagged") {
         Some(true)
     } else {
         None

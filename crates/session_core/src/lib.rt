@@ -44,6 +44,3 @@ pub use reply::Reply;
 pub use session::Session;
 pub use stage::{Case, Stage};
 pub use standing::Standing;
-
-#[cfg(test)]
-mod tests;

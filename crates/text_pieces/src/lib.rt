@@ -6,8 +6,6 @@
 
 mod hexadecimal;
 mod pieces;
-#[cfg(test)]
-mod tests;
 
 pub use hexadecimal::{put_digits, put_hex_word};
 pub use pieces::{put_number, put_number_word, put_text, put_word};

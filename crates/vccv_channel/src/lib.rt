@@ -28,6 +28,3 @@ pub use ping::Ping;
 pub use reading::read_echo;
 pub use requesting::request;
 pub use vccv_fault::VccvFault;
-
-#[cfg(test)]
-mod tests;

@@ -1,6 +1,7 @@
-pub mod AddressLemmas
+pub mod SeenLemmas
 pub mod AnswerLemmas
 pub mod FileLemmas
 pub mod MadeLemmas
+pub mod PlannedLemmas
 pub mod ReplayLemmas
 pub mod StreamLemmas

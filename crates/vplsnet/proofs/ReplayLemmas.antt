@@ -1,10 +1,15 @@
 -- The run of an accepted scenario keeps every promise.
-use Rattle.std.proofs.Common.{◌≡◌, true, ℕ, List, [], Option, Some, None, Ok, subst, sym}
+use Rattle.std.proofs.Common.{◌≡◌, ◌++◌, ◌∷◌, true, ℕ, List, [], Option, Some, None, Ok, subst, sym}
+use Rattle.std.specs.List.{All}
 use Rattle.net_base.specs.declared.plan.Plan.{Plan}
+use Rattle.net_base.specs.declared.trace.entry.Entry.{Entry}
 use Rattle.net_base.specs.declared.trace.event.Event.{Event}
 use Rattle.net_base.specs.plan.Accepted.{IsChecked}
+use Rattle.net_base.specs.plan.Planned.{IsEventOf}
 use Rattle.network_model.specs.State.{empty_network}
-use Rattle.flight_model.specs.Ends.{HasAddresses}
+use Rattle.flight_model.specs.Laws.{IsRun}
+use Rattle.flight_model.proofs.BoundRunLemmas.{runs_agree_after_flight, runs_settle}
+use Rattle.flight_model.proofs.RuledRunLemmas.{runs_keep_label_rule, runs_keep_told_rule}
 use Rattle.flight_model.proofs.RunLemmas.{runs_come_up, runs_end_well, runs_follow_table}
 use Rattle.network_model.proofs.IsolatedLemmas.{run_isolated}
 use Rattle.network_model.proofs.SplitLemmas.{run_split}
@@ -12,30 +17,56 @@ use Rattle.network_model.proofs.KnownLemmas.{run_serves_known_once}
 use Rattle.network_model.proofs.OnceLemmas.{run_serves_once}
 use Rattle.psn_net.specs.declared.net_stop.NetStop.{NetStop}
 use Rattle.psn_net.specs.Lists.{NetLists}
-use Rattle.psn_net.specs.Runs.{IsRunOf}
+use Rattle.psn_net.specs.Runs.{AreDone, IsRunOf}
 use Rattle.psn_net.proofs.RunLemmas.{run_of}
 use Rattle.scenario_text.specs.declared.scenario.Scenario.{Scenario}
 use Rattle.scenario_text.specs.Document.{document}
+use Rattle.scenario_text.specs.Planned.{IsPlanned}
 use Rattle.vplsnet.specs.declared.outcome.Outcome.{Outcome}
 use Rattle.vplsnet.specs.Built.{is_built}
 use Rattle.vplsnet.specs.Promises.{KeepsPromises}
 use Rattle.vplsnet.specs.Replay.{HasRunAs, IsReplay, Replays, events_of, outcome_by}
+use Rattle.vplsnet.proofs.PlannedLemmas.{All-first, made_planned}
 
-promises_kept : (plan : Plan) (events : List Event) → IsChecked plan → HasAddresses plan → KeepsPromises plan events
-promises_kept plan events checked addressed = record {
-  isolated = run_isolated plan events checked;
-  split = run_split plan events checked;
-  once = run_serves_once plan events checked;
-  known = run_serves_known_once plan events checked;
-  table = λ before after joined a b. runs_follow_table plan before checked addressed a b;
-  up = λ before after joined a b. runs_come_up plan before checked addressed a b;
-  endings = runs_end_well plan events checked addressed;
+-- the first events of a run are a run
+run_of_first : (plan : Plan) (events before after : List Event) → events ≡ before ++ after → IsRun plan events → IsRun plan before
+run_of_first plan events before after joined run = record {
+  checked = run.checked;
+  types = run.types;
+  planned = All-first (IsEventOf plan) before after (subst (λ (es : List Event). All (IsEventOf plan) es) joined run.planned);
 }
 
+promises_kept : (plan : Plan) (events : List Event) → IsRun plan events → KeepsPromises plan events
+promises_kept plan events run = record {
+  isolated = run_isolated plan events run.checked;
+  split = run_split plan events run.checked;
+  once = run_serves_once plan events run.checked;
+  known = run_serves_known_once plan events run.checked;
+  table = λ before after joined a b. runs_follow_table plan before (first before after joined) a b;
+  up = λ before after joined a b. runs_come_up plan before (first before after joined) a b;
+  agree = λ before after joined a b. runs_agree_after_flight plan before (first before after joined) a b;
+  settled = λ before after joined service quiet a b. runs_settle plan before (first before after joined) service quiet a b;
+  labels = λ before after joined. runs_keep_label_rule plan before (first before after joined);
+  contents = λ before after joined. runs_keep_told_rule plan before (first before after joined);
+  endings = runs_end_well plan events run;
+}
+  where
+    first : (before after : List Event) → events ≡ before ++ after → IsRun plan before
+    first before after joined = run_of_first plan events before after joined run
+
+-- the events that were done are the first ones of all
+done_first : (plan : Plan) (all done : List Event) (trace : List Entry) (stop : Option NetStop) → AreDone all done trace stop → All (IsEventOf plan) all → All (IsEventOf plan) done
+done_first plan all done trace None same planned = subst (λ (es : List Event). All (IsEventOf plan) es) same planned
+done_first plan all done trace (Some stop) stopped planned =
+    All-first (IsEventOf plan) done (stopped.event ∷ stopped.rest) (subst (λ (es : List Event). All (IsEventOf plan) es) stopped.split planned)
+
 is_replay : (octets text : List ℕ) (scenario : Scenario) (network : Option NetLists) (outcome : Outcome) → document octets ≡ Ok scenario → is_built scenario ≡ true → IsChecked scenario.plan
-    → (has : HasRunAs scenario text network outcome) → IsReplay octets text network has.reason
-is_replay octets text scenario network outcome reads built checked has =
-    let run : IsRunOf scenario.plan empty_network [] (events_of scenario) has.left has.reason = run_of scenario.plan empty_network [] (events_of scenario) has.left has.reason has.ends in
+    → All (IsPlanned scenario.plan) scenario.commands → (has : HasRunAs scenario text network outcome) → IsReplay octets text network has.reason
+is_replay octets text scenario network outcome reads built checked planned has =
+    let run : IsRunOf scenario.plan (empty_network scenario.plan) [] (events_of scenario) has.left has.reason =
+    run_of scenario.plan (empty_network scenario.plan) [] (events_of scenario) has.left has.reason has.ends in
+    let done : All (IsEventOf scenario.plan) run.done =
+    done_first scenario.plan (events_of scenario) run.done has.left.trace has.reason run.are_done (made_planned scenario.plan (empty_network scenario.plan) scenario.commands planned) in
     record {
       scenario = scenario;
       reads = reads;
@@ -48,7 +79,7 @@ is_replay octets text scenario network outcome reads built checked has =
       state_is = run.ran.state_is;
       trace_is = run.ran.trace_is;
       text_is = has.text_is;
-      promises = promises_kept scenario.plan run.done checked has.addressed;
+      promises = promises_kept scenario.plan run.done (record { checked = checked; types = has.types; planned = done });
     }
 
 by_outcome : (octets text : List ℕ) (network : Option NetLists) (reason : Option NetStop) → IsReplay octets text network reason → Replays octets text network (outcome_by reason)
@@ -56,7 +87,7 @@ by_outcome octets text network None replay = replay
 by_outcome octets text network (Some reason) replay = replay
 
 pub replays : (octets text : List ℕ) (scenario : Scenario) (network : Option NetLists) (outcome : Outcome) → document octets ≡ Ok scenario → is_built scenario ≡ true → IsChecked scenario.plan
-    → HasRunAs scenario text network outcome → Replays octets text network outcome
-replays octets text scenario network outcome reads built checked has =
+    → All (IsPlanned scenario.plan) scenario.commands → HasRunAs scenario text network outcome → Replays octets text network outcome
+replays octets text scenario network outcome reads built checked planned has =
     subst (λ (o : Outcome). Replays octets text network o) (sym has.outcome_is)
-    (by_outcome octets text network has.reason (is_replay octets text scenario network outcome reads built checked has))
+    (by_outcome octets text network has.reason (is_replay octets text scenario network outcome reads built checked planned has))

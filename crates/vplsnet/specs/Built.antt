@@ -6,7 +6,7 @@ use Rattle.net_base.specs.declared.plan.wire_plan.WirePlan.{WirePlan}
 use Rattle.net_base.specs.declared.plan.wire_plan.Class.{Class}
 use Rattle.net_base.specs.declared.plan.wire_plan.Class.TheVariants.{Mesh, Spoke}
 use Rattle.net_base.specs.declared.trace.event.Event.{Event}
-use Rattle.net_base.specs.declared.trace.event.Event.TheVariants.{Connect, Deliver, Lose, Restart, Tick, Frame, Circuit}
+use Rattle.net_base.specs.declared.trace.event.Event.TheVariants.{Connect, Deliver, Lose, Restart, Tick, Frame, Wire, Circuit, Status}
 use Rattle.scenario_text.specs.declared.command.Command.{Command}
 use Rattle.scenario_text.specs.declared.command.Command.TheVariants.{One, Settle, Ticks}
 use Rattle.scenario_text.specs.declared.scenario.Scenario.{Scenario}
@@ -24,7 +24,7 @@ is_built_class Spoke = false
 abbrev pub is_built_wire : WirePlan → Bool
 is_built_wire row = (is_built_class row.class && length row.path == 2) && (is_built_offer row.near.vccv && is_built_offer row.far.vccv)
 
--- connections and what befalls them, ticks, circuits that are turned, and, where there is no wire, frames
+-- connections and what befalls them, ticks, wires and circuits that are turned, statuses, and, where there is no wire, frames
 abbrev pub is_built_event : Bool → Event → Bool
 is_built_event wireless (Connect from to) = true
 is_built_event wireless (Deliver from to count) = true
@@ -32,7 +32,9 @@ is_built_event wireless (Lose edge peer) = true
 is_built_event wireless (Restart edge) = true
 is_built_event wireless Tick = true
 is_built_event wireless (Frame circuit octets) = wireless
+is_built_event wireless (Wire edge wire on) = true
 is_built_event wireless (Circuit circuit on) = true
+is_built_event wireless (Status edge wire bits) = true
 is_built_event wireless event = false
 
 abbrev pub is_built_command : Bool → Command → Bool

@@ -1,15 +1,18 @@
 -- What holds of the run of an accepted scenario.
-use Rattle.std.specs.Prelude.{◌≡◌, ◌++◌, ℕ, List}
+use Rattle.std.specs.Prelude.{◌≡◌, ◌++◌, ℕ, true, List}
 use Rattle.net_base.specs.declared.plan.Plan.{Plan}
+use Rattle.net_base.specs.declared.plan.places.ServiceId.{ServiceId}
 use Rattle.net_base.specs.declared.trace.event.Event.{Event}
+use Rattle.net_base.specs.plan.Roles.{are_joined_by}
 use Rattle.net_base.specs.trace.Isolated.{Isolated}
 use Rattle.net_base.specs.trace.Split.{Split}
+use Rattle.network_model.specs.Calm.{is_quiet}
 use Rattle.network_model.specs.KnownOnce.{KnownOnce}
 use Rattle.network_model.specs.OnceEach.{OnceEach}
 use Rattle.network_model.specs.Run.{run}
 use Rattle.network_model.specs.State.{NetworkState}
 use Rattle.flight_model.specs.Endings.{TellGoodEnds}
-use Rattle.flight_model.specs.Laws.{BothStand, FollowsTable, IsStill, IsUp, network_after}
+use Rattle.flight_model.specs.Laws.{AgreesAfterFlight, AreSettled, BothStand, FollowsTable, IsStill, IsUp, KeepsLabelRule, KeepsToldRule, network_after}
 
 -- something holds of each state on the way of a run: before each event, and after the last one
 abbrev pub Throughout : (NetworkState → Type 0) → Plan → List Event → Type 0
@@ -18,6 +21,14 @@ Throughout Holds plan events = (before after : List Event) → events ≡ before
 -- the session states of each two ends that stand go with what is on its way between them
 abbrev pub FollowTable : Plan → NetworkState → Type 0
 FollowTable plan network = (a b : ℕ) → BothStand network a b → FollowsTable plan network a b
+
+-- once one of two ends that stand has heard what is on its way to it, it holds exactly what the other one advertises
+abbrev pub AgreeAfterFlight : Plan → NetworkState → Type 0
+AgreeAfterFlight plan network = (a b : ℕ) → BothStand network a b → AgreesAfterFlight plan network a b
+
+-- where a service is quiet, each two edges that it joins have agreed on their wires, or have no connection and are unbound
+abbrev pub AreSettledWhereQuiet : Plan → NetworkState → Type 0
+AreSettledWhereQuiet plan network = (service : ServiceId) → is_quiet plan network service ≡ true → (a b : ℕ) → are_joined_by plan service a b ≡ true → AreSettled plan network a b
 
 -- two ends that stand, and between which nothing is held or on its way, are both up
 abbrev pub AreUpWhereStill : NetworkState → Type 0
@@ -35,5 +46,12 @@ pub record KeepsPromises (plan : Plan) (events : List Event) : Type 0 where
   -- sessions understand each other, and come up where everything was heard
   pub table : Throughout (FollowTable plan) plan events
   pub up : Throughout AreUpWhereStill plan events
+  -- both ends of a wire come to know exactly what the other one advertises
+  pub agree : Throughout (AgreeAfterFlight plan) plan events
+  pub settled : Throughout (AreSettledWhereQuiet plan) plan events
+  -- wherever a label is named it was given before, and whoever owns it is the end that it is named with
+  pub labels : Throughout (KeepsLabelRule plan) plan events
+  -- wherever a content is told it is the one that the plan has told there, but for its status
+  pub contents : Throughout (KeepsToldRule plan) plan events
   -- no session ends because an edge refuses what another one says
   pub endings : TellGoodEnds (run plan events).entries

@@ -2,7 +2,7 @@
 use Rattle.std.specs.Prelude.{◌≡◌, ◌≢◌, ℕ, Bool, true, false, List, [], Option, Some, None, Result, Ok, Err}
 use Rattle.net_base.specs.declared.plan.Plan.{Plan}
 use Rattle.net_base.specs.declared.trace.event.Event.{Event}
-use Rattle.flight_model.specs.Ends.{HasAddresses}
+use Rattle.flight_model.specs.Ends.{HasTypes}
 use Rattle.network_model.specs.Run.{run, state_after}
 use Rattle.network_model.specs.State.{empty_network}
 use Rattle.psn_net.specs.declared.net_stop.NetStop.{NetStop}
@@ -29,11 +29,11 @@ scenario_limit = SCENARIO_LIMIT
 
 -- the events that the commands of a scenario make
 abbrev pub events_of : Scenario → List Event
-events_of scenario = made scenario.plan empty_network scenario.commands
+events_of scenario = made scenario.plan (empty_network scenario.plan) scenario.commands
 
 -- what the run of a scenario comes to
 abbrev pub whole_run : Scenario → Ended
-whole_run scenario = ran scenario.plan empty_network [] (events_of scenario)
+whole_run scenario = ran scenario.plan (empty_network scenario.plan) [] (events_of scenario)
 
 -- how a report of a run ends that a limit stopped, or none. Want of memory stops no run that is reported
 abbrev pub ending_by : Option NetStop → Ending
@@ -59,7 +59,7 @@ pub record IsReplay (octets text : List ℕ) (network : Option NetLists) (reason
   -- the events that were done: all, or those before the one that the limit stopped
   pub done : List Event
   pub are_done : AreDone (events_of scenario) done left.trace reason
-  pub state_is : seen left ≡ state_after scenario.plan empty_network done
+  pub state_is : seen left ≡ state_after scenario.plan (empty_network scenario.plan) done
   pub trace_is : left.trace ≡ (run scenario.plan done).entries
   pub text_is : text ≡ report scenario.plan left.trace (ending_by reason)
   pub promises : KeepsPromises scenario.plan done
@@ -106,4 +106,4 @@ pub record HasRunAs (scenario : Scenario) (text : List ℕ) (network : Option Ne
   pub outcome_is : outcome ≡ outcome_by reason
   pub ends : ended left reason ≡ whole_run scenario
   pub text_is : text ≡ report scenario.plan left.trace (ending_by reason)
-  pub addressed : HasAddresses scenario.plan
+  pub types : HasTypes scenario.plan

@@ -7,7 +7,8 @@ use net_base::{Class, Event, WirePlan};
 use scenario_text::{Command, Scenario};
 
 /// Whether a scenario is within what is built: mesh wires of two edges, of which none offers a control channel; the commands
-/// `connect`, `deliver`, `settle`, `lose`, `restart`, `circuit` and `tick`; and, where it has no wire, `frame`.
+/// `connect`, `deliver`, `settle`, `lose`, `restart`, `wire`, `status`, `circuit` and `tick`; and, where it has no wire,
+/// `frame`.
 pub fn is_built_scenario(scenario: &Scenario) -> bool
     ensures { result ≡ is_built scenario.now }
 {
@@ -59,7 +60,9 @@ fn is_event_built(wireless: bool, event: &Event) -> bool
         | Event::Lose { .. }
         | Event::Restart { .. }
         | Event::Tick
-        | Event::Circuit { .. } => true,
+        | Event::Wire { .. }
+        | Event::Circuit { .. }
+        | Event::Status { .. } => true,
         Event::Frame { .. } => wireless,
         _ => false,
     }

@@ -7,11 +7,11 @@ ghost use Rattle.scenario_text.specs.Planned.{IsPlanned};
 ghost use Rattle.vplsnet.specs.Built.{is_built};
 ghost use Rattle.vplsnet.specs.Replay.{HasRunAs, Replays, ending_by, outcome_by};
 
-use crate::addresses::see_addresses;
 use crate::answer::Answer;
 use crate::built::is_built_scenario;
 use crate::outcome::Outcome;
 use crate::scenario_run::run_of;
+use crate::types::see_types;
 use net_base::{NoMemory, Octets};
 use psn_net::NetStop;
 use report_text::{Ending, report_of};
@@ -43,7 +43,7 @@ fn replay_built(alloc: Global, scenario: &Scenario) -> Result<Answer, NoMemory>
     requires planned { All (IsPlanned scenario.now.plan) scenario.now.commands }
     ensures { IfOk result (λ answer. HasRunAs scenario.now answer.text.items answer.network answer.outcome) }
 {
-    see_addresses(scenario.plan.edges.as_slice());
+    see_types(&scenario.plan);
     let (network, stop) = run_of(alloc, scenario)?;
     let text = report_of(
         alloc,

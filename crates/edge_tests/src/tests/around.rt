@@ -4,11 +4,11 @@ ghost use Rattle.provider_edge.specs.Taking.{IsInRange};
 use edge_model::{Effects, Input};
 use net_base::{
     Addr, Class, EdgeId, EdgePlan, List, MemLink, Name, Offer, Plan, ServiceId, ServicePlan, Text,
-    WirePlan,
+    WireId, WirePlan,
 };
-use provider_edge::{Edge, EdgeStop};
+use provider_edge::Edge;
 use std::alloc::Global;
-use std::test::Fail;
+use std::process::Abort;
 
 /// The edges.
 pub const A: EdgeId = EdgeId(0);
@@ -36,33 +36,48 @@ fn nibble(digit: u8) -> u8 {
 }
 
 /// The octets of pairs of hexadecimal digits.
-pub fn octets_of(alloc: Global, text: &str) -> Result<Vec<u8>, Fail> {
+pub fn octets_of(rt: &impl Abort, alloc: Global, text: &str) -> Vec<u8> {
     let mut octets = Vec::new(alloc);
     let mut high = None;
     for digit in text.as_bytes() {
         match high {
             None => high = Some(nibble(*digit)),
             Some(front) => {
-                octets.push((front << 4) | nibble(*digit))?;
+                octets
+                    .push((front << 4) | nibble(*digit))
+                    .expect(rt, "memory");
                 high = None;
             }
         }
     }
-    Ok(octets)
+    octets
 }
 
-fn edge_row(name: &str, last: u8) -> Result<EdgePlan, Fail> {
-    Ok(EdgePlan {
-        name: Name::read(name).ok_or("a name")?,
+fn name(rt: &impl Abort, text: &str) -> Name {
+    Name::read(text).expect(rt, "a name")
+}
+
+fn add_edge(rt: &impl Abort, edges: &mut List<EdgePlan>, text: &str, last: u8) {
+    let row = EdgePlan {
+        name: name(rt, text),
         address: Addr([10, 0, 0, last]),
         first_label: 16,
         keepalive: 180,
         max_pdu: 4096,
-    })
+    };
+    edges.push(row).expect(rt, "memory");
 }
 
-fn offer() -> Result<Offer, Fail> {
-    Ok(Offer {
+fn service(rt: &impl Abort) -> ServicePlan {
+    ServicePlan {
+        name: name(rt, "s"),
+        mtu: 1500,
+        age: 2,
+    }
+}
+
+fn offer(rt: &impl Abort) -> Offer {
+    Offer {
         tagged: false,
         cword: true,
         mtu: Some(1500),
@@ -70,75 +85,136 @@ fn offer() -> Result<Offer, Fail> {
         vccv: None,
         status: true,
         group: 0,
-        description: Text::read([].as_slice()).ok_or("a text")?,
-    })
+        description: Text::read([].as_slice()).expect(rt, "a text"),
+    }
+}
+
+fn path(rt: &impl Abort, alloc: Global) -> List<EdgeId> {
+    let mut path = List::new(alloc);
+    path.push(A).expect(rt, "memory");
+    path.push(B).expect(rt, "memory");
+    path
+}
+
+fn wire(rt: &impl Abort, alloc: Global) -> WirePlan {
+    WirePlan {
+        name: name(rt, "w"),
+        service: ServiceId(0),
+        class: Class::Mesh,
+        path: path(rt, alloc),
+        pw_id: 100,
+        near: offer(rt),
+        far: offer(rt),
+        priority: 0,
+    }
 }
 
 // Two edges and a wire between them.
-fn plan(alloc: Global) -> Result<Plan, Fail> {
+fn plan(rt: &impl Abort, alloc: Global) -> Plan {
     let mut edges = List::new(alloc);
-    edges.push(edge_row("a", 1)?)?;
-    edges.push(edge_row("b", 2)?)?;
+    add_edge(rt, &mut edges, "a", 1);
+    add_edge(rt, &mut edges, "b", 2);
     let mut services = List::new(alloc);
-    services.push(ServicePlan {
-        name: Name::read("s").ok_or("a name")?,
-        mtu: 1500,
-        age: 2,
-    })?;
-    let mut path = List::new(alloc);
-    path.push(A)?;
-    path.push(B)?;
+    services.push(service(rt)).expect(rt, "memory");
     let mut wires = List::new(alloc);
-    wires.push(WirePlan {
-        name: Name::read("w").ok_or("a name")?,
-        service: ServiceId(0),
-        class: Class::Mesh,
-        path,
-        pw_id: 100,
-        near: offer()?,
-        far: offer()?,
-        priority: 0,
-    })?;
-    Ok(Plan {
+    wires.push(wire(rt, alloc)).expect(rt, "memory");
+    Plan {
         edges,
         services,
         circuits: List::new(alloc),
         wires,
-    })
+    }
+}
+
+// The edge of a plan with this place.
+fn edge_of(alloc: Global, plan: &Plan, me: EdgeId) -> Option<Edge> {
+    if plan.edges.len() > 64 || plan.services.len() > 64 || me.0 as usize >= plan.edges.len() {
+        return None;
+    }
+    if plan.circuits.len() > 512 || plan.wires.len() > 1024 {
+        return None;
+    }
+    match plan.check() {
+        Ok(()) => Edge::open(alloc, plan, me).ok(),
+        Err(_) => None,
+    }
 }
 
 /// The edge with this place.
-pub fn opened(alloc: Global, me: EdgeId) -> Result<Edge, Fail> {
-    let plan = plan(alloc)?;
-    if plan.edges.len() > 64 || plan.services.len() > 64 || me.0 as usize >= plan.edges.len() {
-        return Err(Fail::new("sizes"));
-    }
-    if plan.circuits.len() > 512 || plan.wires.len() > 1024 {
-        return Err(Fail::new("sizes"));
-    }
-    match plan.check() {
-        Ok(()) => Ok(Edge::open(alloc, &plan, me)?),
-        Err(_) => Err(Fail::new("the plan has a fault")),
-    }
+pub fn opened(rt: &impl Abort, alloc: Global, me: EdgeId) -> Edge {
+    let plan = plan(rt, alloc);
+    edge_of(alloc, &plan, me).expect(rt, "an edge")
+}
+
+/// The edge with this place, at which the wire is off, so that nothing but sessions is told.
+pub fn silent(rt: &impl Abort, alloc: Global, me: EdgeId) -> Edge {
+    let mut edge = opened(rt, alloc, me);
+    let mut link = link(rt, alloc);
+    let off = Input::Wire {
+        wire: WireId(0),
+        on: false,
+    };
+    let effects = took(rt, alloc, &mut edge, off, &mut link);
+    assert!(rt; !effects.idle && effects.list.is_empty());
+    edge
 }
 
 /// Takes an input.
 pub fn took(
+    rt: &impl Abort,
     alloc: Global,
     edge: &mut Edge,
     input: Input<'_>,
     link: &mut MemLink,
-) -> Result<Effects, Fail>
+) -> Effects
     requires { IsInRange input }
 {
-    match edge.take(alloc, input, link) {
-        Ok(effects) => Ok(effects),
-        Err(EdgeStop::NoMemory) => Err(Fail::new("out of memory")),
-        Err(EdgeStop::Stopped) => Err(Fail::new("stopped")),
+    edge.take(alloc, input, link).expect(rt, "taken")
+}
+
+/// Takes an input, whatever comes of it.
+pub fn take(rt: &impl Abort, alloc: Global, edge: &mut Edge, input: Input<'_>, link: &mut MemLink)
+    requires { IsInRange input }
+{
+    let _effects = took(rt, alloc, edge, input, link);
+}
+
+/// The octets come to the edge from its peer.
+pub fn heard(
+    rt: &impl Abort,
+    alloc: Global,
+    edge: &mut Edge,
+    peer: EdgeId,
+    text: &str,
+    link: &mut MemLink,
+) -> Effects {
+    let octets = octets_of(rt, alloc, text);
+    let bytes = octets.as_slice();
+    took(rt, alloc, edge, Input::Octets { peer, bytes }, link)
+}
+
+/// The same, whatever comes of it.
+pub fn hears(
+    rt: &impl Abort,
+    alloc: Global,
+    edge: &mut Edge,
+    peer: EdgeId,
+    text: &str,
+    link: &mut MemLink,
+) {
+    let _effects = heard(rt, alloc, edge, peer, text, link);
+}
+
+/// Whether the call of a link at a place put these octets.
+pub fn put(rt: &impl Abort, alloc: Global, link: &MemLink, place: usize, text: &str) -> bool {
+    let octets = octets_of(rt, alloc, text);
+    match link.calls().get(place) {
+        Some(call) => !call.packet && call.bytes.as_slice() == octets.as_slice(),
+        None => false,
     }
 }
 
 /// A link without calls, and without faults.
-pub fn link(alloc: Global) -> Result<MemLink, Fail> {
-    Ok(MemLink::new(alloc, List::new(alloc))?)
+pub fn link(rt: &impl Abort, alloc: Global) -> MemLink {
+    MemLink::new(alloc, List::new(alloc)).expect(rt, "memory")
 }

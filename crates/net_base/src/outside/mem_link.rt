@@ -98,31 +98,3 @@ impl Link for MemLink {
         self.faults
     }
 }
-
-#[cfg(test)]
-mod tests {
-    use crate::{EdgeId, Link, LinkStop, List, MemLink};
-    use std::test::Fail;
-
-    #[test]
-    fn keeps_what_it_is_given_and_what_failed(rt: HostRuntime) -> Result<(), Fail> {
-        let alloc = rt.alloc();
-        let mut fails = List::new(alloc);
-        fails.push(2)?;
-        let mut link = MemLink::new(alloc, fails)?;
-        assert!(rt; link.put(EdgeId(1), &[1, 2]).is_ok());
-        assert!(rt; link.send(EdgeId(2), &[3]).err() == Some(LinkStop::Failed));
-        assert!(rt; link.send(EdgeId(2), &[4]).is_ok());
-        assert_eq!(rt; link.faults(), 1);
-        assert_eq!(rt; link.calls().len(), 3);
-        let first = link.calls().get(0).ok_or("a call")?;
-        assert!(rt; first.peer == EdgeId(1) && !first.packet && first.taken);
-        assert!(rt; first.bytes.as_slice() == [1, 2].as_slice());
-        let second = link.calls().get(1).ok_or("a call")?;
-        assert!(rt; second.peer == EdgeId(2) && second.packet && !second.taken);
-        assert!(rt; second.bytes.as_slice() == [3].as_slice());
-        let third = link.calls().get(2).ok_or("a call")?;
-        assert!(rt; third.packet && third.taken);
-        Ok(())
-    }
-}

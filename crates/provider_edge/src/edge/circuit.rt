@@ -1,38 +1,55 @@
 //! A circuit is turned on or off.
-ghost use Rattle.std.specs.Prelude.{◌≡◌, List, Some, position};
-ghost use Rattle.net_base.specs.declared.outside.link_call.LinkCall.{LinkCall};
+ghost use Rattle.std.specs.Prelude.{◌≡◌, Some, position, IfOk};
+ghost use Rattle.net_base.specs.declared.plan.circuit_plan.CircuitPlan.{CircuitPlan};
 ghost use Rattle.net_base.specs.plan.Places.{circuit_row};
 ghost use Rattle.hvpls_spokes.specs.Port.{is_circuit_port, ports_of};
-ghost use Rattle.edge_model.specs.Circuit.{circuit_input, without_port};
+ghost use Rattle.edge_model.specs.Circuit.{circuit_input, turned, without_port};
 ghost use Rattle.edge_model.specs.State.{addresses_of, with_addresses, with_circuit};
-ghost use Rattle.edge_model.specs.Work.{beginning};
+ghost use Rattle.edge_model.specs.Work.{Agrees, Answers, GoesOn, beginning};
 ghost use Rattle.provider_edge.specs.Lists.{Keeps, own_service, seen, worked};
 
 use crate::Edge;
-use crate::quiet::{idle, nothing};
+use crate::quiet::idle;
 use edge_model::Effects;
-use net_base::{CircuitId, ServiceId};
+use net_base::{CircuitId, Link, List, NoMemory, ServiceId};
 use std::alloc::Global;
 
 impl Edge {
-    // The edge turns a circuit of its own that is not so already.
-    #[tactic(auto, using(crate::proofs::WorkLemmas::circuit_other, crate::proofs::WorkLemmas::circuit_already, crate::proofs::WorkLemmas::circuit_turned_on, crate::proofs::WorkLemmas::circuit_turned_off, crate::proofs::WorkLemmas::still_own, crate::proofs::WorkLemmas::keeps_both))]
-    pub(crate) fn circuit(&mut self, alloc: Global, circuit: CircuitId, on: bool) -> Effects
+    // The edge turns a circuit of its own that is not so already, and mends its ends.
+    pub(crate) fn circuit<L: Link>(
+        &mut self,
+        alloc: Global,
+        circuit: CircuitId,
+        on: bool,
+        link: &mut L,
+    ) -> Result<Effects, NoMemory>
         ensures keeps { Keeps self.old self.new }
-        ensures step { (calls : List LinkCall) → worked self.new calls result ≡ circuit_input self.old.plan circuit on (circuit_row self.old.plan circuit) (beginning (seen self.old) calls) }
+        ensures calls { GoesOn (L.calls link.old) (L.calls link.new) }
+        ensures step { IfOk result (λ effects. (told : Answers) → Agrees told (L.calls link.new)
+            → worked self.new (L.calls link.new) effects ≡ circuit_input self.old.plan told circuit on (circuit_row self.old.plan circuit) (beginning (seen self.old) (L.calls link.old))) }
     {
         let Some(service) = self.own_service(circuit) else {
-            return idle(alloc);
+            return Ok(idle(alloc));
         };
         if self.is_on(circuit) == on {
-            return idle(alloc);
+            return Ok(idle(alloc));
         }
+        self.turn_circuit(circuit, service, on);
+        let mut list = List::new(alloc);
+        self.mend(alloc, link, &mut list)?;
+        Ok(Effects { idle: false, list })
+    }
+
+    // Turns a circuit of the edge; where it is off, the bridge forgets what it learned there.
+    fn turn_circuit(&mut self, circuit: CircuitId, service: ServiceId, on: bool)
+        requires own { own_service (seen self.old) (circuit_row self.old.plan circuit) ≡ Some service }
+        ensures keeps { Keeps self.old self.new }
+        ensures step { (row : CircuitPlan) → circuit_row self.old.plan circuit ≡ Some row → seen self.new ≡ turned self.old.plan circuit row on (seen self.old) }
+    {
         self.turn(circuit, service, on);
-        if on {
-            return nothing(alloc);
+        if !on {
+            self.forget_circuit(circuit, service);
         }
-        self.forget_circuit(circuit, service);
-        nothing(alloc)
     }
 
     // Turns a circuit of the edge.

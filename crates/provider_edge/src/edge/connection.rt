@@ -1,26 +1,28 @@
 //! Connections of the edge: one stands, one is lost, and the edge restarts.
-ghost use Rattle.std.specs.Prelude.{◌≡◌, ◌<◌, [], List, length, map, replicate, slice_get, None, IfOk, IfSome, OnOk};
-ghost use Rattle.net_base.specs.declared.outside.link_call.LinkCall.{LinkCall};
+ghost use Rattle.std.specs.Prelude.{◌≡◌, ◌<◌, [], List, None, length, slice_get, slice_index_or, IfOk, OnOk};
+ghost use Rattle.net_base.specs.declared.trace.state_name.Reason.TheVariants as reason;
+ghost use Rattle.session_core.specs.State.{IsProper};
+ghost use Rattle.session_core.specs.Table.{Closed};
 ghost use Rattle.edge_model.specs.Connection.{connected_input, connects, lost_input, restart_input};
-ghost use Rattle.edge_model.specs.Session.{happens};
-ghost use Rattle.edge_model.specs.State.{with_learned, with_peering, without_peerings};
+ghost use Rattle.edge_model.specs.Mend.{mends};
+ghost use Rattle.edge_model.specs.Session.{happens_with_ends};
+ghost use Rattle.edge_model.specs.State.{with_learned, without_ends, without_peerings};
 ghost use Rattle.edge_model.specs.Work.{Agrees, Answers, GoesOn, beginning};
-ghost use Rattle.provider_edge.specs.Event.{MayHappen, event_of};
+ghost use Rattle.net_base.specs.declared.outside.link_call.LinkCall.{LinkCall};
 ghost use Rattle.provider_edge.specs.Lists.{Keeps, seen, worked};
-ghost use Rattle.provider_edge.specs.Peering.{at_edge, dropped, peers_between};
+ghost use Rattle.provider_edge.specs.Peering.{at_edge, connection_with, peers_between};
 
 use crate::Edge;
 use crate::domain::clear_all;
-use crate::event::Event;
-use crate::peering::Peering;
 use crate::quiet::{idle, nothing};
 use edge_model::{Effect, Effects};
-use net_base::{EdgeId, Link, List, NoMemory, StateName};
+use net_base::{EdgeId, Link, List, NoMemory};
 use session_core::Peers;
 use std::alloc::Global;
 
 impl Edge {
     // The edge's end of a connection with a peer stands, and its session begins.
+    #[tactic(auto, using(crate::proofs::SpeakerLemmas::goes_both))]
     pub(crate) fn connected<L: Link>(
         &mut self,
         alloc: Global,
@@ -38,34 +40,31 @@ impl Edge {
         let Some(peers) = self.peers_with(peer) else {
             return Ok(idle(alloc));
         };
-        let kept = Peering::open(alloc, peers)?;
         let mut list = List::new(alloc);
-        self.connect(alloc, peer, kept, link, &mut list)?;
+        self.forget_octets(peer);
+        self.connect(alloc, peer, peers, link, &mut list)?;
+        self.mend(alloc, link, &mut list)?;
         Ok(Effects { idle: false, list })
     }
 
-    // A connection stands, and its session begins.
-    #[tactic(auto, using(crate::proofs::WorkLemmas::keeps_both))]
+    // A connection stands, of which nothing came yet, and its session begins.
     fn connect<L: Link>(
         &mut self,
         alloc: Global,
         peer: EdgeId,
-        kept: Peering,
+        peers: Peers,
         link: &mut L,
         out: &mut List<Effect>,
     ) -> Result<(), NoMemory>
-        requires { peer.0 < length self.old.plan.edges }
+        requires within { peer.0 < length self.old.plan.edges }
+        requires proper { IsProper peers }
+        requires none { slice_index_or self.old.held peer.0 [] ≡ [] }
         ensures keeps { Keeps self.old self.new }
         ensures calls { GoesOn (L.calls link.old) (L.calls link.new) }
         ensures step { OnOk result ((told : Answers) → Agrees told (L.calls link.new)
-            → at_edge (seen self.new) (L.calls link.new) out.new ≡ connects told peer kept (at_edge (seen self.old) (L.calls link.old) out.old)) }
+            → at_edge (seen self.new) (L.calls link.new) out.new ≡ connects told peer (connection_with peers) (at_edge (seen self.old) (L.calls link.old) out.old)) }
     {
-        self.put_peering(peer, Some(kept));
-        out.push(Effect::Session {
-            peer,
-            state: StateName::Initialized,
-        })?;
-        self.happens(alloc, peer, Event::Start, link, out)
+        self.control.connect(alloc, peer, peers, link, out)
     }
 
     // The two ends of a session, as the plan has them.
@@ -82,36 +81,79 @@ impl Edge {
         })
     }
 
-    // The edge's end of a connection with a peer is lost.
-    pub(crate) fn lost(&mut self, alloc: Global, peer: EdgeId) -> Result<Effects, NoMemory>
+    // What is held of a peer with which no connection stands is given up.
+    #[tactic(auto, using(crate::proofs::EdgeLemmas::edge_worked, crate::proofs::EdgeLemmas::seen_unheld, crate::proofs::EdgeLemmas::unheld))]
+    fn forget_octets(&mut self, peer: EdgeId)
+        requires within { peer.0 < length self.old.plan.edges }
+        requires none { (seen self.old).peering peer.0 ≡ None }
         ensures keeps { Keeps self.old self.new }
-        ensures step { IfOk result (λ effects. (told : Answers) (calls : List LinkCall) → worked self.new calls effects ≡ lost_input told peer (beginning (seen self.old) calls)) }
+        ensures none { slice_index_or self.new.held peer.0 [] ≡ [] }
+        ensures step { seen self.new ≡ seen self.old }
     {
-        let Some(kept) = self.take_peering(peer) else {
+        self.held[peer.0 as usize].clear();
+    }
+
+    // The edge's end of a connection with a peer is lost.
+    pub(crate) fn lost<L: Link>(
+        &mut self,
+        alloc: Global,
+        peer: EdgeId,
+        link: &mut L,
+    ) -> Result<Effects, NoMemory>
+        ensures keeps { Keeps self.old self.new }
+        ensures calls { GoesOn (L.calls link.old) (L.calls link.new) }
+        ensures step { IfOk result (λ effects. (told : Answers) → Agrees told (L.calls link.new)
+            → worked self.new (L.calls link.new) effects ≡ lost_input self.old.plan told peer (beginning (seen self.old) (L.calls link.old))) }
+    {
+        if !self.has_end(peer) {
             return Ok(idle(alloc));
-        };
+        }
         let mut list = List::new(alloc);
-        kept.lose(peer, &mut list)?;
+        self.lose(peer, &mut list)?;
+        self.mend(alloc, link, &mut list)?;
         Ok(Effects { idle: false, list })
     }
 
-    // The edge restarts: it keeps its ticks and its circuits.
-    #[tactic(auto, using(crate::proofs::WorkLemmas::keeps_both, crate::proofs::PeeringLemmas::restart_done))]
+    // The session with a peer ends, since the connection is lost.
+    fn lose(&mut self, peer: EdgeId, out: &mut List<Effect>) -> Result<(), NoMemory>
+        ensures keeps { Keeps self.old self.new }
+        ensures step { OnOk result ((told : Answers) (calls : List LinkCall)
+            → at_edge (seen self.new) calls out.new ≡ happens_with_ends told peer (Closed reason.Closed) (at_edge (seen self.old) calls out.old)) }
+    {
+        self.control.lose(peer, out)
+    }
+
+    // What each end tells follows what it should tell by now.
+    pub(crate) fn mend<L: Link>(
+        &mut self,
+        alloc: Global,
+        link: &mut L,
+        out: &mut List<Effect>,
+    ) -> Result<(), NoMemory>
+        ensures keeps { Keeps self.old self.new }
+        ensures calls { GoesOn (L.calls link.old) (L.calls link.new) }
+        ensures step { OnOk result ((told : Answers) → Agrees told (L.calls link.new)
+            → at_edge (seen self.new) (L.calls link.new) out.new ≡ mends self.old.plan told (at_edge (seen self.old) (L.calls link.old) out.old)) }
+    {
+        self.control.mend(alloc, link, out)
+    }
+
+    // The edge restarts: it keeps its ticks, what was set of its circuits and wires, and the label that it gives next.
     pub(crate) fn restart(&mut self, alloc: Global) -> Effects
         ensures keeps { Keeps self.old self.new }
         ensures step { (calls : List LinkCall) → worked self.new calls result ≡ restart_input (beginning (seen self.old) calls) }
     {
-        self.drop_peerings();
+        self.restart_control();
         self.forget_stations();
         nothing(alloc)
     }
 
-    // Nothing is kept for any neighbour.
-    fn drop_peerings(&mut self)
+    // No session stands, and each end is as it was opened.
+    fn restart_control(&mut self)
         ensures keeps { Keeps self.old self.new }
-        ensures step { seen self.new ≡ without_peerings (seen self.old) }
+        ensures step { seen self.new ≡ without_ends (without_peerings (seen self.old)) }
     {
-        drop_all(&mut self.peerings);
+        self.control.restart();
     }
 
     // Each bridge forgets all that it has learned.
@@ -120,73 +162,5 @@ impl Edge {
         ensures step { seen self.new ≡ with_learned (λ service. []) (seen self.old) }
     {
         clear_all(&mut self.domains);
-    }
-
-    // Something happens to the session with a peer, where it stands.
-    #[tactic(auto, using(crate::proofs::WorkLemmas::keeps_both, crate::proofs::EffectLemmas::goes_nowhere))]
-    pub(crate) fn happens<L: Link>(
-        &mut self,
-        alloc: Global,
-        peer: EdgeId,
-        event: Event<'_>,
-        link: &mut L,
-        out: &mut List<Effect>,
-    ) -> Result<(), NoMemory>
-        requires { MayHappen event }
-        ensures keeps { Keeps self.old self.new }
-        ensures calls { GoesOn (L.calls link.old) (L.calls link.new) }
-        ensures step { OnOk result ((told : Answers) → Agrees told (L.calls link.new)
-            → at_edge (seen self.new) (L.calls link.new) out.new ≡ happens told peer (event_of event.entry) (at_edge (seen self.old) (L.calls link.old) out.old)) }
-    {
-        let Some(kept) = self.take_peering(peer) else {
-            return Ok(());
-        };
-        let left = kept.happens(alloc, peer, event, link, out)?;
-        self.put_peering(peer, left);
-        Ok(())
-    }
-
-    // Takes out what is kept for a neighbour.
-    pub(crate) fn take_peering(&mut self, peer: EdgeId) -> Option<Peering>
-        ensures keeps { Keeps self.old self.new }
-        ensures taken { result ≡ (seen self.old).peering peer.0 }
-        ensures within { IfSome result (λ kept. peer.0 < length self.old.plan.edges) }
-        ensures step { seen self.new ≡ with_peering peer None (seen self.old) }
-    {
-        if peer.0 as usize >= self.peerings.len() {
-            return None;
-        }
-        self.peerings[peer.0 as usize].take()
-    }
-
-    // Keeps something for a neighbour, or nothing any more.
-    pub(crate) fn put_peering(&mut self, peer: EdgeId, kept: Option<Peering>)
-        requires { peer.0 < length self.old.plan.edges }
-        ensures keeps { Keeps self.old self.new }
-        ensures step { seen self.new ≡ with_peering peer kept (seen self.old) }
-    {
-        self.peerings[peer.0 as usize] = kept;
-    }
-}
-
-/// Nothing is kept for any of so many neighbours.
-#[tactic(auto, using(crate::proofs::PeeringLemmas::one_none_more))]
-pub fn no_peerings(alloc: Global, count: usize) -> Result<Vec<Option<Peering>>, NoMemory>
-    ensures { IfOk result (λ kept. kept.items ≡ replicate count None) }
-{
-    let mut peerings = Vec::with_capacity(alloc, count)?;
-    for _place in 0..count {
-        peerings.push(None)?;
-    }
-    Ok(peerings)
-}
-
-// Nothing is kept for any neighbour any more.
-#[tactic(auto, using(crate::proofs::EachLemmas::each_next))]
-fn drop_all(peerings: &mut Vec<Option<Peering>>)
-    ensures { peerings.new.items ≡ map dropped peerings.old.items }
-{
-    for kept in peerings.iter_mut() {
-        *kept = None;
     }
 }

@@ -1,18 +1,20 @@
 //! Octets of LDP come from a peer.
-ghost use Rattle.std.specs.Prelude.{◌≡◌, List, IfOk};
-ghost use Rattle.edge_model.specs.Hear.{octets_input};
+ghost use Rattle.std.specs.Prelude.{◌≡◌, true, IfOk, OnOk};
+ghost use Rattle.edge_model.specs.Hear.{hears_on, octets_input};
+ghost use Rattle.edge_model.specs.State.{has_end};
 ghost use Rattle.edge_model.specs.Work.{Agrees, Answers, GoesOn, beginning};
 ghost use Rattle.provider_edge.specs.Lists.{Keeps, seen, worked};
+ghost use Rattle.provider_edge.specs.Peering.{at_edge};
 
 use crate::Edge;
 use crate::quiet::idle;
-use edge_model::Effects;
+use edge_model::{Effect, Effects};
 use net_base::{EdgeId, Link, List, NoMemory};
 use std::alloc::Global;
 
 impl Edge {
     // Octets of LDP come from a peer.
-    #[tactic(auto, using(crate::proofs::WorkLemmas::keeps_both, crate::proofs::EffectLemmas::goes_nowhere))]
+    #[tactic(auto, using(crate::proofs::SpeakerLemmas::goes_both))]
     pub(crate) fn octets<L: Link>(
         &mut self,
         alloc: Global,
@@ -23,14 +25,34 @@ impl Edge {
         ensures keeps { Keeps self.old self.new }
         ensures calls { GoesOn (L.calls link.old) (L.calls link.new) }
         ensures step { IfOk result (λ effects. (told : Answers) → Agrees told (L.calls link.new)
-            → worked self.new (L.calls link.new) effects ≡ octets_input told peer octets.now ((seen self.old).peering peer.0) (beginning (seen self.old) (L.calls link.old))) }
+            → worked self.new (L.calls link.new) effects ≡ octets_input self.old.plan told peer octets.now ((seen self.old).peering peer.0) (beginning (seen self.old) (L.calls link.old))) }
     {
-        let Some(kept) = self.take_peering(peer) else {
+        if !self.has_end(peer) {
             return Ok(idle(alloc));
-        };
+        }
         let mut list = List::new(alloc);
-        let left = kept.hear(alloc, peer, octets, link, &mut list)?;
-        self.put_peering(peer, left);
+        self.hear_octets(alloc, peer, octets, link, &mut list)?;
+        self.mend(alloc, link, &mut list)?;
         Ok(Effects { idle: false, list })
+    }
+
+    // Octets are heard behind those that are held of a peer with which a connection stands.
+    #[tactic(auto, using(crate::proofs::EdgeLemmas::end_within, crate::proofs::EdgeLemmas::edge_worked))]
+    fn hear_octets<L: Link>(
+        &mut self,
+        alloc: Global,
+        peer: EdgeId,
+        octets: &[u8],
+        link: &mut L,
+        out: &mut List<Effect>,
+    ) -> Result<(), NoMemory>
+        requires stands { has_end (seen self.old) peer ≡ true }
+        ensures keeps { Keeps self.old self.new }
+        ensures calls { GoesOn (L.calls link.old) (L.calls link.new) }
+        ensures step { OnOk result ((told : Answers) → Agrees told (L.calls link.new)
+            → at_edge (seen self.new) (L.calls link.new) out.new ≡ hears_on self.old.plan told peer octets.now ((seen self.old).peering peer.0) (at_edge (seen self.old) (L.calls link.old) out.old)) }
+    {
+        let held = &mut self.held[peer.0 as usize];
+        self.control.hear(held, alloc, peer, octets, link, out)
     }
 }

@@ -8,13 +8,13 @@ ghost use Rattle.provider_edge.specs.Peering.{at_edge};
 
 use crate::Edge;
 use crate::domain::forget_all;
-use crate::event::Event;
 use edge_model::{Effect, Effects};
-use net_base::{EdgeId, Link, List, NoMemory};
+use net_base::{Link, List, NoMemory};
 use std::alloc::Global;
 
 impl Edge {
-    // The edge counts the tick, its sessions have it, and then its bridges forget.
+    // The edge counts the tick, its sessions have it, its bridges forget, and then it mends its ends.
+    #[tactic(auto, using(crate::proofs::SpeakerLemmas::goes_both))]
     pub(crate) fn tick<L: Link>(&mut self, alloc: Global, link: &mut L) -> Result<Effects, NoMemory>
         ensures keeps { Keeps self.old self.new }
         ensures calls { GoesOn (L.calls link.old) (L.calls link.new) }
@@ -25,6 +25,7 @@ impl Edge {
         let mut list = List::new(alloc);
         self.tick_sessions(alloc, link, &mut list)?;
         self.forget();
+        self.mend(alloc, link, &mut list)?;
         Ok(Effects { idle: false, list })
     }
 
@@ -40,11 +41,7 @@ impl Edge {
         ensures step { OnOk result ((told : Answers) → Agrees told (L.calls link.new)
             → at_edge (seen self.new) (L.calls link.new) out.new ≡ ticks_sessions told 0 (length self.old.plan.edges) (at_edge (seen self.old) (L.calls link.old) out.old)) }
     {
-        for place in 0..self.plan.edges.len() {
-            let peer = EdgeId(place as u16);
-            self.happens(alloc, peer, Event::Ticked, link, out)?;
-        }
-        Ok(())
+        self.control.tick(alloc, link, out)
     }
 
     // One tick more.

@@ -22,7 +22,10 @@ pub(crate) fn mark_after(index: &mut DeliveryIndex, parts: &Parts, event: &Event
             mark(index, parts, *to);
         }
         Event::Deliver { to, .. } => mark(index, parts, *to),
-        Event::Lose { edge, .. } | Event::Restart { edge } => mark(index, parts, *edge),
+        Event::Lose { edge, .. }
+        | Event::Restart { edge }
+        | Event::Wire { edge, .. }
+        | Event::Status { edge, .. } => mark(index, parts, *edge),
         Event::Tick => mark_all(index, parts),
         Event::Frame { circuit, .. } | Event::Circuit { circuit, .. } => {
             mark(index, parts, parts.edge_of(*circuit));

@@ -60,7 +60,7 @@ impl Parts {
         requires to { to.0 < length self.old.plan.edges }
         requires room { HasRoom self.old }
         ensures keeps { Keeps self.old self.new }
-        ensures step { OnOk result (HasStepped self.old self.new (deliver_event from to count (seen self.old))) }
+        ensures step { OnOk result (HasStepped self.old self.new (deliver_event self.old.plan from to count (seen self.old))) }
     {
         if !self.is_deliverable(from, to) {
             return self.tell_idle();
@@ -84,7 +84,7 @@ impl Parts {
         requires to { to.0 < length self.old.plan.edges }
         requires room { HasRoom self.old }
         ensures keeps { Keeps self.old self.new }
-        ensures step { OnOk result (HasStepped self.old self.new (delivering from to count (seen self.old))) }
+        ensures step { OnOk result (HasStepped self.old self.new (delivering self.old.plan from to count (seen self.old))) }
     {
         let effects = self.hand_over(alloc, from, to, count)?;
         self.give_up(from, to, count);
@@ -103,7 +103,7 @@ impl Parts {
         requires to { to.0 < length self.old.plan.edges }
         ensures keeps { Keeps self.old self.new }
         ensures room { HasRoom self.old → HasRoom self.new }
-        ensures driven { IfOk result (HasDriven to self.old self.new (hearing_work (seen self.old) from to (take count ((seen self.old).pipes from.0 to.0)))) }
+        ensures driven { IfOk result (HasDriven to self.old self.new (hearing_work self.old.plan (seen self.old) from to (take count ((seen self.old).pipes from.0 to.0)))) }
         ensures fit { IfOk result (λ effects. AllFit self.old.plan effects.list) }
     {
         let bytes = self.pipes.front(from, to, count as usize);
@@ -136,7 +136,7 @@ impl Parts {
         requires me { me.0 < length self.old.plan.edges }
         requires room { HasRoom self.old }
         ensures keeps { Keeps self.old self.new }
-        ensures step { OnOk result (HasStepped self.old self.new (lose_event me peer (seen self.old))) }
+        ensures step { OnOk result (HasStepped self.old self.new (lose_event self.old.plan me peer (seen self.old))) }
     {
         if self.stands(me, peer) {
             return self.lose_end(alloc, me, peer);
@@ -150,7 +150,7 @@ impl Parts {
         requires me { me.0 < length self.old.plan.edges }
         requires room { HasRoom self.old }
         ensures keeps { Keeps self.old self.new }
-        ensures step { OnOk result (HasStepped self.old self.new (losing me peer (seen self.old))) }
+        ensures step { OnOk result (HasStepped self.old self.new (losing self.old.plan me peer (seen self.old))) }
     {
         let effects = self.drive(alloc, me, Input::Lost { peer })?;
         self.absorb(alloc, me, 0, 0, effects.list.into_items())

@@ -5,11 +5,12 @@ ghost use Rattle.network_model.specs.Circuit.{circuit_event};
 ghost use Rattle.network_model.specs.Frame.{frame_event};
 ghost use Rattle.network_model.specs.State.{with_frame};
 ghost use Rattle.network_model.specs.Tick.{tick_at, tick_event};
+ghost use Rattle.network_model.specs.Wire.{status_event, wire_event};
 ghost use Rattle.psn_net.specs.Lists.{HasEntered, HasRoom, HasStepped, Keeps, edge_of, seen};
 
 use crate::parts::Parts;
 use edge_model::Input;
-use net_base::{CircuitId, EdgeId, Entry, List, NoMemory};
+use net_base::{CircuitId, EdgeId, Entry, List, NoMemory, WireId};
 use std::alloc::Global;
 
 impl Parts {
@@ -40,7 +41,7 @@ impl Parts {
     }
 
     // A circuit is turned on or off.
-    #[tactic(auto, using(crate::proofs::NetworkLemmas::circuit_idle_stepped, crate::proofs::NetworkLemmas::circuit_stepped))]
+    #[tactic(auto, using(crate::proofs::AnswerLemmas::circuit_stepped))]
     pub(crate) fn circuit(
         &mut self,
         alloc: Global,
@@ -54,6 +55,51 @@ impl Parts {
     {
         let me = self.edge_of(circuit);
         let effects = self.drive(alloc, me, Input::Circuit { circuit, on })?;
+        if effects.idle {
+            self.tell(Entry::Idle)?;
+            return Ok(());
+        }
+        self.absorb(alloc, me, 0, 0, effects.list.into_items())
+    }
+
+    // A wire is put on or off at an edge.
+    #[tactic(auto, using(crate::proofs::AnswerLemmas::wire_stepped))]
+    pub(crate) fn wire(
+        &mut self,
+        alloc: Global,
+        me: EdgeId,
+        wire: WireId,
+        on: bool,
+    ) -> Result<(), NoMemory>
+        requires me { me.0 < length self.old.plan.edges }
+        requires room { HasRoom self.old }
+        ensures keeps { Keeps self.old self.new }
+        ensures step { OnOk result (HasStepped self.old self.new (wire_event self.old.plan me wire on (seen self.old))) }
+    {
+        let effects = self.drive(alloc, me, Input::Wire { wire, on })?;
+        if effects.idle {
+            self.tell(Entry::Idle)?;
+            return Ok(());
+        }
+        self.absorb(alloc, me, 0, 0, effects.list.into_items())
+    }
+
+    // The failure bits of an edge's end of a wire are set.
+    #[tactic(auto, using(crate::proofs::AnswerLemmas::status_stepped))]
+    pub(crate) fn status(
+        &mut self,
+        alloc: Global,
+        me: EdgeId,
+        wire: WireId,
+        bits: u8,
+    ) -> Result<(), NoMemory>
+        requires me { me.0 < length self.old.plan.edges }
+        requires bits { bits ≤ 31 }
+        requires room { HasRoom self.old }
+        ensures keeps { Keeps self.old self.new }
+        ensures step { OnOk result (HasStepped self.old self.new (status_event self.old.plan me wire bits (seen self.old))) }
+    {
+        let effects = self.drive(alloc, me, Input::Status { wire, bits })?;
         if effects.idle {
             self.tell(Entry::Idle)?;
             return Ok(());

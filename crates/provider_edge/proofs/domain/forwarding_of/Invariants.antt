@@ -7,4 +7,4 @@ use Rattle.edge_model.specs.Frame.{port_forwards}
 use Rattle.provider_edge.proofs.domain.forwarding_of.Given as goal
 
 abbrev pub invariant-loop-port : goal.invariant-loop-port
-invariant-loop-port l = (plan : Plan) (me : EdgeId) (p : ℕ) → has l.forwarding p ≡ (nat_lt p l.port && port_forwards plan (empty_edge me) l.ports p)
+invariant-loop-port l = (plan : Plan) (me : EdgeId) (p : ℕ) → has l.forwarding p ≡ (nat_lt p l.port && port_forwards plan (empty_edge plan me) l.ports p)

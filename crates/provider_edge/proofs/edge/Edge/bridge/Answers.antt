@@ -4,12 +4,13 @@ use Rattle.std.proofs.lemmas.Option.{slice_get_read}
 use Rattle.edge_model.specs.State.{addresses_of}
 use Rattle.provider_edge.specs.declared.domain.Domain.{Domain}
 use Rattle.provider_edge.specs.Lists.{EdgeLists, seen}
+use Rattle.provider_edge.specs.contracts.edge.Edge.{the_view}
 use Rattle.provider_edge.proofs.KeptLemmas.{HasNone, bridge_learned, lent_none, lent_some}
 use Rattle.provider_edge.proofs.edge.Edge.bridge.Goals as goal
 
 pub returns-in-Some-clause-none : goal.returns-in-Some-clause-none
 returns-in-Some-clause-none c =
-    let v : EdgeLists = record { plan = c.self.inside.plan.value; me = c.self.inside.me; circuits_on = c.self.inside.circuits_on.items; domains = c.self.inside.domains.items; peerings = c.self.inside.peerings.items; ticks = c.self.inside.ticks; stopped = c.self.inside.stopped } in
+    let v : EdgeLists = the_view c.self.inside in
     let within : c.args.service.0 < length c.deref.result.now = grind (arith, nat_tests, c.in_ok-domain.ensures.lookup.0) in
     let found : slice_get v.domains c.args.service.0 ≡ Some (Some c.in-Some.domain) =
     ap (λ (kept : List (Option Domain)). slice_get kept c.args.service.0) (sym c.deref.ensures.value)
@@ -19,7 +20,7 @@ returns-in-Some-clause-none c =
 
 pub returns-in-Some-clause-learned : goal.returns-in-Some-clause-learned
 returns-in-Some-clause-learned c =
-    let v : EdgeLists = record { plan = c.self.inside.plan.value; me = c.self.inside.me; circuits_on = c.self.inside.circuits_on.items; domains = c.self.inside.domains.items; peerings = c.self.inside.peerings.items; ticks = c.self.inside.ticks; stopped = c.self.inside.stopped } in
+    let v : EdgeLists = the_view c.self.inside in
     let within : c.args.service.0 < length c.deref.result.now = grind (arith, nat_tests, c.in_ok-domain.ensures.lookup.0) in
     let found : slice_get v.domains c.args.service.0 ≡ Some (Some c.in-Some.domain) =
     ap (λ (kept : List (Option Domain)). slice_get kept c.args.service.0) (sym c.deref.ensures.value)
@@ -29,7 +30,7 @@ returns-in-Some-clause-learned c =
 
 pub returns-in-None-clause-none : goal.returns-in-None-clause-none
 returns-in-None-clause-none c =
-    let v : EdgeLists = record { plan = c.self.inside.plan.value; me = c.self.inside.me; circuits_on = c.self.inside.circuits_on.items; domains = c.self.inside.domains.items; peerings = c.self.inside.peerings.items; ticks = c.self.inside.ticks; stopped = c.self.inside.stopped } in
+    let v : EdgeLists = the_view c.self.inside in
     let within : c.args.service.0 < length c.deref.result.now = grind (arith, nat_tests, c.in_ok-domain.ensures.lookup.0) in
     let found : slice_get v.domains c.args.service.0 ≡ Some None =
     ap (λ (kept : List (Option Domain)). slice_get kept c.args.service.0) (sym c.deref.ensures.value)

@@ -1,10 +1,30 @@
-use Rattle.provider_edge.specs.Lists.{seen}
-use Rattle.provider_edge.proofs.PeeringLemmas.{connect_done}
+use Rattle.std.proofs.Common.{◌≡◌, ◌∙◌, ◌<◌, ℕ, List, [], length, slice_index_or, ap, sym, subst}
+use Rattle.net_base.specs.declared.plan.Plan.{Plan}
+use Rattle.session_core.specs.State.{opened}
+use Rattle.edge_model.specs.Connection.{connects}
+use Rattle.provider_edge.specs.Control.{at_control}
+use Rattle.provider_edge.specs.Lists.{EdgeLists, rest_of, seen}
+use Rattle.provider_edge.specs.contracts.edge.Edge.{the_view}
+use Rattle.provider_edge.specs.Peering.{at_edge, connection_with}
+use Rattle.provider_edge.proofs.EdgeLemmas.{edge_control, worked_edge}
 use Rattle.provider_edge.proofs.SettleLemmas.{map_on}
 use Rattle.provider_edge.proofs.edge.Edge.connect.Goals as goal
 
+pub connect-requires-clause-within : goal.connect-requires-clause-within
+connect-requires-clause-within g c =
+    subst (λ (p : Plan). c.args.peer.0 < length p.edges) (sym c.self.invariant.plan) (subst (λ (n : EdgeLists). c.args.peer.0 < length n.plan.edges) (sym c.self.view_is) c.requires.within)
+
+pub invariant_of-self : goal.invariant_of-self
+invariant_of-self g c = edge_control (the_view c.self.inside) c.connect.new.self c.connect.ensures.keeps c.self.invariant
+
 pub returns-clause-step : goal.returns-clause-step
-returns-clause-step g c = map_on _ _ c.happens.result
-    (λ step told agrees. connect_done told c.args.peer c.args.kept (seen c.args.self.now) (seen c.put_peering.new.self) (seen c.happens.new.self) (g.L.Link.calls c.args.link.now) (g.L.Link.calls c.happens.new.link) c.args.out.now c.push.new.self c.happens.new.out
-    c.put_peering.ensures.step c.in_ok-push.ensures.ok (step told agrees))
-    c.happens.ensures.step
+returns-clause-step g c =
+    let v : EdgeLists = the_view c.self.inside in
+    let none : slice_index_or v.held c.args.peer.0 [] ≡ [] = subst (λ (n : EdgeLists). slice_index_or n.held c.args.peer.0 [] ≡ []) (sym c.self.view_is) c.requires.none in
+    map_on _ _ c.connect.result
+    (λ step told agrees.
+    subst (λ (n : EdgeLists). at_edge (seen (record (the_view c.self.inside) { control = c.connect.new.self })) (g.L.Link.calls c.connect.new.link) c.connect.new.out ≡ connects told c.args.peer (connection_with c.args.peers) (at_edge (seen n) (g.L.Link.calls c.args.link.now) c.args.out.now)) c.self.view_is
+    (worked_edge (connects told c.args.peer (connection_with c.args.peers)) (the_view c.self.inside) c.connect.new.self (g.L.Link.calls c.args.link.now) (g.L.Link.calls c.connect.new.link) c.args.out.now c.connect.new.out c.self.invariant c.connect.ensures.keeps
+    (step told (rest_of (the_view c.self.inside)) agrees
+    ∙ ap (λ (held : List ℕ). connects told c.args.peer (record { session = opened c.args.peers; held = held; next_id = 1 }) (at_control (the_view c.self.inside).control (rest_of (the_view c.self.inside)) (g.L.Link.calls c.args.link.now) c.args.out.now)) none)))
+    c.connect.ensures.step

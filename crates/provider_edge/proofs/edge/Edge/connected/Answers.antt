@@ -4,12 +4,14 @@ use Rattle.net_base.specs.plan.Accepted.{IsChecked}
 use Rattle.net_base.specs.plan.Paths.{are_joined}
 use Rattle.edge_model.specs.declared.effects.Effects.{Effects}
 use Rattle.edge_model.specs.Connection.{connected_input, connects}
-use Rattle.edge_model.specs.State.{has_end}
+use Rattle.edge_model.specs.State.{EdgeState, has_end}
 use Rattle.edge_model.specs.Work.{beginning}
 use Rattle.provider_edge.specs.Lists.{EdgeLists, seen, worked}
-use Rattle.provider_edge.specs.Peering.{at_edge}
-use Rattle.provider_edge.proofs.PeeringLemmas.{apart_test, connected_idle, connected_none, connected_some, joined_test, peer_within, stands_test}
+use Rattle.provider_edge.specs.Peering.{at_edge, connection_with}
+use Rattle.provider_edge.proofs.EdgeLemmas.{apart_test, begun, connected_done, connected_idle, connected_none, joined_test, mended, none_by, peer_within, stands_test}
 use Rattle.provider_edge.proofs.ProperLemmas.{proper_between}
+use Rattle.provider_edge.proofs.SpeakerLemmas.{agrees_before}
+use Rattle.provider_edge.proofs.WorkLemmas.{keeps_both}
 use Rattle.provider_edge.proofs.edge.Edge.connected.Goals.{then-not-joined-via-then-not-joined, then-not-joined-via-else-not-joined+then-has_end}
 use Rattle.provider_edge.proofs.edge.Edge.connected.Goals as goal
 
@@ -30,20 +32,35 @@ returns-in_default-clause-step g c = λ told agrees.
     subst (λ (e : Effects). worked c.args.self.now (g.L.Link.calls c.args.link.now) e ≡ connected_input c.args.self.now.plan told c.args.peer (beginning (seen c.args.self.now) (g.L.Link.calls c.args.link.now))) (sym c.idle-in_default.ensures)
     (connected_none c.args.self.now told c.args.peer c.peers_with.result (g.L.Link.calls c.args.link.now) (joined_test (are_joined c.args.self.now.plan c.args.self.now.me.0 c.args.peer.0) (has_end (seen c.args.self.now) c.args.peer) (sym joined ∙ c.if-not-joined.false) (sym c.has_end.ensures ∙ c.if-has_end.false)) c.peers_with.ensures c.in_default.is)
 
-pub open-requires : goal.open-requires
-open-requires g c =
+pub forget_octets-requires-clause-within : goal.forget_octets-requires-clause-within
+forget_octets-requires-clause-within g c = peer_within c.args.self.now.plan _ c.args.peer c.in-Some.peers (sym c.peers_with.ensures ∙ c.in-Some.is)
+
+pub forget_octets-requires-clause-none : goal.forget_octets-requires-clause-none
+forget_octets-requires-clause-none g c = none_by ((seen c.args.self.now).peering c.args.peer.0) (sym c.has_end.ensures ∙ c.if-has_end.false)
+
+pub connect-requires-clause-within : goal.connect-requires-clause-within
+connect-requires-clause-within g c =
+    subst (λ (p : Plan). c.args.peer.0 < length p.edges) (sym c.forget_octets.ensures.keeps.plan)
+    (peer_within c.args.self.now.plan _ c.args.peer c.in-Some.peers (sym c.peers_with.ensures ∙ c.in-Some.is))
+
+pub connect-requires-clause-proper : goal.connect-requires-clause-proper
+connect-requires-clause-proper g c =
     let joined : c.joined.result ≡ are_joined c.args.self.now.plan c.args.self.now.me.0 c.args.peer.0 =
     c.joined.ensures ∙ (ap (λ (p : Plan). are_joined p c.self.inside.me.0 c.args.peer.0) c.deref.ensures ∙ ap (λ (e : EdgeLists). are_joined e.plan e.me.0 c.args.peer.0) c.self.view_is) in
     proper_between c.args.self.now.plan c.args.self.now.me.0 c.args.peer.0 c.peers_with.result c.in-Some.peers (subst (λ (e : EdgeLists). IsChecked e.plan) c.self.view_is c.self.invariant.checked) (sym joined ∙ c.if-not-joined.false) c.peers_with.ensures c.in-Some.is
-
-pub connect-requires : goal.connect-requires
-connect-requires g c = peer_within c.args.self.now.plan _ c.args.peer c.in-Some.peers (sym c.peers_with.ensures ∙ c.in-Some.is)
 
 pub returns-clause-step : goal.returns-clause-step
 returns-clause-step g c = λ told agrees.
     let joined : c.joined.result ≡ are_joined c.args.self.now.plan c.args.self.now.me.0 c.args.peer.0 =
     c.joined.ensures ∙ (ap (λ (p : Plan). are_joined p c.self.inside.me.0 c.args.peer.0) c.deref.ensures ∙ ap (λ (e : EdgeLists). are_joined e.plan e.me.0 c.args.peer.0) c.self.view_is) in
-    connected_some c.args.self.now c.connect.new.self told c.args.peer c.peers_with.result c.in-Some.peers c.in_ok-kept.kept (g.L.Link.calls c.args.link.now) (g.L.Link.calls c.connect.new.link) c.connect.new.out (joined_test (are_joined c.args.self.now.plan c.args.self.now.me.0 c.args.peer.0) (has_end (seen c.args.self.now) c.args.peer) (sym joined ∙ c.if-not-joined.false) (sym c.has_end.ensures ∙ c.if-has_end.false))
-    c.peers_with.ensures c.in-Some.is c.in_ok-kept.ensures
-    (subst (λ l. at_edge (seen c.connect.new.self) (g.L.Link.calls c.connect.new.link) c.connect.new.out ≡ connects told c.args.peer c.in_ok-kept.kept (at_edge (seen c.args.self.now) (g.L.Link.calls c.args.link.now) l)) c.new-list.ensures
-    (c.in_ok-connect.ensures.step told agrees))
+    connected_done c.args.self.now told c.args.peer c.peers_with.result c.in-Some.peers (g.L.Link.calls c.args.link.now) _
+    (joined_test (are_joined c.args.self.now.plan c.args.self.now.me.0 c.args.peer.0) (has_end (seen c.args.self.now) c.args.peer) (sym joined ∙ c.if-not-joined.false) (sym c.has_end.ensures ∙ c.if-has_end.false))
+    c.peers_with.ensures c.in-Some.is
+    (mended c.args.self.now c.connect.new.self c.mend.new.self c.args.self.now.plan told (g.L.Link.calls c.args.link.now) (g.L.Link.calls c.connect.new.link) (g.L.Link.calls c.mend.new.link) c.connect.new.out c.mend.new.out
+    (connects told c.args.peer (connection_with c.in-Some.peers) (beginning (seen c.args.self.now) (g.L.Link.calls c.args.link.now)))
+    (keeps_both c.args.self.now c.forget_octets.new.self c.connect.new.self c.forget_octets.ensures.keeps c.in_ok-connect.ensures.keeps)
+    (subst (λ l. at_edge (seen c.connect.new.self) (g.L.Link.calls c.connect.new.link) c.connect.new.out ≡ connects told c.args.peer (connection_with c.in-Some.peers) (at_edge (seen c.forget_octets.new.self) (g.L.Link.calls c.args.link.now) l)) c.new-list.ensures
+    (c.in_ok-connect.ensures.step told (agrees_before told _ _ c.in_ok-mend.ensures.calls agrees))
+    ∙ (ap (λ (s : EdgeState). connects told c.args.peer (connection_with c.in-Some.peers) (at_edge s (g.L.Link.calls c.args.link.now) [])) c.forget_octets.ensures.step
+    ∙ ap (connects told c.args.peer (connection_with c.in-Some.peers)) (begun (seen c.args.self.now) (g.L.Link.calls c.args.link.now))))
+    (c.in_ok-mend.ensures.step told agrees))

@@ -1,22 +1,24 @@
-use Rattle.std.proofs.Common.{◌≡◌, ◌++◌, [], Some, sym, subst}
+use Rattle.std.proofs.Common.{◌≡◌, ◌∙◌, [], not, ap, sym, subst}
 use Rattle.edge_model.specs.declared.effects.Effects.{Effects}
-use Rattle.edge_model.specs.Hear.{hears, octets_input}
+use Rattle.edge_model.specs.Hear.{hears_on, octets_input}
 use Rattle.edge_model.specs.Work.{beginning}
 use Rattle.provider_edge.specs.Lists.{seen, worked}
-use Rattle.provider_edge.specs.Peering.{at_peer}
-use Rattle.provider_edge.proofs.PeeringLemmas.{octets_none, octets_some}
+use Rattle.provider_edge.specs.Peering.{at_edge}
+use Rattle.provider_edge.proofs.EdgeLemmas.{begun, mended, octets_done, octets_idle}
+use Rattle.provider_edge.proofs.SpeakerLemmas.{agrees_before}
 use Rattle.provider_edge.proofs.edge.Edge.octets.Goals as goal
 
-pub returns-in_default-clause-step : goal.returns-in_default-clause-step
-returns-in_default-clause-step g c = λ told agrees.
-    subst (λ (e : Effects). worked c.take_peering.new.self (g.L.Link.calls c.args.link.now) e
-    ≡ octets_input told c.args.peer c.args.octets.now ((seen c.args.self.now).peering c.args.peer.0) (beginning (seen c.args.self.now) (g.L.Link.calls c.args.link.now))) (sym c.idle.ensures)
-    (octets_none c.args.self.now c.take_peering.new.self told c.args.peer c.args.octets.now c.take_peering.result (g.L.Link.calls c.args.link.now) c.take_peering.ensures.taken c.in_default.is c.take_peering.ensures.step)
+pub returns-then-not-has_end-clause-step : goal.returns-then-not-has_end-clause-step
+returns-then-not-has_end-clause-step g c = λ told agrees.
+    subst (λ (e : Effects). worked c.args.self.now (g.L.Link.calls c.args.link.now) e ≡ octets_input c.args.self.now.plan told c.args.peer c.args.octets.now ((seen c.args.self.now).peering c.args.peer.0) (beginning (seen c.args.self.now) (g.L.Link.calls c.args.link.now))) (sym c.idle.ensures)
+    (octets_idle c.args.self.now told c.args.peer c.args.octets.now (g.L.Link.calls c.args.link.now) (sym c.has_end.ensures ∙ c.if-not-has_end.true))
 
 pub returns-clause-step : goal.returns-clause-step
 returns-clause-step g c = λ told agrees.
-    octets_some c.args.self.now c.take_peering.new.self c.put_peering.new.self told c.args.peer c.args.octets.now c.take_peering.result c.in_ok-left.left c.in-Some.kept (g.L.Link.calls c.args.link.now) (g.L.Link.calls c.hear.new.link) c.hear.new.out
-    c.take_peering.ensures.taken c.in-Some.is c.take_peering.ensures.step c.put_peering.ensures.step
-    (subst (λ l. at_peer c.args.peer c.in_ok-left.left (seen c.args.self.now) (g.L.Link.calls c.hear.new.link) c.hear.new.out
-    ≡ hears told c.args.peer (c.in-Some.kept.held ++ c.args.octets.now) (at_peer c.args.peer (Some c.in-Some.kept) (seen c.args.self.now) (g.L.Link.calls c.args.link.now) l)) c.new-list.ensures
-    (c.in_ok-left.ensures.step told (seen c.args.self.now) agrees))
+    octets_done c.args.self.now told c.args.peer c.args.octets.now (g.L.Link.calls c.args.link.now) _ (sym c.has_end.ensures ∙ c.if-not-has_end.false)
+    (mended c.args.self.now c.hear_octets.new.self c.mend.new.self c.args.self.now.plan told (g.L.Link.calls c.args.link.now) (g.L.Link.calls c.hear_octets.new.link) (g.L.Link.calls c.mend.new.link) c.hear_octets.new.out c.mend.new.out
+    (hears_on c.args.self.now.plan told c.args.peer c.args.octets.now ((seen c.args.self.now).peering c.args.peer.0) (beginning (seen c.args.self.now) (g.L.Link.calls c.args.link.now))) c.in_ok-hear_octets.ensures.keeps
+    (subst (λ l. at_edge (seen c.hear_octets.new.self) (g.L.Link.calls c.hear_octets.new.link) c.hear_octets.new.out ≡ hears_on c.args.self.now.plan told c.args.peer c.args.octets.now ((seen c.args.self.now).peering c.args.peer.0) (at_edge (seen c.args.self.now) (g.L.Link.calls c.args.link.now) l)) c.new-list.ensures
+    (c.in_ok-hear_octets.ensures.step told (agrees_before told _ _ c.in_ok-mend.ensures.calls agrees))
+    ∙ ap (hears_on c.args.self.now.plan told c.args.peer c.args.octets.now ((seen c.args.self.now).peering c.args.peer.0)) (begun (seen c.args.self.now) (g.L.Link.calls c.args.link.now)))
+    (c.in_ok-mend.ensures.step told agrees))

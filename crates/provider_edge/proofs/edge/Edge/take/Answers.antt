@@ -1,21 +1,14 @@
 use Rattle.std.proofs.Common.{true, subst}
 use Rattle.provider_edge.specs.Invariant.{IsEdge}
 use Rattle.provider_edge.specs.Lists.{EdgeLists}
+use Rattle.provider_edge.specs.contracts.edge.Edge.{the_view}
 use Rattle.provider_edge.proofs.EffectLemmas.{steps_fit, steps_local, steps_tell}
 use Rattle.provider_edge.proofs.KeptLemmas.{edge_stopped}
 use Rattle.provider_edge.proofs.edge.Edge.take.Goals as goal
 
 pub invariant_of-self : goal.invariant_of-self
 invariant_of-self g c =
-    let v : EdgeLists = record {
-      plan = c.self-2.inside.plan.value;
-      me = c.self-2.inside.me;
-      circuits_on = c.self-2.inside.circuits_on.items;
-      domains = c.self-2.inside.domains.items;
-      peerings = c.self-2.inside.peerings.items;
-      ticks = c.self-2.inside.ticks;
-      stopped = c.self-2.inside.stopped;
-    } in
+    let v : EdgeLists = the_view c.self-2.inside in
     edge_stopped v true c.self-2.invariant
 
 pub returns-in-Ok-clause-said : goal.returns-in-Ok-clause-said

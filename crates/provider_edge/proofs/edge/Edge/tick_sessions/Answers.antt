@@ -1,21 +1,22 @@
-use Rattle.std.proofs.Common.{◌≡◌, ◌∙◌, ◌+◌, ◌-◌, length, ap, sym, arith}
+use Rattle.std.proofs.Common.{◌≡◌, ◌∙◌, length, ap, subst}
 use Rattle.net_base.specs.declared.plan.Plan.{Plan}
-use Rattle.provider_edge.specs.Lists.{EdgeLists}
 use Rattle.edge_model.specs.Tick.{ticks_sessions}
-use Rattle.provider_edge.proofs.PeeringLemmas.{ticks_more}
-use Rattle.provider_edge.proofs.SpeakerLemmas.{agrees_before, goes_both}
-use Rattle.provider_edge.proofs.WorkLemmas.{keeps_both}
+use Rattle.provider_edge.specs.Control.{at_control}
+use Rattle.provider_edge.specs.Lists.{EdgeLists, rest_of, seen}
+use Rattle.provider_edge.specs.contracts.edge.Edge.{the_view}
+use Rattle.provider_edge.specs.Peering.{at_edge}
+use Rattle.provider_edge.proofs.EdgeLemmas.{edge_control, worked_edge}
+use Rattle.provider_edge.proofs.SettleLemmas.{map_on}
 use Rattle.provider_edge.proofs.edge.Edge.tick_sessions.Goals as goal
 
-pub loop-place-preserved : goal.loop-place-preserved
-loop-place-preserved g c =
-    let count : c.len-place-end.result ≡ length c.args.self.now.plan.edges =
-    c.len-place-end.ensures ∙ (ap (λ (p : Plan). length p.edges) c.deref.ensures ∙ ap (λ (e : EdgeLists). length e.plan.edges) c.self.view_is) in
-    record {
-      keeps = keeps_both _ _ _ c.loop-place.invariant.keeps c.in_ok-happens.ensures.keeps;
-      calls = goes_both _ _ _ c.loop-place.invariant.calls c.in_ok-happens.ensures.calls;
-      step = λ told agrees.
-          c.loop-place.invariant.step told (agrees_before told _ _ c.in_ok-happens.ensures.calls agrees)
-          ∙ (ticks_more told c.loop-place.place (length c.args.self.now.plan.edges) _ (omega (arith, c.loop-place-test.true, count))
-          ∙ ap (ticks_sessions told (c.loop-place.place + 1) (length c.args.self.now.plan.edges - (c.loop-place.place + 1))) (sym (c.in_ok-happens.ensures.step told agrees)));
-    }
+pub invariant_of-self : goal.invariant_of-self
+invariant_of-self g c = edge_control (the_view c.self.inside) c.tick.new.self c.tick.ensures.keeps c.self.invariant
+
+pub returns-clause-step : goal.returns-clause-step
+returns-clause-step g c = map_on _ _ c.tick.result
+    (λ step told agrees.
+    subst (λ (n : EdgeLists). at_edge (seen (record (the_view c.self.inside) { control = c.tick.new.self })) (g.L.Link.calls c.tick.new.link) c.tick.new.out ≡ ticks_sessions told 0 (length n.plan.edges) (at_edge (seen n) (g.L.Link.calls c.args.link.now) c.args.out.now)) c.self.view_is
+    (worked_edge (ticks_sessions told 0 (length (the_view c.self.inside).plan.edges)) (the_view c.self.inside) c.tick.new.self (g.L.Link.calls c.args.link.now) (g.L.Link.calls c.tick.new.link) c.args.out.now c.tick.new.out c.self.invariant c.tick.ensures.keeps
+    (step told (rest_of (the_view c.self.inside)) agrees
+    ∙ ap (λ (p : Plan). ticks_sessions told 0 (length p.edges) (at_control (the_view c.self.inside).control (rest_of (the_view c.self.inside)) (g.L.Link.calls c.args.link.now) c.args.out.now)) c.self.invariant.plan)))
+    c.tick.ensures.step

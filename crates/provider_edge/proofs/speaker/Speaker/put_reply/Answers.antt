@@ -1,12 +1,9 @@
-use Rattle.provider_edge.proofs.SpeakerLemmas.{was_failed, was_taken}
+use Rattle.provider_edge.proofs.SettleLemmas.{map_ok}
+use Rattle.provider_edge.proofs.SpeakerLemmas.{reply_by_octets}
 use Rattle.provider_edge.proofs.speaker.Speaker.put_reply.Goals as goal
 
-pub returns-then-not-branch-clause-step : goal.returns-then-not-branch-clause-step
-returns-then-not-branch-clause-step g c = λ told s held edge agrees between.
-    was_failed told c.args.peer c.args.self.now.peers c.args.reply c.args.self.now.next_id _ _ held _ s edge _ _ _
-    c.in_ok-octets.ensures c.as_slice.ensures c.if-not-branch.true c.in_ok-put_octets.ensures.called between agrees
-
 pub returns-clause-step : goal.returns-clause-step
-returns-clause-step g c = λ told s held edge agrees between.
-    was_taken told c.args.peer c.args.self.now.peers c.args.reply c.args.self.now.next_id _ _ _ held _ s edge _ _ _ _
-    c.in_ok-octets.ensures c.as_slice.ensures c.if-not-branch.false c.in_ok-put_octets.ensures.called c.in_ok-push.ensures.ok c.following-self.ensures between agrees
+returns-clause-step g c = map_ok _ _ c.put_octets.result
+    (λ taken step told s held edge agrees between. reply_by_octets told c.args.peer c.args.self.now.peers c.args.reply c.args.self.now.next_id c.in_ok-octets.octets held s edge _ c.args.out.now _
+    c.in_ok-octets.ensures between (step told s held edge agrees))
+    c.put_octets.ensures.step

@@ -1,4 +1,4 @@
-use Rattle.psn_net.proofs.NetworkLemmas.{circuit_idle_stepped}
+use Rattle.psn_net.proofs.AnswerLemmas.{circuit_idle_stepped}
 use Rattle.psn_net.proofs.parts.Parts.circuit.Goals as goal
 
 pub returns-then-effects-clause-step : goal.returns-then-effects-clause-step

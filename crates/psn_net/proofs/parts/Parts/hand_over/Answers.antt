@@ -17,7 +17,7 @@ returns-in-Ok-clause-driven c =
     let now : NetLists = record before { edges = slice_set before.edges c.args.to.0 c.take.new.self } in
     let done = driving_at before c.args.to c.index_mut.result.now c.take.new.self c.new-link.result c.take.new.link c.in-Ok.effects (Octets c.args.from c.front-bytes.result) below
     (c.self.invariant.planned c.args.to.0 below) c.index_mut.ensures.value c.new-link.ensures (c.in-Ok.ensures.step taken_all (subst (Agrees taken_all) c.link.view_is c.link.invariant)) in
-    subst (λ (n : NetLists). HasDriven c.args.to n now (hearing_work (seen n) c.args.from c.args.to (take c.args.count ((seen n).pipes c.args.from.0 c.args.to.0))) c.in-Ok.effects) c.self.view_is
+    subst (λ (n : NetLists). HasDriven c.args.to n now (hearing_work n.plan (seen n) c.args.from c.args.to (take c.args.count ((seen n).pipes c.args.from.0 c.args.to.0))) c.in-Ok.effects) c.self.view_is
     (hearing before now c.args.from c.args.to c.args.count c.front-bytes.result.now c.in-Ok.effects c.front-bytes.ensures done)
 
 pub returns-in-Ok-clause-fit : goal.returns-in-Ok-clause-fit

@@ -1,0 +1,740 @@
+-- An edge that has mended has nothing to mend: its ends tell what they should by now.
+use Rattle.std.proofs.Common.{◌≡◌, ◌∙◌, ◌+◌, ◌||◌, ◌&&◌, ℕ, Bool, true, false, List, [], ◌∷◌, Option, Some, None, cond, refl, sym, ap, subst, not, is_some, length, nat_eq, option_map, inl, inr}
+use Rattle.std.proofs.lemmas.Bool.{cases_Bool, eqb-true, eq-eqb}
+use Rattle.std.specs.List.{AllByRecursion}
+use Rattle.net_base.specs.declared.plan.Plan.{Plan}
+use Rattle.net_base.specs.declared.plan.places.EdgeId.{EdgeId}
+use Rattle.net_base.specs.declared.plan.wire_plan.WirePlan.{WirePlan}
+use Rattle.net_base.specs.declared.trace.down.Down.{Down}
+use Rattle.net_base.specs.plan.Paths.{offer_of}
+use Rattle.net_base.specs.plan.Places.{wire_row}
+use Rattle.label_space.specs.Labels.{numbers_end}
+use Rattle.ldp_grammar.specs.declared.message.Message.{Message}
+use Rattle.pw_tlvs.specs.declared.pw_status.PwStatus.{PwStatus}
+use Rattle.pw_status.specs.Status.{combined, method_by}
+use Rattle.pw_signalling.specs.declared.binding.Binding.{Binding}
+use Rattle.pw_signalling.specs.declared.told.Told.{Told}
+use Rattle.pw_signalling.specs.End.{EndState, LocalPart, Idle, Advertised, Withdrawing}
+use Rattle.pw_signalling.specs.Rows.{advertised, telling, withdrawn}
+use Rattle.edge_model.specs.Content.{content_of, mapping, status_notification, withdrawal}
+use Rattle.edge_model.specs.declared.effect.Effect.TheVariants.{Wire}
+use Rattle.edge_model.specs.declared.end_place.EndPlace.{EndPlace}
+use Rattle.edge_model.specs.EndPlaces.{end_places, is_terminal}
+use Rattle.edge_model.specs.Mend.{advertises_wish, advertising, and_says, cause_number, each_end, is_up_with, mends, mends_again, mends_end, mends_few, mends_local, mends_once, mends_status, mends_status_of, status_held, stays, telling_status, tells_down, tells_downs, tells_over, tells_status, wish, wish_of, withdrawing, withdraws_unless}
+use Rattle.edge_model.specs.Put.{Spoken, having_spoken, message_octets_of, put_octets, with_spoken}
+use Rattle.edge_model.specs.Role.{down_at, is_not_chosen, role_in, status_to_tell}
+use Rattle.edge_model.specs.Session.{had_said, says, says_to}
+use Rattle.edge_model.specs.State.{EdgeState, Peering, end_at, with_end, with_next_label, with_peering, with_told_down}
+use Rattle.edge_model.specs.Work.{Work, Answers, changes, gives, next_answer, puts}
+use Rattle.edge_model.proofs.MendLemmas.{TakesAll, mends_once_takes, mends_takes, says_nothing, says_taken}
+use Rattle.edge_model.proofs.PlaceLemmas.{IsEndOf, places_are}
+
+-- ---- an end that tells what it should
+
+-- an end that should tell something advertises, where a label is left and its last one was not declined; one that should tell
+-- nothing does not
+abbrev tells_wish : (wished none_left : Bool) → LocalPart → Bool
+tells_wish wished none_left (Idle declined) = declined || (not wished || none_left)
+tells_wish wished none_left (Advertised label content) = wished
+tells_wish wished none_left (Withdrawing label) = true
+
+abbrev pub is_mended : Plan → EdgeState → EndPlace → Bool
+is_mended plan edge place = tells_wish (is_some (wish plan edge place)) (nat_eq edge.next_label numbers_end) (end_at edge place).local
+
+-- the status that it has told, where it has told one, is the one of now
+abbrev is_status : ℕ → Option PwStatus → Bool
+is_status status None = true
+is_status status (Some last) = nat_eq last.0 status
+
+abbrev tells_now : ℕ → LocalPart → Bool
+tells_now status (Idle declined) = true
+tells_now status (Advertised label content) = is_status status content.status
+tells_now status (Withdrawing label) = true
+
+abbrev pub is_told : Plan → EdgeState → EndPlace → Bool
+is_told plan edge place = tells_now (status_to_tell plan edge place).0 (end_at edge place).local
+
+-- and what was told of a terminal end is so
+abbrev pub is_down_told : Plan → EdgeState → EndPlace → Bool
+is_down_told plan edge place = not place.terminal || nat_eq (cause_number (edge.told_down place.wire.0)) (cause_number (down_at plan edge place))
+
+-- ---- then there is nothing to mend
+
+mends_end_not : (plan : Plan) (told : Answers) (place : EndPlace) (work : Work) → is_mended plan work.edge place ≡ true → mends_end plan told place work ≡ stays work
+mends_end_not plan told place work = of (end_at work.edge place).local where
+  none_left : Bool
+  none_left = nat_eq work.edge.next_label numbers_end
+
+  left : (content : Told) (b : Bool) → b ≡ true
+      → cond b (stays work) (says told place.peer (mapping place.pw_id work.edge.next_label content) (changes (advertising place work.edge.next_label content) work)) ≡ stays work
+  left content b e = rw e refl
+
+  idle : (wished : Option Told) → not (is_some wished) || none_left ≡ true → advertises_wish told place wished work ≡ stays work
+  idle None e = refl
+  idle (Some content) e = left content none_left e
+
+  told_it : (label : ℕ) (content : Told) (wished : Option Told) → is_some wished ≡ true → withdraws_unless told place label content wished work ≡ stays work
+  told_it label content None e = absurd (cc (e))
+  told_it label content (Some wished) e = refl
+
+  of : (local : LocalPart) → tells_wish (is_some (wish plan work.edge place)) none_left local ≡ true → mends_local plan told place local work ≡ stays work
+  of (Idle true) e = refl
+  of (Idle false) e = idle (wish plan work.edge place) e
+  of (Advertised label content) e = told_it label content (wish plan work.edge place) e
+  of (Withdrawing label) e = refl
+
+mends_status_not : (plan : Plan) (told : Answers) (place : EndPlace) (work : Work) → is_told plan work.edge place ≡ true → mends_status plan told place work ≡ stays work
+mends_status_not plan told place work = of (end_at work.edge place).local where
+  status : PwStatus
+  status = status_to_tell plan work.edge place
+
+  same : (content : Told) (b : Bool) → b ≡ true → cond b (stays work) (says told place.peer (status_notification place.pw_id status content) (changes (telling_status place status) work)) ≡ stays work
+  same content b e = rw e refl
+
+  over : (content : Told) (last : Option PwStatus) → is_status status.0 last ≡ true → tells_over told place content status last work ≡ stays work
+  over content None e = refl
+  over content (Some last) e = same content (nat_eq last.0 status.0) e
+
+  of : (local : LocalPart) → tells_now status.0 local ≡ true → mends_status_of plan told place local work ≡ stays work
+  of (Idle declined) e = refl
+  of (Advertised label content) e = over content content.status e
+  of (Withdrawing label) e = refl
+
+tells_down_not : (plan : Plan) (place : EndPlace) (work : Work) → is_down_told plan work.edge place ≡ true → cond place.terminal (tells_down place (down_at plan work.edge place) work) work ≡ work
+tells_down_not plan place work = of place.terminal where
+  down : Option Down
+  down = down_at plan work.edge place
+
+  same : (b : Bool) → b ≡ true → cond b work (gives (Wire place.wire down) (changes (with_told_down place.wire down) work)) ≡ work
+  same b e = rw e refl
+
+  of : (terminal : Bool) → not terminal || nat_eq (cause_number (work.edge.told_down place.wire.0)) (cause_number down) ≡ true → cond terminal (tells_down place down work) work ≡ work
+  of true e = same (nat_eq (cause_number (work.edge.told_down place.wire.0)) (cause_number down)) e
+  of false e = refl
+
+each_end_not : (mend : EndPlace → Work → Spoken) (work : Work) (places : List EndPlace) → AllByRecursion (λ place. mend place work ≡ stays work) places → each_end mend places (stays work) ≡ stays work
+each_end_not mend work [] all = refl
+each_end_not mend work (place ∷ places) all =
+    ap (λ (s : Spoken). each_end mend places (record { work = s.work; failed = s.failed })) all.0 ∙ each_end_not mend work places all.1
+
+tells_downs_not : (plan : Plan) (work : Work) (places : List EndPlace) → AllByRecursion (λ place. is_down_told plan work.edge place ≡ true) places → tells_downs plan places work ≡ work
+tells_downs_not plan work [] all = refl
+tells_downs_not plan work (place ∷ places) all = ap (tells_downs plan places) (tells_down_not plan place work all.0) ∙ tells_downs_not plan work places all.1
+
+all_map : (P Q : EndPlace → Type 0) → ((place : EndPlace) → P place → Q place) → (places : List EndPlace) → AllByRecursion P places → AllByRecursion Q places
+all_map P Q each [] all = tt
+all_map P Q each (place ∷ places) all = (each place all.0, all_map P Q each places all.1)
+
+-- all ends of an edge tell what they should
+pub record IsMended (plan : Plan) (edge : EdgeState) : Type 0 where
+  pub ends : AllByRecursion (λ place. is_mended plan edge place ≡ true) (end_places plan edge.me)
+  pub statuses : AllByRecursion (λ place. is_told plan edge place ≡ true) (end_places plan edge.me)
+  pub downs : AllByRecursion (λ place. is_down_told plan edge place ≡ true) (end_places plan edge.me)
+
+pub mends_once_not : (plan : Plan) (told : Answers) (work : Work) → IsMended plan work.edge → mends_once plan told work ≡ stays work
+mends_once_not plan told work mended =
+    let places : List EndPlace = end_places plan work.edge.me in
+    let first : each_end (mends_end plan told) places (stays work) ≡ stays work =
+    each_end_not (mends_end plan told) work places
+    (all_map (λ place. is_mended plan work.edge place ≡ true) (λ place. mends_end plan told place work ≡ stays work) (λ place is. mends_end_not plan told place work is) places mended.ends) in
+    let second : each_end (mends_status plan told) places (stays work) ≡ stays work =
+    each_end_not (mends_status plan told) work places
+    (all_map (λ place. is_told plan work.edge place ≡ true) (λ place. mends_status plan told place work ≡ stays work) (λ place is. mends_status_not plan told place work is) places mended.statuses) in
+    ap (λ (s : Spoken). last places s) (ap (each_end (mends_status plan told) places) first ∙ second)
+    ∙ ap stays (tells_downs_not plan work places mended.downs)
+  where
+    last : List EndPlace → Spoken → Spoken
+    last places s = record { work = tells_downs plan places s.work; failed = s.failed }
+
+-- an edge whose ends tell what they should does nothing when it mends
+pub mends_not : (plan : Plan) (told : Answers) (work : Work) → IsMended plan work.edge → mends plan told work ≡ work
+mends_not plan told work mended = ap (mends_again (mends_few plan told (length plan.edges))) (mends_once_not plan told work mended)
+
+-- ---- a message that was put, or had no session to be put in, leaves what ends should tell
+
+or_left : (a b : Bool) → a || b ≡ false → a ≡ false
+or_left false b e = refl
+or_left true b e = e
+
+or_right : (a b : Bool) → a || b ≡ false → b ≡ false
+or_right false b e = e
+or_right true b e = absurd (cc (e))
+
+up_spoken : (kept : Option Peering) → is_up_with (option_map having_spoken kept) ≡ is_up_with kept
+up_spoken None = refl
+up_spoken (Some kept) = refl
+
+-- of the edge, what is kept for neighbours alone has changed, and no session went up or down
+record IsSpoken (old new : EdgeState) : Type 0 where
+  me : new.me ≡ old.me
+  wires : new.wire_on ≡ old.wire_on
+  bits : new.bits ≡ old.bits
+  ends : new.ends ≡ old.ends
+  labels : new.next_label ≡ old.next_label
+  ups : (k : ℕ) → is_up_with (new.peering k) ≡ is_up_with (old.peering k)
+
+spoken_not : (edge : EdgeState) → IsSpoken edge edge
+spoken_not edge = record { me = refl; wires = refl; bits = refl; ends = refl; labels = refl; ups = λ k. refl }
+
+put_spoken : (peer : EdgeId) (bytes : List ℕ) (work : Work) → IsSpoken work.edge (put_octets peer bytes true work).work.edge
+unfolding changes gives puts with_peering with_spoken
+put_spoken peer bytes work = record { me = refl; wires = refl; bits = refl; ends = refl; labels = refl; ups = λ k. up k } where
+  up : (k : ℕ) → is_up_with (cond (nat_eq k peer.0) (option_map having_spoken (work.edge.peering peer.0)) (work.edge.peering k)) ≡ is_up_with (work.edge.peering k)
+  up k = elim (cases_Bool (nat_eq k peer.0)) [
+    | inl here ↦ rw here (up_spoken (work.edge.peering peer.0) ∙ ap (λ (n : ℕ). is_up_with (work.edge.peering n)) (sym (eqb-true k peer.0 here)))
+    | inr away ↦ rw away refl
+  ]
+
+says_spoken : (told : Answers) (peer : EdgeId) (message : ℕ → Message) (work : Work) → (says told peer message work).failed ≡ false → IsSpoken work.edge (says told peer message work).work.edge
+unfolding puts
+says_spoken told peer message work none = by (work.edge.peering peer.0) refl where
+  by : (kept : Option Peering) → work.edge.peering peer.0 ≡ kept → IsSpoken work.edge (says told peer message work).work.edge
+  by None is = subst (λ (s : Spoken). IsSpoken work.edge s.work.edge) (sym (says_nothing told peer message work is)) (spoken_not work.edge)
+  by (Some kept) is = taken (next_answer told work) refl where
+    bytes : List ℕ
+    bytes = message_octets_of kept message
+
+    taken : (b : Bool) → next_answer told work ≡ b → IsSpoken work.edge (says told peer message work).work.edge
+    taken true takes = subst (λ (s : Spoken). IsSpoken work.edge s.work.edge) (sym (says_taken told peer message kept work takes is)) (put_spoken peer bytes work)
+    taken false takes =
+        let refused : (says told peer message work).failed ≡ true =
+        ap (λ (o : Option Peering). (says_to told peer message o work).failed) is ∙ ap (λ (b : Bool). (had_said peer (put_octets peer bytes b work)).failed) takes in
+        let wrong : true ≡ false = sym refused ∙ none in
+        absurd (cc (wrong))
+
+-- what ends should tell is as before
+record IsSteady (old new : EdgeState) : Type 0 where
+  me : new.me ≡ old.me
+  wires : new.wire_on ≡ old.wire_on
+  bits : new.bits ≡ old.bits
+  remotes : (wire k : ℕ) → (new.ends wire k).remote ≡ (old.ends wire k).remote
+  ups : (k : ℕ) → is_up_with (new.peering k) ≡ is_up_with (old.peering k)
+
+steady_not : (edge : EdgeState) → IsSteady edge edge
+steady_not edge = record { me = refl; wires = refl; bits = refl; remotes = λ wire k. refl; ups = λ k. refl }
+
+steady_then : (a b c : EdgeState) → IsSteady a b → IsSteady b c → IsSteady a c
+steady_then a b c first next = record {
+  me = next.me ∙ first.me;
+  wires = next.wires ∙ first.wires;
+  bits = next.bits ∙ first.bits;
+  remotes = λ wire k. next.remotes wire k ∙ first.remotes wire k;
+  ups = λ k. next.ups k ∙ first.ups k;
+}
+
+status_steady : (plan : Plan) (a b : EdgeState) (place : EndPlace) → IsSteady a b → status_to_tell plan b place ≡ status_to_tell plan a place
+status_steady plan a b place steady =
+    ap (λ (bits : ℕ → ℕ). combined (bits place.wire.0) (is_not_chosen (role_in (wire_row plan place.wire) b.me))) steady.bits
+    ∙ ap (λ (me : EdgeId). combined (a.bits place.wire.0) (is_not_chosen (role_in (wire_row plan place.wire) me))) steady.me
+
+wish_steady : (plan : Plan) (a b : EdgeState) (place : EndPlace) → IsSteady a b → wish plan b place ≡ wish plan a place
+wish_steady plan a b place steady = of (wire_row plan place.wire) where
+  w : ℕ
+  w = place.wire.0
+
+  -- what is wished, of these parts of an edge
+  wished : WirePlan → (me : EdgeId) (on up : Bool) (bits : ℕ) (remote : Option Binding) (status : PwStatus) → Option Told
+  wished row me on up bits remote status =
+      cond ((on && up) && place.terminal)
+      (cond (tells_status (method_by (offer_of row me.0).status (status_held remote)) || nat_eq bits 0)
+      (Some (content_of (offer_of row me.0) (cond (offer_of row me.0).status (Some status) None)))
+      None)
+      None
+
+  of : (row : Option WirePlan) → wish_of plan b place row ≡ wish_of plan a place row
+  of None = refl
+  of (Some row) =
+      ap (λ (me : EdgeId). wished row me (b.wire_on w) (is_up_with (b.peering place.peer.0)) (b.bits w) (end_at b place).remote (status_to_tell plan b place)) steady.me
+      ∙ (ap (λ (on : ℕ → Bool). wished row a.me (on w) (is_up_with (b.peering place.peer.0)) (b.bits w) (end_at b place).remote (status_to_tell plan b place)) steady.wires
+      ∙ (ap (λ (up : Bool). wished row a.me (a.wire_on w) up (b.bits w) (end_at b place).remote (status_to_tell plan b place)) (steady.ups place.peer.0)
+      ∙ (ap (λ (bits : ℕ → ℕ). wished row a.me (a.wire_on w) (is_up_with (a.peering place.peer.0)) (bits w) (end_at b place).remote (status_to_tell plan b place)) steady.bits
+      ∙ (ap (λ (remote : Option Binding). wished row a.me (a.wire_on w) (is_up_with (a.peering place.peer.0)) (a.bits w) remote (status_to_tell plan b place)) (steady.remotes w place.peer.0)
+      ∙ ap (λ (status : PwStatus). wished row a.me (a.wire_on w) (is_up_with (a.peering place.peer.0)) (a.bits w) (end_at a place).remote status) (status_steady plan a b place steady)))))
+
+-- ---- one end has another state
+
+end_put : (place : EndPlace) (end : EndState) (edge : EdgeState) → end_at (with_end place end edge) place ≡ end
+unfolding with_end
+end_put place end edge = rw (eq-eqb place.wire.0 place.wire.0 refl, eq-eqb place.peer.0 place.peer.0 refl) refl
+
+-- an end stands at the place of another one
+abbrev is_at : EndPlace → ℕ → ℕ → Bool
+is_at place wire k = nat_eq wire place.wire.0 && nat_eq k place.peer.0
+
+end_else : (place : EndPlace) (end : EndState) (edge : EdgeState) (wire k : ℕ) → is_at place wire k ≡ false → (with_end place end edge).ends wire k ≡ edge.ends wire k
+unfolding with_end
+end_else place end edge wire k apart = elim (cases_Bool (nat_eq wire place.wire.0)) [
+  | inl here ↦
+      (let away : nat_eq k place.peer.0 ≡ false = ap (λ (b : Bool). b && nat_eq k place.peer.0) (sym here) ∙ apart in
+      rw (here, away) (ap (λ (w : ℕ). edge.ends w k) (sym (eqb-true wire place.wire.0 here))))
+  | inr away ↦ rw away refl
+]
+
+remote_put : (place : EndPlace) (end : EndState) (edge : EdgeState) → end.remote ≡ (end_at edge place).remote → (wire k : ℕ) → ((with_end place end edge).ends wire k).remote ≡ (edge.ends wire k).remote
+remote_put place end edge same wire k = elim (cases_Bool (is_at place wire k)) [
+  | inl here ↦
+      (let w : wire ≡ place.wire.0 = eqb-true wire place.wire.0 (first (nat_eq wire place.wire.0) (nat_eq k place.peer.0) here) in
+      let p : k ≡ place.peer.0 = eqb-true k place.peer.0 (second (nat_eq wire place.wire.0) (nat_eq k place.peer.0) here) in
+      both w p (ap (λ (e : EndState). e.remote) (end_put place end edge) ∙ same))
+  | inr apart ↦ ap (λ (e : EndState). e.remote) (end_else place end edge wire k apart)
+]
+  where
+    first : (a b : Bool) → a && b ≡ true → a ≡ true
+    first true b e = refl
+    first false b e = e
+
+    second : (a b : Bool) → a && b ≡ true → b ≡ true
+    second true b e = e
+    second false b e = absurd (cc (e))
+
+    both : wire ≡ place.wire.0 → k ≡ place.peer.0 → (end_at (with_end place end edge) place).remote ≡ (end_at edge place).remote → ((with_end place end edge).ends wire k).remote ≡ (edge.ends wire k).remote
+    both w p e =
+        ap (λ (n : ℕ). ((with_end place end edge).ends n k).remote) w ∙ (ap (λ (n : ℕ). ((with_end place end edge).ends place.wire.0 n).remote) p
+        ∙ (e ∙ (ap (λ (n : ℕ). (edge.ends place.wire.0 n).remote) (sym p) ∙ ap (λ (n : ℕ). (edge.ends n k).remote) (sym w))))
+
+-- an end was advertised, withdrawn, has told a status, or was left: every other end is as it was
+record EndStep (place : EndPlace) (old new : EdgeState) : Type 0 where
+  steady : IsSteady old new
+  others : (wire k : ℕ) → is_at place wire k ≡ false → new.ends wire k ≡ old.ends wire k
+  labels : nat_eq old.next_label numbers_end ≡ true → nat_eq new.next_label numbers_end ≡ true
+
+step_not : (place : EndPlace) (edge : EdgeState) → EndStep place edge edge
+step_not place edge = record { steady = steady_not edge; others = λ wire k apart. refl; labels = λ none. none }
+
+changed_step : (place : EndPlace) (end : EndState) (label : ℕ) (old new : EdgeState) → end.remote ≡ (end_at old place).remote → (nat_eq old.next_label numbers_end ≡ true → nat_eq label numbers_end ≡ true)
+    → IsSpoken (with_next_label label (with_end place end old)) new → EndStep place old new
+unfolding with_end with_next_label
+changed_step place end label old new remote left spoken = record {
+  steady = record {
+    me = spoken.me;
+    wires = spoken.wires;
+    bits = spoken.bits;
+    remotes = λ wire k. ap (λ (ends : ℕ → ℕ → EndState). (ends wire k).remote) spoken.ends ∙ remote_put place end old remote wire k;
+    ups = spoken.ups;
+  };
+  others = λ wire k apart. ap (λ (ends : ℕ → ℕ → EndState). ends wire k) spoken.ends ∙ end_else place end old wire k apart;
+  labels = λ none. ap (λ (n : ℕ). nat_eq n numbers_end) spoken.labels ∙ left none;
+}
+
+changed_end : (place : EndPlace) (end : EndState) (label : ℕ) (old new : EdgeState) → IsSpoken (with_next_label label (with_end place end old)) new → end_at new place ≡ end
+unfolding with_end with_next_label
+changed_end place end label old new spoken = ap (λ (ends : ℕ → ℕ → EndState). ends place.wire.0 place.peer.0) spoken.ends ∙ end_put place end old
+
+-- ---- an end is advertised, withdrawn or left
+
+record EndMends (plan : Plan) (place : EndPlace) (old new : EdgeState) : Type 0 where
+  step : EndStep place old new
+  mended : is_mended plan new place ≡ true
+
+-- an end is mended by what it should tell, whether a label is left, and what it tells
+mended_by : (plan : Plan) (edge : EdgeState) (place : EndPlace) (wished none_left : Bool) (local : LocalPart) → is_some (wish plan edge place) ≡ wished → nat_eq edge.next_label numbers_end ≡ none_left
+    → (end_at edge place).local ≡ local → is_mended plan edge place ≡ tells_wish wished none_left local
+mended_by plan edge place wished none_left local w n l =
+    ap (λ (b : Bool). tells_wish b (nat_eq edge.next_label numbers_end) (end_at edge place).local) w
+    ∙ (ap (λ (b : Bool). tells_wish wished b (end_at edge place).local) n ∙ ap (tells_wish wished none_left) l)
+
+end_mends : (plan : Plan) (told : Answers) (place : EndPlace) (work : Work) → (mends_end plan told place work).failed ≡ false → EndMends plan place work.edge (mends_end plan told place work).work.edge
+unfolding changes with_end with_next_label
+end_mends plan told place work = of (end_at work.edge place).local refl where
+  a : EdgeState
+  a = work.edge
+
+  stayed : is_mended plan a place ≡ true → EndMends plan place a a
+  stayed mended = record { step = step_not place a; mended = mended }
+
+  advertises_it : (content : Told) → (end_at a place).local ≡ Idle false → wish plan a place ≡ Some content → nat_eq a.next_label numbers_end ≡ false
+      → (said : Spoken) → IsSpoken (advertising place a.next_label content a) said.work.edge → EndMends plan place a said.work.edge
+  advertises_it content is wished left said spoken =
+      let end : EndState = advertised a.next_label content (end_at a place) in
+      let step : EndStep place a said.work.edge =
+      changed_step place end (a.next_label + 1) a said.work.edge refl
+      (λ none. absurd (wrong none)) spoken in
+      record {
+        step = step;
+        mended = mended_by plan said.work.edge place true (nat_eq said.work.edge.next_label numbers_end) (Advertised a.next_label content)
+            (ap (λ (o : Option Told). is_some o) (wish_steady plan a said.work.edge place step.steady ∙ wished)) refl
+            (ap (λ (e : EndState). e.local) (changed_end place end (a.next_label + 1) a said.work.edge spoken) ∙ ap (λ (l : LocalPart). (advertised a.next_label content (record { local = l; remote = (end_at a place).remote })).local) is);
+      }
+    where
+      wrong : nat_eq a.next_label numbers_end ≡ true → ⊥
+      wrong none =
+          let clash : true ≡ false = sym none ∙ left in
+          cc
+
+  idle : (end_at a place).local ≡ Idle false → (wished : Option Told) → wish plan a place ≡ wished → (advertises_wish told place wished work).failed ≡ false
+      → EndMends plan place a (advertises_wish told place wished work).work.edge
+  idle is None wished none = stayed (mended_by plan a place false (nat_eq a.next_label numbers_end) (Idle false) (ap (λ (o : Option Told). is_some o) wished) refl is)
+  idle is (Some content) wished none = by (nat_eq a.next_label numbers_end) refl none where
+    begun : Work
+    begun = changes (advertising place a.next_label content) work
+
+    message : ℕ → Message
+    message = mapping place.pw_id a.next_label content
+
+    by : (b : Bool) → nat_eq a.next_label numbers_end ≡ b → (cond b (stays work) (says told place.peer message begun)).failed ≡ false
+        → EndMends plan place a (cond b (stays work) (says told place.peer message begun)).work.edge
+    by true left none = stayed (mended_by plan a place true true (Idle false) (ap (λ (o : Option Told). is_some o) wished) left is)
+    by false left none = advertises_it content is wished left (says told place.peer message begun) (says_spoken told place.peer message begun none)
+
+  told_it : (label : ℕ) (content : Told) → (end_at a place).local ≡ Advertised label content → (wished : Option Told) → wish plan a place ≡ wished → (withdraws_unless told place label content wished work).failed ≡ false
+      → EndMends plan place a (withdraws_unless told place label content wished work).work.edge
+  told_it label content is None wished none = after (says told place.peer message begun) (says_spoken told place.peer message begun none) where
+    begun : Work
+    begun = changes (withdrawing place) work
+
+    message : ℕ → Message
+    message = withdrawal place.pw_id label content
+
+    after : (said : Spoken) → IsSpoken (withdrawing place a) said.work.edge → EndMends plan place a said.work.edge
+    after said spoken =
+        let end : EndState = withdrawn (end_at a place) in
+        record {
+          step = changed_step place end a.next_label a said.work.edge refl (λ left. left) spoken;
+          mended = mended_by plan said.work.edge place (is_some (wish plan said.work.edge place)) (nat_eq said.work.edge.next_label numbers_end) (Withdrawing label) refl refl
+              (ap (λ (e : EndState). e.local) (changed_end place end a.next_label a said.work.edge spoken) ∙ ap (λ (l : LocalPart). (withdrawn (record { local = l; remote = (end_at a place).remote })).local) is);
+        }
+  told_it label content is (Some wished) same none =
+      stayed (mended_by plan a place true (nat_eq a.next_label numbers_end) (Advertised label content) (ap (λ (o : Option Told). is_some o) same) refl is)
+
+  of : (local : LocalPart) → (end_at a place).local ≡ local → (mends_local plan told place local work).failed ≡ false → EndMends plan place a (mends_local plan told place local work).work.edge
+  of (Idle true) is none = stayed (mended_by plan a place (is_some (wish plan a place)) (nat_eq a.next_label numbers_end) (Idle true) refl refl is)
+  of (Idle false) is none = idle is (wish plan a place) refl none
+  of (Advertised label content) is none = told_it label content is (wish plan a place) refl none
+  of (Withdrawing label) is none = stayed (mended_by plan a place (is_some (wish plan a place)) (nat_eq a.next_label numbers_end) (Withdrawing label) refl refl is)
+
+-- ---- a status is told
+
+record EndTells (plan : Plan) (place : EndPlace) (old new : EdgeState) : Type 0 where
+  step : EndStep place old new
+  -- it advertises as before
+  same : (wished none_left : Bool) → tells_wish wished none_left (end_at new place).local ≡ tells_wish wished none_left (end_at old place).local
+  told : is_told plan new place ≡ true
+
+end_tells : (plan : Plan) (told : Answers) (place : EndPlace) (work : Work) → (mends_status plan told place work).failed ≡ false → EndTells plan place work.edge (mends_status plan told place work).work.edge
+unfolding changes with_end with_next_label
+end_tells plan told place work = of (end_at work.edge place).local refl where
+  a : EdgeState
+  a = work.edge
+
+  status : PwStatus
+  status = status_to_tell plan a place
+
+  stayed : is_told plan a place ≡ true → EndTells plan place a a
+  stayed now = record { step = step_not place a; same = λ wished none_left. refl; told = now }
+
+  after : (label : ℕ) (content : Told) → (end_at a place).local ≡ Advertised label content → (said : Spoken) → IsSpoken (telling_status place status a) said.work.edge → EndTells plan place a said.work.edge
+  after label content is said spoken =
+      let end : EndState = telling status (end_at a place) in
+      let step : EndStep place a said.work.edge = changed_step place end a.next_label a said.work.edge refl (λ left. left) spoken in
+      let there : (end_at said.work.edge place).local ≡ (telling status (record { local = Advertised label content; remote = (end_at a place).remote })).local =
+      ap (λ (e : EndState). e.local) (changed_end place end a.next_label a said.work.edge spoken) ∙ ap (λ (l : LocalPart). (telling status (record { local = l; remote = (end_at a place).remote })).local) is in
+      record {
+        step = step;
+        same = λ wished none_left. ap (tells_wish wished none_left) there ∙ ap (tells_wish wished none_left) (sym is);
+        told = ap (λ (l : LocalPart). tells_now (status_to_tell plan said.work.edge place).0 l) there
+            ∙ (ap (λ (s : PwStatus). nat_eq status.0 s.0) (status_steady plan a said.work.edge place step.steady) ∙ eq-eqb status.0 status.0 refl);
+      }
+
+  over : (label : ℕ) (content : Told) → (end_at a place).local ≡ Advertised label content → (last : Option PwStatus) → content.status ≡ last → (tells_over told place content status last work).failed ≡ false
+      → EndTells plan place a (tells_over told place content status last work).work.edge
+  over label content is None carried none = stayed (ap (tells_now status.0) is ∙ ap (is_status status.0) carried)
+  over label content is (Some last) carried none = by (nat_eq last.0 status.0) refl none where
+    begun : Work
+    begun = changes (telling_status place status) work
+
+    message : ℕ → Message
+    message = status_notification place.pw_id status content
+
+    by : (b : Bool) → nat_eq last.0 status.0 ≡ b → (cond b (stays work) (says told place.peer message begun)).failed ≡ false
+        → EndTells plan place a (cond b (stays work) (says told place.peer message begun)).work.edge
+    by true now none = stayed (ap (tells_now status.0) is ∙ (ap (is_status status.0) carried ∙ now))
+    by false now none = after label content is (says told place.peer message begun) (says_spoken told place.peer message begun none)
+
+  of : (local : LocalPart) → (end_at a place).local ≡ local → (mends_status_of plan told place local work).failed ≡ false → EndTells plan place a (mends_status_of plan told place local work).work.edge
+  of (Idle declined) is none = stayed (ap (tells_now status.0) is)
+  of (Advertised label content) is none = over label content is content.status refl none
+  of (Withdrawing label) is none = stayed (ap (tells_now status.0) is)
+
+-- ---- what was mended stays so
+
+-- a place like any other one at the same wire, peer and side of the wire
+abbrev like : ℕ → ℕ → Bool → EndPlace
+like wire k terminal = record { wire = record { 0 = wire }; peer = record { 0 = k }; pw_id = 0; segment = 0; side = 0; terminal = terminal }
+
+mended_like : (plan : Plan) (edge : EdgeState) (p q : EndPlace) → p.wire.0 ≡ q.wire.0 → p.peer.0 ≡ q.peer.0 → p.terminal ≡ q.terminal → is_mended plan edge p ≡ is_mended plan edge q
+mended_like plan edge p q w k t =
+    ap (λ (n : ℕ). is_mended plan edge (like n p.peer.0 p.terminal)) w
+    ∙ (ap (λ (n : ℕ). is_mended plan edge (like q.wire.0 n p.terminal)) k ∙ ap (λ (b : Bool). is_mended plan edge (like q.wire.0 q.peer.0 b)) t)
+
+told_like : (plan : Plan) (edge : EdgeState) (p q : EndPlace) → p.wire.0 ≡ q.wire.0 → p.peer.0 ≡ q.peer.0 → is_told plan edge p ≡ is_told plan edge q
+told_like plan edge p q w k = ap (λ (n : ℕ). is_told plan edge (like n p.peer.0 false)) w ∙ ap (λ (n : ℕ). is_told plan edge (like q.wire.0 n false)) k
+
+-- fewer labels are left
+fewer : (wished none_left then_none : Bool) (local : LocalPart) → (none_left ≡ true → then_none ≡ true) → tells_wish wished none_left local ≡ true → tells_wish wished then_none local ≡ true
+fewer wished none_left then_none (Idle true) left is = refl
+fewer false none_left then_none (Idle false) left is = refl
+fewer true none_left then_none (Idle false) left is = left is
+fewer wished none_left then_none (Advertised label content) left is = is
+fewer wished none_left then_none (Withdrawing label) left is = refl
+
+-- where the end tells as before, it stays mended
+mended_still : (plan : Plan) (place : EndPlace) (old new : EdgeState) → IsSteady old new → (nat_eq old.next_label numbers_end ≡ true → nat_eq new.next_label numbers_end ≡ true)
+    → ((wished none_left : Bool) → tells_wish wished none_left (end_at new place).local ≡ tells_wish wished none_left (end_at old place).local)
+    → is_mended plan old place ≡ true → is_mended plan new place ≡ true
+mended_still plan place old new steady left same is =
+    ap (λ (o : Option Told). tells_wish (is_some o) (nat_eq new.next_label numbers_end) (end_at new place).local) (wish_steady plan old new place steady)
+    ∙ (same (is_some (wish plan old place)) (nat_eq new.next_label numbers_end)
+    ∙ fewer (is_some (wish plan old place)) (nat_eq old.next_label numbers_end) (nat_eq new.next_label numbers_end) (end_at old place).local left is)
+
+and_first : (a b : Bool) → a && b ≡ true → a ≡ true
+and_first true b e = refl
+and_first false b e = e
+
+and_second : (a b : Bool) → a && b ≡ true → b ≡ true
+and_second true b e = e
+and_second false b e = absurd (cc (e))
+
+mends_keeps : (plan : Plan) (p q : EndPlace) (old new : EdgeState) → EndMends plan q old new → (p.wire.0 ≡ q.wire.0 → p.terminal ≡ q.terminal) → is_mended plan old p ≡ true → is_mended plan new p ≡ true
+mends_keeps plan p q old new mends side is = elim (cases_Bool (is_at q p.wire.0 p.peer.0)) [
+  | inl here ↦
+      (let w : p.wire.0 ≡ q.wire.0 = eqb-true p.wire.0 q.wire.0 (and_first (nat_eq p.wire.0 q.wire.0) (nat_eq p.peer.0 q.peer.0) here) in
+      let k : p.peer.0 ≡ q.peer.0 = eqb-true p.peer.0 q.peer.0 (and_second (nat_eq p.wire.0 q.wire.0) (nat_eq p.peer.0 q.peer.0) here) in
+      mended_like plan new p q w k (side w) ∙ mends.mended)
+  | inr apart ↦
+      mended_still plan p old new mends.step.steady mends.step.labels
+      (λ wished none_left. ap (λ (e : EndState). tells_wish wished none_left e.local) (mends.step.others p.wire.0 p.peer.0 apart)) is
+]
+
+tells_keeps_mended : (plan : Plan) (p q : EndPlace) (old new : EdgeState) → EndTells plan q old new → is_mended plan old p ≡ true → is_mended plan new p ≡ true
+tells_keeps_mended plan p q old new tells is = mended_still plan p old new tells.step.steady tells.step.labels (λ wished none_left. same wished none_left) is where
+  end_like : (edge : EdgeState) → p.wire.0 ≡ q.wire.0 → p.peer.0 ≡ q.peer.0 → end_at edge p ≡ end_at edge q
+  end_like edge w k = ap (λ (n : ℕ). edge.ends n p.peer.0) w ∙ ap (edge.ends q.wire.0) k
+
+  same : (wished none_left : Bool) → tells_wish wished none_left (end_at new p).local ≡ tells_wish wished none_left (end_at old p).local
+  same wished none_left = elim (cases_Bool (is_at q p.wire.0 p.peer.0)) [
+    | inl here ↦
+        (let w : p.wire.0 ≡ q.wire.0 = eqb-true p.wire.0 q.wire.0 (and_first (nat_eq p.wire.0 q.wire.0) (nat_eq p.peer.0 q.peer.0) here) in
+        let k : p.peer.0 ≡ q.peer.0 = eqb-true p.peer.0 q.peer.0 (and_second (nat_eq p.wire.0 q.wire.0) (nat_eq p.peer.0 q.peer.0) here) in
+        ap (λ (e : EndState). tells_wish wished none_left e.local) (end_like new w k)
+        ∙ (tells.same wished none_left ∙ ap (λ (e : EndState). tells_wish wished none_left e.local) (sym (end_like old w k))))
+    | inr apart ↦ ap (λ (e : EndState). tells_wish wished none_left e.local) (tells.step.others p.wire.0 p.peer.0 apart)
+  ]
+
+tells_keeps_told : (plan : Plan) (p q : EndPlace) (old new : EdgeState) → EndTells plan q old new → is_told plan old p ≡ true → is_told plan new p ≡ true
+tells_keeps_told plan p q old new tells is = elim (cases_Bool (is_at q p.wire.0 p.peer.0)) [
+  | inl here ↦
+      told_like plan new p q (eqb-true p.wire.0 q.wire.0 (and_first (nat_eq p.wire.0 q.wire.0) (nat_eq p.peer.0 q.peer.0) here))
+      (eqb-true p.peer.0 q.peer.0 (and_second (nat_eq p.wire.0 q.wire.0) (nat_eq p.peer.0 q.peer.0) here)) ∙ tells.told
+  | inr apart ↦
+      ap (λ (s : PwStatus). tells_now s.0 (end_at new p).local) (status_steady plan old new p tells.step.steady)
+      ∙ (ap (λ (e : EndState). tells_now (status_to_tell plan old p).0 e.local) (tells.step.others p.wire.0 p.peer.0 apart) ∙ is)
+]
+
+-- ---- each end in turn
+
+-- One step of mending at each of these places: what holds throughout goes on, and at its own place the step makes something so that
+-- no other step undoes.
+record IsPass (mend : EndPlace → Work → Spoken) (places : EndPlace → Type 0) (throughout : EdgeState → Type 0) (so : EndPlace → EdgeState → Type 0) : Type 0 where
+  goes_on : (q : EndPlace) (work : Work) → places q → (mend q work).failed ≡ false → throughout work.edge → throughout (mend q work).work.edge
+  makes : (q : EndPlace) (work : Work) → places q → (mend q work).failed ≡ false → throughout work.edge → so q (mend q work).work.edge
+  keeps : (p q : EndPlace) (work : Work) → places p → places q → (mend q work).failed ≡ false → throughout work.edge → so p work.edge → so p (mend q work).work.edge
+
+record Passed (places : EndPlace → Type 0) (throughout : EdgeState → Type 0) (so : EndPlace → EdgeState → Type 0) (done : List EndPlace) (old new : EdgeState) : Type 0 where
+  still : throughout new
+  made : AllByRecursion (λ p. so p new) done
+  kept : (p : EndPlace) → places p → so p old → so p new
+
+fails_not_before : (mend : EndPlace → Work → Spoken) (places : List EndPlace) (m : Spoken) → (each_end mend places m).failed ≡ false → m.failed ≡ false
+fails_not_before mend [] m none = none
+fails_not_before mend (q ∷ rest) m none = or_left m.failed (mend q m.work).failed (fails_not_before mend rest (and_says m (mend q)) none)
+
+passes : (mend : EndPlace → Work → Spoken) (places : EndPlace → Type 0) (throughout : EdgeState → Type 0) (so : EndPlace → EdgeState → Type 0) → IsPass mend places throughout so → (list : List EndPlace)
+    → AllByRecursion places list → (m : Spoken) → (each_end mend list m).failed ≡ false → throughout m.work.edge → Passed places throughout so list m.work.edge (each_end mend list m).work.edge
+passes mend places throughout so pass [] all m none holds = record { still = holds; made = tt; kept = λ p here is. is }
+passes mend places throughout so pass (q ∷ rest) all m none holds =
+    let next : Spoken = and_says m (mend q) in
+    let taken : (mend q m.work).failed ≡ false = or_right m.failed (mend q m.work).failed (fails_not_before mend rest next none) in
+    let later : Passed places throughout so rest next.work.edge (each_end mend rest next).work.edge =
+    passes mend places throughout so pass rest all.1 next none (pass.goes_on q m.work all.0 taken holds) in
+    record {
+      still = later.still;
+      made = (later.kept q all.0 (pass.makes q m.work all.0 taken holds), later.made);
+      kept = λ p here is. later.kept p here (pass.keeps p q m.work here all.0 taken holds is);
+    }
+
+-- the side of a wire at which an edge has its end, by the plan
+terminal_in : Option WirePlan → EdgeId → Bool
+terminal_in None me = false
+terminal_in (Some row) me = is_terminal row me
+
+terminal_is : (plan : Plan) (me : EdgeId) (p : EndPlace) → IsEndOf plan me p → p.terminal ≡ terminal_in (wire_row plan (record { 0 = p.wire.0 })) me
+unfolding terminal_in
+terminal_is plan me p end = end.terminal ∙ sym (ap (λ (row : Option WirePlan). terminal_in row me) end.is)
+
+same_side : (plan : Plan) (me : EdgeId) (p q : EndPlace) → IsEndOf plan me p → IsEndOf plan me q → p.wire.0 ≡ q.wire.0 → p.terminal ≡ q.terminal
+same_side plan me p q one other w = terminal_is plan me p one ∙ (ap (λ (n : ℕ). terminal_in (wire_row plan (record { 0 = n })) me) w ∙ sym (terminal_is plan me q other))
+
+-- what ends should tell has not changed, and ends that were mended are
+record StaysMended (plan : Plan) (old now : EdgeState) : Type 0 where
+  steady : IsSteady old now
+  mended : (p : EndPlace) → is_mended plan old p ≡ true → is_mended plan now p ≡ true
+
+module _ (plan : Plan) (told : Answers) (me : EdgeId) where
+  first_pass : (old : EdgeState) → IsPass (mends_end plan told) (IsEndOf plan me) (λ now. IsSteady old now) (λ p now. is_mended plan now p ≡ true)
+  first_pass old = record {
+    goes_on = λ q work here none steady. steady_then old work.edge (mends_end plan told q work).work.edge steady (end_mends plan told q work none).step.steady;
+    makes = λ q work here none steady. (end_mends plan told q work none).mended;
+    keeps = λ p q work one other none steady is.
+        mends_keeps plan p q work.edge (mends_end plan told q work).work.edge (end_mends plan told q work none) (λ w. same_side plan me p q one other w) is;
+  }
+
+  second_pass : (old : EdgeState) → IsPass (mends_status plan told) (IsEndOf plan me) (λ now. StaysMended plan old now) (λ p now. is_told plan now p ≡ true)
+  second_pass old = record {
+    goes_on = λ q work here none stays. record {
+      steady = steady_then old work.edge (mends_status plan told q work).work.edge stays.steady (end_tells plan told q work none).step.steady;
+      mended = λ p is. tells_keeps_mended plan p q work.edge (mends_status plan told q work).work.edge (end_tells plan told q work none) (stays.mended p is);
+    };
+    makes = λ q work here none stays. (end_tells plan told q work none).told;
+    keeps = λ p q work one other none stays is. tells_keeps_told plan p q work.edge (mends_status plan told q work).work.edge (end_tells plan told q work none) is;
+  }
+
+-- ---- each wire is told
+
+-- a terminal edge of a wire has one end of it
+abbrev pub HasOneEnd : Plan → EdgeId → Type 0
+HasOneEnd plan me = (p q : EndPlace) → IsEndOf plan me p → IsEndOf plan me q → p.terminal ≡ true → q.terminal ≡ true → p.wire.0 ≡ q.wire.0 → p.peer.0 ≡ q.peer.0
+
+down_like : (plan : Plan) (edge : EdgeState) (p q : EndPlace) → p.wire.0 ≡ q.wire.0 → p.peer.0 ≡ q.peer.0 → down_at plan edge p ≡ down_at plan edge q
+down_like plan edge p q w k = ap (λ (n : ℕ). down_at plan edge (like n p.peer.0 false)) w ∙ ap (λ (n : ℕ). down_at plan edge (like q.wire.0 n false)) k
+
+-- one end is told
+tells_one : Plan → EndPlace → Work → Work
+tells_one plan q work = cond q.terminal (tells_down q (down_at plan work.edge q) work) work
+
+-- of the edge, what was told of wires alone has changed, and of this one it is so
+record HasTold (plan : Plan) (me : EdgeId) (q : EndPlace) (old new : EdgeState) : Type 0 where
+  downs : ℕ → Option Down
+  is : new ≡ record old { told_down = downs }
+  so : is_down_told plan new q ≡ true
+  keeps : (p : EndPlace) → IsEndOf plan me p → is_down_told plan old p ≡ true → is_down_told plan new p ≡ true
+
+one_told : (plan : Plan) (me : EdgeId) → HasOneEnd plan me → (q : EndPlace) → IsEndOf plan me q → (work : Work) → HasTold plan me q work.edge (tells_one plan q work).edge
+unfolding tells_one changes gives with_told_down
+one_told plan me one q here work = of q.terminal refl where
+  a : EdgeState
+  a = work.edge
+
+  down : Option Down
+  down = down_at plan a q
+
+  left : is_down_told plan a q ≡ true → HasTold plan me q a a
+  left so = record { downs = a.told_down; is = refl; so = so; keeps = λ p there is. is }
+
+  after : q.terminal ≡ true → HasTold plan me q a (record a { told_down = λ k. cond (nat_eq k q.wire.0) down (a.told_down k) })
+  after terminal = record { downs = λ k. cond (nat_eq k q.wire.0) down (a.told_down k); is = refl; so = by_place; keeps = λ p there is. others p there is (p.terminal) refl }
+    where
+      new : EdgeState
+      new = record a { told_down = λ k. cond (nat_eq k q.wire.0) down (a.told_down k) }
+
+      by_place : is_down_told plan new q ≡ true
+      by_place = rw (terminal, eq-eqb q.wire.0 q.wire.0 refl) (eq-eqb (cause_number down) (cause_number down) refl)
+
+      at_wire : (p : EndPlace) → IsEndOf plan me p → p.terminal ≡ true → (b : Bool) → nat_eq p.wire.0 q.wire.0 ≡ b → nat_eq (cause_number (a.told_down p.wire.0)) (cause_number (down_at plan a p)) ≡ true
+          → nat_eq (cause_number (cond b down (a.told_down p.wire.0))) (cause_number (down_at plan a p)) ≡ true
+      at_wire p there own true same is =
+          let w : p.wire.0 ≡ q.wire.0 = eqb-true p.wire.0 q.wire.0 same in
+          ap (λ (o : Option Down). nat_eq (cause_number down) (cause_number o)) (down_like plan a p q w (one p q there here own terminal w)) ∙ eq-eqb (cause_number down) (cause_number down) refl
+      at_wire p there own false away is = is
+
+      others : (p : EndPlace) → IsEndOf plan me p → is_down_told plan a p ≡ true → (b : Bool) → p.terminal ≡ b → is_down_told plan new p ≡ true
+      others p there is false own = ap (λ (b : Bool). not b || nat_eq (cause_number (new.told_down p.wire.0)) (cause_number (down_at plan a p))) own
+      others p there is true own =
+          ap (λ (b : Bool). not b || nat_eq (cause_number (new.told_down p.wire.0)) (cause_number (down_at plan a p))) own
+          ∙ at_wire p there own (nat_eq p.wire.0 q.wire.0) refl
+          (sym (ap (λ (b : Bool). not b || nat_eq (cause_number (a.told_down p.wire.0)) (cause_number (down_at plan a p))) own) ∙ is)
+
+  by : q.terminal ≡ true → (b : Bool) → nat_eq (cause_number (a.told_down q.wire.0)) (cause_number down) ≡ b
+      → HasTold plan me q a (cond b work (gives (Wire q.wire down) (changes (with_told_down q.wire down) work))).edge
+  by terminal true same = left (rw terminal same)
+  by terminal false other = after terminal
+
+  of : (b : Bool) → q.terminal ≡ b → HasTold plan me q a (cond b (tells_down q down work) work).edge
+  of true terminal = by terminal (nat_eq (cause_number (a.told_down q.wire.0)) (cause_number down)) refl
+  of false middle = left (ap (λ (b : Bool). not b || nat_eq (cause_number (a.told_down q.wire.0)) (cause_number down)) middle)
+
+record HaveTold (plan : Plan) (me : EdgeId) (list : List EndPlace) (old new : EdgeState) : Type 0 where
+  downs : ℕ → Option Down
+  is : new ≡ record old { told_down = downs }
+  so : AllByRecursion (λ q. is_down_told plan new q ≡ true) list
+  keeps : (p : EndPlace) → IsEndOf plan me p → is_down_told plan old p ≡ true → is_down_told plan new p ≡ true
+
+all_told : (plan : Plan) (me : EdgeId) → HasOneEnd plan me → (list : List EndPlace) → AllByRecursion (IsEndOf plan me) list → (work : Work) → HaveTold plan me list work.edge (tells_downs plan list work).edge
+unfolding tells_one
+all_told plan me one [] all work = record { downs = work.edge.told_down; is = refl; so = tt; keeps = λ p here is. is }
+all_told plan me one (q ∷ list) all work =
+    let next : Work = tells_one plan q work in
+    let first : HasTold plan me q work.edge next.edge = one_told plan me one q all.0 work in
+    let rest : HaveTold plan me list next.edge (tells_downs plan list next).edge = all_told plan me one list all.1 next in
+    record {
+      downs = rest.downs;
+      is = rest.is ∙ ap (λ (e : EdgeState). record e { told_down = rest.downs }) first.is;
+      so = (rest.keeps q all.0 first.so, rest.so);
+      keeps = λ p here is. rest.keeps p here (first.keeps p here is);
+    }
+
+-- ---- a round of mending in which the link took every message
+
+pub round_mends : (plan : Plan) (told : Answers) (work : Work) → HasOneEnd plan work.edge.me → (mends_once plan told work).failed ≡ false → IsMended plan (mends_once plan told work).work.edge
+round_mends plan told work one none =
+    record {
+      ends = at_me (λ me. AllByRecursion (λ p. is_mended plan last p ≡ true) (end_places plan me))
+          (all_map (λ p. is_mended plan second.work.edge p ≡ true) (λ p. is_mended plan last p ≡ true) (λ p is. subst (λ (e : EdgeState). is_mended plan e p ≡ true) (sym downs.is) is) places
+          (all_map (λ p. is_mended plan first.work.edge p ≡ true) (λ p. is_mended plan second.work.edge p ≡ true) (λ p is. statuses.still.mended p is) places ends.made));
+      statuses = at_me (λ me. AllByRecursion (λ p. is_told plan last p ≡ true) (end_places plan me))
+          (all_map (λ p. is_told plan second.work.edge p ≡ true) (λ p. is_told plan last p ≡ true) (λ p is. subst (λ (e : EdgeState). is_told plan e p ≡ true) (sym downs.is) is) places statuses.made);
+      downs = at_me (λ me. AllByRecursion (λ p. is_down_told plan last p ≡ true) (end_places plan me)) downs.so;
+    }
+  where
+    me : EdgeId
+    me = work.edge.me
+
+    places : List EndPlace
+    places = end_places plan me
+
+    all : AllByRecursion (IsEndOf plan me) places
+    all = places_are plan me
+
+    first : Spoken
+    first = each_end (mends_end plan told) places (stays work)
+
+    second : Spoken
+    second = each_end (mends_status plan told) places first
+
+    last : EdgeState
+    last = (tells_downs plan places second.work).edge
+
+    ends : Passed (IsEndOf plan me) (λ now. IsSteady work.edge now) (λ p now. is_mended plan now p ≡ true) places work.edge first.work.edge
+    ends = passes (mends_end plan told) (IsEndOf plan me) (λ now. IsSteady work.edge now) (λ p now. is_mended plan now p ≡ true) (first_pass plan told me work.edge) places all (stays work)
+        (fails_not_before (mends_status plan told) places first none) (steady_not work.edge)
+
+    statuses : Passed (IsEndOf plan me) (λ now. StaysMended plan first.work.edge now) (λ p now. is_told plan now p ≡ true) places first.work.edge second.work.edge
+    statuses = passes (mends_status plan told) (IsEndOf plan me) (λ now. StaysMended plan first.work.edge now) (λ p now. is_told plan now p ≡ true) (second_pass plan told me first.work.edge) places all first
+        none (record { steady = steady_not first.work.edge; mended = λ p is. is })
+
+    downs : HaveTold plan me places second.work.edge last
+    downs = all_told plan me one places all second.work
+
+    same_me : last.me ≡ me
+    same_me = ap (λ (e : EdgeState). e.me) downs.is ∙ (statuses.still.steady.me ∙ ends.still.me)
+
+    at_me : (P : EdgeId → Type 0) → P me → P last.me
+    at_me P p = subst P (sym same_me) p
+
+-- over a link that takes every call
+pub mends_mended : (plan : Plan) (told : Answers) (work : Work) → TakesAll told → HasOneEnd plan work.edge.me → IsMended plan (mends plan told work).edge
+mends_mended plan told work takes one =
+    subst (λ (w : Work). IsMended plan w.edge) (sym (mends_takes plan told takes work)) (round_mends plan told work one (mends_once_takes plan told takes work))
+
+-- mending twice does nothing more
+pub mends_twice : (plan : Plan) (told : Answers) (work : Work) → TakesAll told → HasOneEnd plan work.edge.me → mends plan told (mends plan told work) ≡ mends plan told work
+mends_twice plan told work takes one = mends_not plan told (mends plan told work) (mends_mended plan told work takes one)

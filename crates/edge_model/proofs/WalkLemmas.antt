@@ -1,0 +1,476 @@
+-- Walks over all that an edge does: what holds of no work, of two works in turn and of each single step, holds of the whole. A fact
+-- of two moments of an edge so owes its single steps alone.
+use Rattle.std.proofs.Common.{◌≡◌, ◌+◌, ◌++◌, ◌&&◌, ◌∙◌, ℕ, zero, suc, Bool, true, false, List, [], ◌∷◌, Option, Some, None, Result, Ok, Err, cond, refl, sym, ap, nat_eq, append_assoc, not, length, slice_get}
+use Rattle.net_base.specs.declared.plan.Plan.{Plan}
+use Rattle.net_base.specs.declared.plan.edge_plan.EdgePlan.{EdgePlan}
+use Rattle.net_base.specs.declared.plan.circuit_plan.CircuitPlan.{CircuitPlan}
+use Rattle.net_base.specs.declared.plan.places.CircuitId.{CircuitId}
+use Rattle.net_base.specs.declared.plan.places.EdgeId.{EdgeId}
+use Rattle.net_base.specs.declared.plan.places.ServiceId.{ServiceId}
+use Rattle.net_base.specs.declared.plan.places.WireId.{WireId}
+use Rattle.net_base.specs.declared.trace.drop_cause.DropCause.{DropCause}
+use Rattle.net_base.specs.declared.trace.state_name.Reason.TheVariants as reason
+use Rattle.net_base.specs.declared.trace.state_name.StateName.TheVariants as name
+use Rattle.net_base.specs.plan.Paths.{are_joined}
+use Rattle.net_base.specs.plan.Places.{circuit_row}
+use Rattle.net_base.specs.trace.Isolated.{inner_at}
+use Rattle.hvpls_spokes.specs.declared.port.Port.{Port}
+use Rattle.hvpls_spokes.specs.declared.port.Port.TheVariants as port
+use Rattle.hvpls_spokes.specs.Port.{ports_of}
+use Rattle.ldp_codec.specs.Decoded.{refusal_of}
+use Rattle.ldp_grammar.specs.declared.message.Message.{Message}
+use Rattle.ldp_grammar.specs.declared.message.Message.TheVariants.{Notification, LabelMapping, LabelWithdraw, LabelRelease}
+use Rattle.ldp_grammar.specs.declared.pdu.Pdu.{Pdu}
+use Rattle.ldp_grammar.specs.declared.status_code.StatusCode.{StatusCode}
+use Rattle.ldp_stream.specs.FrontOf.{Front, More, Got, Bad, front_of}
+use Rattle.session_core.specs.declared.reply.Reply.{Reply}
+use Rattle.session_core.specs.Table as table
+use Rattle.session_core.specs.Table.{SessionEvent, Heard, Received, Refused, Ticked}
+use Rattle.pw_tlvs.specs.declared.point.Point.{Point}
+use Rattle.pw_tlvs.specs.declared.pw_fec.PwFec.{PwFec}
+use Rattle.pw_signalling.specs.declared.binding.Binding.{Binding}
+use Rattle.pw_signalling.specs.Rows.{bound, group_stated, group_unbound, stated, unbound}
+use Rattle.label_space.specs.Labels.{numbers_end}
+use Rattle.pw_tlvs.specs.declared.pw_status.PwStatus.{PwStatus}
+use Rattle.pw_signalling.specs.declared.told.Told.{Told}
+use Rattle.pw_signalling.specs.End.{LocalPart, Idle, Advertised, Withdrawing}
+use Rattle.edge_model.specs.declared.effect.Effect.TheVariants as effect
+use Rattle.edge_model.specs.declared.end_place.EndPlace.{EndPlace}
+use Rattle.edge_model.specs.Content.{binding_in, mapping, pw_status_code, status_notification, withdrawal}
+use Rattle.edge_model.specs.Circuit.{circuit_input, is_same, turned}
+use Rattle.edge_model.specs.Connection.{connected_input, connects_between, lost_input, opened_with, restart_input}
+use Rattle.edge_model.specs.declared.input.Input.{Input}
+use Rattle.edge_model.specs.declared.input.Input.TheVariants.{Connected, Octets, Lost, Restart, Tick, Frame, Wire, Circuit, Status}
+use Rattle.edge_model.specs.EndPlaces.{end_places, ends_here, passes}
+use Rattle.edge_model.specs.Frame.{copies, copy_by, frame_input, hearing, is_own, port_at, received, targets_of}
+use Rattle.edge_model.specs.Hear.{acts, acts_on, advice_of, advises, hears, hears_few, hears_front, hears_message, hears_messages, hears_on, hears_one, hears_pdu, hears_within, holds, octets_input, was_up}
+use Rattle.edge_model.specs.Mend.{advertises, advertises_wish, advertising, and_says, cause_number, each_end, mends, mends_end, mends_few, mends_local, mends_once, mends_status, mends_status_of, stays, tells_down, tells_downs, tells_new_status, tells_over, telling_status, wish, withdrawing, withdraws, withdraws_unless}
+use Rattle.edge_model.specs.Put.{Spoken, put_reply}
+use Rattle.edge_model.specs.Role.{down_at, status_to_tell}
+use Rattle.edge_model.specs.Session.{had_said, happens_with_ends, says}
+use Rattle.edge_model.specs.Signal.{end_of_fec, hears_mapping, hears_release, hears_status, hears_withdraw, maps_to, releases_label, with_end_changed, with_named}
+use Rattle.edge_model.specs.State.{EdgeState, Peering, end_at, has_end, is_on, with_bits, with_end, with_next_label, with_peering, with_told_down}
+use Rattle.edge_model.specs.Step.{edge_step}
+use Rattle.edge_model.specs.Tick.{counted, forgetting, tick_input, ticks_sessions}
+use Rattle.edge_model.specs.Wire.{status_input, turned_wire, wire_input}
+use Rattle.edge_model.specs.Work.{Work, Answers, changes, gives, idles}
+use Rattle.edge_model.proofs.SessionLemmas.{any, says_works}
+
+-- the edge has an end at this place, by the plan
+pub record IsEndAt (plan : Plan) (me : EdgeId) (place : EndPlace) : Type 0 where
+  pub before : List EndPlace
+  pub after : List EndPlace
+  pub split : end_places plan me ≡ before ++ place ∷ after
+
+-- ---- an edge mends
+
+-- something holds of each step of mending
+pub record MendSteps (plan : Plan) (told : Answers) (R : Work → Work → Type 0) : Type 0 where
+  pub same : (work : Work) → R work work
+  pub joined : (a b c : Work) → R a b → R b c → R a c
+  -- an end is advertised
+  pub advertises : (place : EndPlace) (content : Told) (work : Work) → IsEndAt plan work.edge.me place
+      → (end_at work.edge place).local ≡ Idle false → wish plan work.edge place ≡ Some content → nat_eq work.edge.next_label numbers_end ≡ false
+      → R work (says told place.peer (mapping place.pw_id work.edge.next_label content) (changes (advertising place work.edge.next_label content) work)).work
+  -- one is withdrawn
+  pub withdraws : (place : EndPlace) (label : ℕ) (content : Told) (work : Work) → IsEndAt plan work.edge.me place
+      → (end_at work.edge place).local ≡ Advertised label content → wish plan work.edge place ≡ None
+      → R work (withdraws told place label content work).work
+  -- a new status is told
+  pub tells_status : (place : EndPlace) (label : ℕ) (content : Told) (last : PwStatus) (work : Work) → IsEndAt plan work.edge.me place
+      → (end_at work.edge place).local ≡ Advertised label content → content.status ≡ Some last → nat_eq last.0 (status_to_tell plan work.edge place).0 ≡ false
+      → R work (tells_new_status told place content (status_to_tell plan work.edge place) work).work
+  -- a wire that began to forward, or stopped, is told
+  pub tells_down : (place : EndPlace) (work : Work) → IsEndAt plan work.edge.me place
+      → place.terminal ≡ true → nat_eq (cause_number (work.edge.told_down place.wire.0)) (cause_number (down_at plan work.edge place)) ≡ false
+      → R work (gives (effect.Wire place.wire (down_at plan work.edge place)) (changes (with_told_down place.wire (down_at plan work.edge place)) work))
+
+-- it holds, and the edge is the same one
+record Walks (R : Work → Work → Type 0) (a b : Work) : Type 0 where
+  holds : R a b
+  me : b.edge.me ≡ a.edge.me
+
+walks_not : {plan : Plan} {told : Answers} {R : Work → Work → Type 0} → MendSteps plan told R → (work : Work) → Walks R work work
+walks_not steps work = record { holds = steps.same work; me = refl }
+
+walks_then : {plan : Plan} {told : Answers} {R : Work → Work → Type 0} → MendSteps plan told R → (a b c : Work) → Walks R a b → Walks R b c → Walks R a c
+walks_then steps a b c first next = record { holds = steps.joined a b c first.holds next.holds; me = next.me ∙ first.me }
+
+module _ (plan : Plan) (told : Answers) (R : Work → Work → Type 0) (steps : MendSteps plan told R) where
+  -- ---- an end is advertised, withdrawn or left
+
+  advertises_walks : (place : EndPlace) (content : Told) (work : Work) → IsEndAt plan work.edge.me place → (end_at work.edge place).local ≡ Idle false → wish plan work.edge place ≡ Some content
+      → Walks R work (advertises told place content work).work
+  unfolding changes with_end with_next_label
+  advertises_walks place content work here idle wished = by (nat_eq work.edge.next_label numbers_end) refl where
+    begun : Work
+    begun = changes (advertising place work.edge.next_label content) work
+
+    by : (b : Bool) → nat_eq work.edge.next_label numbers_end ≡ b → Walks R work (cond b (stays work) (says told place.peer (mapping place.pw_id work.edge.next_label content) begun)).work
+    by true left = walks_not steps work
+    by false left = record {
+      holds = steps.advertises place content work here idle wished left;
+      me = (says_works told any place.peer (mapping place.pw_id work.edge.next_label content) begun refl).edge.me;
+    }
+
+  advertises_wish_walks : (place : EndPlace) (wished : Option Told) (work : Work) → IsEndAt plan work.edge.me place → (end_at work.edge place).local ≡ Idle false → wish plan work.edge place ≡ wished
+      → Walks R work (advertises_wish told place wished work).work
+  advertises_wish_walks place None work here idle is = walks_not steps work
+  advertises_wish_walks place (Some content) work here idle is = advertises_walks place content work here idle is
+
+  withdraws_walks : (place : EndPlace) (label : ℕ) (content : Told) (wished : Option Told) (work : Work) → IsEndAt plan work.edge.me place
+      → (end_at work.edge place).local ≡ Advertised label content → wish plan work.edge place ≡ wished → Walks R work (withdraws_unless told place label content wished work).work
+  unfolding changes with_end
+  withdraws_walks place label content None work here told_it is = record {
+    holds = steps.withdraws place label content work here told_it is;
+    me = (says_works told any place.peer (withdrawal place.pw_id label content) (changes (withdrawing place) work) refl).edge.me;
+  }
+  withdraws_walks place label content (Some wished) work here told_it is = walks_not steps work
+
+  mends_local_walks : (place : EndPlace) (local : LocalPart) (work : Work) → IsEndAt plan work.edge.me place → (end_at work.edge place).local ≡ local → Walks R work (mends_local plan told place local work).work
+  mends_local_walks place (Idle true) work here is = walks_not steps work
+  mends_local_walks place (Idle false) work here is = advertises_wish_walks place (wish plan work.edge place) work here is refl
+  mends_local_walks place (Advertised label content) work here is = withdraws_walks place label content (wish plan work.edge place) work here is refl
+  mends_local_walks place (Withdrawing label) work here is = walks_not steps work
+
+  mends_end_walks : (place : EndPlace) (work : Work) → IsEndAt plan work.edge.me place → Walks R work (mends_end plan told place work).work
+  mends_end_walks place work here = mends_local_walks place (end_at work.edge place).local work here refl
+
+  -- ---- a status that has changed is told
+
+  tells_over_walks : (place : EndPlace) (label : ℕ) (content : Told) (last : Option PwStatus) (work : Work) → IsEndAt plan work.edge.me place
+      → (end_at work.edge place).local ≡ Advertised label content → content.status ≡ last
+      → Walks R work (tells_over told place content (status_to_tell plan work.edge place) last work).work
+  unfolding changes with_end
+  tells_over_walks place label content None work here told_it is = walks_not steps work
+  tells_over_walks place label content (Some last) work here told_it is = by (nat_eq last.0 (status_to_tell plan work.edge place).0) refl where
+    by : (b : Bool) → nat_eq last.0 (status_to_tell plan work.edge place).0 ≡ b
+        → Walks R work (cond b (stays work) (tells_new_status told place content (status_to_tell plan work.edge place) work)).work
+    by true same = walks_not steps work
+    by false other = record {
+      holds = steps.tells_status place label content last work here told_it is other;
+      me = (says_works told any place.peer (status_notification place.pw_id (status_to_tell plan work.edge place) content) (changes (telling_status place (status_to_tell plan work.edge place)) work) refl).edge.me;
+    }
+
+  mends_status_of_walks : (place : EndPlace) (local : LocalPart) (work : Work) → IsEndAt plan work.edge.me place → (end_at work.edge place).local ≡ local
+      → Walks R work (mends_status_of plan told place local work).work
+  mends_status_of_walks place (Idle declined) work here is = walks_not steps work
+  mends_status_of_walks place (Advertised label content) work here is = tells_over_walks place label content content.status work here is refl
+  mends_status_of_walks place (Withdrawing label) work here is = walks_not steps work
+
+  mends_status_walks : (place : EndPlace) (work : Work) → IsEndAt plan work.edge.me place → Walks R work (mends_status plan told place work).work
+  mends_status_walks place work here = mends_status_of_walks place (end_at work.edge place).local work here refl
+
+  -- ---- each end in turn
+
+  each_end_walks : (mend : EndPlace → Work → Spoken) → ((place : EndPlace) (work : Work) → IsEndAt plan work.edge.me place → Walks R work (mend place work).work)
+      → (before places : List EndPlace) (m : Spoken) → end_places plan m.work.edge.me ≡ before ++ places → Walks R m.work (each_end mend places m).work
+  each_end_walks mend one before [] m are = walks_not steps m.work
+  each_end_walks mend one before (place ∷ places) m are =
+      let first : Walks R m.work (mend place m.work).work = one place m.work (record { before = before; after = places; split = are }) in
+      walks_then steps m.work (mend place m.work).work _ first
+      (each_end_walks mend one (before ++ place ∷ []) places (and_says m (mend place)) (ap (end_places plan) first.me ∙ (are ∙ sym (append_assoc before (place ∷ []) places))))
+
+  tells_down_walks : (place : EndPlace) (work : Work) → IsEndAt plan work.edge.me place → place.terminal ≡ true → Walks R work (tells_down place (down_at plan work.edge place) work)
+  unfolding changes gives with_told_down
+  tells_down_walks place work here terminal = by (nat_eq (cause_number (work.edge.told_down place.wire.0)) (cause_number (down_at plan work.edge place))) refl where
+    by : (b : Bool) → nat_eq (cause_number (work.edge.told_down place.wire.0)) (cause_number (down_at plan work.edge place)) ≡ b
+        → Walks R work (cond b work (gives (effect.Wire place.wire (down_at plan work.edge place)) (changes (with_told_down place.wire (down_at plan work.edge place)) work)))
+    by true same = walks_not steps work
+    by false other = record { holds = steps.tells_down place work here terminal other; me = refl }
+
+  tells_downs_walks : (before places : List EndPlace) (work : Work) → end_places plan work.edge.me ≡ before ++ places → Walks R work (tells_downs plan places work)
+  tells_downs_walks before [] work are = walks_not steps work
+  tells_downs_walks before (place ∷ places) work are =
+      let here : IsEndAt plan work.edge.me place = record { before = before; after = places; split = are } in
+      let first : Walks R work (cond place.terminal (tells_down place (down_at plan work.edge place) work) work) = by here place.terminal refl in
+      walks_then steps work (cond place.terminal (tells_down place (down_at plan work.edge place) work) work) (tells_downs plan (place ∷ places) work) first
+      (tells_downs_walks (before ++ place ∷ []) places (cond place.terminal (tells_down place (down_at plan work.edge place) work) work)
+      (ap (end_places plan) first.me ∙ (are ∙ sym (append_assoc before (place ∷ []) places))))
+    where
+      by : IsEndAt plan work.edge.me place → (b : Bool) → place.terminal ≡ b → Walks R work (cond b (tells_down place (down_at plan work.edge place) work) work)
+      by here true terminal = tells_down_walks place work here terminal
+      by here false terminal = walks_not steps work
+
+  -- ---- all steps
+
+  mends_once_walks : (work : Work) → Walks R work (mends_once plan told work).work
+  mends_once_walks work =
+      let places : List EndPlace = end_places plan work.edge.me in
+      let advertised : Spoken = each_end (mends_end plan told) places (stays work) in
+      let statuses : Spoken = each_end (mends_status plan told) places advertised in
+      let first : Walks R work advertised.work = each_end_walks (mends_end plan told) mends_end_walks [] places (stays work) refl in
+      let second : Walks R work statuses.work =
+      walks_then steps work advertised.work statuses.work first (each_end_walks (mends_status plan told) mends_status_walks [] places advertised (ap (end_places plan) first.me)) in
+      walks_then steps work statuses.work (mends_once plan told work).work second (tells_downs_walks [] places statuses.work (ap (end_places plan) second.me))
+
+  mends_few_walks : (n : ℕ) (work : Work) → Walks R work (mends_few plan told n work)
+  mends_few_walks zero work = walks_not steps work
+  mends_few_walks (suc n) work =
+      walks_then steps work (mends_once plan told work).work (mends_few plan told (suc n) work) (mends_once_walks work)
+      (by (mends_once plan told work).failed (mends_few_walks n (mends_once plan told work).work))
+    where
+      by : (failed : Bool) → Walks R (mends_once plan told work).work (mends_few plan told n (mends_once plan told work).work)
+          → Walks R (mends_once plan told work).work (cond failed (mends_few plan told n (mends_once plan told work).work) (mends_once plan told work).work)
+      by true again = again
+      by false again = walks_not steps (mends_once plan told work).work
+
+-- so it holds of each round of mending, and of all of it
+pub mends_once_holds : (plan : Plan) (told : Answers) (R : Work → Work → Type 0) → MendSteps plan told R → (work : Work) → R work (mends_once plan told work).work
+mends_once_holds plan told R steps work = (mends_once_walks plan told R steps work).holds
+
+pub mends_holds : (plan : Plan) (told : Answers) (R : Work → Work → Type 0) → MendSteps plan told R → (work : Work) → R work (mends plan told work)
+mends_holds plan told R steps work = (mends_few_walks plan told R steps (suc (length plan.edges)) work).holds
+
+-- ---- an edge hears
+
+-- something holds of each step of hearing
+pub record HearSteps (plan : Plan) (told : Answers) (R : Work → Work → Type 0) : Type 0 where
+  pub mend : MendSteps plan told R
+  -- the sessions
+  pub happens : (peer : EdgeId) (event : SessionEvent) (work : Work) → R work (happens_with_ends told peer event work)
+  pub advises : (peer : EdgeId) (reply : Reply) (work : Work) → R work (had_said peer (put_reply told peer reply work)).work
+  pub holds : (peer : EdgeId) (kept : Peering) (octets : List ℕ) (work : Work) → work.edge.peering peer.0 ≡ Some kept → R work (changes (with_peering peer (Some (record kept { held = octets }))) work)
+  -- the rows of messages about pseudowires, in a session that stands
+  pub releases : (peer : EdgeId) (fec : PwFec) (label : Option ℕ) (work : Work) → R work (releases_label told peer fec label work)
+  pub binds : (peer : EdgeId) (fec : PwFec) (place : EndPlace) (binding : Binding) (work : Work) → has_end work.edge peer ≡ true → end_of_fec plan work.edge peer fec ≡ Some place
+      → R work (changes (with_end_changed (bound binding) (Some place)) work)
+  pub unbinds : (peer : EdgeId) (fec : PwFec) (label : Option ℕ) (work : Work) → has_end work.edge peer ≡ true
+      → R work (changes (with_named plan peer fec (unbound label) (group_unbound fec.group) fec.pw_id) work)
+  pub released : (peer : EdgeId) (fec : PwFec) (label : Option ℕ) (work : Work) → has_end work.edge peer ≡ true → R work (hears_release plan peer fec label work)
+  pub states : (peer : EdgeId) (fec : PwFec) (status : PwStatus) (work : Work) → has_end work.edge peer ≡ true
+      → R work (changes (with_named plan peer fec (stated status) (group_stated fec.group status) fec.pw_id) work)
+
+module _ (plan : Plan) (told : Answers) (R : Work → Work → Type 0) (steps : HearSteps plan told R) where
+  pub advises_holds : (peer : EdgeId) (advice : Option Reply) (work : Work) → R work (advises told peer advice work)
+  advises_holds peer None work = steps.mend.same work
+  advises_holds peer (Some reply) work = steps.advises peer reply work
+
+  -- ---- the rows
+
+  maps_to_holds : (peer : EdgeId) (fec : PwFec) (label : ℕ) (status : Option PwStatus) (points : List Point) (place : Option EndPlace) (work : Work)
+      → has_end work.edge peer ≡ true → end_of_fec plan work.edge peer fec ≡ place → R work (maps_to told peer fec label status points place work)
+  maps_to_holds peer fec label status points None work there is = steps.releases peer fec (Some label) work
+  maps_to_holds peer fec label status points (Some place) work there is = steps.binds peer fec place (binding_in fec label status points) work there is
+
+  pub hears_mapping_holds : (peer : EdgeId) (fec : PwFec) (label : ℕ) (status : Option PwStatus) (points : List Point) (work : Work)
+      → has_end work.edge peer ≡ true → R work (hears_mapping plan told peer fec label status points work)
+  hears_mapping_holds peer fec label status points work there = maps_to_holds peer fec label status points (end_of_fec plan work.edge peer fec) work there refl
+
+  pub hears_withdraw_holds : (peer : EdgeId) (fec : PwFec) (label : Option ℕ) (work : Work) → has_end work.edge peer ≡ true → R work (hears_withdraw plan told peer fec label work)
+  hears_withdraw_holds peer fec label work there =
+      let unbound_it : Work = changes (with_named plan peer fec (unbound label) (group_unbound fec.group) fec.pw_id) work in
+      steps.mend.joined work unbound_it (releases_label told peer fec label unbound_it) (steps.unbinds peer fec label work there) (steps.releases peer fec label unbound_it)
+
+  pub hears_status_holds : (peer : EdgeId) (code : StatusCode) (status : Option PwStatus) (fec : Option PwFec) (work : Work) → has_end work.edge peer ≡ true
+      → R work (hears_status plan peer code status fec work)
+  hears_status_holds peer code None fec work there = steps.mend.same work
+  hears_status_holds peer code (Some status) None work there = steps.mend.same work
+  hears_status_holds peer code (Some status) (Some fec) work there = by (nat_eq code.code pw_status_code) where
+    by : (b : Bool) → R work (cond b (changes (with_named plan peer fec (stated status) (group_stated fec.group status) fec.pw_id) work) work)
+    by true = steps.states peer fec status work there
+    by false = steps.mend.same work
+
+  pub acts_on_holds : (peer : EdgeId) (message : Message) (work : Work) → has_end work.edge peer ≡ true → R work (acts_on plan told peer message work)
+  acts_on_holds peer (LabelMapping id fec label status points) work there = hears_mapping_holds peer fec label status points work there
+  acts_on_holds peer (LabelWithdraw id fec label) work there = hears_withdraw_holds peer fec label work there
+  acts_on_holds peer (LabelRelease id fec label) work there = steps.released peer fec label work there
+  acts_on_holds peer (Notification id code status fec) work there = hears_status_holds peer code status fec work there
+  acts_on_holds peer message work there = advises_holds peer (advice_of message) work
+
+  -- ---- messages
+
+  acts_holds : (peer : EdgeId) (message : Message) (up : Bool) (work : Work) → R work (acts plan told peer message up work)
+  acts_holds peer message false work = steps.mend.same work
+  acts_holds peer message true work = by (has_end work.edge peer) refl where
+    by : (b : Bool) → has_end work.edge peer ≡ b → R work (cond b (acts_on plan told peer message work) work)
+    by true there = acts_on_holds peer message work there
+    by false there = steps.mend.same work
+
+  pub hears_one_holds : (peer : EdgeId) (message : Message) (work : Work) → R work (hears_one plan told peer message work)
+  hears_one_holds peer message work =
+      let happened : Work = happens_with_ends told peer (Received message) work in
+      steps.mend.joined work happened (hears_one plan told peer message work) (steps.happens peer (Received message) work) (acts_holds peer message (was_up (work.edge.peering peer.0)) happened)
+
+  pub hears_message_holds : (peer : EdgeId) (message : Message) (work : Work) → R work (hears_message plan told peer message work)
+  hears_message_holds peer message work = by (has_end work.edge peer) where
+    heard : Work
+    heard = hears_one plan told peer message work
+
+    by : (b : Bool) → R work (cond b (mends plan told heard) work)
+    by true = steps.mend.joined work heard (mends plan told heard) (hears_one_holds peer message work) (mends_holds plan told R steps.mend heard)
+    by false = steps.mend.same work
+
+  pub hears_messages_holds : (peer : EdgeId) (messages : List Message) (work : Work) → R work (hears_messages plan told peer messages work)
+  hears_messages_holds peer [] work = steps.mend.same work
+  hears_messages_holds peer (message ∷ messages) work =
+      let heard : Work = hears_message plan told peer message work in
+      steps.mend.joined work heard (hears_messages plan told peer messages heard) (hears_message_holds peer message work) (hears_messages_holds peer messages heard)
+
+  pub hears_pdu_holds : (peer : EdgeId) (pdu : Pdu) (work : Work) → R work (hears_pdu plan told peer pdu work)
+  hears_pdu_holds peer pdu work =
+      let happened : Work = happens_with_ends told peer (Heard pdu.id) work in
+      steps.mend.joined work happened (hears_messages plan told peer pdu.messages happened) (steps.happens peer (Heard pdu.id) work) (hears_messages_holds peer pdu.messages happened)
+
+  -- ---- octets
+
+  holds_holds : (peer : EdgeId) (octets : List ℕ) (kept : Option Peering) (work : Work) → work.edge.peering peer.0 ≡ kept → R work (holds peer octets kept work)
+  holds_holds peer octets None work is = steps.mend.same work
+  holds_holds peer octets (Some kept) work is = steps.holds peer kept octets work is
+
+  hears_few_holds : (peer : EdgeId) (n : ℕ) (octets : List ℕ) (work : Work) → R work (hears_few plan told peer n octets work)
+  hears_few_holds peer zero octets work = holds_holds peer octets (work.edge.peering peer.0) work refl
+  hears_few_holds peer (suc n) octets work = within (work.edge.peering peer.0) refl (λ rest next. hears_few_holds peer n rest next) where
+    front : ((rest : List ℕ) (next : Work) → R next (hears_few plan told peer n rest next)) → (kept : Peering) → work.edge.peering peer.0 ≡ Some kept → (stands : Front)
+        → R work (hears_front plan told peer (hears_few plan told peer n) kept octets stands work)
+    front again kept is More = holds_holds peer octets (Some kept) work is
+    front again kept is (Got pdu rest) =
+        let heard : Work = hears_pdu plan told peer pdu work in
+        steps.mend.joined work heard (hears_few plan told peer n rest heard) (hears_pdu_holds peer pdu work) (again rest heard)
+    front again kept is (Bad fault) = steps.happens peer (Refused (refusal_of fault)) work
+
+    within : (kept : Option Peering) → work.edge.peering peer.0 ≡ kept → ((rest : List ℕ) (next : Work) → R next (hears_few plan told peer n rest next))
+        → R work (hears_within plan told peer (hears_few plan told peer n) octets kept work)
+    within None is again = steps.mend.same work
+    within (Some kept) is again = front again kept is (front_of kept.session.max_pdu octets)
+
+  pub hears_holds : (peer : EdgeId) (octets : List ℕ) (work : Work) → R work (hears plan told peer octets work)
+  hears_holds peer octets work = hears_few_holds peer (suc (length octets)) octets work
+
+  pub hears_on_holds : (peer : EdgeId) (octets : List ℕ) (kept : Option Peering) (work : Work) → R work (hears_on plan told peer octets kept work)
+  hears_on_holds peer octets None work = steps.mend.same work
+  hears_on_holds peer octets (Some kept) work = hears_holds peer (kept.held ++ octets) work
+
+  -- ---- all sessions have the tick
+
+  pub ticks_hold : (place count : ℕ) (work : Work) → R work (ticks_sessions told place count work)
+  ticks_hold place zero work = steps.mend.same work
+  ticks_hold place (suc count) work =
+      let first : Work = happens_with_ends told (record { 0 = place }) Ticked work in
+      steps.mend.joined work first (ticks_sessions told (place + 1) count first) (steps.happens (record { 0 = place }) Ticked work) (ticks_hold (place + 1) count first)
+
+-- ---- an edge takes an input
+
+-- something holds of each step on an input
+pub record InputSteps (plan : Plan) (told : Answers) (R : Work → Work → Type 0) : Type 0 where
+  pub hear : HearSteps plan told R
+  pub idles : (work : Work) → R work (idles work)
+  -- connections
+  pub opens : (peer : EdgeId) (own other : EdgePlan) (work : Work) → has_end work.edge peer ≡ false
+      → R work (gives (effect.Session peer name.Initialized) (changes (with_peering peer (Some (opened_with own other))) work))
+  pub restarts : (work : Work) → R work (restart_input work)
+  -- a tick
+  pub counts : (work : Work) → R work (changes counted work)
+  pub forgets : (work : Work) → R work (changes (forgetting plan) work)
+  -- what is set
+  pub turns : (circuit : CircuitId) (row : CircuitPlan) (on : Bool) (work : Work) → R work (changes (turned plan circuit row on) work)
+  pub turns_wire : (wire : WireId) (on : Bool) (work : Work) → R work (changes (turned_wire wire on) work)
+  pub sets_bits : (wire : WireId) (bits : ℕ) (work : Work) → R work (changes (with_bits wire bits) work)
+  -- frames
+  pub learns : (service : ServiceId) (frame : List ℕ) (arrival : ℕ) (work : Work) → R work (changes (hearing service frame arrival) work)
+  pub leaves : (circuit : CircuitId) (octets : List ℕ) (work : Work) → R work (gives (effect.Left circuit octets) work)
+  pub drops : (cause : DropCause) (work : Work) → R work (gives (effect.Dropped cause) work)
+
+module _ (plan : Plan) (told : Answers) (R : Work → Work → Type 0) (steps : InputSteps plan told R) where
+  -- a change after which the edge mends
+  changed_holds : (change : EdgeState → EdgeState) (work : Work) → R work (changes change work) → R work (mends plan told (changes change work))
+  changed_holds change work one = steps.hear.mend.joined work (changes change work) (mends plan told (changes change work)) one (mends_holds plan told R steps.hear.mend (changes change work))
+
+  pub connected_holds : (peer : EdgeId) (work : Work) → R work (connected_input plan told peer work)
+  connected_holds peer work = by (are_joined plan work.edge.me.0 peer.0) (has_end work.edge peer) refl where
+    between : has_end work.edge peer ≡ false → (first second : Option EdgePlan) → R work (connects_between plan told peer first second work)
+    between none None second = steps.idles work
+    between none (Some first) None = steps.idles work
+    between none (Some first) (Some second) =
+        let began : Work = gives (effect.Session peer name.Initialized) (changes (with_peering peer (Some (opened_with first second))) work) in
+        let started : Work = happens_with_ends told peer table.Start began in
+        steps.hear.mend.joined work began (mends plan told started) (steps.opens peer first second work none)
+        (steps.hear.mend.joined began started (mends plan told started) (steps.hear.happens peer table.Start began) (mends_holds plan told R steps.hear.mend started))
+
+    by : (joined stands : Bool) → has_end work.edge peer ≡ stands
+        → R work (cond (joined && not stands) (connects_between plan told peer (slice_get plan.edges work.edge.me.0) (slice_get plan.edges peer.0) work) (idles work))
+    by true true is = steps.idles work
+    by true false is = between is (slice_get plan.edges work.edge.me.0) (slice_get plan.edges peer.0)
+    by false stands is = steps.idles work
+
+  pub octets_hold : (peer : EdgeId) (octets : List ℕ) (kept : Option Peering) (work : Work) → R work (octets_input plan told peer octets kept work)
+  octets_hold peer octets None work = steps.idles work
+  octets_hold peer octets (Some kept) work =
+      let heard : Work = hears_on plan told peer octets (Some kept) work in
+      steps.hear.mend.joined work heard (mends plan told heard) (hears_on_holds plan told R steps.hear peer octets (Some kept) work) (mends_holds plan told R steps.hear.mend heard)
+
+  pub lost_holds : (peer : EdgeId) (work : Work) → R work (lost_input plan told peer work)
+  lost_holds peer work = by (has_end work.edge peer) where
+    ended : Work
+    ended = happens_with_ends told peer (table.Closed reason.Closed) work
+
+    by : (b : Bool) → R work (cond b (mends plan told ended) (idles work))
+    by true = steps.hear.mend.joined work ended (mends plan told ended) (steps.hear.happens peer (table.Closed reason.Closed) work) (mends_holds plan told R steps.hear.mend ended)
+    by false = steps.idles work
+
+  pub tick_holds : (work : Work) → R work (tick_input plan told work)
+  tick_holds work =
+      let first : Work = changes counted work in
+      let ticked : Work = ticks_sessions told 0 (length plan.edges) first in
+      steps.hear.mend.joined work first (tick_input plan told work) (steps.counts work)
+      (steps.hear.mend.joined first ticked (tick_input plan told work) (ticks_hold plan told R steps.hear 0 (length plan.edges) first)
+      (changed_holds (forgetting plan) ticked (steps.forgets ticked)))
+
+  copy_holds : (frame : List ℕ) (x : Port) (b : Bool) (work : Work) → R work (cond b (copy_by plan told frame x work) work)
+  copy_holds frame x false work = steps.hear.mend.same work
+  copy_holds frame (port.Circuit at) true work = steps.leaves at _ work
+  copy_holds frame (port.Mesh wire) true work = steps.hear.mend.same work
+  copy_holds frame (port.Spoke wire) true work = steps.hear.mend.same work
+
+  copies_hold : (targets : ℕ → Bool) (frame : List ℕ) (p : ℕ) (ports : List Port) (work : Work) → R work (copies targets (copy_by plan told frame) p ports work)
+  copies_hold targets frame p [] work = steps.hear.mend.same work
+  copies_hold targets frame p (x ∷ ports) work =
+      let first : Work = cond (targets p) (copy_by plan told frame x work) work in
+      steps.hear.mend.joined work first (copies targets (copy_by plan told frame) (p + 1) ports first) (copy_holds frame x (targets p) work) (copies_hold targets frame (p + 1) ports first)
+
+  received_holds : (service : ServiceId) (arrival : Option ℕ) (read : Result (List ℕ) DropCause) (work : Work) → R work (received plan told service arrival read work)
+  received_holds service None (Ok frame) work = steps.hear.mend.same work
+  received_holds service (Some arrival) (Ok frame) work =
+      let heard : Work = changes (hearing service frame arrival) work in
+      let ports : List Port = ports_of plan service heard.edge.me in
+      steps.hear.mend.joined work heard (received plan told service (Some arrival) (Ok frame) work) (steps.learns service frame arrival work)
+      (copies_hold (targets_of plan heard.edge service ports frame arrival) frame 0 ports heard)
+  received_holds service arrival (Err cause) work = steps.drops cause work
+
+  pub frame_holds : (circuit : CircuitId) (octets : List ℕ) (row : Option CircuitPlan) (work : Work) → R work (frame_input plan told circuit octets row work)
+  frame_holds circuit octets None work = steps.idles work
+  frame_holds circuit octets (Some row) work = by (is_own work.edge row && is_on work.edge circuit) where
+    by : (b : Bool) → R work (cond b (received plan told row.service (port_at plan work.edge circuit row) (inner_at plan circuit octets) work) (idles work))
+    by true = received_holds row.service (port_at plan work.edge circuit row) (inner_at plan circuit octets) work
+    by false = steps.idles work
+
+  pub circuit_holds : (circuit : CircuitId) (on : Bool) (row : Option CircuitPlan) (work : Work) → R work (circuit_input plan told circuit on row work)
+  circuit_holds circuit on None work = steps.idles work
+  circuit_holds circuit on (Some row) work = by (is_own work.edge row && not (is_same on (is_on work.edge circuit))) where
+    by : (b : Bool) → R work (cond b (mends plan told (changes (turned plan circuit row on) work)) (idles work))
+    by true = changed_holds (turned plan circuit row on) work (steps.turns circuit row on work)
+    by false = steps.idles work
+
+  pub wire_holds : (wire : WireId) (on : Bool) (work : Work) → R work (wire_input plan told wire on work)
+  wire_holds wire on work = by (passes plan work.edge.me wire && not (is_same on (work.edge.wire_on wire.0))) where
+    by : (b : Bool) → R work (cond b (mends plan told (changes (turned_wire wire on) work)) (idles work))
+    by true = changed_holds (turned_wire wire on) work (steps.turns_wire wire on work)
+    by false = steps.idles work
+
+  pub status_holds : (wire : WireId) (bits : ℕ) (work : Work) → R work (status_input plan told wire bits work)
+  status_holds wire bits work = by (ends_here plan work.edge.me wire && not (nat_eq bits (work.edge.bits wire.0))) where
+    by : (b : Bool) → R work (cond b (mends plan told (changes (with_bits wire bits) work)) (idles work))
+    by true = changed_holds (with_bits wire bits) work (steps.sets_bits wire bits work)
+    by false = steps.idles work
+
+  pub step_holds : (input : Input) (work : Work) → R work (edge_step plan told input work)
+  step_holds (Connected peer) work = connected_holds peer work
+  step_holds (Octets peer bytes) work = octets_hold peer bytes.now (work.edge.peering peer.0) work
+  step_holds (Lost peer) work = lost_holds peer work
+  step_holds Restart work = steps.restarts work
+  step_holds Tick work = tick_holds work
+  step_holds (Frame circuit bytes) work = frame_holds circuit bytes.now (circuit_row plan circuit) work
+  step_holds (Circuit circuit on) work = circuit_holds circuit on (circuit_row plan circuit) work
+  step_holds (Wire wire on) work = wire_holds wire on work
+  step_holds (Status wire bits) work = status_holds wire bits work
+  step_holds input work = steps.idles work

@@ -1,0 +1,100 @@
+-- What is told of a pseudowire, and how messages carry it (RFC 8077 section 6).
+use Rattle.std.specs.Prelude.{ℕ, Bool, true, List, [], Option, Some, None, option_map, if◌then◌else◌}
+use Rattle.net_base.specs.declared.plan.offer.Offer.{Offer}
+use Rattle.pw_tlvs.specs.declared.if_params.IfParams.{IfParams}
+use Rattle.pw_tlvs.specs.declared.point.Point.{Point}
+use Rattle.pw_tlvs.specs.declared.pw_fec.PwFec.{PwFec}
+use Rattle.pw_tlvs.specs.declared.pw_status.PwStatus.{PwStatus}
+use Rattle.ldp_grammar.specs.declared.message.Message.{Message}
+use Rattle.ldp_grammar.specs.declared.message.Message.TheVariants.{Notification, LabelMapping, LabelWithdraw, LabelRelease}
+use Rattle.ldp_grammar.specs.declared.status_code.StatusCode.{StatusCode}
+use Rattle.pw_signalling.specs.declared.binding.Binding.{Binding}
+use Rattle.pw_signalling.specs.declared.told.Told.{Told}
+
+-- ---- PWid FEC elements
+
+-- no interface parameter is told
+abbrev pub no_params : IfParams
+no_params = record { mtu = None; description = []; vlan = None; vccv = None }
+
+abbrev pub params_of : Told → IfParams
+params_of told = record { mtu = told.mtu; description = told.description; vlan = told.vlan; vccv = told.vccv }
+
+-- the FEC of a Label Mapping
+abbrev pub fec_of : ℕ → Told → PwFec
+fec_of pw_id told = record { c = told.c; kind = told.kind; group = told.group; pw_id = Some pw_id; params = params_of told }
+
+-- the FEC of every other message about an end: what the end has told, without parameters
+abbrev pub bare_fec_of : ℕ → Told → PwFec
+bare_fec_of pw_id told = record { c = told.c; kind = told.kind; group = told.group; pw_id = Some pw_id; params = no_params }
+
+-- a FEC that came, without its parameters
+abbrev pub bare : PwFec → PwFec
+bare fec = record fec { params = no_params }
+
+-- ---- what a Label Mapping tells
+
+abbrev pub told_in : PwFec → Option PwStatus → List Point → Told
+told_in fec status points = record {
+  c = fec.c;
+  kind = fec.kind;
+  group = fec.group;
+  mtu = fec.params.mtu;
+  vlan = fec.params.vlan;
+  vccv = fec.params.vccv;
+  description = fec.params.description;
+  status = status;
+  points = points;
+}
+
+abbrev pub binding_in : PwFec → ℕ → Option PwStatus → List Point → Binding
+binding_in fec label status points = record { label = label; told = told_in fec status points }
+
+-- ---- what an offer tells
+
+-- the PW types (RFC 4446 section 3.2)
+abbrev pub ethernet_tagged : ℕ
+ethernet_tagged = 0x0004
+
+abbrev pub ethernet_raw : ℕ
+ethernet_raw = 0x0005
+
+-- the connectivity verification type of an LSP ping (RFC 5085 section 5.3.1)
+abbrev pub icmp_ping : ℕ
+icmp_ping = 0x01
+
+-- the content of an offer, with a status or without one
+abbrev pub content_of : Offer → Option PwStatus → Told
+content_of offer status = record {
+  c = offer.cword;
+  kind = if offer.tagged then ethernet_tagged else ethernet_raw;
+  group = offer.group;
+  mtu = offer.mtu;
+  vlan = offer.vlan;
+  vccv = option_map (λ channels. (channels, icmp_ping)) offer.vccv;
+  description = offer.description;
+  status = status;
+  points = [];
+}
+
+-- ---- messages, by their Message ID
+
+abbrev pub mapping : ℕ → ℕ → Told → ℕ → Message
+mapping pw_id label told id = LabelMapping id (fec_of pw_id told) label told.status told.points
+
+abbrev pub withdrawal : ℕ → ℕ → Told → ℕ → Message
+withdrawal pw_id label told id = LabelWithdraw id (bare_fec_of pw_id told) (Some label)
+
+-- a release of what came with this FEC and label
+abbrev pub release : PwFec → Option ℕ → ℕ → Message
+release fec label id = LabelRelease id (bare fec) label
+
+-- the status data of a Notification that tells the status of a pseudowire (RFC 8077 section 6.3.2)
+abbrev pub pw_status_code : ℕ
+pw_status_code = 0x28
+
+abbrev pub pw_status_notice : StatusCode
+pw_status_notice = record { fatal = Bool.false; forward = Bool.false; code = pw_status_code; message = 0; kind = 0 }
+
+abbrev pub status_notification : ℕ → PwStatus → Told → ℕ → Message
+status_notification pw_id status told id = Notification id pw_status_notice (Some status) (Some (bare_fec_of pw_id told))

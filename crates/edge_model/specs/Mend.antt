@@ -1,0 +1,187 @@
+-- An edge mends its ends: what an end tells follows what it should tell by now (RFC 8077 sections 6 and 6.3). Each step goes over
+-- the edge's ends in the order of the wires, and of the segments of each.
+use Rattle.std.specs.Prelude.{◌==◌, ◌+◌, ◌&&◌, ◌||◌, not, ℕ, Bool, true, false, zero, suc, List, [], ◌∷◌, Option, Some, None, length, if◌then◌else◌}
+use Rattle.net_base.specs.declared.plan.Plan.{Plan}
+use Rattle.net_base.specs.declared.plan.offer.Offer.{Offer}
+use Rattle.net_base.specs.declared.plan.wire_plan.WirePlan.{WirePlan}
+use Rattle.net_base.specs.declared.trace.down.Down.{Down}
+use Rattle.net_base.specs.declared.trace.down.Down.TheVariants as cause
+use Rattle.net_base.specs.plan.Paths.{offer_of}
+use Rattle.net_base.specs.plan.Places.{wire_row}
+use Rattle.label_space.specs.Labels.{numbers_end}
+use Rattle.ldp_grammar.specs.declared.message.Message.{Message}
+use Rattle.pw_tlvs.specs.declared.pw_status.PwStatus.{PwStatus}
+use Rattle.pw_status.specs.declared.method.Method.{Method}
+use Rattle.pw_status.specs.declared.method.Method.TheVariants as method
+use Rattle.pw_status.specs.Status.{method_by}
+use Rattle.pw_signalling.specs.declared.binding.Binding.{Binding}
+use Rattle.pw_signalling.specs.declared.told.Told.{Told}
+use Rattle.pw_signalling.specs.End.{EndState, LocalPart, Idle, Advertised, Withdrawing}
+use Rattle.pw_signalling.specs.Rows.{advertised, telling, withdrawn}
+use Rattle.session_core.specs.Phase.{Phase}
+use Rattle.session_core.specs.Phase as phase
+use Rattle.edge_model.specs.declared.effect.Effect.TheVariants.{Wire}
+use Rattle.edge_model.specs.declared.end_place.EndPlace.{EndPlace}
+use Rattle.edge_model.specs.Content.{content_of, mapping, status_notification, withdrawal}
+use Rattle.edge_model.specs.EndPlaces.{end_places}
+use Rattle.edge_model.specs.Put.{Spoken}
+use Rattle.edge_model.specs.Role.{down_at, status_to_tell}
+use Rattle.edge_model.specs.Session.{says}
+use Rattle.edge_model.specs.State.{EdgeState, Peering, end_at, with_end, with_next_label, with_told_down}
+use Rattle.edge_model.specs.Work.{Work, Answers, changes, gives}
+
+-- one thing after another at an edge that mends: a message that the link did not take stays known
+abbrev pub and_says : Spoken → (Work → Spoken) → Spoken
+and_says before next = record { work = (next before.work).work; failed = before.failed || (next before.work).failed }
+
+-- each end in turn
+abbrev pub each_end : (EndPlace → Work → Spoken) → List EndPlace → Spoken → Spoken
+each_end mend [] m = m
+each_end mend (place ∷ places) m = each_end mend places (and_says m (mend place))
+
+-- nothing is put
+abbrev pub stays : Work → Spoken
+stays work = record { work = work; failed = false }
+
+-- ---- what an end should tell
+
+abbrev pub is_operational : Phase → Bool
+is_operational phase.Operational = true
+is_operational state = false
+
+abbrev pub is_up_with : Option Peering → Bool
+is_up_with None = false
+is_up_with (Some kept) = is_operational kept.session.phase
+
+abbrev pub tells_status : Method → Bool
+tells_status method.Told = true
+tells_status method.Withdrawn = false
+
+-- the status of the binding that an end holds, where it holds one
+abbrev pub status_held : Option Binding → Option (Option PwStatus)
+status_held None = None
+status_held (Some binding) = Some binding.told.status
+
+-- the status that an offer has told, where it tells one (RFC 8077 section 6.3.3)
+abbrev pub status_offered : Plan → EdgeState → EndPlace → Offer → Option PwStatus
+status_offered plan edge place offer = if offer.status then Some (status_to_tell plan edge place) else None
+
+-- a terminal end tells its offer where its peer is told of failures, or it has none
+abbrev pub terminal_wish : Plan → EdgeState → EndPlace → Offer → Option Told
+terminal_wish plan edge place offer =
+    if tells_status (method_by offer.status (status_held (end_at edge place).remote)) || edge.bits place.wire.0 == 0
+    then Some (content_of offer (status_offered plan edge place offer))
+    else None
+
+-- What an end should tell: nothing unless its wire is on at this edge and the session with its peer is up. What a switching
+-- point passes on is to come
+abbrev pub wish_of : Plan → EdgeState → EndPlace → Option WirePlan → Option Told
+wish_of plan edge place None = None
+wish_of plan edge place (Some row) =
+    if (edge.wire_on place.wire.0 && is_up_with (edge.peering place.peer.0)) && place.terminal
+    then terminal_wish plan edge place (offer_of row edge.me.0)
+    else None
+
+abbrev pub wish : Plan → EdgeState → EndPlace → Option Told
+wish plan edge place = wish_of plan edge place (wire_row plan place.wire)
+
+-- ---- an end is advertised, withdrawn or left
+
+-- the end advertises the next label with its content
+abbrev pub advertising : EndPlace → ℕ → Told → EdgeState → EdgeState
+advertising place label told edge = with_next_label (label + 1) (with_end place (advertised label told (end_at edge place)) edge)
+
+-- an idle end takes a label and puts a Label Mapping; where no label is left it stays idle
+abbrev pub advertises : Answers → EndPlace → Told → Work → Spoken
+advertises told place content work =
+    if work.edge.next_label == numbers_end then stays work
+    else says told place.peer (mapping place.pw_id work.edge.next_label content) (changes (advertising place work.edge.next_label content) work)
+
+abbrev pub advertises_wish : Answers → EndPlace → Option Told → Work → Spoken
+advertises_wish told place None work = stays work
+advertises_wish told place (Some content) work = advertises told place content work
+
+-- the end withdraws its label, and waits for the release
+abbrev pub withdrawing : EndPlace → EdgeState → EdgeState
+withdrawing place edge = with_end place (withdrawn (end_at edge place)) edge
+
+abbrev pub withdraws : Answers → EndPlace → ℕ → Told → Work → Spoken
+withdraws told place label content work = says told place.peer (withdrawal place.pw_id label content) (changes (withdrawing place) work)
+
+abbrev pub withdraws_unless : Answers → EndPlace → ℕ → Told → Option Told → Work → Spoken
+withdraws_unless told place label content None work = withdraws told place label content work
+withdraws_unless told place label content (Some wished) work = stays work
+
+abbrev pub mends_local : Plan → Answers → EndPlace → LocalPart → Work → Spoken
+mends_local plan told place (Idle declined) work = if declined then stays work else advertises_wish told place (wish plan work.edge place) work
+mends_local plan told place (Advertised label content) work = withdraws_unless told place label content (wish plan work.edge place) work
+mends_local plan told place (Withdrawing label) work = stays work
+
+abbrev pub mends_end : Plan → Answers → EndPlace → Work → Spoken
+mends_end plan told place work = mends_local plan told place (end_at work.edge place).local work
+
+-- ---- a status that has changed is told
+
+abbrev pub telling_status : EndPlace → PwStatus → EdgeState → EdgeState
+telling_status place status edge = with_end place (telling status (end_at edge place)) edge
+
+abbrev pub tells_new_status : Answers → EndPlace → Told → PwStatus → Work → Spoken
+tells_new_status told place content status work =
+    says told place.peer (status_notification place.pw_id status content) (changes (telling_status place status) work)
+
+-- only an end whose mapping carries a status tells a new one
+abbrev pub tells_over : Answers → EndPlace → Told → PwStatus → Option PwStatus → Work → Spoken
+tells_over told place content status None work = stays work
+tells_over told place content status (Some last) work = if last.0 == status.0 then stays work else tells_new_status told place content status work
+
+abbrev pub mends_status_of : Plan → Answers → EndPlace → LocalPart → Work → Spoken
+mends_status_of plan told place (Advertised label content) work = tells_over told place content (status_to_tell plan work.edge place) content.status work
+mends_status_of plan told place local work = stays work
+
+abbrev pub mends_status : Plan → Answers → EndPlace → Work → Spoken
+mends_status plan told place work = mends_status_of plan told place (end_at work.edge place).local work
+
+-- ---- a wire that began to forward, or stopped, is told
+
+-- the number of a cause in the order of causes, and 0 where there is none
+abbrev pub cause_number : Option Down → ℕ
+cause_number None = 0
+cause_number (Some cause.NoLocal) = 1
+cause_number (Some cause.NoRemote) = 2
+cause_number (Some cause.CBit) = 3
+cause_number (Some cause.Kind) = 4
+cause_number (Some cause.Mtu) = 5
+cause_number (Some cause.LocalFault) = 6
+cause_number (Some cause.RemoteFault) = 7
+cause_number (Some cause.Standby) = 8
+
+abbrev pub tells_down : EndPlace → Option Down → Work → Work
+tells_down place down work =
+    if cause_number (work.edge.told_down place.wire.0) == cause_number down then work
+    else gives (Wire place.wire down) (changes (with_told_down place.wire down) work)
+
+-- each terminal end in turn
+abbrev pub tells_downs : Plan → List EndPlace → Work → Work
+tells_downs plan [] work = work
+tells_downs plan (place ∷ places) work =
+    tells_downs plan places (if place.terminal then tells_down place (down_at plan work.edge place) work else work)
+
+-- ---- all steps. Those of spokes, and of addresses at wires, are to come
+
+abbrev pub mends_once : Plan → Answers → Work → Spoken
+mends_once plan told work =
+    let places : List EndPlace = end_places plan work.edge.me in
+    let statuses : Spoken = each_end (mends_status plan told) places (each_end (mends_end plan told) places (stays work)) in
+    record { work = tells_downs plan places statuses.work; failed = statuses.failed }
+
+-- where the link did not take a message the edge mends again. Each such message ends a session, so there are no more rounds than
+-- edges
+abbrev pub mends_again : (Work → Work) → Spoken → Work
+mends_again again m = if m.failed then again m.work else m.work
+
+abbrev pub mends_few : Plan → Answers → ℕ → Work → Work
+mends_few plan told zero work = work
+mends_few plan told (suc n) work = mends_again (mends_few plan told n) (mends_once plan told work)
+
+abbrev pub mends : Plan → Answers → Work → Work
+mends plan told work = mends_few plan told (suc (length plan.edges)) work

@@ -1,0 +1,43 @@
+-- What an edge's end of a wire is to its service, what it tells of its status, and why it does not forward.
+use Rattle.std.specs.Prelude.{ℕ, Bool, true, false, Option, Some, None, if◌then◌else◌}
+use Rattle.net_base.specs.declared.plan.Plan.{Plan}
+use Rattle.net_base.specs.declared.plan.places.EdgeId.{EdgeId}
+use Rattle.net_base.specs.declared.plan.wire_plan.WirePlan.{WirePlan}
+use Rattle.net_base.specs.declared.trace.down.Down.{Down}
+use Rattle.net_base.specs.plan.Paths.{is_last}
+use Rattle.net_base.specs.plan.Places.{is_mesh_class, wire_row}
+use Rattle.pw_tlvs.specs.declared.pw_status.PwStatus.{PwStatus}
+use Rattle.pw_status.specs.Status.{combined}
+use Rattle.pw_signalling.specs.declared.end_role.EndRole.{EndRole}
+use Rattle.pw_signalling.specs.declared.end_role.EndRole.TheVariants as role
+use Rattle.pw_signalling.specs.Down.{down}
+use Rattle.edge_model.specs.declared.end_place.EndPlace.{EndPlace}
+use Rattle.edge_model.specs.State.{EdgeState, end_at}
+
+-- A mesh wire has two equal ends. A spoke ends at its spoke edge, the first of its path, and at its core edge, the last (RFC
+-- 4762 section 10.1). No spoke edge chooses among its spokes yet
+abbrev pub role_of : WirePlan → EdgeId → EndRole
+role_of row me =
+    if is_mesh_class row.class then role.Mesh
+    else if is_last me.0 row.path then role.Core
+    else role.NotChosen
+
+abbrev pub role_in : Option WirePlan → EdgeId → EndRole
+role_in None me = role.Mesh
+role_in (Some row) me = role_of row me
+
+abbrev pub role_at : Plan → EdgeState → EndPlace → EndRole
+role_at plan edge place = role_in (wire_row plan place.wire) edge.me
+
+abbrev pub is_not_chosen : EndRole → Bool
+is_not_chosen role.NotChosen = true
+is_not_chosen other = false
+
+-- the status that an end tells: its own failure bits, and that it stands by where it was not chosen (RFC 4446 section 3.5, RFC
+-- 6870 section 5.1)
+abbrev pub status_to_tell : Plan → EdgeState → EndPlace → PwStatus
+status_to_tell plan edge place = combined (edge.bits place.wire.0) (is_not_chosen (role_at plan edge place))
+
+-- why an end does not forward
+abbrev pub down_at : Plan → EdgeState → EndPlace → Option Down
+down_at plan edge place = down (role_at plan edge place) (edge.bits place.wire.0) (end_at edge place)

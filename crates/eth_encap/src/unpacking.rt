@@ -1,0 +1,106 @@
+//! A packet of a pseudowire is read.
+ghost use Rattle.std.specs.Prelude.{◌≡◌, ◌≤◌, ◌+◌, ◌++◌, length, take, drop, Ok, Err, IfOk, IfErr, OnErr};
+ghost use Rattle.net_base.specs.values.Frame.{of_size};
+ghost use Rattle.eth_encap.specs.Fault.{cause_of};
+ghost use Rattle.eth_encap.specs.Packet.{behind_control, entry_in, entry_of, unpacked, without_tag};
+
+use crate::octets::{join, pair};
+use crate::tag::TAG_PROTOCOL;
+use crate::{FrameFault, StackEntry};
+use byteorder::{BigEndian, ByteOrder};
+
+/// The entry of the label stack in front of a packet (RFC 3032 section 2.1). `Short` comes exactly where there are fewer than
+/// four octets, and `Ttl` exactly where its TTL is 0.
+pub fn read_entry(packet: &[u8]) -> Result<StackEntry, FrameFault>
+    ensures ok { IfOk result (λ entry. entry_of packet.now ≡ Ok entry) }
+    ensures fault { IfErr result (λ fault. entry_of packet.now ≡ Err (cause_of fault)) }
+{
+    if packet.len() < 4 {
+        return Err(FrameFault::Short);
+    }
+    let entry = entry_in(BigEndian::read_u32(packet));
+    if entry.ttl == 0 {
+        return Err(FrameFault::Ttl);
+    }
+    Ok(entry)
+}
+
+// The entry of this number.
+fn entry_in(number: u32) -> StackEntry
+    ensures { result ≡ entry_in number }
+{
+    StackEntry {
+        label: number / 4096,
+        bottom: number / 256 % 2 == 1,
+        ttl: (number % 256) as u8,
+    }
+}
+
+/// The inner frame of what stands behind the label stack of a packet (RFC 4448 section 4): without the control word where the
+/// wire has one, and without the tag of tagged mode, whatever its VLAN ID. Writes it to the front of `out`, which is as long as
+/// the payload or longer, and answers its length in octets. The `mtu` counts the octets behind a header, and leaves room for
+/// one tag of the customer's own. The first fault that holds is answered, and then nothing was written: with control word
+/// `Short` for fewer octets than that, and `BadNibble` where its first nibble is not 0; then `Short` for fewer octets than a
+/// header; in tagged mode `NoTag` where there is no tag, and `Short` for fewer octets than a header and a tag; and `Long` for an
+/// inner frame of more than `mtu` and 18 octets.
+pub fn unpack(
+    cword: bool,
+    tagged: bool,
+    mtu: u16,
+    payload: &[u8],
+    out: &mut [u8],
+) -> Result<usize, FrameFault>
+    requires { length payload.now ≤ length out.old }
+    ensures ok { IfOk result (λ count. unpacked cword tagged mtu payload.now ≡ Ok (take count out.new)) }
+    ensures count { IfOk result (λ count. count ≤ length payload.now) }
+    ensures rest { IfOk result (λ count. drop count out.new ≡ drop count out.old) }
+    ensures fault { IfErr result (λ fault. unpacked cword tagged mtu payload.now ≡ Err (cause_of fault)) }
+    ensures unchanged { OnErr result (out.new ≡ out.old) }
+{
+    let frame = frame_behind(cword, payload)?;
+    if frame.len() < 14 {
+        return Err(FrameFault::Short);
+    }
+    let (front, back) = frame_parts(tagged, frame)?;
+    if front.len() + back.len() > mtu as usize + 18 {
+        return Err(FrameFault::Long);
+    }
+    Ok(join(front, back, out))
+}
+
+// What stands behind the control word, where there is one.
+fn frame_behind(cword: bool, payload: &[u8]) -> Result<&[u8], FrameFault>
+    ensures ok { IfOk result (λ frame. behind_control cword payload.now ≡ Ok frame.now) }
+    ensures fits { IfOk result (λ frame. length frame.now ≤ length payload.now) }
+    ensures fault { IfErr result (λ fault. behind_control cword payload.now ≡ Err (cause_of fault)) }
+{
+    if !cword {
+        return Ok(payload);
+    }
+    if payload.len() < 4 {
+        return Err(FrameFault::Short);
+    }
+    if payload[0] / 16 != 0 {
+        return Err(FrameFault::BadNibble);
+    }
+    Ok(payload.split_at(4).1)
+}
+
+// The parts of a frame that its inner frame joins.
+fn frame_parts(tagged: bool, frame: &[u8]) -> Result<(&[u8], &[u8]), FrameFault>
+    requires { 14 ≤ length frame.now }
+    ensures ok { IfOk result (λ parts. without_tag tagged frame.now ≡ Ok (parts.0.now ++ parts.1.now)) }
+    ensures fits { IfOk result (λ parts. length parts.0.now + length parts.1.now ≤ length frame.now) }
+    ensures fault { IfErr result (λ fault. without_tag tagged frame.now ≡ Err (cause_of fault)) }
+{
+    if !tagged {
+        return Ok((frame, &[]));
+    }
+    if pair(frame, 12) != TAG_PROTOCOL {
+        return Err(FrameFault::NoTag);
+    }
+    if frame.len() < 18 {
+        return Err(FrameFault::Short);
+    }
+    Ok((frame.split_at(12).0, frame.split_at(16).1))
+}

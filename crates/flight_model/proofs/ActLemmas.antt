@@ -1,0 +1,207 @@
+-- What calm steps keep is kept by what an edge makes of a message about pseudowires.
+use Rattle.std.proofs.Common.{◌≡◌, ◌≤◌, ◌&&◌, ◌∙◌, ℕ, Bool, true, false, cond, nat_eq, nat_le, List, [], ◌∷◌, Option, Some, None, refl, sym, ap, subst, arith}
+use Rattle.std.proofs.lemmas.Bool.{eqb-true}
+use Rattle.std.proofs.lemmas.Bool.Decides.{nat_tests}
+use Rattle.std.specs.Prelude.{is_some, option_and_then}
+use Rattle.std.specs.List.{find}
+use Rattle.net_base.specs.declared.plan.Plan.{Plan}
+use Rattle.net_base.specs.declared.plan.places.EdgeId.{EdgeId}
+use Rattle.ldp_grammar.specs.declared.message.Message.{Message}
+use Rattle.ldp_grammar.specs.declared.message.Message.TheVariants.{Notification, Initialization, KeepAlive, LabelMapping, LabelWithdraw, LabelRelease}
+use Rattle.ldp_grammar.specs.declared.status_code.StatusCode.{StatusCode}
+use Rattle.pw_tlvs.specs.declared.point.Point.{Point}
+use Rattle.pw_tlvs.specs.declared.pw_fec.PwFec.{PwFec}
+use Rattle.pw_tlvs.specs.declared.pw_status.PwStatus.{PwStatus}
+use Rattle.pw_tlvs.specs.Written.{writable_fec}
+use Rattle.pw_signalling.specs.declared.binding.Binding.{Binding}
+use Rattle.pw_signalling.specs.End.{EndState, LocalPart, Idle, Advertised, Withdrawing}
+use Rattle.pw_signalling.specs.Rows.{bound, group_stated, group_unbound, is_in_group, names, release_part, released, stated, unbound}
+use Rattle.session_core.specs.declared.peers.Peers.{Peers}
+use Rattle.edge_model.specs.Content.{binding_in, pw_status_code, release}
+use Rattle.edge_model.specs.declared.end_place.EndPlace.{EndPlace}
+use Rattle.edge_model.specs.EndPlaces.{end_named, end_places, is_named}
+use Rattle.edge_model.specs.Hear.{acts_on}
+use Rattle.edge_model.specs.Mend.{is_up_with}
+use Rattle.edge_model.specs.Signal.{end_of_fec, hears_mapping, hears_release, hears_status, hears_withdraw, maps_to, with_end_changed, with_named}
+use Rattle.edge_model.specs.State.{EdgeState, end_at, with_end, with_ends_beside}
+use Rattle.edge_model.specs.Work.{Work, changes}
+use Rattle.network_model.specs.Absorb.{taken_all}
+use Rattle.flight_model.specs.Messages.{IsSaid, IsSound}
+use Rattle.flight_model.specs.Sound.{IsSoundEnd, IsSoundPart, TellsSoundly}
+use Rattle.flight_model.proofs.OfferLemmas.{release_is}
+use Rattle.flight_model.proofs.RowLemmas.{clash}
+use Rattle.flight_model.proofs.SoundLemmas.{sound_beside, sound_with_end}
+use Rattle.flight_model.proofs.SteadyLemmas.{IsSteady}
+
+-- ---- the end that a FEC names is beside the peer
+
+same_some : {A : Type 0} (y x : A) → Some y ≡ Some x → y ≡ x
+same_some y x e = cc
+
+found : {A : Type 0} (test : A → Bool) (xs : List A) (x : A) → find test xs ≡ Some x → test x ≡ true
+found test [] x e = absurd (cc)
+found test (y ∷ ys) x e = by_test (λ f. found test ys x f) (test y) refl e where
+  by_test : (find test ys ≡ Some x → test x ≡ true) → (b : Bool) → test y ≡ b → cond b (Some y) (find test ys) ≡ Some x → test x ≡ true
+  by_test later true is e = subst (λ z. test z ≡ true) (same_some y x e) is
+  by_test later false is e = later e
+
+first_of : (a b : Bool) → a && b ≡ true → a ≡ true
+first_of true b h = refl
+first_of false b h = clash h
+
+pub named_beside : (plan : Plan) (me peer : EdgeId) (pw_id : ℕ) (place : EndPlace) → end_named plan me peer pw_id ≡ Some place → place.peer.0 ≡ peer.0
+named_beside plan me peer pw_id place e =
+    eqb-true place.peer.0 peer.0 (first_of (nat_eq place.peer.0 peer.0) (nat_eq place.pw_id pw_id) (found (is_named peer pw_id) (end_places plan me) place e))
+
+-- ---- changes of ends beside a peer with which the session is up
+
+-- a change that keeps what an end tells sound
+KeepsPart : (EndState → EndState) → Type 0
+KeepsPart change = (e : EndState) → IsSoundPart e.local → IsSoundPart (change e).local
+
+-- an edge that has changed
+record HasChanged (old new : EdgeState) : Type 0 where
+  peering : new.peering ≡ old.peering
+  me : new.me ≡ old.me
+  sound : TellsSoundly old → TellsSoundly new
+
+up_keeps : (change : EndState → EndState) (up : Bool) (e : EndState) → up ≡ true → KeepsPart change → IsSoundEnd up e → IsSoundEnd up (change e)
+unfolding KeepsPart
+up_keeps change true e is keeps sound = keeps e sound
+up_keeps change false e is keeps sound = clash is
+
+unchanged : (edge : EdgeState) → HasChanged edge edge
+unchanged edge = record { peering = refl; me = refl; sound = λ sound. sound }
+
+end_changes : (change : EndState → EndState) (place : EndPlace) (edge : EdgeState) → KeepsPart change → is_up_with (edge.peering place.peer.0) ≡ true → HasChanged edge (with_end place (change (end_at edge place)) edge)
+unfolding with_end
+end_changes change place edge keeps up = record {
+  peering = refl;
+  me = refl;
+  sound = λ sound. sound_with_end place (change (end_at edge place)) edge (up_keeps change (is_up_with (edge.peering place.peer.0)) (end_at edge place) up keeps (sound.ends place.wire.0 place.peer.0)) sound;
+}
+
+beside_changes : (change : EndState → EndState) (peer : EdgeId) (edge : EdgeState) → KeepsPart change → is_up_with (edge.peering peer.0) ≡ true → HasChanged edge (with_ends_beside peer change edge)
+unfolding with_ends_beside
+beside_changes change peer edge keeps up = record {
+  peering = refl;
+  me = refl;
+  sound = λ sound. sound_beside peer change edge (λ e is. up_keeps change (is_up_with (edge.peering peer.0)) e up keeps is) sound;
+}
+
+named_changes : (plan : Plan) (peer : EdgeId) (change : EndState → EndState) (pw_id : ℕ) (edge : EdgeState) → KeepsPart change → is_up_with (edge.peering peer.0) ≡ true → HasChanged edge (with_end_changed change (end_named plan edge.me peer pw_id) edge)
+named_changes plan peer change pw_id edge keeps up = by_place (end_named plan edge.me peer pw_id) refl where
+  by_place : (found : Option EndPlace) → end_named plan edge.me peer pw_id ≡ found → HasChanged edge (with_end_changed change found edge)
+  by_place None at = unchanged edge
+  by_place (Some place) at = end_changes change place edge keeps (rw (named_beside plan edge.me peer pw_id place at) up)
+
+all_changes : (plan : Plan) (peer : EdgeId) (fec : PwFec) (one all : EndState → EndState) (pw_id : Option ℕ) (edge : EdgeState) → KeepsPart one → KeepsPart all → is_up_with (edge.peering peer.0) ≡ true
+    → HasChanged edge (with_named plan peer fec one all pw_id edge)
+all_changes plan peer fec one all None edge keeps keeps' up = beside_changes all peer edge keeps' up
+all_changes plan peer fec one all (Some pw_id) edge keeps keeps' up = named_changes plan peer one pw_id edge keeps up
+
+fec_changes : (plan : Plan) (peer : EdgeId) (change : EndState → EndState) (fec : PwFec) (edge : EdgeState) → KeepsPart change → is_up_with (edge.peering peer.0) ≡ true → HasChanged edge (with_end_changed change (end_of_fec plan edge peer fec) edge)
+fec_changes plan peer change fec edge keeps up = by_id fec.pw_id where
+  by_id : (pw_id : Option ℕ) → HasChanged edge (with_end_changed change (option_and_then (end_named plan edge.me peer) pw_id) edge)
+  by_id None = unchanged edge
+  by_id (Some pw_id) = named_changes plan peer change pw_id edge keeps up
+
+-- changes of what is held alone
+cond_same : (b : Bool) (e f : EndState) → e.local ≡ f.local → (cond b e f).local ≡ f.local
+cond_same true e f same = same
+cond_same false e f same = refl
+
+bound_keeps : (binding : Binding) → KeepsPart (bound binding)
+unfolding KeepsPart
+bound_keeps binding e sound = sound
+
+unbound_keeps : (label : Option ℕ) → KeepsPart (unbound label)
+unfolding KeepsPart
+unbound_keeps label e sound = sound
+
+group_unbound_keeps : (group : ℕ) → KeepsPart (group_unbound group)
+unfolding KeepsPart
+group_unbound_keeps group e sound = subst IsSoundPart (sym (cond_same (is_in_group group e.remote) (unbound None e) e refl)) sound
+
+stated_keeps : (status : PwStatus) → KeepsPart (stated status)
+unfolding KeepsPart
+stated_keeps status e sound = sound
+
+group_stated_keeps : (group : ℕ) (status : PwStatus) → KeepsPart (group_stated group status)
+unfolding KeepsPart
+group_stated_keeps group status e sound = subst IsSoundPart (sym (cond_same (is_in_group group e.remote) (stated status e) e refl)) sound
+
+released_keeps : (label : Option ℕ) → KeepsPart (released label)
+unfolding KeepsPart
+released_keeps label e sound = by_local e.local sound where
+  either : (b : Bool) (x y : LocalPart) → IsSoundPart x → IsSoundPart y → IsSoundPart (cond b x y)
+  either true x y one other = one
+  either false x y one other = other
+
+  by_local : (local : LocalPart) → IsSoundPart local → IsSoundPart (release_part label local)
+  by_local (Idle declined) sound = tt
+  by_local (Advertised own told) sound = either (names label own) (Idle true) (Advertised own told) tt sound
+  by_local (Withdrawing own) sound = either (names label own) (Idle false) (Withdrawing own) tt tt
+
+-- ---- rows
+
+pub writable_kind : (fec : PwFec) → writable_fec fec ≡ true → fec.kind ≤ 0x7FFF
+writable_kind fec can = small (first_of (nat_le fec.kind 0x7FFF) _ can) where
+  small : nat_le fec.kind 0x7FFF ≡ true → fec.kind ≤ 0x7FFF
+  small e = grind (arith, nat_tests)
+
+pub second_of : (a b : Bool) → a && b ≡ true → b ≡ true
+second_of true b h = h
+second_of false b h = clash h
+
+module _ (plan : Plan) (me peer : EdgeId) (other : Peers) (I : Work → Type 0) (steady : IsSteady me I) where
+  changed : (change : EdgeState → EdgeState) (work : Work) → HasChanged work.edge (change work.edge) → I work → I (changes change work)
+  changed change work has i = steady.changes change work has.peering has.me (has.sound (steady.sound work i)) i
+
+  still_up : (change : EdgeState → EdgeState) (work : Work) → HasChanged work.edge (change work.edge) → is_up_with (work.edge.peering peer.0) ≡ true → is_up_with ((changes change work).edge.peering peer.0) ≡ true
+  unfolding changes
+  still_up change work has up = rw has.peering up
+
+  maps : (id : ℕ) (fec : PwFec) (label : ℕ) (status : Option PwStatus) (points : List Point) (work : Work) → is_up_with (work.edge.peering peer.0) ≡ true → IsSound (LabelMapping id fec label status points)
+      → I work → I (hears_mapping plan taken_all peer fec label status points work)
+  maps id fec label status points work up sound i = by_id fec.pw_id refl where
+    by_place : (pw_id : ℕ) (found : Option EndPlace) → end_named plan work.edge.me peer pw_id ≡ found → I (maps_to taken_all peer fec label status points found work)
+    by_place pw_id None at = steady.says peer (release fec (Some label)) work up
+        (release_is fec (Some label) (writable_kind fec (second_of (is_some fec.pw_id) (writable_fec fec) sound.1)) sound.0.1.group sound.0.1.pw_id sound.0.2) i
+    by_place pw_id (Some place) at = changed (with_end_changed (bound (binding_in fec label status points)) (Some place)) work
+        (end_changes (bound (binding_in fec label status points)) place work.edge (bound_keeps (binding_in fec label status points)) (rw (named_beside plan work.edge.me peer pw_id place at) up)) i
+
+    by_id : (pw_id : Option ℕ) → fec.pw_id ≡ pw_id → I (maps_to taken_all peer fec label status points (option_and_then (end_named plan work.edge.me peer) pw_id) work)
+    by_id None at = clash (sym (ap is_some at) ∙ first_of (is_some fec.pw_id) (writable_fec fec) sound.1)
+    by_id (Some pw_id) at = (by_place pw_id (end_named plan work.edge.me peer pw_id) refl)
+
+  withdraws : (id : ℕ) (fec : PwFec) (label : Option ℕ) (work : Work) → is_up_with (work.edge.peering peer.0) ≡ true → IsSound (LabelWithdraw id fec label) → I work → I (hears_withdraw plan taken_all peer fec label work)
+  withdraws id fec label work up sound i =
+      let change : EdgeState → EdgeState = with_named plan peer fec (unbound label) (group_unbound fec.group) fec.pw_id in
+      let has : HasChanged work.edge (change work.edge) = all_changes plan peer fec (unbound label) (group_unbound fec.group) fec.pw_id work.edge (unbound_keeps label) (group_unbound_keeps fec.group) up in
+      steady.says peer (release fec label) (changes change work) (still_up change work has up)
+      (release_is fec label (writable_kind fec sound.1) sound.0.1.group sound.0.1.pw_id sound.0.2) (changed change work has i)
+
+  releases : (fec : PwFec) (label : Option ℕ) (work : Work) → is_up_with (work.edge.peering peer.0) ≡ true → I work → I (hears_release plan peer fec label work)
+  releases fec label work up i =
+      changed (λ edge. with_end_changed (released label) (end_of_fec plan edge peer fec) edge) work (fec_changes plan peer (released label) fec work.edge (released_keeps label) up) i
+
+  states : (code : StatusCode) (status : Option PwStatus) (fec : Option PwFec) (work : Work) → is_up_with (work.edge.peering peer.0) ≡ true → I work → I (hears_status plan peer code status fec work)
+  states code None fec work up i = i
+  states code (Some status) None work up i = i
+  states code (Some status) (Some fec) work up i = by_code (nat_eq code.code pw_status_code) where
+    change : EdgeState → EdgeState
+    change = with_named plan peer fec (stated status) (group_stated fec.group status) fec.pw_id
+
+    by_code : (b : Bool) → I (cond b (changes (with_named plan peer fec (stated status) (group_stated fec.group status) fec.pw_id) work) work)
+    by_code true = changed change work (all_changes plan peer fec (stated status) (group_stated fec.group status) fec.pw_id work.edge (stated_keeps status) (group_stated_keeps fec.group status) up) i
+    by_code false = i
+
+  pub steady_acts : (m : Message) (work : Work) → IsSaid other m → is_up_with (work.edge.peering peer.0) ≡ true → I work → I (acts_on plan taken_all peer m work)
+  steady_acts (Initialization id params) work said up i = i
+  steady_acts (KeepAlive id) work said up i = i
+  steady_acts (Notification id code status fec) work said up i = states code status fec work up i
+  steady_acts (LabelMapping id fec label status points) work said up i = maps id fec label status points work up said i
+  steady_acts (LabelWithdraw id fec label) work said up i = withdraws id fec label work up said i
+  steady_acts (LabelRelease id fec label) work said up i = releases fec label work up i
+  steady_acts m work said up i = absurd said

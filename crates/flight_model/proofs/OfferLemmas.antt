@@ -1,0 +1,208 @@
+-- What an edge tells of a pseudowire can be written, and is octets.
+use Rattle.std.proofs.Common.{◌≡◌, ◌≤◌, ◌<◌, ◌+◌, ◌^◌, ◌++◌, ℕ, Bool, true, false, cond, not, nat_le, length, flat_map, List, [], ◌∷◌, Option, Some, None, refl, length-append, inr, arith}
+use Rattle.std.specs.Prelude.{IfSome, option_map}
+use Rattle.std.specs.List.{AllByRecursion}
+use Rattle.std.proofs.lemmas.Bool.Decides.{nat_tests}
+use Rattle.net_base.specs.declared.plan.offer.Offer.{Offer}
+use Rattle.net_base.specs.plan.Accepted.{IsOffer}
+use Rattle.net_base.specs.plan.Faults.{is_told_within}
+use Rattle.net_base.specs.values.Label.{IsLabel}
+use Rattle.pw_tlvs.specs.declared.if_params.IfParams.{IfParams}
+use Rattle.pw_tlvs.specs.declared.pw_fec.PwFec.{PwFec}
+use Rattle.pw_tlvs.specs.declared.pw_status.PwStatus.{PwStatus}
+use Rattle.pw_tlvs.specs.declared.registry.Registry.TheVariants.{InterfaceParameter}
+use Rattle.pw_tlvs.specs.SubTlvs.{SubTlv, spell}
+use Rattle.pw_tlvs.specs.Written.{IsFecInRange, control_and_kind, description_value, has_vlan, information, may_tell, pair_octets, parameter_sub_tlvs, told, writable_fec, written_fec, written_parameters}
+use Rattle.pw_tlvs.proofs.ParameterLemmas.{parameters_length}
+use Rattle.pw_signalling.specs.declared.told.Told.{Told}
+use Rattle.ldp_grammar.specs.Octets.{two, four}
+use Rattle.ldp_grammar.specs.Written.{IsState, label_tlvs, status_tlvs}
+use Rattle.ldp_grammar.proofs.OctetLemmas.{AreOctets, octet_front}
+use Rattle.ldp_grammar.proofs.WrittenOctets.{four_octets, no_octets, octets_append, status_are, two_octets}
+use Rattle.session_core.specs.declared.peers.Peers.{Peers}
+use Rattle.edge_model.specs.Content.{bare, bare_fec_of, content_of, fec_of, mapping, no_params, params_of, pw_status_notice, release, status_notification, withdrawal}
+use Rattle.ldp_grammar.specs.declared.message.Message.{Message}
+use Rattle.flight_model.specs.Ends.{IsFieldOffer}
+use Rattle.flight_model.specs.Flight.{is_initialization}
+use Rattle.flight_model.specs.Messages.{HaveOctets, IsSaid}
+use Rattle.flight_model.specs.Sound.{CanBeTold}
+
+-- a message of pseudowires, by its Message ID: any ends may say it, and it is no Initialization
+pub record IsOfWires (message : ℕ → Message) : Type 0 where
+  pub said : (ends : Peers) (id : ℕ) → id < 2 ^ 32 → IsSaid ends (message id)
+  pub plain : (id : ℕ) → not (is_initialization (message id)) ≡ true
+
+-- ---- octets of parameters
+
+-- the octets of a sub-TLV
+IsShortSub : SubTlv → Type 0
+IsShortSub s = (s.kind < 256) × (2 + length s.value < 256) × AreOctets s.value
+
+sub_octets : (ss : List SubTlv) → AllByRecursion IsShortSub ss → AreOctets (flat_map (spell InterfaceParameter) ss)
+unfolding IsShortSub
+sub_octets [] all = no_octets
+sub_octets (s ∷ ss) all =
+    octets_append (spell InterfaceParameter s) (flat_map (spell InterfaceParameter) ss)
+    (octet_front s.kind ((2 + length s.value) ∷ s.value) all.0.0 (octet_front (2 + length s.value) s.value all.0.1 all.0.2))
+    (sub_octets ss all.1)
+
+subs-append : (xs ys : List SubTlv) → AllByRecursion IsShortSub xs → AllByRecursion IsShortSub ys → AllByRecursion IsShortSub (xs ++ ys)
+subs-append [] ys one other = other
+subs-append (x ∷ xs) ys one other = (one.0, subs-append xs ys one.1 other)
+
+number_sub : (kind : ℕ) (number : Option ℕ) → kind < 256 → AllByRecursion IsShortSub (told kind (option_map (λ (n : ℕ). two n) number))
+unfolding IsShortSub
+number_sub kind None small = tt
+number_sub kind (Some n) small = ((small, omega arith, two_octets n), tt)
+
+text_sub : (kind : ℕ) (text : List ℕ) → kind < 256 → length text ≤ 80 → AreOctets text → AllByRecursion IsShortSub (told kind (description_value text))
+unfolding IsShortSub
+text_sub kind [] small few octets = tt
+text_sub kind (x ∷ xs) small few octets = ((small, omega (arith, few), octets), tt)
+
+pair_sub : (kind : ℕ) (types : Option (ℕ × ℕ)) → kind < 256 → IfSome types (λ pair. (pair.0 < 256) × (pair.1 < 256)) → AllByRecursion IsShortSub (told kind (option_map pair_octets types))
+unfolding IsShortSub
+pair_sub kind None small octets = tt
+pair_sub kind (Some pair) small octets = ((small, omega arith, octet_front pair.0 (pair.1 ∷ []) octets.0 (octet_front pair.1 [] octets.1 no_octets)), tt)
+
+parameters_octets : (params : IfParams) → length params.description ≤ 80 → AreOctets params.description → IfSome params.vccv (λ pair. (pair.0 < 256) × (pair.1 < 256)) → AreOctets (written_parameters params)
+parameters_octets params few octets types = sub_octets (parameter_sub_tlvs params)
+    (subs-append ((told 0x01 (option_map (λ (n : ℕ). two n) params.mtu) ++ told 0x03 (description_value params.description)) ++ told 0x06 (option_map (λ (n : ℕ). two n) params.vlan)) (told 0x0C (option_map pair_octets params.vccv))
+    (subs-append (told 0x01 (option_map (λ (n : ℕ). two n) params.mtu) ++ told 0x03 (description_value params.description)) (told 0x06 (option_map (λ (n : ℕ). two n) params.vlan))
+    (subs-append (told 0x01 (option_map (λ (n : ℕ). two n) params.mtu)) (told 0x03 (description_value params.description)) (number_sub 0x01 params.mtu (omega arith)) (text_sub 0x03 params.description (omega arith) few octets))
+    (number_sub 0x06 params.vlan (omega arith)))
+    (pair_sub 0x0C params.vccv (omega arith) types))
+
+number_length : (kind : ℕ) (number : Option ℕ) → length (flat_map (spell InterfaceParameter) (told kind (option_map (λ (n : ℕ). two n) number))) ≤ 4
+number_length kind None = omega arith
+number_length kind (Some n) = omega arith
+
+pair_length : (kind : ℕ) (types : Option (ℕ × ℕ)) → length (flat_map (spell InterfaceParameter) (told kind (option_map pair_octets types))) ≤ 4
+pair_length kind None = omega arith
+pair_length kind (Some types) = omega arith
+
+text_length : (kind : ℕ) (text : List ℕ) → length text ≤ 80 → length (flat_map (spell InterfaceParameter) (told kind (description_value text))) ≤ 82
+text_length kind [] few = omega arith
+text_length kind (x ∷ xs) few = omega (arith, few, length-append xs [])
+
+parameters_short : (params : IfParams) → length params.description ≤ 80 → length (written_parameters params) ≤ 94
+parameters_short params few =
+    omega (arith, parameters_length params, number_length 0x01 params.mtu, text_length 0x03 params.description few, number_length 0x06 params.vlan, pair_length 0x0C params.vccv)
+
+-- ---- octets of FECs
+
+fec_octets : (fec : PwFec) → length (information fec.pw_id fec.params) < 256 → AreOctets (information fec.pw_id fec.params) → AreOctets (written_fec fec)
+fec_octets fec short octets =
+    let inner = information fec.pw_id fec.params in
+    octet_front 0x80 (two (control_and_kind fec.c fec.kind) ++ (length inner ∷ (four fec.group ++ inner))) (omega arith)
+    (octets_append (two (control_and_kind fec.c fec.kind)) (length inner ∷ (four fec.group ++ inner)) (two_octets (control_and_kind fec.c fec.kind))
+    (octet_front (length inner) (four fec.group ++ inner) short (octets_append (four fec.group) inner (four_octets fec.group) octets)))
+
+-- a FEC without parameters
+pub bare_octets : (fec : PwFec) → fec.params ≡ no_params → AreOctets (written_fec fec)
+bare_octets fec none = fec_octets fec (rw none (short fec.pw_id)) (rw none (octets fec.pw_id)) where
+  short : (pw_id : Option ℕ) → length (information pw_id no_params) < 256
+  short None = omega arith
+  short (Some n) = omega arith
+
+  octets : (pw_id : Option ℕ) → AreOctets (information pw_id no_params)
+  octets None = no_octets
+  octets (Some n) = octets_append (four n) [] (four_octets n) no_octets
+
+pub bare_in_range : (fec : PwFec) → fec.params ≡ no_params → fec.group < 2 ^ 32 → IfSome fec.pw_id (λ n. n < 2 ^ 32) → IsFecInRange fec
+bare_in_range fec none group pw_id = record { group = group; pw_id = pw_id; mtu = rw none tt; description = rw none (omega arith) }
+
+pub bare_writable : (fec : PwFec) → fec.params ≡ no_params → fec.kind ≤ 0x7FFF → writable_fec fec ≡ true
+bare_writable fec none kind = rw (none, may fec.pw_id, small fec.kind kind) refl where
+  may : (pw_id : Option ℕ) → may_tell pw_id no_params ≡ true
+  may None = refl
+  may (Some n) = refl
+
+  small : (n : ℕ) → n ≤ 0x7FFF → nat_le n 0x7FFF ≡ true
+  small n few = grind (arith, nat_tests)
+
+-- ---- messages
+
+-- a release of a FEC whose numbers fit
+pub release_is : (fec : PwFec) (label : Option ℕ) → fec.kind ≤ 0x7FFF → fec.group < 2 ^ 32 → IfSome fec.pw_id (λ n. n < 2 ^ 32) → IfSome label IsLabel → IsOfWires (release fec label)
+release_is fec label kind group pw_id fits = record {
+  said = λ ends id small. (
+    (small, bare_in_range (bare fec) refl group pw_id, fits),
+    bare_writable (bare fec) refl kind,
+    (bare_octets (bare fec) refl, labels label),
+  );
+  plain = λ id. refl;
+}
+  where
+    labels : (label : Option ℕ) → HaveOctets (label_tlvs label)
+    labels None = tt
+    labels (Some n) = (four_octets n, tt)
+
+pub withdrawal_is : (pw_id label : ℕ) (told : Told) → pw_id < 2 ^ 32 → CanBeTold label told → IsOfWires (withdrawal pw_id label told)
+withdrawal_is pw_id label told small can = record {
+  said = λ ends id few. (
+    (few, bare_in_range (bare_fec_of pw_id told) refl can.group small, can.is_label),
+    bare_writable (bare_fec_of pw_id told) refl can.kind,
+    (bare_octets (bare_fec_of pw_id told) refl, (four_octets label, tt)),
+  );
+  plain = λ id. refl;
+}
+
+pub status_is : (pw_id label : ℕ) (status : PwStatus) (told : Told) → pw_id < 2 ^ 32 → status.0 < 2 ^ 32 → CanBeTold label told → IsOfWires (status_notification pw_id status told)
+status_is pw_id label status told small fits can = record {
+  said = λ ends id few. (
+    (
+      (few, omega arith, omega arith, fits, bare_in_range (bare_fec_of pw_id told) refl can.group small),
+      bare_writable (bare_fec_of pw_id told) refl can.kind,
+      (status_are pw_status_notice, (four_octets status.0, (bare_octets (bare_fec_of pw_id told) refl, tt))),
+    ),
+    inr (refl, refl, refl),
+  );
+  plain = λ id. refl;
+}
+
+content_kind : (offer : Offer) (status : Option PwStatus) → (content_of offer status).kind ≤ 0x7FFF
+content_kind offer status = by_mode offer.tagged where
+  by_mode : (b : Bool) → cond b 0x0004 0x0005 ≤ 0x7FFF
+  by_mode true = omega arith
+  by_mode false = omega arith
+
+-- an offer can be told
+pub content_can : (label : ℕ) (offer : Offer) (status : Option PwStatus) → IsLabel label → IsFieldOffer offer → CanBeTold label (content_of offer status)
+content_can label offer status is field = record { is_label = is; kind = content_kind offer status; group = field.group }
+
+vlan_has : (vlan : Option ℕ) → is_told_within 0 4095 vlan ≡ true → has_vlan vlan ≡ true
+vlan_has None h = refl
+vlan_has (Some n) h = grind (arith, nat_tests)
+
+small_kind : (n : ℕ) → n ≤ 0x7FFF → nat_le n 0x7FFF ≡ true
+small_kind n few = grind (arith, nat_tests)
+
+channels_small : (vccv : Option ℕ) → is_told_within 0 7 vccv ≡ true → IfSome (option_map (λ (channels : ℕ). (channels, 0x01)) vccv) (λ (pair : ℕ × ℕ). (pair.0 < 256) × (pair.1 < 256))
+channels_small None h = tt
+channels_small (Some n) h = (few n h, omega arith) where
+  few : (n : ℕ) → is_told_within 0 7 (Some n) ≡ true → n < 256
+  few n h = grind (arith, nat_tests)
+
+status_octets_are : (status : Option PwStatus) → HaveOctets (status_tlvs status ++ [])
+status_octets_are None = tt
+status_octets_are (Some status) = (four_octets status.0, tt)
+
+pub mapping_is : (pw_id label : ℕ) (offer : Offer) (status : Option PwStatus) → pw_id < 2 ^ 32 → IsLabel label → IsState status → IsFieldOffer offer → IsOffer offer → IsOfWires (mapping pw_id label (content_of offer status))
+mapping_is pw_id label offer status small is state field fit = record {
+  said = λ ends id few. (
+    (few, record { group = field.group; pw_id = small; mtu = field.mtu; description = field.description }, is, state, omega arith, tt),
+    rw (vlan_has offer.vlan fit.vlan, small_kind (content_of offer status).kind (content_kind offer status)) refl,
+    (fec_octets (fec_of pw_id (content_of offer status)) short octets, (four_octets label, status_octets_are status)),
+  );
+  plain = λ id. refl;
+}
+  where
+    params : IfParams
+    params = params_of (content_of offer status)
+
+    octets : AreOctets (information (Some pw_id) (params_of (content_of offer status)))
+    octets = octets_append (four pw_id) (written_parameters params) (four_octets pw_id) (parameters_octets params field.description field.octets (channels_small offer.vccv fit.vccv))
+
+    short : length (information (Some pw_id) (params_of (content_of offer status))) < 256
+    short = omega (arith, parameters_short params field.description)

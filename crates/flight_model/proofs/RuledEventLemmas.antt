@@ -1,0 +1,191 @@
+-- Each event keeps the rules of labels and of told contents.
+use Rattle.std.proofs.Common.{◌≡◌, ◌≤◌, ◌++◌, ◌&&◌, ◌+◌, ℕ, zero, suc, Bool, true, false, cond, not, nat_eq, length, List, [], Option, Some, None, refl, sym, subst, inl}
+use Rattle.net_base.specs.declared.plan.Plan.{Plan}
+use Rattle.net_base.specs.declared.plan.circuit_plan.CircuitPlan.{CircuitPlan}
+use Rattle.net_base.specs.declared.plan.places.CircuitId.{CircuitId}
+use Rattle.net_base.specs.declared.plan.places.EdgeId.{EdgeId}
+use Rattle.net_base.specs.declared.plan.places.WireId.{WireId}
+use Rattle.net_base.specs.declared.trace.state_name.Reason.TheVariants as reason
+use Rattle.net_base.specs.plan.Accepted.{IsChecked}
+use Rattle.net_base.specs.trace.Isolated.{inner_at}
+use Rattle.session_core.specs.Table as table
+use Rattle.edge_model.specs.Circuit.{is_same, turned}
+use Rattle.edge_model.specs.Connection.{restart_input}
+use Rattle.edge_model.specs.EndPlaces.{ends_here, passes}
+use Rattle.edge_model.specs.Frame.{is_own, port_at, received}
+use Rattle.edge_model.specs.Mend.{mends}
+use Rattle.edge_model.specs.Session.{happens_with_ends}
+use Rattle.edge_model.specs.State.{EdgeState, has_end, is_on, with_bits, with_learned, without_ends, without_peerings}
+use Rattle.edge_model.specs.Tick.{tick_input}
+use Rattle.edge_model.specs.Wire.{turned_wire}
+use Rattle.edge_model.specs.Work.{Work, changes, idles}
+use Rattle.network_model.specs.Absorb.{answer, begin_at, idle, taken_all}
+use Rattle.network_model.specs.Circuit.{circuit_event}
+use Rattle.network_model.specs.Connection.{lose_event, losing, losing_work, restart_event}
+use Rattle.network_model.specs.Frame.{entering, frame_event, next_origin}
+use Rattle.network_model.specs.State.{NetworkState, stands, with_frame, without_octets_to}
+use Rattle.network_model.specs.Tick.{tick_at, tick_event, ticks_from}
+use Rattle.network_model.specs.Wire.{status_event, wire_event}
+use Rattle.flight_model.specs.Ends.{HasTypes}
+use Rattle.flight_model.specs.Facts.{FromBoth, HoldsBut, flight}
+use Rattle.flight_model.proofs.NameLemmas.{names_restarted}
+use Rattle.flight_model.proofs.RuledInputLemmas.{circuit_ruled, idle_ruled, lost_ruled, received_ruled, status_ruled, tick_ruled, wire_ruled}
+use Rattle.flight_model.proofs.RuledLemmas.{IsRuledEdge, WorksRuled, steps_keep}
+use Rattle.flight_model.proofs.RuledNetworkLemmas.{IsRuledNetwork, OutRules, RulesTo, held_at, ruled_answer, ruled_begin, ruled_settle, ruled_work}
+use Rattle.flight_model.proofs.SettleLemmas.{apart_turned}
+use Rattle.flight_model.proofs.ToldLemmas.{fresh_tells}
+use Rattle.flight_model.proofs.WorkLemmas.{same_place}
+
+module _ (plan : Plan) (checked : IsChecked plan) (types : HasTypes plan) where
+  -- the work of an edge of the network from its beginning on
+  abbrev At : NetworkState → EdgeId → Work → Type 0
+  At network me work = WorksRuled plan network.edges me.0 (network.edges me.0) (held_at network me.0) work
+
+  -- ---- an end is lost
+
+  pub losing_ruled : (me peer : EdgeId) (network : NetworkState) → IsRuledNetwork plan network → IsRuledNetwork plan (losing plan me peer network).state
+  losing_ruled me peer network ruled = ruled_work plan network me 0 0 (losing_work plan network me peer) ruled (by_end (has_end (begin_at network me).edge peer)) where
+    begun : At network me (begin_at network me)
+    begun = ruled_begin plan network me ruled
+
+    by_end : (b : Bool) → At network me (cond b (mends plan taken_all (happens_with_ends taken_all peer (table.Closed reason.Closed) (begin_at network me))) (idles (begin_at network me)))
+    by_end true = lost_ruled plan checked types network.edges me (network.edges me.0) (held_at network me.0) peer (begin_at network me) begun
+    by_end false = idle_ruled plan checked types network.edges me (network.edges me.0) (held_at network me.0) (begin_at network me) begun
+
+  pub lose_ruled : (me peer : EdgeId) (network : NetworkState) → IsRuledNetwork plan network → IsRuledNetwork plan (lose_event plan me peer network).state
+  lose_ruled me peer network ruled = by_stand (stands network me.0 peer.0) where
+    by_stand : (b : Bool) → IsRuledNetwork plan (cond b (losing plan me peer network) (idle network)).state
+    by_stand true = losing_ruled me peer network ruled
+    by_stand false = ruled
+
+  -- ---- ticks pass
+
+  tick_at_ruled : (me : EdgeId) (network : NetworkState) → IsRuledNetwork plan network → IsRuledNetwork plan (tick_at plan me network).state
+  tick_at_ruled me network ruled = ruled_work plan network me 0 0 (tick_input plan taken_all (begin_at network me)) ruled
+      (tick_ruled plan checked types network.edges me (network.edges me.0) (held_at network me.0) (begin_at network me) (ruled_begin plan network me ruled))
+
+  ticks_ruled : (place count : ℕ) (network : NetworkState) → IsRuledNetwork plan network → IsRuledNetwork plan (ticks_from plan place count network).state
+  ticks_ruled place zero network ruled = ruled
+  ticks_ruled place (suc count) network ruled = ticks_ruled (place + 1) count (tick_at plan (record { 0 = place }) network).state (tick_at_ruled (record { 0 = place }) network ruled)
+
+  pub tick_event_ruled : (network : NetworkState) → IsRuledNetwork plan network → IsRuledNetwork plan (tick_event plan network).state
+  tick_event_ruled network ruled = ticks_ruled 0 (length plan.edges) network ruled
+
+  -- ---- circuits, wires and failure bits
+
+  pub circuit_event_ruled : (circuit : CircuitId) (on : Bool) (row : Option CircuitPlan) (network : NetworkState) → IsRuledNetwork plan network → IsRuledNetwork plan (circuit_event plan circuit on row network).state
+  circuit_event_ruled circuit on None network ruled = ruled
+  circuit_event_ruled circuit on (Some row) network ruled = by_test (is_own begun.edge row && not (is_same on (is_on begun.edge circuit))) where
+    begun : Work
+    begun = begin_at network row.edge
+
+    works : At network row.edge begun
+    works = ruled_begin plan network row.edge ruled
+
+    by_test : (b : Bool) → IsRuledNetwork plan (answer row.edge 0 0 (cond b (mends plan taken_all (changes (turned plan circuit row on) begun)) (idles begun)) network).state
+    by_test true = ruled_answer plan network row.edge 0 0 (mends plan taken_all (changes (turned plan circuit row on) begun)) ruled
+        (circuit_ruled plan checked types network.edges row.edge (network.edges row.edge.0) (held_at network row.edge.0) circuit row on begun works)
+    by_test false = ruled_answer plan network row.edge 0 0 (idles begun) ruled (idle_ruled plan checked types network.edges row.edge (network.edges row.edge.0) (held_at network row.edge.0) begun works)
+
+  pub wire_event_ruled : (me : EdgeId) (wire : WireId) (on : Bool) (network : NetworkState) → IsRuledNetwork plan network → IsRuledNetwork plan (wire_event plan me wire on network).state
+  wire_event_ruled me wire on network ruled = by_test (passes plan begun.edge.me wire && not (is_same on (begun.edge.wire_on wire.0))) where
+    begun : Work
+    begun = begin_at network me
+
+    works : At network me begun
+    works = ruled_begin plan network me ruled
+
+    by_test : (b : Bool) → IsRuledNetwork plan (answer me 0 0 (cond b (mends plan taken_all (changes (turned_wire wire on) begun)) (idles begun)) network).state
+    by_test true = ruled_answer plan network me 0 0 (mends plan taken_all (changes (turned_wire wire on) begun)) ruled (wire_ruled plan checked types network.edges me (network.edges me.0) (held_at network me.0) wire on begun works)
+    by_test false = ruled_answer plan network me 0 0 (idles begun) ruled (idle_ruled plan checked types network.edges me (network.edges me.0) (held_at network me.0) begun works)
+
+  pub status_event_ruled : (me : EdgeId) (wire : WireId) (bits : ℕ) (network : NetworkState) → bits ≤ 31 → IsRuledNetwork plan network → IsRuledNetwork plan (status_event plan me wire bits network).state
+  status_event_ruled me wire bits network low ruled = by_test (ends_here plan begun.edge.me wire && not (nat_eq bits (begun.edge.bits wire.0))) where
+    begun : Work
+    begun = begin_at network me
+
+    works : At network me begun
+    works = ruled_begin plan network me ruled
+
+    by_test : (b : Bool) → IsRuledNetwork plan (answer me 0 0 (cond b (mends plan taken_all (changes (with_bits wire bits) begun)) (idles begun)) network).state
+    by_test true = ruled_answer plan network me 0 0 (mends plan taken_all (changes (with_bits wire bits) begun)) ruled (status_ruled plan checked types network.edges me (network.edges me.0) (held_at network me.0) wire bits begun low works)
+    by_test false = ruled_answer plan network me 0 0 (idles begun) ruled (idle_ruled plan checked types network.edges me (network.edges me.0) (held_at network me.0) begun works)
+
+  -- ---- frames
+
+  frame_ruled : (network : NetworkState) → IsRuledNetwork plan network → IsRuledNetwork plan (with_frame network)
+  unfolding with_frame
+  frame_ruled network ruled = record { edges = ruled.edges; two = λ a b apart. ruled.two a b apart }
+
+  frame_work_ruled : (network : NetworkState) (me : EdgeId) (work : Work) → At network me work → At (with_frame network) me work
+  unfolding with_frame
+  frame_work_ruled network me work works = works
+
+  entering_ruled : (network : NetworkState) (circuit : CircuitId) (octets : List ℕ) (row : CircuitPlan) (work : Work) → IsRuledNetwork plan network → At network row.edge work → IsRuledNetwork plan (entering network circuit octets row work).state
+  entering_ruled network circuit octets row work ruled works = ruled_work plan (with_frame network) row.edge (next_origin network) 0 work (frame_ruled network ruled) (frame_work_ruled network row.edge work works)
+
+  pub frame_event_ruled : (circuit : CircuitId) (octets : List ℕ) (row : Option CircuitPlan) (network : NetworkState) → IsRuledNetwork plan network → IsRuledNetwork plan (frame_event plan circuit octets row network).state
+  frame_event_ruled circuit octets None network ruled = ruled
+  frame_event_ruled circuit octets (Some row) network ruled = by_test (is_own begun.edge row && is_on begun.edge circuit) where
+    begun : Work
+    begun = begin_at network row.edge
+
+    works : At network row.edge begun
+    works = ruled_begin plan network row.edge ruled
+
+    full : Work
+    full = received plan taken_all row.service (port_at plan begun.edge circuit row) (inner_at plan circuit octets) begun
+
+    either : (b : Bool) (work : Work) → At network row.edge work → IsRuledNetwork plan (cond b (idle network) (entering network circuit octets row work)).state
+    either true work w = ruled
+    either false work w = entering_ruled network circuit octets row work ruled w
+
+    by_test : (b : Bool) → IsRuledNetwork plan (cond (cond b full (idles begun)).idle (idle network) (entering network circuit octets row (cond b full (idles begun)))).state
+    by_test true = either full.idle full (received_ruled plan checked types network.edges row.edge (network.edges row.edge.0) (held_at network row.edge.0) taken_all row.service (port_at plan begun.edge circuit row) (inner_at plan circuit octets) begun works)
+    by_test false = either (idles begun).idle (idles begun) (idle_ruled plan checked types network.edges row.edge (network.edges row.edge.0) (held_at network row.edge.0) begun works)
+
+  -- ---- an edge restarts
+
+  same_edges : (me : EdgeId) (network : NetworkState) → (without_octets_to me network).edges ≡ network.edges
+  unfolding without_octets_to
+  same_edges me network = refl
+
+  away_from : (me : EdgeId) (network : NetworkState) (a b : ℕ) → nat_eq b me.0 ≡ false → (without_octets_to me network).pipes a b ≡ network.pipes a b
+  unfolding without_octets_to
+  away_from me network a b away = rw away refl
+
+  none_left : (me : EdgeId) (network : NetworkState) (a : ℕ) → (without_octets_to me network).pipes a me.0 ≡ []
+  unfolding without_octets_to
+  none_left me network a = rw (same_place me.0) refl
+
+  restart_work_ruled : (me : EdgeId) (network : NetworkState) → IsRuledNetwork plan network → WorksRuled plan network.edges me.0 (network.edges me.0) (λ place. None) (restart_input (begin_at network me))
+  unfolding changes with_learned without_peerings without_ends
+  restart_work_ruled me network ruled =
+      let begun : At network me (begin_at network me) = ruled_begin plan network me ruled in
+      steps_keep plan network.edges me.0 (network.edges me.0) (held_at network me.0) (λ place. None) (begin_at network me) (restart_input (begin_at network me)) (record {
+        place = refl;
+        keeps = names_restarted (network.edges me.0);
+        most = begun.edge.most;
+        bits = begun.edge.bits;
+        tells = λ wire k. fresh_tells plan me.0 wire k;
+        sessions = λ k. tt;
+        each = λ place away. record { messages = []; octets = refl; ruled = tt; bound = λ wire. tt; inward = inl (refl, refl) };
+      }) begun
+
+  restart_out : (me : EdgeId) (place : ℕ) (network : NetworkState) → nat_eq place me.0 ≡ false → flight (without_octets_to me network) me.0 place ≡ flight network me.0 place
+  restart_out me place network away = rw (same_edges me network, away_from me network me.0 place away) refl
+
+  restart_others : (me : EdgeId) (network : NetworkState) → IsRuledNetwork plan network → HoldsBut (FromBoth (OutRules plan)) me.0 (without_octets_to me network)
+  restart_others me network ruled a b apart away gone = rw (same_edges me network, away_from me network a b gone, away_from me network b a away) (ruled.two a b apart)
+
+  pub restart_event_ruled : (me : EdgeId) (network : NetworkState) → IsRuledNetwork plan network → IsRuledNetwork plan (restart_event me network).state
+  restart_event_ruled me network ruled =
+      ruled_settle plan (without_octets_to me network) me 0 0 (network.edges me.0) (λ place. None) (restart_input (begin_at network me)) (restart_others me network ruled)
+      (λ a away. subst (λ (f : ℕ → EdgeState). IsRuledEdge plan a (f a)) (sym (same_edges me network)) (ruled.edges a))
+      (ruled.edges me.0).place
+      (subst (λ (f : ℕ → EdgeState). WorksRuled plan f me.0 (network.edges me.0) (λ place. None) (restart_input (begin_at network me))) (sym (same_edges me network)) (restart_work_ruled me network ruled))
+      (λ place away. subst (λ (f : ℕ → EdgeState). RulesTo plan me.0 place (network.edges me.0) (f place) (flight (without_octets_to me network) me.0 place)) (sym (same_edges me network))
+      (subst (RulesTo plan me.0 place (network.edges me.0) (network.edges place)) (sym (restart_out me place network away)) (ruled.two me.0 place (apart_turned place me.0 away)).0))
+      (λ place away. subst (λ (f : ℕ → EdgeState). RulesTo plan place me.0 (f place) (network.edges me.0) ([] ++ (without_octets_to me network).pipes place me.0)) (sym (same_edges me network))
+      (subst (λ (l : List ℕ). RulesTo plan place me.0 (network.edges place) (network.edges me.0) ([] ++ l)) (sym (none_left me network place))
+      (record { messages = []; octets = refl; ruled = tt; bound = (ruled.two me.0 place (apart_turned place me.0 away)).1.bound })))

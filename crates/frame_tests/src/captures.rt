@@ -1,0 +1,4 @@
+//! Captures that were worked out by hand.
+
+mod faults;
+mod frames;

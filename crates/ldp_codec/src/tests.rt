@@ -1,9 +1,0 @@
-//! PDUs that were worked out by hand.
-
-mod faults;
-mod hex;
-mod messages;
-mod pseudowires;
-mod reading;
-mod rows;
-mod writing;

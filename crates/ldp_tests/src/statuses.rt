@@ -1,0 +1,22 @@
+//! Statuses that were worked out by hand.
+
+use pw_status::{Method, combine, fails, method_of, standby};
+use pw_tlvs::PwStatus;
+
+#[test]
+fn knows_the_bits(rt: HostRuntime) {
+    assert!(rt; fails(PwStatus(0x10)));
+    assert!(rt; !fails(PwStatus(0x60)));
+    assert!(rt; standby(PwStatus(0x30)));
+    assert!(rt; !standby(PwStatus(0x5f)));
+    assert!(rt; combine(6, true) == PwStatus(0x26));
+    assert!(rt; combine(6, false) == PwStatus(0x06));
+}
+
+#[test]
+fn tells_a_status_where_both_ends_do(rt: HostRuntime) {
+    assert!(rt; method_of(true, None) == Method::Told);
+    assert!(rt; method_of(true, Some(Some(PwStatus(0)))) == Method::Told);
+    assert!(rt; method_of(true, Some(None)) == Method::Withdrawn);
+    assert!(rt; method_of(false, None) == Method::Withdrawn);
+}

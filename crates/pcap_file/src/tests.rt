@@ -1,5 +1,0 @@
-//! Captures that were worked out by hand.
-
-mod faults;
-mod frames;
-mod hex;

@@ -1,0 +1,209 @@
+//! Whole replays of bridges that learn, age, and handle tags.
+
+use crate::around::{Ended, SOUND, call};
+use std::alloc::Global;
+use std::process::Abort;
+use vplsnet::Outcome;
+
+// One edge and one service, whose addresses age after two ticks.
+const EDGE: &str = "
+[[edge]]
+name = \"e\"
+address = \"10.0.0.1\"
+[[service]]
+name = \"s\"
+age = 2
+";
+
+const THREE_CIRCUITS: &str = "
+[[circuit]]
+name = \"c1\"
+edge = \"e\"
+service = \"s\"
+[[circuit]]
+name = \"c2\"
+edge = \"e\"
+service = \"s\"
+[[circuit]]
+name = \"c3\"
+edge = \"e\"
+service = \"s\"
+";
+
+const TAGGED_AND_UNTAGGED: &str = "
+[[circuit]]
+name = \"t7\"
+edge = \"e\"
+service = \"s\"
+tag = 7
+[[circuit]]
+name = \"u\"
+edge = \"e\"
+service = \"s\"
+";
+
+// Replays these events to the end.
+fn replay(rt: &impl Abort, alloc: Global, circuits: &str, events: &str) -> Ended {
+    let text = format!(in alloc; "version = 1\nevents = [{events}]\n{EDGE}{circuits}").expect(
+        rt, "memory",
+    );
+    let ended = call(rt, alloc, "replay f", text.as_bytes(), SOUND);
+    assert!(rt; matches!(ended.outcome, Outcome::Done));
+    ended
+}
+
+// Events have this report.
+fn reports(rt: &impl Abort, alloc: Global, circuits: &str, events: &str, report: &str) {
+    let ended = replay(rt, alloc, circuits, events);
+    assert!(rt; ended.taken.as_slice() == report.as_bytes(), "{report}");
+}
+
+#[test]
+fn learns_and_forgets_a_station(rt: HostRuntime) {
+    reports(
+        &rt,
+        rt.alloc(),
+        THREE_CIRCUITS,
+        "\"frame c1 ffffffffffff0200000000010800\",
+         \"frame c2 0200000000010200000000020800\",
+         \"tick 2\",
+         \"frame c2 0200000000010200000000020800\",
+         \"frame c3 0200000000030200000000030800\"",
+        "vplsnet 1
+> frame c1 ffffffffffff0200000000010800
+in c1 1 ffffffffffff0200000000010800
+left c2 1 0 ffffffffffff0200000000010800
+left c3 1 0 ffffffffffff0200000000010800
+> frame c2 0200000000010200000000020800
+in c2 2 0200000000010200000000020800
+left c1 2 0 0200000000010200000000020800
+> tick
+> tick
+> frame c2 0200000000010200000000020800
+in c2 3 0200000000010200000000020800
+left c1 3 0 0200000000010200000000020800
+left c3 3 0 0200000000010200000000020800
+> frame c3 0200000000030200000000030800
+in c3 4 0200000000030200000000030800
+end events=6 in=4 left=5 sent=0 dropped=0
+",
+    );
+}
+
+#[test]
+fn takes_tags_off_and_puts_them_back(rt: HostRuntime) {
+    reports(
+        &rt,
+        rt.alloc(),
+        TAGGED_AND_UNTAGGED,
+        "\"frame t7 ffffffffffff020000000001810060070800\",
+         \"frame u ffffffffffff0200000000010800\"",
+        "vplsnet 1
+> frame t7 ffffffffffff020000000001810060070800
+in t7 1 ffffffffffff020000000001810060070800
+left u 1 0 ffffffffffff0200000000010800
+> frame u ffffffffffff0200000000010800
+in u 2 ffffffffffff0200000000010800
+left t7 2 0 ffffffffffff020000000001810000070800
+end events=2 in=2 left=2 sent=0 dropped=0
+",
+    );
+}
+
+#[test]
+fn drops_what_is_no_frame_of_the_circuit(rt: HostRuntime) {
+    reports(
+        &rt,
+        rt.alloc(),
+        TAGGED_AND_UNTAGGED,
+        "\"frame u ffffffffffff02000000000108\",
+         \"frame t7 ffffffffffff0200000000010800\",
+         \"frame t7 ffffffffffff02000000000181000007\",
+         \"frame t7 ffffffffffff020000000001810000080800\"",
+        "vplsnet 1
+> frame u ffffffffffff02000000000108
+in u 1 ffffffffffff02000000000108
+dropped e 1 Short
+> frame t7 ffffffffffff0200000000010800
+in t7 2 ffffffffffff0200000000010800
+dropped e 2 NoTag
+> frame t7 ffffffffffff02000000000181000007
+in t7 3 ffffffffffff02000000000181000007
+dropped e 3 Short
+> frame t7 ffffffffffff020000000001810000080800
+in t7 4 ffffffffffff020000000001810000080800
+dropped e 4 WrongTag
+end events=4 in=4 left=0 sent=0 dropped=4
+",
+    );
+}
+
+// A frame of so many octets ends so.
+fn ends(rt: &impl Abort, alloc: Global, octets: usize, end: &str) {
+    let mut event = String::from_str(alloc, "\"frame c1 ffffffffffff020000000001").expect(
+        rt, "memory",
+    );
+    for _ in 12..octets {
+        event.push_str("08").expect(rt, "memory");
+    }
+    event.push_str("\"").expect(rt, "memory");
+    let ended = replay(rt, alloc, THREE_CIRCUITS, event.as_str());
+    assert!(rt;
+        ended.taken.as_slice().ends_with(end.as_bytes()),
+        "{octets} octets"
+    );
+}
+
+#[test]
+fn leaves_room_for_a_tag_of_the_customers_own(rt: HostRuntime) {
+    // With the MTU 1500 a frame of 1,518 octets is taken, and one of 1,519 is dropped.
+    let alloc = rt.alloc();
+    ends(
+        &rt,
+        alloc,
+        1518,
+        "end events=1 in=1 left=2 sent=0 dropped=0\n",
+    );
+    ends(
+        &rt,
+        alloc,
+        1519,
+        "end events=1 in=1 left=0 sent=0 dropped=1\n",
+    );
+}
+
+#[test]
+fn forgets_the_stations_of_a_circuit_that_goes_off(rt: HostRuntime) {
+    reports(
+        &rt,
+        rt.alloc(),
+        THREE_CIRCUITS,
+        "\"frame c1 ffffffffffff0200000000010800\",
+         \"circuit c1 off\",
+         \"circuit c1 off\",
+         \"frame c1 ffffffffffff0200000000010800\",
+         \"frame c2 0200000000010200000000020800\",
+         \"circuit c1 on\",
+         \"frame c2 0200000000010200000000020800\"",
+        "vplsnet 1
+> frame c1 ffffffffffff0200000000010800
+in c1 1 ffffffffffff0200000000010800
+left c2 1 0 ffffffffffff0200000000010800
+left c3 1 0 ffffffffffff0200000000010800
+> circuit c1 off
+> circuit c1 off
+idle
+> frame c1 ffffffffffff0200000000010800
+idle
+> frame c2 0200000000010200000000020800
+in c2 2 0200000000010200000000020800
+left c3 2 0 0200000000010200000000020800
+> circuit c1 on
+> frame c2 0200000000010200000000020800
+in c2 3 0200000000010200000000020800
+left c1 3 0 0200000000010200000000020800
+left c3 3 0 0200000000010200000000020800
+end events=7 in=3 left=5 sent=0 dropped=0
+",
+    );
+}

@@ -1,0 +1,54 @@
+//! The texts of a scenario's faults: the program tells each by its own text, and what it names behind it.
+
+use net_base::{Place, PlanFault, Table, Text};
+use scenario_text::ScenarioFault;
+use std::alloc::Global;
+use std::process::Abort;
+use vplsnet::Outcome;
+use vplsnet::finish_line::finish_line;
+
+// The program tells the fault by the fault's own text, and these words behind it.
+fn is_told(rt: &impl Abort, alloc: Global, fault: ScenarioFault, rest: &str) {
+    let text = format!(in alloc; "vplsnet: scenario: {fault}{rest}").expect(rt, "memory");
+    let line = finish_line(alloc, &Outcome::ScenarioRefused(fault)).expect(rt, "memory");
+    assert!(rt; line.as_slice() == text.as_bytes(), "{text}");
+}
+
+// The key `name` of the second edge.
+fn place(rt: &impl Abort) -> Place {
+    Place {
+        table: Table::Edge,
+        index: 2,
+        key: Text::read(b"name").expect(rt, "a key"),
+    }
+}
+
+#[test]
+fn tells_faults_of_the_document(rt: HostRuntime) {
+    let alloc = rt.alloc();
+    is_told(&rt, alloc, ScenarioFault::NotToml, "");
+    is_told(&rt, alloc, ScenarioFault::Version, "");
+    is_told(&rt, alloc, ScenarioFault::NoMemory, "");
+    is_told(&rt, alloc, ScenarioFault::BadWord { event: 7, word: 3 }, "");
+}
+
+#[test]
+fn tells_faults_of_rows(rt: HostRuntime) {
+    let alloc = rt.alloc();
+    let name = " edge 2 name";
+    is_told(&rt, alloc, ScenarioFault::Missing(place(&rt)), name);
+    is_told(&rt, alloc, ScenarioFault::WrongKind(place(&rt)), name);
+    is_told(&rt, alloc, ScenarioFault::UnknownKey(place(&rt)), name);
+}
+
+#[test]
+fn tells_faults_of_a_plan(rt: HostRuntime) {
+    let alloc = rt.alloc();
+    let many = ScenarioFault::TooMany {
+        table: Table::Edge,
+        limit: 64,
+    };
+    is_told(&rt, alloc, many, " edge 64");
+    let repeated = ScenarioFault::Plan(PlanFault::RepeatedName(place(&rt)));
+    is_told(&rt, alloc, repeated, " RepeatedName edge 2 name");
+}

@@ -1,0 +1,457 @@
+-- An edge whose control has worked, in lists as in maps; and its inputs, exit by exit.
+use Rattle.std.proofs.Common.{◌≡◌, ◌<◌, ◌≤◌, ◌&&◌, ◌++◌, ◌∙◌, ◌==◌, ◌↔◌, Bor, ℕ, zero, suc, Bool, true, false, List, [], ◌∷◌, Option, Some, None, cond, not, length, map, option_copied, option_map, slice_get, slice_set, slice_index_or, nat_eq, refl, ap, sym, subst, arith, length-set}
+use Rattle.std.proofs.Math.Bool.{beq}
+use Rattle.std.specs.List.{find}
+use Rattle.std.specs.Prelude.{IfSome, IsNone}
+use Rattle.std.proofs.lemmas.Bool.{eq-eqb, eqb-true}
+use Rattle.std.proofs.lemmas.List.{length-map}
+use Rattle.std.proofs.lemmas.Option.{slice_get_within}
+use Rattle.net_base.specs.declared.outside.link_call.LinkCall.{LinkCall}
+use Rattle.net_base.specs.declared.plan.Plan.{Plan}
+use Rattle.net_base.specs.declared.plan.circuit_plan.CircuitPlan.{CircuitPlan}
+use Rattle.net_base.specs.declared.plan.edge_plan.EdgePlan.{EdgePlan}
+use Rattle.net_base.specs.declared.plan.places.CircuitId.{CircuitId}
+use Rattle.net_base.specs.declared.plan.places.EdgeId.{EdgeId}
+use Rattle.net_base.specs.declared.plan.places.ServiceId.{ServiceId}
+use Rattle.net_base.specs.declared.plan.places.WireId.{WireId}
+use Rattle.net_base.specs.declared.trace.state_name.Reason.TheVariants as reason
+use Rattle.net_base.specs.plan.Paths.{are_joined}
+use Rattle.net_base.specs.declared.trace.down.Down.{Down}
+use Rattle.net_base.specs.declared.plan.places.SegKey.{SegKey}
+use Rattle.pw_signalling.specs.End.{EndState}
+use Rattle.hvpls_spokes.specs.Port.{ports_of}
+use Rattle.session_core.specs.declared.peers.Peers.{Peers}
+use Rattle.session_core.specs.State.{opened}
+use Rattle.session_core.specs.Table.{Closed}
+use Rattle.edge_model.specs.declared.effect.Effect.{Effect}
+use Rattle.edge_model.specs.Circuit.{circuit_input, is_same, turned}
+use Rattle.edge_model.specs.Connection.{connected_input, connects, connects_between, lost_input, peers_of, restart_input, restarted}
+use Rattle.edge_model.specs.declared.end_place.EndPlace.{EndPlace}
+use Rattle.edge_model.specs.EndPlaces.{end_places, ends_here, is_end_of_wire, passes}
+use Rattle.edge_model.specs.Hear.{hears, hears_on, octets_input}
+use Rattle.edge_model.specs.Mend.{mends}
+use Rattle.edge_model.specs.Role.{down_at}
+use Rattle.edge_model.specs.Session.{happens_with_ends}
+use Rattle.edge_model.specs.State.{EdgeState, Peering, end_at, has_end, is_there, later, with_bits, with_learned, with_ticks, without_ends, without_peerings}
+use Rattle.edge_model.specs.Tick.{counted, forgetting, tick_input, ticks_sessions}
+use Rattle.edge_model.specs.Wire.{status_input, turned_wire, wire_input}
+use Rattle.edge_model.specs.Work.{Answers, Work, beginning, changes, idles}
+use Rattle.provider_edge.specs.Control.{ControlLists, KeepsPlan, Rest, at_control, controlled, holding}
+use Rattle.provider_edge.specs.declared.domain.Domain.{Domain}
+use Rattle.provider_edge.specs.EndOf.{is_of_segment}
+use Rattle.provider_edge.specs.Domain.{IsDomain, IsKept, cleared_domain, cleared_kept}
+use Rattle.provider_edge.specs.Invariant.{IsEdge}
+use Rattle.provider_edge.specs.Lists.{EdgeLists, Keeps, entries_of, own_service, rest_of, seen, worked}
+use Rattle.provider_edge.specs.Peering.{Dialogue, at_edge, connection_with, kept_with, peers_between}
+use Rattle.provider_edge.specs.Views.{view}
+use Rattle.provider_edge.proofs.KeptLemmas.{kept_same}
+use Rattle.provider_edge.proofs.OwnLemmas.{OwnRow, other_row, own_row}
+use Rattle.provider_edge.proofs.PortLemmas.{forwards_same}
+use Rattle.provider_edge.proofs.Views.{same_read, view_at, view_set}
+use Rattle.provider_edge.proofs.WorkLemmas.{other_before, same_already}
+
+-- ---- an edge whose control has worked
+
+pub edge_worked : (e : EdgeLists) (control : ControlLists) (held : List (List ℕ)) → KeepsPlan e.control control → length held ≡ length e.held → IsEdge e → IsEdge (record e { control = control; held = held })
+unfolding seen
+edge_worked e control held keeps long is = record {
+  checked = is.checked;
+  circuits = is.circuits;
+  plan = keeps.plan ∙ is.plan;
+  me = keeps.me ∙ is.me;
+  dialogues = keeps.count ∙ is.dialogues;
+  held = long ∙ is.held;
+  services = is.services;
+  domains = λ k below. kept_same e.plan (seen e) (seen (record e { control = control; held = held })) (record { 0 = k }) (view None e.domains k) refl refl (omega arith) (is.domains k below);
+}
+
+pub edge_control : (e : EdgeLists) (control : ControlLists) → KeepsPlan e.control control → IsEdge e → IsEdge (record e { control = control })
+edge_control e control keeps is = edge_worked e control e.held keeps refl is
+
+pub seen_is : (e : EdgeLists) → IsEdge e → seen e ≡ controlled e.control (rest_of e)
+unfolding seen controlled
+seen_is e is = λ i. record (seen e) { me = sym is.me i }
+
+pub worked_state : (change : EdgeState → EdgeState) (e : EdgeLists) (control : ControlLists) → IsEdge e → KeepsPlan e.control control
+    → ((rest : Rest) → controlled control rest ≡ change (controlled e.control rest)) → seen (record e { control = control }) ≡ change (seen e)
+worked_state change e control is keeps worked =
+    seen_is (record e { control = control }) (edge_control e control keeps is) ∙ (worked (rest_of e) ∙ ap change (sym (seen_is e is)))
+
+pub worked_edge : (does : Work → Work) (e : EdgeLists) (control : ControlLists) (calls new : List LinkCall) (out given : List Effect) → IsEdge e → KeepsPlan e.control control
+    → at_control control (rest_of e) new given ≡ does (at_control e.control (rest_of e) calls out)
+    → at_edge (seen (record e { control = control })) new given ≡ does (at_edge (seen e) calls out)
+worked_edge does e control calls new out given is keeps worked =
+    ap (λ (s : EdgeState). at_edge s new given) (seen_is (record e { control = control }) (edge_control e control keeps is))
+    ∙ (worked ∙ ap (λ (s : EdgeState). does (at_edge s calls out)) (sym (seen_is e is)))
+
+-- ---- octets that are held
+
+none_kept : (held : List ℕ) (d : Option Dialogue) → kept_with held d ≡ None → d ≡ None
+none_kept held None is = refl
+none_kept held (Some d) is = absurd (cc (is))
+
+-- what is held of a peer with which no connection stands means nothing
+pub seen_unheld : (e : EdgeLists) (peer : EdgeId) → peer.0 < length e.held → (seen e).peering peer.0 ≡ None → seen (record e { held = slice_set e.held peer.0 [] }) ≡ seen e
+unfolding seen
+seen_unheld e peer within none = λ i. record (seen e) { peering = λ k. at k i } where
+  no_session : view None e.control.dialogues peer.0 ≡ None
+  no_session = none_kept (view [] e.held peer.0) (view None e.control.dialogues peer.0) none
+
+  chosen : (k : ℕ) (b : Bool) → nat_eq k peer.0 ≡ b → kept_with (cond b [] (view [] e.held k)) (view None e.control.dialogues k) ≡ kept_with (view [] e.held k) (view None e.control.dialogues k)
+  chosen k true same =
+      let here : view None e.control.dialogues k ≡ None = ap (view None e.control.dialogues) (eqb-true k peer.0 same) ∙ no_session in
+      ap (kept_with []) here ∙ sym (ap (kept_with (view [] e.held k)) here)
+  chosen k false same = refl
+
+  at : (k : ℕ) → kept_with (view [] (slice_set e.held peer.0 []) k) (view None e.control.dialogues k) ≡ kept_with (view [] e.held k) (view None e.control.dialogues k)
+  at k = ap (λ (f : ℕ → List ℕ). kept_with (f k) (view None e.control.dialogues k)) (view_set [] e.held peer.0 [] within) ∙ chosen k (nat_eq k peer.0) refl
+
+rest_held : (e : EdgeLists) (control : ControlLists) (peer : EdgeId) (octets : List ℕ) → peer.0 < length e.held → rest_of (record e { control = control; held = slice_set e.held peer.0 octets }) ≡ holding peer octets (rest_of e)
+rest_held e control peer octets within = ap (λ (f : ℕ → List ℕ). record (rest_of e) { held = f }) (view_set [] e.held peer.0 octets within)
+
+there_some : (x : Option Peering) → is_there x ≡ true → (kept : Peering) × (x ≡ Some kept)
+there_some None is = absurd (cc (is))
+there_some (Some kept) is = (kept, refl)
+
+held_some : (held : List ℕ) (d : Option Dialogue) (kept : Peering) → kept_with held d ≡ Some kept → kept.held ≡ held
+held_some held None kept is = absurd (cc (is))
+held_some held (Some d) kept is =
+    let same : record { session = d.session; held = held; next_id = d.next_id } ≡ kept = cc (is) in
+    sym (ap (λ (p : Peering). p.held) same)
+
+held_seen : (e : EdgeLists) (peer : EdgeId) (kept : Peering) → (seen e).peering peer.0 ≡ Some kept → kept.held ≡ view [] e.held peer.0
+unfolding seen
+held_seen e peer kept is = held_some (view [] e.held peer.0) (view None e.control.dialogues peer.0) kept is
+
+pub heard_edge : (e : EdgeLists) (control : ControlLists) (told : Answers) (peer : EdgeId) (octets before after : List ℕ) (calls new : List LinkCall) (out given : List Effect) → IsEdge e → KeepsPlan e.control control → peer.0 < length e.held
+    → has_end (seen e) peer ≡ true → before ≡ slice_index_or e.held peer.0 before
+    → at_control control (holding peer after (rest_of e)) new given ≡ hears e.control.plan told peer (before ++ octets) (at_control e.control (rest_of e) calls out)
+    → at_edge (seen (record e { control = control; held = slice_set e.held peer.0 after })) new given ≡ hears_on e.plan told peer octets ((seen e).peering peer.0) (at_edge (seen e) calls out)
+heard_edge e control told peer octets before after calls new out given is keeps within there read heard =
+    let (kept, some) = there_some ((seen e).peering peer.0) there in
+    let now : EdgeLists = record e { control = control; held = slice_set e.held peer.0 after } in
+    let same : before ≡ kept.held = read ∙ (same_read e.held peer.0 before [] within ∙ sym (held_seen e peer kept some)) in
+    ap (λ (s : EdgeState). at_edge s new given) (seen_is now (edge_worked e control (slice_set e.held peer.0 after) keeps (length-set e.held peer.0 after) is))
+    ∙ (ap (λ (r : Rest). at_control control r new given) (rest_held e control peer after within)
+    ∙ (heard
+    ∙ (ap (λ (p : Plan). hears p told peer (before ++ octets) (at_control e.control (rest_of e) calls out)) is.plan
+    ∙ (ap (λ (o : List ℕ). hears e.plan told peer (o ++ octets) (at_control e.control (rest_of e) calls out)) same
+    ∙ (ap (λ (s : EdgeState). hears e.plan told peer (kept.held ++ octets) (at_edge s calls out)) (sym (seen_is e is))
+    ∙ ap (λ (x : Option Peering). hears_on e.plan told peer octets x (at_edge (seen e) calls out)) (sym some))))))
+
+stands_there : (held : List ℕ) (d : Option Dialogue) → is_there (kept_with held d) ≡ true → is_there d ≡ true
+stands_there held None there = there
+stands_there held (Some d) there = refl
+
+there_within : (xs : List (Option Dialogue)) (k : ℕ) → is_there (view None xs k) ≡ true → k < length xs
+there_within [] k there = absurd (cc (there))
+there_within (x ∷ xs) zero there = omega arith
+there_within (x ∷ xs) (suc k) there = omega (arith, there_within xs k there)
+
+-- a peer with which a connection stands is in the plan
+pub end_within : (e : EdgeLists) (peer : EdgeId) → IsEdge e → has_end (seen e) peer ≡ true → peer.0 < length e.held
+unfolding seen
+end_within e peer is there =
+    omega (arith, there_within e.control.dialogues peer.0 (stands_there (view [] e.held peer.0) (view None e.control.dialogues peer.0) there), is.dialogues, is.held)
+
+pub unheld : (xs : List (List ℕ)) (k : ℕ) → k < length xs → slice_index_or (slice_set xs k []) k [] ≡ []
+unheld xs k within = view_at [] xs k [] k within ∙ ap (λ (b : Bool). cond b [] (view [] xs k)) (eq-eqb k k refl)
+
+-- ---- what the bridges have learned is forgotten
+
+view_cleared : (xs : List (Option Domain)) (k : ℕ) → view None (map cleared_kept xs) k ≡ cleared_kept (view None xs k)
+view_cleared [] k = refl
+view_cleared (x ∷ xs) zero = refl
+view_cleared (x ∷ xs) (suc k) = view_cleared xs k
+
+none_known : (kept : Option Domain) → entries_of (cleared_kept kept) ≡ []
+none_known None = refl
+none_known (Some domain) = refl
+
+pub seen_cleared : (e : EdgeLists) → seen (record e { domains = map cleared_kept e.domains }) ≡ with_learned (λ service. []) (seen e)
+unfolding seen with_learned
+seen_cleared e = λ i. record (seen e) { learned = λ k. (ap entries_of (view_cleared e.domains k) ∙ none_known (view None e.domains k)) i }
+
+kept_cleared : (plan : Plan) (a b : EdgeState) (service : ServiceId) (kept : Option Domain) → a.me ≡ b.me → a.circuit_on ≡ b.circuit_on → IsKept plan a service kept → IsKept plan b service (cleared_kept kept)
+kept_cleared plan a b service None me on is = sym (ap (ports_of plan service) me) ∙ is
+kept_cleared plan a b service (Some domain) me on is = record {
+  ports = is.ports ∙ ap (ports_of plan service) me;
+  some = λ none. is.some (ap (ports_of plan service) me ∙ none);
+  age = is.age;
+  forwarding = λ p. is.forwarding p ∙ forwards_same plan a b on domain.bridge.ports p;
+  ticks = λ k d within. absurd (omega arith);
+}
+
+pub edge_cleared : (e : EdgeLists) → IsEdge e → IsEdge (record e { domains = map cleared_kept e.domains })
+unfolding seen
+edge_cleared e is = record {
+  checked = is.checked;
+  circuits = is.circuits;
+  plan = is.plan;
+  me = is.me;
+  dialogues = is.dialogues;
+  held = is.held;
+  services = length-map e.domains cleared_kept ∙ is.services;
+  domains = λ k below.
+      subst (λ (kept : Option Domain). IsKept e.plan (seen (record e { domains = map cleared_kept e.domains })) (record { 0 = k }) kept) (sym (view_cleared e.domains k))
+      (kept_cleared e.plan (seen e) (seen (record e { domains = map cleared_kept e.domains })) (record { 0 = k }) (view None e.domains k) refl refl (is.domains k below));
+}
+
+-- ---- inputs
+
+-- what was done before the edge mends
+pub mended : (e mid now : EdgeLists) (plan : Plan) (told : Answers) (calls mid_calls new : List LinkCall) (out list : List Effect) (work : Work) → Keeps e mid
+    → at_edge (seen mid) mid_calls out ≡ work
+    → at_edge (seen now) new list ≡ mends mid.plan told (at_edge (seen mid) mid_calls out)
+    → worked now new (record { idle = false; list = list }) ≡ mends e.plan told work
+unfolding worked at_edge
+mended e mid now plan told calls mid_calls new out list work keeps is mends_now =
+    mends_now
+    ∙ (ap (λ (p : Plan). mends p told (record { edge = seen mid; calls = mid_calls; effects = out; idle = false })) keeps.plan
+    ∙ ap (mends e.plan told) is)
+
+pub begun : (edge : EdgeState) (calls : List LinkCall) → at_edge edge calls [] ≡ beginning edge calls
+unfolding at_edge
+begun edge calls = refl
+
+not_there : (e : EdgeLists) (calls : List LinkCall) → worked e calls (record { idle = true; list = [] }) ≡ idles (beginning (seen e) calls)
+unfolding worked idles
+not_there e calls = refl
+
+pub lost_idle : (e : EdgeLists) (told : Answers) (peer : EdgeId) (calls : List LinkCall) → has_end (seen e) peer ≡ false → worked e calls (record { idle = true; list = [] }) ≡ lost_input e.plan told peer (beginning (seen e) calls)
+lost_idle e told peer calls none =
+    not_there e calls ∙ sym (ap (λ (b : Bool). cond b (mends e.plan told (happens_with_ends told peer (Closed reason.Closed) (beginning (seen e) calls))) (idles (beginning (seen e) calls))) none)
+
+pub lost_done : (e : EdgeLists) (told : Answers) (peer : EdgeId) (calls : List LinkCall) (work : Work) → has_end (seen e) peer ≡ true
+    → work ≡ mends e.plan told (happens_with_ends told peer (Closed reason.Closed) (beginning (seen e) calls)) → work ≡ lost_input e.plan told peer (beginning (seen e) calls)
+lost_done e told peer calls work there is =
+    is ∙ sym (ap (λ (b : Bool). cond b (mends e.plan told (happens_with_ends told peer (Closed reason.Closed) (beginning (seen e) calls))) (idles (beginning (seen e) calls))) there)
+
+pub none_by : (x : Option Peering) → is_there x ≡ false → x ≡ None
+none_by None is = refl
+none_by (Some kept) is = absurd (cc (is))
+
+pub octets_idle : (e : EdgeLists) (told : Answers) (peer : EdgeId) (octets : List ℕ) (calls : List LinkCall) → has_end (seen e) peer ≡ false
+    → worked e calls (record { idle = true; list = [] }) ≡ octets_input e.plan told peer octets ((seen e).peering peer.0) (beginning (seen e) calls)
+octets_idle e told peer octets calls none =
+    not_there e calls ∙ sym (ap (λ (x : Option Peering). octets_input e.plan told peer octets x (beginning (seen e) calls)) (none_by ((seen e).peering peer.0) none))
+
+pub octets_done : (e : EdgeLists) (told : Answers) (peer : EdgeId) (octets : List ℕ) (calls : List LinkCall) (work : Work) → has_end (seen e) peer ≡ true
+    → work ≡ mends e.plan told (hears_on e.plan told peer octets ((seen e).peering peer.0) (beginning (seen e) calls))
+    → work ≡ octets_input e.plan told peer octets ((seen e).peering peer.0) (beginning (seen e) calls)
+octets_done e told peer octets calls work there is =
+    let (kept, some) = there_some ((seen e).peering peer.0) there in
+    is
+    ∙ (ap (λ (x : Option Peering). mends e.plan told (hears_on e.plan told peer octets x (beginning (seen e) calls))) some
+    ∙ ap (λ (x : Option Peering). octets_input e.plan told peer octets x (beginning (seen e) calls)) (sym some))
+
+pub restart_done : (e mid now : EdgeLists) (calls : List LinkCall) → seen mid ≡ without_ends (without_peerings (seen e)) → seen now ≡ with_learned (λ service. []) (seen mid)
+    → worked now calls (record { idle = false; list = [] }) ≡ restart_input (beginning (seen e) calls)
+unfolding worked changes with_learned without_ends without_peerings
+restart_done e mid now calls dropped cleared =
+    ap (λ (s : EdgeState). record { edge = s; calls = calls; effects = []; idle = false }) (cleared ∙ ap (with_learned (λ service. [])) dropped)
+
+-- ---- ticks
+
+ticks_at : (e : EdgeLists) → e.ticks ≡ (seen e).ticks
+unfolding seen
+ticks_at e = refl
+
+counted_at : (e mid : EdgeLists) (calls : List LinkCall) → seen mid ≡ with_ticks (later e.ticks) (seen e) → at_edge (seen mid) calls [] ≡ changes counted (beginning (seen e) calls)
+unfolding at_edge changes
+counted_at e mid calls counts =
+    ap (λ (s : EdgeState). record { edge = s; calls = calls; effects = []; idle = false }) (counts ∙ ap (λ (n : ℕ). with_ticks (later n) (seen e)) (ticks_at e))
+
+forgot_at : (mid now : EdgeLists) (plan : Plan) (calls : List LinkCall) (list : List Effect) → mid.plan ≡ plan → seen now ≡ forgetting mid.plan (seen mid) → at_edge (seen now) calls list ≡ changes (forgetting plan) (at_edge (seen mid) calls list)
+unfolding at_edge changes
+forgot_at mid now plan calls list same is = ap (λ (s : EdgeState). record { edge = s; calls = calls; effects = list; idle = false }) (is ∙ ap (λ (p : Plan). forgetting p (seen mid)) same)
+
+pub ticked : (told : Answers) (e mid ticks now : EdgeLists) (calls new : List LinkCall) (list : List Effect)
+    → Keeps e mid → Keeps mid ticks → seen mid ≡ with_ticks (later e.ticks) (seen e)
+    → at_edge (seen ticks) new list ≡ ticks_sessions told 0 (length mid.plan.edges) (at_edge (seen mid) calls [])
+    → seen now ≡ forgetting ticks.plan (seen ticks)
+    → at_edge (seen now) new list ≡ changes (forgetting e.plan) (ticks_sessions told 0 (length e.plan.edges) (changes counted (beginning (seen e) calls)))
+ticked told e mid ticks now calls new list first next counts have forgets =
+    forgot_at ticks now e.plan new list (next.plan ∙ first.plan) forgets
+    ∙ (ap (changes (forgetting e.plan)) have
+    ∙ (ap (λ (p : Plan). changes (forgetting e.plan) (ticks_sessions told 0 (length p.edges) (at_edge (seen mid) calls []))) first.plan
+    ∙ ap (λ (w : Work). changes (forgetting e.plan) (ticks_sessions told 0 (length e.plan.edges) w)) (counted_at e mid calls counts)))
+
+-- ---- a connection stands
+
+me_of : (e : EdgeLists) → (seen e).me ≡ e.me
+unfolding seen
+me_of e = refl
+
+pub connected_idle : (e : EdgeLists) (told : Answers) (peer : EdgeId) (calls : List LinkCall) → are_joined e.plan e.me.0 peer.0 && not (has_end (seen e) peer) ≡ false
+    → worked e calls (record { idle = true; list = [] }) ≡ connected_input e.plan told peer (beginning (seen e) calls)
+unfolding worked idles
+connected_idle e told peer calls apart =
+    let test : are_joined e.plan (seen e).me.0 peer.0 && not (has_end (seen e) peer) ≡ false = ap (λ (m : EdgeId). are_joined e.plan m.0 peer.0 && not (has_end (seen e) peer)) (me_of e) ∙ apart in
+    sym (ap (λ (b : Bool). cond b (connects_between e.plan told peer (slice_get e.plan.edges (seen e).me.0) (slice_get e.plan.edges peer.0) (beginning (seen e) calls)) (idles (beginning (seen e) calls))) test)
+
+pub joined_test : (joined stands : Bool) → joined ≡ true → stands ≡ false → joined && not stands ≡ true
+joined_test true false joined stands = refl
+joined_test true true joined stands = absurd (cc (stands))
+joined_test false stands joined here = absurd (cc (joined))
+
+pub apart_test : (joined stands : Bool) → joined ≡ false → joined && not stands ≡ false
+apart_test false stands apart = refl
+apart_test true stands apart = absurd (cc (apart))
+
+pub stands_test : (joined stands : Bool) → stands ≡ true → joined && not stands ≡ false
+stands_test true true here = refl
+stands_test false stands here = refl
+stands_test true false here = absurd (cc (here))
+
+between_none : (plan : Plan) (told : Answers) (peer : EdgeId) (own other : Option EdgePlan) (work : Work) → peers_between own other ≡ None → connects_between plan told peer own other work ≡ idles work
+between_none plan told peer None other work none = refl
+between_none plan told peer (Some own) None work none = refl
+between_none plan told peer (Some own) (Some other) work none = absurd (cc (none))
+
+between_some : (plan : Plan) (told : Answers) (peer : EdgeId) (own other : Option EdgePlan) (peers : Peers) (work : Work) → peers_between own other ≡ Some peers → connects_between plan told peer own other work ≡ mends plan told (connects told peer (connection_with peers) work)
+between_some plan told peer None other peers work some = absurd (cc (some))
+between_some plan told peer (Some own) None peers work some = absurd (cc (some))
+between_some plan told peer (Some own) (Some other) peers work some =
+    let same : peers_of own other ≡ peers = cc (some) in
+    ap (λ (p : Peers). mends plan told (connects told peer (connection_with p) work)) same
+
+connects_by : (e : EdgeLists) (told : Answers) (peer : EdgeId) (work : Work) → work.edge ≡ seen e → are_joined e.plan e.me.0 peer.0 && not (has_end (seen e) peer) ≡ true
+    → connected_input e.plan told peer work ≡ connects_between e.plan told peer (slice_get e.plan.edges e.me.0) (slice_get e.plan.edges peer.0) work
+connects_by e told peer work is test =
+    ap (λ (s : EdgeState). cond (are_joined e.plan s.me.0 peer.0 && not (has_end s peer)) (connects_between e.plan told peer (slice_get e.plan.edges s.me.0) (slice_get e.plan.edges peer.0) work) (idles work)) is
+    ∙ (ap (λ (m : EdgeId). cond (are_joined e.plan m.0 peer.0 && not (has_end (seen e) peer)) (connects_between e.plan told peer (slice_get e.plan.edges m.0) (slice_get e.plan.edges peer.0) work) (idles work)) (me_of e)
+    ∙ ap (λ (b : Bool). cond b (connects_between e.plan told peer (slice_get e.plan.edges e.me.0) (slice_get e.plan.edges peer.0) work) (idles work)) test)
+
+pub connected_none : (e : EdgeLists) (told : Answers) (peer : EdgeId) (peers : Option Peers) (calls : List LinkCall) → are_joined e.plan e.me.0 peer.0 && not (has_end (seen e) peer) ≡ true
+    → peers ≡ peers_between (slice_get e.plan.edges e.me.0) (slice_get e.plan.edges peer.0) → peers ≡ None
+    → worked e calls (record { idle = true; list = [] }) ≡ connected_input e.plan told peer (beginning (seen e) calls)
+unfolding worked idles
+connected_none e told peer peers calls test is none =
+    sym (connects_by e told peer (beginning (seen e) calls) refl test ∙ between_none e.plan told peer (slice_get e.plan.edges e.me.0) (slice_get e.plan.edges peer.0) (beginning (seen e) calls) (sym is ∙ none))
+
+pub connected_done : (e : EdgeLists) (told : Answers) (peer : EdgeId) (found : Option Peers) (peers : Peers) (calls : List LinkCall) (work : Work) → are_joined e.plan e.me.0 peer.0 && not (has_end (seen e) peer) ≡ true
+    → found ≡ peers_between (slice_get e.plan.edges e.me.0) (slice_get e.plan.edges peer.0) → found ≡ Some peers
+    → work ≡ mends e.plan told (connects told peer (connection_with peers) (beginning (seen e) calls))
+    → work ≡ connected_input e.plan told peer (beginning (seen e) calls)
+connected_done e told peer found peers calls work test is some connected =
+    connected
+    ∙ sym (connects_by e told peer (beginning (seen e) calls) refl test ∙ between_some e.plan told peer (slice_get e.plan.edges e.me.0) (slice_get e.plan.edges peer.0) peers (beginning (seen e) calls) (sym is ∙ some))
+
+pub peer_within : (plan : Plan) (own : Option EdgePlan) (peer : EdgeId) (peers : Peers) → peers_between own (slice_get plan.edges peer.0) ≡ Some peers → peer.0 < length plan.edges
+peer_within plan own peer peers some = by own (slice_get plan.edges peer.0) refl some where
+  by : (own other : Option EdgePlan) → slice_get plan.edges peer.0 ≡ other → peers_between own other ≡ Some peers → peer.0 < length plan.edges
+  by None other is some = absurd (cc (some))
+  by (Some own) None is some = absurd (cc (some))
+  by (Some own) (Some other) is some = slice_get_within plan.edges peer.0 other is
+
+-- ---- wires
+
+pub passes_edge : (e : EdgeLists) (wire : WireId) → IsEdge e → passes e.control.plan e.control.me wire ≡ passes e.plan e.me wire
+passes_edge e wire is = ap (λ (p : Plan). passes p e.control.me wire) is.plan ∙ ap (λ (m : EdgeId). passes e.plan m wire) is.me
+
+pub ends_edge : (e : EdgeLists) (wire : WireId) → IsEdge e → ends_here e.control.plan e.control.me wire ≡ ends_here e.plan e.me wire
+ends_edge e wire is = ap (λ (p : Plan). ends_here p e.control.me wire) is.plan ∙ ap (λ (m : EdgeId). ends_here e.plan m wire) is.me
+
+pub wire_seen : (e : EdgeLists) (k : ℕ) → (controlled e.control (rest_of e)).wire_on k ≡ (seen e).wire_on k
+unfolding seen controlled
+wire_seen e k = refl
+
+pub bits_seen : (e : EdgeLists) (k : ℕ) → (controlled e.control (rest_of e)).bits k ≡ (seen e).bits k
+unfolding seen controlled
+bits_seen e k = refl
+
+pub apart_eqb : (a b : ℕ) → (a ≡ b → ⊥) → nat_eq a b ≡ false
+apart_eqb a b apart = by (nat_eq a b) refl where
+  by : (x : Bool) → nat_eq a b ≡ x → x ≡ false
+  by false is = refl
+  by true is = absurd (apart (eqb-true a b is))
+
+pub wire_apart : (e : EdgeLists) (told : Answers) (wire : WireId) (on : Bool) (calls : List LinkCall) → passes e.plan e.me wire ≡ false → worked e calls (record { idle = true; list = [] }) ≡ wire_input e.plan told wire on (beginning (seen e) calls)
+unfolding seen
+wire_apart e told wire on calls apart =
+    not_there e calls ∙ sym (ap (λ (b : Bool). cond (b && not (is_same on ((seen e).wire_on wire.0))) (mends e.plan told (changes (turned_wire wire on) (beginning (seen e) calls))) (idles (beginning (seen e) calls))) apart)
+
+and_not : (a b : Bool) → b ≡ true → a && not b ≡ false
+and_not true true is = refl
+and_not false true is = refl
+and_not a false is = absurd (cc (is))
+
+pub wire_already : (e : EdgeLists) (told : Answers) (wire : WireId) (on : Bool) (calls : List LinkCall) → beq ((seen e).wire_on wire.0) on ≡ true → worked e calls (record { idle = true; list = [] }) ≡ wire_input e.plan told wire on (beginning (seen e) calls)
+wire_already e told wire on calls same =
+    not_there e calls ∙ sym (ap (λ (b : Bool). cond b (mends e.plan told (changes (turned_wire wire on) (beginning (seen e) calls))) (idles (beginning (seen e) calls)))
+    (and_not (passes e.plan (seen e).me wire) (is_same on ((seen e).wire_on wire.0)) (same_already on ((seen e).wire_on wire.0) same)))
+
+pub wire_turned : (e : EdgeLists) (told : Answers) (wire : WireId) (on : Bool) (calls : List LinkCall) (work : Work) → passes e.plan e.me wire ≡ true → beq ((seen e).wire_on wire.0) on ≡ false
+    → work ≡ mends e.plan told (changes (turned_wire wire on) (beginning (seen e) calls)) → work ≡ wire_input e.plan told wire on (beginning (seen e) calls)
+unfolding seen
+wire_turned e told wire on calls work through other is =
+    is ∙ sym (ap (λ (b : Bool). cond (b && not (is_same on ((seen e).wire_on wire.0))) (mends e.plan told (changes (turned_wire wire on) (beginning (seen e) calls))) (idles (beginning (seen e) calls))) through
+    ∙ ap (λ (b : Bool). cond (not b) (mends e.plan told (changes (turned_wire wire on) (beginning (seen e) calls))) (idles (beginning (seen e) calls))) (other_before on ((seen e).wire_on wire.0) other))
+
+pub turned_at : (e mid : EdgeLists) (wire : WireId) (on : Bool) (calls : List LinkCall) → seen mid ≡ turned_wire wire on (seen e) → at_edge (seen mid) calls [] ≡ changes (turned_wire wire on) (beginning (seen e) calls)
+unfolding at_edge changes
+turned_at e mid wire on calls is = ap (λ (s : EdgeState). record { edge = s; calls = calls; effects = []; idle = false }) is
+
+pub status_apart : (e : EdgeLists) (told : Answers) (wire : WireId) (bits : ℕ) (calls : List LinkCall) → ends_here e.plan e.me wire ≡ false → worked e calls (record { idle = true; list = [] }) ≡ status_input e.plan told wire bits (beginning (seen e) calls)
+unfolding seen
+status_apart e told wire bits calls apart =
+    not_there e calls ∙ sym (ap (λ (b : Bool). cond (b && not (bits == (seen e).bits wire.0)) (mends e.plan told (changes (with_bits wire bits) (beginning (seen e) calls))) (idles (beginning (seen e) calls))) apart)
+
+pub status_already : (e : EdgeLists) (told : Answers) (wire : WireId) (bits : ℕ) (calls : List LinkCall) → (bits == (seen e).bits wire.0) ≡ true → worked e calls (record { idle = true; list = [] }) ≡ status_input e.plan told wire bits (beginning (seen e) calls)
+status_already e told wire bits calls same =
+    not_there e calls ∙ sym (ap (λ (b : Bool). cond b (mends e.plan told (changes (with_bits wire bits) (beginning (seen e) calls))) (idles (beginning (seen e) calls)))
+    (and_not (ends_here e.plan (seen e).me wire) (bits == (seen e).bits wire.0) same))
+
+pub status_set : (e : EdgeLists) (told : Answers) (wire : WireId) (bits : ℕ) (calls : List LinkCall) (work : Work) → ends_here e.plan e.me wire ≡ true → (bits == (seen e).bits wire.0) ≡ false
+    → work ≡ mends e.plan told (changes (with_bits wire bits) (beginning (seen e) calls)) → work ≡ status_input e.plan told wire bits (beginning (seen e) calls)
+unfolding seen
+status_set e told wire bits calls work here other is =
+    is ∙ sym (ap (λ (b : Bool). cond (b && not (bits == (seen e).bits wire.0)) (mends e.plan told (changes (with_bits wire bits) (beginning (seen e) calls))) (idles (beginning (seen e) calls))) here
+    ∙ ap (λ (b : Bool). cond (not b) (mends e.plan told (changes (with_bits wire bits) (beginning (seen e) calls))) (idles (beginning (seen e) calls))) other)
+
+pub bits_at : (e mid : EdgeLists) (wire : WireId) (bits : ℕ) (calls : List LinkCall) → seen mid ≡ with_bits wire bits (seen e) → at_edge (seen mid) calls [] ≡ changes (with_bits wire bits) (beginning (seen e) calls)
+unfolding at_edge changes
+bits_at e mid wire bits calls is = ap (λ (s : EdgeState). record { edge = s; calls = calls; effects = []; idle = false }) is
+
+-- ---- circuits
+
+pub circuit_at : (e mid : EdgeLists) (circuit : CircuitId) (row : CircuitPlan) (on : Bool) (calls : List LinkCall) → seen mid ≡ turned e.plan circuit row on (seen e) → at_edge (seen mid) calls [] ≡ changes (turned e.plan circuit row on) (beginning (seen e) calls)
+unfolding at_edge changes
+circuit_at e mid circuit row on calls is = ap (λ (s : EdgeState). record { edge = s; calls = calls; effects = []; idle = false }) is
+
+-- ---- what is asked of an end
+
+-- there is an end exactly where there is a place of it
+pub end_asked : {T X : Type 0} (state : T → EndState) (at : X → EndState) (r : Option (Bor T)) (f : Option X) → option_map state (option_copied r) ≡ option_map at f → IsNone r ↔ (f ≡ None)
+end_asked state at None None is = (λ none. refl, λ none. refl)
+end_asked state at None (Some x) is = absurd (cc (is))
+end_asked state at (Some end) None is = absurd (cc (is))
+end_asked state at (Some end) (Some x) is = (λ none. absurd (cc (none)), λ none. absurd (cc (none)))
+
+pub state_asked : {T X : Type 0} (state : T → EndState) (at : X → EndState) (r : Option (Bor T)) (f : Option X) → option_map state (option_copied r) ≡ option_map at f
+    → IfSome r (λ end. IfSome f (λ x. state end.now ≡ at x))
+state_asked state at None f is = tt
+state_asked state at (Some end) None is = tt
+state_asked state at (Some end) (Some x) is = cc (is)
+
+pub end_seen : (e now : EdgeLists) (key : SegKey) (told : Option EndState) → e ≡ now → IsEdge e
+    → ((rest : Rest) → told ≡ option_map (end_at (controlled e.control rest)) (find (is_of_segment key) (end_places e.control.plan e.control.me)))
+    → told ≡ option_map (end_at (seen now)) (find (is_of_segment key) (end_places now.plan now.me))
+end_seen e now key told same is read =
+    read (rest_of e)
+    ∙ (ap (λ (s : EdgeState). option_map (end_at s) (find (is_of_segment key) (end_places e.control.plan e.control.me))) (sym (seen_is e is))
+    ∙ (ap (λ (p : Plan). option_map (end_at (seen e)) (find (is_of_segment key) (end_places p e.control.me))) is.plan
+    ∙ (ap (λ (m : EdgeId). option_map (end_at (seen e)) (find (is_of_segment key) (end_places e.plan m))) is.me
+    ∙ ap (λ (n : EdgeLists). option_map (end_at (seen n)) (find (is_of_segment key) (end_places n.plan n.me))) same)))
+
+pub down_seen : (e now : EdgeLists) (wire : WireId) (told : Option Down) → e ≡ now → IsEdge e
+    → ((rest : Rest) (place : EndPlace) → find (is_end_of_wire wire) (end_places e.control.plan e.control.me) ≡ Some place → told ≡ down_at e.control.plan (controlled e.control rest) place)
+    → IfSome (find (is_end_of_wire wire) (end_places now.plan now.me)) (λ place. told ≡ down_at now.plan (seen now) place)
+down_seen e now wire told same is read =
+    subst (λ (n : EdgeLists). IfSome (find (is_end_of_wire wire) (end_places n.plan n.me)) (λ place. told ≡ down_at n.plan (seen n) place)) same (by (find (is_end_of_wire wire) (end_places e.plan e.me)) refl) where
+      by : (f : Option EndPlace) → find (is_end_of_wire wire) (end_places e.plan e.me) ≡ f → IfSome f (λ place. told ≡ down_at e.plan (seen e) place)
+      by None at = tt
+      by (Some place) at =
+          read (rest_of e) place (ap (λ (p : Plan). find (is_end_of_wire wire) (end_places p e.control.me)) is.plan ∙ (ap (λ (m : EdgeId). find (is_end_of_wire wire) (end_places e.plan m)) is.me ∙ at))
+          ∙ (ap (λ (p : Plan). down_at p (controlled e.control (rest_of e)) place) is.plan ∙ ap (λ (s : EdgeState). down_at e.plan s place) (sym (seen_is e is)))

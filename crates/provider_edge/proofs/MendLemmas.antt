@@ -1,0 +1,268 @@
+-- An edge mends its ends, step by step.
+use Rattle.std.proofs.Common.{◌≡◌, ◌<◌, ◌≤◌, ◌+◌, ◌-◌, ◌==◌, ◌||◌, ◌∙◌, ℕ, zero, suc, Bool, true, false, List, [], ◌∷◌, Option, Some, cond, not, length, drop, slice_index_or, refl, ap, sym, subst, arith}
+use Rattle.std.specs.List.{All, slice_get}
+use Rattle.std.proofs.lemmas.List.Elements.{All-get_or}
+use Rattle.std.proofs.lemmas.Option.{get_or_from_slice_get, slice_get_within}
+use Rattle.net_base.specs.declared.outside.link_call.LinkCall.{LinkCall}
+use Rattle.net_base.specs.declared.plan.Plan.{Plan}
+use Rattle.net_base.specs.declared.plan.offer.Offer.{Offer}
+use Rattle.net_base.specs.declared.plan.places.EdgeId.{EdgeId}
+use Rattle.net_base.specs.declared.plan.places.WireId.{WireId}
+use Rattle.net_base.specs.declared.plan.wire_plan.WirePlan.{WirePlan}
+use Rattle.net_base.specs.declared.trace.down.Down.{Down}
+use Rattle.net_base.specs.plan.Accepted.{IsChecked, IsOffer, IsWireOf}
+use Rattle.net_base.specs.plan.Paths.{is_first, offer_of}
+use Rattle.net_base.specs.plan.Places.{wire_row}
+use Rattle.pw_signalling.specs.AnyEnd.{end_of}
+use Rattle.pw_signalling.specs.Down.{down}
+use Rattle.pw_signalling.specs.End.{EndState, LocalPart, Idle, Advertised, Withdrawing}
+use Rattle.pw_signalling.specs.declared.binding.Binding.{Binding}
+use Rattle.pw_signalling.specs.declared.end_role.EndRole.{EndRole}
+use Rattle.pw_signalling.specs.declared.pw_end.PwEnd.{PwEnd}
+use Rattle.pw_signalling.specs.declared.told.Told.{Told}
+use Rattle.pw_tlvs.specs.declared.pw_status.PwStatus.{PwStatus}
+use Rattle.pw_ends.specs.Ends.{end_in, no_place, place_of}
+use Rattle.pw_ends.specs.Wish.{wish_by}
+use Rattle.edge_model.specs.declared.effect.Effect.{Effect}
+use Rattle.edge_model.specs.declared.end_place.EndPlace.{EndPlace}
+use Rattle.edge_model.specs.EndPlaces.{end_places}
+use Rattle.edge_model.specs.Mend.{advertises_wish, and_says, each_end, mends, mends_again, mends_end, mends_few, mends_local, mends_once, mends_status, mends_status_of, stays, tells_down, tells_downs, tells_new_status, tells_over, terminal_wish, wish, withdraws_unless}
+use Rattle.edge_model.specs.Put.{Spoken}
+use Rattle.edge_model.specs.Role.{down_at, role_at, status_to_tell}
+use Rattle.edge_model.specs.State.{EdgeState, end_at}
+use Rattle.edge_model.specs.Work.{Answers, Work}
+use Rattle.provider_edge.specs.Control.{ControlLists, KeepsPlan, Rest, at_control, controlled}
+use Rattle.provider_edge.specs.Mending.{mended_down}
+use Rattle.provider_edge.specs.Peering.{at_edge}
+
+-- ---- rounds
+
+few_again : (plan : Plan) (told : Answers) (n i : ℕ) (work next : Work) (failed : Bool) → i < n → record { work = next; failed = failed } ≡ mends_once plan told work → failed ≡ true
+    → mends_few plan told (n - i) work ≡ mends_few plan told (n - (i + 1)) next
+few_again plan told n i work next failed below once again =
+    let more : n - i ≡ suc (n - (i + 1)) = omega arith in
+    rw more
+    (ap (mends_again (mends_few plan told (n - (i + 1)))) (sym once)
+    ∙ ap (λ (b : Bool). mends_again (mends_few plan told (n - (i + 1))) (record { work = next; failed = b })) again)
+
+few_done : (plan : Plan) (told : Answers) (n i : ℕ) (work next : Work) (failed : Bool) → i < n → record { work = next; failed = failed } ≡ mends_once plan told work → failed ≡ false
+    → mends_few plan told (n - i) work ≡ next
+few_done plan told n i work next failed below once all =
+    let more : n - i ≡ suc (n - (i + 1)) = omega arith in
+    rw more
+    (ap (mends_again (mends_few plan told (n - (i + 1)))) (sym once)
+    ∙ ap (λ (b : Bool). mends_again (mends_few plan told (n - (i + 1))) (record { work = next; failed = b })) all)
+
+few_end : (plan : Plan) (told : Answers) (n i : ℕ) (work : Work) → n ≤ i → mends_few plan told (n - i) work ≡ work
+few_end plan told n i work past = let none : n - i ≡ 0 = omega arith in rw none refl
+
+pub round_again : (c now : ControlLists) (told : Answers) (n i : ℕ) (start work next : Work) (failed : Bool) → KeepsPlan c now → i < n → mends_few c.plan told n start ≡ mends_few c.plan told (n - i) work
+    → record { work = next; failed = failed } ≡ mends_once now.plan told work → failed ≡ true → mends_few c.plan told n start ≡ mends_few c.plan told (n - (i + 1)) next
+round_again c now told n i start work next failed keeps below so_far one again =
+    so_far ∙ few_again c.plan told n i work next failed below (one ∙ ap (λ (p : Plan). mends_once p told work) keeps.plan) again
+
+pub round_done : (c now : ControlLists) (told : Answers) (n i : ℕ) (start work next : Work) (failed : Bool) → KeepsPlan c now → n ≡ suc (length c.plan.edges) → i < n → mends_few c.plan told n start ≡ mends_few c.plan told (n - i) work
+    → record { work = next; failed = failed } ≡ mends_once now.plan told work → failed ≡ false → next ≡ mends c.plan told start
+round_done c now told n i start work next failed keeps rounds below so_far one all =
+    sym (so_far ∙ few_done c.plan told n i work next failed below (one ∙ ap (λ (p : Plan). mends_once p told work) keeps.plan) all) ∙ ap (λ (k : ℕ). mends_few c.plan told k start) rounds
+
+pub rounds_end : (c : ControlLists) (told : Answers) (n i : ℕ) (start work : Work) → n ≡ suc (length c.plan.edges) → n ≤ i → mends_few c.plan told n start ≡ mends_few c.plan told (n - i) work → work ≡ mends c.plan told start
+rounds_end c told n i start work rounds past so_far = sym (so_far ∙ few_end c.plan told n i work past) ∙ ap (λ (k : ℕ). mends_few c.plan told k start) rounds
+
+-- ---- all steps once
+
+pub once_done : (plan : Plan) (told : Answers) (me : EdgeId) (start last : Work) (ends statuses : Spoken) → start.edge.me ≡ me
+    → ends ≡ each_end (mends_end plan told) (end_places plan me) (stays start)
+    → statuses ≡ each_end (mends_status plan told) (end_places plan me) ends
+    → last ≡ tells_downs plan (end_places plan me) statuses.work
+    → record { work = last; failed = statuses.failed } ≡ mends_once plan told start
+once_done plan told me start last ends statuses here first next downs =
+    ap (λ (w : Work). record { work = w; failed = statuses.failed }) downs
+    ∙ (ap (λ (s : Spoken). record { work = tells_downs plan (end_places plan me) s.work; failed = s.failed }) next
+    ∙ (ap (λ (e : Spoken). record { work = tells_downs plan (end_places plan me) (each_end (mends_status plan told) (end_places plan me) e).work; failed = (each_end (mends_status plan told) (end_places plan me) e).failed }) first
+    ∙ ap (λ (m : EdgeId). record { work = tells_downs plan (end_places plan m) (each_end (mends_status plan told) (end_places plan m) (each_end (mends_end plan told) (end_places plan m) (stays start))).work; failed = (each_end (mends_status plan told) (end_places plan m) (each_end (mends_end plan told) (end_places plan m) (stays start))).failed }) (sym here)))
+
+pub statuses_kept : (c now : ControlLists) (told : Answers) (m x : Spoken) → KeepsPlan c now → x ≡ each_end (mends_status now.plan told) (end_places now.plan now.me) m → x ≡ each_end (mends_status c.plan told) (end_places c.plan c.me) m
+statuses_kept c now told m x keeps is =
+    is ∙ (ap (λ (p : Plan). each_end (mends_status p told) (end_places p now.me) m) keeps.plan ∙ ap (λ (e : EdgeId). each_end (mends_status c.plan told) (end_places c.plan e) m) keeps.me)
+
+pub downs_kept : (c now : ControlLists) (work x : Work) → KeepsPlan c now → x ≡ tells_downs now.plan (end_places now.plan now.me) work → x ≡ tells_downs c.plan (end_places c.plan c.me) work
+downs_kept c now work x keeps is =
+    is ∙ (ap (λ (p : Plan). tells_downs p (end_places p now.me) work) keeps.plan ∙ ap (λ (e : EdgeId). tells_downs c.plan (end_places c.plan e) work) keeps.me)
+
+pub me_at : (c : ControlLists) (rest : Rest) (calls : List LinkCall) (out : List Effect) → (at_control c rest calls out).edge.me ≡ c.me
+unfolding controlled at_edge
+me_at c rest calls out = refl
+
+-- ---- each end in turn
+
+each_more : (mend : EndPlace → Work → Spoken) (places : List EndPlace) (i : ℕ) (d : EndPlace) (m : Spoken) → i < length places
+    → each_end mend (drop i places) m ≡ each_end mend (drop (i + 1) places) (and_says m (mend (slice_index_or places i d)))
+each_more mend [] i d m below = absurd (omega arith)
+each_more mend (x ∷ places) zero d m below = refl
+each_more mend (x ∷ places) (suc i) d m below =
+    let next : suc i + 1 ≡ suc (i + 1) = omega arith in
+    rw next (each_more mend places i d m (omega arith))
+
+each_past : (mend : EndPlace → Work → Spoken) (places : List EndPlace) (i : ℕ) (m : Spoken) → length places ≤ i → each_end mend (drop i places) m ≡ m
+each_past mend [] zero m past = refl
+each_past mend [] (suc i) m past = refl
+each_past mend (x ∷ places) zero m past = absurd (omega arith)
+each_past mend (x ∷ places) (suc i) m past = each_past mend places i m (omega arith)
+
+downs_more : (plan : Plan) (places : List EndPlace) (i : ℕ) (d : EndPlace) (work : Work) → i < length places
+    → tells_downs plan (drop i places) work ≡ tells_downs plan (drop (i + 1) places) (mended_down plan (slice_index_or places i d) work)
+downs_more plan [] i d work below = absurd (omega arith)
+downs_more plan (x ∷ places) zero d work below = refl
+downs_more plan (x ∷ places) (suc i) d work below =
+    let next : suc i + 1 ≡ suc (i + 1) = omega arith in
+    rw next (downs_more plan places i d work (omega arith))
+
+downs_past : (plan : Plan) (places : List EndPlace) (i : ℕ) (work : Work) → length places ≤ i → tells_downs plan (drop i places) work ≡ work
+downs_past plan [] zero work past = refl
+downs_past plan [] (suc i) work past = refl
+downs_past plan (x ∷ places) zero work past = absurd (omega arith)
+downs_past plan (x ∷ places) (suc i) work past = downs_past plan places i work (omega arith)
+
+or_true : (b : Bool) → b || true ≡ true
+or_true true = refl
+or_true false = refl
+
+or_false : (b : Bool) → b || false ≡ b
+or_false true = refl
+or_false false = refl
+
+-- one end more, at which a message was not taken, or all were
+pub said_failed : (before failed : Bool) (start next : Work) (mend : Work → Spoken) → record { work = next; failed = failed } ≡ mend start → failed ≡ true → record { work = next; failed = true } ≡ and_says (record { work = start; failed = before }) mend
+said_failed before failed start next mend one refused =
+    sym (ap (λ (s : Spoken). record { work = s.work; failed = before || s.failed }) (sym one) ∙ (ap (λ (b : Bool). record { work = next; failed = before || b }) refused ∙ ap (λ (b : Bool). record { work = next; failed = b }) (or_true before)))
+
+pub said_taken : (before failed : Bool) (start next : Work) (mend : Work → Spoken) → record { work = next; failed = failed } ≡ mend start → failed ≡ false → record { work = next; failed = before } ≡ and_says (record { work = start; failed = before }) mend
+said_taken before failed start next mend one taken =
+    sym (ap (λ (s : Spoken). record { work = s.work; failed = before || s.failed }) (sym one) ∙ (ap (λ (b : Bool). record { work = next; failed = before || b }) taken ∙ ap (λ (b : Bool). record { work = next; failed = b }) (or_false before)))
+
+pub ends_next : (mends : Plan → EndPlace → Work → Spoken) (c now : ControlLists) (i : ℕ) (m next whole : Spoken) → KeepsPlan c now → c.ends.places ≡ end_places c.plan c.me → i < length now.ends.places
+    → whole ≡ each_end (mends c.plan) (drop i (end_places c.plan c.me)) m → next ≡ and_says m (mends now.plan (place_of now.ends i))
+    → whole ≡ each_end (mends c.plan) (drop (i + 1) (end_places c.plan c.me)) next
+ends_next mends c now i m next whole keeps placed below so_far one =
+    so_far
+    ∙ (each_more (mends c.plan) (end_places c.plan c.me) i no_place m (subst (λ (l : List EndPlace). i < length l) (keeps.places ∙ placed) below)
+    ∙ ap (each_end (mends c.plan) (drop (i + 1) (end_places c.plan c.me)))
+    (sym (one ∙ (ap (λ (p : Plan). and_says m (mends p (place_of now.ends i))) keeps.plan ∙ ap (λ (l : List EndPlace). and_says m (mends c.plan (slice_index_or l i no_place))) (keeps.places ∙ placed)))))
+
+pub ends_past : (mends : Plan → EndPlace → Work → Spoken) (c : ControlLists) (i : ℕ) (m whole : Spoken) → c.ends.places ≡ end_places c.plan c.me → length c.ends.places ≤ i
+    → whole ≡ each_end (mends c.plan) (drop i (end_places c.plan c.me)) m → m ≡ whole
+ends_past mends c i m whole placed past so_far = sym (so_far ∙ each_past (mends c.plan) (end_places c.plan c.me) i m (subst (λ (l : List EndPlace). length l ≤ i) placed past))
+
+pub downs_next : (c now : ControlLists) (i : ℕ) (work next whole : Work) → KeepsPlan c now → c.ends.places ≡ end_places c.plan c.me → i < length now.ends.places
+    → whole ≡ tells_downs c.plan (drop i (end_places c.plan c.me)) work → next ≡ mended_down now.plan (place_of now.ends i) work
+    → whole ≡ tells_downs c.plan (drop (i + 1) (end_places c.plan c.me)) next
+downs_next c now i work next whole keeps placed below so_far one =
+    so_far
+    ∙ (downs_more c.plan (end_places c.plan c.me) i no_place work (subst (λ (l : List EndPlace). i < length l) (keeps.places ∙ placed) below)
+    ∙ ap (tells_downs c.plan (drop (i + 1) (end_places c.plan c.me)))
+    (sym (one ∙ (ap (λ (p : Plan). mended_down p (place_of now.ends i) work) keeps.plan ∙ ap (λ (l : List EndPlace). mended_down c.plan (slice_index_or l i no_place) work) (keeps.places ∙ placed)))))
+
+pub downs_end : (c : ControlLists) (i : ℕ) (work whole : Work) → c.ends.places ≡ end_places c.plan c.me → length c.ends.places ≤ i
+    → whole ≡ tells_downs c.plan (drop i (end_places c.plan c.me)) work → work ≡ whole
+downs_end c i work whole placed past so_far = sym (so_far ∙ downs_past c.plan (end_places c.plan c.me) i work (subst (λ (l : List EndPlace). length l ≤ i) placed past))
+
+pub within_kept : (c now : ControlLists) (i : ℕ) → KeepsPlan c now → i < length c.ends.places → i < length now.ends.places
+within_kept c now i keeps below = subst (λ (l : List EndPlace). i < length l) (sym keeps.places) below
+
+-- ---- one end
+
+local_at : (c : ControlLists) (rest : Rest) (calls : List LinkCall) (out : List Effect) (slot : ℕ) → end_at (at_control c rest calls out).edge (place_of c.ends slot) ≡ end_in c.ends slot
+unfolding controlled at_edge
+local_at c rest calls out slot = refl
+
+pub idle_declined : (plan : Plan) (told : Answers) (place : EndPlace) (work : Work) (declined : Bool) → (end_at work.edge place).local ≡ Idle declined → declined ≡ true → stays work ≡ mends_end plan told place work
+idle_declined plan told place work declined is so =
+    sym (ap (λ (l : LocalPart). mends_local plan told place l work) is ∙ ap (λ (b : Bool). mends_local plan told place (Idle b) work) so)
+
+pub idle_wishes : (plan : Plan) (told : Answers) (place : EndPlace) (work : Work) (declined : Bool) (put : Spoken) → (end_at work.edge place).local ≡ Idle declined → declined ≡ false
+    → put ≡ advertises_wish told place (wish plan work.edge place) work → put ≡ mends_end plan told place work
+idle_wishes plan told place work declined put is so puts =
+    puts ∙ sym (ap (λ (l : LocalPart). mends_local plan told place l work) is ∙ ap (λ (b : Bool). mends_local plan told place (Idle b) work) so)
+
+pub advertised_ends : (plan : Plan) (told : Answers) (place : EndPlace) (work : Work) (label : ℕ) (content : Told) (put : Spoken) → (end_at work.edge place).local ≡ Advertised label content
+    → put ≡ withdraws_unless told place label content (wish plan work.edge place) work → put ≡ mends_end plan told place work
+advertised_ends plan told place work label content put is puts = puts ∙ sym (ap (λ (l : LocalPart). mends_local plan told place l work) is)
+
+pub withdrawing_stays : (plan : Plan) (told : Answers) (place : EndPlace) (work : Work) (label : ℕ) → (end_at work.edge place).local ≡ Withdrawing label → stays work ≡ mends_end plan told place work
+withdrawing_stays plan told place work label is = sym (ap (λ (l : LocalPart). mends_local plan told place l work) is)
+
+-- ---- a status
+
+pub status_idle : (plan : Plan) (told : Answers) (place : EndPlace) (work : Work) (declined : Bool) → (end_at work.edge place).local ≡ Idle declined → stays work ≡ mends_status plan told place work
+status_idle plan told place work declined is = sym (ap (λ (l : LocalPart). mends_status_of plan told place l work) is)
+
+pub status_withdrawing : (plan : Plan) (told : Answers) (place : EndPlace) (work : Work) (label : ℕ) → (end_at work.edge place).local ≡ Withdrawing label → stays work ≡ mends_status plan told place work
+status_withdrawing plan told place work label is = sym (ap (λ (l : LocalPart). mends_status_of plan told place l work) is)
+
+pub status_over : (plan : Plan) (told : Answers) (place : EndPlace) (work : Work) (label : ℕ) (content : Told) (put : Spoken) → (end_at work.edge place).local ≡ Advertised label content
+    → put ≡ tells_over told place content (status_to_tell plan work.edge place) content.status work → put ≡ mends_status plan told place work
+status_over plan told place work label content put is puts = puts ∙ sym (ap (λ (l : LocalPart). mends_status_of plan told place l work) is)
+
+pub over_same : (told : Answers) (place : EndPlace) (content : Told) (status now last : PwStatus) (work : Work) → status ≡ now → (last.0 == status.0) ≡ true → stays work ≡ tells_over told place content now (Some last) work
+over_same told place content status now last work is same =
+    sym (ap (λ (b : Bool). cond b (stays work) (tells_new_status told place content status work)) same) ∙ ap (λ (s : PwStatus). tells_over told place content s (Some last) work) is
+
+pub over_new : (told : Answers) (place : EndPlace) (content : Told) (status now last : PwStatus) (work : Work) (put : Spoken) → status ≡ now → (last.0 == status.0) ≡ false
+    → put ≡ tells_new_status told place content status work → put ≡ tells_over told place content now (Some last) work
+over_new told place content status now last work put is other puts =
+    puts ∙ (sym (ap (λ (b : Bool). cond b (stays work) (tells_new_status told place content status work)) other) ∙ ap (λ (s : PwStatus). tells_over told place content s (Some last) work) is)
+
+-- the local part of an end that was read
+pub local_is : (c : ControlLists) (rest : Rest) (calls : List LinkCall) (out : List Effect) (slot : ℕ) (read end : PwEnd) → end_of read ≡ end_in c.ends slot → read ≡ end
+    → (end_at (at_control c rest calls out).edge (place_of c.ends slot)).local ≡ (end_of end).local
+local_is c rest calls out slot read end is so = ap (λ (e : EndState). e.local) (local_at c rest calls out slot ∙ (sym is ∙ ap end_of so))
+
+-- ---- a wire that began to forward, or stopped
+
+pub told_down : (plan : Plan) (place at : EndPlace) (down : Option Down) (start work : Work) → at ≡ place → not at.terminal ≡ false → down ≡ down_at plan start.edge place → work ≡ tells_down place down start → work ≡ mended_down plan place start
+told_down plan place at down start work is so why told =
+    told ∙ (ap (λ (d : Option Down). tells_down place d start) why ∙ sym (ap (λ (b : Bool). cond b (tells_down place (down_at plan start.edge place) start) start) (ap (λ (p : EndPlace). p.terminal) (sym is) ∙ (sym (not_not at.terminal) ∙ ap not so)))) where
+      not_not : (b : Bool) → not (not b) ≡ b
+      not_not true = refl
+      not_not false = refl
+
+pub down_edge : (plan : Plan) (place : EndPlace) (down : Option Down) (edge : EdgeState) (calls : List LinkCall) (out : List Effect) → down ≡ down_at plan edge place → down ≡ down_at plan (at_edge edge calls out).edge place
+unfolding at_edge
+down_edge plan place down edge calls out is = is
+
+-- ---- what an end should tell
+
+row_holds : {A : Type 0} (P : A → Type 0) (rows : List A) (place : ℕ) (row : A) → slice_get rows place ≡ Some row → All P rows → P row
+row_holds P rows place row is all = subst P (get_or_from_slice_get rows place row row is) (All-get_or P rows place row (slice_get_within rows place row is) all)
+
+pub offer_holds : (plan : Plan) (wire : WireId) (row : WirePlan) (me : ℕ) → IsChecked plan → wire_row plan wire ≡ Some row → IsOffer (offer_of row me)
+offer_holds plan wire row me checked is = of (is_first me row.path) where
+  placed : IsWireOf plan row
+  placed = row_holds (IsWireOf plan) plan.wires wire.0 row is checked.wires
+
+  of : (b : Bool) → IsOffer (cond b row.near row.far)
+  of true = placed.near
+  of false = placed.far
+
+pub wish_read : (c : ControlLists) (rest : Rest) (slot : ℕ) (row : WirePlan) (place : EndPlace) (offer : Offer) (end : EndState) (remote : Option Binding) (bits : ℕ) (status : PwStatus) (wished : Option Told) → place ≡ place_of c.ends slot
+    → offer ≡ offer_of row c.me.0 → end ≡ end_in c.ends slot → remote ≡ end.remote → bits ≡ (controlled c rest).bits place.wire.0 → status ≡ status_to_tell c.plan (controlled c rest) (place_of c.ends slot)
+    → wished ≡ wish_by offer remote bits status → wished ≡ terminal_wish c.plan (controlled c rest) (place_of c.ends slot) (offer_of row (controlled c rest).me.0)
+unfolding controlled
+wish_read c rest slot row place offer end remote bits status wished at offers read held bit tells is =
+    is
+    ∙ (ap (λ (o : Offer). wish_by o remote bits status) offers
+    ∙ (ap (λ (r : Option Binding). wish_by (offer_of row c.me.0) r bits status) (held ∙ ap (λ (e : EndState). e.remote) read)
+    ∙ (ap (λ (b : ℕ). wish_by (offer_of row c.me.0) (end_in c.ends slot).remote b status) (bit ∙ ap (λ (p : EndPlace). (controlled c rest).bits p.wire.0) at)
+    ∙ ap (λ (s : PwStatus). wish_by (offer_of row c.me.0) (end_in c.ends slot).remote ((controlled c rest).bits (place_of c.ends slot).wire.0) s) tells)))
+
+-- why an end does not forward
+pub down_read : (c : ControlLists) (rest : Rest) (slot : ℕ) (place : EndPlace) (end : EndState) (role : EndRole) (bits : ℕ) (why : Option Down) → place ≡ place_of c.ends slot
+    → end ≡ end_in c.ends slot → role ≡ role_at c.plan (controlled c rest) (place_of c.ends slot) → bits ≡ (controlled c rest).bits place.wire.0
+    → why ≡ down role bits end → why ≡ down_at c.plan (controlled c rest) (place_of c.ends slot)
+unfolding controlled
+down_read c rest slot place end role bits why at read is bit so =
+    so
+    ∙ (ap (λ (r : EndRole). down r bits end) is
+    ∙ (ap (λ (b : ℕ). down (role_at c.plan (controlled c rest) (place_of c.ends slot)) b end) (bit ∙ ap (λ (p : EndPlace). (controlled c rest).bits p.wire.0) at)
+    ∙ ap (λ (e : EndState). down (role_at c.plan (controlled c rest) (place_of c.ends slot)) ((controlled c rest).bits (place_of c.ends slot).wire.0) e) read))

@@ -1,0 +1,188 @@
+-- The rows of the messages about pseudowires, and what an end puts, exit by exit.
+use Rattle.std.proofs.Common.{◌≡◌, ◌<◌, ◌≤◌, ◌==◌, ◌||◌, ◌&&◌, ◌∙◌, ℕ, zero, suc, Bool, true, false, List, [], ◌∷◌, ◌++◌, Option, Some, None, cond, option_map, option_and_then, nat_eq, refl, ap, sym, subst, arith}
+use Rattle.std.proofs.lemmas.Bool.{eq-eqb, eqb-true, ne_eqb}
+use Rattle.net_base.specs.declared.outside.link_call.LinkCall.{LinkCall}
+use Rattle.net_base.specs.declared.plan.Plan.{Plan}
+use Rattle.net_base.specs.declared.plan.offer.Offer.{Offer}
+use Rattle.net_base.specs.declared.plan.places.EdgeId.{EdgeId}
+use Rattle.net_base.specs.declared.plan.places.WireId.{WireId}
+use Rattle.net_base.specs.declared.plan.wire_plan.WirePlan.{WirePlan}
+use Rattle.net_base.specs.declared.trace.down.Down.{Down}
+use Rattle.net_base.specs.declared.trace.down.Down.TheVariants as cause
+use Rattle.net_base.specs.plan.Paths.{offer_of}
+use Rattle.net_base.specs.plan.Places.{wire_row}
+use Rattle.label_space.specs.Labels.{numbers_end}
+use Rattle.ldp_grammar.specs.declared.status_code.StatusCode.{StatusCode}
+use Rattle.pw_signalling.specs.declared.binding.Binding.{Binding}
+use Rattle.pw_signalling.specs.declared.told.Told.{Told}
+use Rattle.pw_signalling.specs.End.{EndState}
+use Rattle.pw_signalling.specs.Rows.{bound, group_stated, group_unbound, released, stated, unbound}
+use Rattle.pw_tlvs.specs.declared.point.Point.{Point}
+use Rattle.pw_tlvs.specs.declared.pw_fec.PwFec.{PwFec}
+use Rattle.pw_tlvs.specs.declared.pw_status.PwStatus.{PwStatus}
+use Rattle.pw_ends.specs.Ends.{EndLists, place_of}
+use Rattle.pw_ends.specs.Wish.{wish_by}
+use Rattle.edge_model.specs.Content.{binding_in, mapping, pw_status_code, status_notification, withdrawal}
+use Rattle.edge_model.specs.declared.effect.Effect.{Effect}
+use Rattle.edge_model.specs.declared.effect.Effect.TheVariants.{Wire}
+use Rattle.edge_model.specs.declared.end_place.EndPlace.{EndPlace}
+use Rattle.edge_model.specs.EndPlaces.{end_named}
+use Rattle.edge_model.specs.Mend.{advertises, advertising, cause_number, tells_down, tells_new_status, telling_status, terminal_wish, wish, wish_of, withdrawing, withdraws}
+use Rattle.edge_model.specs.Put.{Spoken}
+use Rattle.edge_model.specs.Role.{down_at, status_to_tell}
+use Rattle.edge_model.specs.Session.{says}
+use Rattle.edge_model.specs.Signal.{end_of_fec, hears_mapping, hears_release, hears_status, hears_withdraw, maps_to, releases_label, with_end_changed, with_named}
+use Rattle.edge_model.specs.State.{EdgeState, end_at, with_ends_beside, with_told_down}
+use Rattle.edge_model.specs.Work.{Answers, Work, changes, gives}
+use Rattle.provider_edge.specs.Control.{ControlLists, Rest, binds_to, controlled}
+use Rattle.provider_edge.specs.Mending.{may_tell, mended_down}
+use Rattle.provider_edge.specs.Peering.{at_edge}
+
+pub changed_edge : (change : EdgeState → EdgeState) (edge now : EdgeState) (calls : List LinkCall) (out : List Effect) → now ≡ change edge → at_edge now calls out ≡ changes change (at_edge edge calls out)
+unfolding at_edge changes
+changed_edge change edge now calls out is = ap (λ (e : EdgeState). record { edge = e; calls = calls; effects = out; idle = false }) is
+
+-- ---- an end that is found
+
+pub named_some : (found : Option ℕ) (slot : ℕ) (lists : EndLists) (x : Option EndPlace) → option_map (place_of lists) found ≡ x → found ≡ Some slot → x ≡ Some (place_of lists slot)
+named_some found slot lists x named some = sym named ∙ ap (option_map (place_of lists)) some
+
+pub named_none : (found : Option ℕ) (lists : EndLists) (x : Option EndPlace) → option_map (place_of lists) found ≡ x → found ≡ None → x ≡ None
+named_none found lists x named none = sym named ∙ ap (option_map (place_of lists)) none
+
+pub one_some : (change : EndState → EndState) (x : Option EndPlace) (place : EndPlace) (edge now : EdgeState) → x ≡ Some place → now ≡ with_end_changed change (Some place) edge → now ≡ with_end_changed change x edge
+one_some change x place edge now some is = is ∙ ap (λ (p : Option EndPlace). with_end_changed change p edge) (sym some)
+
+pub one_none : (change : EndState → EndState) (x : Option EndPlace) (edge : EdgeState) → x ≡ None → edge ≡ with_end_changed change x edge
+one_none change x edge none = sym (ap (λ (p : Option EndPlace). with_end_changed change p edge) none)
+
+pub with_named_some : (plan : Plan) (peer : EdgeId) (fec : PwFec) (one all : EndState → EndState) (x : Option ℕ) (pw_id : ℕ) (c : ControlLists) (rest : Rest) (now : EdgeState) → x ≡ Some pw_id
+    → now ≡ with_end_changed one (end_named plan c.me peer pw_id) (controlled c rest) → now ≡ with_named plan peer fec one all x (controlled c rest)
+unfolding controlled
+with_named_some plan peer fec one all x pw_id c rest now some is = is ∙ ap (λ (p : Option ℕ). with_named plan peer fec one all p (controlled c rest)) (sym some)
+
+pub with_named_none : (plan : Plan) (peer : EdgeId) (fec : PwFec) (one all : EndState → EndState) (x : Option ℕ) (edge now : EdgeState) → x ≡ None
+    → now ≡ with_ends_beside peer all edge → now ≡ with_named plan peer fec one all x edge
+with_named_none plan peer fec one all x edge now none is = is ∙ ap (λ (p : Option ℕ). with_named plan peer fec one all p edge) (sym none)
+
+pub fec_some : (plan : Plan) (c : ControlLists) (rest : Rest) (peer : EdgeId) (fec : PwFec) (pw_id : ℕ) (found : Option EndPlace) → fec.pw_id ≡ Some pw_id → found ≡ end_named plan c.me peer pw_id → found ≡ end_of_fec plan (controlled c rest) peer fec
+unfolding controlled
+fec_some plan c rest peer fec pw_id found some is = is ∙ ap (option_and_then (end_named plan c.me peer)) (sym some)
+
+pub fec_none : (plan : Plan) (edge : EdgeState) (peer : EdgeId) (fec : PwFec) → fec.pw_id ≡ None → None ≡ end_of_fec plan edge peer fec
+fec_none plan edge peer fec none = sym (ap (option_and_then (end_named plan edge.me peer)) none)
+
+-- ---- Label Mapping
+
+pub bound_known : (told : Answers) (peer : EdgeId) (fec : PwFec) (binding : Binding) (x : Option EndPlace) (place : EndPlace) (edge now : EdgeState) (calls : List LinkCall) (out : List Effect) → x ≡ Some place
+    → now ≡ with_end_changed (bound binding) (Some place) edge → at_edge now calls out ≡ binds_to told peer fec binding x (at_edge edge calls out)
+bound_known told peer fec binding x place edge now calls out some is =
+    changed_edge (with_end_changed (bound binding) (Some place)) edge now calls out is ∙ ap (λ (p : Option EndPlace). binds_to told peer fec binding p (at_edge edge calls out)) (sym some)
+
+pub bound_unknown : (told : Answers) (peer : EdgeId) (fec : PwFec) (binding : Binding) (x : Option EndPlace) (start work : Work) → x ≡ None → work ≡ releases_label told peer fec (Some binding.label) start
+    → work ≡ binds_to told peer fec binding x start
+bound_unknown told peer fec binding x start work none is = is ∙ ap (λ (p : Option EndPlace). binds_to told peer fec binding p start) (sym none)
+
+binds_maps : (told : Answers) (peer : EdgeId) (fec : PwFec) (label : ℕ) (status : Option PwStatus) (points : List Point) (x : Option EndPlace) (work : Work)
+    → binds_to told peer fec (binding_in fec label status points) x work ≡ maps_to told peer fec label status points x work
+binds_maps told peer fec label status points None work = refl
+binds_maps told peer fec label status points (Some place) work = refl
+
+pub mapping_heard : (plan : Plan) (told : Answers) (peer : EdgeId) (fec : PwFec) (label : ℕ) (status : Option PwStatus) (points : List Point) (binding : Binding) (edge : EdgeState) (calls : List LinkCall) (out : List Effect) (work : Work)
+    → binding ≡ binding_in fec label status points → work ≡ binds_to told peer fec binding (end_of_fec plan edge peer fec) (at_edge edge calls out)
+    → work ≡ hears_mapping plan told peer fec label status points (at_edge edge calls out)
+unfolding at_edge
+mapping_heard plan told peer fec label status points binding edge calls out work made is =
+    is ∙ (ap (λ (b : Binding). binds_to told peer fec b (end_of_fec plan edge peer fec) (at_edge edge calls out)) made
+    ∙ binds_maps told peer fec label status points (end_of_fec plan edge peer fec) (at_edge edge calls out))
+
+-- ---- Label Withdraw and Label Release
+
+pub withdraw_heard : (plan : Plan) (told : Answers) (peer : EdgeId) (fec : PwFec) (label : Option ℕ) (edge mid : EdgeState) (calls : List LinkCall) (out : List Effect) (work : Work)
+    → mid ≡ with_named plan peer fec (unbound label) (group_unbound fec.group) fec.pw_id edge → work ≡ releases_label told peer fec label (at_edge mid calls out)
+    → work ≡ hears_withdraw plan told peer fec label (at_edge edge calls out)
+withdraw_heard plan told peer fec label edge mid calls out work unbinds is =
+    is ∙ ap (releases_label told peer fec label) (changed_edge (with_named plan peer fec (unbound label) (group_unbound fec.group) fec.pw_id) edge mid calls out unbinds)
+
+pub release_heard : (plan : Plan) (peer : EdgeId) (fec : PwFec) (label : Option ℕ) (edge now : EdgeState) (calls : List LinkCall) (out : List Effect)
+    → now ≡ with_end_changed (released label) (end_of_fec plan edge peer fec) edge → at_edge now calls out ≡ hears_release plan peer fec label (at_edge edge calls out)
+release_heard plan peer fec label edge now calls out is = changed_edge (λ (e : EdgeState). with_end_changed (released label) (end_of_fec plan e peer fec) e) edge now calls out is
+
+-- ---- a status
+
+pub no_status : (plan : Plan) (peer : EdgeId) (code : StatusCode) (status : Option PwStatus) (fec : Option PwFec) (work : Work) → status ≡ None → work ≡ hears_status plan peer code status fec work
+no_status plan peer code status fec work none = sym (ap (λ (s : Option PwStatus). hears_status plan peer code s fec work) none)
+
+pub no_fec : (plan : Plan) (peer : EdgeId) (code : StatusCode) (status : Option PwStatus) (given : PwStatus) (fec : Option PwFec) (work : Work) → status ≡ Some given → fec ≡ None → work ≡ hears_status plan peer code status fec work
+no_fec plan peer code status given fec work some none =
+    sym (ap (λ (s : Option PwStatus). hears_status plan peer code s fec work) some ∙ ap (λ (f : Option PwFec). hears_status plan peer code (Some given) f work) none)
+
+both_there : (plan : Plan) (peer : EdgeId) (code : StatusCode) (status : Option PwStatus) (given : PwStatus) (fec : Option PwFec) (named : PwFec) (work : Work) → status ≡ Some given → fec ≡ Some named
+    → hears_status plan peer code status fec work ≡ cond (code.code == pw_status_code) (changes (with_named plan peer named (stated given) (group_stated named.group given) named.pw_id) work) work
+both_there plan peer code status given fec named work some there =
+    ap (λ (s : Option PwStatus). hears_status plan peer code s fec work) some ∙ ap (λ (f : Option PwFec). hears_status plan peer code (Some given) f work) there
+
+pub other_code : (plan : Plan) (peer : EdgeId) (code : StatusCode) (status : Option PwStatus) (given : PwStatus) (fec : Option PwFec) (named : PwFec) (work : Work) → status ≡ Some given → fec ≡ Some named → (code.code == pw_status_code) ≡ false
+    → work ≡ hears_status plan peer code status fec work
+other_code plan peer code status given fec named work some there other =
+    sym (both_there plan peer code status given fec named work some there ∙ ap (λ (b : Bool). cond b (changes (with_named plan peer named (stated given) (group_stated named.group given) named.pw_id) work) work) other)
+
+pub status_heard : (plan : Plan) (peer : EdgeId) (code : StatusCode) (status : Option PwStatus) (given : PwStatus) (fec : Option PwFec) (named : PwFec) (edge now : EdgeState) (calls : List LinkCall) (out : List Effect) → status ≡ Some given → fec ≡ Some named → (code.code == pw_status_code) ≡ true
+    → now ≡ with_named plan peer named (stated given) (group_stated named.group given) named.pw_id edge
+    → at_edge now calls out ≡ hears_status plan peer code status fec (at_edge edge calls out)
+status_heard plan peer code status given fec named edge now calls out some there same is =
+    changed_edge (with_named plan peer named (stated given) (group_stated named.group given) named.pw_id) edge now calls out is
+    ∙ sym (both_there plan peer code status given fec named (at_edge edge calls out) some there ∙ ap (λ (b : Bool). cond b (changes (with_named plan peer named (stated given) (group_stated named.group given) named.pw_id) (at_edge edge calls out)) (at_edge edge calls out)) same)
+
+-- ---- what an end puts
+
+pub advertises_none : (told : Answers) (place : EndPlace) (content : Told) (edge now : EdgeState) (calls : List LinkCall) (out : List Effect) → edge.next_label ≡ numbers_end → now ≡ edge
+    → record { work = at_edge now calls out; failed = false } ≡ advertises told place content (at_edge edge calls out)
+unfolding at_edge
+advertises_none told place content edge now calls out none same =
+    ap (λ (e : EdgeState). record { work = record { edge = e; calls = calls; effects = out; idle = false }; failed = false }) same
+    ∙ sym (ap (λ (b : Bool). cond b (record { work = record { edge = edge; calls = calls; effects = out; idle = false }; failed = false })
+    (says told place.peer (mapping place.pw_id edge.next_label content) (changes (advertising place edge.next_label content) (record { edge = edge; calls = calls; effects = out; idle = false }))))
+    (eq-eqb edge.next_label numbers_end none))
+
+pub advertises_some : (told : Answers) (place : EndPlace) (content : Told) (label : ℕ) (edge mid : EdgeState) (calls : List LinkCall) (out : List Effect) (put : Spoken) → (edge.next_label ≡ numbers_end → ⊥) → label ≡ edge.next_label
+    → mid ≡ advertising place label content edge → put ≡ says told place.peer (mapping place.pw_id label content) (at_edge mid calls out)
+    → put ≡ advertises told place content (at_edge edge calls out)
+unfolding at_edge changes
+advertises_some told place content label edge mid calls out put some next advertised puts =
+    puts
+    ∙ (ap (λ (e : EdgeState). says told place.peer (mapping place.pw_id label content) (record { edge = e; calls = calls; effects = out; idle = false })) advertised
+    ∙ (ap (λ (l : ℕ). says told place.peer (mapping place.pw_id l content) (record { edge = advertising place l content edge; calls = calls; effects = out; idle = false })) next
+    ∙ sym (ap (λ (b : Bool). cond b (record { work = record { edge = edge; calls = calls; effects = out; idle = false }; failed = false })
+    (says told place.peer (mapping place.pw_id edge.next_label content) (record { edge = advertising place edge.next_label content edge; calls = calls; effects = out; idle = false })))
+    (ne_eqb edge.next_label numbers_end some))))
+
+pub withdraws_at : (told : Answers) (place : EndPlace) (label : ℕ) (content : Told) (edge mid : EdgeState) (calls : List LinkCall) (out : List Effect) (put : Spoken)
+    → mid ≡ withdrawing place edge → put ≡ says told place.peer (withdrawal place.pw_id label content) (at_edge mid calls out) → put ≡ withdraws told place label content (at_edge edge calls out)
+withdraws_at told place label content edge mid calls out put withdrew puts =
+    puts ∙ ap (says told place.peer (withdrawal place.pw_id label content)) (changed_edge (withdrawing place) edge mid calls out withdrew)
+
+pub tells_at : (told : Answers) (place : EndPlace) (content : Told) (status : PwStatus) (edge mid : EdgeState) (calls : List LinkCall) (out : List Effect) (put : Spoken)
+    → mid ≡ telling_status place status edge → put ≡ says told place.peer (status_notification place.pw_id status content) (at_edge mid calls out) → put ≡ tells_new_status told place content status (at_edge edge calls out)
+tells_at told place content status edge mid calls out put telling puts =
+    puts ∙ ap (says told place.peer (status_notification place.pw_id status content)) (changed_edge (telling_status place status) edge mid calls out telling)
+
+-- ---- a wire that began to forward, or stopped
+
+pub down_same : (place : EndPlace) (wire : WireId) (down : Option Down) (edge : EdgeState) (calls : List LinkCall) (out : List Effect) → place.wire ≡ wire → (cause_number (edge.told_down wire.0) == cause_number down) ≡ true
+    → at_edge edge calls out ≡ tells_down place down (at_edge edge calls out)
+unfolding at_edge
+down_same place wire down edge calls out at same =
+    sym (ap (λ (b : Bool). cond b (record { edge = edge; calls = calls; effects = out; idle = false }) (gives (Wire place.wire down) (changes (with_told_down place.wire down) (record { edge = edge; calls = calls; effects = out; idle = false }))))
+    (ap (λ (w : WireId). cause_number (edge.told_down w.0) == cause_number down) at ∙ same))
+
+pub down_new : (place : EndPlace) (wire : WireId) (down : Option Down) (edge now : EdgeState) (calls : List LinkCall) (out given : List Effect) → place.wire ≡ wire → (cause_number (edge.told_down wire.0) == cause_number down) ≡ false
+    → now ≡ with_told_down wire down edge → given ≡ out ++ Wire wire down ∷ []
+    → at_edge now calls given ≡ tells_down place down (at_edge edge calls out)
+unfolding at_edge gives changes
+down_new place wire down edge now calls out given at other is gave =
+    ap (λ (e : EdgeState). record { edge = e; calls = calls; effects = given; idle = false }) is
+    ∙ (ap (λ (l : List Effect). record { edge = with_told_down wire down edge; calls = calls; effects = l; idle = false }) gave
+    ∙ (ap (λ (w : WireId). record { edge = with_told_down w down edge; calls = calls; effects = out ++ Wire w down ∷ []; idle = false }) (sym at)
+    ∙ sym (ap (λ (b : Bool). cond b (record { edge = edge; calls = calls; effects = out; idle = false }) (record { edge = with_told_down place.wire down edge; calls = calls; effects = out ++ Wire place.wire down ∷ []; idle = false }))
+    (ap (λ (w : WireId). cause_number (edge.told_down w.0) == cause_number down) at ∙ other))))

@@ -1,0 +1,91 @@
+-- What is read of the ends of an edge by their slots.
+use Rattle.std.proofs.Common.{◌≡◌, ◌<◌, ◌++◌, ◌+◌, ◌∙◌, ℕ, Bool, List, Option, Some, None, length, map, take, drop, set, option_map, position, slice_index_or, refl, ap, sym, subst}
+use Rattle.std.specs.Prelude.{IfSome}
+use Rattle.std.specs.List.{find}
+use Rattle.net_base.specs.declared.plan.Plan.{Plan}
+use Rattle.net_base.specs.declared.plan.places.EdgeId.{EdgeId}
+use Rattle.net_base.specs.declared.trace.down.Down.{Down}
+use Rattle.net_base.specs.declared.trace.down.Down.TheVariants.{NoLocal}
+use Rattle.net_base.specs.plan.Places.{wire_row}
+use Rattle.pw_signalling.specs.declared.end_role.EndRole.{EndRole}
+use Rattle.pw_signalling.specs.Down.{down}
+use Rattle.pw_signalling.specs.End.{EndState}
+use Rattle.edge_model.specs.declared.end_place.EndPlace.{EndPlace}
+use Rattle.edge_model.specs.EndPlaces.{end_places}
+use Rattle.edge_model.specs.Role.{down_at, role_at, role_in}
+use Rattle.edge_model.specs.State.{end_at}
+use Rattle.pw_ends.specs.Ends.{end_in, place_of}
+use Rattle.pw_ends.proofs.IndexLemmas.{named_if, none_at}
+use Rattle.provider_edge.specs.Control.{ControlLists, IsControl, Rest, controlled, forgotten}
+use Rattle.provider_edge.proofs.ControlLemmas.{end_read, slot_wire}
+use Rattle.provider_edge.proofs.EachLemmas.{each_next}
+use Rattle.provider_edge.proofs.Views.{same_read}
+
+-- of one end more nothing was told
+pub forgot_next : (xs now : List (Option Down)) (i : ℕ) → now ≡ map forgotten (take i xs) ++ drop i xs → i < length now → set now i (Some NoLocal) ≡ map forgotten (take (i + 1) xs) ++ drop (i + 1) xs
+forgot_next xs now i so_far within =
+    each_next forgotten xs now i (slice_index_or now i (Some NoLocal)) (Some NoLocal) so_far within (same_read now i (Some NoLocal) (slice_index_or now i (Some NoLocal)) within) refl
+
+-- ---- the wire of a slot is one of the plan
+
+pub slot_within : (c now : ControlLists) (slot : ℕ) (place : EndPlace) → c ≡ now → IsControl c → slot < length now.ends.places → place ≡ place_of c.ends slot → place.wire.0 < length now.plan.wires
+slot_within c now slot place same is within at =
+    subst (λ (n : ControlLists). place.wire.0 < length n.plan.wires) same
+    (subst (λ (p : EndPlace). p.wire.0 < length c.plan.wires) (sym at) (slot_wire c slot is (subst (λ (n : ControlLists). slot < length n.ends.places) (sym same) within)))
+
+-- ---- what is asked of the end of a slot
+
+pub role_read : (c now : ControlLists) (rest : Rest) (slot : ℕ) (place : EndPlace) (plan : Plan) (role : EndRole) → c ≡ now → place ≡ place_of c.ends slot → plan ≡ c.plan → role ≡ role_in (wire_row plan place.wire) c.me
+    → role ≡ role_at now.plan (controlled now rest) (place_of now.ends slot)
+unfolding controlled
+role_read c now rest slot place plan role same at of_plan is =
+    is
+    ∙ (ap (λ (p : Plan). role_in (wire_row p place.wire) c.me) of_plan
+    ∙ (ap (λ (p : EndPlace). role_in (wire_row c.plan p.wire) c.me) at
+    ∙ ap (λ (n : ControlLists). role_in (wire_row n.plan (place_of n.ends slot).wire) n.me) same))
+
+pub down_read : (c now : ControlLists) (rest : Rest) (slot : ℕ) (place : EndPlace) (role : EndRole) (bits : ℕ) (end : EndState) (why : Option Down) → c ≡ now → place ≡ place_of c.ends slot
+    → role ≡ role_at now.plan (controlled now rest) (place_of now.ends slot) → bits ≡ (controlled now rest).bits place.wire.0 → end ≡ end_in c.ends slot → why ≡ down role bits end
+    → why ≡ down_at now.plan (controlled now rest) (place_of now.ends slot)
+down_read c now rest slot place role bits end why same at of_role of_bits of_end is =
+    let here : place ≡ place_of now.ends slot = at ∙ ap (λ (n : ControlLists). place_of n.ends slot) same in
+    let bit : bits ≡ (controlled now rest).bits (place_of now.ends slot).wire.0 = of_bits ∙ ap (λ (p : EndPlace). (controlled now rest).bits p.wire.0) here in
+    let state : end ≡ end_at (controlled now rest) (place_of now.ends slot) = of_end ∙ (ap (λ (n : ControlLists). end_in n.ends slot) same ∙ end_read now rest slot) in
+    is
+    ∙ (ap (λ (r : EndRole). down r bits end) of_role
+    ∙ (ap (λ (b : ℕ). down (role_at now.plan (controlled now rest) (place_of now.ends slot)) b end) bit
+    ∙ ap (λ (e : EndState). down (role_at now.plan (controlled now rest) (place_of now.ends slot)) ((controlled now rest).bits (place_of now.ends slot).wire.0) e) state))
+
+-- ---- the first end of which something holds
+
+pub slot_found : (c : ControlLists) (test : EndPlace → Bool) (found : Option ℕ) (slot : ℕ) → IsControl c → found ≡ position test c.ends.places → found ≡ Some slot → find test (end_places c.plan c.me) ≡ Some (place_of c.ends slot)
+slot_found c test found slot is at some =
+    ap (find test) (sym is.places)
+    ∙ subst (λ (o : Option ℕ). IfSome o (λ n. find test c.ends.places ≡ Some (place_of c.ends n))) some (named_if test c.ends.places found at)
+
+pub none_found : (c : ControlLists) (test : EndPlace → Bool) (found : Option ℕ) → IsControl c → found ≡ position test c.ends.places → found ≡ None → find test (end_places c.plan c.me) ≡ None
+none_found c test found is at none = ap (find test) (sym is.places) ∙ none_at test c.ends.places (sym at ∙ none)
+
+pub end_some : (c now : ControlLists) (rest : Rest) (test : EndPlace → Bool) (found : Option ℕ) (slot : ℕ) (end : EndState) → c ≡ now → IsControl c → found ≡ position test c.ends.places → found ≡ Some slot
+    → end ≡ end_in c.ends slot → Some end ≡ option_map (end_at (controlled now rest)) (find test (end_places now.plan now.me))
+end_some c now rest test found slot end same is at some of_end =
+    subst (λ (n : ControlLists). Some end ≡ option_map (end_at (controlled n rest)) (find test (end_places n.plan n.me))) same
+    (ap Some (of_end ∙ end_read c rest slot) ∙ ap (option_map (end_at (controlled c rest))) (sym (slot_found c test found slot is at some)))
+
+pub end_none : (c now : ControlLists) (rest : Rest) (test : EndPlace → Bool) (found : Option ℕ) → c ≡ now → IsControl c → found ≡ position test c.ends.places → found ≡ None
+    → None ≡ option_map (end_at (controlled now rest)) (find test (end_places now.plan now.me))
+end_none c now rest test found same is at none =
+    subst (λ (n : ControlLists). None ≡ option_map (end_at (controlled n rest)) (find test (end_places n.plan n.me))) same
+    (ap (option_map (end_at (controlled c rest))) (sym (none_found c test found is at none)))
+
+pub slot_place : (c now : ControlLists) (test : EndPlace → Bool) (found : Option ℕ) (slot : ℕ) (place : EndPlace) → c ≡ now → IsControl c → found ≡ position test c.ends.places → found ≡ Some slot
+    → find test (end_places now.plan now.me) ≡ Some place → place_of now.ends slot ≡ place
+slot_place c now test found slot place same is at some here =
+    let first : find test (end_places now.plan now.me) ≡ Some (place_of now.ends slot) = subst (λ (n : ControlLists). find test (end_places n.plan n.me) ≡ Some (place_of n.ends slot)) same (slot_found c test found slot is at some) in
+    cc (first, here)
+
+pub no_place : (c now : ControlLists) (test : EndPlace → Bool) (found : Option ℕ) (place : EndPlace) → c ≡ now → IsControl c → found ≡ position test c.ends.places → found ≡ None
+    → find test (end_places now.plan now.me) ≡ Some place → ⊥
+no_place c now test found place same is at none here =
+    let first : find test (end_places now.plan now.me) ≡ None = subst (λ (n : ControlLists). find test (end_places n.plan n.me) ≡ None) same (none_found c test found is at none) in
+    absurd (cc (first, here))

@@ -1,0 +1,36 @@
+use Rattle.std.proofs.Common.{◌≡◌, ◌∙◌, refl}
+use Rattle.edge_model.specs.Hear.{acts_on, advice_of, advises}
+use Rattle.edge_model.specs.Work.{Answers, Work}
+use Rattle.provider_edge.specs.Control.{at_control, controlled}
+use Rattle.provider_edge.proofs.ActLemmas.{is_advised, mapping_acts, release_acts, split}
+use Rattle.provider_edge.proofs.SettleLemmas.{map_on}
+use Rattle.provider_edge.proofs.control.Control.act_on.Goals as goal
+
+pub returns-in-LabelMapping-clause-step : goal.returns-in-LabelMapping-clause-step
+returns-in-LabelMapping-clause-step g c = map_on _ _ c.hear_mapping.result
+    (λ puts told rest agrees.
+    mapping_acts c.args.self.now.plan told c.args.peer c.args.message.now c.in-LabelMapping.id c.in-LabelMapping.fec c.in-LabelMapping.label c.in-LabelMapping.pw_status c.in-LabelMapping.points c.binding_in-binding.result (controlled c.args.self.now rest) (g.L.Link.calls c.args.link.now) c.args.out.now _
+    c.in-LabelMapping.is c.binding_in-binding.ensures.binding (puts told rest agrees))
+    c.hear_mapping.ensures.step
+
+pub returns-in-LabelRelease-clause-step : goal.returns-in-LabelRelease-clause-step
+returns-in-LabelRelease-clause-step g c = λ told rest agrees.
+    release_acts c.args.self.now.plan told c.args.peer c.args.message.now c.in-LabelRelease.id c.in-LabelRelease.fec c.in-LabelRelease.label (controlled c.args.self.now rest) (controlled c.hear_release.new.self rest) (g.L.Link.calls c.args.link.now) c.args.out.now
+    c.in-LabelRelease.is (c.hear_release.ensures.step rest)
+
+pub returns-in-Hello-clause-step : goal.returns-in-Hello-clause-step
+returns-in-Hello-clause-step g c = map_on _ _ c.tell_advice.result
+    (λ puts told rest agrees. puts told rest agrees ∙ advised told (at_control c.args.self.now rest (g.L.Link.calls c.args.link.now) c.args.out.now))
+    c.tell_advice.ensures.step
+  where
+    advised : (told : Answers) (work : Work) → advises told c.args.peer (advice_of c.args.message.now) work ≡ acts_on c.args.self.now.plan told c.args.peer c.args.message.now work
+    advised told work =
+        split c.in-Hello.is (λ p. is_advised c.args.self.now.plan told c.args.peer work c.args.message.now _ p.5 refl)
+        (λ q. split q (λ p. is_advised c.args.self.now.plan told c.args.peer work c.args.message.now _ p.2 refl)
+        (λ q. split q (λ p. is_advised c.args.self.now.plan told c.args.peer work c.args.message.now _ p.1 refl)
+        (λ q. split q (λ p. is_advised c.args.self.now.plan told c.args.peer work c.args.message.now _ p.3 refl)
+        (λ q. split q (λ p. is_advised c.args.self.now.plan told c.args.peer work c.args.message.now _ p.4 refl)
+        (λ q. split q (λ p. is_advised c.args.self.now.plan told c.args.peer work c.args.message.now _ p.2 refl)
+        (λ q. split q (λ p. is_advised c.args.self.now.plan told c.args.peer work c.args.message.now _ p.3 refl)
+        (λ q. split q (λ p. is_advised c.args.self.now.plan told c.args.peer work c.args.message.now _ p.3 refl)
+        (λ p. is_advised c.args.self.now.plan told c.args.peer work c.args.message.now _ p.3 refl))))))))

@@ -1,0 +1,12 @@
+use Rattle.std.proofs.Common.{◌≡◌, subst}
+use Rattle.pw_signalling.specs.Rows.{group_stated}
+use Rattle.edge_model.specs.State.{with_ends_beside}
+use Rattle.provider_edge.specs.Control.{ControlLists, controlled}
+use Rattle.provider_edge.specs.contracts.control.Control.{the_view}
+use Rattle.provider_edge.proofs.ControlLemmas.{ends_beside}
+use Rattle.provider_edge.proofs.control.Control.state_group.Goals as goal
+
+pub returns-clause-step : goal.returns-clause-step
+returns-clause-step c = λ rest.
+    subst (λ (n : ControlLists). controlled (record (the_view c.self.inside) { ends = c.on_group_status.new.self }) rest ≡ with_ends_beside c.args.peer (group_stated c.args.group c.args.status) (controlled n rest)) c.self.view_is
+    (ends_beside (the_view c.self.inside) c.on_group_status.new.self c.args.peer (group_stated c.args.group c.args.status) rest c.on_group_status.ensures.seen c.on_group_status.ensures.next)

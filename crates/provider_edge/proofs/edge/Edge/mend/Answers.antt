@@ -1,0 +1,22 @@
+use Rattle.std.proofs.Common.{◌≡◌, ◌∙◌, ap, subst}
+use Rattle.net_base.specs.declared.plan.Plan.{Plan}
+use Rattle.edge_model.specs.Mend.{mends}
+use Rattle.provider_edge.specs.Control.{at_control}
+use Rattle.provider_edge.specs.Lists.{EdgeLists, rest_of, seen}
+use Rattle.provider_edge.specs.contracts.edge.Edge.{the_view}
+use Rattle.provider_edge.specs.Peering.{at_edge}
+use Rattle.provider_edge.proofs.EdgeLemmas.{edge_control, worked_edge}
+use Rattle.provider_edge.proofs.SettleLemmas.{map_on}
+use Rattle.provider_edge.proofs.edge.Edge.mend.Goals as goal
+
+pub invariant_of-self : goal.invariant_of-self
+invariant_of-self g c = edge_control (the_view c.self.inside) c.mend.new.self c.mend.ensures.keeps c.self.invariant
+
+pub returns-clause-step : goal.returns-clause-step
+returns-clause-step g c = map_on _ _ c.mend.result
+    (λ step told agrees.
+    subst (λ (n : EdgeLists). at_edge (seen (record (the_view c.self.inside) { control = c.mend.new.self })) (g.L.Link.calls c.mend.new.link) c.mend.new.out ≡ mends n.plan told (at_edge (seen n) (g.L.Link.calls c.args.link.now) c.args.out.now)) c.self.view_is
+    (worked_edge (mends (the_view c.self.inside).plan told) (the_view c.self.inside) c.mend.new.self (g.L.Link.calls c.args.link.now) (g.L.Link.calls c.mend.new.link) c.args.out.now c.mend.new.out c.self.invariant c.mend.ensures.keeps
+    (step told (rest_of (the_view c.self.inside)) agrees
+    ∙ ap (λ (p : Plan). mends p told (at_control (the_view c.self.inside).control (rest_of (the_view c.self.inside)) (g.L.Link.calls c.args.link.now) c.args.out.now)) c.self.invariant.plan)))
+    c.mend.ensures.step

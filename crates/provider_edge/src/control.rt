@@ -1,0 +1,225 @@
+//! What signalling works on at an edge.
+ghost use Rattle.std.specs.Prelude.{◌≡◌, ◌<◌, List, Option, None, Some, [], length, map, replicate, slice_index_or, option_copied, IfOk, IfSome};
+ghost use Rattle.net_base.specs.declared.outside.link_call.LinkCall.{LinkCall};
+ghost use Rattle.net_base.specs.declared.trace.down.Down.TheVariants.{NoLocal};
+ghost use Rattle.net_base.specs.plan.Accepted.{IsChecked};
+ghost use Rattle.pw_signalling.specs.Rows.{lost};
+ghost use Rattle.edge_model.specs.declared.effect.Effect.{Effect};
+ghost use Rattle.edge_model.specs.Hear.{was_up};
+ghost use Rattle.edge_model.specs.Session.{clears_ends};
+ghost use Rattle.edge_model.specs.State.{has_end, with_ends_beside, with_peering, without_ends, without_peerings};
+ghost use Rattle.provider_edge.specs.Control.{IsNewControl, KeepsPlan, Rest, at_control, controlled, forgotten};
+ghost use Rattle.provider_edge.specs.Peering.{gone, kept_with, session_name};
+
+mod ends;
+mod hear;
+mod mend;
+mod mend_end;
+mod session;
+mod signal;
+mod wire;
+
+use crate::dialogue::Dialogue;
+use net_base::{Down, EdgeId, NoMemory, Plan, StateName};
+use pw_ends::PwEnds;
+use std::alloc::Global;
+use std::marker::Model;
+use std::rc::Rc;
+
+/// What an edge's signalling works on: its sessions, the ends of its pseudowires, and what was set of its wires. Contracts see
+/// it as lists by the plan's places, and by `controlled` as the state of the whole edge, for any rest of it: so each call
+/// says what it makes of the edge, and that all else stays.
+#[derive(Debug, Drop)]
+pub struct Control {
+    plan: Rc<Plan>,
+    me: EdgeId,
+    dialogues: Vec<Option<Dialogue>>,
+    ends: PwEnds,
+    wires_on: Vec<bool>,
+    bits: Vec<u8>,
+    told_down: Vec<Option<Down>>,
+}
+
+impl Model for Control {
+    ghost use Rattle.provider_edge.specs.Control.{ControlLists, IsControl};
+
+    ghost Value = { ControlLists };
+
+    ghost view = { λ c. record { plan = c.plan.value; me = c.me; dialogues = c.dialogues.items; ends = c.ends; wires_on = c.wires_on.items; bits = c.bits.items; told_down = c.told_down.items } };
+
+    ghost invariant = { λ c. IsControl (record { plan = c.plan.value; me = c.me; dialogues = c.dialogues.items; ends = c.ends; wires_on = c.wires_on.items; bits = c.bits.items; told_down = c.told_down.items }) };
+}
+
+impl Control {
+    /// The control of an edge of the plan before its first input: no session stands, every end is idle, every wire is on.
+    pub fn open(alloc: Global, plan: Rc<Plan>, me: EdgeId) -> Result<Control, NoMemory>
+        requires checked { IsChecked plan.value }
+        requires me { me.0 < length plan.value.edges }
+        ensures { IfOk result (λ control. IsNewControl plan.value me control) }
+    {
+        let dialogues = no_dialogues(alloc, plan.edges.len())?;
+        let ends = PwEnds::open(alloc, &plan, me)?;
+        let count = plan.wires.len();
+        let wires_on = vec![in alloc; true; count]?;
+        let bits = vec![in alloc; 0u8; count]?;
+        let told_down = nothing_told(alloc, count)?;
+        Ok(Control {
+            plan,
+            me,
+            dialogues,
+            ends,
+            wires_on,
+            bits,
+            told_down,
+        })
+    }
+
+    /// The session with a neighbour, where it stands.
+    #[tactic(auto, unfolding(crate::specs::Control::controlled))]
+    pub fn dialogue(&self, peer: EdgeId) -> Option<&Dialogue>
+        ensures { (rest : Rest) → kept_with (rest.held peer.0) (option_copied result) ≡ (controlled self.now rest).peering peer.0 }
+    {
+        match self.dialogues.get(peer.0 as usize) {
+            Some(Some(dialogue)) => Some(dialogue),
+            Some(None) | None => None,
+        }
+    }
+
+    /// Whether the edge's end of its connection with a neighbour stands.
+    pub fn has_session(&self, peer: EdgeId) -> bool
+        ensures { (rest : Rest) → result ≡ has_end (controlled self.now rest) peer }
+    {
+        self.dialogue(peer).is_some()
+    }
+
+    /// Whether the session with a neighbour is up.
+    pub fn is_up(&self, peer: EdgeId) -> bool
+        ensures { (rest : Rest) → result ≡ was_up ((controlled self.now rest).peering peer.0) }
+    {
+        match self.dialogue(peer) {
+            Some(dialogue) => dialogue.is_up(),
+            None => false,
+        }
+    }
+
+    /// The name of the state of the session with a neighbour; `NonExistent` exactly where it does not stand.
+    pub fn session(&self, peer: EdgeId) -> StateName
+        ensures { (rest : Rest) → result ≡ session_name ((controlled self.now rest).peering peer.0) }
+    {
+        match self.dialogue(peer) {
+            Some(dialogue) => dialogue.state(),
+            None => StateName::NonExistent,
+        }
+    }
+
+    // Takes out the session with a neighbour.
+    fn take_dialogue(&mut self, peer: EdgeId) -> Option<Dialogue>
+        ensures keeps { KeepsPlan self.old self.new }
+        ensures taken { (rest : Rest) → kept_with (rest.held peer.0) result ≡ (controlled self.old rest).peering peer.0 }
+        ensures within { IfSome result (λ dialogue. peer.0 < length self.old.plan.edges) }
+        ensures step { (rest : Rest) → controlled self.new rest ≡ with_peering peer None (controlled self.old rest) }
+    {
+        if peer.0 as usize >= self.dialogues.len() {
+            return None;
+        }
+        self.dialogues[peer.0 as usize].take()
+    }
+
+    // Keeps a session with a neighbour, or none any more.
+    fn put_dialogue(&mut self, peer: EdgeId, kept: Option<Dialogue>)
+        requires { peer.0 < length self.old.plan.edges }
+        ensures keeps { KeepsPlan self.old self.new }
+        ensures step { (rest : Rest) → controlled self.new rest ≡ with_peering peer (kept_with (rest.held peer.0) kept) (controlled self.old rest) }
+    {
+        self.dialogues[peer.0 as usize] = kept;
+    }
+
+    // Each end beside a neighbour is lost.
+    fn lose_ends(&mut self, peer: EdgeId)
+        ensures keeps { KeepsPlan self.old self.new }
+        ensures step { (rest : Rest) → controlled self.new rest ≡ with_ends_beside peer lost (controlled self.old rest) }
+    {
+        self.ends.lose(peer);
+    }
+
+    // Where no session with a neighbour stands, each end beside it is lost (RFC 5036 section 2.5.4).
+    fn clear_ends(&mut self, peer: EdgeId)
+        ensures keeps { KeepsPlan self.old self.new }
+        ensures step { (rest : Rest) (calls : List LinkCall) (out : List Effect) → at_control self.new rest calls out ≡ clears_ends peer (at_control self.old rest calls out) }
+    {
+        if !self.has_session(peer) {
+            self.lose_ends(peer);
+        }
+    }
+
+    /// The edge restarts: no session stands, each end is as it was opened, and what was told of it is forgotten. The wires
+    /// that are on, the failure bits and the next label stay.
+    pub fn restart(&mut self)
+        ensures keeps { KeepsPlan self.old self.new }
+        ensures step { (rest : Rest) → controlled self.new rest ≡ without_ends (without_peerings (controlled self.old rest)) }
+    {
+        self.drop_dialogues();
+        self.forget_ends();
+    }
+
+    // No session stands any more.
+    fn drop_dialogues(&mut self)
+        ensures keeps { KeepsPlan self.old self.new }
+        ensures step { (rest : Rest) → controlled self.new rest ≡ without_peerings (controlled self.old rest) }
+    {
+        drop_all(&mut self.dialogues);
+    }
+
+    // Each end is as it was opened, and what was told of it is forgotten.
+    fn forget_ends(&mut self)
+        ensures keeps { KeepsPlan self.old self.new }
+        ensures step { (rest : Rest) → controlled self.new rest ≡ without_ends (controlled self.old rest) }
+    {
+        self.ends.restarted();
+        forget_all(&mut self.told_down);
+    }
+}
+
+// No session with any of so many neighbours.
+#[tactic(auto, using(crate::proofs::ControlLemmas::one_more))]
+fn no_dialogues(alloc: Global, count: usize) -> Result<Vec<Option<Dialogue>>, NoMemory>
+    ensures { IfOk result (λ kept. kept.items ≡ replicate count None) }
+{
+    let mut dialogues = Vec::with_capacity(alloc, count)?;
+    for _place in 0..count {
+        dialogues.push(None)?;
+    }
+    Ok(dialogues)
+}
+
+// Nothing was told of the end of any of so many wires.
+#[tactic(auto, using(crate::proofs::ControlLemmas::one_more))]
+fn nothing_told(alloc: Global, count: usize) -> Result<Vec<Option<Down>>, NoMemory>
+    ensures { IfOk result (λ told. told.items ≡ replicate count (Some NoLocal)) }
+{
+    let mut told_down = Vec::with_capacity(alloc, count)?;
+    for _place in 0..count {
+        told_down.push(Some(Down::NoLocal))?;
+    }
+    Ok(told_down)
+}
+
+// No session stands any more.
+#[tactic(auto, using(crate::proofs::EachLemmas::each_next))]
+fn drop_all(dialogues: &mut Vec<Option<Dialogue>>)
+    ensures { dialogues.new.items ≡ map gone dialogues.old.items }
+{
+    for kept in dialogues.iter_mut() {
+        *kept = None;
+    }
+}
+
+// Of no end anything was told.
+#[tactic(auto, using(crate::proofs::SlotLemmas::forgot_next))]
+fn forget_all(told_down: &mut Vec<Option<Down>>)
+    ensures { told_down.new.items ≡ map forgotten told_down.old.items }
+{
+    for down in told_down.iter_mut() {
+        *down = Some(Down::NoLocal);
+    }
+}

@@ -1,0 +1,167 @@
+//! An edge mends its ends (RFC 8077 sections 6 and 6.3): all steps, in the order of its ends.
+ghost use Rattle.std.specs.Prelude.{◌≡◌, ◌<◌, ◌+◌, List, length, false, IfOk, OnOk};
+ghost use Rattle.net_base.specs.declared.outside.link_call.LinkCall.{LinkCall};
+ghost use Rattle.pw_ends.specs.Ends.{place_of};
+ghost use Rattle.edge_model.specs.EndPlaces.{end_places};
+ghost use Rattle.edge_model.specs.Mend.{and_says, each_end, mends, mends_end, mends_once, mends_status, tells_downs};
+ghost use Rattle.edge_model.specs.Work.{Agrees, Answers, GoesOn};
+ghost use Rattle.provider_edge.specs.Control.{KeepsPlan, Rest, at_control};
+
+use super::Control;
+use edge_model::Effect;
+use net_base::{Link, List, NoMemory};
+use std::alloc::Global;
+
+impl Control {
+    /// What each end tells follows what it should tell by now. Where the link did not take a message the edge mends again; each
+    /// such message ends a session, so there are no more rounds than edges.
+    pub fn mend<L: Link>(
+        &mut self,
+        alloc: Global,
+        link: &mut L,
+        out: &mut List<Effect>,
+    ) -> Result<(), NoMemory>
+        ensures keeps { KeepsPlan self.old self.new }
+        ensures calls { GoesOn (L.calls link.old) (L.calls link.new) }
+        ensures step { OnOk result ((told : Answers) (rest : Rest) → Agrees told (L.calls link.new)
+            → at_control self.new rest (L.calls link.new) out.new ≡ mends self.old.plan told (at_control self.old rest (L.calls link.old) out.old)) }
+    {
+        let rounds = self.count_rounds();
+        for _round in 0..rounds {
+            if !self.mend_once(alloc, link, out)? {
+                return Ok(());
+            }
+        }
+        Ok(())
+    }
+
+    // How often the edge mends at most: each round but the last one ends a session.
+    fn count_rounds(&self) -> usize
+        ensures { result ≡ length self.now.plan.edges + 1 }
+    {
+        self.plan.edges.len() + 1
+    }
+
+    // All steps once; answers whether the link did not take a message.
+    fn mend_once<L: Link>(
+        &mut self,
+        alloc: Global,
+        link: &mut L,
+        out: &mut List<Effect>,
+    ) -> Result<bool, NoMemory>
+        ensures keeps { KeepsPlan self.old self.new }
+        ensures calls { GoesOn (L.calls link.old) (L.calls link.new) }
+        ensures step { IfOk result (λ failed. (told : Answers) (rest : Rest) → Agrees told (L.calls link.new)
+            → record { work = at_control self.new rest (L.calls link.new) out.new; failed = failed } ≡ mends_once self.old.plan told (at_control self.old rest (L.calls link.old) out.old)) }
+    {
+        let refused = self.mend_ends(alloc, link, out)?;
+        let failed = self.mend_statuses(refused, alloc, link, out)?;
+        self.tell_downs(out)?;
+        Ok(failed)
+    }
+
+    // Each end is advertised, withdrawn or left.
+    fn mend_ends<L: Link>(
+        &mut self,
+        alloc: Global,
+        link: &mut L,
+        out: &mut List<Effect>,
+    ) -> Result<bool, NoMemory>
+        ensures keeps { KeepsPlan self.old self.new }
+        ensures calls { GoesOn (L.calls link.old) (L.calls link.new) }
+        ensures step { IfOk result (λ failed. (told : Answers) (rest : Rest) → Agrees told (L.calls link.new)
+            → record { work = at_control self.new rest (L.calls link.new) out.new; failed = failed }
+            ≡ each_end (mends_end self.old.plan told) (end_places self.old.plan self.old.me) (record { work = at_control self.old rest (L.calls link.old) out.old; failed = false })) }
+    {
+        let mut failed = false;
+        for slot in 0..self.count_ends() {
+            failed = self.and_mend_end(failed, alloc, slot, link, out)?;
+        }
+        Ok(failed)
+    }
+
+    // One end is mended after others; answers whether the link did not take a message of any.
+    fn and_mend_end<L: Link>(
+        &mut self,
+        before: bool,
+        alloc: Global,
+        slot: usize,
+        link: &mut L,
+        out: &mut List<Effect>,
+    ) -> Result<bool, NoMemory>
+        requires { slot < length self.old.ends.places }
+        ensures keeps { KeepsPlan self.old self.new }
+        ensures calls { GoesOn (L.calls link.old) (L.calls link.new) }
+        ensures step { IfOk result (λ failed. (told : Answers) (rest : Rest) → Agrees told (L.calls link.new)
+            → record { work = at_control self.new rest (L.calls link.new) out.new; failed = failed }
+            ≡ and_says (record { work = at_control self.old rest (L.calls link.old) out.old; failed = before }) (mends_end self.old.plan told (place_of self.old.ends slot))) }
+    {
+        if self.mend_end(alloc, slot, link, out)? {
+            return Ok(true);
+        }
+        Ok(before)
+    }
+
+    // Each end tells its status, where it has changed.
+    fn mend_statuses<L: Link>(
+        &mut self,
+        before: bool,
+        alloc: Global,
+        link: &mut L,
+        out: &mut List<Effect>,
+    ) -> Result<bool, NoMemory>
+        ensures keeps { KeepsPlan self.old self.new }
+        ensures calls { GoesOn (L.calls link.old) (L.calls link.new) }
+        ensures step { IfOk result (λ failed. (told : Answers) (rest : Rest) → Agrees told (L.calls link.new)
+            → record { work = at_control self.new rest (L.calls link.new) out.new; failed = failed }
+            ≡ each_end (mends_status self.old.plan told) (end_places self.old.plan self.old.me) (record { work = at_control self.old rest (L.calls link.old) out.old; failed = before })) }
+    {
+        let mut failed = before;
+        for slot in 0..self.count_ends() {
+            failed = self.and_mend_status(failed, alloc, slot, link, out)?;
+        }
+        Ok(failed)
+    }
+
+    // One end tells its status after others.
+    fn and_mend_status<L: Link>(
+        &mut self,
+        before: bool,
+        alloc: Global,
+        slot: usize,
+        link: &mut L,
+        out: &mut List<Effect>,
+    ) -> Result<bool, NoMemory>
+        requires { slot < length self.old.ends.places }
+        ensures keeps { KeepsPlan self.old self.new }
+        ensures calls { GoesOn (L.calls link.old) (L.calls link.new) }
+        ensures step { IfOk result (λ failed. (told : Answers) (rest : Rest) → Agrees told (L.calls link.new)
+            → record { work = at_control self.new rest (L.calls link.new) out.new; failed = failed }
+            ≡ and_says (record { work = at_control self.old rest (L.calls link.old) out.old; failed = before }) (mends_status self.old.plan told (place_of self.old.ends slot))) }
+    {
+        if self.mend_status(alloc, slot, link, out)? {
+            return Ok(true);
+        }
+        Ok(before)
+    }
+
+    // Each wire that began to forward, or stopped, is told.
+    fn tell_downs(&mut self, out: &mut List<Effect>) -> Result<(), NoMemory>
+        ensures keeps { KeepsPlan self.old self.new }
+        ensures step { OnOk result ((rest : Rest) (calls : List LinkCall)
+            → at_control self.new rest calls out.new ≡ tells_downs self.old.plan (end_places self.old.plan self.old.me) (at_control self.old rest calls out.old)) }
+    {
+        for slot in 0..self.count_ends() {
+            self.tell_down(slot, out)?;
+        }
+        Ok(())
+    }
+
+    // How many ends the edge has: those that the plan gives it, in the plan's order.
+    fn count_ends(&self) -> usize
+        ensures count { result ≡ length self.now.ends.places }
+        ensures places { self.now.ends.places ≡ end_places self.now.plan self.now.me }
+    {
+        self.ends.len()
+    }
+}

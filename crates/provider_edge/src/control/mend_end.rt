@@ -1,0 +1,440 @@
+//! One end is mended: what it tells follows what it should tell by now (RFC 8077 sections 6 and 6.3).
+ghost use Rattle.std.specs.Prelude.{◌≡◌, ◌<◌, ◌≤◌, ◌==◌, List, length, Some, None, true, IfOk, OnOk, IfSome};
+ghost use Rattle.net_base.specs.declared.outside.link_call.LinkCall.{LinkCall};
+ghost use Rattle.net_base.specs.plan.Paths.{offer_of};
+ghost use Rattle.net_base.specs.plan.Places.{wire_row};
+ghost use Rattle.pw_signalling.specs.AnyEnd.{end_of};
+ghost use Rattle.pw_tlvs.specs.Written.{has_vlan};
+ghost use Rattle.pw_ends.specs.Ends.{HasKind, IsIdle, end_in, place_of};
+ghost use Rattle.edge_model.specs.Mend.{advertises, advertises_wish, cause_number, mends_end, mends_status, tells_down, tells_new_status, tells_over, terminal_wish, wish, withdraws, withdraws_unless};
+ghost use Rattle.edge_model.specs.Role.{down_at, role_at, status_to_tell};
+ghost use Rattle.edge_model.specs.State.{with_told_down};
+ghost use Rattle.edge_model.specs.Work.{Agrees, Answers, GoesOn};
+ghost use Rattle.provider_edge.specs.Control.{KeepsPlan, Rest, at_control, controlled};
+ghost use Rattle.provider_edge.specs.Mending.{may_tell, mended_down};
+
+use super::Control;
+use crate::pw_message::PwMessage;
+use edge_model::{Effect, EndPlace};
+use net_base::{Down, Label, Link, List, NoMemory, WireId, WirePlan};
+use pw_ends::{role_at, status_to_tell, terminal_wish};
+use pw_signalling::{EndRole, PwEnd, Told};
+use pw_tlvs::PwStatus;
+use std::alloc::Global;
+
+impl Control {
+    // An end is advertised, withdrawn or left; answers whether the link did not take a message.
+    pub(super) fn mend_end<L: Link>(
+        &mut self,
+        alloc: Global,
+        slot: usize,
+        link: &mut L,
+        out: &mut List<Effect>,
+    ) -> Result<bool, NoMemory>
+        requires { slot < length self.old.ends.places }
+        ensures keeps { KeepsPlan self.old self.new }
+        ensures calls { GoesOn (L.calls link.old) (L.calls link.new) }
+        ensures step { IfOk result (λ failed. (told : Answers) (rest : Rest) → Agrees told (L.calls link.new)
+            → record { work = at_control self.new rest (L.calls link.new) out.new; failed = failed } ≡ mends_end self.old.plan told (place_of self.old.ends slot) (at_control self.old rest (L.calls link.old) out.old)) }
+    {
+        match self.end_in(slot) {
+            PwEnd::Idle(end) => {
+                if end.is_declined() {
+                    return Ok(false);
+                }
+                self.advertise_wish(alloc, slot, link, out)
+            }
+            PwEnd::Advertised(end) => {
+                let label = end.label();
+                let content = *end.told();
+                self.withdraw_unless(alloc, slot, label, content, link, out)
+            }
+            PwEnd::Withdrawing(_) => Ok(false),
+        }
+    }
+
+    // An idle end advertises what it should tell.
+    fn advertise_wish<L: Link>(
+        &mut self,
+        alloc: Global,
+        slot: usize,
+        link: &mut L,
+        out: &mut List<Effect>,
+    ) -> Result<bool, NoMemory>
+        requires slot { slot < length self.old.ends.places }
+        requires idle { IsIdle (end_in self.old.ends slot).local }
+        ensures keeps { KeepsPlan self.old self.new }
+        ensures calls { GoesOn (L.calls link.old) (L.calls link.new) }
+        ensures step { IfOk result (λ failed. (told : Answers) (rest : Rest) → Agrees told (L.calls link.new)
+            → record { work = at_control self.new rest (L.calls link.new) out.new; failed = failed }
+            ≡ advertises_wish told (place_of self.old.ends slot) (wish self.old.plan (controlled self.old rest) (place_of self.old.ends slot)) (at_control self.old rest (L.calls link.old) out.old)) }
+    {
+        match self.wish(slot) {
+            Some(told) => self.put_mapping(alloc, slot, told, link, out),
+            None => Ok(false),
+        }
+    }
+
+    // An idle end takes a label and puts a Label Mapping; where no label is left it stays idle.
+    fn put_mapping<L: Link>(
+        &mut self,
+        alloc: Global,
+        slot: usize,
+        content: Told,
+        link: &mut L,
+        out: &mut List<Effect>,
+    ) -> Result<bool, NoMemory>
+        requires slot { slot < length self.old.ends.places }
+        requires idle { IsIdle (end_in self.old.ends slot).local }
+        requires kind { content.kind ≤ 0x7FFF }
+        requires vlan { has_vlan content.vlan ≡ true }
+        ensures keeps { KeepsPlan self.old self.new }
+        ensures calls { GoesOn (L.calls link.old) (L.calls link.new) }
+        ensures step { IfOk result (λ failed. (told : Answers) (rest : Rest) → Agrees told (L.calls link.new)
+            → record { work = at_control self.new rest (L.calls link.new) out.new; failed = failed }
+            ≡ advertises told (place_of self.old.ends slot) content (at_control self.old rest (L.calls link.old) out.old)) }
+    {
+        let place = self.place_at(slot);
+        let Some(label) = self.advertise(slot, &content) else {
+            return Ok(false);
+        };
+        let message = PwMessage::Mapping {
+            pw_id: place.pw_id,
+            label,
+            told: content,
+        };
+        self.say(alloc, place.peer, &message, link, out)
+    }
+
+    // An end that advertises withdraws its label, where it should tell nothing by now.
+    fn withdraw_unless<L: Link>(
+        &mut self,
+        alloc: Global,
+        slot: usize,
+        label: Label,
+        content: Told,
+        link: &mut L,
+        out: &mut List<Effect>,
+    ) -> Result<bool, NoMemory>
+        requires slot { slot < length self.old.ends.places }
+        requires kind { content.kind ≤ 0x7FFF }
+        ensures keeps { KeepsPlan self.old self.new }
+        ensures calls { GoesOn (L.calls link.old) (L.calls link.new) }
+        ensures step { IfOk result (λ failed. (told : Answers) (rest : Rest) → Agrees told (L.calls link.new)
+            → record { work = at_control self.new rest (L.calls link.new) out.new; failed = failed }
+            ≡ withdraws_unless told (place_of self.old.ends slot) label content (wish self.old.plan (controlled self.old rest) (place_of self.old.ends slot)) (at_control self.old rest (L.calls link.old) out.old)) }
+    {
+        match self.wish(slot) {
+            Some(_) => Ok(false),
+            None => self.put_withdrawal(alloc, slot, label, content, link, out),
+        }
+    }
+
+    // An end withdraws its label, and puts that.
+    fn put_withdrawal<L: Link>(
+        &mut self,
+        alloc: Global,
+        slot: usize,
+        label: Label,
+        content: Told,
+        link: &mut L,
+        out: &mut List<Effect>,
+    ) -> Result<bool, NoMemory>
+        requires slot { slot < length self.old.ends.places }
+        requires kind { content.kind ≤ 0x7FFF }
+        ensures keeps { KeepsPlan self.old self.new }
+        ensures calls { GoesOn (L.calls link.old) (L.calls link.new) }
+        ensures step { IfOk result (λ failed. (told : Answers) (rest : Rest) → Agrees told (L.calls link.new)
+            → record { work = at_control self.new rest (L.calls link.new) out.new; failed = failed }
+            ≡ withdraws told (place_of self.old.ends slot) label content (at_control self.old rest (L.calls link.old) out.old)) }
+    {
+        let place = self.place_at(slot);
+        self.withdraw(slot);
+        let message = PwMessage::Withdrawal {
+            pw_id: place.pw_id,
+            label,
+            told: content,
+        };
+        self.say(alloc, place.peer, &message, link, out)
+    }
+
+    // A status that has changed is told; answers whether the link did not take a message.
+    pub(super) fn mend_status<L: Link>(
+        &mut self,
+        alloc: Global,
+        slot: usize,
+        link: &mut L,
+        out: &mut List<Effect>,
+    ) -> Result<bool, NoMemory>
+        requires { slot < length self.old.ends.places }
+        ensures keeps { KeepsPlan self.old self.new }
+        ensures calls { GoesOn (L.calls link.old) (L.calls link.new) }
+        ensures step { IfOk result (λ failed. (told : Answers) (rest : Rest) → Agrees told (L.calls link.new)
+            → record { work = at_control self.new rest (L.calls link.new) out.new; failed = failed } ≡ mends_status self.old.plan told (place_of self.old.ends slot) (at_control self.old rest (L.calls link.old) out.old)) }
+    {
+        match self.end_in(slot) {
+            PwEnd::Advertised(end) => {
+                let content = *end.told();
+                self.tell_over(alloc, slot, content, link, out)
+            }
+            PwEnd::Idle(_) => Ok(false),
+            PwEnd::Withdrawing(_) => Ok(false),
+        }
+    }
+
+    // Only an end whose mapping carries a status tells a new one.
+    fn tell_over<L: Link>(
+        &mut self,
+        alloc: Global,
+        slot: usize,
+        content: Told,
+        link: &mut L,
+        out: &mut List<Effect>,
+    ) -> Result<bool, NoMemory>
+        requires slot { slot < length self.old.ends.places }
+        requires kind { content.kind ≤ 0x7FFF }
+        ensures keeps { KeepsPlan self.old self.new }
+        ensures calls { GoesOn (L.calls link.old) (L.calls link.new) }
+        ensures step { IfOk result (λ failed. (told : Answers) (rest : Rest) → Agrees told (L.calls link.new)
+            → record { work = at_control self.new rest (L.calls link.new) out.new; failed = failed }
+            ≡ tells_over told (place_of self.old.ends slot) content (status_to_tell self.old.plan (controlled self.old rest) (place_of self.old.ends slot)) content.status (at_control self.old rest (L.calls link.old) out.old)) }
+    {
+        match content.status {
+            Some(last) => self.tell_unless(alloc, slot, content, last, link, out),
+            None => Ok(false),
+        }
+    }
+
+    // A status other than the last one is told.
+    fn tell_unless<L: Link>(
+        &mut self,
+        alloc: Global,
+        slot: usize,
+        content: Told,
+        last: PwStatus,
+        link: &mut L,
+        out: &mut List<Effect>,
+    ) -> Result<bool, NoMemory>
+        requires slot { slot < length self.old.ends.places }
+        requires kind { content.kind ≤ 0x7FFF }
+        ensures keeps { KeepsPlan self.old self.new }
+        ensures calls { GoesOn (L.calls link.old) (L.calls link.new) }
+        ensures step { IfOk result (λ failed. (told : Answers) (rest : Rest) → Agrees told (L.calls link.new)
+            → record { work = at_control self.new rest (L.calls link.new) out.new; failed = failed }
+            ≡ tells_over told (place_of self.old.ends slot) content (status_to_tell self.old.plan (controlled self.old rest) (place_of self.old.ends slot)) (Some last) (at_control self.old rest (L.calls link.old) out.old)) }
+    {
+        let status = self.status_to_tell(slot);
+        if last.0 == status.0 {
+            return Ok(false);
+        }
+        self.put_status(alloc, slot, content, status, link, out)
+    }
+
+    // An end tells a new status, and puts that.
+    fn put_status<L: Link>(
+        &mut self,
+        alloc: Global,
+        slot: usize,
+        content: Told,
+        status: PwStatus,
+        link: &mut L,
+        out: &mut List<Effect>,
+    ) -> Result<bool, NoMemory>
+        requires slot { slot < length self.old.ends.places }
+        requires kind { content.kind ≤ 0x7FFF }
+        ensures keeps { KeepsPlan self.old self.new }
+        ensures calls { GoesOn (L.calls link.old) (L.calls link.new) }
+        ensures step { IfOk result (λ failed. (told : Answers) (rest : Rest) → Agrees told (L.calls link.new)
+            → record { work = at_control self.new rest (L.calls link.new) out.new; failed = failed }
+            ≡ tells_new_status told (place_of self.old.ends slot) content status (at_control self.old rest (L.calls link.old) out.old)) }
+    {
+        let place = self.place_at(slot);
+        self.tell(slot, status);
+        let message = PwMessage::Status {
+            pw_id: place.pw_id,
+            status,
+            told: content,
+        };
+        self.say(alloc, place.peer, &message, link, out)
+    }
+
+    // A wire that began to forward, or stopped, is told at its terminal end.
+    pub(super) fn tell_down(&mut self, slot: usize, out: &mut List<Effect>) -> Result<(), NoMemory>
+        requires { slot < length self.old.ends.places }
+        ensures keeps { KeepsPlan self.old self.new }
+        ensures step { OnOk result ((rest : Rest) (calls : List LinkCall)
+            → at_control self.new rest calls out.new ≡ mended_down self.old.plan (place_of self.old.ends slot) (at_control self.old rest calls out.old)) }
+    {
+        let place = self.place_at(slot);
+        if !place.terminal {
+            return Ok(());
+        }
+        let down = self.down_of(slot);
+        self.tell_new_down(place.wire, down, out)
+    }
+
+    // Why an end does not forward is told, where that was not told last.
+    fn tell_new_down(
+        &mut self,
+        wire: WireId,
+        down: Option<Down>,
+        out: &mut List<Effect>,
+    ) -> Result<(), NoMemory>
+        requires { wire.0 < length self.old.plan.wires }
+        ensures keeps { KeepsPlan self.old self.new }
+        ensures step { OnOk result ((place : EndPlace) (rest : Rest) (calls : List LinkCall) → place.wire ≡ wire
+            → at_control self.new rest calls out.new ≡ tells_down place down (at_control self.old rest calls out.old)) }
+    {
+        if is_same(self.told_last(wire), down) {
+            return Ok(());
+        }
+        self.set_told(wire, down);
+        out.push(Effect::Wire { wire, down })
+    }
+
+    // What was told last of the end of a wire.
+    #[tactic(auto, unfolding(crate::specs::Control::controlled))]
+    fn told_last(&self, wire: WireId) -> Option<Down>
+        requires { wire.0 < length self.now.plan.wires }
+        ensures { (rest : Rest) → result ≡ (controlled self.now rest).told_down wire.0 }
+    {
+        self.told_down[wire.0 as usize]
+    }
+
+    // This is told of the end of a wire.
+    fn set_told(&mut self, wire: WireId, down: Option<Down>)
+        requires { wire.0 < length self.old.plan.wires }
+        ensures keeps { KeepsPlan self.old self.new }
+        ensures step { (rest : Rest) → controlled self.new rest ≡ with_told_down wire down (controlled self.old rest) }
+    {
+        self.told_down[wire.0 as usize] = down;
+    }
+
+    // ---- what an end should tell
+
+    // Where the end of a slot is, at a wire of the plan.
+    #[tactic(auto, using(crate::proofs::ControlLemmas::slot_wire))]
+    fn place_at(&self, slot: usize) -> EndPlace
+        requires { slot < length self.now.ends.places }
+        ensures place { result ≡ place_of self.now.ends slot }
+        ensures wire { result.wire.0 < length self.now.plan.wires }
+    {
+        self.ends.place(slot)
+    }
+
+    // The end of a slot. Where it advertises, its PW type has 15 bits.
+    fn end_in(&self, slot: usize) -> &PwEnd
+        requires { slot < length self.now.ends.places }
+        ensures end { end_of result.now ≡ end_in self.now.ends slot }
+        ensures kind { HasKind (end_in self.now.ends slot).local }
+    {
+        self.ends.end(slot)
+    }
+
+    // What an end should tell: nothing unless its wire is on at this edge and the session with its peer is up.
+    fn wish(&self, slot: usize) -> Option<Told>
+        requires { slot < length self.now.ends.places }
+        ensures wish { (rest : Rest) → result ≡ wish self.now.plan (controlled self.now rest) (place_of self.now.ends slot) }
+        ensures kind { IfSome result (λ told. told.kind ≤ 0x7FFF) }
+        ensures vlan { IfSome result (λ told. has_vlan told.vlan ≡ true) }
+    {
+        let place = self.place_at(slot);
+        let row = self.plan.wires.get(place.wire.0 as usize)?;
+        if !self.may_tell(&place) {
+            return None;
+        }
+        self.wish_by(slot, row)
+    }
+
+    // What a terminal end of this wire should tell, where its wire is on and the session with its peer is up.
+    fn wish_by(&self, slot: usize, row: &WirePlan) -> Option<Told>
+        requires slot { slot < length self.now.ends.places }
+        requires row { wire_row self.now.plan (place_of self.now.ends slot).wire ≡ Some row.now }
+        ensures wish { (rest : Rest) → result ≡ terminal_wish self.now.plan (controlled self.now rest) (place_of self.now.ends slot) (offer_of row.now (controlled self.now rest).me.0) }
+        ensures kind { IfSome result (λ told. told.kind ≤ 0x7FFF) }
+        ensures vlan { IfSome result (λ told. has_vlan told.vlan ≡ true) }
+    {
+        let place = self.place_at(slot);
+        let offer = row.offer_of(self.me);
+        let remote = self.end_in(slot).remote();
+        terminal_wish(
+            &offer,
+            remote,
+            self.bits_of(place.wire),
+            self.status_to_tell(slot),
+        )
+    }
+
+    // The wire of an end is on, the session with its peer is up, and the end is a terminal one.
+    #[tactic(auto, unfolding(crate::specs::Control::controlled))]
+    fn may_tell(&self, place: &EndPlace) -> bool
+        requires { place.now.wire.0 < length self.now.plan.wires }
+        ensures { (rest : Rest) → result ≡ may_tell (controlled self.now rest) place.now }
+    {
+        self.wires_on[place.wire.0 as usize] && self.is_up(place.peer) && place.terminal
+    }
+
+    /// The failure bits of the end of a wire, at most 31.
+    #[tactic(auto, unfolding(crate::specs::Control::controlled))]
+    pub fn bits_of(&self, wire: WireId) -> u8
+        requires { wire.0 < length self.now.plan.wires }
+        ensures bits { (rest : Rest) → result ≡ (controlled self.now rest).bits wire.0 }
+        ensures small { result ≤ 31 }
+    {
+        self.bits[wire.0 as usize]
+    }
+
+    // What an end is to its service.
+    #[tactic(auto, unfolding(crate::specs::Control::controlled))]
+    fn role_of(&self, slot: usize) -> EndRole
+        requires { slot < length self.now.ends.places }
+        ensures { (rest : Rest) → result ≡ role_at self.now.plan (controlled self.now rest) (place_of self.now.ends slot) }
+    {
+        let place = self.place_at(slot);
+        role_at(&self.plan, place.wire, self.me)
+    }
+
+    // The status that an end tells.
+    fn status_to_tell(&self, slot: usize) -> PwStatus
+        requires { slot < length self.now.ends.places }
+        ensures { (rest : Rest) → result ≡ status_to_tell self.now.plan (controlled self.now rest) (place_of self.now.ends slot) }
+    {
+        let place = self.place_at(slot);
+        status_to_tell(self.role_of(slot), self.bits_of(place.wire))
+    }
+
+    // Why an end does not forward.
+    #[tactic(auto, unfolding(crate::specs::Control::controlled))]
+    pub(super) fn down_of(&self, slot: usize) -> Option<Down>
+        requires { slot < length self.now.ends.places }
+        ensures { (rest : Rest) → result ≡ down_at self.now.plan (controlled self.now rest) (place_of self.now.ends slot) }
+    {
+        let place = self.place_at(slot);
+        let role = self.role_of(slot);
+        self.end_in(slot).why_down(role, self.bits_of(place.wire))
+    }
+}
+
+// Whether two answers why an end does not forward are the same.
+fn is_same(one: Option<Down>, other: Option<Down>) -> bool
+    ensures { result ≡ (cause_number one == cause_number other) }
+{
+    cause_number(one) == cause_number(other)
+}
+
+// The number of a cause in the order of causes, and 0 where there is none.
+fn cause_number(down: Option<Down>) -> u8
+    ensures { result ≡ cause_number down }
+{
+    match down {
+        None => 0,
+        Some(Down::NoLocal) => 1,
+        Some(Down::NoRemote) => 2,
+        Some(Down::CBit) => 3,
+        Some(Down::Kind) => 4,
+        Some(Down::Mtu) => 5,
+        Some(Down::LocalFault) => 6,
+        Some(Down::RemoteFault) => 7,
+        Some(Down::Standby) => 8,
+    }
+}

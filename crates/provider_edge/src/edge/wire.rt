@@ -1,0 +1,78 @@
+//! A wire is put on or off, and the failure bits of the edge's end of it are set.
+ghost use Rattle.std.specs.Prelude.{◌≡◌, ◌<◌, ◌≤◌, length, IfOk};
+ghost use Rattle.edge_model.specs.State.{with_bits};
+ghost use Rattle.edge_model.specs.Wire.{status_input, turned_wire, wire_input};
+ghost use Rattle.edge_model.specs.Work.{Agrees, Answers, GoesOn, beginning};
+ghost use Rattle.provider_edge.specs.Lists.{Keeps, seen, worked};
+
+use crate::Edge;
+use crate::quiet::idle;
+use edge_model::Effects;
+use net_base::{Link, List, NoMemory, WireId};
+use std::alloc::Global;
+
+impl Edge {
+    // A wire that passes the edge is put on or off, where it is not so already.
+    pub(crate) fn wire<L: Link>(
+        &mut self,
+        alloc: Global,
+        wire: WireId,
+        on: bool,
+        link: &mut L,
+    ) -> Result<Effects, NoMemory>
+        ensures keeps { Keeps self.old self.new }
+        ensures calls { GoesOn (L.calls link.old) (L.calls link.new) }
+        ensures step { IfOk result (λ effects. (told : Answers) → Agrees told (L.calls link.new)
+            → worked self.new (L.calls link.new) effects ≡ wire_input self.old.plan told wire on (beginning (seen self.old) (L.calls link.old))) }
+    {
+        if !self.control.passes(wire) || self.control.is_on(wire) == on {
+            return Ok(idle(alloc));
+        }
+        self.turn_wire(wire, on);
+        let mut list = List::new(alloc);
+        self.mend(alloc, link, &mut list)?;
+        Ok(Effects { idle: false, list })
+    }
+
+    // Puts a wire on or off.
+    fn turn_wire(&mut self, wire: WireId, on: bool)
+        requires { wire.0 < length self.old.plan.wires }
+        ensures keeps { Keeps self.old self.new }
+        ensures step { seen self.new ≡ turned_wire wire on (seen self.old) }
+    {
+        self.control.turn(wire, on);
+    }
+
+    // The failure bits of the edge's end of a wire are set, where they are others.
+    pub(crate) fn status<L: Link>(
+        &mut self,
+        alloc: Global,
+        wire: WireId,
+        bits: u8,
+        link: &mut L,
+    ) -> Result<Effects, NoMemory>
+        requires { bits ≤ 31 }
+        ensures keeps { Keeps self.old self.new }
+        ensures calls { GoesOn (L.calls link.old) (L.calls link.new) }
+        ensures step { IfOk result (λ effects. (told : Answers) → Agrees told (L.calls link.new)
+            → worked self.new (L.calls link.new) effects ≡ status_input self.old.plan told wire bits (beginning (seen self.old) (L.calls link.old))) }
+    {
+        if !self.control.ends_here(wire) || self.control.bits_of(wire) == bits {
+            return Ok(idle(alloc));
+        }
+        self.set_bits(wire, bits);
+        let mut list = List::new(alloc);
+        self.mend(alloc, link, &mut list)?;
+        Ok(Effects { idle: false, list })
+    }
+
+    // Sets the failure bits of the edge's end of a wire.
+    fn set_bits(&mut self, wire: WireId, bits: u8)
+        requires within { wire.0 < length self.old.plan.wires }
+        requires small { bits ≤ 31 }
+        ensures keeps { Keeps self.old self.new }
+        ensures step { seen self.new ≡ with_bits wire bits (seen self.old) }
+    {
+        self.control.set_bits(wire, bits);
+    }
+}

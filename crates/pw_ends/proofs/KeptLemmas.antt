@@ -1,0 +1,445 @@
+-- What the ends own, and what their label space has.
+use Rattle.std.proofs.Common.{◌≡◌, ◌≢◌, ◌<◌, ◌≤◌, ◌+◌, ◌++◌, ◌∙◌, ◌==◌, ◌⊎◌, ℕ, zero, suc, Bool, true, false, not, cond, List, [], ◌∷◌, Option, Some, None, length, get_or, set, map, replicate, refl, ap, sym, subst, arith, inl, inr}
+use Rattle.std.specs.Prelude.{filter}
+use Rattle.std.specs.List.{AllByRecursion}
+use Rattle.std.proofs.lemmas.Bool.{cases_Bool}
+use Rattle.std.proofs.lemmas.Bool.Decides.{nat_tests}
+use Rattle.std.proofs.lemmas.List.{map-set, length-set}
+use Rattle.net_base.specs.declared.plan.places.SegKey.{SegKey}
+use Rattle.label_space.specs.declared.label_owner.LabelOwner.{LabelOwner}
+use Rattle.label_space.specs.Labels.{AreBelow, LabelNumbers, freed, issued, numbers_end, owner_of, owns}
+use Rattle.label_space.proofs.LabelLemmas.{below_filtered, below_pushed, below_none, owner_of-above, owner_of-kept, owner_of-next}
+use Rattle.pw_signalling.specs.AnyEnd.{end_of}
+use Rattle.pw_signalling.specs.declared.pw_end.PwEnd.{PwEnd}
+use Rattle.pw_signalling.specs.declared.told.Told.{Told}
+use Rattle.pw_signalling.specs.End.{EndState, LocalPart, Idle, Advertised, Withdrawing, fresh}
+use Rattle.pw_signalling.specs.Laws.{own_label}
+use Rattle.pw_signalling.specs.Rows.{advertised, advertise_part, tell_part, withdraw_part, renew_part, release_part, names, is_in_group, unbound, stated}
+use Rattle.edge_model.specs.declared.end_place.EndPlace.{EndPlace}
+use Rattle.pw_ends.specs.declared.end_change.EndChange.{EndChange}
+use Rattle.pw_ends.specs.declared.end_change.EndChange.TheVariants as change
+use Rattle.pw_ends.specs.Changes.{changed, changed_in}
+use Rattle.pw_ends.specs.Ends.{HasKind, IsIdle}
+use Rattle.pw_ends.specs.Kept.{AreApart, AreKept, Differ, IsOwned, OwnApart, OwnTheirs, count_owned, freed_one, left_label, one_owned, own_of}
+
+-- ---- counting
+
+count_set : (owns : List (Option ℕ)) (slot : ℕ) (own : Option ℕ) → slot < length owns → count_owned (set owns slot own) + one_owned (get_or owns slot None) ≡ count_owned owns + one_owned own
+count_set [] slot own within = absurd (omega (arith, within))
+count_set (o ∷ os) zero own within = omega arith
+count_set (o ∷ os) (suc slot) own within = omega (arith, count_set os slot own (omega (arith, within)))
+
+one_most : (own : Option ℕ) → one_owned own ≤ 1
+one_most None = omega arith
+one_most (Some label) = omega arith
+
+count_most : (owns : List (Option ℕ)) → count_owned owns ≤ length owns
+count_most [] = omega arith
+count_most (o ∷ os) = omega (arith, one_most o, count_most os)
+
+-- an end that owns no label leaves room for one
+count_less : (owns : List (Option ℕ)) (slot : ℕ) → slot < length owns → get_or owns slot None ≡ None → count_owned owns < length owns
+count_less [] slot within none = absurd (omega (arith, within))
+count_less (o ∷ os) zero within none = rw none (omega (arith, count_most os))
+count_less (o ∷ os) (suc slot) within none = omega (arith, one_most o, count_less os slot (omega (arith, within)) none)
+
+-- ---- owners
+
+something : {X : Type 0} (x : X) → Some x ≡ None → ⊥
+something x is = cc
+
+filter_most : (p : LabelOwner → Bool) (xs : List LabelOwner) → length (filter p xs) ≤ length xs
+filter_most p [] = omega arith
+filter_most p (x ∷ xs) =
+    let rest : length (filter p xs) ≤ length xs = filter_most p xs in
+    elim (p x) as (λ v. length (cond v (x ∷ filter p xs) (filter p xs)) ≤ length (x ∷ xs)) [
+      | true ↦ omega (arith, rest)
+      | false ↦ omega (arith, rest)
+    ]
+
+-- the owner of a label goes
+filter_less : (label : ℕ) (xs : List LabelOwner) → owner_of label xs ≢ None → length (filter (λ o. not (owns label o)) xs) < length xs
+filter_less label [] some = absurd (some refl)
+filter_less label (x ∷ xs) some = elim (cases_Bool (owns label x)) [
+  | inl found ↦ rw found (omega (arith, filter_most (λ o. not (owns label o)) xs))
+  | inr other ↦
+      (let rest : length (filter (λ o. not (owns label o)) xs) < length xs = filter_less label xs (rw other at some) in
+      rw other (omega (arith, rest)))
+]
+
+-- a label that is owned was given before
+owned_below : (next label : ℕ) (xs : List LabelOwner) → AreBelow next xs → owner_of label xs ≢ None → label ≢ next
+owned_below next label xs below some = λ same. some (ap (λ (l : ℕ). owner_of l xs) same ∙ owner_of-above next xs below)
+
+-- a label that is owned stays so where another owner comes
+pushed_some : (label : ℕ) (xs : List LabelOwner) (owner : LabelOwner) → owner_of label xs ≢ None → owner_of label (xs ++ owner ∷ []) ≢ None
+pushed_some label [] owner some = absurd (some refl)
+pushed_some label (x ∷ xs) owner some = elim (cases_Bool (owns label x)) [
+  | inl found ↦ rw found (λ none. something {X = SegKey × ℕ} (x.key, x.side) none)
+  | inr other ↦ rw other (pushed_some label xs owner (rw other at some))
+]
+
+-- ---- a label is freed
+
+freed_owned : (owners : List LabelOwner) (label : ℕ) (other : Option ℕ) → Differ (Some label) other → IsOwned owners other → IsOwned (filter (λ o. not (owns label o)) owners) other
+freed_owned owners label None differ owned = tt
+freed_owned owners label (Some other) differ owned = λ none. owned (sym (owner_of-kept label other owners (λ same. differ (sym same))) ∙ none)
+
+differ_sym : (a b : Option ℕ) → Differ a b → Differ b a
+differ_sym None None differ = tt
+differ_sym None (Some b) differ = tt
+differ_sym (Some a) None differ = tt
+differ_sym (Some a) (Some b) differ = λ same. differ (sym same)
+
+all_at : (P : Option ℕ → Type 0) (owns : List (Option ℕ)) (slot : ℕ) → AllByRecursion P owns → slot < length owns → P (get_or owns slot None)
+all_at P [] slot all within = absurd (omega (arith, within))
+all_at P (o ∷ os) zero all within = all.0
+all_at P (o ∷ os) (suc slot) all within = all_at P os slot all.1 (omega (arith, within))
+
+all_set : {X : Type 0} (P : X → Type 0) (xs : List X) (slot : ℕ) (x : X) → AllByRecursion P xs → P x → AllByRecursion P (set xs slot x)
+all_set P [] slot x all is = tt
+all_set P (y ∷ ys) zero x all is = (is, all.1)
+all_set P (y ∷ ys) (suc slot) x all is = (all.0, all_set P ys slot x all.1 is)
+
+all_freed : (owners : List LabelOwner) (label : ℕ) (owns_list : List (Option ℕ)) → AllByRecursion (Differ (Some label)) owns_list → AllByRecursion (IsOwned owners) owns_list → AllByRecursion (IsOwned (filter (λ o. not (owns label o)) owners)) owns_list
+all_freed owners label [] differ owned = tt
+all_freed owners label (o ∷ os) differ owned = (freed_owned owners label o differ.0 owned.0, all_freed owners label os differ.1 owned.1)
+
+-- each other end's label stays owned
+set_freed : (owners : List LabelOwner) (label : ℕ) (own_list : List (Option ℕ)) (slot : ℕ) → OwnApart own_list → AllByRecursion (IsOwned owners) own_list → slot < length own_list → get_or own_list slot None ≡ Some label → AllByRecursion (IsOwned (filter (λ o. not (owns label o)) owners)) (set own_list slot None)
+set_freed owners label [] slot apart owned within at = absurd (omega (arith, within))
+set_freed owners label (o ∷ os) zero apart owned within at = (tt, all_freed owners label os (rw at at apart.0) owned.1)
+set_freed owners label (o ∷ os) (suc slot) apart owned within at =
+    let differ : Differ o (Some label) = rw at at (all_at (Differ o) os slot apart.0 (omega (arith, within))) in
+    (freed_owned owners label o (differ_sym o (Some label) differ) owned.0, set_freed owners label os slot apart.1 owned.1 (omega (arith, within)) at)
+
+differ_none : (own : Option ℕ) → Differ own None
+differ_none None = tt
+differ_none (Some label) = tt
+
+apart_none : (own_list : List (Option ℕ)) (slot : ℕ) → OwnApart own_list → OwnApart (set own_list slot None)
+apart_none [] slot apart = tt
+apart_none (o ∷ os) zero apart = (all_none os, apart.1)
+  where
+    all_none : (others : List (Option ℕ)) → AllByRecursion (Differ None) others
+    all_none [] = tt
+    all_none (x ∷ xs) = (tt, all_none xs)
+apart_none (o ∷ os) (suc slot) apart = (all_set (Differ o) os slot None apart.0 (differ_none o), apart_none os slot apart.1)
+
+-- the end at a slot owns its label no longer
+theirs_freed : (own_list : List (Option ℕ)) (labels : LabelNumbers) (slot : ℕ) (label : ℕ) → OwnTheirs own_list labels → slot < length own_list → get_or own_list slot None ≡ Some label → OwnTheirs (set own_list slot None) (freed label labels)
+theirs_freed own_list labels slot label theirs within at =
+    let some : owner_of label labels.owners ≢ None = rw at at (all_at (IsOwned labels.owners) own_list slot theirs.owned within) in
+    let count : count_owned (set own_list slot None) + 1 ≡ count_owned own_list + 0 = rw at at (count_set own_list slot None within) in
+    record {
+      owned = set_freed labels.owners label own_list slot theirs.apart theirs.owned within at;
+      apart = apart_none own_list slot theirs.apart;
+      few = omega (arith, theirs.few, count, filter_less label labels.owners some);
+      given = below_filtered (λ o. not (owns label o)) labels.next labels.owners theirs.given;
+    }
+
+-- ---- a label is given
+
+issued_owned : (owners : List LabelOwner) (owner : LabelOwner) (own : Option ℕ) → IsOwned owners own → IsOwned (owners ++ owner ∷ []) own
+issued_owned owners owner None owned = tt
+issued_owned owners owner (Some label) owned = pushed_some label owners owner owned
+
+all_issued : (owners : List LabelOwner) (owner : LabelOwner) (own_list : List (Option ℕ)) → AllByRecursion (IsOwned owners) own_list → AllByRecursion (IsOwned (owners ++ owner ∷ [])) own_list
+all_issued owners owner [] owned = tt
+all_issued owners owner (o ∷ os) owned = (issued_owned owners owner o owned.0, all_issued owners owner os owned.1)
+
+differ_next : (owners : List LabelOwner) (next : ℕ) (own : Option ℕ) → AreBelow next owners → IsOwned owners own → Differ own (Some next)
+differ_next owners next None below owned = tt
+differ_next owners next (Some label) below owned = owned_below next label owners below owned
+
+all_next : (owners : List LabelOwner) (next : ℕ) (own_list : List (Option ℕ)) → AreBelow next owners → AllByRecursion (IsOwned owners) own_list → AllByRecursion (Differ (Some next)) own_list
+all_next owners next [] below owned = tt
+all_next owners next (o ∷ os) below owned = (differ_sym o (Some next) (differ_next owners next o below owned.0), all_next owners next os below owned.1)
+
+apart_next : (owners : List LabelOwner) (next : ℕ) (own_list : List (Option ℕ)) (slot : ℕ) → AreBelow next owners → AllByRecursion (IsOwned owners) own_list → OwnApart own_list → OwnApart (set own_list slot (Some next))
+apart_next owners next [] slot below owned apart = tt
+apart_next owners next (o ∷ os) zero below owned apart = (all_next owners next os below owned.1, apart.1)
+apart_next owners next (o ∷ os) (suc slot) below owned apart = (all_set (Differ o) os slot (Some next) apart.0 (differ_next owners next o below owned.0), apart_next owners next os slot below owned.1 apart.1)
+
+-- an end that owned none owns the next label
+theirs_issued : (own_list : List (Option ℕ)) (labels : LabelNumbers) (slot : ℕ) (key : SegKey) (side : ℕ) → OwnTheirs own_list labels → slot < length own_list → get_or own_list slot None ≡ None → (labels.next == numbers_end) ≡ false → OwnTheirs (set own_list slot (Some labels.next)) (issued key side labels)
+theirs_issued own_list labels slot key side theirs within at left =
+    let owner : LabelOwner = record { label = labels.next; key = key; side = side } in
+    let count : count_owned (set own_list slot (Some labels.next)) + 0 ≡ count_owned own_list + 1 = rw at at (count_set own_list slot (Some labels.next) within) in
+    let is : owner_of labels.next (labels.owners ++ owner ∷ []) ≡ Some (key, side) = owner_of-next labels.next labels.next key side labels.owners (labels.owners ++ owner ∷ []) theirs.given refl refl in
+    rw left (record {
+      owned = all_set (IsOwned (labels.owners ++ owner ∷ [])) own_list slot (Some labels.next) (all_issued labels.owners owner own_list theirs.owned) (λ none. something {X = SegKey × ℕ} (key, side) (sym is ∙ none));
+      apart = apart_next labels.owners labels.next own_list slot theirs.given theirs.owned theirs.apart;
+      few = more labels.owners owner (count_owned own_list) (count_owned (set own_list slot (Some labels.next))) theirs.few count;
+      given = below_pushed labels.next labels.owners key side theirs.given;
+    })
+  where
+    longer : (xs : List LabelOwner) (x : LabelOwner) → length (xs ++ x ∷ []) ≡ length xs + 1
+    longer [] x = refl
+    longer (y ∷ ys) x = omega (arith, longer ys x)
+
+    more : (xs : List LabelOwner) (x : LabelOwner) (before now : ℕ) → length xs ≤ before → now + 0 ≡ before + 1 → length (xs ++ x ∷ []) ≤ now
+    more xs x before now few count = omega (arith, longer xs x, few, count)
+
+-- ---- an end is changed
+
+-- the label after a change: the same, or none
+stays_or_none : (c : EndChange) (e : EndState) → (own_of (changed c e) ≡ own_of e) ⊎ (own_of (changed c e) ≡ None)
+stays_or_none change.Withdrawn e = inl (part e.local)
+  where
+    part : (local : LocalPart) → own_label (withdraw_part local) ≡ own_label local
+    part (Idle declined) = refl
+    part (Advertised own told) = refl
+    part (Withdrawing own) = refl
+stays_or_none (change.Telling status) e = inl (part e.local)
+  where
+    part : (local : LocalPart) → own_label (tell_part status local) ≡ own_label local
+    part (Idle declined) = refl
+    part (Advertised own told) = refl
+    part (Withdrawing own) = refl
+stays_or_none change.Renewed e = inl (part e.local)
+  where
+    part : (local : LocalPart) → own_label (renew_part local) ≡ own_label local
+    part (Idle declined) = refl
+    part (Advertised own told) = refl
+    part (Withdrawing own) = refl
+stays_or_none (change.Bound binding) e = inl refl
+stays_or_none (change.Unbound label) e = inl refl
+stays_or_none (change.Released label) e = part e.local
+  where
+    part : (local : LocalPart) → (own_label (release_part label local) ≡ own_label local) ⊎ (own_label (release_part label local) ≡ None)
+    part (Idle declined) = inl refl
+    part (Advertised own told) = elim (names label own) as (λ v. (own_label (cond v (Idle true) (Advertised own told)) ≡ Some own) ⊎ (own_label (cond v (Idle true) (Advertised own told)) ≡ None)) [
+      | true ↦ inr refl
+      | false ↦ inl refl
+    ]
+    part (Withdrawing own) = elim (names label own) as (λ v. (own_label (cond v (Idle false) (Withdrawing own)) ≡ Some own) ⊎ (own_label (cond v (Idle false) (Withdrawing own)) ≡ None)) [
+      | true ↦ inr refl
+      | false ↦ inl refl
+    ]
+stays_or_none (change.Stated status) e = inl refl
+stays_or_none (change.GroupUnbound group) e = inl (elim (is_in_group group e.remote) as (λ v. own_of (cond v (unbound None e) e) ≡ own_of e) [
+  | true ↦ refl
+  | false ↦ refl
+])
+stays_or_none (change.GroupStated group status) e = inl (elim (is_in_group group e.remote) as (λ v. own_of (cond v (stated status e) e) ≡ own_of e) [
+  | true ↦ refl
+  | false ↦ refl
+])
+stays_or_none change.Lost e = inr refl
+
+-- what an end may tell stays so
+kind_stays : (c : EndChange) (e : EndState) → HasKind e.local → HasKind (changed c e).local
+kind_stays change.Withdrawn e kind = part e.local
+  where
+    part : (local : LocalPart) → HasKind (withdraw_part local)
+    part (Idle declined) = tt
+    part (Advertised own told) = tt
+    part (Withdrawing own) = tt
+kind_stays (change.Telling status) e kind = part e.local kind
+  where
+    part : (local : LocalPart) → HasKind local → HasKind (tell_part status local)
+    part (Idle declined) kind = kind
+    part (Advertised own told) kind = kind
+    part (Withdrawing own) kind = kind
+kind_stays change.Renewed e kind = part e.local kind
+  where
+    part : (local : LocalPart) → HasKind local → HasKind (renew_part local)
+    part (Idle declined) kind = kind
+    part (Advertised own told) kind = kind
+    part (Withdrawing own) kind = kind
+kind_stays (change.Bound binding) e kind = kind
+kind_stays (change.Unbound label) e kind = kind
+kind_stays (change.Released label) e kind = part e.local kind
+  where
+    part : (local : LocalPart) → HasKind local → HasKind (release_part label local)
+    part (Idle declined) kind = kind
+    part (Advertised own told) kind = elim (names label own) as (λ v. HasKind (cond v (Idle true) (Advertised own told))) [
+      | true ↦ tt
+      | false ↦ kind
+    ]
+    part (Withdrawing own) kind = elim (names label own) as (λ v. HasKind (cond v (Idle false) (Withdrawing own))) [
+      | true ↦ tt
+      | false ↦ kind
+    ]
+kind_stays (change.Stated status) e kind = kind
+kind_stays (change.GroupUnbound group) e kind = elim (is_in_group group e.remote) as (λ v. HasKind (cond v (unbound None e) e).local) [
+  | true ↦ kind
+  | false ↦ kind
+]
+kind_stays (change.GroupStated group status) e kind = elim (is_in_group group e.remote) as (λ v. HasKind (cond v (stated status e) e).local) [
+  | true ↦ kind
+  | false ↦ kind
+]
+kind_stays change.Lost e kind = tt
+
+pub ends_at : (P : EndState → Type 0) (ends : List EndState) (slot : ℕ) → AllByRecursion P ends → slot < length ends → P (get_or ends slot fresh)
+ends_at P [] slot all within = absurd (omega (arith, within))
+ends_at P (e ∷ es) zero all within = all.0
+ends_at P (e ∷ es) (suc slot) all within = ends_at P es slot all.1 (omega (arith, within))
+
+own_count : (ends : List EndState) → length (map own_of ends) ≡ length ends
+own_count [] = refl
+own_count (e ∷ es) = ap suc (own_count es)
+
+own_at : (ends : List EndState) (slot : ℕ) → get_or (map own_of ends) slot None ≡ own_of (get_or ends slot fresh)
+own_at [] slot = refl
+own_at (e ∷ es) zero = refl
+own_at (e ∷ es) (suc slot) = own_at es slot
+
+set_same : {X : Type 0} (xs : List X) (slot : ℕ) (d x : X) → slot < length xs → x ≡ get_or xs slot d → set xs slot x ≡ xs
+set_same [] slot d x within is = refl
+set_same {X} (y ∷ ys) zero d x within is = ap (λ (z : X). z ∷ ys) is
+set_same {X} (y ∷ ys) (suc slot) d x within is = ap (λ (l : List X). y ∷ l) (set_same ys slot d x (omega (arith, within)) is)
+
+-- after a change the ends own what is left in the label space
+theirs_changed : (own_list : List (Option ℕ)) (labels : LabelNumbers) (slot : ℕ) (before after : Option ℕ) → OwnTheirs own_list labels → slot < length own_list → get_or own_list slot None ≡ before → (after ≡ before) ⊎ (after ≡ None) → OwnTheirs (set own_list slot after) (freed_one (left_label before after) labels)
+theirs_changed own_list labels slot None None theirs within at either = rw (set_same own_list slot None None within (sym at)) theirs
+theirs_changed own_list labels slot None (Some label) theirs within at (inl same) = absurd (something {X = ℕ} label same)
+theirs_changed own_list labels slot None (Some label) theirs within at (inr none) = absurd (something {X = ℕ} label none)
+theirs_changed own_list labels slot (Some label) None theirs within at either = theirs_freed own_list labels slot label theirs within at
+theirs_changed own_list labels slot (Some label) (Some other) theirs within at (inl same) = rw (set_same own_list slot None (Some other) within (same ∙ sym at)) theirs
+theirs_changed own_list labels slot (Some label) (Some other) theirs within at (inr none) = absurd (something {X = ℕ} other none)
+
+-- a slot is one of the ends
+pub slot_within : (places : List EndPlace) (ends : List PwEnd) (labels : LabelNumbers) (slot : ℕ) → AreKept places (map end_of ends) labels → slot < length places → slot < length ends
+slot_within places ends labels slot kept within = omega (arith, within, kept.count, all_seen ends)
+  where
+    all_seen : (es : List PwEnd) → length (map end_of es) ≡ length es
+    all_seen [] = refl
+    all_seen (e ∷ es) = ap suc (all_seen es)
+
+freed_room : (left : Option ℕ) (labels : LabelNumbers) → (freed_one left labels).room ≡ labels.room
+freed_room None labels = refl
+freed_room (Some label) labels = refl
+
+pub freed_next : (left : Option ℕ) (labels : LabelNumbers) → (freed_one left labels).next ≡ labels.next
+freed_next None labels = refl
+freed_next (Some label) labels = refl
+
+pub kept_changed : (c : EndChange) (places : List EndPlace) (ends : List EndState) (labels : LabelNumbers) (slot : ℕ) → AreKept places ends labels → slot < length places →
+    AreKept places (changed_in (changed c) slot ends) (freed_one (left_label (own_of (get_or ends slot fresh)) (own_of (get_or (changed_in (changed c) slot ends) slot fresh))) labels)
+kept_changed c places ends labels slot kept within =
+    let old : EndState = get_or ends slot fresh in
+    let short : slot < length ends = subst (λ (n : ℕ). slot < n) (sym kept.count) within in
+    let short_own : slot < length (map own_of ends) = subst (λ (n : ℕ). slot < n) (sym (own_count ends)) short in
+    let now : get_or (changed_in (changed c) slot ends) slot fresh ≡ changed c old = set_at ends slot (changed c old) short in
+    let theirs = theirs_changed (map own_of ends) labels slot (own_of old) (own_of (changed c old)) kept.owns short_own (own_at ends slot) (stays_or_none c old) in
+    let owned : map own_of (changed_in (changed c) slot ends) ≡ set (map own_of ends) slot (own_of (changed c old)) = map-set own_of ends slot (changed c old) in
+    rw now (record {
+      count = length-set ends slot (changed c old) ∙ kept.count;
+      apart = kept.apart;
+      room = freed_room (left_label (own_of old) (own_of (changed c old))) labels ∙ kept.room;
+      owns = rw owned theirs;
+      kinds = all_set (λ (end : EndState). HasKind end.local) ends slot (changed c old) kept.kinds (kind_stays c old (ends_at (λ (end : EndState). HasKind end.local) ends slot kept.kinds short));
+    })
+  where
+    set_at : (es : List EndState) (i : ℕ) (e : EndState) → i < length es → get_or (set es i e) i fresh ≡ e
+    set_at [] i e less = absurd (omega (arith, less))
+    set_at (x ∷ xs) zero e less = refl
+    set_at (x ∷ xs) (suc i) e less = set_at xs i e (omega (arith, less))
+
+-- the same of what the code has: the label before and after
+pub kept_moved : (c : EndChange) (places : List EndPlace) (ends now : List EndState) (labels left : LabelNumbers) (slot : ℕ) (before after : Option ℕ) → AreKept places ends labels → slot < length places → now ≡ changed_in (changed c) slot ends → before ≡ own_of (get_or ends slot fresh) → after ≡ own_of (get_or now slot fresh) → left ≡ freed_one (left_label before after) labels → AreKept places now left
+kept_moved c places ends now labels left slot before after kept within is first last freed_is =
+    rw (freed_is, first, last, is) (kept_changed c places ends labels slot kept within)
+
+-- ---- an end advertises
+
+idle_none : (local : LocalPart) → IsIdle local → own_label local ≡ None
+idle_none (Idle declined) idle = refl
+idle_none (Advertised label told) idle = absurd idle
+idle_none (Withdrawing label) idle = absurd idle
+
+-- an idle end leaves room for its label
+pub room_for : (places : List EndPlace) (ends : List EndState) (labels : LabelNumbers) (slot : ℕ) → AreKept places ends labels → slot < length places → IsIdle (get_or ends slot fresh).local → length labels.owners < labels.room
+room_for places ends labels slot kept within idle =
+    let short : slot < length (map own_of ends) = subst (λ (n : ℕ). slot < n) (sym (own_count ends ∙ kept.count)) within in
+    let none : get_or (map own_of ends) slot None ≡ None = own_at ends slot ∙ idle_none (get_or ends slot fresh).local idle in
+    let less : count_owned (map own_of ends) < length (map own_of ends) = count_less (map own_of ends) slot short none in
+    omega (arith, kept.owns.few, less, own_count ends, kept.count, kept.room)
+
+advertised_own : (label : ℕ) (told : Told) (local : LocalPart) → IsIdle local → own_label (advertise_part label told local) ≡ Some label
+advertised_own label told (Idle declined) idle = refl
+advertised_own label told (Advertised own t) idle = absurd idle
+advertised_own label told (Withdrawing own) idle = absurd idle
+
+advertised_kind : (label : ℕ) (told : Told) (local : LocalPart) → IsIdle local → told.kind ≤ 0x7FFF → HasKind (advertise_part label told local)
+advertised_kind label told (Idle declined) idle kind = kind
+advertised_kind label told (Advertised own t) idle kind = absurd idle
+advertised_kind label told (Withdrawing own) idle kind = absurd idle
+
+issued_room : (key : SegKey) (side : ℕ) (labels : LabelNumbers) → (issued key side labels).room ≡ labels.room
+issued_room key side labels = elim (cases_Bool (labels.next == numbers_end)) [
+  | inl last ↦ rw last refl
+  | inr other ↦ rw other refl
+]
+
+pub kept_issued : (key : SegKey) (side : ℕ) (told : Told) (places : List EndPlace) (ends : List EndState) (labels : LabelNumbers) (slot : ℕ) → AreKept places ends labels → slot < length places → IsIdle (get_or ends slot fresh).local → told.kind ≤ 0x7FFF → (labels.next == numbers_end) ≡ false →
+    AreKept places (changed_in (advertised labels.next told) slot ends) (issued key side labels)
+kept_issued key side told places ends labels slot kept within idle kind left =
+    let old : EndState = get_or ends slot fresh in
+    let new : EndState = advertised labels.next told old in
+    let short : slot < length ends = subst (λ (n : ℕ). slot < n) (sym kept.count) within in
+    let short_own : slot < length (map own_of ends) = subst (λ (n : ℕ). slot < n) (sym (own_count ends)) short in
+    let none : get_or (map own_of ends) slot None ≡ None = own_at ends slot ∙ idle_none old.local idle in
+    let owned : map own_of (changed_in (advertised labels.next told) slot ends) ≡ set (map own_of ends) slot (Some labels.next) =
+    map-set own_of ends slot new ∙ ap (λ (o : Option ℕ). set (map own_of ends) slot o) (advertised_own labels.next told old.local idle) in
+    record {
+      count = length-set ends slot new ∙ kept.count;
+      apart = kept.apart;
+      room = issued_room key side labels ∙ kept.room;
+      owns = rw owned (theirs_issued (map own_of ends) labels slot key side kept.owns short_own none left);
+      kinds = all_set (λ (end : EndState). HasKind end.local) ends slot new kept.kinds (advertised_kind labels.next told old.local idle kind);
+    }
+
+-- the same of what the code has
+pub kept_advertised : (key : SegKey) (side : ℕ) (told : Told) (places : List EndPlace) (ends now : List EndState) (labels left : LabelNumbers) (slot label : ℕ) → AreKept places ends labels → slot < length places → IsIdle (get_or ends slot fresh).local → told.kind ≤ 0x7FFF → labels.next ≢ numbers_end → label ≡ labels.next → now ≡ changed_in (advertised label told) slot ends → left ≡ issued key side labels → AreKept places now left
+kept_advertised key side told places ends now labels left slot label kept within idle kind some same is issued_is =
+    let more : (labels.next == numbers_end) ≡ false = grind (arith, nat_tests, some) in
+    rw (issued_is, is, same) (kept_issued key side told places ends labels slot kept within idle kind more)
+
+pub next_issued : (key : SegKey) (side : ℕ) (labels left : LabelNumbers) → labels.next ≢ numbers_end → left ≡ issued key side labels → left.next ≡ labels.next + 1
+next_issued key side labels left some is =
+    let more : (labels.next == numbers_end) ≡ false = grind (arith, nat_tests, some) in
+    rw (is, more) refl
+
+-- ---- opened
+
+none_own : (count : ℕ) → map own_of (replicate count fresh) ≡ replicate count None
+none_own zero = refl
+none_own (suc count) = ap (λ (l : List (Option ℕ)). None ∷ l) (none_own count)
+
+none_owned : (count : ℕ) (owners : List LabelOwner) → AllByRecursion (IsOwned owners) (replicate count None)
+none_owned zero owners = tt
+none_owned (suc count) owners = (tt, none_owned count owners)
+
+none_apart : (count : ℕ) → OwnApart (replicate count None)
+none_apart zero = tt
+none_apart (suc count) = (all_none count, none_apart count)
+  where
+    all_none : (n : ℕ) → AllByRecursion (Differ None) (replicate n None)
+    all_none zero = tt
+    all_none (suc n) = (tt, all_none n)
+
+none_kind : (count : ℕ) → AllByRecursion (λ (end : EndState). HasKind end.local) (replicate count fresh)
+none_kind zero = tt
+none_kind (suc count) = (tt, none_kind count)
+
+count_fresh : (count : ℕ) → length (replicate count fresh) ≡ count
+count_fresh zero = refl
+count_fresh (suc count) = ap suc (count_fresh count)
+
+pub kept_opened : (places : List EndPlace) (first : ℕ) → AreApart places → AreKept places (replicate (length places) fresh) (record { next = first; room = length places; owners = [] })
+kept_opened places first apart = record {
+  count = count_fresh (length places);
+  apart = apart;
+  room = refl;
+  owns = rw (none_own (length places)) (record {
+    owned = none_owned (length places) [];
+    apart = none_apart (length places);
+    few = omega arith;
+    given = below_none first;
+  });
+  kinds = none_kind (length places);
+}

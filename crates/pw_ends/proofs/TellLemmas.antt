@@ -1,0 +1,43 @@
+-- What is told of a pseudowire can be written.
+use Rattle.std.proofs.Common.{◌≡◌, ◌≤◌, ◌+◌, ◌++◌, ◌∙◌, ℕ, true, List, ◌∷◌, Option, Some, None, length, flat_map, refl, ap, arith}
+use Rattle.std.proofs.lemmas.Bool.Decides.{nat_tests}
+use Rattle.std.proofs.lemmas.List.{length-append}
+use Rattle.std.proofs.lemmas.Grind.{flat_map-append}
+use Rattle.net_base.specs.declared.plan.offer.Offer.{Offer}
+use Rattle.net_base.specs.plan.Accepted.{IsOffer}
+use Rattle.net_base.specs.plan.Faults.{is_told_within}
+use Rattle.pw_tlvs.specs.declared.point.Point.{Point}
+use Rattle.pw_tlvs.specs.declared.pw_fec.PwFec.{PwFec}
+use Rattle.pw_tlvs.specs.declared.pw_status.PwStatus.{PwStatus}
+use Rattle.pw_tlvs.specs.Written.{has_vlan, written_fec}
+use Rattle.ldp_grammar.specs.declared.message.Message.TheVariants.{LabelMapping}
+use Rattle.ldp_grammar.specs.Octets.{four}
+use Rattle.ldp_grammar.specs.Rows.{fec, label}
+use Rattle.ldp_grammar.specs.Tlvs.{Tlv, spell_tlv}
+use Rattle.ldp_grammar.specs.Written.{message_octets, point_tlvs, status_tlvs, tlv}
+
+first_length : (t : Tlv) (ts : List Tlv) → length (flat_map spell_tlv (t ∷ ts)) ≡ 4 + length t.value + length (flat_map spell_tlv ts)
+first_length t ts = omega (arith, length-append t.value (flat_map spell_tlv ts))
+
+both_length : (ts us : List Tlv) → length (flat_map spell_tlv (ts ++ us)) ≡ length (flat_map spell_tlv ts) + length (flat_map spell_tlv us)
+both_length ts us = ap length (flat_map-append spell_tlv ts us) ∙ length-append (flat_map spell_tlv ts) (flat_map spell_tlv us)
+
+states_short : (state : Option PwStatus) → length (flat_map spell_tlv (status_tlvs state)) ≤ 8
+states_short None = omega arith
+states_short (Some state) = omega arith
+
+vlan_within : (vlan : Option ℕ) → is_told_within 0 4095 vlan ≡ true → has_vlan vlan ≡ true
+vlan_within None within = refl
+vlan_within (Some n) within = grind (arith, nat_tests)
+
+-- an offer's VLAN ID has 12 bits
+pub offers_vlan : (offer : Offer) → IsOffer offer → has_vlan offer.vlan ≡ true
+offers_vlan offer is = vlan_within offer.vlan is.vlan
+
+-- a mapping whose FEC and switching points are short
+pub mapping_short : (id : ℕ) (pw : PwFec) (given : ℕ) (state : Option PwStatus) (points : List Point) → length (written_fec pw) ≤ 106 → length (flat_map spell_tlv (point_tlvs points)) ≤ 66 → 6 + length (message_octets (LabelMapping id pw given state points)) ≤ 256
+mapping_short id pw given state points fec_fits points_fit =
+    let last = both_length (status_tlvs state) (point_tlvs points) in
+    let second = first_length (tlv label (four given)) (status_tlvs state ++ point_tlvs points) in
+    let first = first_length (tlv fec (written_fec pw)) (tlv label (four given) ∷ (status_tlvs state ++ point_tlvs points)) in
+    omega (arith, first, second, last, states_short state, fec_fits, points_fit)

@@ -1,0 +1,67 @@
+-- What always holds of the pseudowire ends of an edge.
+use Rattle.std.specs.Prelude.{◌≡◌, ◌≢◌, ◌≤◌, ◌+◌, ℕ, false, List, [], ◌∷◌, Option, Some, None, length, map}
+use Rattle.std.specs.List.{AllByRecursion}
+use Rattle.label_space.specs.declared.label_owner.LabelOwner.{LabelOwner}
+use Rattle.label_space.specs.Labels.{AreBelow, LabelNumbers, freed, owner_of}
+use Rattle.pw_signalling.specs.End.{EndState}
+use Rattle.pw_signalling.specs.Laws.{own_label}
+use Rattle.edge_model.specs.declared.end_place.EndPlace.{EndPlace}
+use Rattle.pw_ends.specs.Ends.{HasKind, is_at}
+
+-- no two places are of one wire and beside one neighbour
+abbrev pub AreApart : List EndPlace → Type 0
+AreApart [] = Unit {0}
+AreApart (place ∷ places) = AllByRecursion (λ other. is_at other.wire.0 other.peer.0 place ≡ false) places × AreApart places
+
+-- the label that an end owns
+abbrev pub own_of : EndState → Option ℕ
+own_of end = own_label end.local
+
+-- a label is owned in the label space
+abbrev pub IsOwned : List LabelOwner → Option ℕ → Type 0
+IsOwned owners None = Unit {0}
+IsOwned owners (Some label) = owner_of label owners ≢ None
+
+-- two ends own no label both
+abbrev pub Differ : Option ℕ → Option ℕ → Type 0
+Differ None other = Unit {0}
+Differ (Some label) None = Unit {0}
+Differ (Some label) (Some other) = label ≢ other
+
+abbrev pub OwnApart : List (Option ℕ) → Type 0
+OwnApart [] = Unit {0}
+OwnApart (own ∷ others) = AllByRecursion (Differ own) others × OwnApart others
+
+-- how many ends own a label
+abbrev pub one_owned : Option ℕ → ℕ
+one_owned None = 0
+one_owned (Some label) = 1
+
+abbrev pub count_owned : List (Option ℕ) → ℕ
+count_owned [] = 0
+count_owned (own ∷ others) = one_owned own + count_owned others
+
+-- what the ends own is owned in the label space, each label by one end, and nothing else is
+pub record OwnTheirs (owns : List (Option ℕ)) (labels : LabelNumbers) : Type 0 where
+  pub owned : AllByRecursion (IsOwned labels.owners) owns
+  pub apart : OwnApart owns
+  pub few : length labels.owners ≤ count_owned owns
+  pub given : AreBelow labels.next labels.owners
+
+-- each end has a place of its own, the label space has room for as many labels, and the ends own its labels
+pub record AreKept (places : List EndPlace) (ends : List EndState) (labels : LabelNumbers) : Type 0 where
+  pub count : length ends ≡ length places
+  pub apart : AreApart places
+  pub room : labels.room ≡ length places
+  pub owns : OwnTheirs (map own_of ends) labels
+  pub kinds : AllByRecursion (λ end. HasKind end.local) ends
+
+-- the label that was owned, and is not any more
+abbrev pub left_label : Option ℕ → Option ℕ → Option ℕ
+left_label None after = None
+left_label (Some label) None = Some label
+left_label (Some label) (Some other) = None
+
+abbrev pub freed_one : Option ℕ → LabelNumbers → LabelNumbers
+freed_one None labels = labels
+freed_one (Some label) labels = freed label labels

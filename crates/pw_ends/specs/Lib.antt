@@ -1,0 +1,5 @@
+pub mod Changes
+pub mod Ends
+pub mod Kept
+pub mod Names
+pub mod Wish

@@ -1,0 +1,98 @@
+//! What becomes of an end.
+ghost use Rattle.std.specs.Prelude.{◌≡◌};
+ghost use Rattle.pw_signalling.specs.AnyEnd.{end_of};
+ghost use Rattle.pw_signalling.specs.Rows.{advertised, renewed, telling, withdrawn};
+ghost use Rattle.pw_ends.specs.Changes.{changed};
+
+use net_base::Label;
+use pw_signalling::{Binding, PwEnd, Told};
+use pw_tlvs::PwStatus;
+
+/// A change of an end: what it does itself, but for an advertisement, and what comes from its peer.
+#[derive(Clone, Copy, Debug, PartialEq, Eq)]
+pub enum EndChange {
+    /// A Label Withdraw is put, where it advertises.
+    Withdrawn,
+    /// A Notification with this status is put, where it advertises.
+    Telling(PwStatus),
+    /// It is declined no longer.
+    Renewed,
+    /// A Label Mapping with this binding came.
+    Bound(Binding),
+    /// A Label Withdraw of this label, or of any, came.
+    Unbound(Option<Label>),
+    /// A Label Release of this label, or of any, came.
+    Released(Option<Label>),
+    /// A Notification with this status came.
+    Stated(PwStatus),
+    /// A Label Withdraw of this group came.
+    GroupUnbound(u32),
+    /// A Notification of this group with this status came.
+    GroupStated(u32, PwStatus),
+    /// The session with its peer is lost.
+    Lost,
+}
+
+impl EndChange {
+    // What becomes of an end.
+    pub(crate) fn of(&self, end: PwEnd) -> PwEnd
+        ensures { end_of result ≡ changed self.now (end_of end) }
+    {
+        match *self {
+            EndChange::Withdrawn => withdraw(end),
+            EndChange::Telling(status) => tell(end, status),
+            EndChange::Renewed => renew(end),
+            EndChange::Bound(binding) => end.on_mapping(binding),
+            EndChange::Unbound(label) => end.on_withdraw(label),
+            EndChange::Released(label) => end.on_release(label),
+            EndChange::Stated(status) => end.on_status(status),
+            EndChange::GroupUnbound(group) => end.on_group_withdraw(group),
+            EndChange::GroupStated(group, status) => end.on_group_status(group, status),
+            EndChange::Lost => end.lost(),
+        }
+    }
+}
+
+// The end withdraws its label, where it advertises.
+fn withdraw(end: PwEnd) -> PwEnd
+    ensures { end_of result ≡ withdrawn (end_of end) }
+{
+    match end {
+        PwEnd::Idle(end) => PwEnd::Idle(end),
+        PwEnd::Advertised(end) => PwEnd::Withdrawing(end.withdraw()),
+        PwEnd::Withdrawing(end) => PwEnd::Withdrawing(end),
+    }
+}
+
+// The end tells a status, where it advertises.
+fn tell(end: PwEnd, status: PwStatus) -> PwEnd
+    ensures { end_of result ≡ telling status (end_of end) }
+{
+    match end {
+        PwEnd::Idle(end) => PwEnd::Idle(end),
+        PwEnd::Advertised(end) => PwEnd::Advertised(end.tell(status)),
+        PwEnd::Withdrawing(end) => PwEnd::Withdrawing(end),
+    }
+}
+
+// The end is declined no longer, where it is idle.
+fn renew(end: PwEnd) -> PwEnd
+    ensures { end_of result ≡ renewed (end_of end) }
+{
+    match end {
+        PwEnd::Idle(end) => PwEnd::Idle(end.renew()),
+        PwEnd::Advertised(end) => PwEnd::Advertised(end),
+        PwEnd::Withdrawing(end) => PwEnd::Withdrawing(end),
+    }
+}
+
+// The end advertises a label, where it is idle.
+pub(crate) fn advertise(end: PwEnd, label: Label, told: &Told) -> PwEnd
+    ensures { end_of result ≡ advertised label told.now (end_of end) }
+{
+    match end {
+        PwEnd::Idle(end) => PwEnd::Advertised(end.advertise(label, *told)),
+        PwEnd::Advertised(end) => PwEnd::Advertised(end),
+        PwEnd::Withdrawing(end) => PwEnd::Withdrawing(end),
+    }
+}

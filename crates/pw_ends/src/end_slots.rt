@@ -1,0 +1,89 @@
+//! Ends by their slots.
+ghost use Rattle.std.specs.Prelude.{◌≡◌, ◌<◌, length, map, position, slice_index_or, replicate, IfOk};
+ghost use Rattle.pw_signalling.specs.AnyEnd.{end_of};
+ghost use Rattle.pw_signalling.specs.End.{fresh};
+ghost use Rattle.pw_signalling.specs.Laws.{own_label};
+ghost use Rattle.pw_signalling.specs.Rows.{advertised};
+ghost use Rattle.pw_ends.specs.Changes.{changed, changed_in};
+ghost use Rattle.pw_ends.specs.Ends.{owns_label};
+
+use crate::end_change::{EndChange, advertise};
+use net_base::{Label, NoMemory};
+use pw_signalling::{PwEnd, PwIdle, Told};
+use std::alloc::Global;
+use std::mem;
+
+/// As many ends of which nothing was told.
+pub(crate) fn idle_ends(alloc: Global, count: usize) -> Result<Vec<PwEnd>, NoMemory>
+    ensures { IfOk result (λ ends. map end_of ends.items ≡ replicate count fresh) }
+{
+    let mut ends = Vec::with_capacity(alloc, count)?;
+    for _slot in 0..count {
+        ends.push(PwEnd::Idle(PwIdle::new()))?;
+    }
+    Ok(ends)
+}
+
+/// The label that an end owns: from its advertisement until it is idle.
+pub(crate) fn own_label_of(end: &PwEnd) -> Option<Label>
+    ensures { result ≡ own_label (end_of end.now).local }
+{
+    match end {
+        PwEnd::Idle(_) => None,
+        PwEnd::Advertised(end) => Some(end.label()),
+        PwEnd::Withdrawing(end) => Some(end.label()),
+    }
+}
+
+/// The label that the end of a slot owns.
+#[tactic(auto, using(pw_signalling::proofs::EndsLemmas::moves, crate::proofs::SlotLemmas::look_at))]
+pub(crate) fn own_label_at(ends: &[PwEnd], slot: usize) -> Option<Label>
+    requires { slot < length ends.now }
+    ensures { result ≡ own_label (slice_index_or (map end_of ends.now) slot fresh).local }
+{
+    own_label_of(&ends[slot])
+}
+
+/// The end of a slot advertises a label, where it is idle.
+#[tactic(auto, using(pw_signalling::proofs::EndsLemmas::moves))]
+pub(crate) fn advertise_at(ends: &mut Vec<PwEnd>, slot: usize, label: Label, told: &Told)
+    requires { slot < length ends.old.items }
+    ensures { map end_of ends.new.items ≡ changed_in (advertised label told.now) slot (map end_of ends.old.items) }
+{
+    let end = mem::replace(&mut ends[slot], PwEnd::Idle(PwIdle::new()));
+    ends[slot] = advertise(end, label, told);
+}
+
+/// The end of a slot is changed.
+#[tactic(auto, using(pw_signalling::proofs::EndsLemmas::moves))]
+pub(crate) fn change_at(ends: &mut Vec<PwEnd>, slot: usize, change: &EndChange)
+    requires { slot < length ends.old.items }
+    ensures { map end_of ends.new.items ≡ changed_in (changed change.now) slot (map end_of ends.old.items) }
+{
+    let end = mem::replace(&mut ends[slot], PwEnd::Idle(PwIdle::new()));
+    ends[slot] = change.of(end);
+}
+
+// Whether an end owns the label.
+fn owns(end: &PwEnd, label: Label) -> bool
+    ensures { result ≡ owns_label label (end_of end.now) }
+{
+    match own_label_of(end) {
+        Some(own) => own == label,
+        None => false,
+    }
+}
+
+/// The slot of the first end that owns the label.
+pub(crate) fn owner_among(ends: &[PwEnd], label: Label) -> Option<usize>
+    ensures { result ≡ position (owns_label label) (map end_of ends.now) }
+{
+    first_owner(ends, label)
+}
+
+// The same by the ends themselves.
+fn first_owner(ends: &[PwEnd], label: Label) -> Option<usize>
+    ensures { result ≡ position (λ end. owns_label label (end_of end)) ends.now }
+{
+    ends.iter().position(|end| owns(end, label))
+}

@@ -1,0 +1,24 @@
+//! The pseudowire ends of one edge, their labels, and what they tell (RFC 8077 section 6, RFC 5036 section 3.5).
+//!
+//! `PwEnds` has the ends by slots, which are places in the list of the edge's ends by the plan. `seen_ends` of
+//! `specs/Ends.antt` sees them as a map from wires and neighbours, and each call that changes ends says what it makes of that
+//! map. What an end tells, and the messages that carry it, are pure functions.
+#![tactic(auto)]
+
+mod content;
+mod end_change;
+mod end_slots;
+mod messages;
+mod path_ends;
+mod place_list;
+mod plan_places;
+mod pw_ends;
+mod role;
+mod which_ends;
+mod wish;
+
+pub use content::{bare, bare_fec_of, binding_in, content_of, fec_of};
+pub use messages::{mapping, release, status_notification, withdrawal};
+pub use pw_ends::PwEnds;
+pub use role::{role_at, role_of, status_to_tell};
+pub use wish::terminal_wish;

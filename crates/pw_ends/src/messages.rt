@@ -1,0 +1,114 @@
+//! The messages about a pseudowire.
+ghost use Rattle.std.specs.Prelude.{◌≡◌, ◌≤◌, ◌+◌, true, flat_map, length};
+ghost use Rattle.edge_model.specs.Content.{mapping, pw_status_notice, release, status_notification, withdrawal};
+ghost use Rattle.ldp_grammar.specs.Written.{address_octets, mac_count, message_octets, point_tlvs, writable};
+ghost use Rattle.ldp_grammar.specs.Tlvs.{spell_tlv};
+ghost use Rattle.pw_tlvs.specs.Written.{has_vlan};
+
+use crate::content::{bare, bare_fec_of, fec_of};
+use ldp_grammar::{Message, StatusCode, TLV_HEADER};
+use net_base::Label;
+use pw_signalling::Told;
+use pw_tlvs::{Points, PwFec, PwStatus, fec_size, point_size};
+
+// The status data of a Notification that tells the status of a pseudowire (RFC 8077 section 6.3.2).
+const PW_STATUS_CODE: u32 = 0x28;
+
+/// A Label Mapping with this Message ID (RFC 5036 section 3.5.7): it binds the label to the pseudowire with this content. It
+/// can be written where the PW type has 15 bits and the VLAN ID 12, and a PDU with it alone has a PDU Length of at most 256.
+
+pub fn mapping(pw_id: u32, label: Label, told: &Told, id: u32) -> Message
+    ensures message { result ≡ mapping pw_id label told.now id }
+    ensures writable { told.now.kind ≤ 0x7FFF → has_vlan told.now.vlan ≡ true → writable result ≡ true }
+    ensures short { 6 + length (message_octets result) ≤ 256 }
+    ensures no_addresses { address_octets result ≡ 0 }
+    ensures no_macs { mac_count result ≡ 0 }
+{
+    let fec = fec_of(pw_id, told);
+    // How long a mapping is at most follows from the sizes of its two long parts.
+    let _ = (fec_size(&fec), points_size(&told.points));
+    Message::LabelMapping {
+        id,
+        fec,
+        label,
+        pw_status: told.status,
+        points: told.points,
+    }
+}
+
+/// A Label Withdraw with this Message ID (RFC 5036 section 3.5.10) of a label that was advertised with this content. It can be
+/// written where the PW type has 15 bits, and a PDU with it alone has a PDU Length of at most 256.
+pub fn withdrawal(pw_id: u32, label: Label, told: &Told, id: u32) -> Message
+    ensures message { result ≡ withdrawal pw_id label told.now id }
+    ensures writable { told.now.kind ≤ 0x7FFF → writable result ≡ true }
+    ensures short { 6 + length (message_octets result) ≤ 256 }
+    ensures no_addresses { address_octets result ≡ 0 }
+    ensures no_macs { mac_count result ≡ 0 }
+{
+    Message::LabelWithdraw {
+        id,
+        fec: bare_fec_of(pw_id, told),
+        label: Some(label),
+    }
+}
+
+/// A Label Release with this Message ID (RFC 5036 section 3.5.11) of what came with this FEC and label. It can be written
+/// where the PW type has 15 bits, and a PDU with it alone has a PDU Length of at most 256.
+pub fn release(fec: &PwFec, label: Option<Label>, id: u32) -> Message
+    ensures message { result ≡ release fec.now label id }
+    ensures writable { fec.now.kind ≤ 0x7FFF → writable result ≡ true }
+    ensures short { 6 + length (message_octets result) ≤ 256 }
+    ensures no_addresses { address_octets result ≡ 0 }
+    ensures no_macs { mac_count result ≡ 0 }
+{
+    Message::LabelRelease {
+        id,
+        fec: bare(fec),
+        label,
+    }
+}
+
+/// A Notification with this Message ID that tells the status of a pseudowire with this content (RFC 8077 section 6.3.2). It can
+/// be written where the PW type has 15 bits, and a PDU with it alone has a PDU Length of at most 256.
+pub fn status_notification(pw_id: u32, status: PwStatus, told: &Told, id: u32) -> Message
+    ensures message { result ≡ status_notification pw_id status told.now id }
+    ensures writable { told.now.kind ≤ 0x7FFF → writable result ≡ true }
+    ensures short { 6 + length (message_octets result) ≤ 256 }
+    ensures no_addresses { address_octets result ≡ 0 }
+    ensures no_macs { mac_count result ≡ 0 }
+{
+    Message::Notification {
+        id,
+        status: pw_status_notice(),
+        pw_status: Some(status),
+        fec: Some(bare_fec_of(pw_id, told)),
+    }
+}
+
+// The status of a Notification that tells the status of a pseudowire.
+fn pw_status_notice() -> StatusCode
+    ensures { result ≡ pw_status_notice }
+{
+    StatusCode {
+        fatal: false,
+        forward: false,
+        code: PW_STATUS_CODE,
+        message: 0,
+        kind: 0,
+    }
+}
+
+// The octets of the TLVs of switching points.
+fn points_size(points: &Points) -> usize
+    ensures size { result ≡ length (flat_map spell_tlv (point_tlvs points.now)) }
+    ensures most { result ≤ 66 }
+{
+    let mut size = 0;
+    let mut index = 0;
+    'adding: while index < points.len() {
+        let point = points.get(index).unwrap();
+        size += TLV_HEADER + point_size(&point);
+        index += 1;
+    }
+    size
+}

@@ -1,0 +1,130 @@
+//! Where an edge has ends.
+ghost use Rattle.std.specs.Prelude.{◌≡◌, ◌≤◌, ◌<◌, IfOk, IfSome, Some, None, length, option_and_then, position, slice_get, slice_index_or};
+ghost use Rattle.std.specs.List.{find, list_any};
+ghost use Rattle.net_base.specs.plan.Accepted.{IsChecked};
+ghost use Rattle.edge_model.specs.EndPlaces.{end_places, is_end_of_wire, is_named, is_of_wire};
+ghost use Rattle.pw_ends.specs.Kept.{AreApart};
+ghost use Rattle.pw_ends.specs.Names.{Finds, name_of};
+ghost use Rattle.pw_ends.specs.Ends.{no_place};
+
+use crate::plan_places::end_places;
+use edge_model::EndPlace;
+use indexmap::IndexMap;
+use net_base::{EdgeId, List, NoMemory, Plan, WireId};
+use std::alloc::Global;
+use std::marker::Model;
+
+/// The places of an edge's ends in order, in which the end of a peer and a PW ID is found without a walk over them. Contracts
+/// see the list of the places.
+#[derive(Debug, Drop)]
+pub struct PlaceList {
+    list: List<EndPlace>,
+    index: IndexMap<(u16, u32), usize>,
+}
+
+impl Model for PlaceList {
+    ghost use Rattle.std.specs.Prelude.{List as Items};
+    ghost use Rattle.edge_model.specs.declared.end_place.EndPlace.{EndPlace as Place};
+
+    ghost Value = { Items Place };
+
+    ghost view = { λ l. l.list };
+
+    ghost use Rattle.pw_ends.specs.Names.{Finds};
+
+    ghost invariant = { λ l. Finds l.list l.index.entries };
+}
+
+impl PlaceList {
+    /// The places of the ends of an edge.
+    #[tactic(auto, using(crate::proofs::PlaceLemmas::places_apart))]
+    pub(crate) fn open(alloc: Global, plan: &Plan, me: EdgeId) -> Result<PlaceList, NoMemory>
+        requires { IsChecked plan.now }
+        ensures places { IfOk result (λ places. places ≡ end_places plan.now me) }
+        ensures apart { IfOk result AreApart }
+        ensures few { IfOk result (λ places. length places ≤ 5120) }
+    {
+        let list = end_places(alloc, plan, me)?;
+        let index = index_of(alloc, list.as_slice())?;
+        Ok(PlaceList { list, index })
+    }
+
+    /// How many there are.
+    pub(crate) fn len(&self) -> usize
+        ensures { result ≡ length self.now }
+    {
+        self.list.len()
+    }
+
+    /// The places in order.
+    pub(crate) fn as_slice(&self) -> &[EndPlace]
+        ensures { result.now ≡ self.now }
+    {
+        self.list.as_slice()
+    }
+
+    /// One of them.
+    pub(crate) fn place(&self, slot: usize) -> EndPlace
+        requires { slot < length self.now }
+        ensures { result ≡ slice_index_or self.now slot no_place }
+    {
+        self.list.as_slice()[slot]
+    }
+
+    /// The first slot of a place that is beside a peer and of a wire with this PW ID.
+    #[tactic(auto, using(crate::proofs::IndexLemmas::found_steps))]
+    pub(crate) fn find(&self, peer: EdgeId, pw_id: u32) -> Option<usize>
+        ensures place { option_and_then (slice_get self.now) result ≡ find (is_named peer pw_id) self.now }
+        ensures slot { IfSome result (λ slot. slot < length self.now) }
+        ensures named { IfSome result (λ slot. find (is_named peer pw_id) self.now ≡ Some (slice_index_or self.now slot no_place)) }
+        ensures none { result ≡ None → find (is_named peer pw_id) self.now ≡ None }
+    {
+        self.first_slot(peer, pw_id)
+    }
+
+    // The slot that the index gives.
+    fn first_slot(&self, peer: EdgeId, pw_id: u32) -> Option<usize>
+        ensures { result ≡ position (is_named peer pw_id) self.now }
+    {
+        self.index.get(&(peer.0, pw_id)).copied()
+    }
+
+    /// Whether the wire passes the edge.
+    pub(crate) fn passes(&self, wire: WireId) -> bool
+        ensures { result ≡ list_any (is_of_wire wire) self.now }
+    {
+        self.list.as_slice().iter().any(|place| place.wire == wire)
+    }
+
+    /// Whether the edge is a terminal edge of the wire.
+    pub(crate) fn ends_here(&self, wire: WireId) -> bool
+        ensures { result ≡ list_any (is_end_of_wire wire) self.now }
+    {
+        self.list
+            .as_slice()
+            .iter()
+            .any(|place| place.wire == wire && place.terminal)
+    }
+}
+
+// The first slot of each name. A later slot is put in first, and gives way.
+fn index_of(alloc: Global, places: &[EndPlace]) -> Result<IndexMap<(u16, u32), usize>, NoMemory>
+    ensures { IfOk result (λ index. Finds places.now index.entries) }
+{
+    let mut index = IndexMap::with_capacity(alloc, places.len())?;
+    let mut slot = places.len();
+    'placing: while slot > 0 {
+        slot -= 1;
+        index.insert(name_at(places, slot), slot)?;
+    }
+    Ok(index)
+}
+
+// The peer and the PW ID of a slot.
+fn name_at(places: &[EndPlace], slot: usize) -> (u16, u32)
+    requires { slot < length places.now }
+    ensures { result ≡ name_of (slice_index_or places.now slot no_place) }
+{
+    let place = places[slot];
+    (place.peer.0, place.pw_id)
+}

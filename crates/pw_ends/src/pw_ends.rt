@@ -1,0 +1,355 @@
+//! The pseudowire ends of an edge.
+ghost use Rattle.std.specs.Prelude.{◌≡◌, ◌≤◌, ◌<◌, ◌+◌, ◌==◌, ◌↔◌, ℕ, Some, None, length, map, position, slice_get, option_and_then, IfOk, IfSome};
+ghost use Rattle.std.specs.List.{find, list_any};
+ghost use Rattle.net_base.specs.plan.Accepted.{IsChecked};
+ghost use Rattle.label_space.specs.Labels.{numbers_end};
+ghost use Rattle.pw_signalling.specs.AnyEnd.{end_of};
+ghost use Rattle.pw_signalling.specs.End.{fresh};
+ghost use Rattle.pw_signalling.specs.Laws.{own_label};
+ghost use Rattle.pw_signalling.specs.Rows.{advertised, bound, group_stated, group_unbound, lost, released, stated, telling, unbound, withdrawn};
+ghost use Rattle.edge_model.specs.EndPlaces.{end_places, is_end_of_wire, is_named, is_of_wire};
+ghost use Rattle.edge_model.specs.State.{first_label};
+ghost use Rattle.pw_ends.specs.Changes.{changed, changed_each, changed_in};
+ghost use Rattle.pw_ends.specs.Kept.{freed_one, left_label};
+ghost use Rattle.pw_ends.specs.Ends.{HasKind, IsIdle, changed_at, changed_beside, end_in, owns_label, place_of, renewed_of, seen_ends};
+
+use crate::end_change::EndChange;
+use crate::end_slots::{advertise_at, change_at, idle_ends, own_label_at, owner_among};
+use crate::place_list::PlaceList;
+use crate::which_ends::WhichEnds;
+use edge_model::EndPlace;
+use label_space::LabelSpace;
+use net_base::{EdgeId, Label, NoMemory, Plan, SegKey, WireId};
+use pw_signalling::{Binding, PwEnd, Told};
+use pw_tlvs::PwStatus;
+use std::alloc::Global;
+use std::marker::Model;
+
+/// The pseudowire ends of one edge by slots, in the order of the plan's wires and of the segments of each, and the labels
+/// that they own (RFC 8077 section 6, RFC 5036 section 2.6.3). A slot is a place in that order, counted from 0. All memory
+/// is taken where they are opened. Contracts see lists, and by `seen_ends` a map from wires and neighbours.
+#[derive(Debug, Drop)]
+pub struct PwEnds {
+    places: PlaceList,
+    ends: Vec<PwEnd>,
+    labels: LabelSpace,
+}
+
+impl Model for PwEnds {
+    ghost use Rattle.std.specs.Prelude.{map};
+    ghost use Rattle.pw_signalling.specs.AnyEnd.{end_of};
+    ghost use Rattle.pw_ends.specs.Ends.{EndLists};
+    ghost use Rattle.pw_ends.specs.Kept.{AreKept};
+
+    ghost Value = { EndLists };
+
+    ghost view = { λ e. record { places = e.places; ends = map end_of e.ends.items; labels = e.labels } };
+
+    ghost invariant = { λ e. AreKept e.places (map end_of e.ends.items) e.labels };
+}
+
+impl PwEnds {
+    /// The ends of an edge of the plan, all idle and none of them declined, with a label space that begins at the edge's
+    /// first label.
+    #[tactic(auto, using(crate::proofs::SlotLemmas::seen_opened, crate::proofs::KeptLemmas::kept_opened))]
+    pub fn open(alloc: Global, plan: &Plan, me: EdgeId) -> Result<PwEnds, NoMemory>
+        requires checked { IsChecked plan.now }
+        requires me { me.0 < length plan.now.edges }
+        ensures places { IfOk result (λ ends. ends.places ≡ end_places plan.now me) }
+        ensures seen { IfOk result (λ ends. seen_ends ends ≡ (λ wire peer. fresh)) }
+        ensures next { IfOk result (λ ends. ends.labels.next ≡ first_label plan.now me) }
+    {
+        let places = PlaceList::open(alloc, plan, me)?;
+        let labels = LabelSpace::open(alloc, first_label(plan, me), places.len() as u32)?;
+        let ends = idle_ends(alloc, places.len())?;
+        Ok(PwEnds {
+            places,
+            ends,
+            labels,
+        })
+    }
+
+    /// How many ends the edge has.
+    pub fn len(&self) -> usize
+        ensures count { result ≡ length self.now.places }
+    {
+        self.places.len()
+    }
+
+    /// Whether the edge has no end.
+    pub fn is_empty(&self) -> bool
+        ensures empty { result ≡ (length self.now.places == 0) }
+    {
+        self.places.len() == 0
+    }
+
+    /// Where the ends are, by slots.
+    pub fn places(&self) -> &[EndPlace]
+        ensures places { result.now ≡ self.now.places }
+    {
+        self.places.as_slice()
+    }
+
+    /// Where the end of a slot is.
+    pub fn place(&self, slot: usize) -> EndPlace
+        requires slot { slot < length self.now.places }
+        ensures place { result ≡ place_of self.now slot }
+    {
+        self.places.place(slot)
+    }
+
+    /// The slot of the end beside a peer with this PW ID (RFC 8077 section 6.1), without a walk over the ends; `None` exactly
+    /// where there is no such end.
+    pub fn find(&self, peer: EdgeId, pw_id: u32) -> Option<usize>
+        ensures place { option_and_then (slice_get self.now.places) result ≡ find (is_named peer pw_id) self.now.places }
+        ensures slot { IfSome result (λ slot. slot < length self.now.places) }
+        ensures named { IfSome result (λ slot. find (is_named peer pw_id) self.now.places ≡ Some (place_of self.now slot)) }
+        ensures none { result ≡ None → find (is_named peer pw_id) self.now.places ≡ None }
+    {
+        self.places.find(peer, pw_id)
+    }
+
+    /// Whether the wire passes the edge.
+    pub fn passes(&self, wire: WireId) -> bool
+        ensures passes { result ≡ list_any (is_of_wire wire) self.now.places }
+    {
+        self.places.passes(wire)
+    }
+
+    /// Whether the edge is a terminal edge of the wire.
+    pub fn ends_here(&self, wire: WireId) -> bool
+        ensures ends { result ≡ list_any (is_end_of_wire wire) self.now.places }
+    {
+        self.places.ends_here(wire)
+    }
+
+    /// The end of a slot. Where it advertises, its PW type has 15 bits.
+    #[tactic(auto, using(crate::proofs::SlotLemmas::seen_at, crate::proofs::KeptLemmas::slot_within, crate::proofs::KeptLemmas::ends_at, pw_signalling::proofs::EndsLemmas::moves))]
+    pub fn end(&self, slot: usize) -> &PwEnd
+        requires slot { slot < length self.now.places }
+        ensures end { end_of result.now ≡ end_in self.now slot }
+        ensures kind { HasKind (end_in self.now slot).local }
+    {
+        &self.ends[slot]
+    }
+
+    /// The label that is given next, 16 to 1048576; at 1048576 no label is left.
+    pub fn next_label(&self) -> u32
+        ensures label { result ≡ self.now.labels.next }
+        ensures above { 16 ≤ result }
+        ensures below { result ≤ numbers_end }
+    {
+        self.labels.next_number()
+    }
+
+    /// The slot of the end that owns the label: from its advertisement until the end is idle. `None` exactly where no end
+    /// owns it.
+    pub fn owner(&self, label: Label) -> Option<usize>
+        ensures slot { result ≡ position (owns_label label) self.now.ends }
+    {
+        owner_among(self.ends.as_slice(), label)
+    }
+
+    // ---- what an end does
+
+    /// A Label Mapping with the next label and this content is put for an idle end, which then owns the label (RFC 5036
+    /// section 3.5.7). `None` exactly where no label is left, and then nothing has changed.
+    #[tactic(auto, using(crate::proofs::KeptLemmas::room_for, crate::proofs::KeptLemmas::slot_within, crate::proofs::KeptLemmas::next_issued, crate::proofs::SlotLemmas::seen_at))]
+    pub fn advertise(&mut self, slot: usize, told: &Told) -> Option<Label>
+        requires slot { slot < length self.old.places }
+        requires idle { IsIdle (end_in self.old slot).local }
+        requires kind { told.now.kind ≤ 0x7FFF }
+        ensures places { self.new.places ≡ self.old.places }
+        ensures none { (result ≡ None) ↔ (self.old.labels.next ≡ numbers_end) }
+        ensures unchanged { result ≡ None → self.new ≡ self.old }
+        ensures label { IfSome result (λ label. label ≡ self.old.labels.next) }
+        ensures next { IfSome result (λ label. self.new.labels.next ≡ self.old.labels.next + 1) }
+        ensures seen { IfSome result (λ label. seen_ends self.new ≡ changed_at (place_of self.old slot) (advertised label told.now) (seen_ends self.old)) }
+    {
+        let place = self.places.place(slot);
+        let key = SegKey {
+            wire: place.wire,
+            segment: place.segment,
+        };
+        let Ok(label) = self.labels.issue(key, place.side) else {
+            return None;
+        };
+        advertise_at(&mut self.ends, slot, label, told);
+        Some(label)
+    }
+
+    /// A Label Withdraw is put where the end advertises (RFC 5036 section 3.5.10). The label stays the end's own until the
+    /// peer releases it or the session is lost.
+    pub fn withdraw(&mut self, slot: usize)
+        requires slot { slot < length self.old.places }
+        ensures places { self.new.places ≡ self.old.places }
+        ensures next { self.new.labels.next ≡ self.old.labels.next }
+        ensures seen { seen_ends self.new ≡ changed_at (place_of self.old slot) withdrawn (seen_ends self.old) }
+    {
+        self.change(slot, &EndChange::Withdrawn);
+    }
+
+    /// A Notification with this status is put where the end advertises (RFC 8077 section 6.3.2).
+    pub fn tell(&mut self, slot: usize, status: PwStatus)
+        requires slot { slot < length self.old.places }
+        ensures places { self.new.places ≡ self.old.places }
+        ensures next { self.new.labels.next ≡ self.old.labels.next }
+        ensures seen { seen_ends self.new ≡ changed_at (place_of self.old slot) (telling status) (seen_ends self.old) }
+    {
+        self.change(slot, &EndChange::Telling(status));
+    }
+
+    /// The ends of a wire are declined no longer.
+    #[tactic(auto, using(crate::proofs::SlotLemmas::seen_steps))]
+    pub fn renew(&mut self, wire: WireId)
+        ensures places { self.new.places ≡ self.old.places }
+        ensures next { self.new.labels.next ≡ self.old.labels.next }
+        ensures seen { seen_ends self.new ≡ renewed_of wire (seen_ends self.old) }
+    {
+        self.change_each(WhichEnds::OfWire(wire), &EndChange::Renewed);
+    }
+
+    // ---- what comes from a peer
+
+    /// A Label Mapping came (RFC 5036 section 3.5.7): its binding replaces the one that was held.
+    pub fn on_mapping(&mut self, slot: usize, binding: &Binding)
+        requires slot { slot < length self.old.places }
+        ensures places { self.new.places ≡ self.old.places }
+        ensures next { self.new.labels.next ≡ self.old.labels.next }
+        ensures seen { seen_ends self.new ≡ changed_at (place_of self.old slot) (bound binding.now) (seen_ends self.old) }
+    {
+        self.change(slot, &EndChange::Bound(*binding));
+    }
+
+    /// A Label Withdraw came (RFC 5036 section 3.5.10), with a label or without one: the binding goes, where the label is
+    /// absent or its own.
+    pub fn on_withdraw(&mut self, slot: usize, label: Option<Label>)
+        requires slot { slot < length self.old.places }
+        ensures places { self.new.places ≡ self.old.places }
+        ensures next { self.new.labels.next ≡ self.old.labels.next }
+        ensures seen { seen_ends self.new ≡ changed_at (place_of self.old slot) (unbound label) (seen_ends self.old) }
+    {
+        self.change(slot, &EndChange::Unbound(label));
+    }
+
+    /// A Label Release came (RFC 5036 section 3.5.11), with a label or without one: where the label is absent or the end's
+    /// own, what was withdrawn is released and what is advertised is declined; the end is idle, and its label is free. A
+    /// release of another label changes nothing.
+    pub fn on_release(&mut self, slot: usize, label: Option<Label>)
+        requires slot { slot < length self.old.places }
+        ensures places { self.new.places ≡ self.old.places }
+        ensures next { self.new.labels.next ≡ self.old.labels.next }
+        ensures seen { seen_ends self.new ≡ changed_at (place_of self.old slot) (released label) (seen_ends self.old) }
+    {
+        self.change(slot, &EndChange::Released(label));
+    }
+
+    /// A Notification with a status came (RFC 8077 section 6.3.2): it is the status of the binding, where one is held.
+    pub fn on_status(&mut self, slot: usize, status: PwStatus)
+        requires slot { slot < length self.old.places }
+        ensures places { self.new.places ≡ self.old.places }
+        ensures next { self.new.labels.next ≡ self.old.labels.next }
+        ensures seen { seen_ends self.new ≡ changed_at (place_of self.old slot) (stated status) (seen_ends self.old) }
+    {
+        self.change(slot, &EndChange::Stated(status));
+    }
+
+    /// A Label Withdraw of a whole group came from a peer (RFC 8077 section 6.1): each binding of the group goes.
+    #[tactic(auto, using(crate::proofs::SlotLemmas::seen_steps))]
+    pub fn on_group_withdraw(&mut self, peer: EdgeId, group: u32)
+        ensures places { self.new.places ≡ self.old.places }
+        ensures next { self.new.labels.next ≡ self.old.labels.next }
+        ensures seen { seen_ends self.new ≡ changed_beside peer (group_unbound group) (seen_ends self.old) }
+    {
+        self.change_each(WhichEnds::Beside(peer), &EndChange::GroupUnbound(group));
+    }
+
+    /// A Notification with a status of a whole group came from a peer (RFC 8077 section 6.3.2): it is the status of each
+    /// binding of the group.
+    #[tactic(auto, using(crate::proofs::SlotLemmas::seen_steps))]
+    pub fn on_group_status(&mut self, peer: EdgeId, group: u32, status: PwStatus)
+        ensures places { self.new.places ≡ self.old.places }
+        ensures next { self.new.labels.next ≡ self.old.labels.next }
+        ensures seen { seen_ends self.new ≡ changed_beside peer (group_stated group status) (seen_ends self.old) }
+    {
+        self.change_each(
+            WhichEnds::Beside(peer),
+            &EndChange::GroupStated(group, status),
+        );
+    }
+
+    /// The session with a peer is lost: each end beside it is idle, not declined, and holds no binding, and its label is free
+    /// (RFC 5036 section 2.5.4).
+    #[tactic(auto, using(crate::proofs::SlotLemmas::seen_steps))]
+    pub fn lose(&mut self, peer: EdgeId)
+        ensures places { self.new.places ≡ self.old.places }
+        ensures next { self.new.labels.next ≡ self.old.labels.next }
+        ensures seen { seen_ends self.new ≡ changed_beside peer lost (seen_ends self.old) }
+    {
+        self.change_each(WhichEnds::Beside(peer), &EndChange::Lost);
+    }
+
+    /// The edge restarts: each end is as it was opened, and every label is free. The next label stays, so no label is given
+    /// again.
+    #[tactic(auto, using(crate::proofs::SlotLemmas::seen_steps))]
+    pub fn restarted(&mut self)
+        ensures places { self.new.places ≡ self.old.places }
+        ensures next { self.new.labels.next ≡ self.old.labels.next }
+        ensures seen { seen_ends self.new ≡ (λ wire peer. fresh) }
+    {
+        self.change_each(WhichEnds::All, &EndChange::Lost);
+    }
+
+    // Each end that is meant is changed.
+    #[tactic(auto, using(crate::proofs::SlotLemmas::each_steps))]
+    fn change_each(&mut self, which: WhichEnds, change: &EndChange)
+        ensures count { length self.old.ends ≡ length self.old.places }
+        ensures places { self.new.places ≡ self.old.places }
+        ensures next { self.new.labels.next ≡ self.old.labels.next }
+        ensures ends { self.new.ends ≡ changed_each which (changed change.now) self.old.places self.old.ends }
+    {
+        let _ = &self.places;
+        for slot in 0..self.len() {
+            if which.has(&self.place(slot)) {
+                self.change(slot, change);
+            }
+        }
+    }
+
+    // The end of a slot is changed; a label that it owns no longer is free.
+    #[tactic(auto, using(crate::proofs::KeptLemmas::freed_next, crate::proofs::KeptLemmas::slot_within))]
+    fn change(&mut self, slot: usize, change: &EndChange)
+        requires slot { slot < length self.old.places }
+        ensures seen { seen_ends self.new ≡ changed_at (place_of self.old slot) (changed change.now) (seen_ends self.old) }
+        ensures places { self.new.places ≡ self.old.places }
+        ensures next { self.new.labels.next ≡ self.old.labels.next }
+        ensures ends { self.new.ends ≡ changed_in (changed change.now) slot self.old.ends }
+    {
+        let before = own_label_at(&self.ends, slot);
+        change_at(&mut self.ends, slot, change);
+        let after = own_label_at(&self.ends, slot);
+        free_left(&mut self.labels, before, after);
+    }
+}
+
+// Frees a label that was owned and is not any more.
+fn free_left(labels: &mut LabelSpace, before: Option<Label>, after: Option<Label>)
+    ensures { labels.new ≡ freed_one (left_label before after) labels.old }
+{
+    match (before, after) {
+        (Some(label), None) => labels.free(label),
+        _ => {}
+    }
+}
+
+// The first label of an edge of the plan.
+#[tactic(auto, using(crate::proofs::PlaceLemmas::first_in_range))]
+fn first_label(plan: &Plan, me: EdgeId) -> u32
+    requires checked { IsChecked plan.now }
+    requires me { me.0 < length plan.now.edges }
+    ensures label { result ≡ first_label plan.now me }
+    ensures above { 16 ≤ result }
+    ensures below { result ≤ numbers_end }
+{
+    plan.edges.as_slice()[me.0 as usize].first_label
+}

@@ -1,7 +1,0 @@
-//! Sessions through their calls: a set-up of both ends, the rows of the table, and the ticks.
-
-mod common;
-mod hex;
-mod rows;
-mod set_up;
-mod ticks;

@@ -1,0 +1,35 @@
+//! Lines against texts that were written by hand from the layouts of RFC 5036 section 3.5. The program's tests decode
+//! messages of every kind.
+
+use ldp_grammar::{Message, Why};
+use message_text::put_messages;
+use net_base::Addr;
+
+#[test]
+fn adds_a_line_for_each_message(rt: HostRuntime) {
+    let messages = [
+        Message::Hello {
+            id: 7,
+            hold: 45,
+            targeted: true,
+            request: false,
+            transport: Some(Addr([10, 0, 0, 2])),
+        },
+        Message::KeepAlive { id: u32::MAX },
+        Message::Other {
+            id: 9,
+            u: true,
+            kind: 16128,
+        },
+        Message::Unprocessed {
+            id: 2,
+            kind: 513,
+            why: Why::UnknownTlv(16128),
+        },
+    ];
+    let mut text = Vec::from_slice(rt.alloc(), b"0 KeepAlive id=1\n").expect(&rt, "memory");
+    put_messages(&mut text, 18, &messages).expect(&rt, "memory");
+    let lines =
+        "0 KeepAlive id=1\n18 Hello id=7 hold=45/1/0 transport=10.0.0.2\n18 KeepAlive id=4294967295\n18 Other id=9 type=16128\n18 Unprocessed id=2 type=513 why=UnknownTlv:16128\n";
+    assert!(rt; text.as_slice() == lines.as_bytes());
+}

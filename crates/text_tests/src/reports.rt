@@ -1,0 +1,339 @@
+//! What no clause says: that the lines are those of the format, on a plan of two edges, a circuit and a wire.
+
+use net_base::{
+    Addr, Arrival, CircuitId, CircuitPlan, Class, Down, DropCause, EdgeId, EdgePlan, Entry, Event,
+    List, Name, Octets, Offer, Plan, Reason, ServiceId, StateName, Text, Trace, WireId, WirePlan,
+};
+use report_text::{Ending, report_of};
+use std::alloc::Global;
+use std::process::Abort;
+
+const A: EdgeId = EdgeId(0);
+
+const B: EdgeId = EdgeId(1);
+
+const CA: CircuitId = CircuitId(0);
+
+const W: WireId = WireId(0);
+
+fn name(rt: &impl Abort, text: &str) -> Name {
+    Name::read(text).expect(rt, "a name")
+}
+
+fn edge(rt: &impl Abort, text: &str) -> EdgePlan {
+    EdgePlan {
+        name: name(rt, text),
+        address: Addr([10, 0, 0, 1]),
+        first_label: 16,
+        keepalive: 180,
+        max_pdu: 4096,
+    }
+}
+
+fn circuit(rt: &impl Abort) -> CircuitPlan {
+    CircuitPlan {
+        name: name(rt, "ca"),
+        edge: A,
+        service: ServiceId(0),
+        tag: None,
+    }
+}
+
+fn offer(rt: &impl Abort) -> Offer {
+    Offer {
+        tagged: false,
+        cword: true,
+        mtu: None,
+        vlan: None,
+        vccv: None,
+        status: true,
+        group: 0,
+        description: Text::read(b"").expect(rt, "a text"),
+    }
+}
+
+fn wire(rt: &impl Abort, alloc: Global) -> WirePlan {
+    WirePlan {
+        name: name(rt, "w"),
+        service: ServiceId(0),
+        class: Class::Mesh,
+        path: List::new(alloc),
+        pw_id: 1,
+        near: offer(rt),
+        far: offer(rt),
+        priority: 100,
+    }
+}
+
+fn edges(rt: &impl Abort, alloc: Global) -> List<EdgePlan> {
+    let mut edges = List::new(alloc);
+    edges.push(edge(rt, "a")).expect(rt, "memory");
+    edges.push(edge(rt, "b_2")).expect(rt, "memory");
+    edges
+}
+
+fn circuits(rt: &impl Abort, alloc: Global) -> List<CircuitPlan> {
+    let mut circuits = List::new(alloc);
+    circuits.push(circuit(rt)).expect(rt, "memory");
+    circuits
+}
+
+fn wires(rt: &impl Abort, alloc: Global) -> List<WirePlan> {
+    let mut wires = List::new(alloc);
+    wires.push(wire(rt, alloc)).expect(rt, "memory");
+    wires
+}
+
+fn plan(rt: &impl Abort, alloc: Global) -> Plan {
+    Plan {
+        edges: edges(rt, alloc),
+        services: List::new(alloc),
+        circuits: circuits(rt, alloc),
+        wires: wires(rt, alloc),
+    }
+}
+
+fn add(rt: &impl Abort, trace: &mut Trace, entry: Entry) {
+    trace.push(entry).expect(rt, "memory");
+}
+
+fn tell(rt: &impl Abort, trace: &mut Trace, event: Event) {
+    add(rt, trace, Entry::Did { event });
+}
+
+fn octets(rt: &impl Abort, alloc: Global, octets: &[u8]) -> Octets {
+    List::from_bytes(alloc, octets).expect(rt, "memory")
+}
+
+fn events(rt: &impl Abort, alloc: Global) -> Trace {
+    let mut trace = List::new(alloc);
+    let bytes = octets(rt, alloc, &[0, 9, 10, 159, 255]);
+    tell(rt, &mut trace, Event::Connect { from: A, to: B });
+    tell(
+        rt,
+        &mut trace,
+        Event::Deliver {
+            from: B,
+            to: A,
+            count: 65535,
+        },
+    );
+    tell(rt, &mut trace, Event::Lose { edge: A, peer: B });
+    tell(rt, &mut trace, Event::Restart { edge: B });
+    tell(rt, &mut trace, Event::Tick);
+    tell(rt, &mut trace, Event::Frame { circuit: CA, bytes });
+    tell(rt, &mut trace, Event::Arrive { packet: 7 });
+    tell(rt, &mut trace, Event::Discard { packet: u64::MAX });
+    tell(rt, &mut trace, Event::Again { packet: 10 });
+    trace
+}
+
+fn events_of_wires(rt: &impl Abort, alloc: Global) -> Trace {
+    let mut trace = List::new(alloc);
+    tell(
+        rt,
+        &mut trace,
+        Event::Wire {
+            edge: A,
+            wire: W,
+            on: true,
+        },
+    );
+    tell(
+        rt,
+        &mut trace,
+        Event::Circuit {
+            circuit: CA,
+            on: false,
+        },
+    );
+    tell(
+        rt,
+        &mut trace,
+        Event::Status {
+            edge: B,
+            wire: W,
+            bits: 31,
+        },
+    );
+    tell(
+        rt,
+        &mut trace,
+        Event::Priority {
+            edge: A,
+            wire: W,
+            priority: 255,
+        },
+    );
+    tell(rt, &mut trace, Event::Ping { edge: A, wire: W });
+    trace
+}
+
+fn entries_of_frames(rt: &impl Abort, alloc: Global) -> Trace {
+    let mut trace = List::new(alloc);
+    add(
+        rt,
+        &mut trace,
+        Entry::In {
+            circuit: CA,
+            number: 1,
+            bytes: List::new(alloc),
+        },
+    );
+    add(
+        rt,
+        &mut trace,
+        Entry::Sent {
+            packet: 2,
+            from: A,
+            to: B,
+            wire: W,
+            arrival: Arrival::Circuit(CA),
+            origin: 3,
+            hops: 4,
+            bytes: octets(rt, alloc, &[0x1b]),
+        },
+    );
+    add(
+        rt,
+        &mut trace,
+        Entry::Sent {
+            packet: 5,
+            from: B,
+            to: A,
+            wire: W,
+            arrival: Arrival::Own,
+            origin: 0,
+            hops: 1,
+            bytes: octets(rt, alloc, &[0xc0]),
+        },
+    );
+    add(rt, &mut trace, Entry::Copied { packet: 6, of: 2 });
+    add(
+        rt,
+        &mut trace,
+        Entry::Left {
+            circuit: CircuitId(9),
+            origin: 7,
+            hops: 8,
+            bytes: octets(rt, alloc, &[0xfe]),
+        },
+    );
+    add(
+        rt,
+        &mut trace,
+        Entry::Dropped {
+            edge: B,
+            origin: 1,
+            cause: DropCause::NoLabel,
+        },
+    );
+    trace
+}
+
+fn entries_of_sessions(rt: &impl Abort, alloc: Global) -> Trace {
+    let mut trace = List::new(alloc);
+    add(rt, &mut trace, Entry::Idle);
+    add(
+        rt,
+        &mut trace,
+        Entry::Said {
+            from: A,
+            to: B,
+            bytes: octets(rt, alloc, &[0, 1]),
+        },
+    );
+    add(
+        rt,
+        &mut trace,
+        Entry::Session {
+            edge: A,
+            peer: B,
+            state: StateName::OpenSent,
+        },
+    );
+    add(
+        rt,
+        &mut trace,
+        Entry::Session {
+            edge: B,
+            peer: A,
+            state: StateName::Ended(Reason::PeerFatal),
+        },
+    );
+    add(
+        rt,
+        &mut trace,
+        Entry::Wire {
+            edge: A,
+            wire: W,
+            down: None,
+        },
+    );
+    add(
+        rt,
+        &mut trace,
+        Entry::Wire {
+            edge: B,
+            wire: W,
+            down: Some(Down::NoRemote),
+        },
+    );
+    add(
+        rt,
+        &mut trace,
+        Entry::Pong {
+            edge: A,
+            wire: W,
+            sequence: 513,
+        },
+    );
+    trace
+}
+
+// The report of a trace that ended so is this text.
+fn reports(rt: &impl Abort, alloc: Global, trace: &Trace, ending: Ending, text: &str) {
+    let plan = plan(rt, alloc);
+    let report = report_of(alloc, &plan, trace.as_slice(), ending).expect(rt, "memory");
+    assert!(rt; report.as_slice() == text.as_bytes(), "{text}");
+}
+
+#[test]
+fn events_as_the_format_writes_them(rt: HostRuntime) {
+    let alloc = rt.alloc();
+    reports(
+        &rt,
+        alloc,
+        &events(&rt, alloc),
+        Ending::End,
+        "vplsnet 1\n> connect a b_2\n> deliver b_2 a 65535\n> lose a b_2\n> restart b_2\n> tick\n> frame ca 00090a9fff\n> arrive 7\n> drop 18446744073709551615\n> again 10\nend events=9 in=0 left=0 sent=0 dropped=0\n",
+    );
+    reports(
+        &rt,
+        alloc,
+        &events_of_wires(&rt, alloc),
+        Ending::Crowded { count: 1_000_001 },
+        "vplsnet 1\n> wire a w on\n> circuit ca off\n> status b_2 w 31\n> priority a w 255\n> ping a w\nstop Crowded 1000001\n",
+    );
+}
+
+#[test]
+fn entries_as_the_format_writes_them(rt: HostRuntime) {
+    let alloc = rt.alloc();
+    reports(
+        &rt,
+        alloc,
+        &entries_of_frames(&rt, alloc),
+        Ending::End,
+        "vplsnet 1\nin ca 1 \nsent 2 a b_2 w ca 3 4 1b\nsent 5 b_2 a w - 0 1 c0\ncopied 6 2\nleft  7 8 fe\ndropped b_2 1 NoLabel\nend events=0 in=1 left=1 sent=2 dropped=1\n",
+    );
+    reports(
+        &rt,
+        alloc,
+        &entries_of_sessions(&rt, alloc),
+        Ending::TooMuch {
+            weight: 268_435_457,
+        },
+        "vplsnet 1\nidle\nsaid a b_2 0001\nsession a b_2 OpenSent\nsession b_2 a Ended:PeerFatal\nwire a w up\nwire b_2 w NoRemote\npong a w 513\nstop TooMuch 268435457\n",
+    );
+}

@@ -1,0 +1,95 @@
+-- The events that the commands of an accepted scenario make speak of its plan.
+use Rattle.std.proofs.Common.{◌≡◌, ◌<◌, ◌+◌, ◌++◌, ◌∷◌, ◌∙◌, [], ℕ, zero, suc, Bool, true, false, List, Option, Some, None, cond, refl, sym, ap, arith, length, option_map, inl, inr}
+use Rattle.std.proofs.lemmas.Bool.{cases_Bool}
+use Rattle.std.proofs.lemmas.List.Elements.{All-append, All-cons, All-head, All-nil, All-tail}
+use Rattle.std.specs.List.{All}
+use Rattle.net_base.specs.declared.plan.Plan.{Plan}
+use Rattle.net_base.specs.declared.trace.event.Event.{Event}
+use Rattle.net_base.specs.declared.trace.event.Event.TheVariants.{Tick}
+use Rattle.net_base.specs.plan.Planned.{IsEventOf}
+use Rattle.network_model.specs.Connection.{is_deliverable}
+use Rattle.network_model.specs.Delivery.{delivery_of, first_from, first_pair, next_delivery, pair_or}
+use Rattle.network_model.specs.Run.{state_after}
+use Rattle.network_model.specs.State.{NetworkState}
+use Rattle.network_model.specs.Step.{step}
+use Rattle.scenario_text.specs.declared.command.Command.{Command}
+use Rattle.scenario_text.specs.declared.command.Command.TheVariants.{One, Settle, Flow, Ticks, Play}
+use Rattle.scenario_text.specs.Planned.{IsPlanned}
+use Rattle.vplsnet.specs.Made.{deliveries, event_and, made, made_by, ticks, turns}
+
+-- the first ones of a list
+pub All-first : {X : Type 0} (P : X → Type 0) (xs ys : List X) → All P (xs ++ ys) → All P xs
+All-first P [] ys all = All-nil P
+All-first P (x ∷ xs) ys all = All-cons P x xs (All-head P x (xs ++ ys) all) (All-first P xs ys (All-tail P x (xs ++ ys) all))
+
+-- ---- the next delivery is between two edges of the plan
+
+from_within : (test : ℕ → Bool) (place count k : ℕ) → first_from test place count ≡ Some k → k < place + count
+from_within test place zero k found = absurd (cc (found))
+from_within test place (suc count) k found = elim (cases_Bool (test place)) [
+  | inl passes ↦ (let is : place ≡ k = cc (rw passes at found) in omega (arith, is))
+  | inr other ↦ (let rest : k < (place + 1) + count = from_within test (place + 1) count k (rw other at found) in omega (arith, rest))
+]
+
+-- both places of a pair are below these
+pub record IsBelow (rows columns : ℕ) (pair : ℕ × ℕ) : Type 0 where
+  pub row : pair.0 < rows
+  pub column : pair.1 < columns
+
+pair_within : (test : ℕ → ℕ → Bool) (size place count : ℕ) (pair : ℕ × ℕ) → first_pair test size place count ≡ Some pair → IsBelow (place + count) size pair
+pair_within test size place zero pair found = absurd (cc (found))
+pair_within test size place (suc count) pair found = by (first_from (test place) 0 size) refl found (pair_within test size (place + 1) count pair) where
+  by : (here : Option ℕ) → first_from (test place) 0 size ≡ here → pair_or place here (first_pair test size (place + 1) count) ≡ Some pair
+      → (first_pair test size (place + 1) count ≡ Some pair → IsBelow ((place + 1) + count) size pair) → IsBelow (place + suc count) size pair
+  by None is rest again =
+      let later : IsBelow ((place + 1) + count) size pair = again rest in
+      record { row = omega (arith, later.row); column = later.column }
+  by (Some k) is this again =
+      let same : (place, k) ≡ pair = cc (this) in
+      let below : k < 0 + size = from_within (test place) 0 size k is in
+      record { row = rw (sym same) (omega arith); column = rw (sym same) (omega (arith, below)) }
+
+delivery_planned : (plan : Plan) (pair : Option (ℕ × ℕ)) (event : Event) → ((p : ℕ × ℕ) → pair ≡ Some p → IsBelow (length plan.edges) (length plan.edges) p)
+    → option_map delivery_of pair ≡ Some event → IsEventOf plan event
+delivery_planned plan None event within found = absurd (cc (found))
+delivery_planned plan (Some pair) event within found =
+    let same : delivery_of pair ≡ event = cc (found) in
+    let below : IsBelow (length plan.edges) (length plan.edges) pair = within pair refl in
+    rw (sym same) (below.row, below.column)
+
+from_first : (size : ℕ) (pair : ℕ × ℕ) → IsBelow (0 + size) size pair → IsBelow size size pair
+from_first size pair below = record { row = omega (arith, below.row); column = below.column }
+
+next_planned : (plan : Plan) (network : NetworkState) (event : Event) → next_delivery plan network ≡ Some event → IsEventOf plan event
+next_planned plan network event found =
+    delivery_planned plan (first_pair (is_deliverable network) (length plan.edges) 0 (length plan.edges)) event
+    (λ p is. from_first (length plan.edges) p (pair_within (is_deliverable network) (length plan.edges) 0 (length plan.edges) p is)) found
+
+-- ---- what a command makes
+
+ticks_planned : (plan : Plan) (count : ℕ) → All (IsEventOf plan) (ticks count)
+ticks_planned plan zero = All-nil (IsEventOf plan)
+ticks_planned plan (suc n) = All-cons (IsEventOf plan) Tick (ticks n) tt (ticks_planned plan n)
+
+deliveries_planned : (plan : Plan) (count : ℕ) (network : NetworkState) → All (IsEventOf plan) (deliveries plan count network)
+deliveries_planned plan zero network = All-nil (IsEventOf plan)
+deliveries_planned plan (suc n) network = by (next_delivery plan network) refl (deliveries_planned plan n) where
+  by : (next : Option Event) → next_delivery plan network ≡ next → ((later : NetworkState) → All (IsEventOf plan) (deliveries plan n later))
+      → All (IsEventOf plan) (event_and next (λ event. turns plan (next_delivery plan) n (step plan network event).state))
+  by None is again = All-nil (IsEventOf plan)
+  by (Some event) is again =
+      All-cons (IsEventOf plan) event (deliveries plan n (step plan network event).state) (next_planned plan network event is) (again (step plan network event).state)
+
+made_by_planned : (plan : Plan) (network : NetworkState) (command : Command) → IsPlanned plan command → All (IsEventOf plan) (made_by plan network command)
+made_by_planned plan network (One event) planned = All-cons (IsEventOf plan) event [] planned (All-nil (IsEventOf plan))
+made_by_planned plan network (Settle count) planned = deliveries_planned plan count network
+made_by_planned plan network (Flow count) planned = All-nil (IsEventOf plan)
+made_by_planned plan network (Ticks count) planned = ticks_planned plan count
+made_by_planned plan network (Play circuit file) planned = All-nil (IsEventOf plan)
+
+pub made_planned : (plan : Plan) (network : NetworkState) (commands : List Command) → All (IsPlanned plan) commands → All (IsEventOf plan) (made plan network commands)
+made_planned plan network [] planned = All-nil (IsEventOf plan)
+made_planned plan network (command ∷ commands) planned =
+    All-append (IsEventOf plan) (made_by plan network command) (made plan (state_after plan network (made_by plan network command)) commands)
+    (made_by_planned plan network command (All-head (IsPlanned plan) command commands planned))
+    (made_planned plan (state_after plan network (made_by plan network command)) commands (All-tail (IsPlanned plan) command commands planned))

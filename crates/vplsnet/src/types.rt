@@ -1,0 +1,98 @@
+//! What the types of a plan say of it.
+ghost use Rattle.std.specs.Prelude.{◌≤◌, ◌<◌, ◌^◌, IfSome, length};
+ghost use Rattle.std.specs.List.{All, AllByRecursion};
+ghost use Rattle.ldp_grammar.specs.Reading.{AreOctets};
+ghost use Rattle.session_core.specs.Laws.{IsAddress};
+ghost use Rattle.flight_model.specs.Ends.{AreFieldOffers, HasTypes, IsFieldOffer};
+
+use net_base::{Addr, EdgePlan, Offer, Plan, Text, WirePlan};
+
+/// Each edge has an address of four octets, and the numbers and texts of each offer fit the fields that they are written in. The
+/// types say so; the laws of sessions and pseudowires ask for it in a clause.
+pub fn see_types(plan: &Plan)
+    ensures { HasTypes plan.now }
+{
+    see_addresses(plan.edges.as_slice());
+    see_offers(plan.wires.as_slice());
+}
+
+// Each edge has an address of four octets.
+#[tactic(auto, using(crate::proofs::SeenLemmas::address_steps))]
+fn see_addresses(edges: &[EdgePlan])
+    ensures { All (λ row. IsAddress row.address) edges.now }
+{
+    for place in 0..edges.len() {
+        see_address(edges[place].address);
+    }
+}
+
+// An address has four octets.
+fn see_address(address: Addr)
+    ensures { IsAddress address }
+{
+    see_octets(&address.0);
+}
+
+// Octets are octets.
+fn see_octets(octets: &[u8])
+    ensures octets { AllByRecursion (λ octet. octet < 256) octets.now }
+{
+    let _len = octets.len();
+}
+
+// The offers of each wire fit their fields.
+#[tactic(auto, using(crate::proofs::SeenLemmas::offer_steps))]
+fn see_offers(wires: &[WirePlan])
+    ensures { All AreFieldOffers wires.now }
+{
+    for place in 0..wires.len() {
+        see_wire(&wires[place]);
+    }
+}
+
+fn see_wire(row: &WirePlan)
+    ensures { AreFieldOffers row.now }
+{
+    see_offer(&row.near);
+    see_offer(&row.far);
+}
+
+// An offer fits its fields.
+fn see_offer(offer: &Offer)
+    ensures { IsFieldOffer offer.now }
+{
+    see_mtu(offer.mtu);
+    see_group(offer.group);
+    see_text(&offer.description);
+}
+
+// A number of 16 bits.
+fn see_mtu(mtu: Option<u16>)
+    ensures { IfSome mtu (λ mtu. mtu < 2 ^ 16) }
+{
+    if let Some(mtu) = mtu {
+        see_short(mtu);
+    }
+}
+
+fn see_short(number: u16)
+    ensures { number < 2 ^ 16 }
+{
+    let _number = number;
+}
+
+// A number of 32 bits.
+fn see_group(group: u32)
+    ensures { group < 2 ^ 32 }
+{
+    let _group = group;
+}
+
+// At most 80 octets.
+fn see_text(text: &Text<80>)
+    ensures within { length text.now ≤ 80 }
+    ensures octets { AreOctets text.now }
+{
+    let _len = text.len();
+    see_octets(text.as_slice());
+}
