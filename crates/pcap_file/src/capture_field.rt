@@ -32,7 +32,7 @@ pub enum CaptureField {
 }
 
 impl CaptureField {
-    // The first octet of the field in its header or record.
+    /// The first octet of the field in its header or record.
     pub fn place(self) -> usize
         ensures place { result ≡ place_of self }
         ensures most { result ≤ 20 }

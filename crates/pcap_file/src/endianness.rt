@@ -14,7 +14,7 @@ pub enum Endianness {
 }
 
 impl Endianness {
-    // The order that a magic tells, where its octets are taken with the high one first.
+    /// The order that a magic tells, where its octets are taken with the high one first.
     pub fn told_by(magic: u32) -> Option<Endianness>
         ensures { result ≡ order_told magic }
     {
@@ -25,7 +25,7 @@ impl Endianness {
         }
     }
 
-    // The number of the two octets at a place.
+    /// The number of the two octets at a place.
     pub fn two_at(self, place: usize, octets: &[u8]) -> u16
         requires { place + 2 ≤ length octets.now }
         ensures { result ≡ number_at self 2 place octets.now }
@@ -37,7 +37,7 @@ impl Endianness {
         }
     }
 
-    // The number of the four octets at a place.
+    /// The number of the four octets at a place.
     pub fn four_at(self, place: usize, octets: &[u8]) -> u32
         requires { place + 4 ≤ length octets.now }
         ensures { result ≡ number_at self 4 place octets.now }

@@ -16,7 +16,6 @@ const PW_STATUS_CODE: u32 = 0x28;
 
 /// A Label Mapping with this Message ID (RFC 5036 section 3.5.7): it binds the label to the pseudowire with this content. It
 /// can be written where the PW type has 15 bits and the VLAN ID 12, and a PDU with it alone has a PDU Length of at most 256.
-
 pub fn mapping(pw_id: u32, label: Label, told: &Told, id: u32) -> Message
     ensures message { result ≡ mapping pw_id label told.now id }
     ensures writable { told.now.kind ≤ 0x7FFF → has_vlan told.now.vlan ≡ true → writable result ≡ true }
