@@ -11,13 +11,13 @@ fn reads(
     rt: &impl Abort,
     alloc: Global,
     count: usize,
-    limit: usize,
+    limit: u32,
     fails: u64,
     want: Result<usize, ReadStop>,
 ) {
     let octets = Vec::from_elem(alloc, 7u8, count).expect(rt, "memory");
     let mut shelf = shelf_of(rt, alloc, octets.as_slice(), fails);
-    let length = read_file(alloc, &mut shelf, "f", limit).map(|octets| octets.len());
+    let length = read_file(alloc, &mut shelf, "f", limit as usize).map(|octets| octets.len());
     assert!(rt; length == want, "{count} octets at the limit {limit}");
     let faults = if fails > 0 { 1 } else { 0 };
     assert!(rt; shelf.faults("f") == faults, "{count} octets");
