@@ -8,6 +8,7 @@ use Rattle.net_base.specs.declared.plan.places.EdgeId.{EdgeId}
 use Rattle.net_base.specs.declared.plan.places.WireId.{WireId}
 use Rattle.net_base.specs.declared.trace.state_name.Reason.{Reason}
 use Rattle.net_base.specs.declared.trace.state_name.Reason.TheVariants as reason
+use Rattle.net_base.specs.plan.Places.{wire_row}
 use Rattle.ldp_grammar.specs.declared.message.Message.{Message}
 use Rattle.ldp_grammar.specs.declared.message.Message.TheVariants.{Notification, Initialization, KeepAlive}
 use Rattle.ldp_grammar.specs.declared.pdu.Pdu.{Pdu}
@@ -35,16 +36,18 @@ use Rattle.edge_model.specs.declared.end_place.EndPlace.{EndPlace}
 use Rattle.edge_model.specs.declared.input.Input.{Input}
 use Rattle.edge_model.specs.EndPlaces.{end_named}
 use Rattle.edge_model.specs.Hear.{hears_pdu}
-use Rattle.edge_model.specs.Mend.{advertising, telling_status, withdrawing}
+use Rattle.edge_model.specs.Mend.{advertising, forgetting_wire, telling_status, withdrawing}
 use Rattle.edge_model.specs.Parts.{HasFitMaximum, SessionsFit}
 use Rattle.edge_model.specs.Put.{Spoken, having_spoken, message_octets_of, octets_of, put_octets, put_replies, put_reply, put_reply_to, puts_on, with_spoken}
 use Rattle.edge_model.specs.Role.{status_to_tell}
+use Rattle.edge_model.specs.Send.{sends}
 use Rattle.edge_model.specs.Session.{clears_ends, comes_of, ends, had_said, happens, happens_to, happens_with_ends, is_same_phase, says, says_to, tells_change, went_on, with_session}
 use Rattle.edge_model.specs.Signal.{end_of_fec, with_end_changed, with_named}
 use Rattle.edge_model.specs.State.{EdgeState, Peering, with_addresses, with_bits, with_circuit, with_end, with_ends_beside, with_learned, with_next_label, with_peering, with_renewed, with_ticks, with_told_down, with_wire, without_ends, without_peerings}
 use Rattle.edge_model.specs.Step.{edge_step}
 use Rattle.edge_model.specs.Wire.{turned_wire}
 use Rattle.edge_model.specs.Work.{Work, Answers, changes, gives, idles, next_answer, puts}
+use Rattle.edge_model.proofs.BridgeLemmas.{forgetting_only, sends_bridges}
 use Rattle.edge_model.proofs.HeldLemmas.{clears_keep}
 use Rattle.edge_model.proofs.WalkLemmas.{HearSteps, InputSteps, MendSteps, hears_pdu_holds, step_holds}
 
@@ -235,6 +238,7 @@ mend_steps plan told k = record {
   tells_status = λ place label content last work is advertised told_it other fits.
       let status : PwStatus = status_to_tell plan work.edge place in
       says_fits told k place.peer (status_notification place.pw_id status content) (changes (telling_status place status) work) fits;
+  forgets_wire = λ place why work is terminal down. same_fits k work (changes (forgetting_wire plan place.wire (wire_row plan place.wire)) work) (forgetting_only plan place.wire (wire_row plan place.wire) work).edge.peering;
   tells_down = λ place work is terminal other fits. fits;
 }
 
@@ -272,6 +276,7 @@ input_steps plan told k = record {
   learns = λ service frame arrival work fits. fits;
   leaves = λ circuit octets work fits. fits;
   drops = λ cause work fits. fits;
+  sends_packet = λ place came octets work. same_fits k work (sends told place came octets work) (sends_bridges told place came octets work).edge.peering;
 }
 
 pub hears_pdu_fits : (plan : Plan) (told : Answers) (k : ℕ) (peer : EdgeId) (pdu : Pdu) (work : Work) → FitsOn k work (hears_pdu plan told peer pdu work)

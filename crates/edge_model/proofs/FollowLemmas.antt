@@ -23,14 +23,16 @@ use Rattle.edge_model.specs.declared.end_place.EndPlace.{EndPlace}
 use Rattle.edge_model.specs.declared.input.Input.{Input}
 use Rattle.edge_model.specs.EndPlaces.{end_named, end_places, is_named}
 use Rattle.edge_model.specs.Hear.{hears_message, hears_one}
-use Rattle.edge_model.specs.Mend.{advertising, is_up_with, mends, telling_status, terminal_wish, wish, wish_of, withdrawing}
+use Rattle.edge_model.specs.Mend.{advertising, forgetting_wire, is_up_with, mends, telling_status, terminal_wish, wish, wish_of, withdrawing}
 use Rattle.edge_model.specs.Put.{message_octets_of, put_octets, put_reply}
+use Rattle.edge_model.specs.Send.{sends}
 use Rattle.edge_model.specs.Session.{clears_ends, had_put, had_said, happens, happens_with_ends, says, says_to}
 use Rattle.edge_model.specs.Signal.{end_of_fec, with_end_changed, with_named}
 use Rattle.edge_model.specs.State.{EdgeState, Peering, empty_edge, end_at, has_end, is_there, with_addresses, with_bits, with_circuit, with_end, with_ends_beside, with_learned, with_next_label, with_peering, with_renewed, with_ticks, with_told_down, with_wire, without_ends, without_peerings}
 use Rattle.edge_model.specs.Step.{edge_step}
 use Rattle.edge_model.specs.Wire.{turned_wire}
 use Rattle.edge_model.specs.Work.{Work, Answers, changes, gives, idles, next_answer}
+use Rattle.edge_model.proofs.BridgeLemmas.{LearnsOnly, forgetting_only, sends_bridges}
 use Rattle.edge_model.proofs.LocalLemmas.{and_left}
 use Rattle.edge_model.proofs.SessionLemmas.{IsSessionWork, happens_works, message_works, reply_works}
 use Rattle.edge_model.proofs.WalkLemmas.{HearSteps, InputSteps, MendSteps, hears_message_holds, hears_one_holds, mends_holds, step_holds}
@@ -187,6 +189,11 @@ change_says_follows : (told : Answers) (peer : EdgeId) (message : ℕ → Messag
 unfolding changes
 change_says_follows told peer message change work one follows = says_follows told peer message (changes change work) (one follows)
 
+-- where the addresses alone changed, ends and sessions are as before
+learns_follow : (a b : Work) → LearnsOnly a.edge b.edge → FollowsOn a b
+learns_follow a b only follows wire k none =
+    ap (λ (ends : ℕ → ℕ → EndState). ends wire k) only.ends ∙ follows wire k (sym (ap (λ (peering : ℕ → Option Peering). peering k) only.peering) ∙ none)
+
 pub mend_follows : (plan : Plan) (told : Answers) → MendSteps plan told FollowsOn
 unfolding changes gives with_told_down
 mend_follows plan told = record {
@@ -201,6 +208,7 @@ mend_follows plan told = record {
   tells_status = λ place label content last work here is status other.
       change_says_follows told place.peer (status_notification place.pw_id _ content) (telling_status place _) work
       (λ follows. end_follows place _ work.edge (advertised_stands work.edge place label content follows is) follows);
+  forgets_wire = λ place why work here terminal is. learns_follow work (changes (forgetting_wire plan place.wire (wire_row plan place.wire)) work) (forgetting_only plan place.wire (wire_row plan place.wire) work).edge;
   tells_down = λ place work here terminal other follows. follows;
 }
 
@@ -273,6 +281,7 @@ input_follows plan told = record {
   learns = λ service frame arrival work follows. follows;
   leaves = λ circuit octets work follows. follows;
   drops = λ cause work follows. follows;
+  sends_packet = λ place came octets work. learns_follow work (sends told place came octets work) (sends_bridges told place came octets work).edge;
 }
 
 pub mends_follows : (plan : Plan) (told : Answers) (work : Work) → FollowsOn work (mends plan told work)

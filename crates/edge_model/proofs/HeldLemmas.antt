@@ -4,6 +4,7 @@ use Rattle.std.proofs.lemmas.Bool.{cases_Bool, eqb-true, eq-eqb}
 use Rattle.net_base.specs.declared.plan.Plan.{Plan}
 use Rattle.net_base.specs.declared.plan.wire_plan.WirePlan.{WirePlan}
 use Rattle.net_base.specs.declared.plan.places.EdgeId.{EdgeId}
+use Rattle.net_base.specs.declared.plan.places.WireId.{WireId}
 use Rattle.net_base.specs.declared.trace.down.Down.{Down}
 use Rattle.net_base.specs.declared.trace.state_name.Reason.{Reason}
 use Rattle.net_base.specs.declared.trace.state_name.Reason.TheVariants as reason
@@ -36,12 +37,12 @@ use Rattle.edge_model.specs.declared.effect.Effect.TheVariants as effect
 use Rattle.edge_model.specs.declared.end_place.EndPlace.{EndPlace}
 use Rattle.edge_model.specs.EndPlaces.{end_named, end_places}
 use Rattle.edge_model.specs.Hear.{acts, acts_on, advice_of, advises, hears_few, hears_front, hears_message, hears_messages, hears_one, hears_pdu, hears_within, holds, was_up}
-use Rattle.edge_model.specs.Mend.{advertises_wish, advertising, and_says, cause_number, each_end, is_up_with, mends, mends_again, mends_end, mends_few, mends_local, mends_once, mends_status, mends_status_of, stays, telling_status, tells_down, tells_downs, tells_over, terminal_wish, wish, wish_of, withdrawing, withdraws_unless}
+use Rattle.edge_model.specs.Mend.{advertises_wish, advertising, and_says, cause_number, each_end, forgets_down, forgets_downs, forgetting_wire, is_up_with, mends, mends_again, mends_end, mends_few, mends_local, mends_once, mends_status, mends_status_of, stays, telling_status, tells_down, tells_downs, tells_over, terminal_wish, wish, wish_of, withdrawing, withdraws_unless}
 use Rattle.edge_model.specs.Put.{Spoken, having_spoken, message_octets_of, octets_of, put_octets, put_replies, put_reply, put_reply_to, puts_on, with_spoken}
 use Rattle.edge_model.specs.Role.{down_at, status_to_tell}
 use Rattle.edge_model.specs.Session.{clears_ends, comes_of, ends, had_put, had_said, happens, happens_to, happens_with_ends, is_same_phase, says, says_to, tells_change, went_on, with_session}
 use Rattle.edge_model.specs.Signal.{end_of_fec, hears_status, hears_withdraw, maps_to, releases_label, with_end_changed, with_named}
-use Rattle.edge_model.specs.State.{EdgeState, Peering, end_at, has_end, is_there, put_at, with_end, with_ends_beside, with_next_label, with_peering, with_told_down}
+use Rattle.edge_model.specs.State.{EdgeState, Peering, end_at, has_end, is_there, put_at, with_addresses, with_end, with_ends_beside, with_next_label, with_peering, with_told_down}
 use Rattle.edge_model.specs.Work.{Work, Answers, changes, gives, next_answer, puts}
 
 -- ---- what is kept for a peer becomes something else
@@ -277,6 +278,29 @@ tells_downs_held plan other (place ∷ places) work = ap (tells_downs plan place
     one true = tell (down_at plan work.edge place)
     one false = refl
 
+-- a change of the edge that what is held does not matter to
+changes_held : (other : Holding) (change : EdgeState → EdgeState) (work : Work) → change (reheld other work.edge) ≡ reheld other (change work.edge) → changes change (rehold other work) ≡ rehold other (changes change work)
+unfolding changes
+changes_held other change work same = ap (λ (edge : EdgeState). record work { edge = edge }) same
+
+forgetting_held : (plan : Plan) (other : Holding) (wire : WireId) (row : Option WirePlan) (edge : EdgeState) → forgetting_wire plan wire row (reheld other edge) ≡ reheld other (forgetting_wire plan wire row edge)
+unfolding with_addresses
+forgetting_held plan other wire None edge = refl
+forgetting_held plan other wire (Some row) edge = refl
+
+forgets_downs_held : (plan : Plan) (other : Holding) (places : List EndPlace) (work : Work) → forgets_downs plan places (rehold other work) ≡ rehold other (forgets_downs plan places work)
+forgets_downs_held plan other [] work = refl
+forgets_downs_held plan other (place ∷ places) work =
+    ap (forgets_downs plan places) (one place.terminal) ∙ forgets_downs_held plan other places (cond place.terminal (forgets_down plan place (down_at plan work.edge place) work) work)
+  where
+    forget : (down : Option Down) → forgets_down plan place down (rehold other work) ≡ rehold other (forgets_down plan place down work)
+    forget None = refl
+    forget (Some why) = changes_held other (forgetting_wire plan place.wire (wire_row plan place.wire)) work (forgetting_held plan other place.wire (wire_row plan place.wire) work.edge)
+
+    one : (b : Bool) → cond b (forgets_down plan place (down_at plan work.edge place) (rehold other work)) (rehold other work) ≡ rehold other (cond b (forgets_down plan place (down_at plan work.edge place) work) work)
+    one true = forget (down_at plan work.edge place)
+    one false = refl
+
 mends_once_held : (plan : Plan) (told : Answers) (other : Holding) → MendsAlike other (mends_once plan told)
 mends_once_held plan told other work =
     let places : List EndPlace = end_places plan work.edge.me in
@@ -285,10 +309,11 @@ mends_once_held plan told other work =
     ap (λ (s : Spoken). last places s)
     (ap (each_end (mends_status plan told) places) (each_end_held other (mends_end plan told) (mends_end_held plan told other) places (stays work))
     ∙ each_end_held other (mends_status plan told) (mends_status_held plan told other) places first)
-    ∙ ap (λ (w : Work). record { work = w; failed = second.failed }) (tells_downs_held plan other places second.work)
+    ∙ ap (λ (w : Work). record { work = w; failed = second.failed })
+    (ap (tells_downs plan places) (forgets_downs_held plan other places second.work) ∙ tells_downs_held plan other places (forgets_downs plan places second.work))
   where
     last : List EndPlace → Spoken → Spoken
-    last places s = record { work = tells_downs plan places s.work; failed = s.failed }
+    last places s = record { work = tells_downs plan places (forgets_downs plan places s.work); failed = s.failed }
 
 mends_few_held : (plan : Plan) (told : Answers) (other : Holding) (n : ℕ) (work : Work) → mends_few plan told n (rehold other work) ≡ rehold other (mends_few plan told n work)
 mends_few_held plan told other zero work = refl
@@ -324,11 +349,6 @@ named_held : (plan : Plan) (other : Holding) (peer : EdgeId) (fec : PwFec) (one 
 unfolding with_ends_beside
 named_held plan other peer fec one all None edge = refl
 named_held plan other peer fec one all (Some pw_id) edge = changed_held other one (end_named plan edge.me peer pw_id) edge
-
--- a change of the edge that what is held does not matter to
-changes_held : (other : Holding) (change : EdgeState → EdgeState) (work : Work) → change (reheld other work.edge) ≡ reheld other (change work.edge) → changes change (rehold other work) ≡ rehold other (changes change work)
-unfolding changes
-changes_held other change work same = ap (λ (edge : EdgeState). record work { edge = edge }) same
 
 withdraw_held : (plan : Plan) (told : Answers) (other : Holding) (peer : EdgeId) (fec : PwFec) (label : Option ℕ) (work : Work)
     → hears_withdraw plan told peer fec label (rehold other work) ≡ rehold other (hears_withdraw plan told peer fec label work)

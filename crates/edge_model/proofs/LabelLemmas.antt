@@ -6,6 +6,7 @@ use Rattle.net_base.specs.declared.plan.circuit_plan.CircuitPlan.{CircuitPlan}
 use Rattle.net_base.specs.declared.plan.places.CircuitId.{CircuitId}
 use Rattle.net_base.specs.declared.plan.places.EdgeId.{EdgeId}
 use Rattle.net_base.specs.declared.plan.places.WireId.{WireId}
+use Rattle.net_base.specs.plan.Places.{wire_row}
 use Rattle.label_space.specs.Labels.{numbers_end}
 use Rattle.pw_tlvs.specs.declared.pw_fec.PwFec.{PwFec}
 use Rattle.pw_signalling.specs.declared.told.Told.{Told}
@@ -17,14 +18,16 @@ use Rattle.edge_model.specs.Content.{mapping, release, status_notification, with
 use Rattle.edge_model.specs.declared.end_place.EndPlace.{EndPlace}
 use Rattle.edge_model.specs.declared.input.Input.{Input}
 use Rattle.edge_model.specs.EndPlaces.{end_named}
-use Rattle.edge_model.specs.Mend.{advertising, mends, telling_status, withdrawing}
+use Rattle.edge_model.specs.Mend.{advertising, forgetting_wire, mends, telling_status, withdrawing}
 use Rattle.edge_model.specs.Put.{put_reply}
+use Rattle.edge_model.specs.Send.{sends}
 use Rattle.edge_model.specs.Session.{had_said, happens_with_ends, says}
 use Rattle.edge_model.specs.Signal.{end_of_fec, with_end_changed, with_named}
 use Rattle.edge_model.specs.State.{EdgeState, end_at, with_addresses, with_bits, with_circuit, with_end, with_ends_beside, with_learned, with_next_label, with_peering, with_renewed, with_ticks, with_told_down, with_wire, without_ends, without_peerings}
 use Rattle.edge_model.specs.Step.{edge_step}
 use Rattle.edge_model.specs.Wire.{turned_wire}
 use Rattle.edge_model.specs.Work.{Work, Answers, changes, gives, idles}
+use Rattle.edge_model.proofs.BridgeLemmas.{LearnsOnly, forgetting_only, sends_bridges}
 use Rattle.edge_model.proofs.SessionLemmas.{IsSessionWork, advice_works, any, happens_with_ends_works, says_works}
 use Rattle.edge_model.proofs.WalkLemmas.{HearSteps, InputSteps, MendSteps, mends_holds, step_holds}
 
@@ -66,6 +69,9 @@ rises_not work = same_label numbers_end work.edge.next_label work.edge.next_labe
 keeps : (change : EdgeState → EdgeState) (work : Work) → (change work.edge).next_label ≡ work.edge.next_label → WorkRises work (changes change work)
 unfolding changes
 keeps change work same = same_label numbers_end work.edge.next_label (change work.edge).next_label same
+
+learns_rise : (a b : Work) → LearnsOnly a.edge b.edge → WorkRises a b
+learns_rise a b only = same_label numbers_end a.edge.next_label b.edge.next_label only.labels
 
 session_rises : (a b : Work) → IsSessionWork any a b → WorkRises a b
 session_rises a b works = same_label numbers_end a.edge.next_label b.edge.next_label works.edge.labels
@@ -110,6 +116,7 @@ mend_rises plan told = record {
       says_rises told place.peer (withdrawal place.pw_id label content) (withdrawing place) work (end_keeps place (withdrawn (end_at work.edge place)) work.edge);
   tells_status = λ place label content last work here is status other.
       says_rises told place.peer (status_notification place.pw_id _ content) (telling_status place _) work (end_keeps place (telling _ (end_at work.edge place)) work.edge);
+  forgets_wire = λ place why work here terminal is. learns_rise work (changes (forgetting_wire plan place.wire (wire_row plan place.wire)) work) (forgetting_only plan place.wire (wire_row plan place.wire) work).edge;
   tells_down = λ place work here terminal other. rises_not work;
 }
 
@@ -155,6 +162,7 @@ input_rises plan told = record {
   learns = λ service frame arrival work. rises_not work;
   leaves = λ circuit octets work. rises_not work;
   drops = λ cause work. rises_not work;
+  sends_packet = λ place came octets work. learns_rise work (sends told place came octets work) (sends_bridges told place came octets work).edge;
 }
 
 pub mends_rises : (plan : Plan) (told : Answers) (work : Work) → WorkRises work (mends plan told work)

@@ -1,4 +1,6 @@
+pub mod BridgeLemmas
 mod Examples
+pub mod CopyLemmas
 pub mod FitLemmas
 pub mod FollowLemmas
 pub mod HeldLemmas
@@ -7,6 +9,8 @@ pub mod LocalLemmas
 pub mod MendLemmas
 pub mod MendedLemmas
 pub mod OneEndLemmas
+mod PacketExamples
+pub mod PacketLemmas
 pub mod PartsLemmas
 pub mod PlaceLemmas
 mod SessionExamples
@@ -14,4 +18,5 @@ pub mod SessionLemmas
 mod SignalExamples
 pub mod SignalLemmas
 pub mod StillLemmas
+pub mod SyncLemmas
 pub mod WalkLemmas

@@ -3,6 +3,7 @@ use Rattle.std.proofs.Common.{◌≡◌, ◌∙◌, ◌||◌, ℕ, zero, suc, Bo
 use Rattle.std.proofs.lemmas.Bool.{cases_Bool, eqb-true, eq-eqb}
 use Rattle.net_base.specs.declared.plan.Plan.{Plan}
 use Rattle.net_base.specs.declared.plan.places.EdgeId.{EdgeId}
+use Rattle.net_base.specs.plan.Places.{wire_row}
 use Rattle.label_space.specs.Labels.{numbers_end}
 use Rattle.ldp_grammar.specs.declared.message.Message.{Message}
 use Rattle.pw_tlvs.specs.declared.pw_status.PwStatus.{PwStatus}
@@ -17,6 +18,7 @@ use Rattle.edge_model.specs.Role.{status_to_tell}
 use Rattle.edge_model.specs.Session.{clears_ends, had_said, says, says_to}
 use Rattle.edge_model.specs.State.{Peering, end_at, has_end, is_there, with_end, with_next_label, with_peering, with_told_down}
 use Rattle.edge_model.specs.Work.{Work, Answers, changes, gives, next_answer, puts}
+use Rattle.edge_model.proofs.BridgeLemmas.{forgetting_only}
 use Rattle.edge_model.proofs.WalkLemmas.{MendSteps, mends_holds}
 
 -- ---- a link that takes every call
@@ -164,6 +166,8 @@ mends_speaks plan told k work takes = mends_holds plan told (SpeaksFrom k) steps
       tells_status = λ place label content last now is advertised told_it other old speaks.
           let status : PwStatus = status_to_tell plan now.edge place in
           says_speaks told k old place.peer (status_notification place.pw_id status content) (changes (telling_status place status) now) takes speaks;
+      forgets_wire = λ place why now is terminal down old speaks.
+          subst (λ (peering : ℕ → Option Peering). SpeaksOn old (peering k)) (sym (forgetting_only plan place.wire (wire_row plan place.wire) now).edge.peering) speaks;
       tells_down = λ place now is terminal other old speaks. speaks;
     }
 

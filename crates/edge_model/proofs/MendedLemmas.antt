@@ -4,11 +4,13 @@ use Rattle.std.proofs.lemmas.Bool.{cases_Bool, eqb-true, eq-eqb}
 use Rattle.std.specs.List.{AllByRecursion}
 use Rattle.net_base.specs.declared.plan.Plan.{Plan}
 use Rattle.net_base.specs.declared.plan.places.EdgeId.{EdgeId}
+use Rattle.net_base.specs.declared.plan.places.ServiceId.{ServiceId}
 use Rattle.net_base.specs.declared.plan.wire_plan.WirePlan.{WirePlan}
 use Rattle.net_base.specs.declared.trace.down.Down.{Down}
 use Rattle.net_base.specs.plan.Paths.{offer_of}
 use Rattle.net_base.specs.plan.Places.{wire_row}
 use Rattle.label_space.specs.Labels.{numbers_end}
+use Rattle.mac_table.specs.declared.mac_entry.MacEntry.{MacEntry}
 use Rattle.ldp_grammar.specs.declared.message.Message.{Message}
 use Rattle.pw_tlvs.specs.declared.pw_status.PwStatus.{PwStatus}
 use Rattle.pw_status.specs.Status.{combined, method_by}
@@ -20,12 +22,13 @@ use Rattle.edge_model.specs.Content.{content_of, mapping, status_notification, w
 use Rattle.edge_model.specs.declared.effect.Effect.TheVariants.{Wire}
 use Rattle.edge_model.specs.declared.end_place.EndPlace.{EndPlace}
 use Rattle.edge_model.specs.EndPlaces.{end_places, is_terminal}
-use Rattle.edge_model.specs.Mend.{advertises_wish, advertising, and_says, cause_number, each_end, is_up_with, mends, mends_again, mends_end, mends_few, mends_local, mends_once, mends_status, mends_status_of, status_held, stays, telling_status, tells_down, tells_downs, tells_over, tells_status, wish, wish_of, withdrawing, withdraws_unless}
+use Rattle.edge_model.specs.Mend.{advertises_wish, advertising, and_says, cause_number, each_end, forgets_down, forgets_downs, forgetting_wire, is_up_with, mends, mends_again, mends_end, mends_few, mends_local, mends_once, mends_status, mends_status_of, status_held, port_of_wire, stays, telling_status, tells_down, tells_downs, tells_over, tells_status, wish, wish_of, withdrawing, withdraws_unless}
 use Rattle.edge_model.specs.Put.{Spoken, having_spoken, message_octets_of, put_octets, with_spoken}
 use Rattle.edge_model.specs.Role.{down_at, is_not_chosen, role_in, status_to_tell}
 use Rattle.edge_model.specs.Session.{had_said, says, says_to}
-use Rattle.edge_model.specs.State.{EdgeState, Peering, end_at, with_end, with_next_label, with_peering, with_told_down}
+use Rattle.edge_model.specs.State.{EdgeState, Peering, addresses_of, end_at, with_addresses, with_end, with_next_label, with_peering, with_told_down, without_port}
 use Rattle.edge_model.specs.Work.{Work, Answers, changes, gives, next_answer, puts}
+use Rattle.edge_model.proofs.BridgeLemmas.{LearnsOnly, forgets_downs_only, forgetting_learns, learns_is}
 use Rattle.edge_model.proofs.MendLemmas.{TakesAll, mends_once_takes, mends_takes, says_nothing, says_taken}
 use Rattle.edge_model.proofs.PlaceLemmas.{IsEndOf, places_are}
 
@@ -57,6 +60,11 @@ is_told plan edge place = tells_now (status_to_tell plan edge place).0 (end_at e
 -- and what was told of a terminal end is so
 abbrev pub is_down_told : Plan → EdgeState → EndPlace → Bool
 is_down_told plan edge place = not place.terminal || nat_eq (cause_number (edge.told_down place.wire.0)) (cause_number (down_at plan edge place))
+
+-- the addresses at the port of a terminal end that does not forward are gone
+abbrev pub IsForgotten : Plan → EdgeState → EndPlace → Type 0
+IsForgotten plan edge place = (row : WirePlan) → place.terminal ≡ true → wire_row plan place.wire ≡ Some row → is_some (down_at plan edge place) ≡ true
+    → without_port (port_of_wire plan edge place.wire row) (addresses_of edge row.service) ≡ addresses_of edge row.service
 
 -- ---- then there is nothing to mend
 
@@ -112,6 +120,41 @@ tells_down_not plan place work = of place.terminal where
   of true e = same (nat_eq (cause_number (work.edge.told_down place.wire.0)) (cause_number down)) e
   of false e = refl
 
+-- addresses that are there already
+same_addresses : (service : ServiceId) (entries : List MacEntry) (edge : EdgeState) → entries ≡ addresses_of edge service → with_addresses service entries edge ≡ edge
+unfolding with_addresses
+same_addresses service entries edge same = λ i. record edge { learned = λ k. each k i } where
+  each : (k : ℕ) → cond (nat_eq k service.0) entries (edge.learned k) ≡ edge.learned k
+  each k = elim (cases_Bool (nat_eq k service.0)) [
+    | inl here ↦ rw here (same ∙ ap edge.learned (sym (eqb-true k service.0 here)))
+    | inr away ↦ rw away refl
+  ]
+
+-- one end in turn
+forgets_one : Plan → EndPlace → Work → Work
+forgets_one plan place work = cond place.terminal (forgets_down plan place (down_at plan work.edge place) work) work
+
+forgets_one_not : (plan : Plan) (place : EndPlace) (work : Work) → IsForgotten plan work.edge place → forgets_one plan place work ≡ work
+unfolding changes forgets_one
+forgets_one_not plan place work gone = of place.terminal refl where
+  by_row : place.terminal ≡ true → is_some (down_at plan work.edge place) ≡ true → (row : Option WirePlan) → wire_row plan place.wire ≡ row → forgetting_wire plan place.wire row work.edge ≡ work.edge
+  by_row terminal down None is = refl
+  by_row terminal down (Some row) is = same_addresses row.service _ work.edge (gone row terminal is down)
+
+  by : place.terminal ≡ true → (down : Option Down) → down_at plan work.edge place ≡ down → forgets_down plan place down work ≡ work
+  by terminal None is = refl
+  by terminal (Some why) is =
+      ap (λ (edge : EdgeState). record work { edge = edge }) (by_row terminal (ap (λ (o : Option Down). is_some o) is) (wire_row plan place.wire) refl)
+
+  of : (b : Bool) → place.terminal ≡ b → cond b (forgets_down plan place (down_at plan work.edge place) work) work ≡ work
+  of true terminal = by terminal (down_at plan work.edge place) refl
+  of false middle = refl
+
+forgets_downs_not : (plan : Plan) (work : Work) (places : List EndPlace) → AllByRecursion (IsForgotten plan work.edge) places → forgets_downs plan places work ≡ work
+unfolding forgets_one
+forgets_downs_not plan work [] all = refl
+forgets_downs_not plan work (place ∷ places) all = ap (forgets_downs plan places) (forgets_one_not plan place work all.0) ∙ forgets_downs_not plan work places all.1
+
 each_end_not : (mend : EndPlace → Work → Spoken) (work : Work) (places : List EndPlace) → AllByRecursion (λ place. mend place work ≡ stays work) places → each_end mend places (stays work) ≡ stays work
 each_end_not mend work [] all = refl
 each_end_not mend work (place ∷ places) all =
@@ -129,6 +172,7 @@ all_map P Q each (place ∷ places) all = (each place all.0, all_map P Q each pl
 pub record IsMended (plan : Plan) (edge : EdgeState) : Type 0 where
   pub ends : AllByRecursion (λ place. is_mended plan edge place ≡ true) (end_places plan edge.me)
   pub statuses : AllByRecursion (λ place. is_told plan edge place ≡ true) (end_places plan edge.me)
+  pub forgotten : AllByRecursion (IsForgotten plan edge) (end_places plan edge.me)
   pub downs : AllByRecursion (λ place. is_down_told plan edge place ≡ true) (end_places plan edge.me)
 
 pub mends_once_not : (plan : Plan) (told : Answers) (work : Work) → IsMended plan work.edge → mends_once plan told work ≡ stays work
@@ -141,10 +185,10 @@ mends_once_not plan told work mended =
     each_end_not (mends_status plan told) work places
     (all_map (λ place. is_told plan work.edge place ≡ true) (λ place. mends_status plan told place work ≡ stays work) (λ place is. mends_status_not plan told place work is) places mended.statuses) in
     ap (λ (s : Spoken). last places s) (ap (each_end (mends_status plan told) places) first ∙ second)
-    ∙ ap stays (tells_downs_not plan work places mended.downs)
+    ∙ ap stays (ap (tells_downs plan places) (forgets_downs_not plan work places mended.forgotten) ∙ tells_downs_not plan work places mended.downs)
   where
     last : List EndPlace → Spoken → Spoken
-    last places s = record { work = tells_downs plan places s.work; failed = s.failed }
+    last places s = record { work = tells_downs plan places (forgets_downs plan places s.work); failed = s.failed }
 
 -- an edge whose ends tell what they should does nothing when it mends
 pub mends_not : (plan : Plan) (told : Answers) (work : Work) → IsMended plan work.edge → mends plan told work ≡ work
@@ -598,6 +642,126 @@ module _ (plan : Plan) (told : Answers) (me : EdgeId) where
     keeps = λ p q work one other none stays is. tells_keeps_told plan p q work.edge (mends_status plan told q work).work.edge (end_tells plan told q work none) is;
   }
 
+-- ---- what was learned at wires that do not forward is forgotten
+
+-- what is gone is not there to go
+without_twice : (p : Option ℕ) (entries : List MacEntry) → without_port p (without_port p entries) ≡ without_port p entries
+without_twice None entries = refl
+without_twice (Some n) [] = refl
+without_twice (Some n) (e ∷ entries) = elim (cases_Bool (nat_eq e.port n)) [
+  | inl here ↦ rw here (without_twice (Some n) entries)
+  | inr away ↦ rw (away, away) (ap (λ (rest : List MacEntry). e ∷ rest) (without_twice (Some n) entries))
+]
+
+-- the ports go in either order
+without_both : (p q : Option ℕ) (entries : List MacEntry) → without_port p (without_port q entries) ≡ without_port q (without_port p entries)
+without_both None q entries = refl
+without_both (Some n) None entries = refl
+without_both (Some n) (Some m) [] = refl
+without_both (Some n) (Some m) (e ∷ entries) = elim (cases_Bool (nat_eq e.port n)) [
+  | inl first ↦ elim (cases_Bool (nat_eq e.port m)) [
+    | inl second ↦ rw (first, second) (without_both (Some n) (Some m) entries)
+    | inr second ↦ rw (first, second, first) (without_both (Some n) (Some m) entries)
+  ]
+  | inr first ↦ elim (cases_Bool (nat_eq e.port m)) [
+    | inl second ↦ rw (first, second) (without_both (Some n) (Some m) entries)
+    | inr second ↦ rw (first, second, first) (ap (λ (rest : List MacEntry). e ∷ rest) (without_both (Some n) (Some m) entries))
+  ]
+]
+
+-- what is gone stays gone when more goes
+stays_gone : (service : ServiceId) (p : Option ℕ) (edge : EdgeState) (k : ℕ) (q : Option ℕ) → without_port q (edge.learned k) ≡ edge.learned k
+    → without_port q ((with_addresses service (without_port p (addresses_of edge service)) edge).learned k) ≡ (with_addresses service (without_port p (addresses_of edge service)) edge).learned k
+unfolding with_addresses
+stays_gone service p edge k q gone = elim (cases_Bool (nat_eq k service.0)) [
+  | inl here ↦
+      (let same : edge.learned k ≡ edge.learned service.0 = ap edge.learned (eqb-true k service.0 here) in
+      rw here (without_both q p (edge.learned service.0) ∙ ap (without_port p) (subst (λ (entries : List MacEntry). without_port q entries ≡ entries) same gone)))
+  | inr away ↦ rw away gone
+]
+
+-- the addresses at a port go
+goes : (service : ServiceId) (p : Option ℕ) (edge : EdgeState) → without_port p ((with_addresses service (without_port p (addresses_of edge service)) edge).learned service.0)
+    ≡ (with_addresses service (without_port p (addresses_of edge service)) edge).learned service.0
+unfolding with_addresses
+goes service p edge = rw (eq-eqb service.0 service.0 refl) (without_twice p (edge.learned service.0))
+
+-- other addresses tell nothing of why an end does not forward, and of which port it is
+gone_like : (plan : Plan) (p : EndPlace) (old new : EdgeState) → LearnsOnly old new
+    → ((row : WirePlan) → p.terminal ≡ true → wire_row plan p.wire ≡ Some row → is_some (down_at plan old p) ≡ true
+    → without_port (port_of_wire plan old p.wire row) (addresses_of new row.service) ≡ addresses_of new row.service)
+    → IsForgotten plan new p
+gone_like plan p old new only gone row terminal is down =
+    let same : new ≡ record old { learned = new.learned } = learns_is old new only in
+    ap (λ (e : EdgeState). without_port (port_of_wire plan e p.wire row) (addresses_of new row.service)) same
+    ∙ gone row terminal is (sym (ap (λ (e : EdgeState). is_some (down_at plan e p)) same) ∙ down)
+
+-- what is forgotten stays so when the addresses at another wire go, and when an end has its turn
+forgetting_keeps : (plan : Plan) (q : EndPlace) (row : Option WirePlan) (p : EndPlace) (edge : EdgeState) → IsForgotten plan edge p → IsForgotten plan (forgetting_wire plan q.wire row edge) p
+forgetting_keeps plan q None p edge gone = gone
+forgetting_keeps plan q (Some row) p edge gone =
+    gone_like plan p edge (forgetting_wire plan q.wire (Some row) edge) (forgetting_learns plan q.wire (Some row) edge)
+    (λ mine terminal is down. stays_gone row.service (port_of_wire plan edge q.wire row) edge mine.service.0 (port_of_wire plan edge p.wire mine) (gone mine terminal is down))
+
+one_keeps : (plan : Plan) (q p : EndPlace) (work : Work) → IsForgotten plan work.edge p → IsForgotten plan (forgets_one plan q work).edge p
+unfolding changes forgets_one
+one_keeps plan q p work gone = of q.terminal (down_at plan work.edge q) where
+  of : (b : Bool) (down : Option Down) → IsForgotten plan (cond b (forgets_down plan q down work) work).edge p
+  of true None = gone
+  of true (Some why) = forgetting_keeps plan q (wire_row plan q.wire) p work.edge gone
+  of false down = gone
+
+-- an end that had its turn is forgotten, where it does not forward
+one_goes : (plan : Plan) (q : EndPlace) (work : Work) → IsForgotten plan (forgets_one plan q work).edge q
+unfolding changes forgets_one
+one_goes plan q work = of q.terminal refl (down_at plan work.edge q) refl where
+  after : (found : Option WirePlan) → wire_row plan q.wire ≡ found → IsForgotten plan (forgetting_wire plan q.wire found work.edge) q
+  after None none = λ row terminal is down. no_row row none is
+    where
+      no_row : (row : WirePlan) → wire_row plan q.wire ≡ None → wire_row plan q.wire ≡ Some row
+          → without_port (port_of_wire plan work.edge q.wire row) (addresses_of work.edge row.service) ≡ addresses_of work.edge row.service
+      no_row row none is =
+          let wrong : None ≡ Some row = sym none ∙ is in
+          absurd (cc (wrong))
+  after (Some found) there =
+      gone_like plan q work.edge (forgetting_wire plan q.wire (Some found) work.edge) (forgetting_learns plan q.wire (Some found) work.edge)
+      (λ row terminal is down. same_row row is)
+    where
+      same_row : (row : WirePlan) → wire_row plan q.wire ≡ Some row
+          → without_port (port_of_wire plan work.edge q.wire row) (addresses_of (forgetting_wire plan q.wire (Some found) work.edge) row.service)
+          ≡ addresses_of (forgetting_wire plan q.wire (Some found) work.edge) row.service
+      same_row row is =
+          let rows : Some found ≡ Some row = sym there ∙ is in
+          let one : found ≡ row = cc (rows) in
+          subst (λ (r : WirePlan). without_port (port_of_wire plan work.edge q.wire r) (addresses_of (forgetting_wire plan q.wire (Some found) work.edge) r.service)
+          ≡ addresses_of (forgetting_wire plan q.wire (Some found) work.edge) r.service) one (goes found.service (port_of_wire plan work.edge q.wire found) work.edge)
+
+  stands : is_some (down_at plan work.edge q) ≡ false → IsForgotten plan work.edge q
+  stands up row own is down =
+      let wrong : false ≡ true = sym up ∙ down in
+      absurd (cc (wrong))
+
+  switches : q.terminal ≡ false → IsForgotten plan work.edge q
+  switches middle row terminal is down =
+      let wrong : false ≡ true = sym middle ∙ terminal in
+      absurd (cc (wrong))
+
+  of : (b : Bool) → q.terminal ≡ b → (down : Option Down) → down_at plan work.edge q ≡ down → IsForgotten plan (cond b (forgets_down plan q down work) work).edge q
+  of true terminal None up = stands (ap (λ (o : Option Down). is_some o) up)
+  of true terminal (Some why) is = after (wire_row plan q.wire) refl
+  of false middle other same = switches middle
+
+-- the same of each end in turn
+all_keep : (plan : Plan) (list : List EndPlace) (p : EndPlace) (work : Work) → IsForgotten plan work.edge p → IsForgotten plan (forgets_downs plan list work).edge p
+unfolding forgets_one
+all_keep plan [] p work gone = gone
+all_keep plan (q ∷ list) p work gone = all_keep plan list p (forgets_one plan q work) (one_keeps plan q p work gone)
+
+all_go : (plan : Plan) (list : List EndPlace) (work : Work) → AllByRecursion (IsForgotten plan (forgets_downs plan list work).edge) list
+unfolding forgets_one
+all_go plan [] work = tt
+all_go plan (q ∷ list) work = (all_keep plan list q (forgets_one plan q work) (one_goes plan q work), all_go plan list (forgets_one plan q work))
+
 -- ---- each wire is told
 
 -- a terminal edge of a wire has one end of it
@@ -662,13 +826,14 @@ one_told plan me one q here work = of q.terminal refl where
   of true terminal = by terminal (nat_eq (cause_number (a.told_down q.wire.0)) (cause_number down)) refl
   of false middle = left (ap (λ (b : Bool). not b || nat_eq (cause_number (a.told_down q.wire.0)) (cause_number down)) middle)
 
-record HaveTold (plan : Plan) (me : EdgeId) (list : List EndPlace) (old new : EdgeState) : Type 0 where
-  downs : ℕ → Option Down
-  is : new ≡ record old { told_down = downs }
-  so : AllByRecursion (λ q. is_down_told plan new q ≡ true) list
-  keeps : (p : EndPlace) → IsEndOf plan me p → is_down_told plan old p ≡ true → is_down_told plan new p ≡ true
+-- the same of each end in turn
+pub record HaveTold (plan : Plan) (me : EdgeId) (list : List EndPlace) (old new : EdgeState) : Type 0 where
+  pub downs : ℕ → Option Down
+  pub is : new ≡ record old { told_down = downs }
+  pub so : AllByRecursion (λ q. is_down_told plan new q ≡ true) list
+  pub keeps : (p : EndPlace) → IsEndOf plan me p → is_down_told plan old p ≡ true → is_down_told plan new p ≡ true
 
-all_told : (plan : Plan) (me : EdgeId) → HasOneEnd plan me → (list : List EndPlace) → AllByRecursion (IsEndOf plan me) list → (work : Work) → HaveTold plan me list work.edge (tells_downs plan list work).edge
+pub all_told : (plan : Plan) (me : EdgeId) → HasOneEnd plan me → (list : List EndPlace) → AllByRecursion (IsEndOf plan me) list → (work : Work) → HaveTold plan me list work.edge (tells_downs plan list work).edge
 unfolding tells_one
 all_told plan me one [] all work = record { downs = work.edge.told_down; is = refl; so = tt; keeps = λ p here is. is }
 all_told plan me one (q ∷ list) all work =
@@ -688,10 +853,13 @@ pub round_mends : (plan : Plan) (told : Answers) (work : Work) → HasOneEnd pla
 round_mends plan told work one none =
     record {
       ends = at_me (λ me. AllByRecursion (λ p. is_mended plan last p ≡ true) (end_places plan me))
-          (all_map (λ p. is_mended plan second.work.edge p ≡ true) (λ p. is_mended plan last p ≡ true) (λ p is. subst (λ (e : EdgeState). is_mended plan e p ≡ true) (sym downs.is) is) places
-          (all_map (λ p. is_mended plan first.work.edge p ≡ true) (λ p. is_mended plan second.work.edge p ≡ true) (λ p is. statuses.still.mended p is) places ends.made));
+          (all_map (λ p. is_mended plan first.work.edge p ≡ true) (λ p. is_mended plan last p ≡ true)
+          (λ p is. subst (λ (e : EdgeState). is_mended plan e p ≡ true) (sym at_last) (statuses.still.mended p is)) places ends.made);
       statuses = at_me (λ me. AllByRecursion (λ p. is_told plan last p ≡ true) (end_places plan me))
-          (all_map (λ p. is_told plan second.work.edge p ≡ true) (λ p. is_told plan last p ≡ true) (λ p is. subst (λ (e : EdgeState). is_told plan e p ≡ true) (sym downs.is) is) places statuses.made);
+          (all_map (λ p. is_told plan second.work.edge p ≡ true) (λ p. is_told plan last p ≡ true)
+          (λ p is. subst (λ (e : EdgeState). is_told plan e p ≡ true) (sym at_last) is) places statuses.made);
+      forgotten = at_me (λ me. AllByRecursion (IsForgotten plan last) (end_places plan me))
+          (all_map (IsForgotten plan forgot.edge) (IsForgotten plan last) (λ p gone. subst (λ (e : EdgeState). IsForgotten plan e p) (sym downs.is) gone) places (all_go plan places second.work));
       downs = at_me (λ me. AllByRecursion (λ p. is_down_told plan last p ≡ true) (end_places plan me)) downs.so;
     }
   where
@@ -710,8 +878,11 @@ round_mends plan told work one none =
     second : Spoken
     second = each_end (mends_status plan told) places first
 
+    forgot : Work
+    forgot = forgets_downs plan places second.work
+
     last : EdgeState
-    last = (tells_downs plan places second.work).edge
+    last = (tells_downs plan places forgot).edge
 
     ends : Passed (IsEndOf plan me) (λ now. IsSteady work.edge now) (λ p now. is_mended plan now p ≡ true) places work.edge first.work.edge
     ends = passes (mends_end plan told) (IsEndOf plan me) (λ now. IsSteady work.edge now) (λ p now. is_mended plan now p ≡ true) (first_pass plan told me work.edge) places all (stays work)
@@ -721,11 +892,17 @@ round_mends plan told work one none =
     statuses = passes (mends_status plan told) (IsEndOf plan me) (λ now. StaysMended plan first.work.edge now) (λ p now. is_told plan now p ≡ true) (second_pass plan told me first.work.edge) places all first
         none (record { steady = steady_not first.work.edge; mended = λ p is. is })
 
-    downs : HaveTold plan me places second.work.edge last
-    downs = all_told plan me one places all second.work
+    learns : LearnsOnly second.work.edge forgot.edge
+    learns = (forgets_downs_only plan places second.work).edge
+
+    downs : HaveTold plan me places forgot.edge last
+    downs = all_told plan me one places all forgot
+
+    at_last : last ≡ record (second.work.edge) { learned = forgot.edge.learned; told_down = downs.downs }
+    at_last = downs.is ∙ ap (λ (e : EdgeState). record e { told_down = downs.downs }) (learns_is second.work.edge forgot.edge learns)
 
     same_me : last.me ≡ me
-    same_me = ap (λ (e : EdgeState). e.me) downs.is ∙ (statuses.still.steady.me ∙ ends.still.me)
+    same_me = ap (λ (e : EdgeState). e.me) at_last ∙ (statuses.still.steady.me ∙ ends.still.me)
 
     at_me : (P : EdgeId → Type 0) → P me → P last.me
     at_me P p = subst P (sym same_me) p

@@ -1,6 +1,6 @@
 -- What signalling leaves of an edge as it was, and what alone it gives out: messages put, ends advertised, withdrawn and told,
 -- messages heard, and mending.
-use Rattle.std.proofs.Common.{◌≡◌, ◌&&◌, ◌∙◌, ℕ, Bool, true, false, List, [], ◌∷◌, Option, Some, None, cond, refl, ap, nat_eq, not, length, slice_get}
+use Rattle.std.proofs.Common.{◌≡◌, ◌&&◌, ◌∙◌, ℕ, Bool, true, false, List, [], ◌∷◌, Option, Some, None, append-nil, cond, refl, sym, ap, nat_eq, not, length, slice_get}
 use Rattle.net_base.specs.declared.plan.Plan.{Plan}
 use Rattle.net_base.specs.declared.plan.circuit_plan.CircuitPlan.{CircuitPlan}
 use Rattle.net_base.specs.declared.plan.edge_plan.EdgePlan.{EdgePlan}
@@ -10,6 +10,7 @@ use Rattle.net_base.specs.declared.plan.places.WireId.{WireId}
 use Rattle.net_base.specs.declared.trace.down.Down.{Down}
 use Rattle.net_base.specs.declared.trace.state_name.Reason.TheVariants as reason
 use Rattle.net_base.specs.plan.Paths.{are_joined}
+use Rattle.net_base.specs.plan.Places.{wire_row}
 use Rattle.label_space.specs.Labels.{numbers_end}
 use Rattle.ldp_grammar.specs.declared.message.Message.{Message}
 use Rattle.ldp_grammar.specs.declared.pdu.Pdu.{Pdu}
@@ -21,7 +22,6 @@ use Rattle.pw_signalling.specs.declared.told.Told.{Told}
 use Rattle.pw_signalling.specs.End.{EndState, LocalPart, Idle, Advertised, Withdrawing}
 use Rattle.pw_signalling.specs.Rows.{bound, group_stated, group_unbound, released, stated, telling, unbound, withdrawn}
 use Rattle.session_core.specs.Table as table
-use Rattle.session_core.specs.Table.{SessionEvent}
 use Rattle.edge_model.specs.Circuit.{circuit_input, is_same, turned}
 use Rattle.edge_model.specs.Connection.{connected_input, connects, connects_between, lost_input, opened_with}
 use Rattle.edge_model.specs.Content.{mapping, release, status_notification, withdrawal}
@@ -31,7 +31,7 @@ use Rattle.edge_model.specs.declared.end_place.EndPlace.{EndPlace}
 use Rattle.edge_model.specs.EndPlaces.{end_named, ends_here, passes}
 use Rattle.edge_model.specs.Frame.{is_own}
 use Rattle.edge_model.specs.Hear.{acts_on, hears, hears_message, hears_messages, hears_on, hears_one, hears_pdu, octets_input}
-use Rattle.edge_model.specs.Mend.{advertises, advertises_wish, advertising, and_says, cause_number, each_end, mends, mends_end, mends_local, mends_once, mends_status, mends_status_of, stays, tells_down, tells_downs, tells_new_status, tells_over, telling_status, wish, withdrawing, withdraws, withdraws_unless}
+use Rattle.edge_model.specs.Mend.{advertises, advertises_wish, advertising, and_says, cause_number, each_end, forgets_downs, forgetting_wire, mends, mends_end, mends_local, mends_once, mends_status, mends_status_of, stays, tells_down, tells_downs, tells_new_status, tells_over, telling_status, wish, withdrawing, withdraws, withdraws_unless}
 use Rattle.edge_model.specs.Put.{Spoken, put_reply}
 use Rattle.edge_model.specs.Role.{down_at, status_to_tell}
 use Rattle.edge_model.specs.Session.{had_said, happens_with_ends, says}
@@ -40,6 +40,7 @@ use Rattle.edge_model.specs.State.{EdgeState, Peering, end_at, has_end, is_on, w
 use Rattle.edge_model.specs.Tick.{counted, forgetting, tick_input, ticks_sessions}
 use Rattle.edge_model.specs.Wire.{status_input, turned_wire, wire_input}
 use Rattle.edge_model.specs.Work.{Work, Answers, changes, gives, idles}
+use Rattle.edge_model.proofs.BridgeLemmas.{ForgetsOnly, forgets_downs_only, forgetting_only}
 use Rattle.edge_model.proofs.LocalLemmas.{and_left, and_right}
 use Rattle.edge_model.proofs.SessionLemmas.{GivesOnly, IsSessionWork, advice_works, any, are_all, connects_works, gives_none, gives_then, happens_with_ends_works, is_of_session, says_works}
 use Rattle.edge_model.proofs.WalkLemmas.{HearSteps, MendSteps, acts_on_holds, hears_holds, hears_mapping_holds, hears_message_holds, hears_messages_holds, hears_on_holds, hears_one_holds, hears_pdu_holds, hears_status_holds, hears_withdraw_holds, mends_holds, mends_once_holds, ticks_hold}
@@ -65,11 +66,10 @@ all_signalling (e ∷ es) own =
     ap (λ (b : Bool). b && are_all is_of_signalling es) (more_signalling e (and_left (is_of_session any e) (are_all (is_of_session any) es) own))
     ∙ all_signalling es (and_right (is_of_session any e) (are_all (is_of_session any) es) own)
 
--- of the edge, all stays but its sessions, its ends, what it told of them, and its next label
+-- of the edge, all stays but its sessions, its ends, what it told of them, its next label, and the addresses that it forgets
 pub record IsSignalled (old new : EdgeState) : Type 0 where
   pub me : new.me ≡ old.me
   pub circuits : new.circuit_on ≡ old.circuit_on
-  pub learned : new.learned ≡ old.learned
   pub ticks : new.ticks ≡ old.ticks
   pub wires : new.wire_on ≡ old.wire_on
   pub bits : new.bits ≡ old.bits
@@ -81,13 +81,12 @@ pub record IsSignalWork (old new : Work) : Type 0 where
   pub idle : new.idle ≡ old.idle
 
 signalled_not : (edge : EdgeState) → IsSignalled edge edge
-signalled_not edge = record { me = refl; circuits = refl; learned = refl; ticks = refl; wires = refl; bits = refl }
+signalled_not edge = record { me = refl; circuits = refl; ticks = refl; wires = refl; bits = refl }
 
 signalled_then : (a b c : EdgeState) → IsSignalled a b → IsSignalled b c → IsSignalled a c
 signalled_then a b c first next = record {
   me = next.me ∙ first.me;
   circuits = next.circuits ∙ first.circuits;
-  learned = next.learned ∙ first.learned;
   ticks = next.ticks ∙ first.ticks;
   wires = next.wires ∙ first.wires;
   bits = next.bits ∙ first.bits;
@@ -106,7 +105,7 @@ signals_then a b c first next = record {
 -- work of sessions is work of signalling
 pub session_signals : (a b : Work) → IsSessionWork any a b → IsSignalWork a b
 session_signals a b works = record {
-  edge = record { me = works.edge.me; circuits = works.edge.circuits; learned = works.edge.learned; ticks = works.edge.ticks; wires = works.edge.wires; bits = works.edge.bits };
+  edge = record { me = works.edge.me; circuits = works.edge.circuits; ticks = works.edge.ticks; wires = works.edge.wires; bits = works.edge.bits };
   effects = record { more = works.effects.more; given = works.effects.given; own = all_signalling works.effects.more works.effects.own };
   idle = works.idle;
 }
@@ -122,15 +121,15 @@ says_signals told peer message work = session_signals work (says told peer messa
 
 end_signals : (place : EndPlace) (end : EndState) (edge : EdgeState) → IsSignalled edge (with_end place end edge)
 unfolding with_end
-end_signals place end edge = record { me = refl; circuits = refl; learned = refl; ticks = refl; wires = refl; bits = refl }
+end_signals place end edge = record { me = refl; circuits = refl; ticks = refl; wires = refl; bits = refl }
 
 advertising_signals : (place : EndPlace) (label : ℕ) (content : Told) (edge : EdgeState) → IsSignalled edge (advertising place label content edge)
 unfolding with_end with_next_label
-advertising_signals place label content edge = record { me = refl; circuits = refl; learned = refl; ticks = refl; wires = refl; bits = refl }
+advertising_signals place label content edge = record { me = refl; circuits = refl; ticks = refl; wires = refl; bits = refl }
 
 beside_signals : (peer : EdgeId) (change : EndState → EndState) (edge : EdgeState) → IsSignalled edge (with_ends_beside peer change edge)
 unfolding with_ends_beside
-beside_signals peer change edge = record { me = refl; circuits = refl; learned = refl; ticks = refl; wires = refl; bits = refl }
+beside_signals peer change edge = record { me = refl; circuits = refl; ticks = refl; wires = refl; bits = refl }
 
 changed_signals : (change : EndState → EndState) (place : Option EndPlace) (edge : EdgeState) → IsSignalled edge (with_end_changed change place edge)
 changed_signals change None edge = signalled_not edge
@@ -142,7 +141,7 @@ named_signals plan peer fec one all (Some pw_id) edge = changed_signals one (end
 
 held_signals : (peer : EdgeId) (kept : Option Peering) (edge : EdgeState) → IsSignalled edge (with_peering peer kept edge)
 unfolding with_peering
-held_signals peer kept edge = record { me = refl; circuits = refl; learned = refl; ticks = refl; wires = refl; bits = refl }
+held_signals peer kept edge = record { me = refl; circuits = refl; ticks = refl; wires = refl; bits = refl }
 
 -- a change of the edge, and a message after it
 change_says_signals : (told : Answers) (peer : EdgeId) (message : ℕ → Message) (change : EdgeState → EdgeState) (work : Work) → IsSignalled work.edge (change work.edge)
@@ -166,7 +165,7 @@ tells_new_status_signals told place content status work =
 pub tells_wire_signals : (wire : WireId) (down : Option Down) (work : Work) → IsSignalWork work (gives (effect.Wire wire down) (changes (with_told_down wire down) work))
 unfolding changes gives with_told_down
 tells_wire_signals wire down work = record {
-  edge = record { me = refl; circuits = refl; learned = refl; ticks = refl; wires = refl; bits = refl };
+  edge = record { me = refl; circuits = refl; ticks = refl; wires = refl; bits = refl };
   effects = record { more = effect.Wire wire down ∷ []; given = refl; own = refl };
   idle = refl;
 }
@@ -236,6 +235,17 @@ tells_downs_signals plan (place ∷ places) work =
     by true = tells_down_signals place (down_at plan work.edge place) work
     by false = signals_not work
 
+-- work that forgets alone
+pub forget_signals : (a b : Work) → ForgetsOnly a b → IsSignalWork a b
+forget_signals a b only = record {
+  edge = record { me = only.edge.me; circuits = only.edge.circuits; ticks = only.edge.ticks; wires = only.edge.wires; bits = only.edge.bits };
+  effects = record { more = []; given = only.effects ∙ sym (append-nil a.effects); own = refl };
+  idle = only.idle;
+}
+
+pub forgets_downs_signals : (plan : Plan) (places : List EndPlace) (work : Work) → IsSignalWork work (forgets_downs plan places work)
+forgets_downs_signals plan places work = forget_signals work (forgets_downs plan places work) (forgets_downs_only plan places work)
+
 -- ---- walks
 
 pub mend_signals : (plan : Plan) (told : Answers) → MendSteps plan told IsSignalWork
@@ -245,6 +255,7 @@ mend_signals plan told = record {
   advertises = λ place content work here idle wished left. advertises_signals told place work.edge.next_label content work;
   withdraws = λ place label content work here is wished. withdraws_signals told place label content work;
   tells_status = λ place label content last work here is status other. tells_new_status_signals told place content _ work;
+  forgets_wire = λ place why work here terminal is. forget_signals work (changes (forgetting_wire plan place.wire (wire_row plan place.wire)) work) (forgetting_only plan place.wire (wire_row plan place.wire) work);
   tells_down = λ place work here terminal other. tells_wire_signals place.wire (down_at plan work.edge place) work;
 }
 
@@ -398,11 +409,10 @@ pub record IsCircuitInput (old new : Work) : Type 0 where
   pub bits : new.edge.bits ≡ old.edge.bits
   pub effects : GivesOnly is_of_signalling old.effects new.effects
 
--- what is set of a wire keeps the place, the circuits, the addresses and the ticks, and gives out effects of signalling alone
+-- what is set of a wire keeps the place, the circuits and the ticks, and gives out effects of signalling alone
 pub record IsWireInput (old new : Work) : Type 0 where
   pub me : new.edge.me ≡ old.edge.me
   pub circuits : new.edge.circuit_on ≡ old.edge.circuit_on
-  pub learned : new.edge.learned ≡ old.edge.learned
   pub ticks : new.edge.ticks ≡ old.edge.ticks
   pub effects : GivesOnly is_of_signalling old.effects new.effects
 
@@ -425,16 +435,16 @@ circuit_signals plan told circuit on (Some row) work = by (is_own work.edge row 
 
 idles_wire : (work : Work) → IsWireInput work (idles work)
 unfolding idles
-idles_wire work = record { me = refl; circuits = refl; learned = refl; ticks = refl; effects = gives_none is_of_signalling work.effects }
+idles_wire work = record { me = refl; circuits = refl; ticks = refl; effects = gives_none is_of_signalling work.effects }
 
 turned_wire_signals : (plan : Plan) (told : Answers) (wire : WireId) (on : Bool) (work : Work) → IsWireInput work (mends plan told (changes (turned_wire wire on) work))
 unfolding changes with_renewed with_wire
 turned_wire_signals plan told wire true work =
     let signals = mends_signals plan told (changes (turned_wire wire true) work) in
-    record { me = signals.edge.me; circuits = signals.edge.circuits; learned = signals.edge.learned; ticks = signals.edge.ticks; effects = signals.effects }
+    record { me = signals.edge.me; circuits = signals.edge.circuits; ticks = signals.edge.ticks; effects = signals.effects }
 turned_wire_signals plan told wire false work =
     let signals = mends_signals plan told (changes (turned_wire wire false) work) in
-    record { me = signals.edge.me; circuits = signals.edge.circuits; learned = signals.edge.learned; ticks = signals.edge.ticks; effects = signals.effects }
+    record { me = signals.edge.me; circuits = signals.edge.circuits; ticks = signals.edge.ticks; effects = signals.effects }
 
 pub wire_signals : (plan : Plan) (told : Answers) (wire : WireId) (on : Bool) (work : Work) → IsWireInput work (wire_input plan told wire on work)
 wire_signals plan told wire on work = by (passes plan work.edge.me wire && not (is_same on (work.edge.wire_on wire.0))) where
@@ -446,7 +456,7 @@ bits_signal : (plan : Plan) (told : Answers) (wire : WireId) (bits : ℕ) (work 
 unfolding changes with_bits
 bits_signal plan told wire bits work =
     let signals = mends_signals plan told (changes (with_bits wire bits) work) in
-    record { me = signals.edge.me; circuits = signals.edge.circuits; learned = signals.edge.learned; ticks = signals.edge.ticks; effects = signals.effects }
+    record { me = signals.edge.me; circuits = signals.edge.circuits; ticks = signals.edge.ticks; effects = signals.effects }
 
 pub status_signals : (plan : Plan) (told : Answers) (wire : WireId) (bits : ℕ) (work : Work) → IsWireInput work (status_input plan told wire bits work)
 status_signals plan told wire bits work = by (ends_here plan work.edge.me wire && not (nat_eq bits (work.edge.bits wire.0))) where

@@ -1,52 +1,33 @@
 -- An input that does not apply leaves the edge as it is.
-use Rattle.std.proofs.Common.{◌≡◌, ◌+◌, ◌&&◌, ◌∙◌, ℕ, Bool, true, false, List, [], ◌∷◌, Option, Some, None, Result, Ok, Err, cond, nat_eq, not, slice_get, refl, sym, ap}
+use Rattle.std.proofs.Common.{◌≡◌, ◌&&◌, ◌∙◌, ℕ, Bool, true, false, List, Option, Some, None, cond, nat_eq, not, slice_get, refl, sym, ap}
 use Rattle.net_base.specs.declared.plan.Plan.{Plan}
 use Rattle.net_base.specs.declared.plan.circuit_plan.CircuitPlan.{CircuitPlan}
 use Rattle.net_base.specs.declared.plan.edge_plan.EdgePlan.{EdgePlan}
 use Rattle.net_base.specs.declared.plan.places.CircuitId.{CircuitId}
 use Rattle.net_base.specs.declared.plan.places.EdgeId.{EdgeId}
-use Rattle.net_base.specs.declared.plan.places.ServiceId.{ServiceId}
 use Rattle.net_base.specs.declared.plan.places.WireId.{WireId}
-use Rattle.net_base.specs.declared.trace.drop_cause.DropCause.{DropCause}
+use Rattle.net_base.specs.declared.trace.arrival.Arrival.TheVariants as arrival
 use Rattle.net_base.specs.declared.trace.state_name.Reason.TheVariants as reason
 use Rattle.net_base.specs.plan.Paths.{are_joined}
 use Rattle.net_base.specs.trace.Isolated.{inner_at}
-use Rattle.hvpls_spokes.specs.declared.port.Port.{Port}
-use Rattle.hvpls_spokes.specs.declared.port.Port.TheVariants as port
-use Rattle.hvpls_spokes.specs.Port.{ports_of}
 use Rattle.session_core.specs.Table.{Closed}
 use Rattle.edge_model.specs.Circuit.{circuit_input, is_same, turned}
 use Rattle.edge_model.specs.Connection.{connected_input, connects_between, lost_input, opened_with}
-use Rattle.edge_model.specs.Frame.{copies, copy_by, frame_input, hearing, is_own, port_at, received, targets_of}
+use Rattle.edge_model.specs.Frame.{frame_input, is_own, port_at, received}
 use Rattle.edge_model.specs.Hear.{octets_input}
 use Rattle.edge_model.specs.EndPlaces.{ends_here, passes}
 use Rattle.edge_model.specs.Mend.{mends}
+use Rattle.edge_model.specs.Packet.{packet_input}
 use Rattle.edge_model.specs.Session.{happens_with_ends}
 use Rattle.edge_model.specs.State.{Peering, has_end, is_on, is_there, with_bits}
 use Rattle.edge_model.specs.Wire.{status_input, turned_wire, wire_input}
-use Rattle.edge_model.specs.Work.{Answers, Work, changes, gives, idles}
+use Rattle.edge_model.specs.Work.{Answers, Work, changes, idles}
+use Rattle.edge_model.proofs.BridgeLemmas.{packet_bridges, received_bridges}
 use Rattle.edge_model.proofs.SignalLemmas.{begun_signals, ended_signals, heard_signals, mends_signals}
 
--- the copies of a frame leave what the input is
-copies_apply : (plan : Plan) (told : Answers) (targets : ℕ → Bool) (frame : List ℕ) (p : ℕ) (ports : List Port) (work : Work) → (copies targets (copy_by plan told frame) p ports work).idle ≡ work.idle
-unfolding gives
-copies_apply plan told targets frame p [] work = refl
-copies_apply plan told targets frame p (x ∷ ports) work =
-    copies_apply plan told targets frame (p + 1) ports (cond (targets p) (copy_by plan told frame x work) work) ∙ one x (targets p)
-  where
-    one : (x : Port) (b : Bool) → (cond b (copy_by plan told frame x work) work).idle ≡ work.idle
-    one x false = refl
-    one (port.Circuit at) true = refl
-    one (port.Mesh wire) true = refl
-    one (port.Spoke wire) true = refl
-
-received_applies : (plan : Plan) (told : Answers) (service : ServiceId) (arrival : Option ℕ) (read : Result (List ℕ) DropCause) (work : Work) → (received plan told service arrival read work).idle ≡ work.idle
-unfolding changes gives
-received_applies plan told service None (Ok frame) work = refl
-received_applies plan told service (Some arrival) (Ok frame) work =
-    copies_apply plan told (targets_of plan (hearing service frame arrival work.edge) service (ports_of plan service (hearing service frame arrival work.edge).me) frame arrival) frame 0
-    (ports_of plan service (hearing service frame arrival work.edge).me) (changes (hearing service frame arrival) work)
-received_applies plan told service arrival (Err cause) work = refl
+-- a packet applies
+pub packet_applies : (plan : Plan) (told : Answers) (octets : List ℕ) (work : Work) → (packet_input plan told octets work).idle ≡ work.idle
+packet_applies plan told octets work = (packet_bridges plan told octets work).idle
 
 -- a frame that does not apply
 pub frame_still : (plan : Plan) (told : Answers) (circuit : CircuitId) (octets : List ℕ) (row : Option CircuitPlan) (work : Work)
@@ -56,11 +37,11 @@ frame_still plan told circuit octets None work begins idle = refl
 frame_still plan told circuit octets (Some row) work begins idle = by (is_own work.edge row && is_on work.edge circuit) idle
   where
     taken : Work
-    taken = received plan told row.service (port_at plan work.edge circuit row) (inner_at plan circuit octets) work
+    taken = received plan told (arrival.Circuit circuit) row.service (port_at plan work.edge circuit row) (inner_at plan circuit octets) work
 
     by : (b : Bool) → (cond b taken (idles work)).idle ≡ true → (cond b taken (idles work)).edge ≡ work.edge
     by true e =
-        let applies : taken.idle ≡ false = received_applies plan told row.service (port_at plan work.edge circuit row) (inner_at plan circuit octets) work ∙ begins in
+        let applies : taken.idle ≡ false = (received_bridges plan told (arrival.Circuit circuit) row.service (port_at plan work.edge circuit row) (inner_at plan circuit octets) work).idle ∙ begins in
         let wrong : true ≡ false = sym e ∙ applies in
         absurd (cc (wrong))
     by false e = refl

@@ -1,6 +1,6 @@
 -- Walks over all that an edge does: what holds of no work, of two works in turn and of each single step, holds of the whole. A fact
 -- of two moments of an edge so owes its single steps alone.
-use Rattle.std.proofs.Common.{◌≡◌, ◌+◌, ◌++◌, ◌&&◌, ◌∙◌, ℕ, zero, suc, Bool, true, false, List, [], ◌∷◌, Option, Some, None, Result, Ok, Err, cond, refl, sym, ap, nat_eq, append_assoc, not, length, slice_get}
+use Rattle.std.proofs.Common.{◌≡◌, ◌+◌, ◌++◌, ◌&&◌, ◌∙◌, ℕ, zero, suc, Bool, true, false, List, [], ◌∷◌, Option, Some, None, Result, Ok, Err, cond, refl, sym, ap, nat_eq, nat_lt, append_assoc, not, length, slice_get}
 use Rattle.net_base.specs.declared.plan.Plan.{Plan}
 use Rattle.net_base.specs.declared.plan.edge_plan.EdgePlan.{EdgePlan}
 use Rattle.net_base.specs.declared.plan.circuit_plan.CircuitPlan.{CircuitPlan}
@@ -8,12 +8,19 @@ use Rattle.net_base.specs.declared.plan.places.CircuitId.{CircuitId}
 use Rattle.net_base.specs.declared.plan.places.EdgeId.{EdgeId}
 use Rattle.net_base.specs.declared.plan.places.ServiceId.{ServiceId}
 use Rattle.net_base.specs.declared.plan.places.WireId.{WireId}
+use Rattle.net_base.specs.declared.plan.wire_plan.WirePlan.{WirePlan}
+use Rattle.net_base.specs.declared.trace.arrival.Arrival.{Arrival}
+use Rattle.net_base.specs.declared.trace.arrival.Arrival.TheVariants as arrival
+use Rattle.net_base.specs.declared.trace.down.Down.{Down}
 use Rattle.net_base.specs.declared.trace.drop_cause.DropCause.{DropCause}
+use Rattle.net_base.specs.declared.trace.drop_cause.DropCause.TheVariants as cause
 use Rattle.net_base.specs.declared.trace.state_name.Reason.TheVariants as reason
 use Rattle.net_base.specs.declared.trace.state_name.StateName.TheVariants as name
-use Rattle.net_base.specs.plan.Paths.{are_joined}
-use Rattle.net_base.specs.plan.Places.{circuit_row}
+use Rattle.net_base.specs.plan.Paths.{are_joined, offer_of}
+use Rattle.net_base.specs.plan.Places.{circuit_row, wire_row}
 use Rattle.net_base.specs.trace.Isolated.{inner_at}
+use Rattle.eth_encap.specs.declared.stack_entry.StackEntry.{StackEntry}
+use Rattle.eth_encap.specs.Packet.{entry_of}
 use Rattle.hvpls_spokes.specs.declared.port.Port.{Port}
 use Rattle.hvpls_spokes.specs.declared.port.Port.TheVariants as port
 use Rattle.hvpls_spokes.specs.Port.{ports_of}
@@ -40,16 +47,19 @@ use Rattle.edge_model.specs.Content.{binding_in, mapping, pw_status_code, status
 use Rattle.edge_model.specs.Circuit.{circuit_input, is_same, turned}
 use Rattle.edge_model.specs.Connection.{connected_input, connects_between, lost_input, opened_with, restart_input}
 use Rattle.edge_model.specs.declared.input.Input.{Input}
-use Rattle.edge_model.specs.declared.input.Input.TheVariants.{Connected, Octets, Lost, Restart, Tick, Frame, Wire, Circuit, Status}
+use Rattle.edge_model.specs.declared.input.Input.TheVariants.{Connected, Octets, Lost, Restart, Tick, Frame, Packet, Wire, Circuit, Status}
 use Rattle.edge_model.specs.EndPlaces.{end_places, ends_here, passes}
+use Rattle.edge_model.specs.Ends.{is_up, wire_end}
 use Rattle.edge_model.specs.Frame.{copies, copy_by, frame_input, hearing, is_own, port_at, received, targets_of}
 use Rattle.edge_model.specs.Hear.{acts, acts_on, advice_of, advises, hears, hears_few, hears_front, hears_message, hears_messages, hears_on, hears_one, hears_pdu, hears_within, holds, octets_input, was_up}
-use Rattle.edge_model.specs.Mend.{advertises, advertises_wish, advertising, and_says, cause_number, each_end, mends, mends_end, mends_few, mends_local, mends_once, mends_status, mends_status_of, stays, tells_down, tells_downs, tells_new_status, tells_over, telling_status, wish, withdrawing, withdraws, withdraws_unless}
+use Rattle.edge_model.specs.Mend.{advertises, advertises_wish, advertising, and_says, cause_number, each_end, forgets_down, forgets_downs, forgetting_wire, mends, mends_end, mends_few, mends_local, mends_once, mends_status, mends_status_of, port_of_wire, stays, tells_down, tells_downs, tells_new_status, tells_over, telling_status, wish, withdrawing, withdraws, withdraws_unless}
+use Rattle.edge_model.specs.Packet.{advertiser, alerted, alerts_end, behind_entry, bridges_frame, by_offer, enters, is_alert, is_channel, labelled, least_label, opened_by, owned, packet_input, switched, terminated, unpacked_at}
 use Rattle.edge_model.specs.Put.{Spoken, put_reply}
 use Rattle.edge_model.specs.Role.{down_at, status_to_tell}
+use Rattle.edge_model.specs.Send.{drops, packet_of, sends, sends_copy, sends_under}
 use Rattle.edge_model.specs.Session.{had_said, happens_with_ends, says}
 use Rattle.edge_model.specs.Signal.{end_of_fec, hears_mapping, hears_release, hears_status, hears_withdraw, maps_to, releases_label, with_end_changed, with_named}
-use Rattle.edge_model.specs.State.{EdgeState, Peering, end_at, has_end, is_on, with_bits, with_end, with_next_label, with_peering, with_told_down}
+use Rattle.edge_model.specs.State.{EdgeState, Peering, end_at, has_end, is_on, with_addresses, with_bits, with_end, with_next_label, with_peering, with_told_down}
 use Rattle.edge_model.specs.Step.{edge_step}
 use Rattle.edge_model.specs.Tick.{counted, forgetting, tick_input, ticks_sessions}
 use Rattle.edge_model.specs.Wire.{status_input, turned_wire, wire_input}
@@ -84,6 +94,9 @@ pub record MendSteps (plan : Plan) (told : Answers) (R : Work → Work → Type 
   pub tells_down : (place : EndPlace) (work : Work) → IsEndAt plan work.edge.me place
       → place.terminal ≡ true → nat_eq (cause_number (work.edge.told_down place.wire.0)) (cause_number (down_at plan work.edge place)) ≡ false
       → R work (gives (effect.Wire place.wire (down_at plan work.edge place)) (changes (with_told_down place.wire (down_at plan work.edge place)) work))
+  -- what was learned at a wire that does not forward is forgotten
+  pub forgets_wire : (place : EndPlace) (why : Down) (work : Work) → IsEndAt plan work.edge.me place → place.terminal ≡ true → down_at plan work.edge place ≡ Some why
+      → R work (changes (forgetting_wire plan place.wire (wire_row plan place.wire)) work)
 
 -- it holds, and the edge is the same one
 record Walks (R : Work → Work → Type 0) (a b : Work) : Type 0 where
@@ -95,6 +108,12 @@ walks_not steps work = record { holds = steps.same work; me = refl }
 
 walks_then : {plan : Plan} {told : Answers} {R : Work → Work → Type 0} → MendSteps plan told R → (a b c : Work) → Walks R a b → Walks R b c → Walks R a c
 walks_then steps a b c first next = record { holds = steps.joined a b c first.holds next.holds; me = next.me ∙ first.me }
+
+-- the edge is the same one after it has forgotten
+forgetting_me : (plan : Plan) (wire : WireId) (row : Option WirePlan) (edge : EdgeState) → (forgetting_wire plan wire row edge).me ≡ edge.me
+unfolding with_addresses
+forgetting_me plan wire None edge = refl
+forgetting_me plan wire (Some row) edge = refl
 
 module _ (plan : Plan) (told : Answers) (R : Work → Work → Type 0) (steps : MendSteps plan told R) where
   -- ---- an end is advertised, withdrawn or left
@@ -171,6 +190,25 @@ module _ (plan : Plan) (told : Answers) (R : Work → Work → Type 0) (steps : 
       walks_then steps m.work (mend place m.work).work _ first
       (each_end_walks mend one (before ++ place ∷ []) places (and_says m (mend place)) (ap (end_places plan) first.me ∙ (are ∙ sym (append_assoc before (place ∷ []) places))))
 
+  forgets_down_walks : (place : EndPlace) (down : Option Down) (work : Work) → IsEndAt plan work.edge.me place → place.terminal ≡ true → down_at plan work.edge place ≡ down
+      → Walks R work (forgets_down plan place down work)
+  unfolding changes
+  forgets_down_walks place None work here terminal is = walks_not steps work
+  forgets_down_walks place (Some why) work here terminal is = record { holds = steps.forgets_wire place why work here terminal is; me = forgetting_me plan place.wire (wire_row plan place.wire) work.edge }
+
+  forgets_downs_walks : (before places : List EndPlace) (work : Work) → end_places plan work.edge.me ≡ before ++ places → Walks R work (forgets_downs plan places work)
+  forgets_downs_walks before [] work are = walks_not steps work
+  forgets_downs_walks before (place ∷ places) work are =
+      let here : IsEndAt plan work.edge.me place = record { before = before; after = places; split = are } in
+      let first : Walks R work (cond place.terminal (forgets_down plan place (down_at plan work.edge place) work) work) = by here place.terminal refl in
+      walks_then steps work (cond place.terminal (forgets_down plan place (down_at plan work.edge place) work) work) (forgets_downs plan (place ∷ places) work) first
+      (forgets_downs_walks (before ++ place ∷ []) places (cond place.terminal (forgets_down plan place (down_at plan work.edge place) work) work)
+      (ap (end_places plan) first.me ∙ (are ∙ sym (append_assoc before (place ∷ []) places))))
+    where
+      by : IsEndAt plan work.edge.me place → (b : Bool) → place.terminal ≡ b → Walks R work (cond b (forgets_down plan place (down_at plan work.edge place) work) work)
+      by here true terminal = forgets_down_walks place (down_at plan work.edge place) work here terminal refl
+      by here false terminal = walks_not steps work
+
   tells_down_walks : (place : EndPlace) (work : Work) → IsEndAt plan work.edge.me place → place.terminal ≡ true → Walks R work (tells_down place (down_at plan work.edge place) work)
   unfolding changes gives with_told_down
   tells_down_walks place work here terminal = by (nat_eq (cause_number (work.edge.told_down place.wire.0)) (cause_number (down_at plan work.edge place))) refl where
@@ -202,7 +240,9 @@ module _ (plan : Plan) (told : Answers) (R : Work → Work → Type 0) (steps : 
       let first : Walks R work advertised.work = each_end_walks (mends_end plan told) mends_end_walks [] places (stays work) refl in
       let second : Walks R work statuses.work =
       walks_then steps work advertised.work statuses.work first (each_end_walks (mends_status plan told) mends_status_walks [] places advertised (ap (end_places plan) first.me)) in
-      walks_then steps work statuses.work (mends_once plan told work).work second (tells_downs_walks [] places statuses.work (ap (end_places plan) second.me))
+      let forgotten : Work = forgets_downs plan places statuses.work in
+      let third : Walks R work forgotten = walks_then steps work statuses.work forgotten second (forgets_downs_walks [] places statuses.work (ap (end_places plan) second.me)) in
+      walks_then steps work forgotten (mends_once plan told work).work third (tells_downs_walks [] places forgotten (ap (end_places plan) third.me))
 
   mends_few_walks : (n : ℕ) (work : Work) → Walks R work (mends_few plan told n work)
   mends_few_walks zero work = walks_not steps work
@@ -369,7 +409,9 @@ pub record InputSteps (plan : Plan) (told : Answers) (R : Work → Work → Type
   -- frames
   pub learns : (service : ServiceId) (frame : List ℕ) (arrival : ℕ) (work : Work) → R work (changes (hearing service frame arrival) work)
   pub leaves : (circuit : CircuitId) (octets : List ℕ) (work : Work) → R work (gives (effect.Left circuit octets) work)
-  pub drops : (cause : DropCause) (work : Work) → R work (gives (effect.Dropped cause) work)
+  pub drops : (why : DropCause) (work : Work) → R work (gives (effect.Dropped why) work)
+  -- a packet that the link takes or not
+  pub sends_packet : (place : EndPlace) (came : Arrival) (octets : List ℕ) (work : Work) → R work (sends told place came octets work)
 
 module _ (plan : Plan) (told : Answers) (R : Work → Work → Type 0) (steps : InputSteps plan told R) where
   -- a change after which the edge mends
@@ -416,33 +458,101 @@ module _ (plan : Plan) (told : Answers) (R : Work → Work → Type 0) (steps : 
       (steps.hear.mend.joined first ticked (tick_input plan told work) (ticks_hold plan told R steps.hear 0 (length plan.edges) first)
       (changed_holds (forgetting plan) ticked (steps.forgets ticked)))
 
-  copy_holds : (frame : List ℕ) (x : Port) (b : Bool) (work : Work) → R work (cond b (copy_by plan told frame x work) work)
-  copy_holds frame x false work = steps.hear.mend.same work
-  copy_holds frame (port.Circuit at) true work = steps.leaves at _ work
-  copy_holds frame (port.Mesh wire) true work = steps.hear.mend.same work
-  copy_holds frame (port.Spoke wire) true work = steps.hear.mend.same work
+  copy_on_wire_holds : (came : Arrival) (frame : List ℕ) (place : Option EndPlace) (work : Work) → R work (sends_copy plan told came frame place work)
+  copy_on_wire_holds came frame None work = steps.hear.mend.same work
+  copy_on_wire_holds came frame (Some place) work = by (wire_row plan place.wire) (end_at work.edge place).remote where
+    by : (row : Option WirePlan) (remote : Option Binding) → R work (sends_under told came frame work.edge.me place row remote work)
+    by None remote = steps.hear.mend.same work
+    by (Some row) None = steps.hear.mend.same work
+    by (Some row) (Some binding) = steps.sends_packet place came (packet_of (offer_of row work.edge.me.0) binding frame) work
 
-  copies_hold : (targets : ℕ → Bool) (frame : List ℕ) (p : ℕ) (ports : List Port) (work : Work) → R work (copies targets (copy_by plan told frame) p ports work)
-  copies_hold targets frame p [] work = steps.hear.mend.same work
-  copies_hold targets frame p (x ∷ ports) work =
-      let first : Work = cond (targets p) (copy_by plan told frame x work) work in
-      steps.hear.mend.joined work first (copies targets (copy_by plan told frame) (p + 1) ports first) (copy_holds frame x (targets p) work) (copies_hold targets frame (p + 1) ports first)
+  copy_holds : (came : Arrival) (frame : List ℕ) (x : Port) (b : Bool) (work : Work) → R work (cond b (copy_by plan told came frame x work) work)
+  copy_holds came frame x false work = steps.hear.mend.same work
+  copy_holds came frame (port.Circuit at) true work = steps.leaves at _ work
+  copy_holds came frame (port.Mesh wire) true work = copy_on_wire_holds came frame (wire_end plan work.edge.me wire) work
+  copy_holds came frame (port.Spoke wire) true work = copy_on_wire_holds came frame (wire_end plan work.edge.me wire) work
 
-  received_holds : (service : ServiceId) (arrival : Option ℕ) (read : Result (List ℕ) DropCause) (work : Work) → R work (received plan told service arrival read work)
-  received_holds service None (Ok frame) work = steps.hear.mend.same work
-  received_holds service (Some arrival) (Ok frame) work =
+  copies_hold : (targets : ℕ → Bool) (came : Arrival) (frame : List ℕ) (p : ℕ) (ports : List Port) (work : Work) → R work (copies targets (copy_by plan told came frame) p ports work)
+  copies_hold targets came frame p [] work = steps.hear.mend.same work
+  copies_hold targets came frame p (x ∷ ports) work =
+      let first : Work = cond (targets p) (copy_by plan told came frame x work) work in
+      steps.hear.mend.joined work first (copies targets (copy_by plan told came frame) (p + 1) ports first) (copy_holds came frame x (targets p) work)
+      (copies_hold targets came frame (p + 1) ports first)
+
+  pub received_holds : (came : Arrival) (service : ServiceId) (arrival : Option ℕ) (read : Result (List ℕ) DropCause) (work : Work) → R work (received plan told came service arrival read work)
+  received_holds came service None (Ok frame) work = steps.hear.mend.same work
+  received_holds came service (Some arrival) (Ok frame) work =
       let heard : Work = changes (hearing service frame arrival) work in
       let ports : List Port = ports_of plan service heard.edge.me in
-      steps.hear.mend.joined work heard (received plan told service (Some arrival) (Ok frame) work) (steps.learns service frame arrival work)
-      (copies_hold (targets_of plan heard.edge service ports frame arrival) frame 0 ports heard)
-  received_holds service arrival (Err cause) work = steps.drops cause work
+      steps.hear.mend.joined work heard (received plan told came service (Some arrival) (Ok frame) work) (steps.learns service frame arrival work)
+      (copies_hold (targets_of plan heard.edge service ports frame arrival) came frame 0 ports heard)
+  received_holds came service arrival (Err why) work = steps.drops why work
 
   pub frame_holds : (circuit : CircuitId) (octets : List ℕ) (row : Option CircuitPlan) (work : Work) → R work (frame_input plan told circuit octets row work)
   frame_holds circuit octets None work = steps.idles work
   frame_holds circuit octets (Some row) work = by (is_own work.edge row && is_on work.edge circuit) where
-    by : (b : Bool) → R work (cond b (received plan told row.service (port_at plan work.edge circuit row) (inner_at plan circuit octets) work) (idles work))
-    by true = received_holds row.service (port_at plan work.edge circuit row) (inner_at plan circuit octets) work
+    by : (b : Bool) → R work (cond b (received plan told (arrival.Circuit circuit) row.service (port_at plan work.edge circuit row) (inner_at plan circuit octets) work) (idles work))
+    by true = received_holds (arrival.Circuit circuit) row.service (port_at plan work.edge circuit row) (inner_at plan circuit octets) work
     by false = steps.idles work
+
+  -- ---- packets
+
+  enters_holds : (row : WirePlan) (place : EndPlace) (payload : List ℕ) (work : Work) → R work (enters plan told row place payload work)
+  enters_holds row place payload work = by (is_up (down_at plan work.edge place)) where
+    by : (b : Bool) → R work (cond b (bridges_frame plan told row place payload work) (drops cause.Down work))
+    by true = received_holds (arrival.Wire place.wire) row.service (port_of_wire plan work.edge place.wire row) (unpacked_at plan row work.edge.me payload) work
+    by false = steps.drops cause.Down work
+
+  by_offer_holds : (row : WirePlan) (place : EndPlace) (cword : Bool) (payload : List ℕ) (work : Work) → R work (by_offer plan told row place cword payload work)
+  by_offer_holds row place false payload work = enters_holds row place payload work
+  by_offer_holds row place true payload work = by (nat_eq (length payload) 0) (is_channel payload) where
+    by : (empty channel : Bool) → R work (cond empty (drops cause.Short work) (cond channel (drops cause.NotOffered work) (enters plan told row place payload work)))
+    by true channel = steps.drops cause.Short work
+    by false true = steps.drops cause.NotOffered work
+    by false false = enters_holds row place payload work
+
+  terminated_holds : (place : EndPlace) (row : Option WirePlan) (remote : Option Binding) (payload : List ℕ) (work : Work) → R work (terminated plan told place row remote payload work)
+  terminated_holds place None remote payload work = steps.drops cause.Down work
+  terminated_holds place (Some row) None payload work = steps.drops cause.Down work
+  terminated_holds place (Some row) (Some binding) payload work = by_offer_holds row place (offer_of row work.edge.me.0).cword payload work
+
+  owned_holds : (octets : List ℕ) (entry : StackEntry) (place : Option EndPlace) (work : Work) → R work (owned plan told octets entry place work)
+  owned_holds octets entry None work = steps.drops cause.NoLabel work
+  owned_holds octets entry (Some place) work = by place.terminal where
+    by : (b : Bool) → R work (cond b (terminated plan told place (wire_row plan place.wire) (end_at work.edge place).remote (behind_entry octets) work) (switched plan told octets entry place work))
+    by true = terminated_holds place (wire_row plan place.wire) (end_at work.edge place).remote (behind_entry octets) work
+    by false = steps.hear.mend.same work
+
+  labelled_holds : (octets : List ℕ) (entry : StackEntry) (work : Work) → R work (labelled plan told octets entry work)
+  labelled_holds octets entry work = by (nat_lt entry.label least_label) entry.bottom where
+    by : (reserved bottom : Bool) → R work (cond reserved (drops cause.NoLabel work) (cond bottom (owned plan told octets entry (advertiser plan work.edge entry.label) work) (drops cause.NotBottom work)))
+    by true bottom = steps.drops cause.NoLabel work
+    by false true = owned_holds octets entry (advertiser plan work.edge entry.label) work
+    by false false = steps.drops cause.NotBottom work
+
+  alerts_holds : (place : Option EndPlace) (work : Work) → R work (alerts_end place work)
+  alerts_holds None work = steps.drops cause.NoLabel work
+  alerts_holds (Some place) work = by place.terminal where
+    by : (b : Bool) → R work (cond b (drops cause.NotOffered work) (drops cause.NoLabel work))
+    by true = steps.drops cause.NotOffered work
+    by false = steps.drops cause.NoLabel work
+
+  alerted_holds : (read : Result StackEntry DropCause) (work : Work) → R work (alerted plan read work)
+  alerted_holds (Err why) work = steps.drops why work
+  alerted_holds (Ok entry) work = by entry.bottom where
+    by : (b : Bool) → R work (cond b (alerts_end (advertiser plan work.edge entry.label) work) (drops cause.NotBottom work))
+    by true = alerts_holds (advertiser plan work.edge entry.label) work
+    by false = steps.drops cause.NotBottom work
+
+  opened_holds : (octets : List ℕ) (read : Result StackEntry DropCause) (work : Work) → R work (opened_by plan told octets read work)
+  opened_holds octets (Err why) work = steps.drops why work
+  opened_holds octets (Ok entry) work = by (is_alert entry) where
+    by : (b : Bool) → R work (cond b (alerted plan (entry_of (behind_entry octets)) work) (labelled plan told octets entry work))
+    by true = alerted_holds (entry_of (behind_entry octets)) work
+    by false = labelled_holds octets entry work
+
+  pub packet_holds : (octets : List ℕ) (work : Work) → R work (packet_input plan told octets work)
+  packet_holds octets work = opened_holds octets (entry_of octets) work
 
   pub circuit_holds : (circuit : CircuitId) (on : Bool) (row : Option CircuitPlan) (work : Work) → R work (circuit_input plan told circuit on row work)
   circuit_holds circuit on None work = steps.idles work
@@ -470,6 +580,7 @@ module _ (plan : Plan) (told : Answers) (R : Work → Work → Type 0) (steps : 
   step_holds Restart work = steps.restarts work
   step_holds Tick work = tick_holds work
   step_holds (Frame circuit bytes) work = frame_holds circuit bytes.now (circuit_row plan circuit) work
+  step_holds (Packet bytes) work = packet_holds bytes.now work
   step_holds (Circuit circuit on) work = circuit_holds circuit on (circuit_row plan circuit) work
   step_holds (Wire wire on) work = wire_holds wire on work
   step_holds (Status wire bits) work = status_holds wire bits work

@@ -1,18 +1,12 @@
 -- A circuit is turned on or off.
-use Rattle.std.specs.Prelude.{◌==◌, ◌&&◌, not, filter, ℕ, Bool, true, false, List, Option, Some, None, if◌then◌else◌}
+use Rattle.std.specs.Prelude.{◌&&◌, not, Bool, true, false, Option, Some, None, if◌then◌else◌}
 use Rattle.net_base.specs.declared.plan.Plan.{Plan}
 use Rattle.net_base.specs.declared.plan.circuit_plan.CircuitPlan.{CircuitPlan}
 use Rattle.net_base.specs.declared.plan.places.CircuitId.{CircuitId}
-use Rattle.mac_table.specs.declared.mac_entry.MacEntry.{MacEntry}
 use Rattle.edge_model.specs.Frame.{is_own, port_at}
 use Rattle.edge_model.specs.Mend.{mends}
-use Rattle.edge_model.specs.State.{EdgeState, addresses_of, is_on, with_addresses, with_circuit}
+use Rattle.edge_model.specs.State.{EdgeState, addresses_of, is_on, with_addresses, with_circuit, without_port}
 use Rattle.edge_model.specs.Work.{Work, Answers, changes, idles}
-
--- the entries without those at a port
-abbrev pub without_port : Option ℕ → List MacEntry → List MacEntry
-without_port None entries = entries
-without_port (Some p) entries = filter (λ e. not (e.port == p)) entries
 
 -- the edge with the circuit on, or with it off and without what was learned at it
 abbrev pub turned : Plan → CircuitId → CircuitPlan → Bool → EdgeState → EdgeState

@@ -5,6 +5,8 @@ use Rattle.net_base.specs.declared.plan.Plan.{Plan}
 use Rattle.net_base.specs.declared.plan.circuit_plan.CircuitPlan.{CircuitPlan}
 use Rattle.net_base.specs.declared.plan.places.CircuitId.{CircuitId}
 use Rattle.net_base.specs.declared.plan.places.ServiceId.{ServiceId}
+use Rattle.net_base.specs.declared.trace.arrival.Arrival.{Arrival}
+use Rattle.net_base.specs.declared.trace.arrival.Arrival.TheVariants as arrival
 use Rattle.net_base.specs.declared.trace.drop_cause.DropCause.{DropCause}
 use Rattle.net_base.specs.declared.values.mac.Mac.{Mac}
 use Rattle.net_base.specs.plan.Places.{circuit_row}
@@ -14,8 +16,9 @@ use Rattle.hvpls_spokes.specs.declared.port.Port.{Port}
 use Rattle.hvpls_spokes.specs.declared.port.Port.TheVariants as port
 use Rattle.hvpls_spokes.specs.Port.{ports_of, is_circuit_port}
 use Rattle.vsi_bridge.specs.Targets.{heard, known_port, is_target}
-use Rattle.edge_model.specs.declared.effect.Effect.TheVariants.{Left, Dropped}
-use Rattle.edge_model.specs.Ends.{end_forwards}
+use Rattle.edge_model.specs.declared.effect.Effect.TheVariants.{Left}
+use Rattle.edge_model.specs.Ends.{end_forwards, wire_end}
+use Rattle.edge_model.specs.Send.{drops, sends_copy}
 use Rattle.edge_model.specs.State.{EdgeState, addresses_of, is_on, with_addresses}
 use Rattle.edge_model.specs.Work.{Work, Answers, changes, gives, idles}
 
@@ -40,12 +43,12 @@ source frame = record { 0 = source_of frame }
 abbrev pub destination : List ℕ → Mac
 destination frame = record { 0 = destination_of frame }
 
--- the copy of an inner frame that goes out by a port: at a circuit it leaves with the circuit's tag. The packets of wires,
--- which the link may take or not, are to come
-abbrev pub copy_by : Plan → Answers → List ℕ → Port → Work → Work
-copy_by plan told frame (port.Circuit circuit) work = gives (Left circuit (dress (tag_of plan circuit) frame)) work
-copy_by plan told frame (port.Mesh wire) work = work
-copy_by plan told frame (port.Spoke wire) work = work
+-- the copy of an inner frame that goes out by a port: at a circuit it leaves with the circuit's tag, and on a wire it is sent
+-- as a packet
+abbrev pub copy_by : Plan → Answers → Arrival → List ℕ → Port → Work → Work
+copy_by plan told came frame (port.Circuit circuit) work = gives (Left circuit (dress (tag_of plan circuit) frame)) work
+copy_by plan told came frame (port.Mesh wire) work = sends_copy plan told came frame (wire_end plan work.edge.me wire) work
+copy_by plan told came frame (port.Spoke wire) work = sends_copy plan told came frame (wire_end plan work.edge.me wire) work
 
 -- the copies by those ports, numbered from p on, that are targets, in port order
 abbrev pub copies : (ℕ → Bool) → (Port → Work → Work) → ℕ → List Port → Work → Work
@@ -62,19 +65,19 @@ targets_of plan edge service ports frame arrival =
     is_target ports (port_forwards plan edge ports) arrival (known_port (addresses_of edge service) (destination frame))
 
 -- the bridge's copies of a frame that it has heard by a port
-abbrev pub bridged : Plan → Answers → ServiceId → List ℕ → ℕ → Work → Work
-bridged plan told service frame arrival work =
-    copies (targets_of plan work.edge service (ports_of plan service work.edge.me) frame arrival) (copy_by plan told frame) 0 (ports_of plan service work.edge.me) work
+abbrev pub bridged : Plan → Answers → Arrival → ServiceId → List ℕ → ℕ → Work → Work
+bridged plan told came service frame arrival work =
+    copies (targets_of plan work.edge service (ports_of plan service work.edge.me) frame arrival) (copy_by plan told came frame) 0 (ports_of plan service work.edge.me) work
 
 -- an inner frame is heard by a port, and then bridged
-abbrev pub forwarded : Plan → Answers → ServiceId → List ℕ → Option ℕ → Work → Work
-forwarded plan told service frame None work = work
-forwarded plan told service frame (Some arrival) work = bridged plan told service frame arrival (changes (hearing service frame arrival) work)
+abbrev pub forwarded : Plan → Answers → Arrival → ServiceId → List ℕ → Option ℕ → Work → Work
+forwarded plan told came service frame None work = work
+forwarded plan told came service frame (Some arrival) work = bridged plan told came service frame arrival (changes (hearing service frame arrival) work)
 
--- a frame with a fault is dropped, and teaches nothing
-abbrev pub received : Plan → Answers → ServiceId → Option ℕ → Result (List ℕ) DropCause → Work → Work
-received plan told service arrival (Ok frame) work = forwarded plan told service frame arrival work
-received plan told service arrival (Err cause) work = gives (Dropped cause) work
+-- what comes of a circuit or of a wire: what has a fault is dropped, and teaches nothing
+abbrev pub received : Plan → Answers → Arrival → ServiceId → Option ℕ → Result (List ℕ) DropCause → Work → Work
+received plan told came service arrival (Ok frame) work = forwarded plan told came service frame arrival work
+received plan told came service arrival (Err cause) work = drops cause work
 
 -- the port of a circuit of the edge
 abbrev pub port_at : Plan → EdgeState → CircuitId → CircuitPlan → Option ℕ
@@ -89,5 +92,5 @@ abbrev pub frame_input : Plan → Answers → CircuitId → List ℕ → Option 
 frame_input plan told circuit octets None work = idles work
 frame_input plan told circuit octets (Some row) work =
     if is_own work.edge row && is_on work.edge circuit
-    then received plan told row.service (port_at plan work.edge circuit row) (inner_at plan circuit octets) work
+    then received plan told (arrival.Circuit circuit) row.service (port_at plan work.edge circuit row) (inner_at plan circuit octets) work
     else idles work

@@ -1,13 +1,15 @@
 -- An edge mends its ends: what an end tells follows what it should tell by now (RFC 8077 sections 6 and 6.3). Each step goes over
 -- the edge's ends in the order of the wires, and of the segments of each.
-use Rattle.std.specs.Prelude.{◌==◌, ◌+◌, ◌&&◌, ◌||◌, not, ℕ, Bool, true, false, zero, suc, List, [], ◌∷◌, Option, Some, None, length, if◌then◌else◌}
+use Rattle.std.specs.Prelude.{◌==◌, ◌+◌, ◌&&◌, ◌||◌, not, ℕ, Bool, true, false, zero, suc, List, [], ◌∷◌, Option, Some, None, length, position, if◌then◌else◌}
 use Rattle.net_base.specs.declared.plan.Plan.{Plan}
 use Rattle.net_base.specs.declared.plan.offer.Offer.{Offer}
+use Rattle.net_base.specs.declared.plan.places.WireId.{WireId}
 use Rattle.net_base.specs.declared.plan.wire_plan.WirePlan.{WirePlan}
 use Rattle.net_base.specs.declared.trace.down.Down.{Down}
 use Rattle.net_base.specs.declared.trace.down.Down.TheVariants as cause
 use Rattle.net_base.specs.plan.Paths.{offer_of}
 use Rattle.net_base.specs.plan.Places.{wire_row}
+use Rattle.hvpls_spokes.specs.Port.{is_wire_port, ports_of}
 use Rattle.label_space.specs.Labels.{numbers_end}
 use Rattle.ldp_grammar.specs.declared.message.Message.{Message}
 use Rattle.pw_tlvs.specs.declared.pw_status.PwStatus.{PwStatus}
@@ -27,7 +29,7 @@ use Rattle.edge_model.specs.EndPlaces.{end_places}
 use Rattle.edge_model.specs.Put.{Spoken}
 use Rattle.edge_model.specs.Role.{down_at, status_to_tell}
 use Rattle.edge_model.specs.Session.{says}
-use Rattle.edge_model.specs.State.{EdgeState, Peering, end_at, with_end, with_next_label, with_told_down}
+use Rattle.edge_model.specs.State.{EdgeState, Peering, addresses_of, end_at, with_addresses, with_end, with_next_label, with_told_down, without_port}
 use Rattle.edge_model.specs.Work.{Work, Answers, changes, gives}
 
 -- one thing after another at an edge that mends: a message that the link did not take stays known
@@ -141,6 +143,28 @@ mends_status_of plan told place local work = stays work
 abbrev pub mends_status : Plan → Answers → EndPlace → Work → Spoken
 mends_status plan told place work = mends_status_of plan told place (end_at work.edge place).local work
 
+-- ---- what was learned at a wire that does not forward is forgotten
+
+-- the port of a wire of the edge, which has this row
+abbrev pub port_of_wire : Plan → EdgeState → WireId → WirePlan → Option ℕ
+port_of_wire plan edge wire row = position (is_wire_port wire) (ports_of plan row.service edge.me)
+
+-- the addresses at the port of a wire go
+abbrev pub forgetting_wire : Plan → WireId → Option WirePlan → EdgeState → EdgeState
+forgetting_wire plan wire None edge = edge
+forgetting_wire plan wire (Some row) edge =
+    with_addresses row.service (without_port (port_of_wire plan edge wire row) (addresses_of edge row.service)) edge
+
+abbrev pub forgets_down : Plan → EndPlace → Option Down → Work → Work
+forgets_down plan place None work = work
+forgets_down plan place (Some why) work = changes (forgetting_wire plan place.wire (wire_row plan place.wire)) work
+
+-- each terminal end in turn
+abbrev pub forgets_downs : Plan → List EndPlace → Work → Work
+forgets_downs plan [] work = work
+forgets_downs plan (place ∷ places) work =
+    forgets_downs plan places (if place.terminal then forgets_down plan place (down_at plan work.edge place) work else work)
+
 -- ---- a wire that began to forward, or stopped, is told
 
 -- the number of a cause in the order of causes, and 0 where there is none
@@ -166,13 +190,13 @@ tells_downs plan [] work = work
 tells_downs plan (place ∷ places) work =
     tells_downs plan places (if place.terminal then tells_down place (down_at plan work.edge place) work else work)
 
--- ---- all steps. Those of spokes, and of addresses at wires, are to come
+-- ---- all steps. Those of spokes are to come
 
 abbrev pub mends_once : Plan → Answers → Work → Spoken
 mends_once plan told work =
     let places : List EndPlace = end_places plan work.edge.me in
     let statuses : Spoken = each_end (mends_status plan told) places (each_end (mends_end plan told) places (stays work)) in
-    record { work = tells_downs plan places statuses.work; failed = statuses.failed }
+    record { work = tells_downs plan places (forgets_downs plan places statuses.work); failed = statuses.failed }
 
 -- where the link did not take a message the edge mends again. Each such message ends a session, so there are no more rounds than
 -- edges

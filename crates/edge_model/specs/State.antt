@@ -1,5 +1,5 @@
 -- An edge at one moment: maps from places in the plan.
-use Rattle.std.specs.Prelude.{◌==◌, ◌+◌, ◌^◌, ◌-◌, nat_lt, ℕ, Bool, true, false, List, [], Option, Some, None, slice_get, if◌then◌else◌}
+use Rattle.std.specs.Prelude.{◌==◌, ◌+◌, ◌^◌, ◌-◌, filter, not, nat_lt, ℕ, Bool, true, false, List, [], Option, Some, None, slice_get, if◌then◌else◌}
 use Rattle.net_base.specs.declared.plan.Plan.{Plan}
 use Rattle.net_base.specs.declared.plan.edge_plan.EdgePlan.{EdgePlan}
 use Rattle.net_base.specs.declared.plan.places.EdgeId.{EdgeId}
@@ -87,6 +87,11 @@ has_end edge peer = is_there (edge.peering peer.0)
 -- an end by its place
 abbrev pub end_at : EdgeState → EndPlace → EndState
 end_at edge place = edge.ends place.wire.0 place.peer.0
+
+-- the entries without those at a port
+abbrev pub without_port : Option ℕ → List MacEntry → List MacEntry
+without_port None entries = entries
+without_port (Some p) entries = filter (λ e. not (e.port == p)) entries
 
 -- a map with another value at one place
 abbrev pub put_at : {X : Type 0} → (ℕ → X) → ℕ → X → ℕ → X

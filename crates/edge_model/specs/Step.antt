@@ -2,11 +2,12 @@
 use Rattle.net_base.specs.declared.plan.Plan.{Plan}
 use Rattle.net_base.specs.plan.Places.{circuit_row}
 use Rattle.edge_model.specs.declared.input.Input.{Input}
-use Rattle.edge_model.specs.declared.input.Input.TheVariants.{Connected, Octets, Lost, Restart, Tick, Frame, Wire, Circuit, Status}
+use Rattle.edge_model.specs.declared.input.Input.TheVariants.{Connected, Octets, Lost, Restart, Tick, Frame, Packet, Wire, Circuit, Status}
 use Rattle.edge_model.specs.Circuit.{circuit_input}
 use Rattle.edge_model.specs.Connection.{connected_input, lost_input, restart_input}
 use Rattle.edge_model.specs.Frame.{frame_input}
 use Rattle.edge_model.specs.Hear.{octets_input}
+use Rattle.edge_model.specs.Packet.{packet_input}
 use Rattle.edge_model.specs.Tick.{tick_input}
 use Rattle.edge_model.specs.Wire.{status_input, wire_input}
 use Rattle.edge_model.specs.Work.{Work, Answers, idles}
@@ -19,6 +20,7 @@ edge_step plan told (Lost peer) work = lost_input plan told peer work
 edge_step plan told Restart work = restart_input work
 edge_step plan told Tick work = tick_input plan told work
 edge_step plan told (Frame circuit bytes) work = frame_input plan told circuit bytes.now (circuit_row plan circuit) work
+edge_step plan told (Packet bytes) work = packet_input plan told bytes.now work
 edge_step plan told (Circuit circuit on) work = circuit_input plan told circuit on (circuit_row plan circuit) work
 edge_step plan told (Wire wire on) work = wire_input plan told wire on work
 edge_step plan told (Status wire bits) work = status_input plan told wire bits work

@@ -38,6 +38,10 @@ gives effect work = record work { effects = work.effects ++ effect ∷ [] }
 unfoldable pub puts : EdgeId → List ℕ → Bool → Work → Work
 puts peer bytes taken work = record work { calls = work.calls ++ call_of peer false bytes taken ∷ [] }
 
+-- the link is called with a packet for a neighbour, and takes it or not
+unfoldable pub posts : EdgeId → List ℕ → Bool → Work → Work
+posts peer bytes taken work = record work { calls = work.calls ++ call_of peer true bytes taken ∷ [] }
+
 -- whether the link takes its next call
 abbrev pub next_answer : Answers → Work → Bool
 next_answer told work = told (length work.calls)

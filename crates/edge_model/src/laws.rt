@@ -1,5 +1,5 @@
 //! What holds of the work of every edge.
-ghost use Rattle.edge_model.specs.Local.{FramesStayLocal};
+ghost use Rattle.edge_model.specs.Local.{FramesStayLocal, PacketsStayLocal};
 ghost use Rattle.edge_model.specs.Parts.{HeardInParts};
 
 /// Local isolation of frames: what an edge lets leave on a frame of a circuit leaves at another circuit of that circuit's
@@ -8,6 +8,14 @@ ghost use Rattle.edge_model.specs.Parts.{HeardInParts};
 #[tactic(auto, using(crate::proofs::LocalLemmas::stays_local))]
 pub fn frames_stay_local()
     ensures { FramesStayLocal }
+{}
+
+/// Local isolation of packets: what an edge lets leave on a packet leaves at a circuit of the service of the wire whose label
+/// the packet has, as that circuit's dress of the packet's inner frame; and what it sends, it sends on another wire of the same
+/// service, and never from a mesh wire on a mesh wire (RFC 4762 sections 4 and 4.4).
+#[tactic(auto, using(crate::proofs::PacketLemmas::packets_stay_local))]
+pub fn packets_stay_local()
+    ensures { PacketsStayLocal }
 {}
 
 /// A joined piece of octets is heard like its two parts in turn, what is left of the first in front of the second, and all

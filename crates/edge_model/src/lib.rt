@@ -13,4 +13,4 @@ pub use effect::Effect;
 pub use effects::Effects;
 pub use end_place::EndPlace;
 pub use input::Input;
-pub use laws::{frames_stay_local, heard_in_parts};
+pub use laws::{frames_stay_local, heard_in_parts, packets_stay_local};

@@ -4,6 +4,7 @@ mod around;
 mod bridges;
 mod dialogue;
 mod edge_ends;
+mod frames;
 mod packets;
 mod pseudowires;
 mod sessions;

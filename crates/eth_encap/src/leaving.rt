@@ -1,5 +1,5 @@
 //! What leaves at a circuit.
-ghost use Rattle.std.specs.Prelude.{◌≡◌, ◌≤◌, ◌+◌, ◌++◌, length, drop, Some, IfSome};
+ghost use Rattle.std.specs.Prelude.{◌≡◌, ◌≤◌, ◌+◌, ◌++◌, length, drop, Some};
 ghost use Rattle.net_base.specs.values.Frame.{dress as dressed, tag_octets};
 
 use crate::octets::join;
@@ -32,11 +32,10 @@ fn put_tagged(tag: u16, inner: &[u8], out: &mut [u8]) -> usize
 /// The inner frame as it leaves at a circuit, with the circuit's tag behind the addresses, where it has one;
 /// the tag's priority and drop eligibility are 0 (RFC 4762 section 7.1, IEEE 802.1Q clause 9.6). Writes it
 /// to the front of `out`, which has four octets more than the inner frame or still more, and answers its
-/// length in octets. `tag` is a VLAN ID, at most 4095.
+/// length in octets. `tag` is a VLAN ID; above 4095 its upper bits are the priority.
 pub fn dress(tag: Option<u16>, inner: &[u8], out: &mut [u8]) -> usize
     requires header { 14 ≤ length inner.now }
     requires room { length inner.now + 4 ≤ length out.old }
-    requires tag { IfSome tag (λ tag. tag ≤ 4095) }
     ensures count { result ≡ length (dressed tag inner.now) }
     ensures octets { out.new ≡ dressed tag inner.now ++ drop result out.old }
 {

@@ -1,5 +1,5 @@
 //! A frame is packed for a pseudowire.
-ghost use Rattle.std.specs.Prelude.{◌≡◌, ◌≤◌, ◌+◌, ◌++◌, true, length, drop, IfSome};
+ghost use Rattle.std.specs.Prelude.{◌≡◌, ◌≤◌, ◌+◌, ◌++◌, true, length, drop};
 ghost use Rattle.eth_encap.specs.Packet.{control_word, entry_octets, packed};
 
 use crate::leaving::dress;
@@ -16,7 +16,7 @@ const CONTROL_WORD: [u8; 4] = [0, 0, 0, 0];
 /// A packet of a pseudowire (RFC 4448 section 4): an entry of the label stack with this label and TTL at the bottom, the
 /// control word where the wire has one, and the inner frame, which has a tag with this VLAN ID in tagged mode. Writes it to the
 /// front of `out`, which has twelve octets more than the inner frame or still more, and answers its length in octets. `vlan` is
-/// told in tagged mode alone, and is at most 4095.
+/// told in tagged mode alone; where it is at most 4095 it stands there with priority and drop eligibility 0.
 #[tactic(auto, using(crate::proofs::PacketLemmas::packed_behind))]
 pub fn pack(
     label: Label,
@@ -28,7 +28,6 @@ pub fn pack(
 ) -> usize
     requires header { 14 ≤ length inner.now }
     requires room { length inner.now + 12 ≤ length out.old }
-    requires vlan { IfSome vlan (λ vlan. vlan ≤ 4095) }
     ensures count { result ≡ length (packed label ttl cword vlan inner.now) }
     ensures octets { out.new ≡ packed label ttl cword vlan inner.now ++ drop result out.old }
 {

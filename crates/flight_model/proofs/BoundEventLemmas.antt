@@ -7,6 +7,7 @@ use Rattle.net_base.specs.declared.plan.circuit_plan.CircuitPlan.{CircuitPlan}
 use Rattle.net_base.specs.declared.plan.places.CircuitId.{CircuitId}
 use Rattle.net_base.specs.declared.plan.places.EdgeId.{EdgeId}
 use Rattle.net_base.specs.declared.plan.places.WireId.{WireId}
+use Rattle.net_base.specs.declared.trace.arrival.Arrival.TheVariants as arrival
 use Rattle.net_base.specs.plan.Accepted.{IsChecked}
 use Rattle.net_base.specs.trace.Isolated.{inner_at}
 use Rattle.ldp_grammar.specs.declared.message.Message.{Message}
@@ -24,7 +25,9 @@ use Rattle.network_model.specs.Absorb.{absorb, answer, begin_at, idle, taken_all
 use Rattle.network_model.specs.Circuit.{circuit_event}
 use Rattle.network_model.specs.Connection.{deliver_event, delivering, is_drained_pipe, lose_event, losing, losing_work, restart_event}
 use Rattle.network_model.specs.Frame.{entering, frame_event, next_origin}
-use Rattle.network_model.specs.State.{NetworkState, held, held_by, stands, with_frame, with_pipe, without_octets_to}
+use Rattle.network_model.specs.declared.packet.Packet.{Packet}
+use Rattle.network_model.specs.Packet.{again_event, arrive_event, discard_event, packet_work, repeating}
+use Rattle.network_model.specs.State.{NetworkState, held, held_by, stands, with_frame, with_packet, with_pipe, without_octets_to, without_packet}
 use Rattle.network_model.specs.Tick.{tick_at, tick_event, ticks_from}
 use Rattle.network_model.specs.Wire.{status_event, wire_event}
 use Rattle.flight_model.specs.Bound.{AreAnswers, AreBoundBy, LeavesBound}
@@ -42,7 +45,7 @@ use Rattle.flight_model.proofs.MendingLemmas.{mends_keep}
 use Rattle.flight_model.proofs.PipeLemmas.{pipe_from, pipe_there, pipe_to}
 use Rattle.flight_model.proofs.SettleLemmas.{apart_turned, settle}
 use Rattle.flight_model.proofs.WorkBindingLemmas.{HoldsOctets, WorksBound, bound_work_kept, leaves_octets}
-use Rattle.flight_model.proofs.WorkingLemmas.{bits_kept, circuit_kept, lost_kept, received_kept, tick_kept, wire_kept}
+use Rattle.flight_model.proofs.WorkingLemmas.{bits_kept, circuit_kept, lost_kept, packet_kept, received_kept, tick_kept, wire_kept}
 use Rattle.flight_model.proofs.WorksLemmas.{no_more, work_keeps, works_begin, works_kept}
 
 -- the ends of wires between each two edges are bound
@@ -155,7 +158,7 @@ restart_bounds plan me network bounds =
     settle (AreBoundBy plan) (without_octets_to me network) me 0 0 (restart_input (begin_at network me)) (bound_turns plan)
     (λ a b apart away gone. rw (same_edges me network, away_from me network a b gone, away_from me network b a away) (bounds a b apart)) (λ place away. restart_leaves plan me network place)
 
--- ---- frames, circuits, wires and failure bits
+-- ---- frames
 
 frame_leaves : (plan : Plan) (network : NetworkState) (me : EdgeId) (work : Work) (place : ℕ) → LeavesFor (AreBoundBy plan) network me work place → LeavesFor (AreBoundBy plan) (with_frame network) me work place
 unfolding with_frame
@@ -173,14 +176,14 @@ frame_bounds plan circuit octets (Some row) network checked types ordered bounds
   begun = begin_at network row.edge
 
   full : Work
-  full = received plan taken_all row.service (port_at plan begun.edge circuit row) (inner_at plan circuit octets) begun
+  full = received plan taken_all (arrival.Circuit circuit) row.service (port_at plan begun.edge circuit row) (inner_at plan circuit octets) begun
 
   start : Starts plan network row.edge
   start = starts plan network row.edge ordered
 
   works : WorksBound plan network row.edge checked types (λ place. held network row.edge.0 place) start.answers full
   works = received_kept plan row.edge (WorksBound plan network row.edge checked types (λ place. held network row.edge.0 place) start.answers) (bound_work_kept plan network row.edge checked types (λ place. held network row.edge.0 place) start.answers) taken_all
-      row.service (port_at plan begun.edge circuit row) (inner_at plan circuit octets) begun (starts_bound plan network row.edge checked types ordered bounds start)
+      (arrival.Circuit circuit) row.service (port_at plan begun.edge circuit row) (inner_at plan circuit octets) begun (starts_bound plan network row.edge checked types ordered bounds start)
 
   either : (idles_not : Bool) → Bounds plan (cond idles_not (idle network) (entering network circuit octets row full)).state
   either true = bounds
@@ -191,6 +194,46 @@ frame_bounds plan circuit octets (Some row) network checked types ordered bounds
   taken : (b : Bool) → Bounds plan (cond (cond b full (idles begun)).idle (idle network) (entering network circuit octets row (cond b full (idles begun)))).state
   taken true = either full.idle
   taken false = rw (idles_are begun) bounds
+
+-- ---- packets
+
+arrived_leaves : (plan : Plan) (number : ℕ) (network : NetworkState) (me : EdgeId) (work : Work) (place : ℕ) → LeavesFor (AreBoundBy plan) network me work place → LeavesFor (AreBoundBy plan) (without_packet number network) me work place
+unfolding without_packet
+arrived_leaves plan number network me work place leaves = record { bound = leaves.bound }
+
+arrived_same : (plan : Plan) (number : ℕ) (network : NetworkState) → Bounds plan network → Bounds plan (without_packet number network)
+unfolding without_packet
+arrived_same plan number network bounds a b apart = record { bound = (bounds a b apart).bound }
+
+repeated_same : (plan : Plan) (packet : Packet) (network : NetworkState) → Bounds plan network → Bounds plan (repeating packet network).state
+unfolding with_packet
+repeated_same plan packet network bounds a b apart = record { bound = (bounds a b apart).bound }
+
+pub arrive_bounds : (plan : Plan) (packet : Option Packet) (network : NetworkState) → IsChecked plan → HasTypes plan → IsOrdered plan network → Bounds plan network → Bounds plan (arrive_event plan packet network).state
+arrive_bounds plan None network checked types ordered bounds = bounds
+arrive_bounds plan (Some packet) network checked types ordered bounds =
+    settle (AreBoundBy plan) (without_packet packet.number network) packet.to packet.origin packet.hops work (bound_turns plan) (λ a b apart away gone. arrived_same plan packet.number network bounds a b apart)
+    (λ place away. arrived_leaves plan packet.number network packet.to work place (leaves_octets plan network packet.to checked types (λ k. held network packet.to.0 k) start.answers start.are work works place away))
+  where
+    work : Work
+    work = packet_work plan network packet
+
+    start : Starts plan network packet.to
+    start = starts plan network packet.to ordered
+
+    works : WorksBound plan network packet.to checked types (λ place. held network packet.to.0 place) start.answers work
+    works = packet_kept plan packet.to (WorksBound plan network packet.to checked types (λ place. held network packet.to.0 place) start.answers) (bound_work_kept plan network packet.to checked types (λ place. held network packet.to.0 place) start.answers) taken_all
+        packet.bytes (begin_at network packet.to) (starts_bound plan network packet.to checked types ordered bounds start)
+
+pub discard_bounds : (plan : Plan) (packet : Option Packet) (network : NetworkState) → Bounds plan network → Bounds plan (discard_event packet network).state
+discard_bounds plan None network bounds = bounds
+discard_bounds plan (Some packet) network bounds = arrived_same plan packet.number network bounds
+
+pub again_bounds : (plan : Plan) (packet : Option Packet) (network : NetworkState) → Bounds plan network → Bounds plan (again_event packet network).state
+again_bounds plan None network bounds = bounds
+again_bounds plan (Some packet) network bounds = repeated_same plan packet network bounds
+
+-- ---- circuits, wires and failure bits
 
 pub circuit_bounds : (plan : Plan) (circuit : CircuitId) (on : Bool) (row : Option CircuitPlan) (network : NetworkState) → IsChecked plan → HasTypes plan → IsOrdered plan network → Bounds plan network
     → Bounds plan (circuit_event plan circuit on row network).state

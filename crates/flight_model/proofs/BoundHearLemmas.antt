@@ -39,6 +39,7 @@ rows_both plan me I J one other = record {
   withdraws = λ place label content work is at wished both. (one.withdraws place label content work is at wished both.0, other.withdraws place label content work is at wished both.1);
   tells = λ place label content last work is at told changed both. (one.tells place label content last work is at told changed both.0, other.tells place label content last work is at told changed both.1);
   tells_down = λ place down work is both. (one.tells_down place down work is both.0, other.tells_down place down work is both.1);
+  others = λ change work keeps peering both. (one.others change work keeps peering both.0, other.others change work keeps peering both.1);
 }
 
 pub hearing_both : (plan : Plan) (me peer : EdgeId) (other : Peers) (I J : List Message → Work → Type 0) → KeptByHearing plan me peer other I → KeptByHearing plan me peer other J

@@ -10,7 +10,7 @@ use Rattle.net_base.specs.declared.plan.places.EdgeId.{EdgeId}
 use Rattle.net_base.specs.declared.plan.places.ServiceId.{ServiceId}
 use Rattle.net_base.specs.declared.plan.wire_plan.WirePlan.{WirePlan}
 use Rattle.net_base.specs.declared.trace.event.Event.{Event}
-use Rattle.net_base.specs.declared.trace.event.Event.TheVariants.{Connect, Deliver, Lose, Restart, Tick, Frame, Wire, Circuit, Status}
+use Rattle.net_base.specs.declared.trace.event.Event.TheVariants.{Connect, Deliver, Lose, Restart, Tick, Frame, Arrive, Discard, Again, Wire, Circuit, Status}
 use Rattle.net_base.specs.plan.Accepted.{IsChecked, IsWireOf}
 use Rattle.net_base.specs.plan.Paths.{joins}
 use Rattle.net_base.specs.plan.Places.{circuit_row}
@@ -21,6 +21,7 @@ use Rattle.pw_signalling.specs.End.{LocalPart, Idle, Advertised, Withdrawing}
 use Rattle.edge_model.specs.Mend.{is_up_with}
 use Rattle.edge_model.specs.State.{Peering, is_there}
 use Rattle.network_model.specs.Calm.{is_drained, is_quiet, is_settled}
+use Rattle.network_model.specs.Packet.{packet_at}
 use Rattle.network_model.specs.Run.{state_after}
 use Rattle.network_model.specs.State.{NetworkState, empty_network, held, stands}
 use Rattle.network_model.specs.Step.{brings, step}
@@ -31,7 +32,7 @@ use Rattle.flight_model.specs.Facts.{flight}
 use Rattle.flight_model.specs.Laws.{BothStand, HasAgreed, IsRun, IsStill, IsUnbound, OfWires, RunsAgreeAfterFlight, RunsSettle, network_after}
 use Rattle.flight_model.specs.Pair.{ArePaired}
 use Rattle.flight_model.proofs.BoundConnectLemmas.{connect_bounds, low_end}
-use Rattle.flight_model.proofs.BoundEventLemmas.{Bounds, circuit_bounds, deliver_bounds, frame_bounds, lose_bounds, restart_bounds, status_bounds, tick_bounds, wire_bounds}
+use Rattle.flight_model.proofs.BoundEventLemmas.{Bounds, again_bounds, arrive_bounds, circuit_bounds, deliver_bounds, discard_bounds, frame_bounds, lose_bounds, restart_bounds, status_bounds, tick_bounds, wire_bounds}
 use Rattle.flight_model.proofs.EdgeBindingLemmas.{clash}
 use Rattle.flight_model.proofs.RunLemmas.{both_apart, empty_ordered, none_said, run_ordered, runs_come_up, step_keeps}
 
@@ -47,6 +48,9 @@ brings_bounds plan (Frame circuit octets) network checked types planned ordered 
 brings_bounds plan (Circuit circuit on) network checked types planned ordered bounds = circuit_bounds plan circuit on (circuit_row plan circuit) network checked types ordered bounds
 brings_bounds plan (Wire me wire on) network checked types planned ordered bounds = wire_bounds plan me wire on network checked types ordered bounds
 brings_bounds plan (Status me wire bits) network checked types planned ordered bounds = status_bounds plan me wire bits network checked types planned.2 ordered bounds
+brings_bounds plan (Arrive number) network checked types planned ordered bounds = arrive_bounds plan (packet_at network number) network checked types ordered bounds
+brings_bounds plan (Discard number) network checked types planned ordered bounds = discard_bounds plan (packet_at network number) network bounds
+brings_bounds plan (Again number) network checked types planned ordered bounds = again_bounds plan (packet_at network number) network bounds
 brings_bounds plan event network checked types planned ordered bounds = bounds
 
 after_bounds : (plan : Plan) (events : List Event) (network : NetworkState) → IsChecked plan → HasTypes plan → All (IsEventOf plan) events → IsOrdered plan network → Bounds plan network → Bounds plan (state_after plan network events)

@@ -1,10 +1,11 @@
--- Events at one edge that touch its sessions only by what they have it tell: frames, circuits, wires and failure bits.
+-- Events at one edge that touch its sessions only by what they have it tell: frames, packets, circuits, wires and failure bits.
 use Rattle.std.proofs.Common.{◌≡◌, ◌≤◌, ◌&&◌, ℕ, Bool, true, false, cond, not, nat_eq, List, Option, Some, None, refl}
 use Rattle.net_base.specs.declared.plan.Plan.{Plan}
 use Rattle.net_base.specs.declared.plan.circuit_plan.CircuitPlan.{CircuitPlan}
 use Rattle.net_base.specs.declared.plan.places.CircuitId.{CircuitId}
 use Rattle.net_base.specs.declared.plan.places.EdgeId.{EdgeId}
 use Rattle.net_base.specs.declared.plan.places.WireId.{WireId}
+use Rattle.net_base.specs.declared.trace.arrival.Arrival.TheVariants as arrival
 use Rattle.net_base.specs.plan.Accepted.{IsChecked}
 use Rattle.net_base.specs.trace.Isolated.{inner_at}
 use Rattle.edge_model.specs.Circuit.{is_same, turned}
@@ -17,11 +18,13 @@ use Rattle.edge_model.specs.Work.{Work, changes, idles}
 use Rattle.network_model.specs.Absorb.{absorb, answer, begin_at, idle, taken_all}
 use Rattle.network_model.specs.Circuit.{circuit_event}
 use Rattle.network_model.specs.Frame.{entering, frame_event, next_origin}
-use Rattle.network_model.specs.State.{NetworkState, with_frame}
+use Rattle.network_model.specs.declared.packet.Packet.{Packet}
+use Rattle.network_model.specs.Packet.{again_event, arrive_event, discard_event, packet_work, repeating}
+use Rattle.network_model.specs.State.{NetworkState, with_frame, with_packet, without_packet}
 use Rattle.network_model.specs.Wire.{status_event, wire_event}
 use Rattle.flight_model.specs.Ends.{HasTypes, IsOrdered, KeepsOrder, WorksOn}
 use Rattle.flight_model.proofs.EventLemmas.{idle_keeps}
-use Rattle.flight_model.proofs.WorkingLemmas.{bits_kept, circuit_kept, received_kept, wire_kept}
+use Rattle.flight_model.proofs.WorkingLemmas.{bits_kept, circuit_kept, packet_kept, received_kept, wire_kept}
 use Rattle.flight_model.proofs.WorksLemmas.{work_keeps, works_begin, works_kept}
 
 pub idles_are : (work : Work) → (idles work).idle ≡ true
@@ -60,16 +63,45 @@ frame_keeps plan circuit octets (Some row) network checked types ordered = taken
   begun = begin_at network row.edge
 
   full : Work
-  full = received plan taken_all row.service (port_at plan begun.edge circuit row) (inner_at plan circuit octets) begun
+  full = received plan taken_all (arrival.Circuit circuit) row.service (port_at plan begun.edge circuit row) (inner_at plan circuit octets) begun
 
   either : (idles_not : Bool) → KeepsOrder plan (cond idles_not (idle network) (entering network circuit octets row full))
   either true = idle_keeps plan network ordered
   either false = entering_keeps plan network circuit octets row full ordered
-      (received_kept plan row.edge (WorksOn plan network row.edge) (works_kept plan network row.edge checked types) taken_all row.service (port_at plan begun.edge circuit row) (inner_at plan circuit octets) begun (works_begin plan network row.edge ordered))
+      (received_kept plan row.edge (WorksOn plan network row.edge) (works_kept plan network row.edge checked types) taken_all (arrival.Circuit circuit) row.service (port_at plan begun.edge circuit row) (inner_at plan circuit octets) begun (works_begin plan network row.edge ordered))
 
   taken : (b : Bool) → KeepsOrder plan (cond (cond b full (idles begun)).idle (idle network) (entering network circuit octets row (cond b full (idles begun))))
   taken true = either full.idle
   taken false = rw (idles_are begun) (idle_keeps plan network ordered)
+
+-- ---- packets
+
+arrived_ordered : (plan : Plan) (number : ℕ) (network : NetworkState) → IsOrdered plan network → IsOrdered plan (without_packet number network)
+unfolding without_packet
+arrived_ordered plan number network ordered = record { two = λ a b apart. ordered.two a b apart; alone = λ a. ordered.alone a; placed = λ a. ordered.placed a; sound = λ a. ordered.sound a }
+
+arrived_works : (plan : Plan) (number : ℕ) (network : NetworkState) (me : EdgeId) (work : Work) → WorksOn plan network me work → WorksOn plan (without_packet number network) me work
+unfolding without_packet
+arrived_works plan number network me work works = record { fine = works.fine; sound = works.sound; alone = works.alone; left = λ place away. works.left place away }
+
+repeated_ordered : (plan : Plan) (packet : Packet) (network : NetworkState) → IsOrdered plan network → IsOrdered plan (repeating packet network).state
+unfolding with_packet
+repeated_ordered plan packet network ordered = record { two = λ a b apart. ordered.two a b apart; alone = λ a. ordered.alone a; placed = λ a. ordered.placed a; sound = λ a. ordered.sound a }
+
+pub arrive_keeps : (plan : Plan) (packet : Option Packet) (network : NetworkState) → IsChecked plan → HasTypes plan → IsOrdered plan network → KeepsOrder plan (arrive_event plan packet network)
+arrive_keeps plan None network checked types ordered = idle_keeps plan network ordered
+arrive_keeps plan (Some packet) network checked types ordered =
+    work_keeps plan (without_packet packet.number network) packet.to packet.origin packet.hops (packet_work plan network packet) (arrived_ordered plan packet.number network ordered)
+    (arrived_works plan packet.number network packet.to (packet_work plan network packet)
+    (packet_kept plan packet.to (WorksOn plan network packet.to) (works_kept plan network packet.to checked types) taken_all packet.bytes (begin_at network packet.to) (works_begin plan network packet.to ordered)))
+
+pub discard_keeps : (plan : Plan) (packet : Option Packet) (network : NetworkState) → IsOrdered plan network → KeepsOrder plan (discard_event packet network)
+discard_keeps plan None network ordered = idle_keeps plan network ordered
+discard_keeps plan (Some packet) network ordered = record { ordered = arrived_ordered plan packet.number network ordered; good = tt }
+
+pub again_keeps : (plan : Plan) (packet : Option Packet) (network : NetworkState) → IsOrdered plan network → KeepsOrder plan (again_event packet network)
+again_keeps plan None network ordered = idle_keeps plan network ordered
+again_keeps plan (Some packet) network ordered = record { ordered = repeated_ordered plan packet network ordered; good = (tt, tt) }
 
 -- ---- circuits
 

@@ -6,6 +6,7 @@ pub mod BoundConnectLemmas
 pub mod BoundEventLemmas
 pub mod BoundHearLemmas
 pub mod BoundRunLemmas
+pub mod BridgeLemmas
 pub mod CircuitLemmas
 pub mod ConnectLemmas
 pub mod EdgeBindingLemmas
@@ -48,6 +49,7 @@ pub mod SayLemmas
 pub mod SettleLemmas
 pub mod SoundLemmas
 pub mod SpokenLemmas
+pub mod StableLemmas
 pub mod SteadyLemmas
 pub mod TalkLemmas
 pub mod TellLemmas

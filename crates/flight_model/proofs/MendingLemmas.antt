@@ -4,6 +4,7 @@ use Rattle.std.specs.List.{AllByRecursion}
 use Rattle.net_base.specs.declared.plan.Plan.{Plan}
 use Rattle.net_base.specs.declared.plan.places.EdgeId.{EdgeId}
 use Rattle.net_base.specs.declared.trace.down.Down.{Down}
+use Rattle.net_base.specs.plan.Places.{wire_row}
 use Rattle.label_space.specs.Labels.{numbers_end}
 use Rattle.pw_tlvs.specs.declared.pw_status.PwStatus.{PwStatus}
 use Rattle.pw_signalling.specs.declared.told.Told.{Told}
@@ -12,13 +13,16 @@ use Rattle.edge_model.specs.declared.effect.Effect.TheVariants.{Wire}
 use Rattle.edge_model.specs.declared.end_place.EndPlace.{EndPlace}
 use Rattle.edge_model.specs.Content.{mapping}
 use Rattle.edge_model.specs.EndPlaces.{end_places}
-use Rattle.edge_model.specs.Mend.{advertises_wish, advertising, cause_number, each_end, mends, mends_again, mends_end, mends_few, mends_local, mends_once, mends_status, mends_status_of, stays, tells_down, tells_downs, tells_new_status, tells_over, wish, withdraws, withdraws_unless}
+use Rattle.edge_model.specs.Mend.{advertises_wish, advertising, cause_number, each_end, forgets_down, forgets_downs, forgetting_wire, mends, mends_again, mends_end, mends_few, mends_local, mends_once, mends_status, mends_status_of, stays, tells_down, tells_downs, tells_new_status, tells_over, wish, withdraws, withdraws_unless}
 use Rattle.edge_model.specs.Put.{Spoken}
 use Rattle.edge_model.specs.Role.{down_at, status_to_tell}
 use Rattle.edge_model.specs.Session.{says}
-use Rattle.edge_model.specs.State.{end_at, with_told_down}
+use Rattle.edge_model.specs.State.{EdgeState, end_at, with_told_down}
 use Rattle.edge_model.specs.Work.{Work, changes, gives}
+use Rattle.edge_model.proofs.BridgeLemmas.{LearnsOnly, forgetting_learns}
 use Rattle.network_model.specs.Absorb.{taken_all}
+use Rattle.flight_model.proofs.BridgeLemmas.{learns_keeps}
+use Rattle.flight_model.proofs.KeepLemmas.{KeepsEnds}
 use Rattle.flight_model.proofs.PlaceLemmas.{IsEndOf, places_are}
 
 -- what is so of an edge at work at this place, and what each row of mending keeps
@@ -35,6 +39,8 @@ pub record KeptByRows (plan : Plan) (me : EdgeId) (I : Work → Type 0) : Type 0
       → last.0 == (status_to_tell plan work.edge place).0 ≡ false → I work → I (tells_new_status taken_all place content (status_to_tell plan work.edge place) work).work
   -- a wire that began to forward, or stopped, is told
   pub tells_down : (place : EndPlace) (down : Option Down) (work : Work) → IsEndOf plan me place → I work → I (gives (Wire place.wire down) (changes (with_told_down place.wire down) work))
+  -- what has nothing to do with neighbours and pseudowires
+  pub others : (change : EdgeState → EdgeState) (work : Work) → KeepsEnds work.edge (change work.edge) → (change work.edge).peering ≡ work.edge.peering → I work → I (changes change work)
 
 module _ (plan : Plan) (me : EdgeId) (I : Work → Type 0) (kept : KeptByRows plan me I) where
   end_keeps : (place : EndPlace) → IsEndOf plan me place → (work : Work) → I work → I (mends_end plan taken_all place work).work
@@ -80,6 +86,19 @@ module _ (plan : Plan) (me : EdgeId) (I : Work → Type 0) (kept : KeptByRows pl
   each_keeps mend one [] all m i = i
   each_keeps mend one (place ∷ places) all m i = each_keeps mend one places all.1 _ (one place all.0 m.work i)
 
+  forgets_keep : (places : List EndPlace) (work : Work) → I work → I (forgets_downs plan places work)
+  forgets_keep [] work i = i
+  forgets_keep (place ∷ places) work i = forgets_keep places _ (by_side place.terminal) where
+    by_down : (down : Option Down) → I (forgets_down plan place down work)
+    by_down None = i
+    by_down (Some why) =
+        let only : LearnsOnly work.edge (forgetting_wire plan place.wire (wire_row plan place.wire) work.edge) = forgetting_learns plan place.wire (wire_row plan place.wire) work.edge in
+        kept.others (forgetting_wire plan place.wire (wire_row plan place.wire)) work (learns_keeps work.edge _ only) only.peering i
+
+    by_side : (terminal : Bool) → I (cond terminal (forgets_down plan place (down_at plan work.edge place) work) work)
+    by_side true = by_down (down_at plan work.edge place)
+    by_side false = i
+
   down_keeps : (place : EndPlace) (down : Option Down) → IsEndOf plan me place → (work : Work) → I work → I (tells_down place down work)
   down_keeps place down is work i = by_cause (cause_number (work.edge.told_down place.wire.0) == cause_number down) where
     by_cause : (same : Bool) → I (cond same work (gives (Wire place.wire down) (changes (with_told_down place.wire down) work)))
@@ -97,8 +116,9 @@ module _ (plan : Plan) (me : EdgeId) (I : Work → Type 0) (kept : KeptByRows pl
   once_keeps work i =
       let all : AllByRecursion (IsEndOf plan me) (end_places plan work.edge.me) = subst (λ (k : EdgeId). AllByRecursion (IsEndOf plan me) (end_places plan k)) (sym (kept.placed work i)) (places_are plan me) in
       downs_keep (end_places plan work.edge.me) all _
+      (forgets_keep (end_places plan work.edge.me) _
       (each_keeps (mends_status plan taken_all) status_keeps (end_places plan work.edge.me) all _
-      (each_keeps (mends_end plan taken_all) end_keeps (end_places plan work.edge.me) all (stays work) i))
+      (each_keeps (mends_end plan taken_all) end_keeps (end_places plan work.edge.me) all (stays work) i)))
 
   again_keeps : (again : Work → Work) → ((work : Work) → I work → I (again work)) → (m : Spoken) → I m.work → I (mends_again again m)
   again_keeps again more m i = by_put m.failed where

@@ -31,6 +31,7 @@ use Rattle.flight_model.specs.Pair.{IsStanding}
 use Rattle.flight_model.specs.Sound.{TellsSoundly}
 use Rattle.flight_model.proofs.BindingLemmas.{binding_advertises, binding_goes_on, binding_tells, binding_withdraws}
 use Rattle.flight_model.proofs.EdgeBindingLemmas.{SaysOf, bound_says, clash, end_beside_other, end_label, end_of_other, end_there}
+use Rattle.flight_model.proofs.KeepLemmas.{KeepsEnds}
 use Rattle.flight_model.proofs.LeaveLemmas.{leaves_goes, leaves_same, leaves_spoken}
 use Rattle.flight_model.proofs.MendingLemmas.{KeptByRows}
 use Rattle.flight_model.proofs.OfferLemmas.{IsOfWires, mapping_is, status_is, withdrawal_is}
@@ -230,6 +231,12 @@ module _ (plan : Plan) (me : EdgeId) (checked : IsChecked plan) (fars : ℕ → 
     down_leaves place down work leaves c away =
         leaves_same plan me c (fars c) (outs c) (answers c) work _ (said-append c work.effects (Wire place.wire down ∷ []) ∙ same_end (said_to c work.effects)) (λ near. near) (record { label = refl; ends = λ wire. refl }) (leaves c away)
 
+    others_leave : (change : EdgeState → EdgeState) (work : Work) → KeepsEnds work.edge (change work.edge) → (change work.edge).peering ≡ work.edge.peering → LeavesAll work → LeavesAll (changes change work)
+    unfolding changes
+    others_leave change work keeps peering leaves c away =
+        leaves_same plan me c (fars c) (outs c) (answers c) work _ refl (λ near. sym (ap (λ (f : ℕ → Option Peering). is_there (f c)) peering) ∙ near)
+        (record { label = keeps.next_label; ends = λ wire. ap (λ (f : ℕ → ℕ → EndState). f wire c) keeps.ends }) (leaves c away)
+
     pub rows_leave : KeptByRows plan me KeepsAll
     rows_leave = record {
       placed = λ work all. rows.placed work all.0;
@@ -237,4 +244,5 @@ module _ (plan : Plan) (me : EdgeId) (checked : IsChecked plan) (fars : ℕ → 
       withdraws = all_withdraw;
       tells = all_tell;
       tells_down = λ place down work is all. (rows.tells_down place down work is all.0, down_leaves place down work all.1);
+      others = λ change work keeps peering all. (rows.others change work keeps peering all.0, others_leave change work keeps peering all.1);
     }

@@ -25,14 +25,14 @@ use Rattle.flight_model.specs.Pair.{AreFit, StandsIf}
 use Rattle.flight_model.specs.Rules.{AllMessages, BindsGiven}
 use Rattle.flight_model.proofs.BetweenLemmas.{LeavesOthers, back_between, connected_two, out_between}
 use Rattle.flight_model.proofs.MentionLemmas.{all_kept, all_more}
-use Rattle.flight_model.proofs.NameLemmas.{split}
+use Rattle.flight_model.proofs.NameLemmas.{KeepsNames, names_same, split}
 use Rattle.flight_model.proofs.PipeLemmas.{all_edges, pipe_from, pipe_to}
 use Rattle.flight_model.proofs.PlanLemmas.{ends_are, joined_apart}
 use Rattle.flight_model.proofs.ReadyLemmas.{IsReadyBetween, all_ready, same_messages}
 use Rattle.flight_model.proofs.RuledEventLemmas.{losing_ruled}
 use Rattle.flight_model.proofs.RuledInputLemmas.{idle_ruled}
 use Rattle.flight_model.proofs.RuledLemmas.{IsFitEnd, IsRuled, IsRuledEdge, IsRuledFor, WorksRuled, holds_of}
-use Rattle.flight_model.proofs.RuledNetworkLemmas.{IsRuledNetwork, OutRules, RulesTo, held_again, held_at, held_is, leaves_ruled, octets_held, ruled_begin, ruled_far, ruled_settle}
+use Rattle.flight_model.proofs.RuledNetworkLemmas.{IsRuledNetwork, OutRules, RulesTo, StaysRuled, held_again, held_at, held_is, leaves_ruled, octets_held, ruled_begin, ruled_far, ruled_settle, stays_ruled}
 use Rattle.flight_model.proofs.RuledOctetsLemmas.{HasHeardRuled, connects_ruled, held_now, octets_ruled}
 use Rattle.flight_model.proofs.SaidLemmas.{all_joined}
 use Rattle.flight_model.proofs.SettleLemmas.{apart_turned, both_turn, edge_else, edge_there}
@@ -63,11 +63,16 @@ module _ (plan : Plan) (checked : IsChecked plan) (types : HasTypes plan) where
   fit_of own other kept None is stands = absurd (cc)
   fit_of own other kept (Some k) is stands = stands.between.two
 
+  -- the rules speak of the edges, and those are the same with other octets on their way
+  piped : (from to : EdgeId) (octets : List ℕ) (network after : NetworkState) → StaysRuled plan (with_pipe from to octets network) after → StaysRuled plan network after
+  unfolding with_pipe
+  piped from to octets network after stays = record { ruled = stays.ruled; keeps = stays.keeps }
+
   delivering_ruled : (from to : EdgeId) (count : ℕ) (network : NetworkState) (kept : Peering) → IsPaired plan to.0 from.0 (network.edges to.0) (network.edges from.0) (flight network to.0 from.0) (flight network from.0 to.0)
-      → IsRuledNetwork plan network → nat_eq from.0 to.0 ≡ false → (network.edges to.0).peering from.0 ≡ Some kept → IsRuledNetwork plan (delivering plan from to count network).state
+      → IsRuledNetwork plan network → nat_eq from.0 to.0 ≡ false → (network.edges to.0).peering from.0 ≡ Some kept → StaysRuled plan network (delivering plan from to count network).state
   unfolding with_pipe
   delivering_ruled from to count network kept pair ruled apart at =
-      ruled_settle plan (with_pipe from to (drop count pipe) network) to 0 0 (network.edges to.0) (held_now from.0 heard.rest (held_at network to.0)) (hearing_work plan network from to (take count pipe))
+      piped from to (drop count pipe) network _ (ruled_settle plan (with_pipe from to (drop count pipe) network) to 0 0 (network.edges to.0) (held_now from.0 heard.rest (held_at network to.0)) (hearing_work plan network from to (take count pipe))
       (λ a b differ away gone. (
         subst (RulesTo plan a b (network.edges a) (network.edges b)) (ap (λ (l : List ℕ). held_by ((network.edges b).peering a) ++ l) (sym (pipe_to from to (drop count pipe) network a b gone))) (ruled.two a b differ).0,
         subst (RulesTo plan b a (network.edges b) (network.edges a)) (ap (λ (l : List ℕ). held_by ((network.edges a).peering b) ++ l) (sym (pipe_to from to (drop count pipe) network b a away))) (ruled.two a b differ).1,
@@ -79,6 +84,7 @@ module _ (plan : Plan) (checked : IsChecked plan) (types : HasTypes plan) where
       (λ place away. split {P = Back place} (nat_eq place from.0)
       (λ is. subst (λ (k : ℕ). Back k) (sym (eqb-true place from.0 is)) from_peer)
       (λ other. from_other place away other))
+      (names_same (network.edges to.0)))
     where
       pipe : List ℕ
       pipe = network.pipes from.0 to.0
@@ -116,24 +122,24 @@ module _ (plan : Plan) (checked : IsChecked plan) (types : HasTypes plan) where
       clash2 : {x : Peering} → None ≡ Some x → ⊥
       clash2 e = cc
 
-  pub deliver_event_ruled : (from to : EdgeId) (count : ℕ) (network : NetworkState) → IsOrdered plan network → IsRuledNetwork plan network → IsRuledNetwork plan (deliver_event plan from to count network).state
+  pub deliver_event_ruled : (from to : EdgeId) (count : ℕ) (network : NetworkState) → IsOrdered plan network → IsRuledNetwork plan network → StaysRuled plan network (deliver_event plan from to count network).state
   deliver_event_ruled from to count network ordered ruled = by_end ((network.edges to.0).peering from.0) refl where
     other : Bool
     other = not (is_drained_pipe network from.0 to.0) || not (stands network from.0 to.0)
 
-    by_drained : (kept : Peering) → (network.edges to.0).peering from.0 ≡ Some kept → (b : Bool) → IsRuledNetwork plan (cond b (losing plan to from network) (delivering plan from to count network)).state
+    by_drained : (kept : Peering) → (network.edges to.0).peering from.0 ≡ Some kept → (b : Bool) → StaysRuled plan network (cond b (losing plan to from network) (delivering plan from to count network)).state
     by_drained kept at true = losing_ruled plan checked types to from network ruled
-    by_drained kept at false = split {P = IsRuledNetwork plan (delivering plan from to count network).state} (nat_eq from.0 to.0)
+    by_drained kept at false = split {P = StaysRuled plan network (delivering plan from to count network).state} (nat_eq from.0 to.0)
         (λ is. absurd (no_own_end to.0 network kept (ordered.alone to.0) (ap (λ (k : ℕ). (network.edges to.0).peering k) (sym (eqb-true from.0 to.0 is)) ∙ at)))
         (λ apart. delivering_ruled from to count network kept (ordered.two to.0 from.0 (apart_turned from.0 to.0 apart)) ruled apart at)
 
     by_test : (kept : Peering) → (network.edges to.0).peering from.0 ≡ Some kept → (b : Bool)
-        → IsRuledNetwork plan (cond b (cond (is_drained_pipe network from.0 to.0) (losing plan to from network) (delivering plan from to count network)) (idle network)).state
+        → StaysRuled plan network (cond b (cond (is_drained_pipe network from.0 to.0) (losing plan to from network) (delivering plan from to count network)) (idle network)).state
     by_test kept at true = by_drained kept at (is_drained_pipe network from.0 to.0)
-    by_test kept at false = ruled
+    by_test kept at false = stays_ruled plan network ruled
 
-    by_end : (near : Option Peering) → (network.edges to.0).peering from.0 ≡ near → IsRuledNetwork plan (deliver_event plan from to count network).state
-    by_end None at = rw (ap (λ (o : Option Peering). is_there o) at) ruled
+    by_end : (near : Option Peering) → (network.edges to.0).peering from.0 ≡ near → StaysRuled plan network (deliver_event plan from to count network).state
+    by_end None at = rw (ap (λ (o : Option Peering). is_there o) at) (stays_ruled plan network ruled)
     by_end (Some kept) at = by_test kept at (stands network to.0 from.0 && other)
 
 -- ---- a connection comes up
@@ -296,19 +302,26 @@ module _ (plan : Plan) (checked : IsChecked plan) (types : HasTypes plan) where
       (up.works.edge.place ∙ sym (ruled.edges me.0).place) up.works.keeps (up.works.left place away)
 
   connecting_ruled : (from to : EdgeId) (network : NetworkState) (first second : Work) → nat_eq from.0 to.0 ≡ false → stands network from.0 to.0 ≡ false → stands network to.0 from.0 ≡ false → IsRuledNetwork plan network
-      → HasConnected plan network from to first → HasConnected plan network to from second → IsRuledNetwork plan (connecting from first to second network).state
+      → HasConnected plan network from to first → HasConnected plan network to from second → StaysRuled plan network (connecting from first to second network).state
   unfolding out_between back_between
   connecting_ruled from to network first second apart none_here none_there ruled up too = record {
-    edges = λ a. split {P = IsRuledEdge plan a (after.edges a)} (nat_eq a to.0)
-        (λ is. subst (λ (k : ℕ). IsRuledEdge plan k (after.edges k)) (sym (eqb-true a to.0 is)) (subst (IsRuledEdge plan to.0) (sym second_edge) too.works.edge))
-        (λ here. split {P = IsRuledEdge plan a (after.edges a)} (nat_eq a from.0)
-        (λ is. subst (λ (k : ℕ). IsRuledEdge plan k (after.edges k)) (sym (eqb-true a from.0 is)) (subst (IsRuledEdge plan from.0) (sym first_edge) up.works.edge))
-        (λ away. subst (IsRuledEdge plan a) (sym (other_edge a away here)) (ruled.edges a)));
-    two = connected_two (FromBoth (OutRules plan)) network from to first second (both_turn (OutRules plan)) apart ruled.two
-        (others_ruled from to network first ruled up) (others_ruled to from network second ruled too) (
-          between_ruled plan from to network first second up too apart ruled none_there,
-          behind_ruled plan to from network second first too up (apart_turned from.0 to.0 apart) ruled none_here,
-        );
+    ruled = record {
+      edges = λ a. split {P = IsRuledEdge plan a (after.edges a)} (nat_eq a to.0)
+          (λ is. subst (λ (k : ℕ). IsRuledEdge plan k (after.edges k)) (sym (eqb-true a to.0 is)) (subst (IsRuledEdge plan to.0) (sym second_edge) too.works.edge))
+          (λ here. split {P = IsRuledEdge plan a (after.edges a)} (nat_eq a from.0)
+          (λ is. subst (λ (k : ℕ). IsRuledEdge plan k (after.edges k)) (sym (eqb-true a from.0 is)) (subst (IsRuledEdge plan from.0) (sym first_edge) up.works.edge))
+          (λ away. subst (IsRuledEdge plan a) (sym (other_edge a away here)) (ruled.edges a)));
+      two = connected_two (FromBoth (OutRules plan)) network from to first second (both_turn (OutRules plan)) apart ruled.two
+          (others_ruled from to network first ruled up) (others_ruled to from network second ruled too) (
+            between_ruled plan from to network first second up too apart ruled none_there,
+            behind_ruled plan to from network second first too up (apart_turned from.0 to.0 apart) ruled none_here,
+          );
+    };
+    keeps = λ k. split {P = KeepsNames (network.edges k) (after.edges k)} (nat_eq k to.0)
+        (λ is. subst (λ (n : ℕ). KeepsNames (network.edges n) (after.edges n)) (sym (eqb-true k to.0 is)) (subst (KeepsNames (network.edges to.0)) (sym second_edge) too.works.keeps))
+        (λ here. split {P = KeepsNames (network.edges k) (after.edges k)} (nat_eq k from.0)
+        (λ is. subst (λ (n : ℕ). KeepsNames (network.edges n) (after.edges n)) (sym (eqb-true k from.0 is)) (subst (KeepsNames (network.edges from.0)) (sym first_edge) up.works.keeps))
+        (λ away. subst (KeepsNames (network.edges k)) (sym (other_edge k away here)) (names_same (network.edges k))));
   }
     where
       begun : NetworkState
@@ -332,14 +345,14 @@ module _ (plan : Plan) (checked : IsChecked plan) (types : HasTypes plan) where
       other_edge : (a : ℕ) → nat_eq a from.0 ≡ false → nat_eq a to.0 ≡ false → after.edges a ≡ network.edges a
       other_edge a away here = ap (λ (f : ℕ → EdgeState). f a) edges ∙ (edge_else to second.edge (with_edge from first.edge network) a here ∙ edge_else from first.edge network a away)
 
-  pub connect_event_ruled : (from to : EdgeId) (network : NetworkState) → IsRuledNetwork plan network → IsRuledNetwork plan (connect_event plan from to network).state
+  pub connect_event_ruled : (from to : EdgeId) (network : NetworkState) → IsRuledNetwork plan network → StaysRuled plan network (connect_event plan from to network).state
   connect_event_ruled from to network ruled = by_joined (are_joined plan from.0 to.0) refl (stands network from.0 to.0) refl (stands network to.0 from.0) refl where
     by_joined : (j : Bool) → are_joined plan from.0 to.0 ≡ j → (x : Bool) → stands network from.0 to.0 ≡ x → (y : Bool) → stands network to.0 from.0 ≡ y
-        → IsRuledNetwork plan (cond (j && (not x && not y)) (connecting from (connected_work plan network from to) to (connected_work plan network to from) network) (idle network)).state
+        → StaysRuled plan network (cond (j && (not x && not y)) (connecting from (connected_work plan network from to) to (connected_work plan network to from) network) (idle network)).state
     by_joined true is false one false other =
         let apart : nat_eq from.0 to.0 ≡ false = joined_apart plan from.0 to.0 checked is in
         connecting_ruled from to network (connected_work plan network from to) (connected_work plan network to from) apart one other ruled
         (connected_ruled plan checked types from to network apart one ruled) (connected_ruled plan checked types to from network (apart_turned from.0 to.0 apart) other ruled)
-    by_joined true is true one y other = ruled
-    by_joined true is false one true other = ruled
-    by_joined false is x one y other = ruled
+    by_joined true is true one y other = stays_ruled plan network ruled
+    by_joined true is false one true other = stays_ruled plan network ruled
+    by_joined false is x one y other = stays_ruled plan network ruled

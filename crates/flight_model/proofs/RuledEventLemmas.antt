@@ -6,6 +6,7 @@ use Rattle.net_base.specs.declared.plan.places.CircuitId.{CircuitId}
 use Rattle.net_base.specs.declared.plan.places.EdgeId.{EdgeId}
 use Rattle.net_base.specs.declared.plan.places.WireId.{WireId}
 use Rattle.net_base.specs.declared.trace.state_name.Reason.TheVariants as reason
+use Rattle.net_base.specs.declared.trace.arrival.Arrival.TheVariants as arrival
 use Rattle.net_base.specs.plan.Accepted.{IsChecked}
 use Rattle.net_base.specs.trace.Isolated.{inner_at}
 use Rattle.session_core.specs.Table as table
@@ -23,15 +24,17 @@ use Rattle.network_model.specs.Absorb.{answer, begin_at, idle, taken_all}
 use Rattle.network_model.specs.Circuit.{circuit_event}
 use Rattle.network_model.specs.Connection.{lose_event, losing, losing_work, restart_event}
 use Rattle.network_model.specs.Frame.{entering, frame_event, next_origin}
-use Rattle.network_model.specs.State.{NetworkState, stands, with_frame, without_octets_to}
+use Rattle.network_model.specs.declared.packet.Packet.{Packet}
+use Rattle.network_model.specs.Packet.{again_event, arrive_event, discard_event, packet_work, repeating}
+use Rattle.network_model.specs.State.{NetworkState, stands, with_frame, with_packet, without_octets_to, without_packet}
 use Rattle.network_model.specs.Tick.{tick_at, tick_event, ticks_from}
 use Rattle.network_model.specs.Wire.{status_event, wire_event}
 use Rattle.flight_model.specs.Ends.{HasTypes}
 use Rattle.flight_model.specs.Facts.{FromBoth, HoldsBut, flight}
-use Rattle.flight_model.proofs.NameLemmas.{names_restarted}
-use Rattle.flight_model.proofs.RuledInputLemmas.{circuit_ruled, idle_ruled, lost_ruled, received_ruled, status_ruled, tick_ruled, wire_ruled}
+use Rattle.flight_model.proofs.NameLemmas.{KeepsNames, names_restarted, names_same}
+use Rattle.flight_model.proofs.RuledInputLemmas.{circuit_ruled, idle_ruled, lost_ruled, packet_ruled, received_ruled, status_ruled, tick_ruled, wire_ruled}
 use Rattle.flight_model.proofs.RuledLemmas.{IsRuledEdge, WorksRuled, steps_keep}
-use Rattle.flight_model.proofs.RuledNetworkLemmas.{IsRuledNetwork, OutRules, RulesTo, held_at, ruled_answer, ruled_begin, ruled_settle, ruled_work}
+use Rattle.flight_model.proofs.RuledNetworkLemmas.{IsRuledNetwork, OutRules, RulesTo, StaysRuled, held_at, ruled_answer, ruled_begin, ruled_settle, ruled_work, stays_ruled, stays_then}
 use Rattle.flight_model.proofs.SettleLemmas.{apart_turned}
 use Rattle.flight_model.proofs.ToldLemmas.{fresh_tells}
 use Rattle.flight_model.proofs.WorkLemmas.{same_place}
@@ -43,7 +46,7 @@ module _ (plan : Plan) (checked : IsChecked plan) (types : HasTypes plan) where
 
   -- ---- an end is lost
 
-  pub losing_ruled : (me peer : EdgeId) (network : NetworkState) → IsRuledNetwork plan network → IsRuledNetwork plan (losing plan me peer network).state
+  pub losing_ruled : (me peer : EdgeId) (network : NetworkState) → IsRuledNetwork plan network → StaysRuled plan network (losing plan me peer network).state
   losing_ruled me peer network ruled = ruled_work plan network me 0 0 (losing_work plan network me peer) ruled (by_end (has_end (begin_at network me).edge peer)) where
     begun : At network me (begin_at network me)
     begun = ruled_begin plan network me ruled
@@ -52,29 +55,32 @@ module _ (plan : Plan) (checked : IsChecked plan) (types : HasTypes plan) where
     by_end true = lost_ruled plan checked types network.edges me (network.edges me.0) (held_at network me.0) peer (begin_at network me) begun
     by_end false = idle_ruled plan checked types network.edges me (network.edges me.0) (held_at network me.0) (begin_at network me) begun
 
-  pub lose_ruled : (me peer : EdgeId) (network : NetworkState) → IsRuledNetwork plan network → IsRuledNetwork plan (lose_event plan me peer network).state
+  pub lose_ruled : (me peer : EdgeId) (network : NetworkState) → IsRuledNetwork plan network → StaysRuled plan network (lose_event plan me peer network).state
   lose_ruled me peer network ruled = by_stand (stands network me.0 peer.0) where
-    by_stand : (b : Bool) → IsRuledNetwork plan (cond b (losing plan me peer network) (idle network)).state
+    by_stand : (b : Bool) → StaysRuled plan network (cond b (losing plan me peer network) (idle network)).state
     by_stand true = losing_ruled me peer network ruled
-    by_stand false = ruled
+    by_stand false = stays_ruled plan network ruled
 
   -- ---- ticks pass
 
-  tick_at_ruled : (me : EdgeId) (network : NetworkState) → IsRuledNetwork plan network → IsRuledNetwork plan (tick_at plan me network).state
+  tick_at_ruled : (me : EdgeId) (network : NetworkState) → IsRuledNetwork plan network → StaysRuled plan network (tick_at plan me network).state
   tick_at_ruled me network ruled = ruled_work plan network me 0 0 (tick_input plan taken_all (begin_at network me)) ruled
       (tick_ruled plan checked types network.edges me (network.edges me.0) (held_at network me.0) (begin_at network me) (ruled_begin plan network me ruled))
 
-  ticks_ruled : (place count : ℕ) (network : NetworkState) → IsRuledNetwork plan network → IsRuledNetwork plan (ticks_from plan place count network).state
-  ticks_ruled place zero network ruled = ruled
-  ticks_ruled place (suc count) network ruled = ticks_ruled (place + 1) count (tick_at plan (record { 0 = place }) network).state (tick_at_ruled (record { 0 = place }) network ruled)
+  ticks_ruled : (place count : ℕ) (network : NetworkState) → IsRuledNetwork plan network → StaysRuled plan network (ticks_from plan place count network).state
+  ticks_ruled place zero network ruled = stays_ruled plan network ruled
+  ticks_ruled place (suc count) network ruled =
+      let next : NetworkState = (tick_at plan (record { 0 = place }) network).state in
+      let one : StaysRuled plan network next = tick_at_ruled (record { 0 = place }) network ruled in
+      stays_then plan network next (ticks_from plan (place + 1) count next).state one (ticks_ruled (place + 1) count next one.ruled)
 
-  pub tick_event_ruled : (network : NetworkState) → IsRuledNetwork plan network → IsRuledNetwork plan (tick_event plan network).state
+  pub tick_event_ruled : (network : NetworkState) → IsRuledNetwork plan network → StaysRuled plan network (tick_event plan network).state
   tick_event_ruled network ruled = ticks_ruled 0 (length plan.edges) network ruled
 
   -- ---- circuits, wires and failure bits
 
-  pub circuit_event_ruled : (circuit : CircuitId) (on : Bool) (row : Option CircuitPlan) (network : NetworkState) → IsRuledNetwork plan network → IsRuledNetwork plan (circuit_event plan circuit on row network).state
-  circuit_event_ruled circuit on None network ruled = ruled
+  pub circuit_event_ruled : (circuit : CircuitId) (on : Bool) (row : Option CircuitPlan) (network : NetworkState) → IsRuledNetwork plan network → StaysRuled plan network (circuit_event plan circuit on row network).state
+  circuit_event_ruled circuit on None network ruled = stays_ruled plan network ruled
   circuit_event_ruled circuit on (Some row) network ruled = by_test (is_own begun.edge row && not (is_same on (is_on begun.edge circuit))) where
     begun : Work
     begun = begin_at network row.edge
@@ -82,12 +88,12 @@ module _ (plan : Plan) (checked : IsChecked plan) (types : HasTypes plan) where
     works : At network row.edge begun
     works = ruled_begin plan network row.edge ruled
 
-    by_test : (b : Bool) → IsRuledNetwork plan (answer row.edge 0 0 (cond b (mends plan taken_all (changes (turned plan circuit row on) begun)) (idles begun)) network).state
+    by_test : (b : Bool) → StaysRuled plan network (answer row.edge 0 0 (cond b (mends plan taken_all (changes (turned plan circuit row on) begun)) (idles begun)) network).state
     by_test true = ruled_answer plan network row.edge 0 0 (mends plan taken_all (changes (turned plan circuit row on) begun)) ruled
         (circuit_ruled plan checked types network.edges row.edge (network.edges row.edge.0) (held_at network row.edge.0) circuit row on begun works)
     by_test false = ruled_answer plan network row.edge 0 0 (idles begun) ruled (idle_ruled plan checked types network.edges row.edge (network.edges row.edge.0) (held_at network row.edge.0) begun works)
 
-  pub wire_event_ruled : (me : EdgeId) (wire : WireId) (on : Bool) (network : NetworkState) → IsRuledNetwork plan network → IsRuledNetwork plan (wire_event plan me wire on network).state
+  pub wire_event_ruled : (me : EdgeId) (wire : WireId) (on : Bool) (network : NetworkState) → IsRuledNetwork plan network → StaysRuled plan network (wire_event plan me wire on network).state
   wire_event_ruled me wire on network ruled = by_test (passes plan begun.edge.me wire && not (is_same on (begun.edge.wire_on wire.0))) where
     begun : Work
     begun = begin_at network me
@@ -95,11 +101,11 @@ module _ (plan : Plan) (checked : IsChecked plan) (types : HasTypes plan) where
     works : At network me begun
     works = ruled_begin plan network me ruled
 
-    by_test : (b : Bool) → IsRuledNetwork plan (answer me 0 0 (cond b (mends plan taken_all (changes (turned_wire wire on) begun)) (idles begun)) network).state
+    by_test : (b : Bool) → StaysRuled plan network (answer me 0 0 (cond b (mends plan taken_all (changes (turned_wire wire on) begun)) (idles begun)) network).state
     by_test true = ruled_answer plan network me 0 0 (mends plan taken_all (changes (turned_wire wire on) begun)) ruled (wire_ruled plan checked types network.edges me (network.edges me.0) (held_at network me.0) wire on begun works)
     by_test false = ruled_answer plan network me 0 0 (idles begun) ruled (idle_ruled plan checked types network.edges me (network.edges me.0) (held_at network me.0) begun works)
 
-  pub status_event_ruled : (me : EdgeId) (wire : WireId) (bits : ℕ) (network : NetworkState) → bits ≤ 31 → IsRuledNetwork plan network → IsRuledNetwork plan (status_event plan me wire bits network).state
+  pub status_event_ruled : (me : EdgeId) (wire : WireId) (bits : ℕ) (network : NetworkState) → bits ≤ 31 → IsRuledNetwork plan network → StaysRuled plan network (status_event plan me wire bits network).state
   status_event_ruled me wire bits network low ruled = by_test (ends_here plan begun.edge.me wire && not (nat_eq bits (begun.edge.bits wire.0))) where
     begun : Work
     begun = begin_at network me
@@ -107,7 +113,7 @@ module _ (plan : Plan) (checked : IsChecked plan) (types : HasTypes plan) where
     works : At network me begun
     works = ruled_begin plan network me ruled
 
-    by_test : (b : Bool) → IsRuledNetwork plan (answer me 0 0 (cond b (mends plan taken_all (changes (with_bits wire bits) begun)) (idles begun)) network).state
+    by_test : (b : Bool) → StaysRuled plan network (answer me 0 0 (cond b (mends plan taken_all (changes (with_bits wire bits) begun)) (idles begun)) network).state
     by_test true = ruled_answer plan network me 0 0 (mends plan taken_all (changes (with_bits wire bits) begun)) ruled (status_ruled plan checked types network.edges me (network.edges me.0) (held_at network me.0) wire bits begun low works)
     by_test false = ruled_answer plan network me 0 0 (idles begun) ruled (idle_ruled plan checked types network.edges me (network.edges me.0) (held_at network me.0) begun works)
 
@@ -121,11 +127,16 @@ module _ (plan : Plan) (checked : IsChecked plan) (types : HasTypes plan) where
   unfolding with_frame
   frame_work_ruled network me work works = works
 
-  entering_ruled : (network : NetworkState) (circuit : CircuitId) (octets : List ℕ) (row : CircuitPlan) (work : Work) → IsRuledNetwork plan network → At network row.edge work → IsRuledNetwork plan (entering network circuit octets row work).state
-  entering_ruled network circuit octets row work ruled works = ruled_work plan (with_frame network) row.edge (next_origin network) 0 work (frame_ruled network ruled) (frame_work_ruled network row.edge work works)
+  framed : (network after : NetworkState) → StaysRuled plan (with_frame network) after → StaysRuled plan network after
+  unfolding with_frame
+  framed network after stays = record { ruled = stays.ruled; keeps = stays.keeps }
 
-  pub frame_event_ruled : (circuit : CircuitId) (octets : List ℕ) (row : Option CircuitPlan) (network : NetworkState) → IsRuledNetwork plan network → IsRuledNetwork plan (frame_event plan circuit octets row network).state
-  frame_event_ruled circuit octets None network ruled = ruled
+  entering_ruled : (network : NetworkState) (circuit : CircuitId) (octets : List ℕ) (row : CircuitPlan) (work : Work) → IsRuledNetwork plan network → At network row.edge work → StaysRuled plan network (entering network circuit octets row work).state
+  unfolding with_frame
+  entering_ruled network circuit octets row work ruled works = framed network _ (ruled_work plan (with_frame network) row.edge (next_origin network) 0 work (frame_ruled network ruled) (frame_work_ruled network row.edge work works))
+
+  pub frame_event_ruled : (circuit : CircuitId) (octets : List ℕ) (row : Option CircuitPlan) (network : NetworkState) → IsRuledNetwork plan network → StaysRuled plan network (frame_event plan circuit octets row network).state
+  frame_event_ruled circuit octets None network ruled = stays_ruled plan network ruled
   frame_event_ruled circuit octets (Some row) network ruled = by_test (is_own begun.edge row && is_on begun.edge circuit) where
     begun : Work
     begun = begin_at network row.edge
@@ -134,15 +145,46 @@ module _ (plan : Plan) (checked : IsChecked plan) (types : HasTypes plan) where
     works = ruled_begin plan network row.edge ruled
 
     full : Work
-    full = received plan taken_all row.service (port_at plan begun.edge circuit row) (inner_at plan circuit octets) begun
+    full = received plan taken_all (arrival.Circuit circuit) row.service (port_at plan begun.edge circuit row) (inner_at plan circuit octets) begun
 
-    either : (b : Bool) (work : Work) → At network row.edge work → IsRuledNetwork plan (cond b (idle network) (entering network circuit octets row work)).state
-    either true work w = ruled
+    either : (b : Bool) (work : Work) → At network row.edge work → StaysRuled plan network (cond b (idle network) (entering network circuit octets row work)).state
+    either true work w = stays_ruled plan network ruled
     either false work w = entering_ruled network circuit octets row work ruled w
 
-    by_test : (b : Bool) → IsRuledNetwork plan (cond (cond b full (idles begun)).idle (idle network) (entering network circuit octets row (cond b full (idles begun)))).state
-    by_test true = either full.idle full (received_ruled plan checked types network.edges row.edge (network.edges row.edge.0) (held_at network row.edge.0) taken_all row.service (port_at plan begun.edge circuit row) (inner_at plan circuit octets) begun works)
+    by_test : (b : Bool) → StaysRuled plan network (cond (cond b full (idles begun)).idle (idle network) (entering network circuit octets row (cond b full (idles begun)))).state
+    by_test true = either full.idle full (received_ruled plan checked types network.edges row.edge (network.edges row.edge.0) (held_at network row.edge.0) taken_all (arrival.Circuit circuit) row.service (port_at plan begun.edge circuit row) (inner_at plan circuit octets) begun works)
     by_test false = either (idles begun).idle (idles begun) (idle_ruled plan checked types network.edges row.edge (network.edges row.edge.0) (held_at network row.edge.0) begun works)
+
+  -- ---- packets
+
+  arrived_ruled : (number : ℕ) (network : NetworkState) → IsRuledNetwork plan network → StaysRuled plan network (without_packet number network)
+  unfolding without_packet
+  arrived_ruled number network ruled = record { ruled = record { edges = ruled.edges; two = λ a b apart. ruled.two a b apart }; keeps = λ k. names_same (network.edges k) }
+
+  arrived_work_ruled : (number : ℕ) (network : NetworkState) (me : EdgeId) (work : Work) → At network me work → At (without_packet number network) me work
+  unfolding without_packet
+  arrived_work_ruled number network me work works = works
+
+  repeated_ruled : (packet : Packet) (network : NetworkState) → IsRuledNetwork plan network → StaysRuled plan network (repeating packet network).state
+  unfolding with_packet
+  repeated_ruled packet network ruled = record { ruled = record { edges = ruled.edges; two = λ a b apart. ruled.two a b apart }; keeps = λ k. names_same (network.edges k) }
+
+  pub arrive_event_ruled : (packet : Option Packet) (network : NetworkState) → IsRuledNetwork plan network → StaysRuled plan network (arrive_event plan packet network).state
+  arrive_event_ruled None network ruled = stays_ruled plan network ruled
+  arrive_event_ruled (Some packet) network ruled =
+      let gone : StaysRuled plan network (without_packet packet.number network) = arrived_ruled packet.number network ruled in
+      stays_then plan network (without_packet packet.number network) (arrive_event plan (Some packet) network).state gone
+      (ruled_work plan (without_packet packet.number network) packet.to packet.origin packet.hops (packet_work plan network packet) gone.ruled
+      (arrived_work_ruled packet.number network packet.to (packet_work plan network packet)
+      (packet_ruled plan checked types network.edges packet.to (network.edges packet.to.0) (held_at network packet.to.0) taken_all packet.bytes (begin_at network packet.to) (ruled_begin plan network packet.to ruled))))
+
+  pub discard_event_ruled : (packet : Option Packet) (network : NetworkState) → IsRuledNetwork plan network → StaysRuled plan network (discard_event packet network).state
+  discard_event_ruled None network ruled = stays_ruled plan network ruled
+  discard_event_ruled (Some packet) network ruled = arrived_ruled packet.number network ruled
+
+  pub again_event_ruled : (packet : Option Packet) (network : NetworkState) → IsRuledNetwork plan network → StaysRuled plan network (again_event packet network).state
+  again_event_ruled None network ruled = stays_ruled plan network ruled
+  again_event_ruled (Some packet) network ruled = repeated_ruled packet network ruled
 
   -- ---- an edge restarts
 
@@ -178,9 +220,13 @@ module _ (plan : Plan) (checked : IsChecked plan) (types : HasTypes plan) where
   restart_others : (me : EdgeId) (network : NetworkState) → IsRuledNetwork plan network → HoldsBut (FromBoth (OutRules plan)) me.0 (without_octets_to me network)
   restart_others me network ruled a b apart away gone = rw (same_edges me network, away_from me network a b gone, away_from me network b a away) (ruled.two a b apart)
 
-  pub restart_event_ruled : (me : EdgeId) (network : NetworkState) → IsRuledNetwork plan network → IsRuledNetwork plan (restart_event me network).state
+  emptied : (me : EdgeId) (network after : NetworkState) → StaysRuled plan (without_octets_to me network) after → StaysRuled plan network after
+  unfolding without_octets_to
+  emptied me network after stays = record { ruled = stays.ruled; keeps = stays.keeps }
+
+  pub restart_event_ruled : (me : EdgeId) (network : NetworkState) → IsRuledNetwork plan network → StaysRuled plan network (restart_event me network).state
   restart_event_ruled me network ruled =
-      ruled_settle plan (without_octets_to me network) me 0 0 (network.edges me.0) (λ place. None) (restart_input (begin_at network me)) (restart_others me network ruled)
+      emptied me network _ (ruled_settle plan (without_octets_to me network) me 0 0 (network.edges me.0) (λ place. None) (restart_input (begin_at network me)) (restart_others me network ruled)
       (λ a away. subst (λ (f : ℕ → EdgeState). IsRuledEdge plan a (f a)) (sym (same_edges me network)) (ruled.edges a))
       (ruled.edges me.0).place
       (subst (λ (f : ℕ → EdgeState). WorksRuled plan f me.0 (network.edges me.0) (λ place. None) (restart_input (begin_at network me))) (sym (same_edges me network)) (restart_work_ruled me network ruled))
@@ -189,3 +235,4 @@ module _ (plan : Plan) (checked : IsChecked plan) (types : HasTypes plan) where
       (λ place away. subst (λ (f : ℕ → EdgeState). RulesTo plan place me.0 (f place) (network.edges me.0) ([] ++ (without_octets_to me network).pipes place me.0)) (sym (same_edges me network))
       (subst (λ (l : List ℕ). RulesTo plan place me.0 (network.edges place) (network.edges me.0) ([] ++ l)) (sym (none_left me network place))
       (record { messages = []; octets = refl; ruled = tt; bound = (ruled.two me.0 place (apart_turned place me.0 away)).1.bound })))
+      (subst (λ (f : ℕ → EdgeState). KeepsNames (f me.0) (network.edges me.0)) (sym (same_edges me network)) (names_same (network.edges me.0))))

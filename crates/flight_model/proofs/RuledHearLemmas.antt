@@ -45,7 +45,7 @@ use Rattle.flight_model.proofs.RuledLemmas.{ChangesEnds, FitsIf, IsFitEnd, IsRul
 use Rattle.flight_model.proofs.RuledMendLemmas.{rows_ruled}
 use Rattle.flight_model.proofs.RuledSessionLemmas.{event_ruled, says_ruled}
 use Rattle.flight_model.proofs.SaidLemmas.{ready}
-use Rattle.flight_model.proofs.ToldLemmas.{NamesStatus, TellsAt, far_status, far_unless, local_tells, near_released, release_of_withdrawal_tells, remote_tells}
+use Rattle.flight_model.proofs.ToldLemmas.{NamesStatus, TellsAt, far_status, far_unless, label_status, label_unless, local_tells, near_released, release_of_withdrawal_tells, remote_tells}
 
 -- the messages that are still to be heard of a neighbour are ruled by how the edge began
 pub record IsHearing (plan : Plan) (others : ℕ → EdgeState) (me peer : ℕ) (first : EdgeState) (held : ℕ → Option (List ℕ)) (messages : List Message) (work : Work) : Type 0 where
@@ -61,6 +61,7 @@ rows_hearing plan others me peer first held messages rows = record {
   withdraws = λ place label content work end_is at wished hears. record { works = rows.withdraws place label content work end_is at wished hears.works; to_hear = hears.to_hear };
   tells = λ place label content last work end_is at told other hears. record { works = rows.tells place label content last work end_is at told other hears.works; to_hear = hears.to_hear };
   tells_down = λ place down work end_is hears. record { works = rows.tells_down place down work end_is hears.works; to_hear = hears.to_hear };
+  others = λ change work keeps peering hears. record { works = rows.others change work keeps peering hears.works; to_hear = hears.to_hear };
 }
 
 -- ---- the end that a FEC names
@@ -129,7 +130,8 @@ module _ (plan : Plan) (checked : IsChecked plan) (types : HasTypes plan) (other
   unbound_changes : (label : Option ℕ) (place : Option EndPlace) (work : Work) → At work → ChangesEnds plan others me.0 work.edge (with_end_changed (unbound label) place work.edge)
   unbound_changes label None work works = same_changes work works
   unbound_changes label (Some place) work works = end_changes place (unbound label (end_at work.edge place)) work (λ l owned. owned)
-      (remote_tells plan me.0 place.wire.0 place.peer.0 (end_at work.edge place) (unless_named label (end_at work.edge place).remote) (λ row is joined far. far_unless plan row place.peer.0 me.0 label (end_at work.edge place).remote far) (works.edge.tells place.wire.0 place.peer.0))
+      (remote_tells plan me.0 place.wire.0 place.peer.0 (end_at work.edge place) (unless_named label (end_at work.edge place).remote) (λ row is joined far. far_unless plan row place.peer.0 me.0 label (end_at work.edge place).remote far)
+      (label_unless label (end_at work.edge place).remote (works.edge.tells place.wire.0 place.peer.0).label) (works.edge.tells place.wire.0 place.peer.0))
       (λ gone. binds_unless (others place.peer.0) place.wire.0 me.0 label (end_at work.edge place).remote ((works.left place.peer.0 gone).bound place.wire.0)) works
 
   -- a FEC without parameters names a PW ID
@@ -186,7 +188,7 @@ module _ (plan : Plan) (checked : IsChecked plan) (types : HasTypes plan) (other
       (remote_tells plan me.0 near.place.wire.0 near.place.peer.0 (end_at work.edge near.place) (Some binding)
       (λ row is joined held_before. subst (λ (k : EdgeId). TellsExpected plan row k.0 me.0 binding.told) (sym near.peer_is)
       (subst (λ (r : WirePlan). TellsExpected plan r peer.0 me.0 binding.told) (row_of tells.wire near.place.wire tells.row row near.wire_is tells.is is) tells.tells))
-      (works.edge.tells near.place.wire.0 near.place.peer.0))
+      ruled.ready.fits.2 (works.edge.tells near.place.wire.0 near.place.peer.0))
       (λ gone. given) works) works)
 
   -- ---- statuses
@@ -203,7 +205,7 @@ module _ (plan : Plan) (checked : IsChecked plan) (types : HasTypes plan) (other
       (λ row is joined tells. far_status plan row near.place.peer.0 me.0 status (end_at work.edge near.place).remote
       (subst (λ (k : EdgeId). (expected plan row k.0 me.0).offer.status ≡ true) (sym near.peer_is)
       (subst (λ (r : WirePlan). (expected plan r peer.0 me.0).offer.status ≡ true) (row_of names.wire near.place.wire names.row row near.wire_is names.is is) names.carries)) tells)
-      (works.edge.tells near.place.wire.0 near.place.peer.0))
+      (label_status status (end_at work.edge near.place).remote (works.edge.tells near.place.wire.0 near.place.peer.0).label) (works.edge.tells near.place.wire.0 near.place.peer.0))
       (λ gone. binds_status (others near.place.peer.0) near.place.wire.0 me.0 status (end_at work.edge near.place).remote ((works.left near.place.peer.0 gone).bound near.place.wire.0)) works)) works)
 
   status_heard : (id : ℕ) (code : StatusCode) (status : Option PwStatus) (fec : Option PwFec) (work : Work) → Ruled (Notification id code status fec) → At work → At (hears_status plan peer code status fec work)

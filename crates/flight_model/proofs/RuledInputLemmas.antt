@@ -1,37 +1,35 @@
 -- Each input of an edge keeps the rules of labels and of told contents.
-use Rattle.std.proofs.Common.{◌≡◌, ◌≤◌, ◌+◌, ℕ, zero, suc, Bool, true, false, cond, nat_eq, length, List, [], ◌∷◌, Option, Some, None, Result, Ok, Err, refl, subst}
+use Rattle.std.proofs.Common.{◌≡◌, ◌≤◌, ◌+◌, ℕ, zero, suc, Bool, true, false, cond, nat_eq, length, List, Option, Result, refl, subst}
 use Rattle.net_base.specs.declared.plan.Plan.{Plan}
 use Rattle.net_base.specs.declared.plan.circuit_plan.CircuitPlan.{CircuitPlan}
 use Rattle.net_base.specs.declared.plan.places.CircuitId.{CircuitId}
 use Rattle.net_base.specs.declared.plan.places.EdgeId.{EdgeId}
 use Rattle.net_base.specs.declared.plan.places.ServiceId.{ServiceId}
 use Rattle.net_base.specs.declared.plan.places.WireId.{WireId}
+use Rattle.net_base.specs.declared.trace.arrival.Arrival.{Arrival}
 use Rattle.net_base.specs.declared.trace.drop_cause.DropCause.{DropCause}
 use Rattle.net_base.specs.declared.trace.state_name.Reason.TheVariants as reason
 use Rattle.net_base.specs.plan.Accepted.{IsChecked}
-use Rattle.net_base.specs.values.Frame.{dress}
-use Rattle.hvpls_spokes.specs.declared.port.Port.{Port}
-use Rattle.hvpls_spokes.specs.declared.port.Port.TheVariants as port
-use Rattle.hvpls_spokes.specs.Port.{ports_of}
 use Rattle.pw_signalling.specs.Rows.{renew_part}
 use Rattle.session_core.specs.Table as table
 use Rattle.edge_model.specs.Circuit.{turned}
-use Rattle.edge_model.specs.declared.effect.Effect.TheVariants as effect
-use Rattle.edge_model.specs.Frame.{copies, copy_by, forwarded, hearing, received, tag_of, targets_of}
+use Rattle.edge_model.specs.Frame.{received}
 use Rattle.edge_model.specs.Mend.{mends}
+use Rattle.edge_model.specs.Packet.{packet_input}
 use Rattle.edge_model.specs.Session.{happens_with_ends}
 use Rattle.edge_model.specs.State.{EdgeState, with_addresses, with_bits, with_circuit, with_learned, with_renewed, with_ticks, with_wire}
 use Rattle.edge_model.specs.Tick.{counted, forgetting, ticks_sessions}
 use Rattle.edge_model.specs.Wire.{turned_wire}
-use Rattle.edge_model.specs.Work.{Work, Answers, changes, gives, idles}
+use Rattle.edge_model.specs.Work.{Work, Answers, changes, idles}
 use Rattle.network_model.specs.Absorb.{taken_all}
 use Rattle.flight_model.specs.Ends.{HasTypes}
 use Rattle.flight_model.specs.Rules.{BindsGiven}
+use Rattle.flight_model.proofs.BridgeLemmas.{IsBridged, packet_bridged, received_bridged}
 use Rattle.flight_model.proofs.MendingLemmas.{mends_keep}
 use Rattle.flight_model.proofs.NameLemmas.{names_renewed, names_still, renewed_fact}
 use Rattle.flight_model.proofs.RuledLemmas.{ChangesEnds, IsQuietStep, SameEnds, WorksRuled, changes_keep, quiet_keeps}
 use Rattle.flight_model.proofs.RuledMendLemmas.{rows_ruled}
-use Rattle.flight_model.proofs.RuledSessionLemmas.{SaysNothing, event_ruled, gives_quiet}
+use Rattle.flight_model.proofs.RuledSessionLemmas.{event_ruled}
 use Rattle.flight_model.proofs.ToldLemmas.{TellsAt, local_tells, near_renewed}
 
 -- ---- what is no matter of labels
@@ -58,10 +56,6 @@ unfolding with_circuit with_addresses
 turned_leaves plan circuit row true edge = record { same = record { me = refl; ends = refl; bits = refl; next = refl }; peering = refl }
 turned_leaves plan circuit row false edge = record { same = record { me = refl; ends = refl; bits = refl; next = refl }; peering = refl }
 
-hearing_leaves : (service : ServiceId) (frame : List ℕ) (arrival : ℕ) (edge : EdgeState) → LeavesEnds edge (hearing service frame arrival edge)
-unfolding with_addresses
-hearing_leaves service frame arrival edge = record { same = record { me = refl; ends = refl; bits = refl; next = refl }; peering = refl }
-
 counted_leaves : (edge : EdgeState) → LeavesEnds edge (counted edge)
 unfolding with_ticks
 counted_leaves edge = record { same = record { me = refl; ends = refl; bits = refl; next = refl }; peering = refl }
@@ -74,11 +68,13 @@ wire_leaves : (wire : WireId) (on : Bool) (edge : EdgeState) → LeavesEnds edge
 unfolding with_wire
 wire_leaves wire on edge = record { same = record { me = refl; ends = refl; bits = refl; next = refl }; peering = refl }
 
-left_nothing : (circuit : CircuitId) (octets : List ℕ) → SaysNothing (effect.Left circuit octets)
-left_nothing circuit octets = record { says = λ place. refl; closes = λ place. refl }
-
-dropped_nothing : (cause : DropCause) → SaysNothing (effect.Dropped cause)
-dropped_nothing cause = record { says = λ place. refl; closes = λ place. refl }
+bridged_quiet : (old new : Work) → IsBridged old new → IsQuietStep old new
+bridged_quiet old new bridged = record {
+  same = record { me = bridged.keeps.me; ends = bridged.keeps.ends; bits = bridged.keeps.bits; next = bridged.keeps.next_label };
+  peering = bridged.peering;
+  said = bridged.said;
+  closed = bridged.closed;
+}
 
 module _ (plan : Plan) (checked : IsChecked plan) (types : HasTypes plan) (others : ℕ → EdgeState) (me : EdgeId) (first : EdgeState) (held : ℕ → Option (List ℕ)) where
   leaves_keep : (change : EdgeState → EdgeState) (work : Work) → LeavesEnds work.edge (change work.edge) → WorksRuled plan others me.0 first held work → WorksRuled plan others me.0 first held (changes change work)
@@ -158,28 +154,14 @@ module _ (plan : Plan) (checked : IsChecked plan) (types : HasTypes plan) (other
   pub status_ruled : (wire : WireId) (bits : ℕ) (work : Work) → bits ≤ 31 → WorksRuled plan others me.0 first held work → WorksRuled plan others me.0 first held (mends plan taken_all (changes (with_bits wire bits) work))
   status_ruled wire bits work low works = mends_ruled (changes (with_bits wire bits) work) (changes_keep plan others me.0 first held (with_bits wire bits) work (bits_changes wire bits work low works) works)
 
-  -- ---- frames
+  -- ---- frames and packets
 
-  copy_ruled : (told : Answers) (frame : List ℕ) (x : Port) (b : Bool) (work : Work) → WorksRuled plan others me.0 first held work → WorksRuled plan others me.0 first held (cond b (copy_by plan told frame x work) work)
-  copy_ruled told frame x false work works = works
-  copy_ruled told frame (port.Circuit circuit) true work works =
-      quiet_keeps plan others me.0 first held work (gives (effect.Left circuit (dress (tag_of plan circuit) frame)) work) (gives_quiet (effect.Left circuit (dress (tag_of plan circuit) frame)) work (left_nothing circuit (dress (tag_of plan circuit) frame))) works
-  copy_ruled told frame (port.Mesh wire) true work works = works
-  copy_ruled told frame (port.Spoke wire) true work works = works
+  bridged_ruled : (old new : Work) → IsBridged old new → WorksRuled plan others me.0 first held old → WorksRuled plan others me.0 first held new
+  bridged_ruled old new bridged works = quiet_keeps plan others me.0 first held old new (bridged_quiet old new bridged) works
 
-  copies_ruled : (told : Answers) (frame : List ℕ) (targets : ℕ → Bool) (p : ℕ) (ports : List Port) (work : Work) → WorksRuled plan others me.0 first held work → WorksRuled plan others me.0 first held (copies targets (copy_by plan told frame) p ports work)
-  copies_ruled told frame targets p [] work works = works
-  copies_ruled told frame targets p (x ∷ ports) work works =
-      copies_ruled told frame targets (p + 1) ports (cond (targets p) (copy_by plan told frame x work) work) (copy_ruled told frame x (targets p) work works)
+  pub received_ruled : (told : Answers) (came : Arrival) (service : ServiceId) (arrival : Option ℕ) (read : Result (List ℕ) DropCause) (work : Work) → WorksRuled plan others me.0 first held work
+      → WorksRuled plan others me.0 first held (received plan told came service arrival read work)
+  received_ruled told came service arrival read work works = bridged_ruled work _ (received_bridged plan told came service arrival read work) works
 
-  forwarded_ruled : (told : Answers) (service : ServiceId) (frame : List ℕ) (arrival : Option ℕ) (work : Work) → WorksRuled plan others me.0 first held work → WorksRuled plan others me.0 first held (forwarded plan told service frame arrival work)
-  forwarded_ruled told service frame None work works = works
-  forwarded_ruled told service frame (Some arrival) work works =
-      let heard : Work = changes (hearing service frame arrival) work in
-      let ports : List Port = ports_of plan service heard.edge.me in
-      copies_ruled told frame (targets_of plan heard.edge service ports frame arrival) 0 ports heard (leaves_keep (hearing service frame arrival) work (hearing_leaves service frame arrival work.edge) works)
-
-  pub received_ruled : (told : Answers) (service : ServiceId) (arrival : Option ℕ) (read : Result (List ℕ) DropCause) (work : Work) → WorksRuled plan others me.0 first held work
-      → WorksRuled plan others me.0 first held (received plan told service arrival read work)
-  received_ruled told service arrival (Ok frame) work works = forwarded_ruled told service frame arrival work works
-  received_ruled told service arrival (Err cause) work works = quiet_keeps plan others me.0 first held work (gives (effect.Dropped cause) work) (gives_quiet (effect.Dropped cause) work (dropped_nothing cause)) works
+  pub packet_ruled : (told : Answers) (octets : List ℕ) (work : Work) → WorksRuled plan others me.0 first held work → WorksRuled plan others me.0 first held (packet_input plan told octets work)
+  packet_ruled told octets work works = bridged_ruled work _ (packet_bridged plan told octets work) works

@@ -31,6 +31,7 @@ use Rattle.network_model.specs.Absorb.{taken_all}
 use Rattle.flight_model.specs.Ends.{AreFieldOffers, HasTypes, IsFieldOffer, ends_at}
 use Rattle.flight_model.specs.Rules.{BindsGiven, MayName, NearTells, TellsExpected, owns}
 use Rattle.flight_model.specs.Sound.{CanBeTold}
+use Rattle.flight_model.proofs.KeepLemmas.{KeepsEnds}
 use Rattle.flight_model.proofs.MendingLemmas.{KeptByRows}
 use Rattle.flight_model.proofs.MentionLemmas.{mapping_far, mapping_names, status_far, status_own, withdrawal_far, withdrawal_names}
 use Rattle.flight_model.proofs.NameLemmas.{end_fact, is_same, names_advertising, names_new, names_telling, names_withdrawing, split}
@@ -315,6 +316,15 @@ module _ (plan : Plan) (checked : IsChecked plan) (types : HasTypes plan) (other
       (gives_quiet (Wire wire down) (changes (with_told_down wire down) work) (wire_nothing wire down))
       (quiet_keeps plan others me.0 first held work (changes (with_told_down wire down) work) (down_quiet wire down work) works)
 
+  change_quiet : (change : EdgeState → EdgeState) (work : Work) → KeepsEnds work.edge (change work.edge) → (change work.edge).peering ≡ work.edge.peering → IsQuietStep work (changes change work)
+  unfolding changes
+  change_quiet change work keeps peering = record {
+    same = record { me = keeps.me; ends = keeps.ends; bits = keeps.bits; next = keeps.next_label };
+    peering = peering;
+    said = λ place. refl;
+    closed = λ place. refl;
+  }
+
   pub rows_ruled : KeptByRows plan me (WorksRuled plan others me.0 first held)
   rows_ruled = record {
     placed = λ work works. works.edge.place;
@@ -322,4 +332,5 @@ module _ (plan : Plan) (checked : IsChecked plan) (types : HasTypes plan) (other
     withdraws = λ place label content work end_is at wished works. withdraws_ruled place label content work end_is at works;
     tells = λ place label content last work end_is at told other works. tells_ruled place label content last (status_to_tell plan work.edge place) work end_is at told (status_small plan work.edge place (works.edge.bits place.wire.0)) works;
     tells_down = λ place down work end_is works. downs_ruled place.wire down work works;
+    others = λ change work keeps peering works. quiet_keeps plan others me.0 first held work (changes change work) (change_quiet change work keeps peering) works;
   }

@@ -15,7 +15,7 @@ use Rattle.flight_model.specs.Meeting.{closes, said_to}
 use Rattle.flight_model.specs.Messages.{octets_of_all}
 use Rattle.flight_model.specs.Rules.{AllMessages, BindsGiven}
 use Rattle.flight_model.proofs.MentionLemmas.{all_kept, all_more, binds_kept, far_kept}
-use Rattle.flight_model.proofs.NameLemmas.{KeepsNames, names_same, split}
+use Rattle.flight_model.proofs.NameLemmas.{KeepsNames, names_same, names_then, split}
 use Rattle.flight_model.proofs.PipeLemmas.{all_edges}
 use Rattle.flight_model.proofs.RuledLemmas.{IsRuled, IsRuledEdge, IsRuledFor, WorksRuled, holds_of, ruled_kept}
 use Rattle.flight_model.proofs.SaidLemmas.{all_joined}
@@ -36,6 +36,17 @@ OutRules plan a b one other out back = RulesTo plan a b one other out
 pub record IsRuledNetwork (plan : Plan) (network : NetworkState) : Type 0 where
   pub edges : (a : ℕ) → IsRuledEdge plan a (network.edges a)
   pub two : HoldsOfTwo (FromBoth (OutRules plan)) network
+
+-- the rules hold after an event, and whatever label may be named with an end of an edge may be so still
+pub record StaysRuled (plan : Plan) (old new : NetworkState) : Type 0 where
+  pub ruled : IsRuledNetwork plan new
+  pub keeps : (k : ℕ) → KeepsNames (old.edges k) (new.edges k)
+
+pub stays_ruled : (plan : Plan) (network : NetworkState) → IsRuledNetwork plan network → StaysRuled plan network network
+stays_ruled plan network ruled = record { ruled = ruled; keeps = λ k. names_same (network.edges k) }
+
+pub stays_then : (plan : Plan) (a b c : NetworkState) → StaysRuled plan a b → StaysRuled plan b c → StaysRuled plan a c
+stays_then plan a b c one next = record { ruled = next.ruled; keeps = λ k. names_then (a.edges k) (b.edges k) (c.edges k) (one.keeps k) (next.keeps k) }
 
 -- the sender has worked
 pub rules_from : (plan : Plan) (a b : ℕ) (old new other : EdgeState) (out : List ℕ) → new.me ≡ old.me → KeepsNames old new → RulesTo plan a b old other out → RulesTo plan a b new other out
@@ -101,13 +112,19 @@ pub ruled_settle : (plan : Plan) (network : NetworkState) (me : EdgeId) (origin 
     → ((a : ℕ) → nat_eq a me.0 ≡ false → IsRuledEdge plan a (network.edges a)) → first.me ≡ record { 0 = me.0 } → WorksRuled plan network.edges me.0 first held work
     → ((place : ℕ) → nat_eq place me.0 ≡ false → RulesTo plan me.0 place first (network.edges place) (flight network me.0 place))
     → ((place : ℕ) → nat_eq place me.0 ≡ false → RulesTo plan place me.0 (network.edges place) first (octets_held (held place) ++ network.pipes place me.0))
-    → IsRuledNetwork plan (absorb me origin hops work network).state
-ruled_settle plan network me origin hops first held work others ruled at works out back = record {
-  edges = λ a. split {P = IsRuledEdge plan a (after.edges a)} (nat_eq a me.0)
-      (λ is. subst (λ (k : ℕ). IsRuledEdge plan k (after.edges k)) (sym (eqb-true a me.0 is)) (subst (IsRuledEdge plan me.0) (sym own_edge) works.edge))
-      (λ away. subst (IsRuledEdge plan a) (sym (other_edge a away)) (ruled a away));
-  two = settle (FromBoth (OutRules plan)) network me origin hops work (both_turn (OutRules plan)) others
-      (λ place away. leaves_ruled plan me place first (network.edges place) (flight network me.0 place) (network.pipes place me.0) (held place) work (out place away) (back place away) (works.edge.place ∙ sym at) works.keeps (works.left place away));
+    → KeepsNames (network.edges me.0) first → StaysRuled plan network (absorb me origin hops work network).state
+ruled_settle plan network me origin hops first held work others ruled at works out back begun = record {
+  ruled = record {
+    edges = λ a. split {P = IsRuledEdge plan a (after.edges a)} (nat_eq a me.0)
+        (λ is. subst (λ (k : ℕ). IsRuledEdge plan k (after.edges k)) (sym (eqb-true a me.0 is)) (subst (IsRuledEdge plan me.0) (sym own_edge) works.edge))
+        (λ away. subst (IsRuledEdge plan a) (sym (other_edge a away)) (ruled a away));
+    two = settle (FromBoth (OutRules plan)) network me origin hops work (both_turn (OutRules plan)) others
+        (λ place away. leaves_ruled plan me place first (network.edges place) (flight network me.0 place) (network.pipes place me.0) (held place) work (out place away) (back place away) (works.edge.place ∙ sym at) works.keeps (works.left place away));
+  };
+  keeps = λ k. split {P = KeepsNames (network.edges k) (after.edges k)} (nat_eq k me.0)
+      (λ is. subst (λ (n : ℕ). KeepsNames (network.edges n) (after.edges n)) (sym (eqb-true k me.0 is))
+      (subst (KeepsNames (network.edges me.0)) (sym own_edge) (names_then (network.edges me.0) first work.edge begun works.keeps)))
+      (λ away. subst (KeepsNames (network.edges k)) (sym (other_edge k away)) (names_same (network.edges k)));
 }
   where
     after : NetworkState
@@ -146,15 +163,16 @@ held_again None = refl
 held_again (Some kept) = refl
 
 pub ruled_work : (plan : Plan) (network : NetworkState) (me : EdgeId) (origin hops : ℕ) (work : Work) → IsRuledNetwork plan network → WorksRuled plan network.edges me.0 (network.edges me.0) (held_at network me.0) work
-    → IsRuledNetwork plan (absorb me origin hops work network).state
+    → StaysRuled plan network (absorb me origin hops work network).state
 ruled_work plan network me origin hops work ruled works =
     ruled_settle plan network me origin hops (network.edges me.0) (held_at network me.0) work (λ a b apart away gone. ruled.two a b apart) (λ a away. ruled.edges a) (ruled.edges me.0).place works
     (λ place away. (ruled.two me.0 place (apart_turned place me.0 away)).0)
     (λ place away. subst (λ (l : List ℕ). RulesTo plan place me.0 (network.edges place) (network.edges me.0) (l ++ network.pipes place me.0)) (held_again ((network.edges me.0).peering place)) (ruled.two me.0 place (apart_turned place me.0 away)).1)
+    (names_same (network.edges me.0))
 
 pub ruled_answer : (plan : Plan) (network : NetworkState) (me : EdgeId) (origin hops : ℕ) (work : Work) → IsRuledNetwork plan network → WorksRuled plan network.edges me.0 (network.edges me.0) (held_at network me.0) work
-    → IsRuledNetwork plan (answer me origin hops work network).state
+    → StaysRuled plan network (answer me origin hops work network).state
 ruled_answer plan network me origin hops work ruled works = by_idle work.idle where
-  by_idle : (b : Bool) → IsRuledNetwork plan (cond b (idle network) (absorb me origin hops work network)).state
-  by_idle true = ruled
+  by_idle : (b : Bool) → StaysRuled plan network (cond b (idle network) (absorb me origin hops work network)).state
+  by_idle true = stays_ruled plan network ruled
   by_idle false = ruled_work plan network me origin hops work ruled works

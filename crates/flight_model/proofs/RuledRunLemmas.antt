@@ -5,12 +5,13 @@ use Rattle.std.specs.List.{All}
 use Rattle.net_base.specs.declared.plan.Plan.{Plan}
 use Rattle.net_base.specs.declared.plan.edge_plan.EdgePlan.{EdgePlan}
 use Rattle.net_base.specs.declared.trace.event.Event.{Event}
-use Rattle.net_base.specs.declared.trace.event.Event.TheVariants.{Connect, Deliver, Lose, Restart, Tick, Frame, Wire, Circuit, Status}
+use Rattle.net_base.specs.declared.trace.event.Event.TheVariants.{Connect, Deliver, Lose, Restart, Tick, Frame, Arrive, Discard, Again, Wire, Circuit, Status}
 use Rattle.net_base.specs.plan.Accepted.{IsChecked, IsEdge}
 use Rattle.net_base.specs.plan.Places.{circuit_row}
 use Rattle.net_base.specs.plan.Planned.{IsEventOf}
 use Rattle.label_space.specs.Labels.{numbers_end}
 use Rattle.edge_model.specs.State.{label_of}
+use Rattle.network_model.specs.Packet.{packet_at}
 use Rattle.network_model.specs.Run.{state_after}
 use Rattle.network_model.specs.State.{NetworkState, empty_network}
 use Rattle.network_model.specs.Step.{brings, step}
@@ -20,25 +21,32 @@ use Rattle.flight_model.specs.Rules.{NamesFar, NamesOwn, TellsPlan}
 use Rattle.flight_model.proofs.MentionLemmas.{all_kept}
 use Rattle.flight_model.proofs.PlanLemmas.{row_holds}
 use Rattle.flight_model.proofs.RuledDeliverLemmas.{connect_event_ruled, deliver_event_ruled, ruled_said}
-use Rattle.flight_model.proofs.RuledEventLemmas.{circuit_event_ruled, frame_event_ruled, lose_ruled, restart_event_ruled, status_event_ruled, tick_event_ruled, wire_event_ruled}
+use Rattle.flight_model.proofs.RuledEventLemmas.{again_event_ruled, arrive_event_ruled, circuit_event_ruled, discard_event_ruled, frame_event_ruled, lose_ruled, restart_event_ruled, status_event_ruled, tick_event_ruled, wire_event_ruled}
 use Rattle.flight_model.proofs.RuledLemmas.{IsRuled}
-use Rattle.flight_model.proofs.RuledNetworkLemmas.{IsRuledNetwork, RulesTo}
+use Rattle.flight_model.proofs.RuledNetworkLemmas.{IsRuledNetwork, RulesTo, StaysRuled, stays_ruled}
 use Rattle.flight_model.proofs.RunLemmas.{empty_ordered, run_ordered, step_keeps}
 use Rattle.flight_model.proofs.ToldLemmas.{fresh_tells, tells_plan}
 
 -- ---- events
 
+-- each event keeps the rules, and each label goes on to be named as before
+pub brings_stays : (plan : Plan) (event : Event) (network : NetworkState) → IsChecked plan → HasTypes plan → IsEventOf plan event → IsOrdered plan network → IsRuledNetwork plan network → StaysRuled plan network (brings plan event network).state
+brings_stays plan (Connect from to) network checked types planned ordered ruled = connect_event_ruled plan checked types from to network ruled
+brings_stays plan (Deliver from to count) network checked types planned ordered ruled = deliver_event_ruled plan checked types from to count network ordered ruled
+brings_stays plan (Lose me peer) network checked types planned ordered ruled = lose_ruled plan checked types me peer network ruled
+brings_stays plan (Restart me) network checked types planned ordered ruled = restart_event_ruled plan checked types me network ruled
+brings_stays plan Tick network checked types planned ordered ruled = tick_event_ruled plan checked types network ruled
+brings_stays plan (Frame circuit octets) network checked types planned ordered ruled = frame_event_ruled plan checked types circuit octets (circuit_row plan circuit) network ruled
+brings_stays plan (Circuit circuit on) network checked types planned ordered ruled = circuit_event_ruled plan checked types circuit on (circuit_row plan circuit) network ruled
+brings_stays plan (Wire me wire on) network checked types planned ordered ruled = wire_event_ruled plan checked types me wire on network ruled
+brings_stays plan (Status me wire bits) network checked types planned ordered ruled = status_event_ruled plan checked types me wire bits network planned.2 ruled
+brings_stays plan (Arrive number) network checked types planned ordered ruled = arrive_event_ruled plan checked types (packet_at network number) network ruled
+brings_stays plan (Discard number) network checked types planned ordered ruled = discard_event_ruled plan checked types (packet_at network number) network ruled
+brings_stays plan (Again number) network checked types planned ordered ruled = again_event_ruled plan checked types (packet_at network number) network ruled
+brings_stays plan event network checked types planned ordered ruled = stays_ruled plan network ruled
+
 pub brings_ruled : (plan : Plan) (event : Event) (network : NetworkState) → IsChecked plan → HasTypes plan → IsEventOf plan event → IsOrdered plan network → IsRuledNetwork plan network → IsRuledNetwork plan (brings plan event network).state
-brings_ruled plan (Connect from to) network checked types planned ordered ruled = connect_event_ruled plan checked types from to network ruled
-brings_ruled plan (Deliver from to count) network checked types planned ordered ruled = deliver_event_ruled plan checked types from to count network ordered ruled
-brings_ruled plan (Lose me peer) network checked types planned ordered ruled = lose_ruled plan checked types me peer network ruled
-brings_ruled plan (Restart me) network checked types planned ordered ruled = restart_event_ruled plan checked types me network ruled
-brings_ruled plan Tick network checked types planned ordered ruled = tick_event_ruled plan checked types network ruled
-brings_ruled plan (Frame circuit octets) network checked types planned ordered ruled = frame_event_ruled plan checked types circuit octets (circuit_row plan circuit) network ruled
-brings_ruled plan (Circuit circuit on) network checked types planned ordered ruled = circuit_event_ruled plan checked types circuit on (circuit_row plan circuit) network ruled
-brings_ruled plan (Wire me wire on) network checked types planned ordered ruled = wire_event_ruled plan checked types me wire on network ruled
-brings_ruled plan (Status me wire bits) network checked types planned ordered ruled = status_event_ruled plan checked types me wire bits network planned.2 ruled
-brings_ruled plan event network checked types planned ordered ruled = ruled
+brings_ruled plan event network checked types planned ordered ruled = (brings_stays plan event network checked types planned ordered ruled).ruled
 
 -- ---- runs
 

@@ -231,4 +231,6 @@ module _ (plan : Plan) (me : EdgeId) (checked : IsChecked plan) (types : HasType
     withdraws = λ place label content work is at wished i. steady_withdraws place label content work is at i;
     tells = λ place label content last work is at told other i. steady_tells place label content work is at i;
     tells_down = λ place down work is i. steady_tells_down place down work i;
+    others = λ change work keeps peering i.
+        steady.changes change work peering keeps.me (sound_same work.edge (change work.edge) keeps.next_label keeps.bits peering keeps.ends (steady.sound work i)) i;
   }

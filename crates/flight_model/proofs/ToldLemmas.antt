@@ -10,6 +10,7 @@ use Rattle.net_base.specs.plan.Places.{wire_row}
 use Rattle.pw_tlvs.specs.declared.point.Point.{Point}
 use Rattle.pw_tlvs.specs.declared.pw_fec.PwFec.{PwFec}
 use Rattle.pw_tlvs.specs.declared.pw_status.PwStatus.{PwStatus}
+use Rattle.net_base.specs.values.Label.{IsLabel}
 use Rattle.ldp_grammar.specs.declared.message.Message.{Message}
 use Rattle.ldp_grammar.specs.declared.message.Message.TheVariants.{Notification, LabelMapping, LabelWithdraw, LabelRelease}
 use Rattle.pw_signalling.specs.declared.binding.Binding.{Binding}
@@ -137,27 +138,33 @@ release_of_withdrawal_tells plan from to id fec label names = record {
 
 -- ---- the ends of an edge
 
--- what one end tells and holds, where its wire joins the two edges
+-- a label that is held is one
+abbrev pub HoldsLabel : Option Binding → Type 0
+HoldsLabel None = Unit {0}
+HoldsLabel (Some binding) = IsLabel binding.label
+
+-- what one end tells and holds, where its wire joins the two edges, and a label that can be told
 pub record TellsAt (plan : Plan) (me wire peer : ℕ) (end : EndState) : Type 0 where
   pub near : (row : WirePlan) → wire_row plan (record { 0 = wire }) ≡ Some row → joins me peer row.path ≡ true → NearTells plan row me peer end.local
   pub far : (row : WirePlan) → wire_row plan (record { 0 = wire }) ≡ Some row → joins peer me row.path ≡ true → FarTells plan row peer me end.remote
+  pub label : HoldsLabel end.remote
 
 -- each end of an edge
 abbrev pub TellsOwn : Plan → ℕ → EdgeState → Type 0
 TellsOwn plan me edge = (wire peer : ℕ) → TellsAt plan me wire peer (edge.ends wire peer)
 
 pub fresh_tells : (plan : Plan) (me wire peer : ℕ) → TellsAt plan me wire peer Rattle.pw_signalling.specs.End.fresh
-fresh_tells plan me wire peer = record { near = λ row is joined. tt; far = λ row is joined. tt }
+fresh_tells plan me wire peer = record { near = λ row is joined. tt; far = λ row is joined. tt; label = tt }
 
 -- another local part
 pub local_tells : (plan : Plan) (me wire peer : ℕ) (end : EndState) (local : LocalPart) → ((row : WirePlan) → wire_row plan (record { 0 = wire }) ≡ Some row → joins me peer row.path ≡ true → NearTells plan row me peer end.local → NearTells plan row me peer local)
     → TellsAt plan me wire peer end → TellsAt plan me wire peer (record { local = local; remote = end.remote })
-local_tells plan me wire peer end local keeps tells = record { near = λ row is joined. keeps row is joined (tells.near row is joined); far = λ row is joined. tells.far row is joined }
+local_tells plan me wire peer end local keeps tells = record { near = λ row is joined. keeps row is joined (tells.near row is joined); far = λ row is joined. tells.far row is joined; label = tells.label }
 
 -- another remote part
 pub remote_tells : (plan : Plan) (me wire peer : ℕ) (end : EndState) (remote : Option Binding) → ((row : WirePlan) → wire_row plan (record { 0 = wire }) ≡ Some row → joins peer me row.path ≡ true → FarTells plan row peer me end.remote → FarTells plan row peer me remote)
-    → TellsAt plan me wire peer end → TellsAt plan me wire peer (record { local = end.local; remote = remote })
-remote_tells plan me wire peer end remote keeps tells = record { near = λ row is joined. tells.near row is joined; far = λ row is joined. keeps row is joined (tells.far row is joined) }
+    → HoldsLabel remote → TellsAt plan me wire peer end → TellsAt plan me wire peer (record { local = end.local; remote = remote })
+remote_tells plan me wire peer end remote keeps label tells = record { near = λ row is joined. tells.near row is joined; far = λ row is joined. keeps row is joined (tells.far row is joined); label = label }
 
 pub near_withdrawn : (plan : Plan) (row : WirePlan) (from to : ℕ) (local : LocalPart) → NearTells plan row from to local → NearTells plan row from to (withdraw_part local)
 near_withdrawn plan row from to (Idle declined) tells = tt
@@ -187,6 +194,14 @@ near_told plan row from to status (Withdrawing own) carries tells = tt
 pub far_unless : (plan : Plan) (row : WirePlan) (from to : ℕ) (label : Option ℕ) (held : Option Binding) → FarTells plan row from to held → FarTells plan row from to (unless_named label held)
 far_unless plan row from to label None tells = tt
 far_unless plan row from to label (Some binding) tells = split {P = FarTells plan row from to (unless_named label (Some binding))} (names label binding.label) (λ b. rw b tt) (λ b. rw b tells)
+
+pub label_unless : (label : Option ℕ) (held : Option Binding) → HoldsLabel held → HoldsLabel (unless_named label held)
+label_unless label None holds = tt
+label_unless label (Some binding) holds = split {P = HoldsLabel (unless_named label (Some binding))} (names label binding.label) (λ b. rw b tt) (λ b. rw b holds)
+
+pub label_status : (status : PwStatus) (held : Option Binding) → HoldsLabel held → HoldsLabel (status_part status held)
+label_status status None holds = tt
+label_status status (Some binding) holds = holds
 
 pub far_status : (plan : Plan) (row : WirePlan) (from to : ℕ) (status : PwStatus) (held : Option Binding) → (expected plan row from to).offer.status ≡ true → FarTells plan row from to held → FarTells plan row from to (status_part status held)
 far_status plan row from to status None carries tells = tt

@@ -14,7 +14,6 @@ use Rattle.pw_signalling.specs.Rows.{renew_part, renewed}
 use Rattle.session_core.specs.declared.peers.Peers.{Peers}
 use Rattle.session_core.specs.declared.reply.Reply.{Reply}
 use Rattle.session_core.specs.Table.{SessionEvent, Outcome, Stay, Goes, Ends, Closed, Ticked, outcome_of}
-use Rattle.edge_model.specs.declared.effect.Effect.{Effect}
 use Rattle.edge_model.specs.Put.{having_spoken, put_replies}
 use Rattle.edge_model.specs.Session.{comes_of, ends, happens, happens_with_ends, says, with_session}
 use Rattle.edge_model.specs.State.{EdgeState, Peering, is_there, with_bits, with_peering, with_renewed, with_wire}
@@ -31,7 +30,7 @@ use Rattle.flight_model.specs.Messages.{AreSaid, octets_of_all}
 use Rattle.flight_model.specs.Pair.{AreTalking, IsStanding, StayInStep, having_put}
 use Rattle.flight_model.proofs.BindingLemmas.{binding_renews}
 use Rattle.flight_model.proofs.ActBindingLemmas.{spared_leaves}
-use Rattle.flight_model.proofs.EdgeBindingLemmas.{bound_same, clash}
+use Rattle.flight_model.proofs.EdgeBindingLemmas.{clash}
 use Rattle.flight_model.proofs.EventBindingLemmas.{event_spare, leaves_event, leaves_no_event}
 use Rattle.flight_model.proofs.LeaveLemmas.{leaves_same}
 use Rattle.flight_model.proofs.MeetLemmas.{goes_shows}
@@ -40,11 +39,11 @@ use Rattle.flight_model.proofs.RowBindingLemmas.{LeavesAll, SaysAll, rows_leave}
 use Rattle.flight_model.proofs.SayLemmas.{says_none, says_spares}
 use Rattle.flight_model.proofs.SoundLemmas.{cleared_peering}
 use Rattle.flight_model.proofs.SpokenLemmas.{says_spoken}
-use Rattle.flight_model.proofs.SteadyLemmas.{IsSilent, IsSteady, steady_rows}
+use Rattle.flight_model.proofs.SteadyLemmas.{IsSteady, steady_rows}
 use Rattle.flight_model.proofs.UniqueLemmas.{said_once}
 use Rattle.flight_model.proofs.WorkingLemmas.{KeptByWork}
 use Rattle.flight_model.proofs.WorkLemmas.{same_place}
-use Rattle.flight_model.proofs.WorksLemmas.{changed_edge, given_edge, gives_spares, works_kept, works_steady}
+use Rattle.flight_model.proofs.WorksLemmas.{changed_edge, gives_spares, works_kept, works_steady}
 
 -- ---- octets that are held
 
@@ -163,12 +162,6 @@ changed_leaves plan me place far out answers change work kept follows leaves = r
   bound = λ ms are is near other. follows ms (leaves.bound ms are is (sym (ap (λ (f : ℕ → Option Peering). is_there (f place)) kept) ∙ near) other);
 }
 
-given_leaves : (plan : Plan) (me : EdgeId) (place : ℕ) (far : EdgeState) (out : List ℕ) (answers : List Message) (e : Effect) (work : Work) → IsSilent e → LeavesBound plan me place far out answers work
-    → LeavesBound plan me place far out answers (gives e work)
-given_leaves plan me place far out answers e work silent leaves =
-    leaves_same plan me place far out answers work (gives e work) (gives_spares place e work silent).said (λ near. sym (ap is_there (gives_spares place e work silent).kept) ∙ near)
-    (record { label = ap (λ (x : EdgeState). x.next_label) (given_edge e work); ends = λ wire. ap (λ (x : EdgeState). x.ends wire place) (given_edge e work) }) leaves
-
 bits_peering : (wire : WireId) (bits : ℕ) (edge : EdgeState) → (with_bits wire bits edge).peering ≡ edge.peering
 unfolding with_bits
 bits_peering wire bits edge = refl
@@ -261,15 +254,10 @@ module _ (plan : Plan) (network : NetworkState) (me : EdgeId) (checked : IsCheck
           (base.ticked peer work all.0.0, event_held peer Ticked work all.0.0 all.0.1),
           event_works peer Ticked work (λ own other kept far ms rest t. ticked_in_step own other kept far ms rest t) all.0.0 all.1,
         );
-        others = λ change work keeps peering all. (
-          (base.others change work keeps peering all.0.0, changed_held no_place held change work peering all.0.1),
-          λ place away. changed_leaves plan me place (network.edges place) (flight network me.0 place) (answers place) change work peering
-              (λ ms bound. bound_same plan me.0 place work.edge (change work.edge) (network.edges place) ms (answers place)
-              (record { label = keeps.next_label; ends = λ wire. ap (λ (f : ℕ → ℕ → EndState). f wire place) keeps.ends }) bound) (all.1 place away),
-        );
-        gives = λ e work silent all. (
-          held_works.gives e work silent all.0,
-          λ place away. given_leaves plan me place (network.edges place) (flight network me.0 place) (answers place) e work silent (all.1 place away),
+        bridges = λ old new bridged all. (
+          (base.bridges old new bridged all.0.0, λ place here. subst (HoldsOctets (held place)) (sym (ap (λ (f : ℕ → Option Peering). f place) bridged.peering)) (all.0.1 place here)),
+          λ place away. leaves_same plan me place (network.edges place) (flight network me.0 place) (answers place) old new (bridged.said place) (λ near. sym (ap (λ (f : ℕ → Option Peering). is_there (f place)) bridged.peering) ∙ near)
+              (record { label = bridged.keeps.next_label; ends = λ wire. ap (λ (f : ℕ → ℕ → EndState). f wire place) bridged.keeps.ends }) (all.1 place away),
         );
         turned = λ wire on work all. (
           (base.turned wire on work all.0.0, changed_held no_place held (turned_wire wire on) work (turned_peering wire on work.edge) all.0.1),

@@ -1,32 +1,28 @@
 -- An edge at work on an input: what each of its parts keeps, the input keeps.
-use Rattle.std.proofs.Common.{◌≡◌, ◌≤◌, ◌+◌, ℕ, zero, suc, Bool, true, false, cond, List, [], ◌∷◌, Option, Some, None, Result, Ok, Err, length, refl}
+use Rattle.std.proofs.Common.{◌≡◌, ◌≤◌, ◌+◌, ℕ, zero, suc, Bool, true, false, List, Option, Result, length, refl}
 use Rattle.net_base.specs.declared.plan.Plan.{Plan}
 use Rattle.net_base.specs.declared.plan.circuit_plan.CircuitPlan.{CircuitPlan}
 use Rattle.net_base.specs.declared.plan.places.CircuitId.{CircuitId}
 use Rattle.net_base.specs.declared.plan.places.EdgeId.{EdgeId}
 use Rattle.net_base.specs.declared.plan.places.ServiceId.{ServiceId}
 use Rattle.net_base.specs.declared.plan.places.WireId.{WireId}
+use Rattle.net_base.specs.declared.trace.arrival.Arrival.{Arrival}
 use Rattle.net_base.specs.declared.trace.drop_cause.DropCause.{DropCause}
 use Rattle.net_base.specs.declared.trace.state_name.Reason.TheVariants as reason
-use Rattle.net_base.specs.values.Frame.{dress}
-use Rattle.hvpls_spokes.specs.declared.port.Port.{Port}
-use Rattle.hvpls_spokes.specs.declared.port.Port.TheVariants as port
-use Rattle.hvpls_spokes.specs.Port.{ports_of}
 use Rattle.session_core.specs.Table.{Closed, Ticked}
 use Rattle.edge_model.specs.Circuit.{turned}
-use Rattle.edge_model.specs.declared.effect.Effect.{Effect}
-use Rattle.edge_model.specs.declared.effect.Effect.TheVariants.{Dropped, Left}
-use Rattle.edge_model.specs.Frame.{copies, copy_by, forwarded, hearing, received, tag_of, targets_of}
+use Rattle.edge_model.specs.Frame.{received}
 use Rattle.edge_model.specs.Mend.{mends}
+use Rattle.edge_model.specs.Packet.{packet_input}
 use Rattle.edge_model.specs.Session.{happens_with_ends}
 use Rattle.edge_model.specs.State.{EdgeState, with_addresses, with_bits, with_circuit, with_learned, with_ticks}
 use Rattle.edge_model.specs.Tick.{counted, forgetting, tick_input, ticks_sessions}
 use Rattle.edge_model.specs.Wire.{turned_wire}
-use Rattle.edge_model.specs.Work.{Work, Answers, changes, gives}
+use Rattle.edge_model.specs.Work.{Work, Answers, changes}
 use Rattle.network_model.specs.Absorb.{taken_all}
+use Rattle.flight_model.proofs.BridgeLemmas.{IsBridged, packet_bridged, received_bridged}
 use Rattle.flight_model.proofs.KeepLemmas.{KeepsEnds}
 use Rattle.flight_model.proofs.MendingLemmas.{KeptByRows, mends_keep}
-use Rattle.flight_model.proofs.SteadyLemmas.{IsSilent}
 
 -- what the parts of an edge's work keep, beside octets that it hears, a connection that comes up, and a restart
 pub record KeptByWork (plan : Plan) (me : EdgeId) (I : Work → Type 0) : Type 0 where
@@ -34,18 +30,11 @@ pub record KeptByWork (plan : Plan) (me : EdgeId) (I : Work → Type 0) : Type 0
   -- the connection with a peer is lost, or a tick passes for the session with it
   pub closed : (peer : EdgeId) (work : Work) → I work → I (happens_with_ends taken_all peer (Closed reason.Closed) work)
   pub ticked : (peer : EdgeId) (work : Work) → I work → I (happens_with_ends taken_all peer Ticked work)
-  -- what has nothing to do with neighbours and pseudowires
-  pub others : (change : EdgeState → EdgeState) (work : Work) → KeepsEnds work.edge (change work.edge) → (change work.edge).peering ≡ work.edge.peering → I work → I (changes change work)
-  pub gives : (e : Effect) (work : Work) → IsSilent e → I work → I (gives e work)
+  -- a frame or a packet is bridged
+  pub bridges : (old new : Work) → IsBridged old new → I old → I new
   -- a wire is put on or off, and the failure bits of an end are set
   pub turned : (wire : WireId) (on : Bool) (work : Work) → I work → I (changes (turned_wire wire on) work)
   pub bits : (wire : WireId) (bits : ℕ) (work : Work) → bits ≤ 31 → I work → I (changes (with_bits wire bits) work)
-
-left_silent : (circuit : CircuitId) (octets : List ℕ) → IsSilent (Left circuit octets)
-left_silent circuit octets = record { says = λ place. refl; closed = λ place. refl; well = tt }
-
-dropped_silent : (cause : DropCause) → IsSilent (Dropped cause)
-dropped_silent cause = record { says = λ place. refl; closed = λ place. refl; well = tt }
 
 counted_keeps : (edge : EdgeState) → KeepsEnds edge (counted edge) × ((counted edge).peering ≡ edge.peering)
 unfolding with_ticks
@@ -60,10 +49,6 @@ unfolding with_addresses with_circuit
 turned_keeps plan circuit row true edge = (record { me = refl; wire_on = refl; bits = refl; ends = refl; told_down = refl; next_label = refl }, refl)
 turned_keeps plan circuit row false edge = (record { me = refl; wire_on = refl; bits = refl; ends = refl; told_down = refl; next_label = refl }, refl)
 
-hearing_keeps : (service : ServiceId) (frame : List ℕ) (arrival : ℕ) (edge : EdgeState) → KeepsEnds edge (hearing service frame arrival edge) × ((hearing service frame arrival edge).peering ≡ edge.peering)
-unfolding with_addresses
-hearing_keeps service frame arrival edge = (record { me = refl; wire_on = refl; bits = refl; ends = refl; told_down = refl; next_label = refl }, refl)
-
 module _ (plan : Plan) (me : EdgeId) (I : Work → Type 0) (kept : KeptByWork plan me I) where
   -- a tick
   sessions_kept : (place count : ℕ) (work : Work) → I work → I (ticks_sessions taken_all place count work)
@@ -77,7 +62,7 @@ module _ (plan : Plan) (me : EdgeId) (I : Work → Type 0) (kept : KeptByWork pl
       let one = counted_keeps work.edge in
       let two = forgetting_keeps plan ticked.edge in
       mends_keep plan me I kept.rows (changes (forgetting plan) ticked)
-      (kept.others (forgetting plan) ticked two.0 two.1 (sessions_kept 0 (length plan.edges) began (kept.others counted work one.0 one.1 i)))
+      (kept.rows.others (forgetting plan) ticked two.0 two.1 (sessions_kept 0 (length plan.edges) began (kept.rows.others counted work one.0 one.1 i)))
 
   -- a connection is lost
   pub lost_kept : (peer : EdgeId) (work : Work) → I work → I (mends plan taken_all (happens_with_ends taken_all peer (Closed reason.Closed) work))
@@ -87,7 +72,7 @@ module _ (plan : Plan) (me : EdgeId) (I : Work → Type 0) (kept : KeptByWork pl
   pub circuit_kept : (circuit : CircuitId) (row : CircuitPlan) (on : Bool) (work : Work) → I work → I (mends plan taken_all (changes (turned plan circuit row on) work))
   circuit_kept circuit row on work i =
       let one = turned_keeps plan circuit row on work.edge in
-      mends_keep plan me I kept.rows _ (kept.others (turned plan circuit row on) work one.0 one.1 i)
+      mends_keep plan me I kept.rows _ (kept.rows.others (turned plan circuit row on) work one.0 one.1 i)
 
   -- a wire is put on or off, and bits are set
   pub wire_kept : (wire : WireId) (on : Bool) (work : Work) → I work → I (mends plan taken_all (changes (turned_wire wire on) work))
@@ -96,25 +81,9 @@ module _ (plan : Plan) (me : EdgeId) (I : Work → Type 0) (kept : KeptByWork pl
   pub bits_kept : (wire : WireId) (bits : ℕ) (work : Work) → bits ≤ 31 → I work → I (mends plan taken_all (changes (with_bits wire bits) work))
   bits_kept wire bits work few i = mends_keep plan me I kept.rows _ (kept.bits wire bits work few i)
 
-  -- a frame comes
-  copy_kept : (told : Answers) (frame : List ℕ) (x : Port) (b : Bool) (work : Work) → I work → I (cond b (copy_by plan told frame x work) work)
-  copy_kept told frame x false work i = i
-  copy_kept told frame (port.Circuit circuit) true work i = kept.gives (Left circuit (dress (tag_of plan circuit) frame)) work (left_silent circuit (dress (tag_of plan circuit) frame)) i
-  copy_kept told frame (port.Mesh wire) true work i = i
-  copy_kept told frame (port.Spoke wire) true work i = i
+  -- a frame comes, or a packet
+  pub received_kept : (told : Answers) (came : Arrival) (service : ServiceId) (arrival : Option ℕ) (read : Result (List ℕ) DropCause) (work : Work) → I work → I (received plan told came service arrival read work)
+  received_kept told came service arrival read work i = kept.bridges work _ (received_bridged plan told came service arrival read work) i
 
-  copies_kept : (told : Answers) (frame : List ℕ) (targets : ℕ → Bool) (p : ℕ) (ports : List Port) (work : Work) → I work → I (copies targets (copy_by plan told frame) p ports work)
-  copies_kept told frame targets p [] work i = i
-  copies_kept told frame targets p (x ∷ ports) work i = copies_kept told frame targets (p + 1) ports (cond (targets p) (copy_by plan told frame x work) work) (copy_kept told frame x (targets p) work i)
-
-  forwarded_kept : (told : Answers) (service : ServiceId) (frame : List ℕ) (arrival : Option ℕ) (work : Work) → I work → I (forwarded plan told service frame arrival work)
-  forwarded_kept told service frame None work i = i
-  forwarded_kept told service frame (Some arrival) work i =
-      let heard : Work = changes (hearing service frame arrival) work in
-      let ports : List Port = ports_of plan service heard.edge.me in
-      let one = hearing_keeps service frame arrival work.edge in
-      copies_kept told frame (targets_of plan heard.edge service ports frame arrival) 0 ports heard (kept.others (hearing service frame arrival) work one.0 one.1 i)
-
-  pub received_kept : (told : Answers) (service : ServiceId) (arrival : Option ℕ) (read : Result (List ℕ) DropCause) (work : Work) → I work → I (received plan told service arrival read work)
-  received_kept told service arrival (Ok frame) work i = forwarded_kept told service frame arrival work i
-  received_kept told service arrival (Err cause) work i = kept.gives (Dropped cause) work (dropped_silent cause) i
+  pub packet_kept : (told : Answers) (octets : List ℕ) (work : Work) → I work → I (packet_input plan told octets work)
+  packet_kept told octets work i = kept.bridges work _ (packet_bridged plan told octets work) i

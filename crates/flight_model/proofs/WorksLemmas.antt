@@ -33,6 +33,7 @@ use Rattle.flight_model.specs.Facts.{HoldsBut, Turns, flight}
 use Rattle.flight_model.specs.Meeting.{IsFine, Leaves, Meets, Shows, Spares, closes, said_to}
 use Rattle.flight_model.specs.Messages.{octets_of_all}
 use Rattle.flight_model.specs.Pair.{ArePaired, AreTalking, StandsIf, StayInStep, having_put, is_in_step}
+use Rattle.flight_model.proofs.BridgeLemmas.{bridged_fine, bridged_spares}
 use Rattle.flight_model.proofs.MeetLemmas.{happens_meets, moved_shows}
 use Rattle.flight_model.proofs.OfferLemmas.{IsOfWires}
 use Rattle.flight_model.proofs.PipeLemmas.{all_edges, all_good}
@@ -418,9 +419,12 @@ works_kept plan network me checked types =
       rows = steady_rows plan me checked types (WorksOn plan network me) steady;
       closed = λ peer work works. works_happens plan network me peer (Closed reason.Closed) work (λ own other kept far messages answers t. closed_in_step own other kept far messages answers t) works;
       ticked = λ peer work works. works_happens plan network me peer Ticked work (λ own other kept far messages answers t. ticked_in_step own other kept far messages answers t) works;
-      others = λ change work keeps peering works.
-          steady.changes change work peering keeps.me (sound_same work.edge (change work.edge) keeps.next_label keeps.bits peering keeps.ends works.sound) works;
-      gives = λ e work silent works. steady.gives e work silent works;
+      bridges = λ old new bridged works. record {
+        fine = bridged_fine me old new bridged works.fine;
+        sound = sound_same old.edge new.edge bridged.keeps.next_label bridged.keeps.bits bridged.peering bridged.keeps.ends works.sound;
+        alone = (bridged_spares me.0 old new bridged).kept ∙ works.alone;
+        left = λ k away. left_spared (ends_at plan me.0 k) (ends_at plan k me.0) k ((network.edges k).peering me.0) (flight network me.0 k) (network.pipes k me.0) old new (bridged_spares k old new bridged) (works.left k away);
+      };
       turned = λ wire on work works. (let same = turned_same wire on work.edge in steady.changes (turned_wire wire on) work same.0 same.1 (same.2 works.sound) works);
       bits = λ wire bits work few works. (let same = bits_same wire bits work.edge few in steady.changes (with_bits wire bits) work same.0 same.1 (same.2 works.sound) works);
     }

@@ -1,2 +1,4 @@
 pub mod PortSetLemmas
 pub mod PortsLemmas
+pub mod RowPortLemmas
+pub mod WirePortLemmas

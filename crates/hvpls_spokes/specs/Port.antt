@@ -1,11 +1,14 @@
 -- The ports of a service at an edge.
-use Rattle.std.specs.Prelude.{◌==◌, ◌+◌, ℕ, Bool, true, false, List, [], ◌∷◌, Option, Some, None, slice_get, if◌then◌else◌}
+use Rattle.std.specs.Prelude.{◌==◌, ◌+◌, ◌++◌, ℕ, Bool, true, false, List, [], ◌∷◌, Option, Some, None, slice_get, if◌then◌else◌}
 use Rattle.net_base.specs.declared.plan.circuit_plan.CircuitPlan.{CircuitPlan}
 use Rattle.net_base.specs.declared.plan.places.CircuitId.{CircuitId}
 use Rattle.net_base.specs.declared.plan.places.EdgeId.{EdgeId}
 use Rattle.net_base.specs.declared.plan.places.ServiceId.{ServiceId}
+use Rattle.net_base.specs.declared.plan.places.WireId.{WireId}
+use Rattle.net_base.specs.declared.plan.wire_plan.WirePlan.{WirePlan}
 use Rattle.net_base.specs.declared.plan.Plan.{Plan}
-use Rattle.net_base.specs.plan.Roles.{is_circuit_at}
+use Rattle.net_base.specs.plan.Places.{is_mesh_class}
+use Rattle.net_base.specs.plan.Roles.{ends_at, is_circuit_at}
 use Rattle.hvpls_spokes.specs.declared.port.Port.{Port}
 use Rattle.hvpls_spokes.specs.declared.port.Port.TheVariants as port
 use Rattle.hvpls_spokes.specs.declared.port_kind.PortKind.{PortKind}
@@ -32,6 +35,12 @@ is_mesh (Some (port.Spoke wire)) = false
 abbrev pub is_mesh_port : List Port → ℕ → Bool
 is_mesh_port ports p = is_mesh (slice_get ports p)
 
+-- the port leads to the wire
+abbrev pub is_wire_port : WireId → Port → Bool
+is_wire_port wire (port.Circuit circuit) = false
+is_wire_port wire (port.Mesh at) = at.0 == wire.0
+is_wire_port wire (port.Spoke at) = at.0 == wire.0
+
 -- the circuits of the service at the edge, of the rows from a place on
 abbrev pub circuit_ports : ℕ → List CircuitPlan → ServiceId → EdgeId → List Port
 circuit_ports place [] service edge = []
@@ -40,6 +49,19 @@ circuit_ports place (row ∷ rows) service edge =
     then port.Circuit (record { 0 = place }) ∷ circuit_ports (place + 1) rows service edge
     else circuit_ports (place + 1) rows service edge
 
--- the ports of a service at an edge: its circuits in the order of the plan
+-- a wire as a port of a terminal edge
+abbrev pub wire_port : ℕ → WirePlan → Port
+wire_port place row = if is_mesh_class row.class then port.Mesh (record { 0 = place }) else port.Spoke (record { 0 = place })
+
+-- the wires of the service of which the edge is a terminal edge, of the rows from a place on
+abbrev pub wire_ports : ℕ → List WirePlan → ServiceId → EdgeId → List Port
+wire_ports place [] service edge = []
+wire_ports place (row ∷ rows) service edge =
+    if ends_at service edge.0 row
+    then wire_port place row ∷ wire_ports (place + 1) rows service edge
+    else wire_ports (place + 1) rows service edge
+
+-- the ports of a service at an edge: its circuits in the order of the plan, and then its wires in the order of the plan (RFC
+-- 4762 section 4)
 abbrev pub ports_of : Plan → ServiceId → EdgeId → List Port
-ports_of plan service edge = circuit_ports 0 plan.circuits service edge
+ports_of plan service edge = circuit_ports 0 plan.circuits service edge ++ wire_ports 0 plan.wires service edge

@@ -7,6 +7,7 @@ mod port;
 mod port_kind;
 mod port_set;
 mod ports;
+mod terminal;
 
 pub use flood::flood_set;
 pub use port::Port;

@@ -1,9 +1,13 @@
 //! The ports of a service at an edge, in order.
-ghost use Rattle.std.specs.Prelude.{◌≡◌, ◌≤◌, ◌<◌, length, slice_get, option_map, position, IfOk, IfSome};
-ghost use Rattle.hvpls_spokes.specs.Port.{kind_of, is_circuit_port, is_mesh_port, ports_of};
+ghost use Rattle.std.specs.Prelude.{◌≡◌, ◌≤◌, ◌<◌, ◌++◌, length, slice_get, option_map, position, IfOk, IfSome, OnOk};
+ghost use Rattle.net_base.specs.plan.Accepted.{IsChecked};
+ghost use Rattle.hvpls_spokes.specs.Port.{kind_of, circuit_ports, is_circuit_port, is_mesh_port, is_wire_port, ports_of, wire_port, wire_ports};
 
+use crate::terminal::ends_at;
 use crate::{Port, PortKind};
-use net_base::{CircuitId, EdgeId, NoMemory, Plan, ServiceId};
+use net_base::{
+    CircuitId, CircuitPlan, Class, EdgeId, NoMemory, Plan, ServiceId, WireId, WirePlan,
+};
 use std::alloc::Global;
 use std::marker::Model;
 
@@ -25,22 +29,24 @@ impl Model for Ports {
 }
 
 impl Ports {
-    /// The ports of a service at an edge: its circuits in the order of the plan.
+    /// The ports of a service at an edge of a checked plan: its attachment circuits in the order of the plan, and then
+    /// the wires of which the edge is a terminal edge in the order of the plan, each as a mesh or a spoke wire by its
+    /// class (RFC 4762 sections 4, 4.4 and 10.1). A wire that the edge only switches is no port of it.
+    #[tactic(auto, using(crate::proofs::PortsLemmas::ports_fit))]
     pub fn open(
         alloc: Global,
         plan: &Plan,
         service: ServiceId,
         edge: EdgeId,
     ) -> Result<Ports, NoMemory>
-        requires { length plan.now.circuits ≤ 512 }
+        requires checked { IsChecked plan.now }
+        requires service { service.0 < length plan.now.services }
+        requires edge { edge.0 < length plan.now.edges }
         ensures { IfOk result (λ ports. ports ≡ ports_of plan.now service edge) }
     {
         let mut ports = Vec::new(alloc);
-        for (place, circuit) in plan.circuits.as_slice().iter().enumerate() {
-            if circuit.service == service && circuit.edge == edge {
-                ports.push(Port::Circuit(CircuitId(place as u16)))?;
-            }
-        }
+        push_circuits(&mut ports, plan.circuits.as_slice(), service, edge)?;
+        push_wires(&mut ports, plan.wires.as_slice(), service, edge)?;
         Ok(Ports { ports })
     }
 
@@ -87,6 +93,61 @@ impl Ports {
         let place = place_of(self.ports.as_slice(), circuit)?;
         Some(place as u16)
     }
+
+    /// The number of the port that leads to the wire; `None` exactly where none does.
+    pub fn find_wire(&self, wire: WireId) -> Option<u16>
+        ensures port { result ≡ position (is_wire_port wire) self.now }
+        ensures within { IfSome result (λ port. port < 512) }
+    {
+        let place = place_of_wire(self.ports.as_slice(), wire)?;
+        Some(place as u16)
+    }
+}
+
+// Adds the circuits of the service at the edge.
+fn push_circuits(
+    ports: &mut Vec<Port>,
+    circuits: &[CircuitPlan],
+    service: ServiceId,
+    edge: EdgeId,
+) -> Result<(), NoMemory>
+    requires { length circuits.now ≤ 512 }
+    ensures { OnOk result (ports.new.items ≡ ports.old.items ++ circuit_ports 0 circuits.now service edge) }
+{
+    for (place, circuit) in circuits.iter().enumerate() {
+        if circuit.service == service && circuit.edge == edge {
+            ports.push(Port::Circuit(CircuitId(place as u16)))?;
+        }
+    }
+    Ok(())
+}
+
+// Adds the wires of the service of which the edge is a terminal edge.
+fn push_wires(
+    ports: &mut Vec<Port>,
+    wires: &[WirePlan],
+    service: ServiceId,
+    edge: EdgeId,
+) -> Result<(), NoMemory>
+    requires { length wires.now ≤ 1024 }
+    ensures { OnOk result (ports.new.items ≡ ports.old.items ++ wire_ports 0 wires.now service edge) }
+{
+    for (place, wire) in wires.iter().enumerate() {
+        if ends_at(wire, service, edge) {
+            ports.push(port_of_wire(WireId(place as u16), wire))?;
+        }
+    }
+    Ok(())
+}
+
+// The wire as a port, by its class.
+fn port_of_wire(wire: WireId, row: &WirePlan) -> Port
+    ensures { result ≡ wire_port wire.0 row.now }
+{
+    match row.class {
+        Class::Mesh => Port::Mesh(wire),
+        Class::Spoke => Port::Spoke(wire),
+    }
 }
 
 // The place of the port that leads to the circuit.
@@ -104,5 +165,23 @@ fn leads_to(port: Port, circuit: CircuitId) -> bool
     match port {
         Port::Circuit(at) => at == circuit,
         Port::Mesh(_) | Port::Spoke(_) => false,
+    }
+}
+
+// The place of the port that leads to the wire.
+fn place_of_wire(ports: &[Port], wire: WireId) -> Option<usize>
+    ensures place { result ≡ position (is_wire_port wire) ports.now }
+    ensures within { IfSome result (λ place. place < length ports.now) }
+{
+    ports.iter().position(|port| leads_to_wire(*port, wire))
+}
+
+// Whether the port leads to the wire.
+fn leads_to_wire(port: Port, wire: WireId) -> bool
+    ensures { result ≡ is_wire_port wire port }
+{
+    match port {
+        Port::Circuit(_) => false,
+        Port::Mesh(at) | Port::Spoke(at) => at == wire,
     }
 }

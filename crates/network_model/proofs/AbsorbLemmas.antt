@@ -11,6 +11,7 @@ use Rattle.net_base.specs.declared.trace.entry.Entry.TheVariants.{Left}
 use Rattle.net_base.specs.plan.Places.{is_mesh_wire, wire_row}
 use Rattle.edge_model.specs.declared.effect.Effect.{Effect}
 use Rattle.edge_model.specs.declared.effect.Effect.TheVariants as effect
+use Rattle.edge_model.proofs.SessionLemmas.{are_all}
 use Rattle.network_model.specs.declared.packet.Packet.{Packet}
 use Rattle.network_model.specs.Absorb.{absorb_all, absorb_one, all_entries_of, entries_of}
 use Rattle.network_model.specs.OnceEach.{LeftWithin, times_left}
@@ -58,7 +59,7 @@ abbrev pub of_origin : ℕ → List Packet → List Packet
 of_origin origin [] = []
 of_origin origin (p ∷ ps) = cond (nat_eq p.origin origin) (p ∷ of_origin origin ps) (of_origin origin ps)
 
-of_origin-other : (origin : ℕ) (p : Packet) (ps : List Packet) → nat_eq p.origin origin ≡ false → of_origin origin (ps ++ p ∷ []) ≡ of_origin origin ps
+pub of_origin-other : (origin : ℕ) (p : Packet) (ps : List Packet) → nat_eq p.origin origin ≡ false → of_origin origin (ps ++ p ∷ []) ≡ of_origin origin ps
 of_origin-other origin p [] apart = rw apart refl
 of_origin-other origin p (q ∷ ps) apart = ap (λ (l : List Packet). cond (nat_eq q.origin origin) (q ∷ l) l) (of_origin-other origin p ps apart)
 
@@ -160,3 +161,23 @@ all_due plan calm service circuit origin me hops (e ∷ es) network =
       all_due plan calm service circuit origin me hops es next,
       meets-append plan calm service circuit (e ∷ []) es,
     )
+
+-- ---- effects without a packet
+
+abbrev pub is_no_packet : Effect → Bool
+is_no_packet (effect.Sent peer wire came octets) = false
+is_no_packet e = true
+
+pipe_sends_none : (from to : EdgeId) (octets : List ℕ) (network : NetworkState) (b : Bool) → (cond b (with_pipe from to octets network) network).under_way ≡ network.under_way
+unfolding with_pipe
+pipe_sends_none from to octets network true = refl
+pipe_sends_none from to octets network false = refl
+
+-- they leave the packets under way
+pub none_sent : (me : EdgeId) (origin hops : ℕ) (es : List Effect) (network : NetworkState) → are_all is_no_packet es ≡ true → (absorb_all me origin hops es network).under_way ≡ network.under_way
+none_sent me origin hops [] network none = refl
+none_sent me origin hops (effect.Said peer octets ∷ es) network none =
+    none_sent me origin hops es (absorb_one me origin hops (effect.Said peer octets) network) none ∙ pipe_sends_none me peer (network.pipes me.0 peer.0 ++ octets) network (stands network peer.0 me.0)
+none_sent me origin hops (effect.Closed peer ∷ es) network none = none_sent me origin hops es (absorb_one me origin hops (effect.Closed peer) network) none ∙ pipe_sends_none peer me [] network true
+none_sent me origin hops (effect.Sent peer wire came octets ∷ es) network none = absurd (cc (none))
+none_sent me origin hops (e ∷ es) network none = none_sent me origin hops es network none

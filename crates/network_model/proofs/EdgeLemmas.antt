@@ -7,7 +7,7 @@ use Rattle.net_base.specs.declared.plan.places.CircuitId.{CircuitId}
 use Rattle.net_base.specs.declared.plan.places.EdgeId.{EdgeId}
 use Rattle.net_base.specs.declared.plan.places.WireId.{WireId}
 use Rattle.net_base.specs.declared.trace.event.Event.{Event}
-use Rattle.net_base.specs.declared.trace.event.Event.TheVariants.{Connect, Deliver, Lose, Restart, Tick, Frame, Wire, Circuit, Status}
+use Rattle.net_base.specs.declared.trace.event.Event.TheVariants.{Connect, Deliver, Lose, Restart, Tick, Frame, Arrive, Discard, Again, Wire, Circuit, Status}
 use Rattle.net_base.specs.plan.Places.{circuit_row}
 use Rattle.edge_model.specs.Circuit.{circuit_input}
 use Rattle.edge_model.specs.Connection.{restart_input}
@@ -18,13 +18,15 @@ use Rattle.edge_model.specs.Wire.{status_input, wire_input}
 use Rattle.edge_model.specs.Work.{Work}
 use Rattle.edge_model.proofs.FollowLemmas.{EndsFollowSessions, FollowsOn, empty_follows, input_follows}
 use Rattle.edge_model.proofs.LabelLemmas.{LabelsFit, WorkRises, fits_same, fits_then, input_rises}
-use Rattle.edge_model.proofs.WalkLemmas.{InputSteps, circuit_holds, connected_holds, frame_holds, lost_holds, octets_hold, status_holds, tick_holds, wire_holds}
+use Rattle.edge_model.proofs.WalkLemmas.{InputSteps, circuit_holds, connected_holds, frame_holds, lost_holds, octets_hold, packet_holds, status_holds, tick_holds, wire_holds}
 use Rattle.network_model.specs.Absorb.{absorb, absorb_all, answer, begin_at, idle, taken_all}
 use Rattle.network_model.specs.Circuit.{circuit_event}
 use Rattle.network_model.specs.Connection.{can_connect, connect_event, connected_work, connecting, deliver_event, delivering, hearing_work, is_deliverable, is_drained_pipe, lose_event, losing, losing_work, restart_event}
 use Rattle.network_model.specs.Frame.{entering, frame_event, frame_work, next_origin}
+use Rattle.network_model.specs.declared.packet.Packet.{Packet}
+use Rattle.network_model.specs.Packet.{again_event, arrive_event, discard_event, packet_at, packet_work}
 use Rattle.network_model.specs.Run.{state_after}
-use Rattle.network_model.specs.State.{NetworkState, at_edge, empty_network, stands, with_edge, with_frame, with_pipe, without_octets_to}
+use Rattle.network_model.specs.State.{NetworkState, at_edge, empty_network, stands, with_edge, with_frame, with_packet, with_pipe, without_octets_to, without_packet}
 use Rattle.network_model.specs.Step.{step}
 use Rattle.network_model.specs.Tick.{tick_at, ticks_from}
 use Rattle.network_model.specs.Wire.{status_event, wire_event}
@@ -155,6 +157,28 @@ module _ (plan : Plan) (P : ℕ → EdgeState → Type 0) (R : Work → Work →
       let work : Work = status_input plan taken_all wire bits (begin_at network me) in
       answer_holds me 0 0 work network holds (worked me work network holds (status_holds plan taken_all R steps wire bits (begin_at network me)))
 
+  -- ---- packets
+
+  without_holds : (number : ℕ) (network : NetworkState) → HoldsOfEach P network → HoldsOfEach P (without_packet number network)
+  unfolding without_packet
+  without_holds number network holds = holds
+
+  arrive_holds : (found : Option Packet) (network : NetworkState) → HoldsOfEach P network → HoldsOfEach P (arrive_event plan found network).state
+  arrive_holds None network holds = holds
+  arrive_holds (Some packet) network holds =
+      let work : Work = packet_work plan network packet in
+      absorb_holds packet.to packet.origin packet.hops work (without_packet packet.number network) (without_holds packet.number network holds)
+      (worked packet.to work network holds (packet_holds plan taken_all R steps packet.bytes (begin_at network packet.to)))
+
+  discard_holds : (found : Option Packet) (network : NetworkState) → HoldsOfEach P network → HoldsOfEach P (discard_event found network).state
+  discard_holds None network holds = holds
+  discard_holds (Some packet) network holds = without_holds packet.number network holds
+
+  again_holds : (found : Option Packet) (network : NetworkState) → HoldsOfEach P network → HoldsOfEach P (again_event found network).state
+  unfolding with_packet
+  again_holds None network holds = holds
+  again_holds (Some packet) network holds = holds
+
   -- ---- runs
 
   pub event_holds : (event : Event) (network : NetworkState) → HoldsOfEach P network → HoldsOfEach P (step plan network event).state
@@ -167,6 +191,9 @@ module _ (plan : Plan) (P : ℕ → EdgeState → Type 0) (R : Work → Work →
   event_holds (Circuit circuit on) network holds = circuit_keeps circuit on (circuit_row plan circuit) network holds
   event_holds (Wire me wire on) network holds = wire_keeps me wire on network holds
   event_holds (Status me wire bits) network holds = status_keeps me wire bits network holds
+  event_holds (Arrive number) network holds = arrive_holds (packet_at network number) network holds
+  event_holds (Discard number) network holds = discard_holds (packet_at network number) network holds
+  event_holds (Again number) network holds = again_holds (packet_at network number) network holds
   event_holds event network holds = holds
 
   pub after_holds : (events : List Event) (network : NetworkState) → HoldsOfEach P network → HoldsOfEach P (state_after plan network events)

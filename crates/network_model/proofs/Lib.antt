@@ -4,10 +4,12 @@ mod ConnectionExamples
 pub mod EdgeLemmas
 mod Examples
 pub mod FloodLemmas
-pub mod IsolatedLemmas
+pub mod InnerLemmas
 pub mod KnownLemmas
 pub mod OnceLemmas
 pub mod OtherLemmas
+mod PacketExamples
+pub mod PacketListLemmas
 pub mod PlaceLemmas
 pub mod PlanLemmas
 pub mod QuietLemmas

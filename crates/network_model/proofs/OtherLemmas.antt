@@ -1,42 +1,61 @@
--- Steps in which a frame does not enter: they tell nothing of it, and leave its copies under way.
-use Rattle.std.proofs.Common.{◌≡◌, ◌<◌, ◌≤◌, ◌+◌, ◌++◌, ◌∙◌, ℕ, zero, suc, Bool, true, false, List, [], ◌∷◌, Option, Some, None, cond, refl, ap, nat_eq, length, take, drop, arith}
-use Rattle.std.proofs.lemmas.Bool.{ne_eqb}
+-- Steps in which a frame does not enter, and in which no copy of it arrives: they tell nothing of it, and leave its copies under
+-- way.
+use Rattle.std.proofs.Common.{◌≡◌, ◌<◌, ◌≤◌, ◌+◌, ◌++◌, ◌&&◌, ◌∙◌, ℕ, Bool, true, false, List, [], ◌∷◌, Option, Some, None, cond, refl, ap, nat_eq, arith}
+use Rattle.std.proofs.lemmas.Bool.{eq-eqb, ne_eqb}
+use Rattle.std.specs.List.{find}
 use Rattle.net_base.specs.declared.plan.Plan.{Plan}
 use Rattle.net_base.specs.declared.plan.circuit_plan.CircuitPlan.{CircuitPlan}
 use Rattle.net_base.specs.declared.plan.places.CircuitId.{CircuitId}
 use Rattle.net_base.specs.declared.plan.places.EdgeId.{EdgeId}
-use Rattle.net_base.specs.declared.plan.places.ServiceId.{ServiceId}
-use Rattle.net_base.specs.declared.plan.places.WireId.{WireId}
 use Rattle.net_base.specs.declared.trace.entry.Entry.{Entry}
 use Rattle.net_base.specs.declared.trace.entry.Entry.TheVariants.{Left, Sent}
 use Rattle.net_base.specs.declared.trace.event.Event.{Event}
-use Rattle.net_base.specs.declared.trace.event.Event.TheVariants.{Connect, Deliver, Lose, Restart, Tick, Frame, Wire, Circuit, Status}
+use Rattle.net_base.specs.declared.trace.event.Event.TheVariants.{Frame, Arrive, Discard, Again}
 use Rattle.net_base.specs.plan.Places.{circuit_row}
-use Rattle.edge_model.specs.Circuit.{circuit_input}
-use Rattle.edge_model.specs.Connection.{restart_input}
-use Rattle.edge_model.specs.declared.effect.Effect.{Effect}
-use Rattle.edge_model.specs.Tick.{tick_input}
-use Rattle.edge_model.specs.Wire.{status_input, wire_input}
 use Rattle.edge_model.specs.Work.{Work}
-use Rattle.edge_model.proofs.LocalLemmas.{and_left, and_right}
-use Rattle.network_model.specs.Absorb.{Stepped, absorb, and_then, answer, begin_at, idle, taken_all}
-use Rattle.network_model.specs.Circuit.{circuit_event}
-use Rattle.network_model.specs.Connection.{can_connect, connect_event, connected_work, connecting, deliver_event, delivering, given_out, hearing_work, is_deliverable, is_drained_pipe, lose_event, losing, losing_work, restart_event}
+use Rattle.network_model.specs.declared.packet.Packet.{Packet}
+use Rattle.network_model.specs.Absorb.{Stepped, absorb, idle}
 use Rattle.network_model.specs.Frame.{entering, frame_event, frame_work, next_origin}
 use Rattle.network_model.specs.OnceEach.{LeftWithin, times_left}
+use Rattle.network_model.specs.Packet.{again_event, arrive_event, discard_event, packet_at, packet_work}
 use Rattle.network_model.specs.Run.{entries_along, state_after}
-use Rattle.network_model.specs.State.{NetworkState, stands, with_edge, with_frame, with_pipe, without_octets_to}
+use Rattle.network_model.specs.State.{NetworkState, with_edge, with_frame, with_packet, without_number, without_packet}
 use Rattle.network_model.specs.Step.{step}
-use Rattle.network_model.specs.Tick.{tick_at, tick_event, ticks_from}
-use Rattle.network_model.specs.Window.{all_spare, spares}
-use Rattle.network_model.specs.Wire.{status_event, wire_event}
-use Rattle.network_model.proofs.AbsorbLemmas.{all_keep, all_leave, awaited, due, of_origin, others_tell, own_within, times_left-append, within-append}
-use Rattle.network_model.proofs.QuietLemmas.{NoneGoesOut, circuit_tells, connect_tells, deliver_tells, lose_tells, restart_tells, status_tells, tick_tells, wire_tells}
+use Rattle.network_model.proofs.AbsorbLemmas.{all_keep, all_leave, of_origin, of_origin-other, others_tell, own_within, times_left-append}
+use Rattle.network_model.proofs.PacketListLemmas.{packet_number}
+use Rattle.network_model.proofs.QuietLemmas.{IsSignalStep, NoneGoesOut, step_signals}
 
 -- nothing is told of the frame, and its copies under way stay
 pub record IsApart (origin : ℕ) (circuit : CircuitId) (network : NetworkState) (stepped : Stepped) : Type 0 where
   pub left : times_left origin circuit stepped.entries ≡ 0
   pub under_way : of_origin origin stepped.state.under_way ≡ of_origin origin network.under_way
+
+idle_apart : (origin : ℕ) (circuit : CircuitId) (network : NetworkState) → IsApart origin circuit network (idle network)
+idle_apart origin circuit network = record { left = refl; under_way = refl }
+
+-- one step after another
+apart_then : (origin : ℕ) (circuit : CircuitId) (network : NetworkState) (first next : Stepped) → IsApart origin circuit network first → IsApart origin circuit first.state next
+    → IsApart origin circuit network (record { state = next.state; entries = first.entries ++ next.entries })
+apart_then origin circuit network first next here later = record {
+  left = omega (arith, times_left-append origin circuit first.entries next.entries, here.left, later.left);
+  under_way = later.under_way ∙ here.under_way;
+}
+
+-- ---- where nothing goes out
+
+none_left : (origin : ℕ) (circuit : CircuitId) (es : List Entry) → NoneGoesOut es → times_left origin circuit es ≡ 0
+none_left origin circuit [] none = refl
+none_left origin circuit (Left at from hops octets ∷ es) none = absurd none
+none_left origin circuit (Sent packet from to wire came other hops octets ∷ es) none = absurd none
+none_left origin circuit (e ∷ es) none = none_left origin circuit es none
+
+signals_apart : (origin : ℕ) (circuit : CircuitId) (network : NetworkState) (stepped : Stepped) → IsSignalStep network stepped → IsApart origin circuit network stepped
+signals_apart origin circuit network stepped signals = record {
+  left = none_left origin circuit stepped.entries signals.tells;
+  under_way = ap (of_origin origin) signals.quiet.under_way;
+}
+
+-- ---- the work of an edge on another frame
 
 absorb_apart : (origin : ℕ) (circuit : CircuitId) (me : EdgeId) (other hops : ℕ) (work : Work) (network : NetworkState) → nat_eq other origin ≡ false → IsApart origin circuit network (absorb me other hops work network)
 unfolding with_edge
@@ -44,18 +63,6 @@ absorb_apart origin circuit me other hops work network apart = record {
   left = others_tell origin circuit me other hops work.effects (with_edge me work.edge network) apart;
   under_way = all_leave origin me other hops work.effects (with_edge me work.edge network) apart;
 }
-
-given_apart : (origin : ℕ) (circuit : CircuitId) (me : EdgeId) (es : List Effect) (network : NetworkState) → nat_eq 0 origin ≡ false → IsApart origin circuit network (given_out me es network)
-given_apart origin circuit me es network apart = record {
-  left = others_tell origin circuit me 0 0 es network apart;
-  under_way = all_leave origin me 0 0 es network apart;
-}
-
-answer_apart : (origin : ℕ) (circuit : CircuitId) (me : EdgeId) (other hops : ℕ) (work : Work) (network : NetworkState) → nat_eq other origin ≡ false → IsApart origin circuit network (answer me other hops work network)
-answer_apart origin circuit me other hops work network apart = answered work.idle where
-  answered : (idles : Bool) → IsApart origin circuit network (cond idles (idle network) (absorb me other hops work network))
-  answered true = record { left = refl; under_way = refl }
-  answered false = absorb_apart origin circuit me other hops work network apart
 
 entering_apart : (origin : ℕ) (circuit at : CircuitId) (octets : List ℕ) (row : CircuitPlan) (work : Work) (network : NetworkState) → nat_eq (next_origin network) origin ≡ false → IsApart origin circuit network (entering network at octets row work)
 unfolding with_frame
@@ -71,119 +78,104 @@ entering_counts at octets row work network = (all_keep row.edge (next_origin net
 frame_apart : (plan : Plan) (origin : ℕ) (circuit at : CircuitId) (octets : List ℕ) (row : Option CircuitPlan) (network : NetworkState)
     → (network.entered + 1 ≡ origin → (frame_event plan at octets row network).state.entered ≡ network.entered + 1 → ⊥)
     → IsApart origin circuit network (frame_event plan at octets row network)
-frame_apart plan origin circuit at octets None network apart = record { left = refl; under_way = refl }
+frame_apart plan origin circuit at octets None network apart = idle_apart origin circuit network
 frame_apart plan origin circuit at octets (Some row) network apart = taken (frame_work plan network at octets row).idle apart where
   taken : (idles : Bool)
       → (network.entered + 1 ≡ origin → (cond idles (idle network) (entering network at octets row (frame_work plan network at octets row))).state.entered ≡ network.entered + 1 → ⊥)
       → IsApart origin circuit network (cond idles (idle network) (entering network at octets row (frame_work plan network at octets row)))
-  taken true apart = record { left = refl; under_way = refl }
+  taken true apart = idle_apart origin circuit network
   taken false apart =
       entering_apart origin circuit at octets row (frame_work plan network at octets row) network
       (ne_eqb (network.entered + 1) origin (λ same. apart same (entering_counts at octets row (frame_work plan network at octets row) network)))
 
-circuit_apart : (plan : Plan) (origin : ℕ) (circuit at : CircuitId) (on : Bool) (row : Option CircuitPlan) (network : NetworkState) → nat_eq 0 origin ≡ false → IsApart origin circuit network (circuit_event plan at on row network)
-circuit_apart plan origin circuit at on None network apart = record { left = refl; under_way = refl }
-circuit_apart plan origin circuit at on (Some row) network apart = answer_apart origin circuit row.edge 0 0 (circuit_input plan taken_all at on (Some row) (begin_at network row.edge)) network apart
+-- ---- a packet that carries another frame
 
-wire_apart : (plan : Plan) (origin : ℕ) (circuit : CircuitId) (me : EdgeId) (wire : WireId) (on : Bool) (network : NetworkState) → nat_eq 0 origin ≡ false
-    → IsApart origin circuit network (wire_event plan me wire on network)
-wire_apart plan origin circuit me wire on network apart = answer_apart origin circuit me 0 0 (wire_input plan taken_all wire on (begin_at network me)) network apart
+abbrev pub is_of : ℕ → Option Packet → Bool
+is_of origin None = false
+is_of origin (Some packet) = nat_eq packet.origin origin
 
-status_apart : (plan : Plan) (origin : ℕ) (circuit : CircuitId) (me : EdgeId) (wire : WireId) (bits : ℕ) (network : NetworkState) → nat_eq 0 origin ≡ false
-    → IsApart origin circuit network (status_event plan me wire bits network)
-status_apart plan origin circuit me wire bits network apart = answer_apart origin circuit me 0 0 (status_input plan taken_all wire bits (begin_at network me)) network apart
+-- where no copy of a frame is under way, no packet that is found is one
+none_is_of : (origin : ℕ) (test : Packet → Bool) (packets : List Packet) → of_origin origin packets ≡ [] → is_of origin (find test packets) ≡ false
+none_is_of origin test [] none = refl
+none_is_of origin test (p ∷ ps) none = by (test p) (nat_eq p.origin origin) refl none (λ rest. none_is_of origin test ps rest) where
+  by : (here same : Bool) → nat_eq p.origin origin ≡ same → cond same (p ∷ of_origin origin ps) (of_origin origin ps) ≡ [] → (of_origin origin ps ≡ [] → is_of origin (find test ps) ≡ false) → is_of origin (cond here (Some p) (find test ps)) ≡ false
+  by here true same none rest = absurd (cc (none))
+  by true false same none rest = same
+  by false false same none rest = rest none
 
--- one step after another
-apart_then : (origin : ℕ) (circuit : CircuitId) (network : NetworkState) (first next : Stepped) → IsApart origin circuit network first → IsApart origin circuit first.state next
-    → IsApart origin circuit network (record { state = next.state; entries = first.entries ++ next.entries })
-apart_then origin circuit network first next here later = record {
-  left = omega (arith, times_left-append origin circuit first.entries next.entries, here.left, later.left);
-  under_way = later.under_way ∙ here.under_way;
-}
+-- the copies stay where another packet goes
+without_other : (origin number : ℕ) (packets : List Packet) → is_of origin (find (λ packet. nat_eq packet.number number) packets) ≡ false → of_origin origin (without_number number packets) ≡ of_origin origin packets
+without_other origin number [] apart = refl
+without_other origin number (p ∷ ps) apart = by (nat_eq p.number number) apart (λ later. without_other origin number ps later) where
+  by : (here : Bool) → is_of origin (cond here (Some p) (find (λ packet. nat_eq packet.number number) ps)) ≡ false
+      → (is_of origin (find (λ packet. nat_eq packet.number number) ps) ≡ false → of_origin origin (without_number number ps) ≡ of_origin origin ps)
+      → of_origin origin (cond here ps (p ∷ without_number number ps)) ≡ of_origin origin (p ∷ ps)
+  by true apart rest = rw apart refl
+  by false apart rest = ap (λ (l : List Packet). cond (nat_eq p.origin origin) (p ∷ l) l) (rest apart)
 
-ticks_apart : (plan : Plan) (origin : ℕ) (circuit : CircuitId) (place count : ℕ) (network : NetworkState) → nat_eq 0 origin ≡ false → IsApart origin circuit network (ticks_from plan place count network)
-ticks_apart plan origin circuit place zero network apart = record { left = refl; under_way = refl }
-ticks_apart plan origin circuit place (suc count) network apart =
-    let me : EdgeId = record { 0 = place } in
-    let first : Stepped = tick_at plan me network in
-    apart_then origin circuit network first (ticks_from plan (place + 1) count first.state)
-    (absorb_apart origin circuit me 0 0 (tick_input plan taken_all (begin_at network me)) network apart) (ticks_apart plan origin circuit (place + 1) count first.state apart)
+packet_goes : (origin number : ℕ) (network : NetworkState) → is_of origin (packet_at network number) ≡ false → of_origin origin (without_packet number network).under_way ≡ of_origin origin network.under_way
+unfolding without_packet
+packet_goes origin number network apart = without_other origin number network.under_way apart
 
-connecting_apart : (origin : ℕ) (circuit : CircuitId) (from : EdgeId) (first : Work) (to : EdgeId) (second : Work) (network : NetworkState)
-    → nat_eq 0 origin ≡ false → IsApart origin circuit network (connecting from first to second network)
-unfolding with_edge
-connecting_apart origin circuit from first to second network apart =
-    let ready : NetworkState = with_edge to second.edge (with_edge from first.edge network) in
-    let here : Stepped = given_out from first.effects ready in
-    let there : Stepped = given_out to second.effects here.state in
-    let one : IsApart origin circuit ready here = given_apart origin circuit from first.effects ready apart in
-    let both : IsApart origin circuit ready (and_then here (given_out to second.effects)) = apart_then origin circuit ready here there one (given_apart origin circuit to second.effects here.state apart) in
-    record { left = both.left; under_way = both.under_way }
+-- a packet has the number by which it is found
+goes_by : (origin number : ℕ) (network : NetworkState) (packet : Packet) → packet_at network number ≡ Some packet → nat_eq packet.origin origin ≡ false
+    → of_origin origin (without_packet packet.number network).under_way ≡ of_origin origin network.under_way
+goes_by origin number network packet is apart =
+    let same : packet.number ≡ number = packet_number network number packet is in
+    ap (λ (n : ℕ). of_origin origin (without_packet n network).under_way) same ∙ packet_goes origin number network (ap (is_of origin) is ∙ apart)
 
-connect_apart : (plan : Plan) (origin : ℕ) (circuit : CircuitId) (from to : EdgeId) (network : NetworkState) → nat_eq 0 origin ≡ false → IsApart origin circuit network (connect_event plan from to network)
-connect_apart plan origin circuit from to network apart = by (can_connect plan network from.0 to.0) where
-  by : (connects : Bool) → IsApart origin circuit network (cond connects (connecting from (connected_work plan network from to) to (connected_work plan network to from) network) (idle network))
-  by true = connecting_apart origin circuit from (connected_work plan network from to) to (connected_work plan network to from) network apart
-  by false = record { left = refl; under_way = refl }
+arrive_apart : (plan : Plan) (origin : ℕ) (circuit : CircuitId) (number : ℕ) (network : NetworkState) (found : Option Packet) → packet_at network number ≡ found → is_of origin found ≡ false
+    → IsApart origin circuit network (arrive_event plan found network)
+arrive_apart plan origin circuit number network None is apart = idle_apart origin circuit network
+arrive_apart plan origin circuit number network (Some packet) is apart =
+    let rest : NetworkState = without_packet packet.number network in
+    let same = absorb_apart origin circuit packet.to packet.origin packet.hops (packet_work plan network packet) rest apart in
+    record { left = same.left; under_way = same.under_way ∙ goes_by origin number network packet is apart }
 
-delivering_apart : (plan : Plan) (origin : ℕ) (circuit : CircuitId) (from to : EdgeId) (count : ℕ) (network : NetworkState) → nat_eq 0 origin ≡ false → IsApart origin circuit network (delivering plan from to count network)
-unfolding with_pipe
-delivering_apart plan origin circuit from to count network apart =
-    let octets : List ℕ = take count (network.pipes from.0 to.0) in
-    let same = absorb_apart origin circuit to 0 0 (hearing_work plan network from to octets) (with_pipe from to (drop count (network.pipes from.0 to.0)) network) apart in
-    record { left = same.left; under_way = same.under_way }
+discard_apart : (origin : ℕ) (circuit : CircuitId) (number : ℕ) (network : NetworkState) (found : Option Packet) → packet_at network number ≡ found → is_of origin found ≡ false
+    → IsApart origin circuit network (discard_event found network)
+discard_apart origin circuit number network None is apart = idle_apart origin circuit network
+discard_apart origin circuit number network (Some packet) is apart = record { left = refl; under_way = goes_by origin number network packet is apart }
 
-deliver_apart : (plan : Plan) (origin : ℕ) (circuit : CircuitId) (from to : EdgeId) (count : ℕ) (network : NetworkState) → nat_eq 0 origin ≡ false → IsApart origin circuit network (deliver_event plan from to count network)
-deliver_apart plan origin circuit from to count network apart = by (is_deliverable network from.0 to.0) (is_drained_pipe network from.0 to.0) where
-  by : (applies drained : Bool) → IsApart origin circuit network (cond applies (cond drained (losing plan to from network) (delivering plan from to count network)) (idle network))
-  by true true = absorb_apart origin circuit to 0 0 (losing_work plan network to from) network apart
-  by true false = delivering_apart plan origin circuit from to count network apart
-  by false drained = record { left = refl; under_way = refl }
+again_apart : (origin : ℕ) (circuit : CircuitId) (network : NetworkState) (found : Option Packet) → is_of origin found ≡ false → IsApart origin circuit network (again_event found network)
+unfolding with_packet
+again_apart origin circuit network None apart = idle_apart origin circuit network
+again_apart origin circuit network (Some packet) apart = record { left = refl; under_way = of_origin-other origin _ network.under_way apart }
 
-lose_apart : (plan : Plan) (origin : ℕ) (circuit : CircuitId) (me peer : EdgeId) (network : NetworkState) → nat_eq 0 origin ≡ false → IsApart origin circuit network (lose_event plan me peer network)
-lose_apart plan origin circuit me peer network apart = by (stands network me.0 peer.0) where
-  by : (applies : Bool) → IsApart origin circuit network (cond applies (losing plan me peer network) (idle network))
-  by true = absorb_apart origin circuit me 0 0 (losing_work plan network me peer) network apart
-  by false = record { left = refl; under_way = refl }
+-- ---- one event
 
-restart_apart : (origin : ℕ) (circuit : CircuitId) (me : EdgeId) (network : NetworkState) → nat_eq 0 origin ≡ false → IsApart origin circuit network (restart_event me network)
-unfolding without_octets_to
-restart_apart origin circuit me network apart =
-    let same = absorb_apart origin circuit me 0 0 (restart_input (begin_at network me)) (without_octets_to me network) apart in
-    record { left = same.left; under_way = same.under_way }
+-- a packet that carries a copy of the frame arrives, is lost or is repeated
+abbrev pub moves_copy : NetworkState → ℕ → Event → Bool
+moves_copy network origin (Arrive number) = is_of origin (packet_at network number)
+moves_copy network origin (Discard number) = is_of origin (packet_at network number)
+moves_copy network origin (Again number) = is_of origin (packet_at network number)
+moves_copy network origin event = false
 
-step_apart : (plan : Plan) (origin : ℕ) (circuit : CircuitId) (network : NetworkState) (event : Event)
-    → 0 < origin → (network.entered + 1 ≡ origin → (step plan network event).state.entered ≡ network.entered + 1 → ⊥) → IsApart origin circuit network (step plan network event)
-step_apart plan origin circuit network (Connect from to) some apart =
-    let same = connect_apart plan origin circuit from to network (ne_eqb 0 origin (λ e. absurd (omega arith))) in
-    record { left = same.left; under_way = same.under_way }
-step_apart plan origin circuit network (Deliver from to count) some apart =
-    let same = deliver_apart plan origin circuit from to count network (ne_eqb 0 origin (λ e. absurd (omega arith))) in
-    record { left = same.left; under_way = same.under_way }
-step_apart plan origin circuit network (Lose me peer) some apart =
-    let same = lose_apart plan origin circuit me peer network (ne_eqb 0 origin (λ e. absurd (omega arith))) in
-    record { left = same.left; under_way = same.under_way }
-step_apart plan origin circuit network (Restart me) some apart =
-    let same = restart_apart origin circuit me network (ne_eqb 0 origin (λ e. absurd (omega arith))) in
-    record { left = same.left; under_way = same.under_way }
-step_apart plan origin circuit network Tick some apart =
-    let same = ticks_apart plan origin circuit 0 (length plan.edges) network (ne_eqb 0 origin (λ e. absurd (omega arith))) in
-    record { left = same.left; under_way = same.under_way }
-step_apart plan origin circuit network (Frame at octets) some apart =
+pub step_apart : (plan : Plan) (origin : ℕ) (circuit : CircuitId) (network : NetworkState) (event : Event)
+    → moves_copy network origin event ≡ false → (network.entered + 1 ≡ origin → (step plan network event).state.entered ≡ network.entered + 1 → ⊥) → IsApart origin circuit network (step plan network event)
+step_apart plan origin circuit network (Frame at octets) other apart =
     let same = frame_apart plan origin circuit at octets (circuit_row plan at) network apart in
     record { left = same.left; under_way = same.under_way }
-step_apart plan origin circuit network (Circuit at on) some apart =
-    let same = circuit_apart plan origin circuit at on (circuit_row plan at) network (ne_eqb 0 origin (λ e. absurd (omega arith))) in
+step_apart plan origin circuit network (Arrive number) other apart =
+    let same = arrive_apart plan origin circuit number network (packet_at network number) refl other in
     record { left = same.left; under_way = same.under_way }
-step_apart plan origin circuit network (Wire me wire on) some apart =
-    let same = wire_apart plan origin circuit me wire on network (ne_eqb 0 origin (λ e. absurd (omega arith))) in
+step_apart plan origin circuit network (Discard number) other apart =
+    let same = discard_apart origin circuit number network (packet_at network number) refl other in
     record { left = same.left; under_way = same.under_way }
-step_apart plan origin circuit network (Status me wire bits) some apart =
-    let same = status_apart plan origin circuit me wire bits network (ne_eqb 0 origin (λ e. absurd (omega arith))) in
+step_apart plan origin circuit network (Again number) other apart =
+    let same = again_apart origin circuit network (packet_at network number) other in
     record { left = same.left; under_way = same.under_way }
-step_apart plan origin circuit network event some apart = record { left = refl; under_way = refl }
+step_apart plan origin circuit network event other apart = signals_apart origin circuit network (step plan network event) (step_signals plan network event refl)
 
--- the count of frames never falls
+-- where no copy of the frame is under way, none is moved
+none_moved : (network : NetworkState) (origin : ℕ) (event : Event) → of_origin origin network.under_way ≡ [] → moves_copy network origin event ≡ false
+none_moved network origin (Arrive number) none = none_is_of origin (λ packet. nat_eq packet.number number) network.under_way none
+none_moved network origin (Discard number) none = none_is_of origin (λ packet. nat_eq packet.number number) network.under_way none
+none_moved network origin (Again number) none = none_is_of origin (λ packet. nat_eq packet.number number) network.under_way none
+none_moved network origin event none = refl
+
+-- ---- the count of frames never falls
+
 frame_counts : (plan : Plan) (at : CircuitId) (octets : List ℕ) (row : Option CircuitPlan) (network : NetworkState) → network.entered ≤ (frame_event plan at octets row network).state.entered
 frame_counts plan at octets None network = omega arith
 frame_counts plan at octets (Some row) network = taken (frame_work plan network at octets row).idle where
@@ -195,126 +187,77 @@ absorb_counts : (me : EdgeId) (origin hops : ℕ) (work : Work) (network : Netwo
 unfolding with_edge
 absorb_counts me origin hops work network = (all_keep me origin hops work.effects (with_edge me work.edge network)).entered
 
-answer_counts : (me : EdgeId) (origin hops : ℕ) (work : Work) (network : NetworkState) → (answer me origin hops work network).state.entered ≡ network.entered
-answer_counts me origin hops work network = answered work.idle where
-  answered : (idles : Bool) → (cond idles (idle network) (absorb me origin hops work network)).state.entered ≡ network.entered
-  answered true = refl
-  answered false = absorb_counts me origin hops work network
+arrive_counts : (plan : Plan) (found : Option Packet) (network : NetworkState) → (arrive_event plan found network).state.entered ≡ network.entered
+unfolding without_packet
+arrive_counts plan None network = refl
+arrive_counts plan (Some packet) network = absorb_counts packet.to packet.origin packet.hops (packet_work plan network packet) (without_packet packet.number network)
 
-circuit_counts : (plan : Plan) (at : CircuitId) (on : Bool) (row : Option CircuitPlan) (network : NetworkState) → (circuit_event plan at on row network).state.entered ≡ network.entered
-circuit_counts plan at on None network = refl
-circuit_counts plan at on (Some row) network = answer_counts row.edge 0 0 (circuit_input plan taken_all at on (Some row) (begin_at network row.edge)) network
+discard_counts : (found : Option Packet) (network : NetworkState) → (discard_event found network).state.entered ≡ network.entered
+unfolding without_packet
+discard_counts None network = refl
+discard_counts (Some packet) network = refl
 
-wire_counts : (plan : Plan) (me : EdgeId) (wire : WireId) (on : Bool) (network : NetworkState) → (wire_event plan me wire on network).state.entered ≡ network.entered
-wire_counts plan me wire on network = answer_counts me 0 0 (wire_input plan taken_all wire on (begin_at network me)) network
-
-status_counts : (plan : Plan) (me : EdgeId) (wire : WireId) (bits : ℕ) (network : NetworkState) → (status_event plan me wire bits network).state.entered ≡ network.entered
-status_counts plan me wire bits network = answer_counts me 0 0 (status_input plan taken_all wire bits (begin_at network me)) network
-
-ticks_count : (plan : Plan) (place count : ℕ) (network : NetworkState) → (ticks_from plan place count network).state.entered ≡ network.entered
-ticks_count plan place zero network = refl
-ticks_count plan place (suc count) network =
-    let me : EdgeId = record { 0 = place } in
-    ticks_count plan (place + 1) count (tick_at plan me network).state ∙ absorb_counts me 0 0 (tick_input plan taken_all (begin_at network me)) network
-
-connecting_counts : (from : EdgeId) (first : Work) (to : EdgeId) (second : Work) (network : NetworkState) → (connecting from first to second network).state.entered ≡ network.entered
-unfolding with_edge
-connecting_counts from first to second network =
-    let ready : NetworkState = with_edge to second.edge (with_edge from first.edge network) in
-    (all_keep to 0 0 second.effects (given_out from first.effects ready).state).entered ∙ (all_keep from 0 0 first.effects ready).entered
-
-connect_counts : (plan : Plan) (from to : EdgeId) (network : NetworkState) → (connect_event plan from to network).state.entered ≡ network.entered
-connect_counts plan from to network = by (can_connect plan network from.0 to.0) where
-  by : (connects : Bool) → (cond connects (connecting from (connected_work plan network from to) to (connected_work plan network to from) network) (idle network)).state.entered ≡ network.entered
-  by true = connecting_counts from (connected_work plan network from to) to (connected_work plan network to from) network
-  by false = refl
-
-delivering_counts : (plan : Plan) (from to : EdgeId) (count : ℕ) (network : NetworkState) → (delivering plan from to count network).state.entered ≡ network.entered
-unfolding with_pipe
-delivering_counts plan from to count network =
-    absorb_counts to 0 0 (hearing_work plan network from to (take count (network.pipes from.0 to.0))) (with_pipe from to (drop count (network.pipes from.0 to.0)) network)
-
-deliver_counts : (plan : Plan) (from to : EdgeId) (count : ℕ) (network : NetworkState) → (deliver_event plan from to count network).state.entered ≡ network.entered
-deliver_counts plan from to count network = by (is_deliverable network from.0 to.0) (is_drained_pipe network from.0 to.0) where
-  by : (applies drained : Bool) → (cond applies (cond drained (losing plan to from network) (delivering plan from to count network)) (idle network)).state.entered ≡ network.entered
-  by true true = absorb_counts to 0 0 (losing_work plan network to from) network
-  by true false = delivering_counts plan from to count network
-  by false drained = refl
-
-lose_counts : (plan : Plan) (me peer : EdgeId) (network : NetworkState) → (lose_event plan me peer network).state.entered ≡ network.entered
-lose_counts plan me peer network = by (stands network me.0 peer.0) where
-  by : (applies : Bool) → (cond applies (losing plan me peer network) (idle network)).state.entered ≡ network.entered
-  by true = absorb_counts me 0 0 (losing_work plan network me peer) network
-  by false = refl
-
-restart_counts : (me : EdgeId) (network : NetworkState) → (restart_event me network).state.entered ≡ network.entered
-unfolding without_octets_to
-restart_counts me network = absorb_counts me 0 0 (restart_input (begin_at network me)) (without_octets_to me network)
+again_counts : (found : Option Packet) (network : NetworkState) → (again_event found network).state.entered ≡ network.entered
+unfolding with_packet
+again_counts None network = refl
+again_counts (Some packet) network = refl
 
 pub step_counts : (plan : Plan) (network : NetworkState) (event : Event) → network.entered ≤ (step plan network event).state.entered
-step_counts plan network (Connect from to) = omega (arith, connect_counts plan from to network)
-step_counts plan network (Deliver from to count) = omega (arith, deliver_counts plan from to count network)
-step_counts plan network (Lose me peer) = omega (arith, lose_counts plan me peer network)
-step_counts plan network (Restart me) = omega (arith, restart_counts me network)
-step_counts plan network Tick = omega (arith, ticks_count plan 0 (length plan.edges) network)
 step_counts plan network (Frame at octets) = frame_counts plan at octets (circuit_row plan at) network
-step_counts plan network (Circuit at on) = omega (arith, circuit_counts plan at on (circuit_row plan at) network)
-step_counts plan network (Wire me wire on) = omega (arith, wire_counts plan me wire on network)
-step_counts plan network (Status me wire bits) = omega (arith, status_counts plan me wire bits network)
-step_counts plan network event = omega arith
+step_counts plan network (Arrive number) = omega (arith, arrive_counts plan (packet_at network number) network)
+step_counts plan network (Discard number) = omega (arith, discard_counts (packet_at network number) network)
+step_counts plan network (Again number) = omega (arith, again_counts (packet_at network number) network)
+step_counts plan network event = omega (arith, (step_signals plan network event refl).quiet.entered)
 
 pub counts_rise : (plan : Plan) (network : NetworkState) (events : List Event) → network.entered ≤ (state_after plan network events).entered
 counts_rise plan network [] = omega arith
 counts_rise plan network (e ∷ es) = omega (arith, step_counts plan network e, counts_rise plan (step plan network e).state es)
+
+-- ---- a run
 
 -- events of a run as one step
 abbrev pub along : Plan → NetworkState → List Event → Stepped
 along plan network events = record { state = state_after plan network events; entries = entries_along plan network events }
 
 -- before a frame enters
-pub apart_before : (plan : Plan) (origin : ℕ) (circuit : CircuitId) (network : NetworkState) (events : List Event) → (state_after plan network events).entered < origin → IsApart origin circuit network (along plan network events)
-apart_before plan origin circuit network [] later = record { left = refl; under_way = refl }
-apart_before plan origin circuit network (e ∷ es) later =
+pub apart_before : (plan : Plan) (origin : ℕ) (circuit : CircuitId) (network : NetworkState) (events : List Event) → (state_after plan network events).entered < origin → of_origin origin network.under_way ≡ []
+    → IsApart origin circuit network (along plan network events)
+apart_before plan origin circuit network [] later none = record { left = refl; under_way = refl }
+apart_before plan origin circuit network (e ∷ es) later none =
     let first : Stepped = step plan network e in
     let rise = counts_rise plan first.state es in
-    apart_then origin circuit network first (along plan first.state es)
-    (step_apart plan origin circuit network e (omega arith) (λ same entered. omega arith)) (apart_before plan origin circuit first.state es later)
-
--- after it entered, as long as its copies stay where they are
-later_apart : (plan : Plan) (origin : ℕ) (circuit : CircuitId) (network : NetworkState) (event : Event) → 0 < origin → origin ≤ network.entered → IsApart origin circuit network (step plan network event)
-later_apart plan origin circuit network event some entered = step_apart plan origin circuit network event some (λ same count. omega arith)
+    let here = step_apart plan origin circuit network e (none_moved network origin e none) (λ same entered. omega arith) in
+    apart_then origin circuit network first (along plan first.state es) here (apart_before plan origin circuit first.state es later (here.under_way ∙ none))
 
 -- once no copy of the frame is under way, none comes back, and nothing more is told of it
-pub apart_after : (plan : Plan) (origin : ℕ) (circuit : CircuitId) (network : NetworkState) (events : List Event) → 0 < origin → origin ≤ network.entered → of_origin origin network.under_way ≡ [] → IsApart origin circuit network (along plan network events)
-apart_after plan origin circuit network [] some entered none = record { left = refl; under_way = refl }
-apart_after plan origin circuit network (e ∷ es) some entered none =
+pub apart_after : (plan : Plan) (origin : ℕ) (circuit : CircuitId) (network : NetworkState) (events : List Event) → origin ≤ network.entered → of_origin origin network.under_way ≡ [] → IsApart origin circuit network (along plan network events)
+apart_after plan origin circuit network [] entered none = record { left = refl; under_way = refl }
+apart_after plan origin circuit network (e ∷ es) entered none =
     let first : Stepped = step plan network e in
-    let here = later_apart plan origin circuit network e some entered in
+    let here = step_apart plan origin circuit network e (none_moved network origin e none) (λ same count. omega arith) in
     apart_then origin circuit network first (along plan first.state es) here
-    (apart_after plan origin circuit first.state es some (omega (arith, step_counts plan network e)) (here.under_way ∙ none))
+    (apart_after plan origin circuit first.state es (omega (arith, step_counts plan network e)) (here.under_way ∙ none))
 
--- an event of a window: what it tells of the frame, and what is due after it, were due before it
-window_step : (plan : Plan) (calm : NetworkState) (service : ServiceId) (circuit : CircuitId) (origin : ℕ) (network : NetworkState) (event : Event)
-    → 0 < origin → origin ≤ network.entered → spares network origin event ≡ true
-    → times_left origin circuit (step plan network event).entries + due plan calm service circuit origin (step plan network event).state ≡ due plan calm service circuit origin network
-window_step plan calm service circuit origin network event some entered spared =
-    let same = later_apart plan origin circuit network event some entered in
-    omega (arith, same.left, ap (awaited plan calm service circuit) same.under_way)
+-- ---- how many segments a copy has passed that left
 
--- of a window's events: what was told, and what is due at its end, were due at its beginning
-pub window_due : (plan : Plan) (calm : NetworkState) (service : ServiceId) (circuit : CircuitId) (origin : ℕ) (network : NetworkState) (events : List Event)
-    → 0 < origin → origin ≤ network.entered → all_spare plan origin network events ≡ true
-    → times_left origin circuit (entries_along plan network events) + due plan calm service circuit origin (state_after plan network events) ≡ due plan calm service circuit origin network
-window_due plan calm service circuit origin network [] some entered spared = omega arith
-window_due plan calm service circuit origin network (e ∷ es) some entered spared =
-    let next : NetworkState = (step plan network e).state in
-    let here = window_step plan calm service circuit origin network e some entered (and_left (spares network origin e) (all_spare plan origin next es) spared) in
-    let later = window_due plan calm service circuit origin next es some (omega (arith, step_counts plan network e)) (and_right (spares network origin e) (all_spare plan origin next es) spared) in
-    omega (arith, times_left-append origin circuit (step plan network e).entries (entries_along plan next es), here, later)
+-- what never left has passed none
+pub never_within : (origin : ℕ) (es : List Entry) → ((circuit : CircuitId) → times_left origin circuit es ≡ 0) → LeftWithin origin es
+never_within origin [] never = tt
+never_within origin (Left at from hops octets ∷ es) never = (
+  λ same.
+      let here : nat_eq from origin ≡ true = eq-eqb from origin same in
+      let once : nat_eq at.0 at.0 ≡ true = eq-eqb at.0 at.0 refl in
+      let counted : 1 + times_left origin at es ≡ 0 = rw (here, once) at (never at) in
+      absurd (omega (arith, counted)),
+  never_within origin es (λ circuit. rest_never (nat_eq from origin && nat_eq at.0 circuit.0) (times_left origin circuit es) (never circuit)),
+) where
+  rest_never : (here : Bool) (rest : ℕ) → cond {A = ℕ} here 1 0 + rest ≡ 0 → rest ≡ 0
+  rest_never true rest none = absurd (omega (arith, none))
+  rest_never false rest none = omega (arith, none)
+never_within origin (e ∷ es) never = never_within origin es never
 
--- ---- what leaves has passed no segment, since no packet arrives yet
-
-frame_within : (plan : Plan) (number : ℕ) (at : CircuitId) (octets : List ℕ) (row : Option CircuitPlan) (network : NetworkState) → LeftWithin number (frame_event plan at octets row network).entries
+-- what enters has passed none
+pub frame_within : (plan : Plan) (number : ℕ) (at : CircuitId) (octets : List ℕ) (row : Option CircuitPlan) (network : NetworkState) → LeftWithin number (frame_event plan at octets row network).entries
 frame_within plan number at octets None network = tt
 frame_within plan number at octets (Some row) network = taken (frame_work plan network at octets row).idle where
   taken : (idles : Bool) → LeftWithin number (cond idles (idle network) (entering network at octets row (frame_work plan network at octets row))).entries
@@ -322,26 +265,3 @@ frame_within plan number at octets (Some row) network = taken (frame_work plan n
   taken false =
       let work : Work = frame_work plan network at octets row in
       own_within number row.edge (next_origin network) work.effects (with_edge row.edge work.edge (with_frame network))
-
-none_within : (number : ℕ) (es : List Entry) → NoneGoesOut es → LeftWithin number es
-none_within number [] none = tt
-none_within number (Left circuit origin hops octets ∷ es) none = absurd none
-none_within number (Sent packet from to wire came origin hops octets ∷ es) none = absurd none
-none_within number (e ∷ es) none = none_within number es none
-
-step_within : (plan : Plan) (number : ℕ) (network : NetworkState) (event : Event) → LeftWithin number (step plan network event).entries
-step_within plan number network (Connect from to) = none_within number (connect_event plan from to network).entries (connect_tells plan from to network)
-step_within plan number network (Deliver from to count) = none_within number (deliver_event plan from to count network).entries (deliver_tells plan from to count network)
-step_within plan number network (Lose me peer) = none_within number (lose_event plan me peer network).entries (lose_tells plan me peer network)
-step_within plan number network (Restart me) = none_within number (restart_event me network).entries (restart_tells me network)
-step_within plan number network Tick = none_within number (tick_event plan network).entries (tick_tells plan network)
-step_within plan number network (Frame at octets) = frame_within plan number at octets (circuit_row plan at) network
-step_within plan number network (Circuit at on) = none_within number (circuit_event plan at on (circuit_row plan at) network).entries (circuit_tells plan network at on (circuit_row plan at))
-step_within plan number network (Wire me wire on) = none_within number (wire_event plan me wire on network).entries (wire_tells plan me wire on network)
-step_within plan number network (Status me wire bits) = none_within number (status_event plan me wire bits network).entries (status_tells plan me wire bits network)
-step_within plan number network event = tt
-
-pub along_within : (plan : Plan) (number : ℕ) (network : NetworkState) (events : List Event) → LeftWithin number (entries_along plan network events)
-along_within plan number network [] = tt
-along_within plan number network (e ∷ es) =
-    within-append number (step plan network e).entries (entries_along plan (step plan network e).state es) (step_within plan number network e) (along_within plan number (step plan network e).state es)

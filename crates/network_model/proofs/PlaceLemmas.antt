@@ -1,85 +1,36 @@
 -- In every state of a run the edge at a place is the edge of that place.
-use Rattle.std.proofs.Common.{◌≡◌, ◌+◌, ◌&&◌, ◌∙◌, ℕ, zero, suc, Bool, true, false, List, [], ◌∷◌, Option, Some, None, Result, Ok, Err, cond, refl, ap, sym, nat_eq, length, take, drop, inl, inr}
+use Rattle.std.proofs.Common.{◌≡◌, ◌+◌, ◌∙◌, ℕ, zero, suc, Bool, true, false, List, [], ◌∷◌, Option, Some, None, cond, refl, ap, sym, nat_eq, length, take, drop, inl, inr}
 use Rattle.std.proofs.lemmas.Bool.{cases_Bool, eqb-true}
 use Rattle.net_base.specs.declared.plan.Plan.{Plan}
 use Rattle.net_base.specs.declared.plan.circuit_plan.CircuitPlan.{CircuitPlan}
 use Rattle.net_base.specs.declared.plan.places.CircuitId.{CircuitId}
 use Rattle.net_base.specs.declared.plan.places.EdgeId.{EdgeId}
-use Rattle.net_base.specs.declared.plan.places.ServiceId.{ServiceId}
 use Rattle.net_base.specs.declared.plan.places.WireId.{WireId}
-use Rattle.net_base.specs.declared.trace.drop_cause.DropCause.{DropCause}
 use Rattle.net_base.specs.declared.trace.event.Event.{Event}
-use Rattle.net_base.specs.declared.trace.event.Event.TheVariants.{Connect, Deliver, Lose, Restart, Tick, Frame, Wire, Circuit, Status}
+use Rattle.net_base.specs.declared.trace.event.Event.TheVariants.{Connect, Deliver, Lose, Restart, Tick, Frame, Arrive, Discard, Again, Wire, Circuit, Status}
 use Rattle.net_base.specs.plan.Places.{circuit_row}
-use Rattle.net_base.specs.trace.Isolated.{inner_at}
-use Rattle.hvpls_spokes.specs.declared.port.Port.{Port}
-use Rattle.hvpls_spokes.specs.declared.port.Port.TheVariants as port
-use Rattle.hvpls_spokes.specs.Port.{ports_of}
 use Rattle.edge_model.specs.Circuit.{circuit_input}
 use Rattle.edge_model.specs.Connection.{restart_input}
 use Rattle.edge_model.specs.declared.effect.Effect.{Effect}
-use Rattle.edge_model.specs.Frame.{copies, copy_by, forwarded, frame_input, hearing, is_own, port_at, received, targets_of}
-use Rattle.edge_model.specs.State.{EdgeState, is_on, with_addresses}
+use Rattle.edge_model.specs.State.{EdgeState}
 use Rattle.edge_model.specs.Tick.{tick_input}
-use Rattle.edge_model.specs.Work.{Work, Answers, changes, gives, idles}
+use Rattle.edge_model.specs.Work.{Work}
 use Rattle.edge_model.specs.Wire.{status_input, wire_input}
+use Rattle.edge_model.proofs.BridgeLemmas.{frame_bridges, packet_bridges}
 use Rattle.edge_model.proofs.SessionLemmas.{restart_works}
 use Rattle.edge_model.proofs.SignalLemmas.{circuit_signals, connected_signals, lost_signals, octets_signal, status_signals, tick_works, wire_signals}
 use Rattle.network_model.specs.Absorb.{absorb, absorb_all, answer, begin_at, idle, taken_all}
 use Rattle.network_model.specs.Circuit.{circuit_event}
 use Rattle.network_model.specs.Connection.{can_connect, connect_event, connected_work, connecting, deliver_event, delivering, hearing_work, is_deliverable, is_drained_pipe, lose_event, losing, losing_work, restart_event}
 use Rattle.network_model.specs.Frame.{entering, frame_event, frame_work, next_origin}
+use Rattle.network_model.specs.declared.packet.Packet.{Packet}
+use Rattle.network_model.specs.Packet.{again_event, arrive_event, discard_event, packet_at, packet_work}
 use Rattle.network_model.specs.Run.{state_after}
-use Rattle.network_model.specs.State.{NetworkState, at_edge, empty_network, stands, with_edge, with_frame, with_pipe, without_octets_to}
+use Rattle.network_model.specs.State.{NetworkState, at_edge, empty_network, stands, with_edge, with_frame, with_packet, with_pipe, without_octets_to, without_packet}
 use Rattle.network_model.specs.Step.{step}
 use Rattle.network_model.specs.Tick.{tick_at, ticks_from}
 use Rattle.network_model.specs.Wire.{status_event, wire_event}
 use Rattle.network_model.proofs.AbsorbLemmas.{all_keep}
-
--- the work has the same edge, and applies where it did
-pub record IsSameEdge (old new : Work) : Type 0 where
-  pub edge : new.edge ≡ old.edge
-  pub idle : new.idle ≡ old.idle
-
-copy_same : (plan : Plan) (told : Answers) (frame : List ℕ) (x : Port) (b : Bool) (work : Work) → IsSameEdge work (cond b (copy_by plan told frame x work) work)
-unfolding gives
-copy_same plan told frame x false work = record { edge = refl; idle = refl }
-copy_same plan told frame (port.Circuit at) true work = record { edge = refl; idle = refl }
-copy_same plan told frame (port.Mesh wire) true work = record { edge = refl; idle = refl }
-copy_same plan told frame (port.Spoke wire) true work = record { edge = refl; idle = refl }
-
-copies_same : (plan : Plan) (told : Answers) (frame : List ℕ) (targets : ℕ → Bool) (p : ℕ) (ports : List Port) (work : Work) → IsSameEdge work (copies targets (copy_by plan told frame) p ports work)
-copies_same plan told frame targets p [] work = record { edge = refl; idle = refl }
-copies_same plan told frame targets p (x ∷ ports) work =
-    let here = copy_same plan told frame x (targets p) work in
-    let later = copies_same plan told frame targets (p + 1) ports (cond (targets p) (copy_by plan told frame x work) work) in
-    record { edge = later.edge ∙ here.edge; idle = later.idle ∙ here.idle }
-
--- the work is that of the same place, and applies where it did
-pub record IsSamePlace (old new : Work) : Type 0 where
-  pub me : new.edge.me ≡ old.edge.me
-  pub idle : new.idle ≡ old.idle
-
-forwarded_same : (plan : Plan) (told : Answers) (service : ServiceId) (frame : List ℕ) (arrival : Option ℕ) (work : Work) → IsSamePlace work (forwarded plan told service frame arrival work)
-unfolding changes with_addresses
-forwarded_same plan told service frame None work = record { me = refl; idle = refl }
-forwarded_same plan told service frame (Some arrival) work =
-    let heard : Work = changes (hearing service frame arrival) work in
-    let ports : List Port = ports_of plan service heard.edge.me in
-    let same = copies_same plan told frame (targets_of plan heard.edge service ports frame arrival) 0 ports heard in
-    record { me = ap (λ (e : EdgeState). e.me) same.edge; idle = same.idle }
-
-pub received_same : (plan : Plan) (told : Answers) (service : ServiceId) (arrival : Option ℕ) (read : Result (List ℕ) DropCause) (work : Work) → IsSamePlace work (received plan told service arrival read work)
-unfolding gives
-received_same plan told service arrival (Ok frame) work = forwarded_same plan told service frame arrival work
-received_same plan told service arrival (Err cause) work = record { me = refl; idle = refl }
-
-frame_me : (plan : Plan) (told : Answers) (circuit : CircuitId) (octets : List ℕ) (row : CircuitPlan) (work : Work) → (frame_input plan told circuit octets (Some row) work).edge.me ≡ work.edge.me
-unfolding idles
-frame_me plan told circuit octets row work = taken (is_own work.edge row && is_on work.edge circuit) where
-  taken : (b : Bool) → (cond b (received plan told row.service (port_at plan work.edge circuit row) (inner_at plan circuit octets) work) (idles work)).edge.me ≡ work.edge.me
-  taken true = (received_same plan told row.service (port_at plan work.edge circuit row) (inner_at plan circuit octets) work).me
-  taken false = refl
 
 -- each edge of the network has its own place
 pub record IsPlaced (network : NetworkState) : Type 0 where
@@ -122,7 +73,7 @@ frame_placed plan network circuit octets (Some row) placed = taken (frame_work p
   taken true = placed
   taken false =
       absorb_placed row.edge (next_origin network) 0 (frame_work plan network circuit octets row) (with_frame network) (entered_placed network placed)
-      (frame_me plan taken_all circuit octets row (begin_at network row.edge))
+      (frame_bridges plan taken_all circuit octets (Some row) (begin_at network row.edge)).edge.me
 
 circuit_placed : (plan : Plan) (network : NetworkState) (circuit : CircuitId) (on : Bool) (row : Option CircuitPlan) → IsPlaced network → IsPlaced (circuit_event plan circuit on row network).state
 circuit_placed plan network circuit on None placed = placed
@@ -199,7 +150,29 @@ unfolding without_octets_to
 restart_placed me network placed =
     absorb_placed me 0 0 (restart_input (begin_at network me)) (without_octets_to me network) (emptied_placed me network placed) (restart_works (begin_at network me)).me
 
-step_placed : (plan : Plan) (network : NetworkState) (event : Event) → IsPlaced network → IsPlaced (step plan network event).state
+-- ---- packets
+
+without_placed : (number : ℕ) (network : NetworkState) → IsPlaced network → IsPlaced (without_packet number network)
+unfolding without_packet
+without_placed number network placed = record { me = placed.me }
+
+arrive_placed : (plan : Plan) (found : Option Packet) (network : NetworkState) → IsPlaced network → IsPlaced (arrive_event plan found network).state
+unfolding without_packet
+arrive_placed plan None network placed = placed
+arrive_placed plan (Some packet) network placed =
+    absorb_placed packet.to packet.origin packet.hops (packet_work plan network packet) (without_packet packet.number network) (without_placed packet.number network placed)
+    (packet_bridges plan taken_all packet.bytes (begin_at network packet.to)).edge.me
+
+discard_placed : (found : Option Packet) (network : NetworkState) → IsPlaced network → IsPlaced (discard_event found network).state
+discard_placed None network placed = placed
+discard_placed (Some packet) network placed = without_placed packet.number network placed
+
+again_placed : (found : Option Packet) (network : NetworkState) → IsPlaced network → IsPlaced (again_event found network).state
+unfolding with_packet
+again_placed None network placed = placed
+again_placed (Some packet) network placed = record { me = placed.me }
+
+pub step_placed : (plan : Plan) (network : NetworkState) (event : Event) → IsPlaced network → IsPlaced (step plan network event).state
 step_placed plan network (Connect from to) placed = connect_placed plan from to network placed
 step_placed plan network (Deliver from to count) placed = deliver_placed plan from to count network placed
 step_placed plan network (Lose me peer) placed = lose_placed plan me peer network placed
@@ -209,6 +182,9 @@ step_placed plan network (Frame circuit octets) placed = frame_placed plan netwo
 step_placed plan network (Circuit circuit on) placed = circuit_placed plan network circuit on (circuit_row plan circuit) placed
 step_placed plan network (Wire me wire on) placed = wire_placed plan me wire on network placed
 step_placed plan network (Status me wire bits) placed = status_placed plan me wire bits network placed
+step_placed plan network (Arrive number) placed = arrive_placed plan (packet_at network number) network placed
+step_placed plan network (Discard number) placed = discard_placed (packet_at network number) network placed
+step_placed plan network (Again number) placed = again_placed (packet_at network number) network placed
 step_placed plan network event placed = placed
 
 after_placed : (plan : Plan) (network : NetworkState) (events : List Event) → IsPlaced network → IsPlaced (state_after plan network events)

@@ -8,9 +8,14 @@ use Rattle.net_base.specs.declared.plan.places.EdgeId.{EdgeId}
 use Rattle.net_base.specs.declared.plan.places.WireId.{WireId}
 use Rattle.net_base.specs.declared.trace.entry.Entry.{Entry}
 use Rattle.net_base.specs.declared.trace.entry.Entry.TheVariants.{Left, Sent}
+use Rattle.net_base.specs.declared.trace.event.Event.{Event}
+use Rattle.net_base.specs.declared.trace.event.Event.TheVariants.{Connect, Deliver, Lose, Restart, Tick, Frame, Arrive, Discard, Again, Wire, Circuit, Status}
+use Rattle.net_base.specs.plan.Places.{circuit_row}
 use Rattle.edge_model.specs.Circuit.{circuit_input}
+use Rattle.edge_model.specs.Connection.{restart_input}
 use Rattle.edge_model.specs.declared.effect.Effect.{Effect}
 use Rattle.edge_model.specs.declared.effect.Effect.TheVariants as effect
+use Rattle.edge_model.specs.State.{EdgeState}
 use Rattle.edge_model.specs.Tick.{tick_input}
 use Rattle.edge_model.specs.Wire.{status_input, wire_input}
 use Rattle.edge_model.specs.Work.{Work, changes}
@@ -20,7 +25,8 @@ use Rattle.edge_model.proofs.SignalLemmas.{circuit_signals, connected_signals, i
 use Rattle.network_model.specs.Absorb.{Stepped, absorb, absorb_all, absorb_one, all_entries_of, answer, begin_at, idle, taken_all}
 use Rattle.network_model.specs.Circuit.{circuit_event}
 use Rattle.network_model.specs.Connection.{can_connect, connect_event, connected_work, connecting, deliver_event, delivering, given_out, hearing_work, is_deliverable, is_drained_pipe, lose_event, losing, losing_work, restart_event}
-use Rattle.network_model.specs.State.{NetworkState, at_edge, stands, with_edge, with_pipe}
+use Rattle.network_model.specs.State.{NetworkState, at_edge, stands, with_edge, with_pipe, without_octets_to}
+use Rattle.network_model.specs.Step.{step}
 use Rattle.network_model.specs.Tick.{tick_at, tick_event, ticks_from}
 use Rattle.network_model.specs.Wire.{status_event, wire_event}
 
@@ -50,24 +56,25 @@ signals_tell me origin hops (e ∷ es) network own = absurd (cc (own))
 pub record IsQuiet (old new : NetworkState) : Type 0 where
   pub under_way : new.under_way ≡ old.under_way
   pub sent : new.sent ≡ old.sent
+  pub entered : new.entered ≡ old.entered
 
 pipe_quiet : (from to : EdgeId) (octets : List ℕ) (network : NetworkState) (b : Bool) → IsQuiet network (cond b (with_pipe from to octets network) network)
 unfolding with_pipe
-pipe_quiet from to octets network true = record { under_way = refl; sent = refl }
-pipe_quiet from to octets network false = record { under_way = refl; sent = refl }
+pipe_quiet from to octets network true = record { under_way = refl; sent = refl; entered = refl }
+pipe_quiet from to octets network false = record { under_way = refl; sent = refl; entered = refl }
 
 quiet_then : (a b c : NetworkState) → IsQuiet a b → IsQuiet b c → IsQuiet a c
-quiet_then a b c first next = record { under_way = next.under_way ∙ first.under_way; sent = next.sent ∙ first.sent }
+quiet_then a b c first next = record { under_way = next.under_way ∙ first.under_way; sent = next.sent ∙ first.sent; entered = next.entered ∙ first.entered }
 
 one_quiet : (me : EdgeId) (origin hops : ℕ) (e : Effect) (network : NetworkState) → is_of_signalling e ≡ true → IsQuiet network (absorb_one me origin hops e network)
 one_quiet me origin hops (effect.Said peer octets) network own = pipe_quiet me peer _ network (stands network peer.0 me.0)
-one_quiet me origin hops (effect.Session peer state) network own = record { under_way = refl; sent = refl }
-one_quiet me origin hops (effect.Wire wire down) network own = record { under_way = refl; sent = refl }
+one_quiet me origin hops (effect.Session peer state) network own = record { under_way = refl; sent = refl; entered = refl }
+one_quiet me origin hops (effect.Wire wire down) network own = record { under_way = refl; sent = refl; entered = refl }
 one_quiet me origin hops (effect.Closed peer) network own = pipe_quiet peer me [] network true
 one_quiet me origin hops e network own = absurd (cc (own))
 
 pub signals_quiet : (me : EdgeId) (origin hops : ℕ) (es : List Effect) (network : NetworkState) → are_all is_of_signalling es ≡ true → IsQuiet network (absorb_all me origin hops es network)
-signals_quiet me origin hops [] network own = record { under_way = refl; sent = refl }
+signals_quiet me origin hops [] network own = record { under_way = refl; sent = refl; entered = refl }
 signals_quiet me origin hops (e ∷ es) network own =
     let next : NetworkState = absorb_one me origin hops e network in
     quiet_then network next (absorb_all me origin hops es next) (one_quiet me origin hops e network (and_left (is_of_signalling e) (are_all is_of_signalling es) own))
@@ -173,3 +180,127 @@ ticks_tell plan place (suc count) network =
 
 pub tick_tells : (plan : Plan) (network : NetworkState) → NoneGoesOut (tick_event plan network).entries
 tick_tells plan network = ticks_tell plan 0 (length plan.edges) network
+
+-- ---- and leave the packets under way, and the counts, as they are
+
+edge_quiet : (me : EdgeId) (edge : EdgeState) (network : NetworkState) → IsQuiet network (with_edge me edge network)
+unfolding with_edge
+edge_quiet me edge network = record { under_way = refl; sent = refl; entered = refl }
+
+emptied_quiet : (me : EdgeId) (network : NetworkState) → IsQuiet network (without_octets_to me network)
+unfolding without_octets_to
+emptied_quiet me network = record { under_way = refl; sent = refl; entered = refl }
+
+absorb_quiet : (me : EdgeId) (work : Work) (network : NetworkState) → are_all is_of_signalling work.effects ≡ true → IsQuiet network (absorb me 0 0 work network).state
+absorb_quiet me work network own =
+    let next : NetworkState = with_edge me work.edge network in
+    quiet_then network next (absorb_all me 0 0 work.effects next) (edge_quiet me work.edge network) (signals_quiet me 0 0 work.effects next own)
+
+answer_quiet : (me : EdgeId) (work : Work) (network : NetworkState) → are_all is_of_signalling work.effects ≡ true → IsQuiet network (answer me 0 0 work network).state
+answer_quiet me work network own = by work.idle where
+  by : (idles : Bool) → IsQuiet network (cond idles (idle network) (absorb me 0 0 work network)).state
+  by true = record { under_way = refl; sent = refl; entered = refl }
+  by false = absorb_quiet me work network own
+
+connecting_quiet : (plan : Plan) (from to : EdgeId) (network : NetworkState) → IsQuiet network (connecting from (connected_work plan network from to) to (connected_work plan network to from) network).state
+connecting_quiet plan from to network =
+    let first : Work = connected_work plan network from to in
+    let second : Work = connected_work plan network to from in
+    let one : NetworkState = with_edge from first.edge network in
+    let both : NetworkState = with_edge to second.edge one in
+    let here : NetworkState = absorb_all from 0 0 first.effects both in
+    quiet_then network both (absorb_all to 0 0 second.effects here)
+    (quiet_then network one both (edge_quiet from first.edge network) (edge_quiet to second.edge one))
+    (quiet_then both here (absorb_all to 0 0 second.effects here)
+    (signals_quiet from 0 0 first.effects both (connected_own plan network from to))
+    (signals_quiet to 0 0 second.effects here (connected_own plan network to from)))
+
+connect_quiet : (plan : Plan) (from to : EdgeId) (network : NetworkState) → IsQuiet network (connect_event plan from to network).state
+connect_quiet plan from to network = by (can_connect plan network from.0 to.0) where
+  by : (connects : Bool) → IsQuiet network (cond connects (connecting from (connected_work plan network from to) to (connected_work plan network to from) network) (idle network)).state
+  by true = connecting_quiet plan from to network
+  by false = record { under_way = refl; sent = refl; entered = refl }
+
+delivering_quiet : (plan : Plan) (from to : EdgeId) (count : ℕ) (network : NetworkState) → IsQuiet network (delivering plan from to count network).state
+delivering_quiet plan from to count network =
+    let octets : List ℕ = take count (network.pipes from.0 to.0) in
+    let rest : List ℕ = drop count (network.pipes from.0 to.0) in
+    let work : Work = hearing_work plan network from to octets in
+    quiet_then network (with_pipe from to rest network) (delivering plan from to count network).state (pipe_quiet from to rest network true)
+    (absorb_quiet to work (with_pipe from to rest network) (hearing_own plan network from to octets))
+
+losing_quiet : (plan : Plan) (me peer : EdgeId) (network : NetworkState) → IsQuiet network (losing plan me peer network).state
+losing_quiet plan me peer network = absorb_quiet me (losing_work plan network me peer) network (losing_own plan network me peer)
+
+deliver_quiet : (plan : Plan) (from to : EdgeId) (count : ℕ) (network : NetworkState) → IsQuiet network (deliver_event plan from to count network).state
+deliver_quiet plan from to count network = by (is_deliverable network from.0 to.0) (is_drained_pipe network from.0 to.0) where
+  by : (applies drained : Bool) → IsQuiet network (cond applies (cond drained (losing plan to from network) (delivering plan from to count network)) (idle network)).state
+  by true true = losing_quiet plan to from network
+  by true false = delivering_quiet plan from to count network
+  by false drained = record { under_way = refl; sent = refl; entered = refl }
+
+lose_quiet : (plan : Plan) (me peer : EdgeId) (network : NetworkState) → IsQuiet network (lose_event plan me peer network).state
+lose_quiet plan me peer network = by (stands network me.0 peer.0) where
+  by : (applies : Bool) → IsQuiet network (cond applies (losing plan me peer network) (idle network)).state
+  by true = losing_quiet plan me peer network
+  by false = record { under_way = refl; sent = refl; entered = refl }
+
+restarting_own : (network : NetworkState) (me : EdgeId) → are_all is_of_signalling (restart_input (begin_at network me)).effects ≡ true
+unfolding changes
+restarting_own network me = refl
+
+restart_quiet : (me : EdgeId) (network : NetworkState) → IsQuiet network (restart_event me network).state
+restart_quiet me network =
+    let work : Work = restart_input (begin_at network me) in
+    quiet_then network (without_octets_to me network) (restart_event me network).state (emptied_quiet me network)
+    (absorb_quiet me work (without_octets_to me network) (restarting_own network me))
+
+ticks_quiet : (plan : Plan) (place count : ℕ) (network : NetworkState) → IsQuiet network (ticks_from plan place count network).state
+ticks_quiet plan place zero network = record { under_way = refl; sent = refl; entered = refl }
+ticks_quiet plan place (suc count) network =
+    let me : EdgeId = record { 0 = place } in
+    let first : NetworkState = (tick_at plan me network).state in
+    quiet_then network first (ticks_from plan (place + 1) count first).state
+    (absorb_quiet me (tick_input plan taken_all (begin_at network me)) network (ticking_own plan network me)) (ticks_quiet plan (place + 1) count first)
+
+circuit_quiet : (plan : Plan) (network : NetworkState) (circuit : CircuitId) (on : Bool) (row : Option CircuitPlan) → IsQuiet network (circuit_event plan circuit on row network).state
+circuit_quiet plan network circuit on None = record { under_way = refl; sent = refl; entered = refl }
+circuit_quiet plan network circuit on (Some row) =
+    answer_quiet row.edge (circuit_input plan taken_all circuit on (Some row) (begin_at network row.edge)) network (circuit_own plan network circuit on row)
+
+-- ---- every event but four: frames enter, and packets arrive, are lost or are repeated
+
+abbrev pub moves_frames : Event → Bool
+moves_frames (Frame circuit octets) = true
+moves_frames (Arrive number) = true
+moves_frames (Discard number) = true
+moves_frames (Again number) = true
+moves_frames event = false
+
+pub record IsSignalStep (network : NetworkState) (stepped : Stepped) : Type 0 where
+  pub tells : NoneGoesOut stepped.entries
+  pub quiet : IsQuiet network stepped.state
+
+pub step_signals : (plan : Plan) (network : NetworkState) (event : Event) → moves_frames event ≡ false → IsSignalStep network (step plan network event)
+step_signals plan network (Connect from to) other = record { tells = connect_tells plan from to network; quiet = connect_quiet plan from to network }
+step_signals plan network (Deliver from to count) other = record { tells = deliver_tells plan from to count network; quiet = deliver_quiet plan from to count network }
+step_signals plan network (Lose me peer) other = record { tells = lose_tells plan me peer network; quiet = lose_quiet plan me peer network }
+step_signals plan network (Restart me) other = record { tells = restart_tells me network; quiet = restart_quiet me network }
+step_signals plan network Tick other = record { tells = tick_tells plan network; quiet = ticks_quiet plan 0 (length plan.edges) network }
+step_signals plan network (Circuit circuit on) other = record {
+  tells = circuit_tells plan network circuit on (circuit_row plan circuit);
+  quiet = circuit_quiet plan network circuit on (circuit_row plan circuit);
+}
+step_signals plan network (Wire me wire on) other = record {
+  tells = wire_tells plan me wire on network;
+  quiet = answer_quiet me (wire_input plan taken_all wire on (begin_at network me)) network (wire_own plan network me wire on);
+}
+step_signals plan network (Status me wire bits) other = record {
+  tells = status_tells plan me wire bits network;
+  quiet = answer_quiet me (status_input plan taken_all wire bits (begin_at network me)) network (status_own plan network me wire bits);
+}
+step_signals plan network (Frame circuit octets) other = absurd (cc (other))
+step_signals plan network (Arrive number) other = absurd (cc (other))
+step_signals plan network (Discard number) other = absurd (cc (other))
+step_signals plan network (Again number) other = absurd (cc (other))
+step_signals plan network event other = record { tells = tt; quiet = record { under_way = refl; sent = refl; entered = refl } }

@@ -1,44 +1,74 @@
 -- Split horizon holds of every run.
-use Rattle.std.proofs.Common.{◌≡◌, ℕ, Bool, true, false, List, [], ◌∷◌, Option, Some, None, cond, refl, sym, subst}
+use Rattle.std.proofs.Common.{◌≡◌, ◌&&◌, ◌∙◌, ℕ, Bool, true, false, List, [], ◌∷◌, Option, Some, None, cond, refl, ap, sym, subst}
 use Rattle.net_base.specs.declared.plan.Plan.{Plan}
 use Rattle.net_base.specs.declared.plan.circuit_plan.CircuitPlan.{CircuitPlan}
 use Rattle.net_base.specs.declared.plan.places.CircuitId.{CircuitId}
 use Rattle.net_base.specs.declared.plan.places.EdgeId.{EdgeId}
+use Rattle.net_base.specs.declared.plan.places.WireId.{WireId}
 use Rattle.net_base.specs.declared.trace.arrival.Arrival.{Arrival}
 use Rattle.net_base.specs.declared.trace.entry.Entry.{Entry}
 use Rattle.net_base.specs.declared.trace.entry.Entry.TheVariants.{Left, Sent}
 use Rattle.net_base.specs.declared.trace.event.Event.{Event}
-use Rattle.net_base.specs.declared.trace.event.Event.TheVariants.{Connect, Deliver, Lose, Restart, Tick, Frame, Wire, Circuit, Status}
-use Rattle.net_base.specs.plan.Places.{circuit_row}
+use Rattle.net_base.specs.declared.trace.event.Event.TheVariants.{Frame, Arrive, Discard, Again}
+use Rattle.net_base.specs.plan.Places.{circuit_row, is_mesh_class, is_mesh_row, is_mesh_wire}
 use Rattle.net_base.specs.trace.Split.{Split, SplitSent}
 use Rattle.net_base.proofs.TraceLemmas.{split-append}
 use Rattle.edge_model.specs.declared.effect.Effect.{Effect}
 use Rattle.edge_model.specs.declared.effect.Effect.TheVariants as effect
-use Rattle.edge_model.specs.Local.{AllStayBeside}
+use Rattle.edge_model.specs.Local.{AllStayBehind, AllStayBeside, SentBehind}
+use Rattle.edge_model.specs.State.{EdgeState}
 use Rattle.edge_model.proofs.LocalLemmas.{input_stays}
+use Rattle.edge_model.proofs.PacketLemmas.{packet_stays}
+use Rattle.network_model.specs.declared.packet.Packet.{Packet}
 use Rattle.network_model.specs.Absorb.{absorb_one, all_entries_of, idle, taken_all}
 use Rattle.network_model.specs.Frame.{entering, frame_event, frame_work, next_origin}
 use Rattle.network_model.specs.Laws.{RunsAreSplit}
+use Rattle.network_model.specs.Packet.{again_event, arrive_event, discard_event, packet_at, packet_work}
 use Rattle.network_model.specs.Run.{entries_along}
 use Rattle.network_model.specs.State.{NetworkState, at_edge, empty_network}
 use Rattle.network_model.specs.Step.{step}
-use Rattle.network_model.proofs.QuietLemmas.{NoneGoesOut, circuit_tells, connect_tells, deliver_tells, lose_tells, restart_tells, status_tells, tick_tells, wire_tells}
+use Rattle.network_model.proofs.QuietLemmas.{NoneGoesOut, step_signals}
 
--- what an edge sends for a frame of a circuit came by no wire
-effects_split : (plan : Plan) (sender : CircuitId) (me : EdgeId) (origin hops : ℕ) (octets : List ℕ) (network : NetworkState) (es : List Effect)
-    → AllStayBeside plan sender octets es → Split plan (all_entries_of me origin hops es network)
-effects_split plan sender me origin hops octets network [] all = tt
-effects_split plan sender me origin hops octets network (effect.Said peer bytes ∷ es) all = (tt, effects_split plan sender me origin hops octets (absorb_one me origin hops (effect.Said peer bytes) network) es all.1)
-effects_split plan sender me origin hops octets network (effect.Sent peer wire came bytes ∷ es) all = (
-  subst (λ (a : Arrival). SplitSent plan me wire a) (sym all.0.from) tt,
-  effects_split plan sender me origin hops octets (absorb_one me origin hops (effect.Sent peer wire came bytes) network) es all.1,
-)
-effects_split plan sender me origin hops octets network (effect.Left at bytes ∷ es) all = (tt, effects_split plan sender me origin hops octets network es all.1)
-effects_split plan sender me origin hops octets network (effect.Dropped cause ∷ es) all = (tt, effects_split plan sender me origin hops octets network es all.1)
-effects_split plan sender me origin hops octets network (effect.Session peer state ∷ es) all = (tt, effects_split plan sender me origin hops octets network es all.1)
-effects_split plan sender me origin hops octets network (effect.Wire wire down ∷ es) all = (tt, effects_split plan sender me origin hops octets network es all.1)
-effects_split plan sender me origin hops octets network (effect.Pong wire sequence ∷ es) all = (tt, effects_split plan sender me origin hops octets network es all.1)
-effects_split plan sender me origin hops octets network (effect.Closed peer ∷ es) all = effects_split plan sender me origin hops octets (absorb_one me origin hops (effect.Closed peer) network) es all.1
+-- what an edge sends on an input came by a circuit, or by another wire that is not a mesh wire as it is
+abbrev AllSplit : Plan → EdgeId → List Effect → Type 0
+AllSplit plan me [] = Unit {0}
+AllSplit plan me (effect.Sent peer wire came octets ∷ es) = SplitSent plan me wire came × AllSplit plan me es
+AllSplit plan me (e ∷ es) = AllSplit plan me es
+
+effects_split : (plan : Plan) (me : EdgeId) (origin hops : ℕ) (network : NetworkState) (es : List Effect) → AllSplit plan me es → Split plan (all_entries_of me origin hops es network)
+effects_split plan me origin hops network [] all = tt
+effects_split plan me origin hops network (effect.Said peer bytes ∷ es) all = (tt, effects_split plan me origin hops (absorb_one me origin hops (effect.Said peer bytes) network) es all)
+effects_split plan me origin hops network (effect.Sent peer wire came bytes ∷ es) all = (all.0, effects_split plan me origin hops (absorb_one me origin hops (effect.Sent peer wire came bytes) network) es all.1)
+effects_split plan me origin hops network (effect.Left at bytes ∷ es) all = (tt, effects_split plan me origin hops network es all)
+effects_split plan me origin hops network (effect.Dropped cause ∷ es) all = (tt, effects_split plan me origin hops network es all)
+effects_split plan me origin hops network (effect.Session peer state ∷ es) all = (tt, effects_split plan me origin hops network es all)
+effects_split plan me origin hops network (effect.Wire wire down ∷ es) all = (tt, effects_split plan me origin hops network es all)
+effects_split plan me origin hops network (effect.Pong wire sequence ∷ es) all = (tt, effects_split plan me origin hops network es all)
+effects_split plan me origin hops network (effect.Closed peer ∷ es) all = effects_split plan me origin hops (absorb_one me origin hops (effect.Closed peer) network) es all
+
+-- on a frame
+beside_split : (plan : Plan) (sender : CircuitId) (me : EdgeId) (octets : List ℕ) (es : List Effect) → AllStayBeside plan sender octets es → AllSplit plan me es
+beside_split plan sender me octets [] all = tt
+beside_split plan sender me octets (effect.Sent peer wire came bytes ∷ es) all = (subst (λ (a : Arrival). SplitSent plan me wire a) (sym all.0.from) tt, beside_split plan sender me octets es all.1)
+beside_split plan sender me octets (e ∷ es) all = beside_split plan sender me octets es all.1
+
+-- on a packet
+not_both : (came next : Bool) → came && next ≡ false → next ≡ true → came ≡ true → ⊥
+not_both true true apart a b = absurd (cc (apart))
+not_both true false apart a b = absurd (cc (a))
+not_both false next apart a b = absurd (cc (b))
+
+sent_behind : (plan : Plan) (edge : EdgeState) (me : EdgeId) (octets : List ℕ) (wire : WireId) (came : Arrival) → SentBehind plan edge octets wire came → SplitSent plan me wire came
+sent_behind plan edge me octets wire came behind =
+    let here : is_mesh_wire plan behind.place.wire ≡ is_mesh_class behind.row.class = ap is_mesh_row behind.by.is in
+    let there : is_mesh_wire plan wire ≡ is_mesh_class behind.next.class = ap is_mesh_row behind.is in
+    subst (λ (a : Arrival). SplitSent plan me wire a) (sym behind.from)
+    (λ out into. absurd (not_both (is_mesh_class behind.row.class) (is_mesh_class behind.next.class) behind.not_both_mesh (sym there ∙ out) (sym here ∙ into)))
+
+behind_split : (plan : Plan) (edge : EdgeState) (me : EdgeId) (octets : List ℕ) (es : List Effect) → AllStayBehind plan edge octets es → AllSplit plan me es
+behind_split plan edge me octets [] all = tt
+behind_split plan edge me octets (effect.Sent peer wire came bytes ∷ es) all = (sent_behind plan edge me octets wire came all.0, behind_split plan edge me octets es all.1)
+behind_split plan edge me octets (e ∷ es) all = behind_split plan edge me octets es all.1
 
 frame_split : (plan : Plan) (network : NetworkState) (circuit : CircuitId) (octets : List ℕ) (row : Option CircuitPlan) → circuit_row plan circuit ≡ row → Split plan (frame_event plan circuit octets row network).entries
 frame_split plan network circuit octets None is = (tt, tt)
@@ -47,8 +77,24 @@ frame_split plan network circuit octets (Some row) is = taken (frame_work plan n
   taken true = (tt, tt)
   taken false = (
     tt,
-    effects_split plan circuit row.edge (next_origin network) 0 octets _ (frame_work plan network circuit octets row).effects (input_stays plan taken_all (at_edge network row.edge) [] circuit octets (Some row) is),
+    effects_split plan row.edge (next_origin network) 0 _ (frame_work plan network circuit octets row).effects
+        (beside_split plan circuit row.edge octets (frame_work plan network circuit octets row).effects (input_stays plan taken_all (at_edge network row.edge) [] circuit octets (Some row) is)),
   )
+
+arrive_split : (plan : Plan) (network : NetworkState) (found : Option Packet) → Split plan (arrive_event plan found network).entries
+arrive_split plan network None = (tt, tt)
+arrive_split plan network (Some packet) =
+    effects_split plan packet.to packet.origin packet.hops _ (packet_work plan network packet).effects
+    (behind_split plan (at_edge network packet.to) packet.to packet.bytes (packet_work plan network packet).effects (packet_stays plan taken_all (at_edge network packet.to) [] packet.bytes))
+
+discard_split : (plan : Plan) (network : NetworkState) (found : Option Packet) → Split plan (discard_event found network).entries
+discard_split plan network None = (tt, tt)
+discard_split plan network (Some packet) = tt
+
+-- a repeated packet is told as a copy, and not as sent
+again_split : (plan : Plan) (network : NetworkState) (found : Option Packet) → Split plan (again_event found network).entries
+again_split plan network None = (tt, tt)
+again_split plan network (Some packet) = (tt, tt)
 
 none_split : (plan : Plan) (es : List Entry) → NoneGoesOut es → Split plan es
 none_split plan [] none = tt
@@ -57,16 +103,11 @@ none_split plan (Sent packet from to wire came origin hops octets ∷ es) none =
 none_split plan (e ∷ es) none = (tt, none_split plan es none)
 
 step_split : (plan : Plan) (network : NetworkState) (event : Event) → Split plan (step plan network event).entries
-step_split plan network (Connect from to) = (tt, none_split plan _ (connect_tells plan from to network))
-step_split plan network (Deliver from to count) = (tt, none_split plan _ (deliver_tells plan from to count network))
-step_split plan network (Lose me peer) = (tt, none_split plan _ (lose_tells plan me peer network))
-step_split plan network (Restart me) = (tt, none_split plan _ (restart_tells me network))
-step_split plan network Tick = (tt, none_split plan _ (tick_tells plan network))
 step_split plan network (Frame circuit octets) = (tt, frame_split plan network circuit octets (circuit_row plan circuit) refl)
-step_split plan network (Circuit circuit on) = (tt, none_split plan _ (circuit_tells plan network circuit on (circuit_row plan circuit)))
-step_split plan network (Wire me wire on) = (tt, none_split plan _ (wire_tells plan me wire on network))
-step_split plan network (Status me wire bits) = (tt, none_split plan _ (status_tells plan me wire bits network))
-step_split plan network event = (tt, tt)
+step_split plan network (Arrive number) = (tt, arrive_split plan network (packet_at network number))
+step_split plan network (Discard number) = (tt, discard_split plan network (packet_at network number))
+step_split plan network (Again number) = (tt, again_split plan network (packet_at network number))
+step_split plan network event = none_split plan (step plan network event).entries (step_signals plan network event refl).tells
 
 pub along_split : (plan : Plan) (network : NetworkState) (events : List Event) → Split plan (entries_along plan network events)
 along_split plan network [] = tt

@@ -4,16 +4,23 @@ use Rattle.net_base.specs.declared.plan.Plan.{Plan}
 use Rattle.net_base.specs.declared.plan.circuit_plan.CircuitPlan.{CircuitPlan}
 use Rattle.net_base.specs.declared.plan.places.CircuitId.{CircuitId}
 use Rattle.net_base.specs.declared.plan.places.ServiceId.{ServiceId}
+use Rattle.net_base.specs.declared.plan.wire_plan.WirePlan.{WirePlan}
 use Rattle.net_base.specs.declared.trace.entry.Entry.{Entry}
 use Rattle.net_base.specs.declared.trace.entry.Entry.TheVariants.{Left, Sent}
 use Rattle.net_base.specs.declared.trace.event.Event.{Event}
-use Rattle.net_base.specs.declared.trace.event.Event.TheVariants.{Frame}
+use Rattle.net_base.specs.declared.trace.event.Event.TheVariants.{Frame, Arrive}
 use Rattle.net_base.specs.plan.Places.{circuit_row}
 use Rattle.net_base.specs.trace.Isolated.{inner_at}
 use Rattle.vsi_bridge.specs.Targets.{known_port}
+use Rattle.edge_model.specs.declared.end_place.EndPlace.{EndPlace}
 use Rattle.edge_model.specs.Frame.{destination, hearing, port_at}
+use Rattle.edge_model.specs.Local.{ComesBy}
+use Rattle.edge_model.specs.Mend.{port_of_wire}
+use Rattle.edge_model.specs.Packet.{behind_entry, unpacked_at}
 use Rattle.edge_model.specs.State.{EdgeState, addresses_of}
+use Rattle.network_model.specs.declared.packet.Packet.{Packet}
 use Rattle.network_model.specs.Frame.{next_origin}
+use Rattle.network_model.specs.Packet.{packet_at}
 use Rattle.network_model.specs.Run.{state_after}
 use Rattle.network_model.specs.State.{NetworkState, at_edge, empty_network}
 use Rattle.network_model.specs.Step.{step}
@@ -36,12 +43,30 @@ known_to plan network circuit row frame =
     known_after row.service frame (port_at plan (at_edge network row.edge) circuit row) (at_edge network row.edge)
 
 -- in this state: what the step of a frame tells of the frame is one copy at most, where the bridge then knows its station
-abbrev pub ServesKnownOnce : Plan → NetworkState → Type 0
-ServesKnownOnce plan network = (circuit : CircuitId) (row : CircuitPlan) (octets frame : List ℕ) (port : ℕ)
+abbrev pub ServesFramesOnce : Plan → NetworkState → Type 0
+ServesFramesOnce plan network = (circuit : CircuitId) (row : CircuitPlan) (octets frame : List ℕ) (port : ℕ)
     → circuit_row plan circuit ≡ Some row
     → inner_at plan circuit octets ≡ Ok frame
     → known_to plan network circuit row frame ≡ Some port
     → times_out (next_origin network) (step plan network (Frame circuit octets)).entries ≤ 1
+
+-- the port that the bridge of the wire's service knows at the edge that a packet reaches, once it has heard the frame by the wire
+abbrev pub known_behind : Plan → NetworkState → Packet → EndPlace → WirePlan → List ℕ → Option ℕ
+known_behind plan network packet place row frame =
+    known_after row.service frame (port_of_wire plan (at_edge network packet.to) place.wire row) (at_edge network packet.to)
+
+-- and so it is with the step of a packet: what it tells of the packet's frame is one copy at most
+abbrev pub ServesPacketsOnce : Plan → NetworkState → Type 0
+ServesPacketsOnce plan network = (number : ℕ) (packet : Packet) (place : EndPlace) (row : WirePlan) (frame : List ℕ) (port : ℕ)
+    → packet_at network number ≡ Some packet
+    → ComesBy plan (at_edge network packet.to) packet.bytes place row
+    → unpacked_at plan row packet.to (behind_entry packet.bytes) ≡ Ok frame
+    → known_behind plan network packet place row frame ≡ Some port
+    → times_out packet.origin (step plan network (Arrive number)).entries ≤ 1
+
+pub record ServesKnownOnce (plan : Plan) (network : NetworkState) : Type 0 where
+  pub frames : ServesFramesOnce plan network
+  pub packets : ServesPacketsOnce plan network
 
 -- in every state of a run
 abbrev pub KnownOnce : Plan → List Event → Type 0

@@ -3,14 +3,10 @@ use Rattle.std.specs.Prelude.{List}
 use Rattle.net_base.specs.declared.plan.Plan.{Plan}
 use Rattle.net_base.specs.declared.trace.event.Event.{Event}
 use Rattle.net_base.specs.plan.Accepted.{IsChecked}
-use Rattle.net_base.specs.trace.Isolated.{Isolated}
 use Rattle.net_base.specs.trace.Split.{Split}
 use Rattle.network_model.specs.KnownOnce.{KnownOnce}
 use Rattle.network_model.specs.OnceEach.{OnceEach}
 use Rattle.network_model.specs.Run.{run}
-
-abbrev pub RunsAreIsolated : Type 0
-RunsAreIsolated = (plan : Plan) (events : List Event) → IsChecked plan → Isolated plan (run plan events).entries
 
 abbrev pub RunsAreSplit : Type 0
 RunsAreSplit = (plan : Plan) (events : List Event) → IsChecked plan → Split plan (run plan events).entries

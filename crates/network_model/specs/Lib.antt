@@ -7,6 +7,7 @@ pub mod Frame
 pub mod KnownOnce
 pub mod Laws
 pub mod OnceEach
+pub mod Packet
 pub mod Reach
 pub mod Run
 pub mod State

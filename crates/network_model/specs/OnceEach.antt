@@ -1,6 +1,7 @@
 -- Exactly once: a flooded frame that enters a calm service and loses or repeats no copy reaches every other site of the
 -- service exactly once, within twelve segments.
-use Rattle.std.specs.Prelude.{◌≡◌, ◌≤◌, ◌+◌, ◌++◌, ◌==◌, ◌&&◌, not, ℕ, List, [], ◌∷◌, if◌then◌else◌}
+use Rattle.std.specs.Prelude.{◌≡◌, ◌≤◌, ◌+◌, ◌++◌, ◌==◌, ◌&&◌, not, ℕ, false, List, [], ◌∷◌, if◌then◌else◌}
+use Rattle.std.specs.List.{list_any}
 use Rattle.net_base.specs.declared.plan.Plan.{Plan}
 use Rattle.net_base.specs.declared.trace.event.Event.{Event}
 use Rattle.net_base.specs.declared.trace.event.Event.TheVariants.{Frame}
@@ -8,6 +9,7 @@ use Rattle.net_base.specs.declared.trace.entry.Entry.{Entry}
 use Rattle.net_base.specs.declared.trace.entry.Entry.TheVariants.{Left}
 use Rattle.net_base.specs.declared.plan.places.CircuitId.{CircuitId}
 use Rattle.net_base.specs.declared.plan.places.ServiceId.{ServiceId}
+use Rattle.net_base.specs.plan.Roles.{is_wire_of}
 use Rattle.network_model.specs.State.{empty_network}
 use Rattle.network_model.specs.Run.{run, state_after}
 use Rattle.network_model.specs.Reach.{is_site}
@@ -33,9 +35,11 @@ pub record ServedOnce (plan : Plan) (before : List Event) (sender : CircuitId) (
       ≡ (if is_site plan (state_after plan (empty_network plan) before) service circuit && not (circuit.0 == sender.0) then 1 else 0)
   pub within : LeftWithin (next_origin (state_after plan (empty_network plan) before)) entries
 
--- every window of the run: the events are those before the frame, the frame, those of the window and those after it
+-- every window of the run: the events are those before the frame, the frame, those of the window and those after it. The service
+-- has circuits alone; what its wires carry is to come
 abbrev pub OnceEach : Plan → List Event → Type 0
 OnceEach plan events = (before : List Event) (circuit : CircuitId) (octets : List ℕ) (during after : List Event) (service : ServiceId)
+    → list_any (is_wire_of service) plan.wires ≡ false
     → events ≡ before ++ Frame circuit octets ∷ (during ++ after)
     → Window plan before circuit octets during service
     → ServedOnce plan before circuit service (run plan events).entries

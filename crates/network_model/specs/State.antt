@@ -65,6 +65,15 @@ with_packet wire from to origin hops octets network = record network {
   sent = network.sent + 1;
 }
 
+-- the packets but the first with this number
+abbrev pub without_number : ℕ → List Packet → List Packet
+without_number number [] = []
+without_number number (packet ∷ packets) = if packet.number == number then packets else packet ∷ without_number number packets
+
+-- a packet is under way no more
+unfoldable pub without_packet : ℕ → NetworkState → NetworkState
+without_packet number network = record network { under_way = without_number number network.under_way }
+
 -- one more frame has entered
 unfoldable pub with_frame : NetworkState → NetworkState
 with_frame network = record network { entered = network.entered + 1 }

@@ -4,6 +4,7 @@ use Rattle.std.specs.List.{list_any}
 use Rattle.std.specs.Str.{bytes_eq}
 use Rattle.net_base.specs.declared.plan.Plan.{Plan}
 use Rattle.net_base.specs.declared.trace.drop_cause.DropCause.{DropCause}
+use Rattle.net_base.specs.declared.trace.drop_cause.DropCause.TheVariants.{Down}
 use Rattle.net_base.specs.declared.plan.wire_plan.WirePlan.{WirePlan}
 use Rattle.net_base.specs.declared.trace.event.Event.{Event}
 use Rattle.net_base.specs.declared.trace.event.Event.TheVariants.{Frame, Arrive, Discard, Again}
@@ -13,6 +14,7 @@ use Rattle.net_base.specs.values.Frame.{destination_of, source_of, goes_to_group
 use Rattle.net_base.specs.trace.Isolated.{inner_at}
 use Rattle.net_base.specs.plan.Places.{service_of, wire_row}
 use Rattle.mac_table.specs.Addresses.{has_address}
+use Rattle.edge_model.specs.Packet.{behind_entry, unpacked_at}
 use Rattle.network_model.specs.declared.packet.Packet.{Packet}
 use Rattle.network_model.specs.Frame.{next_origin}
 use Rattle.network_model.specs.State.{NetworkState, empty_network}
@@ -67,9 +69,13 @@ some_teach plan network service address [] = false
 some_teach plan network service address (e ∷ es) =
     teaches plan network service address e || some_teach plan (step plan network e).state service address es
 
--- the inner frame of a packet of a wire; what packets carry is to come, since none is sent yet
+-- the inner frame that a packet carries, as the edge that it goes to reads it
+abbrev pub carried_by : Plan → Packet → Option WirePlan → Result (List ℕ) DropCause
+carried_by plan packet None = Err Down
+carried_by plan packet (Some row) = unpacked_at plan row packet.to (behind_entry packet.bytes)
+
 abbrev pub carried : Plan → Packet → Result (List ℕ) DropCause
-carried plan packet = Ok packet.bytes
+carried plan packet = carried_by plan packet (wire_row plan packet.wire)
 
 abbrev pub is_row_of_service : ServiceId → Option WirePlan → Bool
 is_row_of_service service None = false

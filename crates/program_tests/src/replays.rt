@@ -158,7 +158,12 @@ fn ends_with_a_status_and_a_line(rt: HostRuntime) {
         "[[circuit]]\nname = \"c2\"\nedge = \"e\"\nservice = \"s\"",
         "vplsnet: scenario: Plan RepeatedName circuit 3 name",
     );
-    refuses(&rt, alloc, "events = [\"flow 1\"]", "vplsnet: not built");
+    refuses(
+        &rt,
+        alloc,
+        "events = [\"play c1 k.pcap\"]",
+        "vplsnet: not built",
+    );
 }
 
 // Events are not built.
@@ -173,10 +178,6 @@ fn is_not_built(rt: &impl Abort, alloc: Global, events: &str) {
 #[test]
 fn answers_what_is_not_built(rt: HostRuntime) {
     let alloc = rt.alloc();
-    is_not_built(&rt, alloc, "events = [\"flow 1\"]");
-    is_not_built(&rt, alloc, "events = [\"arrive 1\"]");
-    is_not_built(&rt, alloc, "events = [\"drop 1\"]");
-    is_not_built(&rt, alloc, "events = [\"again 1\"]");
     is_not_built(&rt, alloc, "events = [\"play c1 k.pcap\"]");
 }
 

@@ -84,8 +84,6 @@ fn answers_what_is_not_built_of_wires(rt: HostRuntime) {
     is_not_built(&rt, alloc, "", "class = \"spoke\"");
     is_not_built(&rt, alloc, "", "class = \"mesh\"\nvccv = 1");
     is_not_built(&rt, alloc, "", "class = \"mesh\"\nfar_vccv = 1");
-    is_not_built(&rt, alloc, "\"frame ca 00\"", "class = \"mesh\"");
     is_not_built(&rt, alloc, "\"priority a w 1\"", "class = \"mesh\"");
-    is_not_built(&rt, alloc, "\"drop 1\"", "class = \"mesh\"");
     is_not_built(&rt, alloc, "\"ping a w\"", "class = \"mesh\"");
 }

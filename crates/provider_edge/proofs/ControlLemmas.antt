@@ -1,15 +1,12 @@
 -- The control of an edge, in lists as in maps.
-use Rattle.std.proofs.Common.{◌≡◌, ◌<◌, ◌≤◌, ◌++◌, ◌||◌, ◌&&◌, ◌∙◌, ℕ, zero, suc, Bool, true, false, List, [], ◌∷◌, Option, Some, None, cond, length, map, not, slice_set, slice_index_or, nat_eq, replicate, ◌+◌, refl, ap, sym, subst, arith, length-set}
+use Rattle.std.proofs.Common.{◌≡◌, ◌<◌, ◌≤◌, ◌++◌, ◌||◌, ◌∙◌, ℕ, zero, suc, Bool, true, false, List, [], ◌∷◌, Option, Some, None, cond, length, map, slice_set, slice_index_or, nat_eq, replicate, ◌+◌, refl, ap, sym, subst, arith, length-set}
 use Rattle.std.proofs.lemmas.Bool.{eqb-true}
-use Rattle.std.proofs.lemmas.List.{length-map}
 use Rattle.std.proofs.lemmas.List.Elements.{All-replicate}
 use Rattle.std.specs.Prelude.{All, IfSome}
 use Rattle.net_base.specs.declared.plan.Plan.{Plan}
 use Rattle.net_base.specs.declared.plan.places.EdgeId.{EdgeId}
 use Rattle.net_base.specs.declared.plan.places.WireId.{WireId}
 use Rattle.net_base.specs.declared.outside.link_call.LinkCall.{LinkCall}
-use Rattle.net_base.specs.declared.trace.down.Down.{Down}
-use Rattle.net_base.specs.declared.trace.down.Down.TheVariants.{NoLocal}
 use Rattle.pw_signalling.specs.End.{EndState, fresh}
 use Rattle.label_space.specs.Labels.{numbers_end}
 use Rattle.pw_signalling.specs.declared.told.Told.{Told}
@@ -24,13 +21,15 @@ use Rattle.edge_model.proofs.LocalLemmas.{and_left}
 use Rattle.edge_model.proofs.PlaceLemmas.{IsEndOf, places_are}
 use Rattle.std.specs.List.{AllByRecursion, list_any}
 use Rattle.std.proofs.lemmas.Option.{slice_get_within}
-use Rattle.edge_model.specs.State.{EdgeState, Peering, end_at, first_label, has_end, put_at, with_bits, with_end, with_ends_beside, with_peering, with_renewed, with_told_down, with_wire, with_next_label, without_ends, without_peerings}
-use Rattle.edge_model.specs.Work.{Work, changes}
+use Rattle.edge_model.specs.State.{EdgeState, empty_edge, end_at, first_label, has_end, put_at, with_bits, with_end, with_ends_beside, with_peering, with_renewed, with_wire, with_next_label, without_ends, without_peerings}
+use Rattle.edge_model.specs.Work.{changes}
 use Rattle.pw_ends.specs.Ends.{EndLists, changed_at, changed_beside, end_in, no_place, place_of, renewed_of, seen_ends}
 use Rattle.net_base.specs.plan.Accepted.{IsChecked}
-use Rattle.provider_edge.specs.Control.{ControlLists, IsControl, IsNewControl, KeepsPlan, Rest, at_control, controlled, forgotten, opened_control}
+use Rattle.provider_edge.specs.Control.{ControlLists, IsControl, IsNewControl, KeepsPlan, Rest, controlled}
+use Rattle.provider_edge.specs.Forwarding.{ForwardingLists, IsNewForwarding, KeepsForwarding, opened_forwarding, with_forwarding, without_told}
 use Rattle.provider_edge.specs.Peering.{Dialogue, at_edge, gone, kept_with}
 use Rattle.provider_edge.specs.Views.{view}
+use Rattle.provider_edge.proofs.ForwardLemmas.{control_forwarding, controlled_forwarding}
 use Rattle.provider_edge.proofs.SpeakerLemmas.{put_same}
 use Rattle.provider_edge.proofs.Views.{past_end, same_read, view_at, view_set}
 
@@ -51,7 +50,8 @@ control_dialogues c dialogues long is = record {
   places = is.places;
   wires = is.wires;
   each_bits = is.each_bits;
-  each_told = is.each_told;
+  plan = is.plan;
+  me = is.me;
   small = is.small;
 }
 
@@ -65,18 +65,8 @@ control_ends c ends same is = record {
   places = same ∙ is.places;
   wires = is.wires;
   each_bits = is.each_bits;
-  each_told = is.each_told;
-  small = is.small;
-}
-
-pub control_told : (c : ControlLists) (told : List (Option Down)) → length told ≡ length c.told_down → IsControl c → IsControl (record c { told_down = told })
-control_told c told long is = record {
-  checked = is.checked;
-  dialogues = is.dialogues;
-  places = is.places;
-  wires = is.wires;
-  each_bits = is.each_bits;
-  each_told = long ∙ is.each_told;
+  plan = is.plan;
+  me = is.me;
   small = is.small;
 }
 
@@ -87,7 +77,8 @@ control_wires c wires long is = record {
   places = is.places;
   wires = long ∙ is.wires;
   each_bits = is.each_bits;
-  each_told = is.each_told;
+  plan = is.plan;
+  me = is.me;
   small = is.small;
 }
 
@@ -149,19 +140,21 @@ pub ends_renewed : (c : ControlLists) (ends : EndLists) (wire : WireId) (rest : 
 unfolding controlled with_renewed
 ends_renewed c ends wire rest seen next = λ i. record (controlled c rest) { ends = seen i; next_label = next i }
 
-view_forgotten : (xs : List (Option Down)) (k : ℕ) → view (Some NoLocal) (map forgotten xs) k ≡ Some NoLocal
-view_forgotten [] k = refl
-view_forgotten (x ∷ xs) zero = refl
-view_forgotten (x ∷ xs) (suc k) = view_forgotten xs k
+ends_fresh : (c : ControlLists) (ends : EndLists) (rest : Rest) → seen_ends ends ≡ (λ wire peer. fresh) → ends.labels.next ≡ c.ends.labels.next
+    → without_told (controlled (record c { ends = ends }) rest) ≡ without_ends (controlled c rest)
+unfolding controlled without_ends without_told
+ends_fresh c ends rest seen next = λ i. record (without_told (controlled c rest)) { ends = seen i; next_label = next i }
 
-pub ends_forgotten : (c : ControlLists) (ends : EndLists) (rest : Rest)
+-- each end is as it was opened, and of no end anything was told
+pub ends_forgotten : (c : ControlLists) (ends : EndLists) (f : ForwardingLists) (rest : Rest) → IsControl c → ends.places ≡ c.ends.places → KeepsForwarding c.forwarding f
     → seen_ends ends ≡ (λ wire peer. fresh) → ends.labels.next ≡ c.ends.labels.next
-    → controlled (record c { ends = ends; told_down = map forgotten c.told_down }) rest ≡ without_ends (controlled c rest)
-unfolding controlled without_ends
-ends_forgotten c ends rest seen next = λ i. record (controlled c rest) { ends = seen i; next_label = next i; told_down = λ k. view_forgotten c.told_down k i }
+    → ((edge : EdgeState) → with_forwarding f edge ≡ without_told (with_forwarding c.forwarding edge))
+    → controlled (record c { ends = ends; forwarding = f }) rest ≡ without_ends (controlled c rest)
+ends_forgotten c ends f rest is same keeps seen next closed =
+    controlled_forwarding without_told (record c { ends = ends }) f rest (control_ends c ends same is) keeps closed ∙ ends_fresh c ends rest seen next
 
-pub control_forgotten : (c : ControlLists) (ends : EndLists) → ends.places ≡ c.ends.places → IsControl c → IsControl (record c { ends = ends; told_down = map forgotten c.told_down })
-control_forgotten c ends same is = control_told (record c { ends = ends }) (map forgotten c.told_down) (length-map c.told_down forgotten) (control_ends c ends same is)
+pub control_forgotten : (c : ControlLists) (ends : EndLists) (f : ForwardingLists) → ends.places ≡ c.ends.places → KeepsForwarding c.forwarding f → IsControl c → IsControl (record c { ends = ends; forwarding = f })
+control_forgotten c ends f same keeps is = control_forwarding (record c { ends = ends }) f keeps (control_ends c ends same is)
 
 -- ---- where no session stands, the ends are lost
 
@@ -196,20 +189,20 @@ pub record AreNewLists (plan : Plan) (me : EdgeId) (c : ControlLists) : Type 0 w
   pub next : c.ends.labels.next ≡ first_label plan me
   pub wires : c.wires_on ≡ replicate (length plan.wires) true
   pub zeros : c.bits ≡ replicate (length plan.wires) 0
-  pub told : c.told_down ≡ replicate (length plan.wires) (Some NoLocal)
+  pub forwarding : IsNewForwarding plan me c.forwarding
 
-pub new_is : (plan : Plan) (me : EdgeId) (c : ControlLists) (rest : Rest) → AreNewLists plan me c → controlled c rest ≡ opened_control plan me rest
-unfolding controlled opened_control
+pub new_is : (plan : Plan) (me : EdgeId) (c : ControlLists) (rest : Rest) → AreNewLists plan me c → controlled c rest ≡ empty_edge plan me
+unfolding controlled with_forwarding opened_forwarding
 new_is plan me c rest are = λ i. record {
   me = are.here i;
-  circuit_on = rest.circuit_on;
-  learned = rest.learned;
-  ticks = rest.ticks;
+  circuit_on = (are.forwarding.is (empty_edge plan me) i).circuit_on;
+  learned = (are.forwarding.is (empty_edge plan me) i).learned;
+  ticks = (are.forwarding.is (empty_edge plan me) i).ticks;
   peering = λ k. (ap (λ (l : List (Option Dialogue)). kept_with (rest.held k) (view None l k)) are.dialogues ∙ ap (kept_with (rest.held k)) (all_same (length plan.edges) k None)) i;
   wire_on = λ k. (ap (λ (l : List Bool). view true l k) are.wires ∙ all_same (length plan.wires) k true) i;
   bits = λ k. (ap (λ (l : List ℕ). view 0 l k) are.zeros ∙ all_same (length plan.wires) k 0) i;
   ends = are.ends i;
-  told_down = λ k. (ap (λ (l : List (Option Down)). view (Some NoLocal) l k) are.told ∙ all_same (length plan.wires) k (Some NoLocal)) i;
+  told_down = (are.forwarding.is (empty_edge plan me) i).told_down;
   next_label = are.next i;
 }
 
@@ -223,7 +216,8 @@ control_new plan me c checked are = record {
   places = are.places ∙ (ap (λ (p : Plan). end_places p me) (sym are.keeps) ∙ ap (end_places c.plan) (sym are.here));
   wires = ap (λ (l : List Bool). length l) are.wires ∙ (long_same (length plan.wires) true ∙ ap (λ (p : Plan). length p.wires) (sym are.keeps));
   each_bits = ap (λ (l : List ℕ). length l) are.zeros ∙ (long_same (length plan.wires) 0 ∙ ap (λ (p : Plan). length p.wires) (sym are.keeps));
-  each_told = ap (λ (l : List (Option Down)). length l) are.told ∙ (long_same (length plan.wires) (Some NoLocal) ∙ ap (λ (p : Plan). length p.wires) (sym are.keeps));
+  plan = are.forwarding.keeps ∙ sym are.keeps;
+  me = are.forwarding.here ∙ sym are.here;
   small = subst (All (λ bits. bits ≤ 31)) (sym are.zeros) (All-replicate (λ bits. bits ≤ 31) (length plan.wires) 0 (omega arith));
 }
 
@@ -239,11 +233,6 @@ pub controlled_bits : (c : ControlLists) (wire : WireId) (bits : ℕ) (rest : Re
 unfolding controlled with_bits
 controlled_bits c wire bits rest within = λ i. record (controlled c rest) { bits = view_set 0 c.bits wire.0 bits within i }
 
-pub controlled_told : (c : ControlLists) (wire : WireId) (down : Option Down) (rest : Rest) → wire.0 < length c.told_down
-    → controlled (record c { told_down = slice_set c.told_down wire.0 down }) rest ≡ with_told_down wire down (controlled c rest)
-unfolding controlled with_told_down
-controlled_told c wire down rest within = λ i. record (controlled c rest) { told_down = view_set (Some NoLocal) c.told_down wire.0 down within i }
-
 -- ---- what is read
 
 pub next_at : (c : ControlLists) (rest : Rest) → c.ends.labels.next ≡ (controlled c rest).next_label
@@ -257,10 +246,6 @@ bits_read c wire bits rest within read = read ∙ same_read c.bits wire.0 bits 0
 pub on_read : (c : ControlLists) (wire : WireId) (on : Bool) (rest : Rest) → wire.0 < length c.wires_on → on ≡ slice_index_or c.wires_on wire.0 on → on ≡ (controlled c rest).wire_on wire.0
 unfolding controlled
 on_read c wire on rest within read = read ∙ same_read c.wires_on wire.0 on true within
-
-pub told_read : (c : ControlLists) (wire : WireId) (down : Option Down) (rest : Rest) → wire.0 < length c.told_down → down ≡ slice_index_or c.told_down wire.0 down → down ≡ (controlled c rest).told_down wire.0
-unfolding controlled
-told_read c wire down rest within read = read ∙ same_read c.told_down wire.0 down (Some NoLocal) within
 
 pub me_read : (c : ControlLists) (rest : Rest) → c.me ≡ (controlled c rest).me
 unfolding controlled

@@ -1,15 +1,9 @@
 -- The copies of a frame, one by one.
-use Rattle.std.proofs.Common.{◌≡◌, ◌<◌, ◌≤◌, ◌+◌, ◌++◌, ◌∙◌, ℕ, zero, suc, Bool, true, false, List, [], ◌∷◌, cond, length, drop, slice_get, refl, ap, sym, arith}
+use Rattle.std.proofs.Common.{◌≡◌, ◌<◌, ◌≤◌, ◌+◌, ◌∙◌, ℕ, zero, suc, Bool, List, [], ◌∷◌, cond, length, drop, slice_get, refl, ap, sym, arith}
 use Rattle.hvpls_spokes.specs.declared.port.Port.{Port}
-use Rattle.edge_model.specs.declared.effect.Effect.{Effect}
 use Rattle.edge_model.specs.Frame.{copies}
-use Rattle.edge_model.specs.Work.{Work, gives}
-use Rattle.provider_edge.specs.Taking.{copied_by, giving}
-
--- one effect more
-pub given_more : (list : List Effect) (e : Effect) (work : Work) → giving (list ++ e ∷ []) work ≡ gives e (giving list work)
-unfolding giving gives
-given_more list e work = refl
+use Rattle.edge_model.specs.Work.{Work}
+use Rattle.provider_edge.specs.Taking.{copied_by}
 
 copies_from : (targets : ℕ → Bool) (copy : Port → Work → Work) (k p : ℕ) (ports : List Port) (work : Work) → p < length ports
     → copies targets copy k (drop p ports) work ≡ copies targets copy (k + 1) (drop (suc p) ports) (cond (targets k) (copied_by copy (slice_get ports p) work) work)
@@ -30,17 +24,8 @@ copies_end targets copy k (suc p) [] work past = refl
 copies_end targets copy k zero (x ∷ ports) work past = absurd (omega arith)
 copies_end targets copy k (suc p) (x ∷ ports) work past = copies_end targets copy k p ports work (omega arith)
 
--- where the port is a target, and where it is not
-pub copied_here : (targets : ℕ → Bool) (copy : Port → Work → Work) (p : ℕ) (ports : List Port) (work now whole : Work) → p < length ports → targets p ≡ true
-    → now ≡ copied_by copy (slice_get ports p) work → copies targets copy p (drop p ports) work ≡ whole → copies targets copy (p + 1) (drop (p + 1) ports) now ≡ whole
-copied_here targets copy p ports work now whole within here is so_far =
-    let step : copies targets copy p (drop p ports) work ≡ copies targets copy (p + 1) (drop (p + 1) ports) (copied_by copy (slice_get ports p) work) =
-    copies_next targets copy p ports work within ∙ ap (λ (b : Bool). copies targets copy (p + 1) (drop (p + 1) ports) (cond b (copied_by copy (slice_get ports p) work) work)) here in
-    ap (copies targets copy (p + 1) (drop (p + 1) ports)) is ∙ sym step ∙ so_far
-
-pub copied_not : (targets : ℕ → Bool) (copy : Port → Work → Work) (p : ℕ) (ports : List Port) (work whole : Work) → p < length ports → targets p ≡ false
-    → copies targets copy p (drop p ports) work ≡ whole → copies targets copy (p + 1) (drop (p + 1) ports) work ≡ whole
-copied_not targets copy p ports work whole within away so_far =
-    let step : copies targets copy p (drop p ports) work ≡ copies targets copy (p + 1) (drop (p + 1) ports) work =
-    copies_next targets copy p ports work within ∙ ap (λ (b : Bool). copies targets copy (p + 1) (drop (p + 1) ports) (cond b (copied_by copy (slice_get ports p) work) work)) away in
-    sym step ∙ so_far
+-- one copy more
+pub copied_next : (targets : ℕ → Bool) (copy : Port → Work → Work) (p : ℕ) (ports : List Port) (work now whole : Work) → p < length ports
+    → now ≡ cond (targets p) (copied_by copy (slice_get ports p) work) work → copies targets copy p (drop p ports) work ≡ whole → copies targets copy (p + 1) (drop (p + 1) ports) now ≡ whole
+copied_next targets copy p ports work now whole within is so_far =
+    ap (copies targets copy (p + 1) (drop (p + 1) ports)) is ∙ (sym (copies_next targets copy p ports work within) ∙ so_far)

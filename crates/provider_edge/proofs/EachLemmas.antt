@@ -1,7 +1,6 @@
 -- A list whose items are changed one by one.
-use Rattle.std.proofs.Common.{◌≡◌, ◌<◌, ◌≤◌, ◌+◌, ◌++◌, ◌∙◌, ◌⊎◌, ◌==◌, ℕ, zero, suc, Bool, true, false, cond, filter, not, List, [], ◌∷◌, Option, Some, None, length, slice_get, slice_index_or, set, get_or, take, drop, map, refl, ap, sym, subst, inl, inr, arith}
-use Rattle.std.proofs.lemmas.Bool.{cases_order, eq-eqb}
-use Rattle.std.proofs.lemmas.Option.{slice_get_read}
+use Rattle.std.proofs.Common.{◌≡◌, ◌<◌, ◌≤◌, ◌+◌, ◌++◌, ◌∙◌, ◌==◌, ℕ, zero, suc, Bool, true, false, cond, filter, not, List, [], ◌∷◌, Some, None, length, slice_get, slice_index_or, set, get_or, take, drop, map, refl, ap, sym, subst, arith}
+use Rattle.std.proofs.lemmas.Bool.{eq-eqb}
 use Rattle.std.specs.Prelude.{All}
 use Rattle.mac_table.specs.declared.mac_entry.MacEntry.{MacEntry}
 

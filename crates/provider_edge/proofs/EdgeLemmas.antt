@@ -1,10 +1,9 @@
 -- An edge whose control has worked, in lists as in maps; and its inputs, exit by exit.
-use Rattle.std.proofs.Common.{◌≡◌, ◌<◌, ◌≤◌, ◌&&◌, ◌++◌, ◌∙◌, ◌==◌, ◌↔◌, Bor, ℕ, zero, suc, Bool, true, false, List, [], ◌∷◌, Option, Some, None, cond, not, length, map, option_copied, option_map, slice_get, slice_set, slice_index_or, nat_eq, refl, ap, sym, subst, arith, length-set}
+use Rattle.std.proofs.Common.{◌≡◌, ◌<◌, ◌&&◌, ◌++◌, ◌∙◌, ◌==◌, ◌↔◌, Bor, ℕ, zero, suc, Bool, true, false, List, [], ◌∷◌, Option, Some, None, cond, not, length, option_copied, option_map, slice_get, slice_set, slice_index_or, nat_eq, refl, ap, sym, subst, arith}
 use Rattle.std.proofs.Math.Bool.{beq}
 use Rattle.std.specs.List.{find}
 use Rattle.std.specs.Prelude.{IfSome, IsNone}
 use Rattle.std.proofs.lemmas.Bool.{eq-eqb, eqb-true}
-use Rattle.std.proofs.lemmas.List.{length-map}
 use Rattle.std.proofs.lemmas.Option.{slice_get_within}
 use Rattle.net_base.specs.declared.outside.link_call.LinkCall.{LinkCall}
 use Rattle.net_base.specs.declared.plan.Plan.{Plan}
@@ -14,74 +13,72 @@ use Rattle.net_base.specs.declared.plan.places.CircuitId.{CircuitId}
 use Rattle.net_base.specs.declared.plan.places.EdgeId.{EdgeId}
 use Rattle.net_base.specs.declared.plan.places.ServiceId.{ServiceId}
 use Rattle.net_base.specs.declared.plan.places.WireId.{WireId}
+use Rattle.vsi_bridge.specs.BridgeState.{BridgeState}
 use Rattle.net_base.specs.declared.trace.state_name.Reason.TheVariants as reason
 use Rattle.net_base.specs.plan.Paths.{are_joined}
 use Rattle.net_base.specs.declared.trace.down.Down.{Down}
 use Rattle.net_base.specs.declared.plan.places.SegKey.{SegKey}
 use Rattle.pw_signalling.specs.End.{EndState}
-use Rattle.hvpls_spokes.specs.Port.{ports_of}
 use Rattle.session_core.specs.declared.peers.Peers.{Peers}
-use Rattle.session_core.specs.State.{opened}
 use Rattle.session_core.specs.Table.{Closed}
 use Rattle.edge_model.specs.declared.effect.Effect.{Effect}
-use Rattle.edge_model.specs.Circuit.{circuit_input, is_same, turned}
-use Rattle.edge_model.specs.Connection.{connected_input, connects, connects_between, lost_input, peers_of, restart_input, restarted}
+use Rattle.edge_model.specs.declared.effects.Effects.{Effects}
+use Rattle.edge_model.specs.Circuit.{is_same, turned}
+use Rattle.edge_model.specs.Connection.{connected_input, connects, connects_between, lost_input, peers_of, restart_input}
 use Rattle.edge_model.specs.declared.end_place.EndPlace.{EndPlace}
 use Rattle.edge_model.specs.EndPlaces.{end_places, ends_here, is_end_of_wire, passes}
 use Rattle.edge_model.specs.Hear.{hears, hears_on, octets_input}
 use Rattle.edge_model.specs.Mend.{mends}
 use Rattle.edge_model.specs.Role.{down_at}
 use Rattle.edge_model.specs.Session.{happens_with_ends}
-use Rattle.edge_model.specs.State.{EdgeState, Peering, end_at, has_end, is_there, later, with_bits, with_learned, with_ticks, without_ends, without_peerings}
-use Rattle.edge_model.specs.Tick.{counted, forgetting, tick_input, ticks_sessions}
+use Rattle.edge_model.specs.State.{EdgeState, Peering, addresses_of, end_at, has_end, is_there, later, with_bits, with_learned, with_ticks, without_ends, without_peerings}
+use Rattle.edge_model.specs.Synced.{InSync, IsSynced}
+use Rattle.edge_model.proofs.PlaceLemmas.{all-map}
+use Rattle.edge_model.specs.Tick.{counted, forgetting, ticks_sessions}
 use Rattle.edge_model.specs.Wire.{status_input, turned_wire, wire_input}
 use Rattle.edge_model.specs.Work.{Answers, Work, beginning, changes, idles}
 use Rattle.provider_edge.specs.Control.{ControlLists, KeepsPlan, Rest, at_control, controlled, holding}
-use Rattle.provider_edge.specs.declared.domain.Domain.{Domain}
 use Rattle.provider_edge.specs.EndOf.{is_of_segment}
-use Rattle.provider_edge.specs.Domain.{IsDomain, IsKept, cleared_domain, cleared_kept}
 use Rattle.provider_edge.specs.Invariant.{IsEdge}
-use Rattle.provider_edge.specs.Lists.{EdgeLists, Keeps, entries_of, own_service, rest_of, seen, worked}
+use Rattle.provider_edge.specs.Lists.{EdgeLists, Keeps, rest_of, seen, worked}
 use Rattle.provider_edge.specs.Peering.{Dialogue, at_edge, connection_with, kept_with, peers_between}
 use Rattle.provider_edge.specs.Views.{view}
-use Rattle.provider_edge.proofs.KeptLemmas.{kept_same}
-use Rattle.provider_edge.proofs.OwnLemmas.{OwnRow, other_row, own_row}
-use Rattle.provider_edge.proofs.PortLemmas.{forwards_same}
 use Rattle.provider_edge.proofs.Views.{same_read, view_at, view_set}
 use Rattle.provider_edge.proofs.WorkLemmas.{other_before, same_already}
 
 -- ---- an edge whose control has worked
 
-pub edge_worked : (e : EdgeLists) (control : ControlLists) (held : List (List ℕ)) → KeepsPlan e.control control → length held ≡ length e.held → IsEdge e → IsEdge (record e { control = control; held = held })
-unfolding seen
-edge_worked e control held keeps long is = record {
+-- while it works nothing is said of what was told last of the wires
+pub edge_worked : (e : EdgeLists) (control : ControlLists) (held : List (List ℕ)) → e.stopped ≡ true → KeepsPlan e.control control → length held ≡ length e.held → IsEdge e → IsEdge (record e { control = control; held = held })
+edge_worked e control held working keeps long is = record {
   checked = is.checked;
-  circuits = is.circuits;
   plan = keeps.plan ∙ is.plan;
   me = keeps.me ∙ is.me;
   dialogues = keeps.count ∙ is.dialogues;
   held = long ∙ is.held;
-  services = is.services;
-  domains = λ k below. kept_same e.plan (seen e) (seen (record e { control = control; held = held })) (record { 0 = k }) (view None e.domains k) refl refl (omega arith) (is.domains k below);
+  synced = λ going. absurd (cc (sym working ∙ going));
 }
 
-pub edge_control : (e : EdgeLists) (control : ControlLists) → KeepsPlan e.control control → IsEdge e → IsEdge (record e { control = control })
-edge_control e control keeps is = edge_worked e control e.held keeps refl is
+pub edge_control : (e : EdgeLists) (control : ControlLists) → e.stopped ≡ true → KeepsPlan e.control control → IsEdge e → IsEdge (record e { control = control })
+edge_control e control working keeps is = edge_worked e control e.held working keeps refl is
+
+pub seen_at : (e : EdgeLists) → e.control.me ≡ e.me → seen e ≡ controlled e.control (rest_of e)
+unfolding seen controlled
+seen_at e here = λ i. record (seen e) { me = sym here i }
 
 pub seen_is : (e : EdgeLists) → IsEdge e → seen e ≡ controlled e.control (rest_of e)
-unfolding seen controlled
-seen_is e is = λ i. record (seen e) { me = sym is.me i }
+seen_is e is = seen_at e is.me
 
 pub worked_state : (change : EdgeState → EdgeState) (e : EdgeLists) (control : ControlLists) → IsEdge e → KeepsPlan e.control control
     → ((rest : Rest) → controlled control rest ≡ change (controlled e.control rest)) → seen (record e { control = control }) ≡ change (seen e)
 worked_state change e control is keeps worked =
-    seen_is (record e { control = control }) (edge_control e control keeps is) ∙ (worked (rest_of e) ∙ ap change (sym (seen_is e is)))
+    seen_at (record e { control = control }) (keeps.me ∙ is.me) ∙ (worked (rest_of e) ∙ ap change (sym (seen_is e is)))
 
 pub worked_edge : (does : Work → Work) (e : EdgeLists) (control : ControlLists) (calls new : List LinkCall) (out given : List Effect) → IsEdge e → KeepsPlan e.control control
     → at_control control (rest_of e) new given ≡ does (at_control e.control (rest_of e) calls out)
     → at_edge (seen (record e { control = control })) new given ≡ does (at_edge (seen e) calls out)
 worked_edge does e control calls new out given is keeps worked =
-    ap (λ (s : EdgeState). at_edge s new given) (seen_is (record e { control = control }) (edge_control e control keeps is))
+    ap (λ (s : EdgeState). at_edge s new given) (seen_at (record e { control = control }) (keeps.me ∙ is.me))
     ∙ (worked ∙ ap (λ (s : EdgeState). does (at_edge s calls out)) (sym (seen_is e is)))
 
 -- ---- octets that are held
@@ -107,7 +104,7 @@ seen_unheld e peer within none = λ i. record (seen e) { peering = λ k. at k i 
   at k = ap (λ (f : ℕ → List ℕ). kept_with (f k) (view None e.control.dialogues k)) (view_set [] e.held peer.0 [] within) ∙ chosen k (nat_eq k peer.0) refl
 
 rest_held : (e : EdgeLists) (control : ControlLists) (peer : EdgeId) (octets : List ℕ) → peer.0 < length e.held → rest_of (record e { control = control; held = slice_set e.held peer.0 octets }) ≡ holding peer octets (rest_of e)
-rest_held e control peer octets within = ap (λ (f : ℕ → List ℕ). record (rest_of e) { held = f }) (view_set [] e.held peer.0 octets within)
+rest_held e control peer octets within = ap (λ (f : ℕ → List ℕ). record { held = f }) (view_set [] e.held peer.0 octets within)
 
 there_some : (x : Option Peering) → is_there x ≡ true → (kept : Peering) × (x ≡ Some kept)
 there_some None is = absurd (cc (is))
@@ -131,7 +128,7 @@ heard_edge e control told peer octets before after calls new out given is keeps 
     let (kept, some) = there_some ((seen e).peering peer.0) there in
     let now : EdgeLists = record e { control = control; held = slice_set e.held peer.0 after } in
     let same : before ≡ kept.held = read ∙ (same_read e.held peer.0 before [] within ∙ sym (held_seen e peer kept some)) in
-    ap (λ (s : EdgeState). at_edge s new given) (seen_is now (edge_worked e control (slice_set e.held peer.0 after) keeps (length-set e.held peer.0 after) is))
+    ap (λ (s : EdgeState). at_edge s new given) (seen_at now (keeps.me ∙ is.me))
     ∙ (ap (λ (r : Rest). at_control control r new given) (rest_held e control peer after within)
     ∙ (heard
     ∙ (ap (λ (p : Plan). hears p told peer (before ++ octets) (at_control e.control (rest_of e) calls out)) is.plan
@@ -157,46 +154,6 @@ end_within e peer is there =
 pub unheld : (xs : List (List ℕ)) (k : ℕ) → k < length xs → slice_index_or (slice_set xs k []) k [] ≡ []
 unheld xs k within = view_at [] xs k [] k within ∙ ap (λ (b : Bool). cond b [] (view [] xs k)) (eq-eqb k k refl)
 
--- ---- what the bridges have learned is forgotten
-
-view_cleared : (xs : List (Option Domain)) (k : ℕ) → view None (map cleared_kept xs) k ≡ cleared_kept (view None xs k)
-view_cleared [] k = refl
-view_cleared (x ∷ xs) zero = refl
-view_cleared (x ∷ xs) (suc k) = view_cleared xs k
-
-none_known : (kept : Option Domain) → entries_of (cleared_kept kept) ≡ []
-none_known None = refl
-none_known (Some domain) = refl
-
-pub seen_cleared : (e : EdgeLists) → seen (record e { domains = map cleared_kept e.domains }) ≡ with_learned (λ service. []) (seen e)
-unfolding seen with_learned
-seen_cleared e = λ i. record (seen e) { learned = λ k. (ap entries_of (view_cleared e.domains k) ∙ none_known (view None e.domains k)) i }
-
-kept_cleared : (plan : Plan) (a b : EdgeState) (service : ServiceId) (kept : Option Domain) → a.me ≡ b.me → a.circuit_on ≡ b.circuit_on → IsKept plan a service kept → IsKept plan b service (cleared_kept kept)
-kept_cleared plan a b service None me on is = sym (ap (ports_of plan service) me) ∙ is
-kept_cleared plan a b service (Some domain) me on is = record {
-  ports = is.ports ∙ ap (ports_of plan service) me;
-  some = λ none. is.some (ap (ports_of plan service) me ∙ none);
-  age = is.age;
-  forwarding = λ p. is.forwarding p ∙ forwards_same plan a b on domain.bridge.ports p;
-  ticks = λ k d within. absurd (omega arith);
-}
-
-pub edge_cleared : (e : EdgeLists) → IsEdge e → IsEdge (record e { domains = map cleared_kept e.domains })
-unfolding seen
-edge_cleared e is = record {
-  checked = is.checked;
-  circuits = is.circuits;
-  plan = is.plan;
-  me = is.me;
-  dialogues = is.dialogues;
-  held = is.held;
-  services = length-map e.domains cleared_kept ∙ is.services;
-  domains = λ k below.
-      subst (λ (kept : Option Domain). IsKept e.plan (seen (record e { domains = map cleared_kept e.domains })) (record { 0 = k }) kept) (sym (view_cleared e.domains k))
-      (kept_cleared e.plan (seen e) (seen (record e { domains = map cleared_kept e.domains })) (record { 0 = k }) (view None e.domains k) refl refl (is.domains k below));
-}
-
 -- ---- inputs
 
 -- what was done before the edge mends
@@ -213,6 +170,10 @@ mended e mid now plan told calls mid_calls new out list work keeps is mends_now 
 pub begun : (edge : EdgeState) (calls : List LinkCall) → at_edge edge calls [] ≡ beginning edge calls
 unfolding at_edge
 begun edge calls = refl
+
+pub given_out : (e : EdgeLists) (calls : List LinkCall) (list : List Effect) → worked e calls (record { idle = false; list = list }) ≡ at_edge (seen e) calls list
+unfolding worked at_edge
+given_out e calls list = refl
 
 not_there : (e : EdgeLists) (calls : List LinkCall) → worked e calls (record { idle = true; list = [] }) ≡ idles (beginning (seen e) calls)
 unfolding worked idles
@@ -253,21 +214,17 @@ restart_done e mid now calls dropped cleared =
 
 -- ---- ticks
 
-ticks_at : (e : EdgeLists) → e.ticks ≡ (seen e).ticks
-unfolding seen
-ticks_at e = refl
-
-counted_at : (e mid : EdgeLists) (calls : List LinkCall) → seen mid ≡ with_ticks (later e.ticks) (seen e) → at_edge (seen mid) calls [] ≡ changes counted (beginning (seen e) calls)
+counted_at : (e mid : EdgeLists) (calls : List LinkCall) → seen mid ≡ with_ticks (later (seen e).ticks) (seen e) → at_edge (seen mid) calls [] ≡ changes counted (beginning (seen e) calls)
 unfolding at_edge changes
 counted_at e mid calls counts =
-    ap (λ (s : EdgeState). record { edge = s; calls = calls; effects = []; idle = false }) (counts ∙ ap (λ (n : ℕ). with_ticks (later n) (seen e)) (ticks_at e))
+    ap (λ (s : EdgeState). record { edge = s; calls = calls; effects = []; idle = false }) counts
 
 forgot_at : (mid now : EdgeLists) (plan : Plan) (calls : List LinkCall) (list : List Effect) → mid.plan ≡ plan → seen now ≡ forgetting mid.plan (seen mid) → at_edge (seen now) calls list ≡ changes (forgetting plan) (at_edge (seen mid) calls list)
 unfolding at_edge changes
 forgot_at mid now plan calls list same is = ap (λ (s : EdgeState). record { edge = s; calls = calls; effects = list; idle = false }) (is ∙ ap (λ (p : Plan). forgetting p (seen mid)) same)
 
 pub ticked : (told : Answers) (e mid ticks now : EdgeLists) (calls new : List LinkCall) (list : List Effect)
-    → Keeps e mid → Keeps mid ticks → seen mid ≡ with_ticks (later e.ticks) (seen e)
+    → Keeps e mid → Keeps mid ticks → seen mid ≡ with_ticks (later (seen e).ticks) (seen e)
     → at_edge (seen ticks) new list ≡ ticks_sessions told 0 (length mid.plan.edges) (at_edge (seen mid) calls [])
     → seen now ≡ forgetting ticks.plan (seen ticks)
     → at_edge (seen now) new list ≡ changes (forgetting e.plan) (ticks_sessions told 0 (length e.plan.edges) (changes counted (beginning (seen e) calls)))
@@ -455,3 +412,45 @@ down_seen e now wire told same is read =
       by (Some place) at =
           read (rest_of e) place (ap (λ (p : Plan). find (is_end_of_wire wire) (end_places p e.control.me)) is.plan ∙ (ap (λ (m : EdgeId). find (is_end_of_wire wire) (end_places e.plan m)) is.me ∙ at))
           ∙ (ap (λ (p : Plan). down_at p (controlled e.control (rest_of e)) place) is.plan ∙ ap (λ (s : EdgeState). down_at e.plan s place) (sym (seen_is e is)))
+
+-- ---- in sync
+
+-- what is held of neighbours has no part in it
+synced_rest : (plan : Plan) (c : ControlLists) (a b : Rest) → InSync plan (controlled c a) → InSync plan (controlled c b)
+unfolding controlled
+synced_rest plan c a b synced =
+    record { each = all-map (IsSynced plan (controlled c a)) (IsSynced plan (controlled c b)) (end_places plan c.me) (λ place is. record { so = is.so }) synced.each }
+
+pub synced_control : (e : EdgeLists) (rest : Rest) → IsEdge e → InSync e.plan (seen e) → InSync e.control.plan (controlled e.control rest)
+synced_control e rest is synced =
+    synced_rest e.control.plan e.control (rest_of e) rest
+    (subst (λ (p : Plan). InSync p (controlled e.control (rest_of e))) (sym is.plan) (subst (InSync e.plan) (seen_is e is) synced))
+
+-- memory was refused, or an input is at work
+pub edge_stopped : (e : EdgeLists) → IsEdge e → IsEdge (record e { stopped = true })
+edge_stopped e is = record { checked = is.checked; plan = is.plan; me = is.me; dialogues = is.dialogues; held = is.held; synced = λ going. absurd (cc (going)) }
+
+pub seen_stopped : (e : EdgeLists) (stopped : Bool) → seen (record e { stopped = stopped }) ≡ seen e
+unfolding seen
+seen_stopped e stopped = refl
+
+pub worked_stopped : (e : EdgeLists) (stopped : Bool) (calls : List LinkCall) (effects : Effects) → worked (record e { stopped = stopped }) calls effects ≡ worked e calls effects
+unfolding worked
+worked_stopped e stopped calls effects = ap (λ (s : EdgeState). record { edge = s; calls = calls; effects = effects.list; idle = effects.idle }) (seen_stopped e stopped)
+
+-- the input is done
+pub edge_going : (e : EdgeLists) → IsEdge e → InSync e.plan (seen e) → IsEdge (record e { stopped = false })
+edge_going e is synced = record {
+  checked = is.checked;
+  plan = is.plan;
+  me = is.me;
+  dialogues = is.dialogues;
+  held = is.held;
+  synced = λ going. subst (InSync e.plan) (sym (seen_stopped e false)) synced;
+}
+
+-- what is lent of a bridge
+pub bridge_seen : (e : EdgeLists) (service : ServiceId) (lent : Option (Bor BridgeState)) → IsEdge e → IfSome lent (λ bridge. (rest : Rest) → bridge.now.entries ≡ addresses_of (controlled e.control rest) service)
+    → IfSome lent (λ bridge. bridge.now.entries ≡ addresses_of (seen e) service)
+bridge_seen e service None is read = tt
+bridge_seen e service (Some bridge) is read = read (rest_of e) ∙ ap (λ (s : EdgeState). addresses_of s service) (sym (seen_is e is))

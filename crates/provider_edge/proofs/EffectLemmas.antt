@@ -1,4 +1,4 @@
--- What an edge gives out: it names what is in the plan, stays in its service, and tells what the link took.
+-- What an edge gives out: it names what is in the plan, and tells what the link took.
 use Rattle.std.proofs.Common.{◌≡◌, ◌<◌, ◌≤◌, ◌+◌, ◌++◌, ◌&&◌, ◌||◌, ◌∙◌, ℕ, zero, suc, Bool, true, false, List, [], ◌∷◌, Option, Some, None, Result, Ok, Err, cond, filter, length, nat_eq, nat_lt, not, slice_get, slice_index_or, refl, ap, sym, subst, arith, append_assoc}
 use Rattle.std.proofs.lemmas.Bool.Decides.{nat_tests}
 use Rattle.std.proofs.lemmas.List.{append-nil}
@@ -10,16 +10,20 @@ use Rattle.net_base.specs.declared.plan.edge_plan.EdgePlan.{EdgePlan}
 use Rattle.net_base.specs.declared.plan.places.CircuitId.{CircuitId}
 use Rattle.net_base.specs.declared.plan.places.EdgeId.{EdgeId}
 use Rattle.net_base.specs.declared.plan.places.ServiceId.{ServiceId}
+use Rattle.net_base.specs.declared.trace.arrival.Arrival.{Arrival}
+use Rattle.net_base.specs.declared.trace.arrival.Arrival.TheVariants as arrival
 use Rattle.net_base.specs.declared.trace.drop_cause.DropCause.{DropCause}
+use Rattle.net_base.specs.declared.trace.drop_cause.DropCause.TheVariants as causes
 use Rattle.net_base.specs.declared.trace.state_name.Reason.{Reason}
 use Rattle.net_base.specs.declared.trace.state_name.Reason.TheVariants as reason
 use Rattle.net_base.specs.declared.trace.state_name.StateName.{StateName}
 use Rattle.net_base.specs.declared.trace.state_name.StateName.TheVariants as name
 use Rattle.net_base.specs.outside.Link.{call_of}
 use Rattle.net_base.specs.plan.Accepted.{IsChecked, IsWireOf}
-use Rattle.net_base.specs.plan.Paths.{are_joined, joins}
+use Rattle.net_base.specs.declared.plan.wire_plan.WirePlan.{WirePlan}
+use Rattle.net_base.specs.plan.Paths.{are_joined, joins, offer_of}
 use Rattle.net_base.specs.plan.RowFaults.{is_edge_of}
-use Rattle.std.specs.List.{AllByRecursion, list_all}
+use Rattle.std.specs.List.{AllByRecursion, find, list_all}
 use Rattle.std.proofs.lemmas.Bool.{eqb-true}
 use Rattle.std.proofs.lemmas.List.Elements.{All-get_or}
 use Rattle.net_base.specs.declared.plan.places.WireId.{WireId}
@@ -32,7 +36,7 @@ use Rattle.pw_tlvs.specs.declared.pw_status.PwStatus.{PwStatus}
 use Rattle.pw_signalling.specs.declared.told.Told.{Told}
 use Rattle.pw_signalling.specs.End.{LocalPart, Idle, Advertised, Withdrawing}
 use Rattle.pw_signalling.specs.Rows.{bound, group_stated, group_unbound, lost, released, stated, unbound}
-use Rattle.net_base.specs.plan.Places.{circuit_row}
+use Rattle.net_base.specs.plan.Places.{circuit_row, wire_row}
 use Rattle.net_base.specs.trace.Isolated.{inner_at}
 use Rattle.net_base.specs.values.Frame.{dress}
 use Rattle.ldp_codec.specs.Decoded.{refusal_of}
@@ -47,7 +51,10 @@ use Rattle.session_core.specs.Table as table
 use Rattle.hvpls_spokes.specs.declared.port.Port.{Port}
 use Rattle.hvpls_spokes.specs.declared.port.Port.TheVariants as port
 use Rattle.hvpls_spokes.specs.Port.{ports_of}
-use Rattle.hvpls_spokes.proofs.PortsLemmas.{LeadsTo, ports_served}
+use Rattle.hvpls_spokes.proofs.PortsLemmas.{IsServed, served_at}
+use Rattle.eth_encap.specs.declared.stack_entry.StackEntry.{StackEntry}
+use Rattle.eth_encap.specs.Packet.{entry_of}
+use Rattle.pw_signalling.specs.declared.binding.Binding.{Binding}
 use Rattle.edge_model.specs.declared.effect.Effect.{Effect}
 use Rattle.edge_model.specs.declared.effect.Effect.TheVariants.{Said, Sent, Left, Dropped, Session, Wire, Pong, Closed}
 use Rattle.edge_model.specs.declared.effects.Effects.{Effects}
@@ -57,28 +64,30 @@ use Rattle.edge_model.specs.Circuit.{circuit_input, is_same, turned}
 use Rattle.edge_model.specs.Connection.{connected_input, connects_between, lost_input, opened_with, restarted}
 use Rattle.edge_model.specs.Frame.{copies, copy_by, forwarded, frame_input, hearing, is_own, port_at, received, tag_of, targets_of}
 use Rattle.edge_model.specs.Hear.{acts, acts_on, advice_of, advises, hears_few, hears_front, hears_message, hears_messages, hears_on, hears_one, hears_pdu, hears_within, holds, octets_input, was_up}
-use Rattle.edge_model.specs.Local.{AllStayBeside}
+use Rattle.edge_model.specs.Packet.{advertiser, alerted, alerts_end, behind_entry, bridges_frame, by_offer, enters, is_alert, is_channel, labelled, least_label, opened_by, owned, packet_input, switched, terminated, unpacked_at}
+use Rattle.edge_model.specs.Send.{drops, had_posted, packet_of, sends, sends_copy, sends_under}
+use Rattle.edge_model.specs.Synced.{InSync}
 use Rattle.edge_model.specs.Put.{Spoken, message_octets_of, octets_of, put_octets, put_replies, put_reply, put_reply_to, puts_on, with_spoken}
 use Rattle.edge_model.specs.Session.{clears_ends, comes_of, ends, had_put, had_said, happens, happens_to, happens_with_ends, says, says_to, is_same_phase, tells_change, went_on, with_session}
 use Rattle.edge_model.specs.declared.end_place.EndPlace.{EndPlace}
 use Rattle.edge_model.specs.Content.{binding_in, mapping, pw_status_code, release, status_notification, withdrawal}
-use Rattle.edge_model.specs.EndPlaces.{end_places, ends_here, passes}
-use Rattle.edge_model.specs.Mend.{advertises_wish, advertising, and_says, cause_number, each_end, mends, mends_end, mends_few, mends_local, mends_once, mends_status, mends_status_of, stays, telling_status, tells_down, tells_downs, tells_new_status, tells_over, wish, withdrawing, withdraws_unless}
+use Rattle.edge_model.specs.EndPlaces.{end_places, ends_here, is_end_of_wire, passes}
+use Rattle.edge_model.specs.Ends.{is_up, wire_end}
+use Rattle.edge_model.specs.Mend.{advertises_wish, advertising, and_says, cause_number, each_end, forgets_down, forgets_downs, forgetting_wire, mends, mends_end, mends_few, mends_local, mends_once, mends_status, mends_status_of, port_of_wire, stays, telling_status, tells_down, tells_downs, tells_new_status, tells_over, wish, withdrawing, withdraws_unless}
 use Rattle.edge_model.specs.Role.{down_at, status_to_tell}
 use Rattle.edge_model.specs.Signal.{end_of_fec, hears_status, maps_to, with_end_changed, with_named}
 use Rattle.edge_model.specs.Wire.{turned_wire}
 use Rattle.edge_model.specs.State.{EdgeState, Peering, end_at, has_end, is_on, is_there, with_bits, with_ends_beside, with_peering, with_told_down}
 use Rattle.edge_model.specs.Step.{edge_step}
 use Rattle.edge_model.specs.Tick.{counted, forgetting, ticks_sessions}
-use Rattle.edge_model.specs.Work.{Agrees, Answers, GoesOn, Work, beginning, changes, gives, idles, next_answer, puts}
-use Rattle.edge_model.proofs.LocalLemmas.{served_at, stays_local}
+use Rattle.edge_model.specs.Work.{Agrees, Answers, GoesOn, Work, beginning, changes, gives, idles, next_answer, posts, puts}
+use Rattle.edge_model.proofs.SyncLemmas.{step_synced}
 use Rattle.edge_model.proofs.PlaceLemmas.{IsEndOf, all-map, places_are}
 use Rattle.provider_edge.specs.Invariant.{IsEdge}
 use Rattle.provider_edge.specs.Lists.{EdgeLists, seen, worked}
 use Rattle.provider_edge.specs.Peering.{Dialogue, kept_with}
 use Rattle.provider_edge.specs.Views.{view}
 use Rattle.provider_edge.specs.Said.{AllFit, Fits, TellsTaken, calls_told}
-use Rattle.provider_edge.specs.Taking.{StaysLocal}
 use Rattle.provider_edge.proofs.Views.{same_read}
 
 -- Of an edge at work this holds of its work, whatever it does for its neighbours and its circuits.
@@ -92,46 +101,186 @@ pub record AreKept (plan : Plan) (Holds : Work → Type 0) : Type 0 where
   pub gone : (peer : EdgeId) (w : Work) → peer.0 < length plan.edges → Holds w → Holds (gives (Closed peer) w)
   pub said : (peer : EdgeId) (bytes : List ℕ) (change : EdgeState → EdgeState) (w : Work) → peer.0 < length plan.edges → Holds w → Holds (gives (Said peer bytes) (changes change (puts peer bytes true w)))
   pub refused : (peer : EdgeId) (bytes : List ℕ) (w : Work) → Holds w → Holds (puts peer bytes false w)
+  pub sent : (peer : EdgeId) (wire : WireId) (came : Arrival) (bytes : List ℕ) (w : Work) → peer.0 < length plan.edges → wire.0 < length plan.wires → Holds w → Holds (gives (Sent peer wire came bytes) (posts peer bytes true w))
+  pub lost : (peer : EdgeId) (bytes : List ℕ) (w : Work) → Holds w → Holds (posts peer bytes false w)
 
--- ---- frames and circuits
+-- ---- where ends are
 
-copy_kept : (plan : Plan) (Holds : Work → Type 0) → AreKept plan Holds → (told : Answers) (frame : List ℕ) (x : Port) (b : Bool) (work : Work) → ((c : CircuitId) → x ≡ port.Circuit c → c.0 < length plan.circuits)
-    → Holds work → Holds (cond b (copy_by plan told frame x work) work)
-copy_kept plan Holds kept told frame x false work planned here = here
-copy_kept plan Holds kept told frame (port.Circuit c) true work planned here = kept.left c (dress (tag_of plan c) frame) work (planned c refl) here
-copy_kept plan Holds kept told frame (port.Mesh wire) true work planned here = here
-copy_kept plan Holds kept told frame (port.Spoke wire) true work planned here = here
+-- the place is one of the plan
+pub record IsPlaced (plan : Plan) (place : EndPlace) : Type 0 where
+  pub peer : place.peer.0 < length plan.edges
+  pub wire : place.wire.0 < length plan.wires
 
-copies_kept : (plan : Plan) (Holds : Work → Type 0) → AreKept plan Holds → (told : Answers) (frame : List ℕ) (targets : ℕ → Bool) (p : ℕ) (ports : List Port) (work : Work) → ((q : ℕ) (c : CircuitId) → LeadsTo ports q c.0 → c.0 < length plan.circuits)
-    → Holds work → Holds (copies targets (copy_by plan told frame) p ports work)
-copies_kept plan Holds kept told frame targets p [] work planned here = here
-copies_kept plan Holds kept told frame targets p (x ∷ ports) work planned here =
-    copies_kept plan Holds kept told frame targets (p + 1) ports (cond (targets p) (copy_by plan told frame x work) work)
-    (λ q c leads. planned (suc q) c (record { is = leads.is }))
-    (copy_kept plan Holds kept told frame x (targets p) work (λ c is. planned 0 c (record { is = ap (λ (x : Port). Some x) is })) here)
+and_one : (a b : Bool) → a && b ≡ true → a ≡ true
+and_one true b both = refl
+and_one false b both = absurd (cc (both))
 
-in_plan : (plan : Plan) (service : ServiceId) (me : EdgeId) (q : ℕ) (c : CircuitId) → LeadsTo (ports_of plan service me) q c.0 → c.0 < length plan.circuits
+and_other : (a b : Bool) → a && b ≡ true → b ≡ true
+and_other true b both = both
+and_other false b both = absurd (cc (both))
+
+below_edges : (plan : Plan) (edge : EdgeId) → is_edge_of plan edge ≡ true → edge.0 < length plan.edges
+below_edges plan edge is = below edge.0 (length plan.edges) is where
+  below : (n len : ℕ) → nat_lt n len ≡ true → n < len
+  below n len less = grind (arith, nat_tests)
+
+joined_within : (plan : Plan) (a b : ℕ) (path : List EdgeId) → joins a b path ≡ true → list_all (is_edge_of plan) path ≡ true → b < length plan.edges
+joined_within plan a b [] joined all = absurd (cc (joined))
+joined_within plan a b (last ∷ []) joined all = absurd (cc (joined))
+joined_within plan a b (first ∷ next ∷ rest) joined all =
+    let one : first.0 < length plan.edges = below_edges plan first (and_one (is_edge_of plan first) (list_all (is_edge_of plan) (next ∷ rest)) all) in
+    let tail : list_all (is_edge_of plan) (next ∷ rest) ≡ true = and_other (is_edge_of plan first) (list_all (is_edge_of plan) (next ∷ rest)) all in
+    let two : next.0 < length plan.edges = below_edges plan next (and_one (is_edge_of plan next) (list_all (is_edge_of plan) rest) tail) in
+    by one two (λ further. joined_within plan a b (next ∷ rest) further tail) (nat_eq a first.0 && nat_eq b next.0) refl (nat_eq b first.0 && nat_eq a next.0) refl joined
+  where
+    by : first.0 < length plan.edges → next.0 < length plan.edges → (joins a b (next ∷ rest) ≡ true → b < length plan.edges) → (x : Bool) → (nat_eq a first.0 && nat_eq b next.0) ≡ x → (y : Bool) → (nat_eq b first.0 && nat_eq a next.0) ≡ y
+        → (x || y) || joins a b (next ∷ rest) ≡ true → b < length plan.edges
+    by one two further true is y other any = subst (λ (n : ℕ). n < length plan.edges) (sym (eqb-true b next.0 (and_other (nat_eq a first.0) (nat_eq b next.0) is))) two
+    by one two further false is true other any = subst (λ (n : ℕ). n < length plan.edges) (sym (eqb-true b first.0 (and_one (nat_eq b first.0) (nat_eq a next.0) other))) one
+    by one two further false is false other any = further any
+
+place_placed : (plan : Plan) (me : EdgeId) → IsChecked plan → (place : EndPlace) → IsEndOf plan me place → IsPlaced plan place
+place_placed plan me checked place is =
+    let within : place.wire.0 < length plan.wires = slice_get_within plan.wires place.wire.0 is.row is.is in
+    let row : IsWireOf plan is.row =
+    subst (IsWireOf plan) (get_or_from_slice_get plan.wires place.wire.0 is.row is.row is.is) (All-get_or (IsWireOf plan) plan.wires place.wire.0 is.row within checked.wires) in
+    record { peer = joined_within plan me.0 place.peer.0 is.row.path is.joined row.edges; wire = within }
+
+places_placed : (plan : Plan) (me : EdgeId) → IsChecked plan → AllByRecursion (IsPlaced plan) (end_places plan me)
+places_placed plan me checked = all-map (IsEndOf plan me) (IsPlaced plan) (end_places plan me) (λ place is. place_placed plan me checked place is) (places_are plan me)
+
+found_holds : {X : Type 0} (P : X → Type 0) (test : X → Bool) (xs : List X) (x : X) → AllByRecursion P xs → find test xs ≡ Some x → P x
+found_holds P test [] x all is = absurd (cc (is))
+found_holds P test (y ∷ xs) x all is = by (test y) is (λ later. found_holds P test xs x all.1 later) where
+  by : (b : Bool) → cond b (Some y) (find test xs) ≡ Some x → (find test xs ≡ Some x → P x) → P x
+  by true is later =
+      let same : y ≡ x = cc (is) in
+      subst P same all.0
+  by false is later = later is
+
+-- ---- frames
+
+sends_kept : (plan : Plan) (Holds : Work → Type 0) → AreKept plan Holds → (told : Answers) (place : EndPlace) (came : Arrival) (octets : List ℕ) (work : Work) → IsPlaced plan place → Holds work → Holds (sends told place came octets work)
+sends_kept plan Holds kept told place came octets work placed here = by (next_answer told work) where
+  by : (taken : Bool) → Holds (had_posted place came octets taken work)
+  by true = kept.sent place.peer place.wire came octets work placed.peer placed.wire here
+  by false = kept.dropped causes.LinkFault (posts place.peer octets false work) (kept.lost place.peer octets work here)
+
+copied_kept : (plan : Plan) (Holds : Work → Type 0) → AreKept plan Holds → (told : Answers) (came : Arrival) (frame : List ℕ) (end : Option EndPlace) (work : Work) → ((place : EndPlace) → end ≡ Some place → IsPlaced plan place) → Holds work
+    → Holds (sends_copy plan told came frame end work)
+copied_kept plan Holds kept told came frame None work placed here = here
+copied_kept plan Holds kept told came frame (Some place) work placed here = by (wire_row plan place.wire) (end_at work.edge place).remote where
+  by : (row : Option WirePlan) (remote : Option Binding) → Holds (sends_under told came frame work.edge.me place row remote work)
+  by None remote = here
+  by (Some row) None = here
+  by (Some row) (Some binding) = sends_kept plan Holds kept told place came (packet_of (offer_of row work.edge.me.0) binding frame) work (placed place refl) here
+
+copy_kept : (plan : Plan) (Holds : Work → Type 0) → AreKept plan Holds → IsChecked plan → (told : Answers) (came : Arrival) (frame : List ℕ) (x : Port) (b : Bool) (work : Work) → ((c : CircuitId) → x ≡ port.Circuit c → c.0 < length plan.circuits)
+    → Holds work → Holds (cond b (copy_by plan told came frame x work) work)
+copy_kept plan Holds kept checked told came frame x false work planned here = here
+copy_kept plan Holds kept checked told came frame (port.Circuit c) true work planned here = kept.left c (dress (tag_of plan c) frame) work (planned c refl) here
+copy_kept plan Holds kept checked told came frame (port.Mesh wire) true work planned here =
+    copied_kept plan Holds kept told came frame (wire_end plan work.edge.me wire) work (λ place. found_holds (IsPlaced plan) (is_end_of_wire wire) (end_places plan work.edge.me) place (places_placed plan work.edge.me checked)) here
+copy_kept plan Holds kept checked told came frame (port.Spoke wire) true work planned here =
+    copied_kept plan Holds kept told came frame (wire_end plan work.edge.me wire) work (λ place. found_holds (IsPlaced plan) (is_end_of_wire wire) (end_places plan work.edge.me) place (places_placed plan work.edge.me checked)) here
+
+copies_kept : (plan : Plan) (Holds : Work → Type 0) → AreKept plan Holds → IsChecked plan → (told : Answers) (came : Arrival) (frame : List ℕ) (targets : ℕ → Bool) (p : ℕ) (ports : List Port) (work : Work)
+    → ((q : ℕ) (c : CircuitId) → slice_get ports q ≡ Some (port.Circuit c) → c.0 < length plan.circuits)
+    → Holds work → Holds (copies targets (copy_by plan told came frame) p ports work)
+copies_kept plan Holds kept checked told came frame targets p [] work planned here = here
+copies_kept plan Holds kept checked told came frame targets p (x ∷ ports) work planned here =
+    copies_kept plan Holds kept checked told came frame targets (p + 1) ports (cond (targets p) (copy_by plan told came frame x work) work)
+    (λ q c leads. planned (suc q) c leads)
+    (copy_kept plan Holds kept checked told came frame x (targets p) work (λ c is. planned 0 c (ap (λ (x : Port). Some x) is)) here)
+
+in_plan : (plan : Plan) (service : ServiceId) (me : EdgeId) (q : ℕ) (c : CircuitId) → slice_get (ports_of plan service me) q ≡ Some (port.Circuit c) → c.0 < length plan.circuits
 in_plan plan service me q c leads =
-    let served = served_at plan.circuits service me (ports_of plan service me) q c.0 (ports_served plan service me) leads in
+    let served : IsServed plan.circuits service me c.0 = served_at plan service me q (port.Circuit c) leads in
     slice_get_within plan.circuits c.0 served.row served.is
 
-forwarded_kept : (plan : Plan) (Holds : Work → Type 0) → AreKept plan Holds → (told : Answers) (service : ServiceId) (frame : List ℕ) (arrival : Option ℕ) (work : Work) → Holds work → Holds (forwarded plan told service frame arrival work)
-forwarded_kept plan Holds kept told service frame None work here = here
-forwarded_kept plan Holds kept told service frame (Some arrival) work here =
+forwarded_kept : (plan : Plan) (Holds : Work → Type 0) → AreKept plan Holds → IsChecked plan → (told : Answers) (came : Arrival) (service : ServiceId) (frame : List ℕ) (port : Option ℕ) (work : Work) → Holds work → Holds (forwarded plan told came service frame port work)
+forwarded_kept plan Holds kept checked told came service frame None work here = here
+forwarded_kept plan Holds kept checked told came service frame (Some arrival) work here =
     let heard : Work = changes (hearing service frame arrival) work in
-    copies_kept plan Holds kept told frame (targets_of plan heard.edge service (ports_of plan service heard.edge.me) frame arrival) 0 (ports_of plan service heard.edge.me) heard (in_plan plan service heard.edge.me)
+    copies_kept plan Holds kept checked told came frame (targets_of plan heard.edge service (ports_of plan service heard.edge.me) frame arrival) 0 (ports_of plan service heard.edge.me) heard (in_plan plan service heard.edge.me)
     (kept.changed (hearing service frame arrival) work here)
 
-received_kept : (plan : Plan) (Holds : Work → Type 0) → AreKept plan Holds → (told : Answers) (service : ServiceId) (arrival : Option ℕ) (read : Result (List ℕ) DropCause) (work : Work) → Holds work → Holds (received plan told service arrival read work)
-received_kept plan Holds kept told service arrival (Ok frame) work here = forwarded_kept plan Holds kept told service frame arrival work here
-received_kept plan Holds kept told service arrival (Err cause) work here = kept.dropped cause work here
+received_kept : (plan : Plan) (Holds : Work → Type 0) → AreKept plan Holds → IsChecked plan → (told : Answers) (came : Arrival) (service : ServiceId) (port : Option ℕ) (read : Result (List ℕ) DropCause) (work : Work) → Holds work → Holds (received plan told came service port read work)
+received_kept plan Holds kept checked told came service port (Ok frame) work here = forwarded_kept plan Holds kept checked told came service frame port work here
+received_kept plan Holds kept checked told came service port (Err cause) work here = kept.dropped cause work here
 
-frame_kept : (plan : Plan) (Holds : Work → Type 0) → AreKept plan Holds → (told : Answers) (circuit : CircuitId) (octets : List ℕ) (row : Option CircuitPlan) (work : Work) → Holds work → Holds (frame_input plan told circuit octets row work)
-frame_kept plan Holds kept told circuit octets None work here = kept.idle work here
-frame_kept plan Holds kept told circuit octets (Some row) work here = taken (is_own work.edge row && is_on work.edge circuit) where
-  taken : (b : Bool) → Holds (cond b (received plan told row.service (port_at plan work.edge circuit row) (inner_at plan circuit octets) work) (idles work))
+frame_kept : (plan : Plan) (Holds : Work → Type 0) → AreKept plan Holds → IsChecked plan → (told : Answers) (circuit : CircuitId) (octets : List ℕ) (row : Option CircuitPlan) (work : Work) → Holds work → Holds (frame_input plan told circuit octets row work)
+frame_kept plan Holds kept checked told circuit octets None work here = kept.idle work here
+frame_kept plan Holds kept checked told circuit octets (Some row) work here = taken (is_own work.edge row && is_on work.edge circuit) where
+  taken : (b : Bool) → Holds (cond b (received plan told (arrival.Circuit circuit) row.service (port_at plan work.edge circuit row) (inner_at plan circuit octets) work) (idles work))
   taken false = kept.idle work here
-  taken true = received_kept plan Holds kept told row.service (port_at plan work.edge circuit row) (inner_at plan circuit octets) work here
+  taken true = received_kept plan Holds kept checked told (arrival.Circuit circuit) row.service (port_at plan work.edge circuit row) (inner_at plan circuit octets) work here
+
+-- ---- packets
+
+enters_kept : (plan : Plan) (Holds : Work → Type 0) → AreKept plan Holds → IsChecked plan → (told : Answers) (row : WirePlan) (place : EndPlace) (payload : List ℕ) (work : Work) → Holds work → Holds (enters plan told row place payload work)
+enters_kept plan Holds kept checked told row place payload work here = by (is_up (down_at plan work.edge place)) where
+  by : (b : Bool) → Holds (cond b (bridges_frame plan told row place payload work) (drops causes.Down work))
+  by true = received_kept plan Holds kept checked told (arrival.Wire place.wire) row.service (port_of_wire plan work.edge place.wire row) (unpacked_at plan row work.edge.me payload) work here
+  by false = kept.dropped causes.Down work here
+
+offered_kept : (plan : Plan) (Holds : Work → Type 0) → AreKept plan Holds → IsChecked plan → (told : Answers) (row : WirePlan) (place : EndPlace) (cword : Bool) (payload : List ℕ) (work : Work) → Holds work → Holds (by_offer plan told row place cword payload work)
+offered_kept plan Holds kept checked told row place false payload work here = enters_kept plan Holds kept checked told row place payload work here
+offered_kept plan Holds kept checked told row place true payload work here = by (nat_eq (length payload) 0) where
+  channel : (b : Bool) → Holds (cond b (drops causes.NotOffered work) (enters plan told row place payload work))
+  channel true = kept.dropped causes.NotOffered work here
+  channel false = enters_kept plan Holds kept checked told row place payload work here
+
+  by : (b : Bool) → Holds (cond b (drops causes.Short work) (cond (is_channel payload) (drops causes.NotOffered work) (enters plan told row place payload work)))
+  by true = kept.dropped causes.Short work here
+  by false = channel (is_channel payload)
+
+terminated_kept : (plan : Plan) (Holds : Work → Type 0) → AreKept plan Holds → IsChecked plan → (told : Answers) (place : EndPlace) (row : Option WirePlan) (remote : Option Binding) (payload : List ℕ) (work : Work) → Holds work → Holds (terminated plan told place row remote payload work)
+terminated_kept plan Holds kept checked told place None remote payload work here = kept.dropped causes.Down work here
+terminated_kept plan Holds kept checked told place (Some row) None payload work here = kept.dropped causes.Down work here
+terminated_kept plan Holds kept checked told place (Some row) (Some binding) payload work here = offered_kept plan Holds kept checked told row place (offer_of row work.edge.me.0).cword payload work here
+
+owned_kept : (plan : Plan) (Holds : Work → Type 0) → AreKept plan Holds → IsChecked plan → (told : Answers) (octets : List ℕ) (entry : StackEntry) (end : Option EndPlace) (work : Work) → Holds work → Holds (owned plan told octets entry end work)
+owned_kept plan Holds kept checked told octets entry None work here = kept.dropped causes.NoLabel work here
+owned_kept plan Holds kept checked told octets entry (Some place) work here = by place.terminal where
+  by : (b : Bool) → Holds (cond b (terminated plan told place (wire_row plan place.wire) (end_at work.edge place).remote (behind_entry octets) work) (switched plan told octets entry place work))
+  by true = terminated_kept plan Holds kept checked told place (wire_row plan place.wire) (end_at work.edge place).remote (behind_entry octets) work here
+  by false = here
+
+labelled_kept : (plan : Plan) (Holds : Work → Type 0) → AreKept plan Holds → IsChecked plan → (told : Answers) (octets : List ℕ) (entry : StackEntry) (work : Work) → Holds work → Holds (labelled plan told octets entry work)
+labelled_kept plan Holds kept checked told octets entry work here = by (nat_lt entry.label least_label) where
+  bottom : (b : Bool) → Holds (cond b (owned plan told octets entry (advertiser plan work.edge entry.label) work) (drops causes.NotBottom work))
+  bottom true = owned_kept plan Holds kept checked told octets entry (advertiser plan work.edge entry.label) work here
+  bottom false = kept.dropped causes.NotBottom work here
+
+  by : (b : Bool) → Holds (cond b (drops causes.NoLabel work) (cond entry.bottom (owned plan told octets entry (advertiser plan work.edge entry.label) work) (drops causes.NotBottom work)))
+  by true = kept.dropped causes.NoLabel work here
+  by false = bottom entry.bottom
+
+alerted_kept : (plan : Plan) (Holds : Work → Type 0) → AreKept plan Holds → (read : Result StackEntry DropCause) (work : Work) → Holds work → Holds (alerted plan read work)
+alerted_kept plan Holds kept (Err why) work here = kept.dropped why work here
+alerted_kept plan Holds kept (Ok entry) work here = by entry.bottom where
+  terminal : (place : EndPlace) (b : Bool) → Holds (cond b (drops causes.NotOffered work) (drops causes.NoLabel work))
+  terminal place true = kept.dropped causes.NotOffered work here
+  terminal place false = kept.dropped causes.NoLabel work here
+
+  ends_at : (end : Option EndPlace) → Holds (alerts_end end work)
+  ends_at None = kept.dropped causes.NoLabel work here
+  ends_at (Some place) = terminal place place.terminal
+
+  by : (b : Bool) → Holds (cond b (alerts_end (advertiser plan work.edge entry.label) work) (drops causes.NotBottom work))
+  by true = ends_at (advertiser plan work.edge entry.label)
+  by false = kept.dropped causes.NotBottom work here
+
+packet_kept : (plan : Plan) (Holds : Work → Type 0) → AreKept plan Holds → IsChecked plan → (told : Answers) (octets : List ℕ) (work : Work) → Holds work → Holds (packet_input plan told octets work)
+packet_kept plan Holds kept checked told octets work here = to (entry_of octets) where
+  by : (entry : StackEntry) (b : Bool) → Holds (cond b (alerted plan (entry_of (behind_entry octets)) work) (labelled plan told octets entry work))
+  by entry true = alerted_kept plan Holds kept (entry_of (behind_entry octets)) work here
+  by entry false = labelled_kept plan Holds kept checked told octets entry work here
+
+  to : (read : Result StackEntry DropCause) → Holds (opened_by plan told octets read work)
+  to (Err why) = kept.dropped why work here
+  to (Ok entry) = by entry (is_alert entry)
 
 -- ---- sessions
 
@@ -216,49 +365,6 @@ advised_kept plan Holds kept told peer within (Some reply) work here = had_said_
 
 -- ---- an edge mends
 
--- the place is one of the plan
-pub record IsPlaced (plan : Plan) (place : EndPlace) : Type 0 where
-  pub peer : place.peer.0 < length plan.edges
-  pub wire : place.wire.0 < length plan.wires
-
-and_one : (a b : Bool) → a && b ≡ true → a ≡ true
-and_one true b both = refl
-and_one false b both = absurd (cc (both))
-
-and_other : (a b : Bool) → a && b ≡ true → b ≡ true
-and_other true b both = both
-and_other false b both = absurd (cc (both))
-
-below_edges : (plan : Plan) (edge : EdgeId) → is_edge_of plan edge ≡ true → edge.0 < length plan.edges
-below_edges plan edge is = below edge.0 (length plan.edges) is where
-  below : (n len : ℕ) → nat_lt n len ≡ true → n < len
-  below n len less = grind (arith, nat_tests)
-
-joined_within : (plan : Plan) (a b : ℕ) (path : List EdgeId) → joins a b path ≡ true → list_all (is_edge_of plan) path ≡ true → b < length plan.edges
-joined_within plan a b [] joined all = absurd (cc (joined))
-joined_within plan a b (last ∷ []) joined all = absurd (cc (joined))
-joined_within plan a b (first ∷ next ∷ rest) joined all =
-    let one : first.0 < length plan.edges = below_edges plan first (and_one (is_edge_of plan first) (list_all (is_edge_of plan) (next ∷ rest)) all) in
-    let tail : list_all (is_edge_of plan) (next ∷ rest) ≡ true = and_other (is_edge_of plan first) (list_all (is_edge_of plan) (next ∷ rest)) all in
-    let two : next.0 < length plan.edges = below_edges plan next (and_one (is_edge_of plan next) (list_all (is_edge_of plan) rest) tail) in
-    by one two (λ further. joined_within plan a b (next ∷ rest) further tail) (nat_eq a first.0 && nat_eq b next.0) refl (nat_eq b first.0 && nat_eq a next.0) refl joined
-  where
-    by : first.0 < length plan.edges → next.0 < length plan.edges → (joins a b (next ∷ rest) ≡ true → b < length plan.edges) → (x : Bool) → (nat_eq a first.0 && nat_eq b next.0) ≡ x → (y : Bool) → (nat_eq b first.0 && nat_eq a next.0) ≡ y
-        → (x || y) || joins a b (next ∷ rest) ≡ true → b < length plan.edges
-    by one two further true is y other any = subst (λ (n : ℕ). n < length plan.edges) (sym (eqb-true b next.0 (and_other (nat_eq a first.0) (nat_eq b next.0) is))) two
-    by one two further false is true other any = subst (λ (n : ℕ). n < length plan.edges) (sym (eqb-true b first.0 (and_one (nat_eq b first.0) (nat_eq a next.0) other))) one
-    by one two further false is false other any = further any
-
-place_placed : (plan : Plan) (me : EdgeId) → IsChecked plan → (place : EndPlace) → IsEndOf plan me place → IsPlaced plan place
-place_placed plan me checked place is =
-    let within : place.wire.0 < length plan.wires = slice_get_within plan.wires place.wire.0 is.row is.is in
-    let row : IsWireOf plan is.row =
-    subst (IsWireOf plan) (get_or_from_slice_get plan.wires place.wire.0 is.row is.row is.is) (All-get_or (IsWireOf plan) plan.wires place.wire.0 is.row within checked.wires) in
-    record { peer = joined_within plan me.0 place.peer.0 is.row.path is.joined row.edges; wire = within }
-
-places_placed : (plan : Plan) (me : EdgeId) → IsChecked plan → AllByRecursion (IsPlaced plan) (end_places plan me)
-places_placed plan me checked = all-map (IsEndOf plan me) (IsPlaced plan) (end_places plan me) (λ place is. place_placed plan me checked place is) (places_are plan me)
-
 end_kept : (plan : Plan) (Holds : Work → Type 0) → AreKept plan Holds → (told : Answers) (place : EndPlace) → IsPlaced plan place → (work : Work) → Holds work → Holds (mends_end plan told place work).work
 end_kept plan Holds kept told place placed work here = to (end_at work.edge place).local where
   wished : (w : Option Told) → Holds (advertises_wish told place w work).work
@@ -314,14 +420,26 @@ downs_kept plan Holds kept (place ∷ places) placed work here = downs_kept plan
   by true = told_one (nat_eq (cause_number (work.edge.told_down place.wire.0)) (cause_number (down_at plan work.edge place)))
   by false = here
 
+forgets_kept : (plan : Plan) (Holds : Work → Type 0) → AreKept plan Holds → (places : List EndPlace) (work : Work) → Holds work → Holds (forgets_downs plan places work)
+forgets_kept plan Holds kept [] work here = here
+forgets_kept plan Holds kept (place ∷ places) work here = forgets_kept plan Holds kept places (cond place.terminal (forgets_down plan place (down_at plan work.edge place) work) work) (by place.terminal) where
+  forgot : (down : Option Down) → Holds (forgets_down plan place down work)
+  forgot None = here
+  forgot (Some why) = kept.changed (forgetting_wire plan place.wire (wire_row plan place.wire)) work here
+
+  by : (b : Bool) → Holds (cond b (forgets_down plan place (down_at plan work.edge place) work) work)
+  by true = forgot (down_at plan work.edge place)
+  by false = here
+
 once_kept : (plan : Plan) (Holds : Work → Type 0) → AreKept plan Holds → IsChecked plan → (told : Answers) (work : Work) → Holds work → Holds (mends_once plan told work).work
 once_kept plan Holds kept checked told work here =
     let placed : AllByRecursion (IsPlaced plan) (end_places plan work.edge.me) = places_placed plan work.edge.me checked in
     let ends : Spoken = each_end (mends_end plan told) (end_places plan work.edge.me) (stays work) in
     let statuses : Spoken = each_end (mends_status plan told) (end_places plan work.edge.me) ends in
-    downs_kept plan Holds kept (end_places plan work.edge.me) placed statuses.work
+    downs_kept plan Holds kept (end_places plan work.edge.me) placed (forgets_downs plan (end_places plan work.edge.me) statuses.work)
+    (forgets_kept plan Holds kept (end_places plan work.edge.me) statuses.work
     (each_kept plan Holds (mends_status plan told) (λ place here w h. status_kept plan Holds kept told place here w h) (end_places plan work.edge.me) placed ends
-    (each_kept plan Holds (mends_end plan told) (λ place here w h. end_kept plan Holds kept told place here w h) (end_places plan work.edge.me) placed (stays work) here))
+    (each_kept plan Holds (mends_end plan told) (λ place here w h. end_kept plan Holds kept told place here w h) (end_places plan work.edge.me) placed (stays work) here)))
 
 rounds_kept : (plan : Plan) (Holds : Work → Type 0) → AreKept plan Holds → IsChecked plan → (told : Answers) (n : ℕ) (work : Work) → Holds work → Holds (mends_few plan told n work)
 rounds_kept plan Holds kept checked told zero work here = here
@@ -472,8 +590,8 @@ step_kept plan Holds kept checked told input.Tick work peers here =
     mends_kept plan Holds kept checked told (changes (forgetting plan) (ticks_sessions told 0 (length plan.edges) (changes counted work)))
     (kept.changed (forgetting plan) (ticks_sessions told 0 (length plan.edges) (changes counted work))
     (sessions_kept plan Holds kept told 0 (length plan.edges) (changes counted work) (omega arith) (kept.changed counted work here)))
-step_kept plan Holds kept checked told (input.Frame circuit bytes) work peers here = frame_kept plan Holds kept told circuit bytes.now (circuit_row plan circuit) work here
-step_kept plan Holds kept checked told (input.Packet bytes) work peers here = kept.idle work here
+step_kept plan Holds kept checked told (input.Frame circuit bytes) work peers here = frame_kept plan Holds kept checked told circuit bytes.now (circuit_row plan circuit) work here
+step_kept plan Holds kept checked told (input.Packet bytes) work peers here = packet_kept plan Holds kept checked told bytes.now work here
 step_kept plan Holds kept checked told (input.Wire wire on) work peers here = changed_kept plan Holds kept checked told (turned_wire wire on) work (passes plan work.edge.me wire && not (is_same on (work.edge.wire_on wire.0))) here
 step_kept plan Holds kept checked told (input.Circuit circuit on) work peers here = circuit_kept plan Holds kept checked told circuit on (circuit_row plan circuit) work here
 step_kept plan Holds kept checked told (input.Status wire bits) work peers here = changed_kept plan Holds kept checked told (with_bits wire bits) work (ends_here plan work.edge.me wire && not (nat_eq bits (work.edge.bits wire.0))) here
@@ -487,7 +605,7 @@ fit-append plan [] e all here = (here, tt)
 fit-append plan (x ∷ es) e all here = (all.0, fit-append plan es e all.1 here)
 
 fit_kept : (plan : Plan) → AreKept plan (λ w. AllFit plan w.effects)
-unfolding changes idles gives puts
+unfolding changes idles gives puts posts
 fit_kept plan = record {
   changed = λ change w here. here;
   idle = λ w here. here;
@@ -498,6 +616,8 @@ fit_kept plan = record {
   gone = λ peer w within here. fit-append plan w.effects (Closed peer) here within;
   said = λ peer bytes change w within here. fit-append plan w.effects (Said peer bytes) here within;
   refused = λ peer bytes w here. here;
+  sent = λ peer wire came bytes w within of_wire here. fit-append plan w.effects (Sent peer wire came bytes) here (within, of_wire);
+  lost = λ peer bytes w here. here;
 }
 
 -- ---- effects tell what the link took
@@ -538,7 +658,7 @@ tells_more before now es fs call one tells = record {
 }
 
 tell_kept : (plan : Plan) (before : List LinkCall) → AreKept plan (λ w. TellsTaken before w.calls w.effects)
-unfolding changes idles gives puts
+unfolding changes idles gives puts posts
 tell_kept plan before = record {
   changed = λ change w here. here;
   idle = λ w here. here;
@@ -550,18 +670,21 @@ tell_kept plan before = record {
   said = λ peer bytes change w within here. tells_more before w.calls w.effects (Said peer bytes ∷ []) (call_of peer false bytes true) refl here;
   refused = λ peer bytes w here.
       subst (TellsTaken before (w.calls ++ call_of peer false bytes false ∷ [])) (append-nil w.effects) (tells_more before w.calls w.effects [] (call_of peer false bytes false) refl here);
+  sent = λ peer wire came bytes w within of_wire here. tells_more before w.calls w.effects (Sent peer wire came bytes ∷ []) (call_of peer true bytes true) refl here;
+  lost = λ peer bytes w here.
+      subst (TellsTaken before (w.calls ++ call_of peer true bytes false ∷ [])) (append-nil w.effects) (tells_more before w.calls w.effects [] (call_of peer true bytes false) refl here);
 }
 
 -- ---- of an edge that has done the work of an input, whatever its link answers
 
 -- what the link answered, told by its calls
-abbrev no_call : LinkCall
+abbrev pub no_call : LinkCall
 no_call = call_of (record { 0 = 0 }) false [] false
 
-abbrev told_by : List LinkCall → Answers
+abbrev pub told_by : List LinkCall → Answers
 told_by calls k = (slice_index_or calls k no_call).taken
 
-agrees_itself : (calls : List LinkCall) → Agrees (told_by calls) calls
+pub agrees_itself : (calls : List LinkCall) → Agrees (told_by calls) calls
 agrees_itself calls = record { each = λ k other within. ap (λ (c : LinkCall). c.taken) (same_read calls k other no_call within) }
 
 -- the work of an input is that of the edge's step
@@ -593,21 +716,12 @@ steps_tell e now given effects before after is steps =
     (step_kept e.plan (λ w. TellsTaken before w.calls w.effects) (tell_kept e.plan before) is.checked (told_by after) given (beginning (seen e) before) (has_peers e is is.dialogues)
     (record { more = []; joined = sym (append-nil before); told = refl }))
 
-pub steps_local : (e now : EdgeLists) (given : Input) (effects : Effects) (before after : List LinkCall) → Steps e now given effects before after → StaysLocal e.plan given effects.list
+-- the edge is in sync again
+pub steps_synced : (e now : EdgeLists) (given : Input) (effects : Effects) (before after : List LinkCall) → IsEdge e → InSync e.plan (seen e) → Steps e now given effects before after → InSync e.plan (seen now)
 unfolding worked
-steps_local e now (input.Connected peer) effects before after steps = tt
-steps_local e now (input.Octets peer bytes) effects before after steps = tt
-steps_local e now (input.Lost peer) effects before after steps = tt
-steps_local e now input.Restart effects before after steps = tt
-steps_local e now input.Tick effects before after steps = tt
-steps_local e now (input.Frame circuit bytes) effects before after steps =
-    subst (λ (w : Work). AllStayBeside e.plan circuit bytes.now w.effects) (sym (steps (told_by after) (agrees_itself after))) (stays_local e.plan (told_by after) (seen e) before circuit bytes.now)
-steps_local e now (input.Packet bytes) effects before after steps = tt
-steps_local e now (input.Wire wire on) effects before after steps = tt
-steps_local e now (input.Circuit circuit on) effects before after steps = tt
-steps_local e now (input.Status wire bits) effects before after steps = tt
-steps_local e now (input.Priority wire priority) effects before after steps = tt
-steps_local e now (input.Ping wire) effects before after steps = tt
+steps_synced e now given effects before after is synced steps =
+    subst (λ (w : Work). InSync e.plan w.edge) (sym (steps (told_by after) (agrees_itself after)))
+    (step_synced e.plan (told_by after) given (beginning (seen e) before) is.checked synced)
 
 pub goes_nowhere : (calls : List LinkCall) → GoesOn calls calls
 goes_nowhere calls = record { more = []; joined = sym (append-nil calls) }

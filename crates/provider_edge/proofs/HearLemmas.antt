@@ -1,5 +1,5 @@
 -- An edge hears octets in pieces, one PDU after another.
-use Rattle.std.proofs.Common.{◌≡◌, ◌<◌, ◌≤◌, ◌+◌, ◌-◌, ◌++◌, ◌∙◌, ◌⊎◌, ℕ, zero, suc, Bool, true, false, List, [], ◌∷◌, Option, Some, None, cond, length, take, drop, slice_index_or, min, refl, ap, sym, subst, inl, inr, arith, append_assoc, length-append}
+use Rattle.std.proofs.Common.{◌≡◌, ◌<◌, ◌≤◌, ◌+◌, ◌++◌, ◌∙◌, ℕ, zero, suc, List, [], ◌∷◌, Option, Some, None, length, take, drop, slice_index_or, refl, ap, sym, subst, inl, inr, arith, append_assoc, length-append}
 use Rattle.std.proofs.lemmas.List.{append-nil, take-append-drop}
 use Rattle.net_base.specs.declared.plan.Plan.{Plan}
 use Rattle.net_base.specs.declared.plan.places.EdgeId.{EdgeId}
@@ -12,13 +12,12 @@ use Rattle.ldp_grammar.specs.declared.fault.Fault.{Fault}
 use Rattle.ldp_grammar.specs.declared.message.Message.{Message}
 use Rattle.ldp_grammar.specs.declared.pdu.Pdu.{Pdu}
 use Rattle.ldp_grammar.specs.Reading.{AreOctets}
-use Rattle.ldp_grammar.specs.Spells.{Spells}
-use Rattle.ldp_grammar.proofs.OctetLemmas.{octets_before, octets_drop, octets_take}
+use Rattle.ldp_grammar.proofs.OctetLemmas.{octets_take}
 use Rattle.ldp_grammar.proofs.ReadingLemmas.{octets_behind}
 use Rattle.ldp_grammar.proofs.WrittenOctets.{octets_append}
 use Rattle.ldp_stream.specs.Front.{HasFront, IsFrontFault, IsPending}
 use Rattle.ldp_stream.specs.FrontOf.{Front, More, Got, Bad, front_of}
-use Rattle.ldp_stream.specs.State.{Passes, StreamState, Waits, IsRefused, IsFaultOf, taken_of}
+use Rattle.ldp_stream.specs.State.{Passes, StreamState, Waits, IsRefused, IsFaultOf}
 use Rattle.ldp_stream.proofs.FrontOfLemmas.{front_is_read}
 use Rattle.session_core.specs.Table.{Refused}
 use Rattle.edge_model.specs.Hear.{hears, hears_few, hears_front, hears_message, hears_messages, hears_pdu, hears_within}
@@ -26,7 +25,6 @@ use Rattle.edge_model.specs.Session.{happens_with_ends}
 use Rattle.edge_model.specs.State.{Peering, with_peering}
 use Rattle.edge_model.specs.Work.{Answers, Work, changes}
 use Rattle.provider_edge.specs.Hearing.{HearsOn, IsAtFault, IsAtPdu, IsReady, IsWaiting, Within}
-use Rattle.provider_edge.specs.Heard.{CanBeHeard}
 use Rattle.provider_edge.proofs.HeardLemmas.{spelled_heard}
 
 -- ---- messages in order

@@ -1,5 +1,5 @@
 -- What is known of messages that were read.
-use Rattle.std.proofs.Common.{◌≡◌, ◌≤◌, ◌<◌, ◌%◌, ℕ, List, [], ◌∷◌, Option, Some, None, drop, subst, sym, arith}
+use Rattle.std.proofs.Common.{◌≤◌, ◌%◌, ℕ, List, [], ◌∷◌, Option, Some, None, subst, sym, arith}
 use Rattle.std.specs.List.{AllByRecursion}
 use Rattle.pw_tlvs.specs.declared.pw_fec.PwFec.{PwFec}
 use Rattle.pw_tlvs.specs.Fec.{IsPwFec}
@@ -9,7 +9,7 @@ use Rattle.ldp_grammar.specs.declared.message_kind.MessageKind.{MessageKind}
 use Rattle.ldp_grammar.specs.declared.message_kind.MessageKind.TheVariants as kind
 use Rattle.ldp_grammar.specs.declared.why.Why.{Why}
 use Rattle.ldp_grammar.specs.Rows.{fec}
-use Rattle.ldp_grammar.specs.Spells.{IsRead, Means, OfValue, Spelling, StandInOrder, StandsAs, Tells}
+use Rattle.ldp_grammar.specs.Spells.{Means, OfValue, Spelling, StandInOrder, StandsAs, Tells}
 use Rattle.ldp_grammar.specs.Rows.{kind_of}
 use Rattle.ldp_grammar.specs.Tlvs.{Tlv, value_of}
 use Rattle.provider_edge.specs.Heard.{CanBeHeard}

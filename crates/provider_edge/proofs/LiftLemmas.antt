@@ -1,5 +1,5 @@
 -- Work for one neighbour is work of the edge.
-use Rattle.std.proofs.Common.{◌≡◌, ◌∙◌, ℕ, Bool, true, false, List, [], ◌∷◌, ◌++◌, Option, Some, None, cond, is_some, not, refl, ap, sym, subst}
+use Rattle.std.proofs.Common.{◌≡◌, ◌∙◌, ℕ, Bool, true, false, List, [], ◌∷◌, ◌++◌, Option, Some, None, is_some, not, refl, ap, sym}
 use Rattle.net_base.specs.declared.outside.link_call.LinkCall.{LinkCall}
 use Rattle.net_base.specs.declared.plan.places.EdgeId.{EdgeId}
 use Rattle.net_base.specs.declared.trace.state_name.StateName.TheVariants as name
@@ -14,8 +14,8 @@ use Rattle.edge_model.specs.Put.{Spoken, put_reply}
 use Rattle.edge_model.specs.Session.{clears_ends, had_put, happens, happens_to, happens_with_ends, says, says_to}
 use Rattle.edge_model.specs.State.{EdgeState, Peering, has_end, is_there, with_peering}
 use Rattle.edge_model.specs.Work.{Answers, Work, changes, gives}
-use Rattle.provider_edge.specs.Peering.{Dialogue, at_edge, at_peer, had_spoken, is_over, kept_with, put_message, put_message_to}
-use Rattle.provider_edge.proofs.SpeakerLemmas.{put_same, put_twice, read_peer}
+use Rattle.provider_edge.specs.Peering.{Dialogue, at_edge, at_peer, had_spoken, is_over, put_message, put_message_to}
+use Rattle.provider_edge.proofs.SpeakerLemmas.{put_same, put_twice}
 
 pub peer_edge : (peer : EdgeId) (kept : Option Peering) (edge : EdgeState) (calls : List LinkCall) (out : List Effect) → edge.peering peer.0 ≡ kept → at_peer peer kept edge calls out ≡ at_edge edge calls out
 unfolding at_peer at_edge

@@ -1,5 +1,5 @@
 -- An edge mends its ends, step by step.
-use Rattle.std.proofs.Common.{◌≡◌, ◌<◌, ◌≤◌, ◌+◌, ◌-◌, ◌==◌, ◌||◌, ◌∙◌, ℕ, zero, suc, Bool, true, false, List, [], ◌∷◌, Option, Some, cond, not, length, drop, slice_index_or, refl, ap, sym, subst, arith}
+use Rattle.std.proofs.Common.{◌≡◌, ◌<◌, ◌≤◌, ◌+◌, ◌-◌, ◌==◌, ◌||◌, ◌∙◌, ℕ, zero, suc, Bool, true, false, List, [], ◌∷◌, Option, Some, None, cond, is_some, not, length, drop, slice_index_or, refl, ap, sym, subst, arith}
 use Rattle.std.specs.List.{All, slice_get}
 use Rattle.std.proofs.lemmas.List.Elements.{All-get_or}
 use Rattle.std.proofs.lemmas.Option.{get_or_from_slice_get, slice_get_within}
@@ -26,13 +26,13 @@ use Rattle.pw_ends.specs.Wish.{wish_by}
 use Rattle.edge_model.specs.declared.effect.Effect.{Effect}
 use Rattle.edge_model.specs.declared.end_place.EndPlace.{EndPlace}
 use Rattle.edge_model.specs.EndPlaces.{end_places}
-use Rattle.edge_model.specs.Mend.{advertises_wish, and_says, each_end, mends, mends_again, mends_end, mends_few, mends_local, mends_once, mends_status, mends_status_of, stays, tells_down, tells_downs, tells_new_status, tells_over, terminal_wish, wish, withdraws_unless}
+use Rattle.edge_model.specs.Mend.{advertises_wish, and_says, each_end, forgets_down, forgets_downs, forgetting_wire, mends, mends_again, mends_end, mends_few, mends_local, mends_once, mends_status, mends_status_of, stays, tells_down, tells_downs, tells_new_status, tells_over, terminal_wish, wish, withdraws_unless}
 use Rattle.edge_model.specs.Put.{Spoken}
 use Rattle.edge_model.specs.Role.{down_at, role_at, status_to_tell}
 use Rattle.edge_model.specs.State.{EdgeState, end_at}
-use Rattle.edge_model.specs.Work.{Answers, Work}
+use Rattle.edge_model.specs.Work.{Answers, Work, changes}
 use Rattle.provider_edge.specs.Control.{ControlLists, KeepsPlan, Rest, at_control, controlled}
-use Rattle.provider_edge.specs.Mending.{mended_down}
+use Rattle.provider_edge.specs.Mending.{forgotten_down, mended_down}
 use Rattle.provider_edge.specs.Peering.{at_edge}
 
 -- ---- rounds
@@ -71,16 +71,18 @@ rounds_end c told n i start work rounds past so_far = sym (so_far ∙ few_end c.
 
 -- ---- all steps once
 
-pub once_done : (plan : Plan) (told : Answers) (me : EdgeId) (start last : Work) (ends statuses : Spoken) → start.edge.me ≡ me
+pub once_done : (plan : Plan) (told : Answers) (me : EdgeId) (start forgot last : Work) (ends statuses : Spoken) → start.edge.me ≡ me
     → ends ≡ each_end (mends_end plan told) (end_places plan me) (stays start)
     → statuses ≡ each_end (mends_status plan told) (end_places plan me) ends
-    → last ≡ tells_downs plan (end_places plan me) statuses.work
+    → forgot ≡ forgets_downs plan (end_places plan me) statuses.work
+    → last ≡ tells_downs plan (end_places plan me) forgot
     → record { work = last; failed = statuses.failed } ≡ mends_once plan told start
-once_done plan told me start last ends statuses here first next downs =
-    ap (λ (w : Work). record { work = w; failed = statuses.failed }) downs
-    ∙ (ap (λ (s : Spoken). record { work = tells_downs plan (end_places plan me) s.work; failed = s.failed }) next
-    ∙ (ap (λ (e : Spoken). record { work = tells_downs plan (end_places plan me) (each_end (mends_status plan told) (end_places plan me) e).work; failed = (each_end (mends_status plan told) (end_places plan me) e).failed }) first
-    ∙ ap (λ (m : EdgeId). record { work = tells_downs plan (end_places plan m) (each_end (mends_status plan told) (end_places plan m) (each_end (mends_end plan told) (end_places plan m) (stays start))).work; failed = (each_end (mends_status plan told) (end_places plan m) (each_end (mends_end plan told) (end_places plan m) (stays start))).failed }) (sym here)))
+once_done plan told me start forgot last ends statuses here first next forgets downs =
+    let after : EdgeId → Work → Work = λ m w. tells_downs plan (end_places plan m) (forgets_downs plan (end_places plan m) w) in
+    let all : EdgeId → Spoken = λ m. each_end (mends_status plan told) (end_places plan m) (each_end (mends_end plan told) (end_places plan m) (stays start)) in
+    ap (λ (w : Work). record { work = w; failed = statuses.failed }) (downs ∙ ap (tells_downs plan (end_places plan me)) forgets)
+    ∙ (ap (λ (s : Spoken). record { work = after me s.work; failed = s.failed }) (next ∙ ap (each_end (mends_status plan told) (end_places plan me)) first)
+    ∙ ap (λ (m : EdgeId). record { work = after m (all m).work; failed = (all m).failed }) (sym here))
 
 pub statuses_kept : (c now : ControlLists) (told : Answers) (m x : Spoken) → KeepsPlan c now → x ≡ each_end (mends_status now.plan told) (end_places now.plan now.me) m → x ≡ each_end (mends_status c.plan told) (end_places c.plan c.me) m
 statuses_kept c now told m x keeps is =
@@ -89,6 +91,10 @@ statuses_kept c now told m x keeps is =
 pub downs_kept : (c now : ControlLists) (work x : Work) → KeepsPlan c now → x ≡ tells_downs now.plan (end_places now.plan now.me) work → x ≡ tells_downs c.plan (end_places c.plan c.me) work
 downs_kept c now work x keeps is =
     is ∙ (ap (λ (p : Plan). tells_downs p (end_places p now.me) work) keeps.plan ∙ ap (λ (e : EdgeId). tells_downs c.plan (end_places c.plan e) work) keeps.me)
+
+pub forgets_kept : (c now : ControlLists) (work x : Work) → KeepsPlan c now → x ≡ forgets_downs now.plan (end_places now.plan now.me) work → x ≡ forgets_downs c.plan (end_places c.plan c.me) work
+forgets_kept c now work x keeps is =
+    is ∙ (ap (λ (p : Plan). forgets_downs p (end_places p now.me) work) keeps.plan ∙ ap (λ (e : EdgeId). forgets_downs c.plan (end_places c.plan e) work) keeps.me)
 
 pub me_at : (c : ControlLists) (rest : Rest) (calls : List LinkCall) (out : List Effect) → (at_control c rest calls out).edge.me ≡ c.me
 unfolding controlled at_edge
@@ -167,6 +173,33 @@ pub downs_end : (c : ControlLists) (i : ℕ) (work whole : Work) → c.ends.plac
     → whole ≡ tells_downs c.plan (drop i (end_places c.plan c.me)) work → work ≡ whole
 downs_end c i work whole placed past so_far = sym (so_far ∙ downs_past c.plan (end_places c.plan c.me) i work (subst (λ (l : List EndPlace). length l ≤ i) placed past))
 
+forgets_more : (plan : Plan) (places : List EndPlace) (i : ℕ) (d : EndPlace) (work : Work) → i < length places
+    → forgets_downs plan (drop i places) work ≡ forgets_downs plan (drop (i + 1) places) (forgotten_down plan (slice_index_or places i d) work)
+forgets_more plan [] i d work below = absurd (omega arith)
+forgets_more plan (x ∷ places) zero d work below = refl
+forgets_more plan (x ∷ places) (suc i) d work below =
+    let next : suc i + 1 ≡ suc (i + 1) = omega arith in
+    rw next (forgets_more plan places i d work (omega arith))
+
+forgets_past : (plan : Plan) (places : List EndPlace) (i : ℕ) (work : Work) → length places ≤ i → forgets_downs plan (drop i places) work ≡ work
+forgets_past plan [] zero work past = refl
+forgets_past plan [] (suc i) work past = refl
+forgets_past plan (x ∷ places) zero work past = absurd (omega arith)
+forgets_past plan (x ∷ places) (suc i) work past = forgets_past plan places i work (omega arith)
+
+pub forgets_next : (c now : ControlLists) (i : ℕ) (work next whole : Work) → KeepsPlan c now → c.ends.places ≡ end_places c.plan c.me → i < length now.ends.places
+    → whole ≡ forgets_downs c.plan (drop i (end_places c.plan c.me)) work → next ≡ forgotten_down now.plan (place_of now.ends i) work
+    → whole ≡ forgets_downs c.plan (drop (i + 1) (end_places c.plan c.me)) next
+forgets_next c now i work next whole keeps placed below so_far one =
+    so_far
+    ∙ (forgets_more c.plan (end_places c.plan c.me) i no_place work (subst (λ (l : List EndPlace). i < length l) (keeps.places ∙ placed) below)
+    ∙ ap (forgets_downs c.plan (drop (i + 1) (end_places c.plan c.me)))
+    (sym (one ∙ (ap (λ (p : Plan). forgotten_down p (place_of now.ends i) work) keeps.plan ∙ ap (λ (l : List EndPlace). forgotten_down c.plan (slice_index_or l i no_place) work) (keeps.places ∙ placed)))))
+
+pub forgets_end : (c : ControlLists) (i : ℕ) (work whole : Work) → c.ends.places ≡ end_places c.plan c.me → length c.ends.places ≤ i
+    → whole ≡ forgets_downs c.plan (drop i (end_places c.plan c.me)) work → work ≡ whole
+forgets_end c i work whole placed past so_far = sym (so_far ∙ forgets_past c.plan (end_places c.plan c.me) i work (subst (λ (l : List EndPlace). length l ≤ i) placed past))
+
 pub within_kept : (c now : ControlLists) (i : ℕ) → KeepsPlan c now → i < length c.ends.places → i < length now.ends.places
 within_kept c now i keeps below = subst (λ (l : List EndPlace). i < length l) (sym keeps.places) below
 
@@ -230,6 +263,39 @@ told_down plan place at down start work is so why told =
 pub down_edge : (plan : Plan) (place : EndPlace) (down : Option Down) (edge : EdgeState) (calls : List LinkCall) (out : List Effect) → down ≡ down_at plan edge place → down ≡ down_at plan (at_edge edge calls out).edge place
 unfolding at_edge
 down_edge plan place down edge calls out is = is
+
+-- what was learned at a wire whose terminal end does not forward is forgotten
+not_terminal : (b : Bool) → not b ≡ true → b ≡ false
+not_terminal false is = refl
+not_terminal true is = absurd (cc (is))
+
+is_terminal_end : (b : Bool) → not b ≡ false → b ≡ true
+is_terminal_end true is = refl
+is_terminal_end false is = absurd (cc (is))
+
+pub forgot_other : (plan : Plan) (place at : EndPlace) (work : Work) → at ≡ place → not at.terminal ≡ true → work ≡ forgotten_down plan place work
+forgot_other plan place at work is other =
+    sym (ap (λ (b : Bool). cond b (forgets_down plan place (down_at plan work.edge place) work) work) (ap (λ (p : EndPlace). p.terminal) (sym is) ∙ not_terminal at.terminal other))
+
+forgot_terminal : (plan : Plan) (place at : EndPlace) (why : Option Down) (work : Work) → at ≡ place → not at.terminal ≡ false → why ≡ down_at plan work.edge place → forgets_down plan place why work ≡ forgotten_down plan place work
+forgot_terminal plan place at why work is here so =
+    ap (λ (d : Option Down). forgets_down plan place d work) so
+    ∙ sym (ap (λ (b : Bool). cond b (forgets_down plan place (down_at plan work.edge place) work) work) (ap (λ (p : EndPlace). p.terminal) (sym is) ∙ is_terminal_end at.terminal here))
+
+pub forgot_up : (plan : Plan) (place at : EndPlace) (why : Option Down) (edge : EdgeState) (calls : List LinkCall) (out : List Effect) → at ≡ place → not at.terminal ≡ false → why ≡ down_at plan edge place → is_some why ≡ false
+    → at_edge edge calls out ≡ forgotten_down plan place (at_edge edge calls out)
+unfolding at_edge
+forgot_up plan place at None edge calls out is here so up = forgot_terminal plan place at None (at_edge edge calls out) is here so
+forgot_up plan place at (Some cause) edge calls out is here so up = absurd (cc (up))
+
+pub forgot_down : (plan : Plan) (place at : EndPlace) (why : Option Down) (edge now : EdgeState) (calls : List LinkCall) (out : List Effect) → at ≡ place → not at.terminal ≡ false → why ≡ down_at plan edge place → is_some why ≡ true
+    → now ≡ forgetting_wire plan at.wire (wire_row plan at.wire) edge
+    → at_edge now calls out ≡ forgotten_down plan place (at_edge edge calls out)
+unfolding at_edge changes
+forgot_down plan place at None edge now calls out is here so down forgets = absurd (cc (down))
+forgot_down plan place at (Some cause) edge now calls out is here so down forgets =
+    ap (λ (e : EdgeState). record { edge = e; calls = calls; effects = out; idle = false }) (forgets ∙ ap (λ (p : EndPlace). forgetting_wire plan p.wire (wire_row plan p.wire) edge) is)
+    ∙ forgot_terminal plan place at (Some cause) (record { edge = edge; calls = calls; effects = out; idle = false }) is here so
 
 -- ---- what an end should tell
 

@@ -16,13 +16,13 @@ use Rattle.edge_model.specs.declared.effect.Effect.{Effect}
 use Rattle.edge_model.specs.Hear.{acts, acts_on, hears, hears_message, hears_messages, hears_one, hears_pdu, was_up}
 use Rattle.edge_model.specs.Mend.{mends}
 use Rattle.edge_model.specs.Session.{clears_ends, happens_with_ends}
-use Rattle.edge_model.specs.State.{EdgeState, Peering, has_end, is_there, put_at, with_ends_beside, with_peering}
+use Rattle.edge_model.specs.State.{EdgeState, Peering, has_end, is_there, with_ends_beside, with_peering}
 use Rattle.edge_model.specs.Tick.{ticks_sessions}
 use Rattle.edge_model.specs.Work.{Answers, Work, changes}
 use Rattle.pw_signalling.specs.Rows.{lost}
 use Rattle.provider_edge.specs.Control.{ControlLists, Rest, at_control, controlled, holding}
 use Rattle.provider_edge.specs.Heard.{CanBeHeard}
-use Rattle.provider_edge.specs.Hearing.{AreReady, HearsOn, IsAtFault, IsAtPdu, IsReady, IsWaiting, IsWaitingFor}
+use Rattle.provider_edge.specs.Hearing.{HearsOn, IsAtFault, IsAtPdu, IsReady, IsWaiting, IsWaitingFor}
 use Rattle.provider_edge.specs.Peering.{Dialogue, at_edge, kept_with}
 use Rattle.provider_edge.specs.Views.{view}
 use Rattle.provider_edge.proofs.HearLemmas.{ended_all, heard_fault, heard_pdu, held_all, messages_more}
@@ -183,7 +183,7 @@ room_in None held there waits = absurd (cc (there))
 room_in (Some kept) held there waits = waits.room
 
 nothing_else : Rest
-nothing_else = record { circuit_on = λ k. false; learned = λ k. []; ticks = 0; held = λ k. [] }
+nothing_else = record { held = λ k. [] }
 
 pub room_for : (c : ControlLists) (peer : EdgeId) (held : List ℕ) (stands : Bool) → ((rest : Rest) → stands ≡ has_end (controlled c rest) peer) → stands ≡ true
     → ((rest : Rest) → IsWaitingFor ((controlled c rest).peering peer.0) held) → length held < 4100

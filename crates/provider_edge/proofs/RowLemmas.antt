@@ -1,16 +1,11 @@
 -- The rows of the messages about pseudowires, and what an end puts, exit by exit.
-use Rattle.std.proofs.Common.{◌≡◌, ◌<◌, ◌≤◌, ◌==◌, ◌||◌, ◌&&◌, ◌∙◌, ℕ, zero, suc, Bool, true, false, List, [], ◌∷◌, ◌++◌, Option, Some, None, cond, option_map, option_and_then, nat_eq, refl, ap, sym, subst, arith}
-use Rattle.std.proofs.lemmas.Bool.{eq-eqb, eqb-true, ne_eqb}
+use Rattle.std.proofs.Common.{◌≡◌, ◌==◌, ◌∙◌, ℕ, Bool, true, false, List, [], ◌∷◌, ◌++◌, Option, Some, None, cond, option_map, option_and_then, refl, ap, sym}
+use Rattle.std.proofs.lemmas.Bool.{eq-eqb, ne_eqb}
 use Rattle.net_base.specs.declared.outside.link_call.LinkCall.{LinkCall}
 use Rattle.net_base.specs.declared.plan.Plan.{Plan}
-use Rattle.net_base.specs.declared.plan.offer.Offer.{Offer}
 use Rattle.net_base.specs.declared.plan.places.EdgeId.{EdgeId}
 use Rattle.net_base.specs.declared.plan.places.WireId.{WireId}
-use Rattle.net_base.specs.declared.plan.wire_plan.WirePlan.{WirePlan}
 use Rattle.net_base.specs.declared.trace.down.Down.{Down}
-use Rattle.net_base.specs.declared.trace.down.Down.TheVariants as cause
-use Rattle.net_base.specs.plan.Paths.{offer_of}
-use Rattle.net_base.specs.plan.Places.{wire_row}
 use Rattle.label_space.specs.Labels.{numbers_end}
 use Rattle.ldp_grammar.specs.declared.status_code.StatusCode.{StatusCode}
 use Rattle.pw_signalling.specs.declared.binding.Binding.{Binding}
@@ -21,21 +16,18 @@ use Rattle.pw_tlvs.specs.declared.point.Point.{Point}
 use Rattle.pw_tlvs.specs.declared.pw_fec.PwFec.{PwFec}
 use Rattle.pw_tlvs.specs.declared.pw_status.PwStatus.{PwStatus}
 use Rattle.pw_ends.specs.Ends.{EndLists, place_of}
-use Rattle.pw_ends.specs.Wish.{wish_by}
 use Rattle.edge_model.specs.Content.{binding_in, mapping, pw_status_code, status_notification, withdrawal}
 use Rattle.edge_model.specs.declared.effect.Effect.{Effect}
 use Rattle.edge_model.specs.declared.effect.Effect.TheVariants.{Wire}
 use Rattle.edge_model.specs.declared.end_place.EndPlace.{EndPlace}
 use Rattle.edge_model.specs.EndPlaces.{end_named}
-use Rattle.edge_model.specs.Mend.{advertises, advertising, cause_number, tells_down, tells_new_status, telling_status, terminal_wish, wish, wish_of, withdrawing, withdraws}
+use Rattle.edge_model.specs.Mend.{advertises, advertising, cause_number, tells_down, tells_new_status, telling_status, withdrawing, withdraws}
 use Rattle.edge_model.specs.Put.{Spoken}
-use Rattle.edge_model.specs.Role.{down_at, status_to_tell}
 use Rattle.edge_model.specs.Session.{says}
 use Rattle.edge_model.specs.Signal.{end_of_fec, hears_mapping, hears_release, hears_status, hears_withdraw, maps_to, releases_label, with_end_changed, with_named}
-use Rattle.edge_model.specs.State.{EdgeState, end_at, with_ends_beside, with_told_down}
+use Rattle.edge_model.specs.State.{EdgeState, with_ends_beside, with_told_down}
 use Rattle.edge_model.specs.Work.{Answers, Work, changes, gives}
 use Rattle.provider_edge.specs.Control.{ControlLists, Rest, binds_to, controlled}
-use Rattle.provider_edge.specs.Mending.{may_tell, mended_down}
 use Rattle.provider_edge.specs.Peering.{at_edge}
 
 pub changed_edge : (change : EdgeState → EdgeState) (edge now : EdgeState) (calls : List LinkCall) (out : List Effect) → now ≡ change edge → at_edge now calls out ≡ changes change (at_edge edge calls out)

@@ -21,9 +21,9 @@ use Rattle.session_core.specs.Table.{SessionEvent, Start, Heard, Received, Refus
 use Rattle.session_core.proofs.PutLemmas.{replies_are_put}
 use Rattle.edge_model.specs.declared.effect.Effect.{Effect}
 use Rattle.edge_model.specs.declared.effect.Effect.TheVariants.{Session, Closed as Gone}
-use Rattle.edge_model.specs.Put.{Spoken, put_replies, put_reply}
-use Rattle.edge_model.specs.Session.{had_put, comes_of, ends, happens, happens_to, is_same_phase, tells_change, went_on, with_session}
-use Rattle.edge_model.specs.State.{EdgeState, Peering, with_peering}
+use Rattle.edge_model.specs.Put.{Spoken, put_replies}
+use Rattle.edge_model.specs.Session.{comes_of, ends, happens, happens_to, is_same_phase, tells_change, went_on}
+use Rattle.edge_model.specs.State.{EdgeState, Peering}
 use Rattle.edge_model.specs.Work.{Answers, Work, changes, gives}
 use Rattle.provider_edge.specs.Peering.{Dialogue, IsBetween, StandsBetween, at_peer, had_spoken, having_put, kept_with, next_state, reason_in, settled, state_of}
 use Rattle.provider_edge.proofs.SpeakerLemmas.{changed_at, peer_of, put_twice}

@@ -1,11 +1,9 @@
 -- What is read of the ends of an edge by their slots.
-use Rattle.std.proofs.Common.{◌≡◌, ◌<◌, ◌++◌, ◌+◌, ◌∙◌, ℕ, Bool, List, Option, Some, None, length, map, take, drop, set, option_map, position, slice_index_or, refl, ap, sym, subst}
+use Rattle.std.proofs.Common.{◌≡◌, ◌<◌, ◌∙◌, ℕ, Bool, Option, Some, None, length, option_map, position, ap, sym, subst}
 use Rattle.std.specs.Prelude.{IfSome}
 use Rattle.std.specs.List.{find}
 use Rattle.net_base.specs.declared.plan.Plan.{Plan}
-use Rattle.net_base.specs.declared.plan.places.EdgeId.{EdgeId}
 use Rattle.net_base.specs.declared.trace.down.Down.{Down}
-use Rattle.net_base.specs.declared.trace.down.Down.TheVariants.{NoLocal}
 use Rattle.net_base.specs.plan.Places.{wire_row}
 use Rattle.pw_signalling.specs.declared.end_role.EndRole.{EndRole}
 use Rattle.pw_signalling.specs.Down.{down}
@@ -16,15 +14,8 @@ use Rattle.edge_model.specs.Role.{down_at, role_at, role_in}
 use Rattle.edge_model.specs.State.{end_at}
 use Rattle.pw_ends.specs.Ends.{end_in, place_of}
 use Rattle.pw_ends.proofs.IndexLemmas.{named_if, none_at}
-use Rattle.provider_edge.specs.Control.{ControlLists, IsControl, Rest, controlled, forgotten}
+use Rattle.provider_edge.specs.Control.{ControlLists, IsControl, Rest, controlled}
 use Rattle.provider_edge.proofs.ControlLemmas.{end_read, slot_wire}
-use Rattle.provider_edge.proofs.EachLemmas.{each_next}
-use Rattle.provider_edge.proofs.Views.{same_read}
-
--- of one end more nothing was told
-pub forgot_next : (xs now : List (Option Down)) (i : ℕ) → now ≡ map forgotten (take i xs) ++ drop i xs → i < length now → set now i (Some NoLocal) ≡ map forgotten (take (i + 1) xs) ++ drop (i + 1) xs
-forgot_next xs now i so_far within =
-    each_next forgotten xs now i (slice_index_or now i (Some NoLocal)) (Some NoLocal) so_far within (same_read now i (Some NoLocal) (slice_index_or now i (Some NoLocal)) within) refl
 
 -- ---- the wire of a slot is one of the plan
 

@@ -14,9 +14,9 @@ use Rattle.session_core.specs.State.{SessionState}
 use Rattle.edge_model.specs.declared.effect.Effect.{Effect}
 use Rattle.edge_model.specs.declared.effect.Effect.TheVariants.{Said}
 use Rattle.edge_model.specs.Put.{Spoken, following, having_spoken, message_octets_of, octets_of, platform_of, put_octets, put_replies, put_reply, put_reply_to, puts_on, with_spoken}
-use Rattle.edge_model.specs.State.{EdgeState, Peering, put_at, with_peering}
+use Rattle.edge_model.specs.State.{EdgeState, Peering, with_peering}
 use Rattle.edge_model.specs.Work.{Agrees, Answers, GoesOn, Work, changes, gives, puts}
-use Rattle.provider_edge.specs.Peering.{Dialogue, at_peer, having_put, kept_with, put_message, put_message_to}
+use Rattle.provider_edge.specs.Peering.{at_peer, having_put, kept_with, put_message, put_message_to}
 use Rattle.provider_edge.proofs.EachLemmas.{past_push}
 
 -- ---- what is kept for one neighbour

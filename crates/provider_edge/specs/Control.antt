@@ -1,13 +1,11 @@
--- What signalling works on at an edge, as contracts see it: lists by the plan's places, and by `controlled` the state of the
+-- What the control works on at an edge, as contracts see it: lists by the plan's places, and by `controlled` the state of the
 -- whole edge, for any rest of it.
-use Rattle.std.specs.Prelude.{◌≡◌, ◌≤◌, ℕ, Bool, true, false, List, [], Option, Some, None, All, length}
+use Rattle.std.specs.Prelude.{◌≡◌, ◌≤◌, ℕ, Bool, true, List, Option, Some, None, All, length}
 use Rattle.net_base.specs.declared.outside.link_call.LinkCall.{LinkCall}
 use Rattle.net_base.specs.declared.plan.Plan.{Plan}
 use Rattle.net_base.specs.declared.plan.places.EdgeId.{EdgeId}
-use Rattle.net_base.specs.declared.trace.down.Down.{Down}
 use Rattle.net_base.specs.declared.trace.down.Down.TheVariants.{NoLocal}
 use Rattle.net_base.specs.plan.Accepted.{IsChecked}
-use Rattle.mac_table.specs.declared.mac_entry.MacEntry.{MacEntry}
 use Rattle.edge_model.specs.declared.effect.Effect.{Effect}
 use Rattle.edge_model.specs.EndPlaces.{end_places}
 use Rattle.edge_model.specs.State.{EdgeState, empty_edge, put_at}
@@ -18,6 +16,7 @@ use Rattle.pw_signalling.specs.declared.binding.Binding.{Binding}
 use Rattle.pw_signalling.specs.Rows.{bound}
 use Rattle.pw_tlvs.specs.declared.pw_fec.PwFec.{PwFec}
 use Rattle.pw_ends.specs.Ends.{EndLists, seen_ends}
+use Rattle.provider_edge.specs.Forwarding.{ForwardingLists, domain_of, entries_of}
 use Rattle.provider_edge.specs.Peering.{Dialogue, at_edge, kept_with}
 use Rattle.provider_edge.specs.Views.{view}
 
@@ -32,28 +31,24 @@ pub record ControlLists : Type 0 where
   -- the wires that are on, and the failure bits of its end of each
   pub wires_on : List Bool
   pub bits : List ℕ
-  -- why its end of each wire does not forward, as it was told last
-  pub told_down : List (Option Down)
+  -- what it forwards frames by
+  pub forwarding : ForwardingLists
 
--- what signalling leaves as it is: the circuits that are on, what the bridges have learned, the ticks, and the octets that are
--- held of each neighbour
+-- what the control leaves as it is: the octets that are held of each neighbour
 pub record Rest : Type 0 where
-  pub circuit_on : ℕ → Bool
-  pub learned : ℕ → List MacEntry
-  pub ticks : ℕ
   pub held : ℕ → List ℕ
 
 unfoldable pub controlled : ControlLists → Rest → EdgeState
 controlled c rest = record {
   me = c.me;
-  circuit_on = rest.circuit_on;
-  learned = rest.learned;
-  ticks = rest.ticks;
+  circuit_on = view true c.forwarding.circuits_on;
+  learned = λ service. entries_of (domain_of c.forwarding service);
+  ticks = c.forwarding.ticks;
   peering = λ k. kept_with (rest.held k) (view None c.dialogues k);
   wire_on = view true c.wires_on;
   bits = view 0 c.bits;
   ends = seen_ends c.ends;
-  told_down = view (Some NoLocal) c.told_down;
+  told_down = view (Some NoLocal) c.forwarding.told_down;
   next_label = c.ends.labels.next;
 }
 
@@ -63,7 +58,7 @@ at_control c rest calls effects = at_edge (controlled c rest) calls effects
 
 -- other octets are held of a neighbour
 abbrev pub holding : EdgeId → List ℕ → Rest → Rest
-holding peer octets rest = record rest { held = put_at rest.held peer.0 octets }
+holding peer octets rest = record { held = put_at rest.held peer.0 octets }
 
 -- what no signalling changes
 pub record KeepsPlan (old new : ControlLists) : Type 0 where
@@ -79,22 +74,16 @@ pub record IsControl (c : ControlLists) : Type 0 where
   pub places : c.ends.places ≡ end_places c.plan c.me
   pub wires : length c.wires_on ≡ length c.plan.wires
   pub each_bits : length c.bits ≡ length c.plan.wires
-  pub each_told : length c.told_down ≡ length c.plan.wires
+  pub plan : c.forwarding.plan ≡ c.plan
+  pub me : c.forwarding.me ≡ c.me
   pub small : All (λ bits. bits ≤ 31) c.bits
 
 -- before the first input
-unfoldable pub opened_control : Plan → EdgeId → Rest → EdgeState
-opened_control plan me rest = record (empty_edge plan me) { circuit_on = rest.circuit_on; learned = rest.learned; ticks = rest.ticks }
-
 pub record IsNewControl (plan : Plan) (me : EdgeId) (c : ControlLists) : Type 0 where
   pub keeps : c.plan ≡ plan
   pub here : c.me ≡ me
   pub count : length c.dialogues ≡ length plan.edges
-  pub is : (rest : Rest) → controlled c rest ≡ opened_control plan me rest
-
--- nothing was told of an end
-abbrev pub forgotten : Option Down → Option Down
-forgotten down = Some NoLocal
+  pub is : (rest : Rest) → controlled c rest ≡ empty_edge plan me
 
 -- the binding of a known pseudowire is replaced; the label of an unknown one is released
 abbrev pub binds_to : Answers → EdgeId → PwFec → Binding → Option EndPlace → Work → Work

@@ -1,30 +1,55 @@
 -- The domain of a service at an edge.
-use Rattle.std.specs.Prelude.{◌≡◌, ◌<◌, ◌==◌, filter, ℕ, Bool, false, List, [], Option, Some, None, option_map, length, slice_get, slice_index_or}
+use Rattle.std.specs.Prelude.{◌≡◌, ◌<◌, ◌==◌, ◌&&◌, not, filter, ℕ, Bool, true, false, List, [], Option, Some, None, option_map, length, position, slice_get, slice_index_or, if◌then◌else◌}
 use Rattle.net_base.specs.declared.plan.Plan.{Plan}
 use Rattle.net_base.specs.declared.plan.places.EdgeId.{EdgeId}
 use Rattle.net_base.specs.declared.plan.places.ServiceId.{ServiceId}
 use Rattle.net_base.specs.declared.plan.service_plan.ServicePlan.{ServicePlan}
+use Rattle.net_base.specs.declared.trace.down.Down.{Down}
+use Rattle.net_base.specs.declared.trace.down.Down.TheVariants.{NoLocal}
 use Rattle.net_base.specs.plan.Places.{service_row}
+use Rattle.hvpls_spokes.specs.declared.port.Port.{Port}
+use Rattle.hvpls_spokes.specs.declared.port.Port.TheVariants as port
 use Rattle.hvpls_spokes.specs.Port.{ports_of}
 use Rattle.hvpls_spokes.specs.PortSet.{has}
 use Rattle.mac_table.specs.Addresses.{NoneAfter, is_young}
-use Rattle.edge_model.specs.Frame.{port_forwards}
-use Rattle.edge_model.specs.State.{EdgeState, empty_edge}
+use Rattle.edge_model.specs.Ends.{is_up}
+use Rattle.edge_model.specs.State.{without_port}
 use Rattle.provider_edge.specs.declared.domain.Domain.{Domain}
 
--- the domain is that of the service at the edge. Its set of forwarding ports is an index: it says again what the edge's
--- circuits and ends say
-pub record IsDomain (plan : Plan) (edge : EdgeState) (service : ServiceId) (domain : Domain) : Type 0 where
-  pub ports : domain.bridge.ports ≡ ports_of plan service edge.me
-  pub some : ports_of plan service edge.me ≡ [] → ⊥
+-- ---- which ports are open
+
+-- a port is open: its circuit is on, or of its wire it was told last that nothing keeps the end from forwarding
+abbrev pub opens : (ℕ → Bool) → (ℕ → Option Down) → Option Port → Bool
+opens on told None = false
+opens on told (Some (port.Circuit circuit)) = on circuit.0
+opens on told (Some (port.Mesh wire)) = is_up (told wire.0)
+opens on told (Some (port.Spoke wire)) = is_up (told wire.0)
+
+abbrev pub port_opens : (ℕ → Bool) → (ℕ → Option Down) → List Port → ℕ → Bool
+port_opens on told ports p = opens on told (slice_get ports p)
+
+-- before the first input every circuit is on, and of no end anything was told
+abbrev pub all_on : ℕ → Bool
+all_on circuit = true
+
+abbrev pub nothing_told : ℕ → Option Down
+nothing_told wire = Some NoLocal
+
+-- ---- domains
+
+-- The domain is that of the service at the edge. Its set of forwarding ports is an index: it says again which circuits are on,
+-- and what was told last of the wires
+pub record IsDomain (plan : Plan) (me : EdgeId) (on : ℕ → Bool) (told : ℕ → Option Down) (now : ℕ) (service : ServiceId) (domain : Domain) : Type 0 where
+  pub ports : domain.bridge.ports ≡ ports_of plan service me
+  pub some : ports_of plan service me ≡ [] → ⊥
   pub age : (row : ServicePlan) → service_row plan service ≡ Some row → domain.bridge.age ≡ row.age
-  pub forwarding : (p : ℕ) → has domain.forwarding p ≡ port_forwards plan edge domain.bridge.ports p
-  pub ticks : NoneAfter edge.ticks domain.bridge.entries
+  pub forwarding : (p : ℕ) → has domain.forwarding p ≡ port_opens on told domain.bridge.ports p
+  pub ticks : NoneAfter now domain.bridge.entries
 
 -- there is a domain exactly where the service has a port at the edge
-abbrev pub IsKept : Plan → EdgeState → ServiceId → Option Domain → Type 0
-IsKept plan edge service None = ports_of plan service edge.me ≡ []
-IsKept plan edge service (Some domain) = IsDomain plan edge service domain
+abbrev pub IsKept : Plan → EdgeId → (ℕ → Bool) → (ℕ → Option Down) → ℕ → ServiceId → Option Domain → Type 0
+IsKept plan me on told now service None = ports_of plan service me ≡ []
+IsKept plan me on told now service (Some domain) = IsDomain plan me on told now service domain
 
 -- the domain after its bridge forgot what it has not heard for long
 abbrev pub aged_domain : ℕ → Domain → Domain
@@ -50,11 +75,54 @@ abbrev pub is_found : Option ℕ → ℕ → Bool
 is_found None p = false
 is_found (Some port) p = p == port
 
--- the domain of a service with every circuit on, and nothing learned; none where the service has no port
+-- the port that is found forwards, or forwards no more
+pub record IsTurned (test : Port → Bool) (on : Bool) (old new : Domain) : Type 0 where
+  pub bridge : new.bridge ≡ old.bridge
+  pub forwarding : (p : ℕ) → has new.forwarding p ≡ (if is_found (position test old.bridge.ports) p then on else has old.forwarding p)
+
+abbrev pub IsKeptTurned : (Port → Bool) → Bool → Option Domain → Option Domain → Type 0
+IsKeptTurned test on None None = Unit {0}
+IsKeptTurned test on None (Some new) = ⊥
+IsKeptTurned test on (Some old) None = ⊥
+IsKeptTurned test on (Some old) (Some new) = IsTurned test on old new
+
+-- the bridge forgot what it had learned at the port that is found
+abbrev pub forgot_domain : (Port → Bool) → Domain → Domain
+forgot_domain test domain = record domain { bridge = record domain.bridge { entries = without_port (position test domain.bridge.ports) domain.bridge.entries } }
+
+abbrev pub forgot_kept : (Port → Bool) → Option Domain → Option Domain
+forgot_kept test kept = option_map (forgot_domain test) kept
+
+-- ---- no wire's port is open
+
+abbrev pub is_wire : Option Port → Bool
+is_wire None = false
+is_wire (Some (port.Circuit circuit)) = false
+is_wire (Some (port.Mesh wire)) = true
+is_wire (Some (port.Spoke wire)) = true
+
+-- the domain with no wire's port open
+pub record IsClosed (old new : Domain) : Type 0 where
+  pub bridge : new.bridge ≡ old.bridge
+  pub forwarding : (p : ℕ) → has new.forwarding p ≡ (has old.forwarding p && not (is_wire (slice_get old.bridge.ports p)))
+
+abbrev pub IsKeptClosed : Option Domain → Option Domain → Type 0
+IsKeptClosed None None = Unit {0}
+IsKeptClosed None (Some new) = ⊥
+IsKeptClosed (Some old) None = ⊥
+IsKeptClosed (Some old) (Some new) = IsClosed old new
+
+pub record AreClosed (old new : List (Option Domain)) : Type 0 where
+  pub len : length new ≡ length old
+  pub each : (place : ℕ) → IsKeptClosed (slice_index_or old place None) (slice_index_or new place None)
+
+-- ---- new domains
+
+-- the domain of a service with every circuit on, nothing told of a wire, and nothing learned; none where the service has no port
 pub record IsNewDomain (plan : Plan) (me : EdgeId) (service : ServiceId) (years : ℕ) (domain : Domain) : Type 0 where
   pub some : ports_of plan service me ≡ [] → ⊥
   pub bridge : domain.bridge ≡ record { ports = ports_of plan service me; age = years; entries = [] }
-  pub forwarding : (p : ℕ) → has domain.forwarding p ≡ port_forwards plan (empty_edge plan me) (ports_of plan service me) p
+  pub forwarding : (p : ℕ) → has domain.forwarding p ≡ port_opens all_on nothing_told (ports_of plan service me) p
 
 abbrev pub IsNew : Plan → EdgeId → ServiceId → ℕ → Option Domain → Type 0
 IsNew plan me service age None = ports_of plan service me ≡ []

@@ -2,6 +2,7 @@ pub mod Control
 pub mod Domain
 pub mod EndOf
 pub mod Event
+pub mod Forwarding
 pub mod Heard
 pub mod Hearing
 pub mod Invariant

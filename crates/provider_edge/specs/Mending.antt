@@ -2,7 +2,7 @@
 use Rattle.std.specs.Prelude.{◌&&◌, Bool, if◌then◌else◌}
 use Rattle.net_base.specs.declared.plan.Plan.{Plan}
 use Rattle.edge_model.specs.declared.end_place.EndPlace.{EndPlace}
-use Rattle.edge_model.specs.Mend.{is_up_with, tells_down}
+use Rattle.edge_model.specs.Mend.{forgets_down, is_up_with, tells_down}
 use Rattle.edge_model.specs.Role.{down_at}
 use Rattle.edge_model.specs.State.{EdgeState}
 use Rattle.edge_model.specs.Work.{Work}
@@ -10,6 +10,10 @@ use Rattle.edge_model.specs.Work.{Work}
 -- a wire that began to forward, or stopped, is told at its terminal end
 abbrev pub mended_down : Plan → EndPlace → Work → Work
 mended_down plan place work = if place.terminal then tells_down place (down_at plan work.edge place) work else work
+
+-- what was learned at a wire whose terminal end does not forward is forgotten
+abbrev pub forgotten_down : Plan → EndPlace → Work → Work
+forgotten_down plan place work = if place.terminal then forgets_down plan place (down_at plan work.edge place) work else work
 
 -- the wire of an end is on, the session with its peer is up, and the end is a terminal one
 abbrev pub may_tell : EdgeState → EndPlace → Bool

@@ -4,8 +4,9 @@ use Rattle.net_base.specs.declared.plan.Plan.{Plan}
 use Rattle.hvpls_spokes.specs.declared.port.Port.{Port}
 use Rattle.edge_model.specs.declared.effect.Effect.{Effect}
 use Rattle.edge_model.specs.declared.input.Input.{Input}
-use Rattle.edge_model.specs.declared.input.Input.TheVariants.{Frame, Status}
-use Rattle.edge_model.specs.Local.{AllStayBeside}
+use Rattle.edge_model.specs.declared.input.Input.TheVariants.{Frame, Packet, Status}
+use Rattle.edge_model.specs.Local.{AllStayBehind, AllStayBeside}
+use Rattle.edge_model.specs.State.{EdgeState}
 use Rattle.edge_model.specs.Work.{Work}
 
 -- the bits of a status are five
@@ -13,14 +14,11 @@ abbrev pub IsInRange : Input → Type 0
 IsInRange (Status wire bits) = bits ≤ 31
 IsInRange input = Unit {0}
 
--- what is given out on a frame stays within the service of its circuit
-abbrev pub StaysLocal : Plan → Input → List Effect → Type 0
-StaysLocal plan (Frame circuit bytes) effects = AllStayBeside plan circuit bytes.now effects
-StaysLocal plan input effects = Unit {0}
-
--- work with these effects in the place of its own
-unfoldable pub giving : List Effect → Work → Work
-giving effects work = record work { effects = effects }
+-- what is given out on a frame stays within the service of its circuit, and what is given out on a packet within that of its wire
+abbrev pub StaysLocal : Plan → EdgeState → Input → List Effect → Type 0
+StaysLocal plan edge (Frame circuit bytes) effects = AllStayBeside plan circuit bytes.now effects
+StaysLocal plan edge (Packet bytes) effects = AllStayBehind plan edge bytes.now effects
+StaysLocal plan edge input effects = Unit {0}
 
 -- the copy by a port, where there is one
 abbrev pub copied_by : (Port → Work → Work) → Option Port → Work → Work

@@ -1,32 +1,35 @@
 //! What signalling works on at an edge.
-ghost use Rattle.std.specs.Prelude.{◌≡◌, ◌<◌, List, Option, None, Some, [], length, map, replicate, slice_index_or, option_copied, IfOk, IfSome};
+ghost use Rattle.std.specs.Prelude.{◌≡◌, ◌<◌, List, None, length, map, replicate, option_copied, IfOk, IfSome};
 ghost use Rattle.net_base.specs.declared.outside.link_call.LinkCall.{LinkCall};
-ghost use Rattle.net_base.specs.declared.trace.down.Down.TheVariants.{NoLocal};
 ghost use Rattle.net_base.specs.plan.Accepted.{IsChecked};
 ghost use Rattle.pw_signalling.specs.Rows.{lost};
 ghost use Rattle.edge_model.specs.declared.effect.Effect.{Effect};
 ghost use Rattle.edge_model.specs.Hear.{was_up};
 ghost use Rattle.edge_model.specs.Session.{clears_ends};
 ghost use Rattle.edge_model.specs.State.{has_end, with_ends_beside, with_peering, without_ends, without_peerings};
-ghost use Rattle.provider_edge.specs.Control.{IsNewControl, KeepsPlan, Rest, at_control, controlled, forgotten};
+ghost use Rattle.provider_edge.specs.Control.{IsNewControl, KeepsPlan, Rest, at_control, controlled};
 ghost use Rattle.provider_edge.specs.Peering.{gone, kept_with, session_name};
 
+mod bridge;
 mod ends;
+mod forward;
 mod hear;
 mod mend;
 mod mend_end;
+mod packet;
 mod session;
 mod signal;
 mod wire;
 
 use crate::dialogue::Dialogue;
-use net_base::{Down, EdgeId, NoMemory, Plan, StateName};
+use crate::forwarding::Forwarding;
+use net_base::{EdgeId, NoMemory, Plan, StateName};
 use pw_ends::PwEnds;
 use std::alloc::Global;
 use std::marker::Model;
 use std::rc::Rc;
 
-/// What an edge's signalling works on: its sessions, the ends of its pseudowires, and what was set of its wires. Contracts see
+/// What an edge works on: its sessions, the ends of its pseudowires, what was set of its wires, and what it forwards frames by. Contracts see
 /// it as lists by the plan's places, and by `controlled` as the state of the whole edge, for any rest of it: so each call
 /// says what it makes of the edge, and that all else stays.
 #[derive(Debug, Drop)]
@@ -37,7 +40,7 @@ pub struct Control {
     ends: PwEnds,
     wires_on: Vec<bool>,
     bits: Vec<u8>,
-    told_down: Vec<Option<Down>>,
+    forwarding: Forwarding,
 }
 
 impl Model for Control {
@@ -45,9 +48,9 @@ impl Model for Control {
 
     ghost Value = { ControlLists };
 
-    ghost view = { λ c. record { plan = c.plan.value; me = c.me; dialogues = c.dialogues.items; ends = c.ends; wires_on = c.wires_on.items; bits = c.bits.items; told_down = c.told_down.items } };
+    ghost view = { λ c. record { plan = c.plan.value; me = c.me; dialogues = c.dialogues.items; ends = c.ends; wires_on = c.wires_on.items; bits = c.bits.items; forwarding = c.forwarding } };
 
-    ghost invariant = { λ c. IsControl (record { plan = c.plan.value; me = c.me; dialogues = c.dialogues.items; ends = c.ends; wires_on = c.wires_on.items; bits = c.bits.items; told_down = c.told_down.items }) };
+    ghost invariant = { λ c. IsControl (record { plan = c.plan.value; me = c.me; dialogues = c.dialogues.items; ends = c.ends; wires_on = c.wires_on.items; bits = c.bits.items; forwarding = c.forwarding }) };
 }
 
 impl Control {
@@ -62,7 +65,7 @@ impl Control {
         let count = plan.wires.len();
         let wires_on = vec![in alloc; true; count]?;
         let bits = vec![in alloc; 0u8; count]?;
-        let told_down = nothing_told(alloc, count)?;
+        let forwarding = Forwarding::open(alloc, plan.clone()?, me)?;
         Ok(Control {
             plan,
             me,
@@ -70,7 +73,7 @@ impl Control {
             ends,
             wires_on,
             bits,
-            told_down,
+            forwarding,
         })
     }
 
@@ -176,7 +179,7 @@ impl Control {
         ensures step { (rest : Rest) → controlled self.new rest ≡ without_ends (controlled self.old rest) }
     {
         self.ends.restarted();
-        forget_all(&mut self.told_down);
+        self.forwarding.close_wires();
     }
 }
 
@@ -192,18 +195,6 @@ fn no_dialogues(alloc: Global, count: usize) -> Result<Vec<Option<Dialogue>>, No
     Ok(dialogues)
 }
 
-// Nothing was told of the end of any of so many wires.
-#[tactic(auto, using(crate::proofs::ControlLemmas::one_more))]
-fn nothing_told(alloc: Global, count: usize) -> Result<Vec<Option<Down>>, NoMemory>
-    ensures { IfOk result (λ told. told.items ≡ replicate count (Some NoLocal)) }
-{
-    let mut told_down = Vec::with_capacity(alloc, count)?;
-    for _place in 0..count {
-        told_down.push(Some(Down::NoLocal))?;
-    }
-    Ok(told_down)
-}
-
 // No session stands any more.
 #[tactic(auto, using(crate::proofs::EachLemmas::each_next))]
 fn drop_all(dialogues: &mut Vec<Option<Dialogue>>)
@@ -211,15 +202,5 @@ fn drop_all(dialogues: &mut Vec<Option<Dialogue>>)
 {
     for kept in dialogues.iter_mut() {
         *kept = None;
-    }
-}
-
-// Of no end anything was told.
-#[tactic(auto, using(crate::proofs::SlotLemmas::forgot_next))]
-fn forget_all(told_down: &mut Vec<Option<Down>>)
-    ensures { told_down.new.items ≡ map forgotten told_down.old.items }
-{
-    for down in told_down.iter_mut() {
-        *down = Some(Down::NoLocal);
     }
 }

@@ -1,16 +1,15 @@
 //! A bridged domain: one service at an edge.
-ghost use Rattle.std.specs.Prelude.{◌≡◌, ◌≤◌, ◌<◌, ◌+◌, nat_lt, ◌&&◌, [], map, ℕ, true, length, take, drop, position, All, IfOk, IfSome, if◌then◌else◌};
-ghost use Rattle.hvpls_spokes.specs.Port.{is_circuit_port};
+ghost use Rattle.std.specs.Prelude.{◌≡◌, ◌≤◌, ◌<◌, ◌+◌, ◌==◌, ◌&&◌, not, map, ℕ, true, length, take, drop, slice_get, position, All, IfOk, if◌then◌else◌};
+ghost use Rattle.net_base.specs.plan.Accepted.{IsChecked};
+ghost use Rattle.hvpls_spokes.specs.Port.{is_circuit_port, is_wire_port};
 ghost use Rattle.hvpls_spokes.specs.PortSet.{has};
 ghost use Rattle.mac_table.specs.Addresses.{NoneAfter};
 ghost use Rattle.vsi_bridge.specs.Targets.{heard, is_target, known_port};
-ghost use Rattle.edge_model.specs.Circuit.{without_port};
-ghost use Rattle.edge_model.specs.Frame.{destination, port_forwards, source};
-ghost use Rattle.edge_model.specs.State.{empty_edge};
-ghost use Rattle.provider_edge.specs.Domain.{AreNew, IsNew, aged_domain, aged_kept, cleared_domain, cleared_kept, is_found, KeptNotAfter};
+ghost use Rattle.edge_model.specs.Frame.{destination, source};
+ghost use Rattle.provider_edge.specs.Domain.{AreClosed, AreNew, IsClosed, IsKeptClosed, IsKeptTurned, IsNew, IsTurned, KeptNotAfter, aged_domain, aged_kept, all_on, cleared_domain, cleared_kept, forgot_domain, forgot_kept, is_wire, nothing_told, port_opens};
 
-use hvpls_spokes::{PortKind, PortSet, Ports};
-use net_base::{CircuitId, EdgeId, Mac, NoMemory, Plan, ServiceId};
+use hvpls_spokes::{Port, PortKind, PortSet, Ports};
+use net_base::{CircuitId, EdgeId, Mac, NoMemory, Plan, ServiceId, WireId};
 use std::alloc::Global;
 use vsi_bridge::Bridge;
 
@@ -24,8 +23,8 @@ pub struct Domain {
 /// The domain of each service that has a port at the edge, in the plan's order, with every circuit on.
 #[tactic(auto, using(crate::proofs::DomainLemmas::new_next))]
 pub fn open_domains(alloc: Global, plan: &Plan, me: EdgeId) -> Result<Vec<Option<Domain>>, NoMemory>
-    requires services { length plan.now.services ≤ 64 }
-    requires circuits { length plan.now.circuits ≤ 512 }
+    requires checked { IsChecked plan.now }
+    requires me { me.0 < length plan.now.edges }
     ensures { IfOk result (λ domains. AreNew plan.now me (length plan.now.services) domains.items) }
 {
     let mut domains = Vec::new(alloc);
@@ -44,7 +43,9 @@ fn open_domain(
     me: EdgeId,
     age: u32,
 ) -> Result<Option<Domain>, NoMemory>
-    requires { length plan.now.circuits ≤ 512 }
+    requires checked { IsChecked plan.now }
+    requires service { service.0 < length plan.now.services }
+    requires me { me.0 < length plan.now.edges }
     ensures { IfOk result (λ kept. IsNew plan.now me service age kept) }
 {
     let ports = Ports::open(alloc, plan, service, me)?;
@@ -56,9 +57,9 @@ fn open_domain(
     Ok(Some(Domain { bridge, forwarding }))
 }
 
-// The ports that forward: every circuit is on.
+// The ports that forward: every circuit is on, and of no wire anything was told.
 fn forwarding_of(ports: &Ports) -> PortSet
-    ensures { (plan : Plan) (me : EdgeId) (p : ℕ) → has result p ≡ port_forwards plan (empty_edge plan me) ports.now p }
+    ensures { (p : ℕ) → has result p ≡ port_opens all_on nothing_told ports.now p }
 {
     let mut forwarding = PortSet::empty();
     for port in 0..ports.len() {
@@ -77,10 +78,9 @@ impl Domain {
         self.bridge.ports().find(circuit)
     }
 
-    /// The port of the circuit forwards, or forwards no more.
-    pub fn turn(&mut self, circuit: CircuitId, on: bool)
-        ensures forwarding { (p : ℕ) → has self.new.forwarding p ≡ (if is_found (position (is_circuit_port circuit) self.old.bridge.ports) p then on else has self.old.forwarding p) }
-        ensures bridge { self.new.bridge ≡ self.old.bridge }
+    // The port of the circuit forwards, or forwards no more.
+    fn turn(&mut self, circuit: CircuitId, on: bool)
+        ensures { IsTurned (is_circuit_port circuit) on self.old self.new }
     {
         let Some(port) = self.bridge.ports().find(circuit) else {
             return;
@@ -92,13 +92,68 @@ impl Domain {
         }
     }
 
-    /// The bridge forgets what it learned at the circuit.
-    pub fn forget_circuit(&mut self, circuit: CircuitId)
-        ensures forgets { self.new ≡ record self.old { bridge = record self.old.bridge { entries = without_port (position (is_circuit_port circuit) self.old.bridge.ports) self.old.bridge.entries } } }
-        ensures ticks { (now : ℕ) → NoneAfter now self.old.bridge.entries → NoneAfter now self.new.bridge.entries }
+    // The bridge forgets what it learned at the circuit.
+    fn forget_circuit(&mut self, circuit: CircuitId)
+        ensures { self.new ≡ forgot_domain (is_circuit_port circuit) self.old }
     {
         if let Some(port) = self.bridge.ports().find(circuit) {
             self.bridge.drop_port(port);
+        }
+    }
+
+    /// The port of a wire.
+    pub fn port_of_wire(&self, wire: WireId) -> Option<u16>
+        ensures { result ≡ position (is_wire_port wire) self.now.bridge.ports }
+    {
+        self.bridge.ports().find_wire(wire)
+    }
+
+    // The port of the wire forwards, or forwards no more.
+    fn turn_wire(&mut self, wire: WireId, on: bool)
+        ensures { IsTurned (is_wire_port wire) on self.old self.new }
+    {
+        let Some(port) = self.bridge.ports().find_wire(wire) else {
+            return;
+        };
+        if on {
+            self.forwarding.insert(port);
+        } else {
+            self.forwarding.remove(port);
+        }
+    }
+
+    // The bridge forgets what it learned at the wire.
+    #[tactic(auto, using(crate::proofs::DomainLemmas::forgot_nothing))]
+    fn forget_wire(&mut self, wire: WireId)
+        ensures { self.new ≡ forgot_domain (is_wire_port wire) self.old }
+    {
+        // A table without an address is the common case, and the port need not be looked for.
+        if self.bridge.table().len() == 0 {
+            return;
+        }
+        if let Some(port) = self.bridge.ports().find_wire(wire) {
+            self.bridge.drop_port(port);
+        }
+    }
+
+    /// No wire's port forwards.
+    #[tactic(auto, using(crate::proofs::DomainLemmas::closed_next, crate::proofs::DomainLemmas::closed_end))]
+    pub fn close_wires(&mut self)
+        ensures { IsClosed self.old self.new }
+    {
+        for port in 0..self.bridge.ports().len() {
+            self.close(port);
+        }
+    }
+
+    // The port forwards no more, where it leads to a wire.
+    fn close(&mut self, port: u16)
+        requires { port < 512 }
+        ensures bridge { self.new.bridge ≡ self.old.bridge }
+        ensures forwarding { (p : ℕ) → has self.new.forwarding p ≡ (has self.old.forwarding p && not (p == port && is_wire (slice_get self.old.bridge.ports port))) }
+    {
+        if leads_to_wire(self.bridge.ports().get(port)) {
+            self.forwarding.remove(port);
         }
     }
 
@@ -135,6 +190,71 @@ impl Domain {
         ensures ticks { NoneAfter now self.new.bridge.entries }
     {
         self.bridge.tick(now);
+    }
+}
+
+/// The port of a circuit forwards, or forwards no more, where there is a domain.
+pub fn turn_kept(kept: &mut Option<Domain>, circuit: CircuitId, on: bool)
+    ensures { IsKeptTurned (is_circuit_port circuit) on kept.old kept.new }
+{
+    if let Some(domain) = kept {
+        domain.turn(circuit, on);
+    }
+}
+
+/// The port of a wire forwards, or forwards no more, where there is a domain.
+pub fn turn_kept_wire(kept: &mut Option<Domain>, wire: WireId, on: bool)
+    ensures { IsKeptTurned (is_wire_port wire) on kept.old kept.new }
+{
+    if let Some(domain) = kept {
+        domain.turn_wire(wire, on);
+    }
+}
+
+/// The bridge forgets what it learned at a circuit, where there is one.
+pub fn forget_kept_circuit(kept: &mut Option<Domain>, circuit: CircuitId)
+    ensures { kept.new ≡ forgot_kept (is_circuit_port circuit) kept.old }
+{
+    if let Some(domain) = kept {
+        domain.forget_circuit(circuit);
+    }
+}
+
+/// The bridge forgets what it learned at a wire, where there is one.
+pub fn forget_kept_wire(kept: &mut Option<Domain>, wire: WireId)
+    ensures { kept.new ≡ forgot_kept (is_wire_port wire) kept.old }
+{
+    if let Some(domain) = kept {
+        domain.forget_wire(wire);
+    }
+}
+
+// Whether the port leads to a wire.
+fn leads_to_wire(port: Option<Port>) -> bool
+    ensures { result ≡ is_wire port }
+{
+    match port {
+        Some(Port::Mesh(_) | Port::Spoke(_)) => true,
+        Some(Port::Circuit(_)) | None => false,
+    }
+}
+
+/// No wire's port forwards.
+#[tactic(auto, using(crate::proofs::DomainLemmas::closed_first, crate::proofs::DomainLemmas::closed_more, crate::proofs::DomainLemmas::closed_all))]
+pub fn close_all(domains: &mut Vec<Option<Domain>>)
+    ensures { AreClosed domains.old.items domains.new.items }
+{
+    for kept in domains.iter_mut() {
+        close_kept(kept);
+    }
+}
+
+// No wire's port forwards, where there is a domain.
+fn close_kept(kept: &mut Option<Domain>)
+    ensures { IsKeptClosed kept.old kept.new }
+{
+    if let Some(domain) = kept {
+        domain.close_wires();
     }
 }
 

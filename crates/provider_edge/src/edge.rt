@@ -10,6 +10,7 @@ ghost use Rattle.edge_model.specs.EndPlaces.{end_places, ends_here, is_end_of_wi
 ghost use Rattle.edge_model.specs.Role.{down_at};
 ghost use Rattle.edge_model.specs.State.{addresses_of, empty_edge, end_at, has_end, is_on};
 ghost use Rattle.edge_model.specs.Step.{edge_step};
+ghost use Rattle.edge_model.specs.Synced.{InSync};
 ghost use Rattle.edge_model.specs.Work.{Agrees, Answers, GoesOn, beginning};
 ghost use Rattle.provider_edge.specs.EndOf.{is_of_segment};
 ghost use Rattle.provider_edge.specs.Lists.{Keeps, seen, worked};
@@ -21,12 +22,12 @@ mod circuit;
 mod connection;
 mod frame;
 mod octets;
+mod packet;
 mod tick;
 mod wire;
 
 use crate::EdgeStop;
 use crate::control::Control;
-use crate::domain::{Domain, open_domains};
 use crate::held::Held;
 use crate::quiet::idle;
 use edge_model::{Effects, Input};
@@ -45,11 +46,8 @@ use vsi_bridge::Bridge;
 pub struct Edge {
     plan: Rc<Plan>,
     me: EdgeId,
-    circuits_on: Vec<bool>,
-    domains: Vec<Option<Domain>>,
     control: Control,
     held: Vec<Held>,
-    ticks: u64,
     stopped: bool,
 }
 
@@ -59,9 +57,9 @@ impl Model for Edge {
 
     ghost Value = { EdgeLists };
 
-    ghost view = { λ e. record { plan = e.plan.value; me = e.me; circuits_on = e.circuits_on.items; domains = e.domains.items; control = e.control; held = e.held.items; ticks = e.ticks; stopped = e.stopped } };
+    ghost view = { λ e. record { plan = e.plan.value; me = e.me; control = e.control; held = e.held.items; stopped = e.stopped } };
 
-    ghost invariant = { λ e. IsEdge (record { plan = e.plan.value; me = e.me; circuits_on = e.circuits_on.items; domains = e.domains.items; control = e.control; held = e.held.items; ticks = e.ticks; stopped = e.stopped }) };
+    ghost invariant = { λ e. IsEdge (record { plan = e.plan.value; me = e.me; control = e.control; held = e.held.items; stopped = e.stopped }) };
 }
 
 impl Edge {
@@ -89,18 +87,13 @@ impl Edge {
         ensures empty { IfOk result (λ edge. seen edge ≡ empty_edge edge.plan me) }
         ensures stopped { IfOk result (λ edge. edge.stopped ≡ false) }
     {
-        let circuits_on = vec![in alloc; true; plan.circuits.len()]?;
-        let domains = open_domains(alloc, &plan, me)?;
         let control = Control::open(alloc, plan.clone()?, me)?;
         let held = none_held(alloc, plan.edges.len())?;
         Ok(Edge {
             plan,
             me,
-            circuits_on,
-            domains,
             control,
             held,
-            ticks: 0,
             stopped: false,
         })
     }
@@ -110,10 +103,10 @@ impl Edge {
     /// whose end does not stand; for `Frame` a circuit of another edge or one that is off; for `Circuit` a circuit of
     /// another edge or one that is so already; for `Wire` a wire that does not pass the edge or one that is so already; for
     /// `Status` a wire of which the edge is no terminal edge, or bits that are set already. `Restart` and `Tick` always
-    /// apply. Packets, priorities and pings do not apply yet. The bits of a `Status` are at most 31.
+    /// apply. A `Packet` always applies. Priorities and pings do not apply yet. The bits of a `Status` are at most 31.
     ///
     /// `NoMemory` where memory was refused; from then on the edge is given up, and answers `Stopped` to every input.
-    #[tactic(auto, using(crate::proofs::EffectLemmas::steps_fit, crate::proofs::EffectLemmas::steps_tell, crate::proofs::EffectLemmas::steps_local, crate::proofs::EffectLemmas::goes_nowhere, crate::proofs::KeptLemmas::edge_stopped))]
+    #[tactic(auto, using(crate::proofs::EffectLemmas::steps_fit, crate::proofs::EffectLemmas::steps_tell, crate::proofs::StayLemmas::steps_local, crate::proofs::EffectLemmas::steps_synced, crate::proofs::EffectLemmas::goes_nowhere, crate::proofs::EdgeLemmas::edge_stopped, crate::proofs::EdgeLemmas::edge_going, crate::proofs::EdgeLemmas::seen_stopped))]
     pub fn take<L: Link>(
         &mut self,
         alloc: Global,
@@ -128,7 +121,7 @@ impl Edge {
         ensures calls { GoesOn (L.calls link.old) (L.calls link.new) }
         ensures said { IfOk result (λ effects. TellsTaken (L.calls link.old) (L.calls link.new) effects.list) }
         ensures fit { IfOk result (λ effects. AllFit self.old.plan effects.list) }
-        ensures local { IfOk result (λ effects. StaysLocal self.old.plan input.entry effects.list) }
+        ensures local { IfOk result (λ effects. StaysLocal self.old.plan (seen self.old) input.entry effects.list) }
         ensures refused { IsErrOf result EdgeStop.Stopped ↔ (self.old.stopped ≡ true) }
         ensures stopped { IfErr result (λ stop. self.new.stopped ≡ true) }
         ensures going { IfOk result (λ effects. self.new.stopped ≡ false) }
@@ -136,16 +129,18 @@ impl Edge {
         if self.stopped {
             return Err(EdgeStop::Stopped);
         }
+        self.stopped = true;
         match self.work(alloc, input, link) {
-            Ok(effects) => Ok(effects),
-            Err(NoMemory) => {
-                self.stopped = true;
-                Err(EdgeStop::NoMemory)
+            Ok(effects) => {
+                self.stopped = false;
+                Ok(effects)
             }
+            Err(NoMemory) => Err(EdgeStop::NoMemory),
         }
     }
 
-    // What the edge makes of an input.
+    // What the edge makes of an input. Until it is done nothing is said of what was told last of the wires, so the edge counts
+    // as stopped.
     #[tactic(auto, using(crate::proofs::WorkLemmas::idle_done, crate::proofs::EffectLemmas::goes_nowhere))]
     fn work<L: Link>(
         &mut self,
@@ -154,6 +149,8 @@ impl Edge {
         link: &mut L,
     ) -> Result<Effects, NoMemory>
         requires range { IsInRange input }
+        requires working { self.old.stopped ≡ true }
+        requires synced { InSync self.old.plan (seen self.old) }
         ensures keeps { Keeps self.old self.new }
         ensures calls { GoesOn (L.calls link.old) (L.calls link.new) }
         ensures step { IfOk result (λ effects. (told : Answers) → Agrees told (L.calls link.new)
@@ -165,11 +162,12 @@ impl Edge {
             Input::Lost { peer } => self.lost(alloc, peer, link),
             Input::Restart => Ok(self.restart(alloc)),
             Input::Tick => self.tick(alloc, link),
-            Input::Frame { circuit, bytes } => self.frame(alloc, circuit, bytes),
+            Input::Frame { circuit, bytes } => self.frame(alloc, circuit, bytes, link),
+            Input::Packet { bytes } => self.packet(alloc, bytes, link),
             Input::Circuit { circuit, on } => self.circuit(alloc, circuit, on, link),
             Input::Wire { wire, on } => self.wire(alloc, wire, on, link),
             Input::Status { wire, bits } => self.status(alloc, wire, bits, link),
-            Input::Packet { .. } | Input::Priority { .. } | Input::Ping { .. } => Ok(idle(alloc)),
+            Input::Priority { .. } | Input::Ping { .. } => Ok(idle(alloc)),
         }
     }
 
@@ -247,31 +245,26 @@ impl Edge {
     }
 
     /// The bridge of a service; `None` exactly where the plan has no such service, or the service no port at the edge.
-    #[tactic(auto, using(crate::proofs::KeptLemmas::lent_some, crate::proofs::KeptLemmas::lent_none, crate::proofs::KeptLemmas::lent_past, crate::proofs::KeptLemmas::bridge_learned))]
     pub fn bridge(&self, service: ServiceId) -> Option<&Bridge>
         ensures none { IsNone result ↔ ((service_row self.now.plan service ≡ None) ⊎ (ports_of self.now.plan service self.now.me ≡ [])) }
         ensures learned { IfSome result (λ bridge. bridge.now.entries ≡ addresses_of (seen self.now) service) }
     {
-        match self.domains.get(service.0 as usize)? {
-            Some(domain) => Some(&domain.bridge),
-            None => None,
-        }
+        self.control.bridge(service)
     }
 
     /// Whether a circuit of the plan is on.
-    #[tactic(auto, unfolding(crate::specs::Lists::seen))]
     pub fn is_on(&self, circuit: CircuitId) -> bool
         requires { circuit.0 < length self.now.plan.circuits }
         ensures { result ≡ is_on (seen self.now) circuit }
     {
-        self.circuits_on[circuit.0 as usize]
+        self.control.is_circuit_on(circuit)
     }
 
     /// How many ticks have passed; the count stays at 2^64 - 1 once it is there.
     pub fn ticks(&self) -> u64
-        ensures { result ≡ self.now.ticks }
+        ensures { result ≡ (seen self.now).ticks }
     {
-        self.ticks
+        self.control.ticks()
     }
 
     /// The plan.

@@ -3,18 +3,20 @@
 
 mod advice;
 mod control;
-mod copies;
 mod dialogue;
 mod domain;
 mod edge;
 mod edge_stop;
 mod event;
+mod forwarding;
 mod held;
 mod inner_frame;
 mod next;
+mod packet;
 mod pw_message;
 mod quiet;
 mod speaker;
+mod tagged;
 
 pub use edge::Edge;
 pub use edge_stop::EdgeStop;

@@ -1,5 +1,5 @@
 //! Effects that need no memory.
-ghost use Rattle.std.specs.Prelude.{◌≡◌, ◌∷◌, [], true, false, IfOk};
+ghost use Rattle.std.specs.Prelude.{◌≡◌, ◌++◌, ◌∷◌, [], true, false, OnOk};
 ghost use Rattle.edge_model.specs.declared.effect.Effect.TheVariants.{Dropped};
 
 use edge_model::{Effect, Effects};
@@ -26,11 +26,9 @@ pub fn nothing(alloc: Global) -> Effects
     }
 }
 
-/// A frame is dropped.
-pub fn dropped(alloc: Global, cause: DropCause) -> Result<Effects, NoMemory>
-    ensures { IfOk result (λ effects. effects ≡ record { idle = false; list = Dropped cause ∷ [] }) }
+/// A frame or a packet is dropped.
+pub fn drop_for(cause: DropCause, out: &mut List<Effect>) -> Result<(), NoMemory>
+    ensures { OnOk result (out.new ≡ out.old ++ Dropped cause ∷ []) }
 {
-    let mut list = List::new(alloc);
-    list.push(Effect::Dropped(cause))?;
-    Ok(Effects { idle: false, list })
+    out.push(Effect::Dropped(cause))
 }

@@ -121,14 +121,14 @@ connect_stepped old one two three now from to first second given given2 apart pl
 -- ---- an edge at work, while something else of the network changes
 
 -- the effects of an edge go into a network in which its work is done
-pub absorbed_stepped : (old mid now : NetLists) (me : EdgeId) (work : Work) (effects : Effects) (before : NetworkState)
+pub absorbed_stepped : (old mid now : NetLists) (me : EdgeId) (origin hops : ℕ) (work : Work) (effects : Effects) (before : NetworkState)
     → mid.trace ≡ old.trace → effects.list ≡ work.effects → seen mid ≡ with_edge me work.edge before
-    → HasStepped mid now (record { state = absorb_all me 0 0 effects.list (seen mid); entries = all_entries_of me 0 0 effects.list (seen mid) })
-    → HasStepped old now (absorb me 0 0 work before)
-absorbed_stepped old mid now me work effects before told is state absorbed = record {
-  state = absorbed.state ∙ (ap (λ (es : List Effect). absorb_all me 0 0 es (seen mid)) is ∙ ap (λ (n : NetworkState). absorb_all me 0 0 work.effects n) state);
-  told = absorbed.told ∙ (ap (λ (t : List Entry). t ++ all_entries_of me 0 0 effects.list (seen mid)) told
-      ∙ ap (λ (es : List Entry). old.trace ++ es) (ap (λ (es : List Effect). all_entries_of me 0 0 es (seen mid)) is ∙ ap (λ (n : NetworkState). all_entries_of me 0 0 work.effects n) state));
+    → HasStepped mid now (record { state = absorb_all me origin hops effects.list (seen mid); entries = all_entries_of me origin hops effects.list (seen mid) })
+    → HasStepped old now (absorb me origin hops work before)
+absorbed_stepped old mid now me origin hops work effects before told is state absorbed = record {
+  state = absorbed.state ∙ (ap (λ (es : List Effect). absorb_all me origin hops es (seen mid)) is ∙ ap (λ (n : NetworkState). absorb_all me origin hops work.effects n) state);
+  told = absorbed.told ∙ (ap (λ (t : List Entry). t ++ all_entries_of me origin hops effects.list (seen mid)) told
+      ∙ ap (λ (es : List Entry). old.trace ++ es) (ap (λ (es : List Effect). all_entries_of me origin hops es (seen mid)) is ∙ ap (λ (n : NetworkState). all_entries_of me origin hops work.effects n) state));
 }
 
 pub hearing : (n now : NetLists) (from to : EdgeId) (count : ℕ) (bytes : List ℕ) (effects : Effects) → bytes ≡ take count (pipes_of n.pipes from.0 to.0)
@@ -142,7 +142,7 @@ pub lose_stepped : (old mid now : NetLists) (me peer : EdgeId) (effects : Effect
     → HasDriven me old mid (lost_input old.plan taken_all peer (begin_at (seen old) me)) effects
     → HasStepped mid now (record { state = absorb_all me 0 0 effects.list (seen mid); entries = all_entries_of me 0 0 effects.list (seen mid) })
     → HasStepped old now (losing old.plan me peer (seen old))
-lose_stepped old mid now me peer effects drove absorbed = absorbed_stepped old mid now me (losing_work old.plan (seen old) me peer) effects (seen old) drove.told drove.effects_are drove.state absorbed
+lose_stepped old mid now me peer effects drove absorbed = absorbed_stepped old mid now me 0 0 (losing_work old.plan (seen old) me peer) effects (seen old) drove.told drove.effects_are drove.state absorbed
 
 edge_with_pipe : (n : NetworkState) (from to me : EdgeId) (count : ℕ) (e : EdgeState)
     → with_pipe from to (drop count ((with_edge me e n).pipes from.0 to.0)) (with_edge me e n) ≡ with_edge me e (with_pipe from to (drop count (n.pipes from.0 to.0)) n)
@@ -159,7 +159,7 @@ pub deliver_stepped : (old one two now : NetLists) (from to : EdgeId) (count : �
     → HasStepped two now (record { state = absorb_all to 0 0 effects.list (seen two); entries = all_entries_of to 0 0 effects.list (seen two) })
     → HasStepped old now (delivering old.plan from to count (seen old))
 deliver_stepped old one two now from to count effects drove gave told absorbed =
-    absorbed_stepped old two now to work effects (with_pipe from to (drop count ((seen old).pipes from.0 to.0)) (seen old)) (told ∙ drove.told) drove.effects_are
+    absorbed_stepped old two now to 0 0 work effects (with_pipe from to (drop count ((seen old).pipes from.0 to.0)) (seen old)) (told ∙ drove.told) drove.effects_are
     (gave ∙ (ap (λ (n : NetworkState). with_pipe from to (drop count (n.pipes from.0 to.0)) n) drove.state ∙ edge_with_pipe (seen old) from to to count work.edge)) absorbed
   where
     work : Work
@@ -171,7 +171,7 @@ pub restart_stepped : (old one two now : NetLists) (me : EdgeId) (effects : Effe
     → HasStepped two now (record { state = absorb_all me 0 0 effects.list (seen two); entries = all_entries_of me 0 0 effects.list (seen two) })
     → HasStepped old now (restart_event me (seen old))
 restart_stepped old one two now me effects drove emptied told absorbed =
-    absorbed_stepped old two now me work effects (without_octets_to me (seen old)) (told ∙ drove.told) drove.effects_are
+    absorbed_stepped old two now me 0 0 work effects (without_octets_to me (seen old)) (told ∙ drove.told) drove.effects_are
     (emptied ∙ (ap (λ (n : NetworkState). without_octets_to me n) drove.state ∙ edge_emptied (seen old) me work.edge)) absorbed
   where
     work : Work

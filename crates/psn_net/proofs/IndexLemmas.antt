@@ -4,6 +4,7 @@ use Rattle.std.proofs.lemmas.Bool.Decides.{nat_tests}
 use Rattle.net_base.specs.declared.plan.circuit_plan.CircuitPlan.{CircuitPlan}
 use Rattle.net_base.specs.declared.plan.places.CircuitId.{CircuitId}
 use Rattle.net_base.specs.declared.plan.places.EdgeId.{EdgeId}
+use Rattle.net_base.specs.declared.trace.event.Event.{Event}
 use Rattle.net_base.specs.plan.Places.{circuit_row}
 use Rattle.network_model.specs.Connection.{is_deliverable}
 use Rattle.network_model.specs.Delivery.{first_pair}
@@ -150,8 +151,10 @@ pub indexed_first : (n : NetLists) (index : IndexLists) → seen n ≡ empty_net
 indexed_first n index empty clear = record { each = λ i j a b. clear.each i j ∙ sym (ap (λ (s : NetworkState). is_deliverable s i j) empty) }
 
 -- an event that was not done
-pub indexed_still : (old now : NetLists) (index : IndexLists) (stop : NetStop) → Stops old now stop → (old.failed ≡ false → IsIndexed old index) → now.failed ≡ false → IsIndexed now index
-indexed_still old now index (Crowded count event) stops indexed going = absurd stops
-indexed_still old now index (TooMuch weight event) stops indexed going =
-    subst (λ (n : NetLists). IsIndexed n index) (sym stops.1) (indexed (ap (λ (n : NetLists). n.failed) (sym stops.1) ∙ going))
-indexed_still old now index NoMemory stops indexed going = let wrong : true ≡ false = sym stops ∙ going in absurd (cc (wrong))
+same_index : (old now : NetLists) (index : IndexLists) → now ≡ old → (old.failed ≡ false → IsIndexed old index) → now.failed ≡ false → IsIndexed now index
+same_index old now index same indexed going = subst (λ (n : NetLists). IsIndexed n index) (sym same) (indexed (ap (λ (n : NetLists). n.failed) (sym same) ∙ going))
+
+pub indexed_still : (old now : NetLists) (index : IndexLists) (event : Event) (stop : NetStop) → Stops old now event stop → (old.failed ≡ false → IsIndexed old index) → now.failed ≡ false → IsIndexed now index
+indexed_still old now index event (Crowded count number) stops indexed going = same_index old now index stops.1 indexed going
+indexed_still old now index event (TooMuch weight number) stops indexed going = same_index old now index stops.1 indexed going
+indexed_still old now index event NoMemory stops indexed going = let wrong : true ≡ false = sym stops ∙ going in absurd (cc (wrong))

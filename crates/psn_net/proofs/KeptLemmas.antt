@@ -5,6 +5,7 @@ use Rattle.net_base.specs.declared.plan.Plan.{Plan}
 use Rattle.net_base.specs.declared.plan.circuit_plan.CircuitPlan.{CircuitPlan}
 use Rattle.net_base.specs.declared.plan.places.CircuitId.{CircuitId}
 use Rattle.net_base.specs.declared.plan.places.EdgeId.{EdgeId}
+use Rattle.net_base.specs.declared.plan.places.WireId.{WireId}
 use Rattle.net_base.specs.declared.trace.event.Event.{Event}
 use Rattle.net_base.specs.declared.trace.event.Event.TheVariants as event
 use Rattle.net_base.specs.plan.Places.{circuit_row}
@@ -15,26 +16,30 @@ use Rattle.edge_model.specs.Connection.{restart_input}
 use Rattle.edge_model.specs.State.{EdgeState, put_at}
 use Rattle.edge_model.specs.Wire.{status_input, wire_input}
 use Rattle.edge_model.specs.Work.{Work}
+use Rattle.edge_model.proofs.BridgeLemmas.{BridgesOnly, is_of_bridging, packet_bridges}
+use Rattle.edge_model.proofs.SessionLemmas.{are_all, own_effects}
 use Rattle.network_model.specs.Absorb.{absorb, absorb_all, absorb_one, answer, begin_at, idle, taken_all}
 use Rattle.network_model.specs.Circuit.{circuit_event}
 use Rattle.network_model.specs.Connection.{can_connect, connect_event, connected_work, connecting, deliver_event, delivering, hearing_work, is_deliverable, is_drained_pipe, lose_event, losing, losing_work, restart_event}
 use Rattle.network_model.specs.Frame.{entering, frame_event, frame_work, next_origin}
-use Rattle.network_model.specs.State.{NetworkState, stands, with_edge, with_frame, with_packet, with_pipe, without_octets_to}
+use Rattle.network_model.specs.declared.packet.Packet.{Packet}
+use Rattle.network_model.specs.Packet.{again_event, arrive_event, arriving, discard_event, packet_at, packet_work}
+use Rattle.network_model.specs.State.{NetworkState, stands, with_edge, with_frame, with_packet, with_pipe, without_octets_to, without_packet}
 use Rattle.network_model.specs.Step.{step}
 use Rattle.psn_net.specs.DeliveryIndex.{IndexLists, IsIndexed, IsIndexedBeside, has, is_at_edge, sets_to_work}
 use Rattle.psn_net.specs.Lists.{NetLists, seen}
 
--- the other edges stay, and the pipes between them
+-- the peerings of the other edges stay, and the pipes between them
 pub record IsKeptBeside (these : ℕ → Bool) (old now : NetworkState) : Type 0 where
-  pub edges : (k : ℕ) → these k ≡ false → now.edges k ≡ old.edges k
+  pub peerings : (k : ℕ) → these k ≡ false → (now.edges k).peering ≡ (old.edges k).peering
   pub pipes : (i j : ℕ) → these i ≡ false → these j ≡ false → now.pipes i j ≡ old.pipes i j
 
 stays_beside : (these : ℕ → Bool) (n : NetworkState) → IsKeptBeside these n n
-stays_beside these n = record { edges = λ k h. refl; pipes = λ i j h g. refl }
+stays_beside these n = record { peerings = λ k h. refl; pipes = λ i j h g. refl }
 
 then_beside : (these : ℕ → Bool) (a b c : NetworkState) → IsKeptBeside these a b → IsKeptBeside these b c → IsKeptBeside these a c
 then_beside these a b c first next = record {
-  edges = λ k h. next.edges k h ∙ first.edges k h;
+  peerings = λ k h. next.peerings k h ∙ first.peerings k h;
   pipes = λ i j h g. next.pipes i j h g ∙ first.pipes i j h g;
 }
 
@@ -48,21 +53,21 @@ apart these me k h g = elim (cases_Bool (nat_eq k me)) [
 edge_beside : (these : ℕ → Bool) (me : EdgeId) (e : EdgeState) (n : NetworkState) → these me.0 ≡ true → IsKeptBeside these n (with_edge me e n)
 unfolding with_edge
 edge_beside these me e n h = record {
-  edges = λ k g. let away = apart these me.0 k h g in rw away refl;
+  peerings = λ k g. let away = apart these me.0 k h g in rw away refl;
   pipes = λ i j g f. refl;
 }
 
 pipe_from_beside : (these : ℕ → Bool) (from to : EdgeId) (octets : List ℕ) (n : NetworkState) → these from.0 ≡ true → IsKeptBeside these n (with_pipe from to octets n)
 unfolding with_pipe
 pipe_from_beside these from to octets n h = record {
-  edges = λ k g. refl;
+  peerings = λ k g. refl;
   pipes = λ i j g f. let away = apart these from.0 i h g in rw away refl;
 }
 
 pipe_to_beside : (these : ℕ → Bool) (from to : EdgeId) (octets : List ℕ) (n : NetworkState) → these to.0 ≡ true → IsKeptBeside these n (with_pipe from to octets n)
 unfolding with_pipe
 pipe_to_beside these from to octets n h = record {
-  edges = λ k g. refl;
+  peerings = λ k g. refl;
   pipes = λ i j g f. row i j (apart these to.0 j h f);
 } where
   row : (i j : ℕ) → nat_eq j to.0 ≡ false → cond (nat_eq i from.0) (put_at (n.pipes from.0) to.0 octets) (n.pipes i) j ≡ n.pipes i j
@@ -74,13 +79,13 @@ pipe_to_beside these from to octets n h = record {
 emptied_beside : (these : ℕ → Bool) (me : EdgeId) (n : NetworkState) → these me.0 ≡ true → IsKeptBeside these n (without_octets_to me n)
 unfolding without_octets_to
 emptied_beside these me n h = record {
-  edges = λ k g. refl;
+  peerings = λ k g. refl;
   pipes = λ i j g f. let away = apart these me.0 j h f in rw away refl;
 }
 
 frame_beside : (these : ℕ → Bool) (n : NetworkState) → IsKeptBeside these n (with_frame n)
 unfolding with_frame
-frame_beside these n = record { edges = λ k h. refl; pipes = λ i j h g. refl }
+frame_beside these n = record { peerings = λ k h. refl; pipes = λ i j h g. refl }
 
 -- ---- an edge's work goes into the network
 
@@ -90,7 +95,7 @@ one_beside these me origin hops (effect.Said peer octets) n h = by (stands n pee
   by : (b : Bool) → IsKeptBeside these n (cond b (with_pipe me peer (n.pipes me.0 peer.0 ++ octets) n) n)
   by true = pipe_from_beside these me peer (n.pipes me.0 peer.0 ++ octets) n h
   by false = stays_beside these n
-one_beside these me origin hops (effect.Sent peer wire came octets) n h = record { edges = λ k g. refl; pipes = λ i j g f. refl }
+one_beside these me origin hops (effect.Sent peer wire came octets) n h = record { peerings = λ k g. refl; pipes = λ i j g f. refl }
 one_beside these me origin hops (effect.Closed peer) n h = pipe_to_beside these peer me [] n h
 one_beside these me origin hops e n h = stays_beside these n
 
@@ -206,9 +211,73 @@ answer_beside me work n = by work.idle where
   by true = stays_beside (λ k. nat_eq k me.0) n
   by false = absorb_beside (λ k. nat_eq k me.0) me 0 0 work n (at_one me.0)
 
+-- ---- packets
+
+-- what a bridge gives out changes no pipe
+bridged_beside : (these : ℕ → Bool) (me : EdgeId) (origin hops : ℕ) (es : List Effect) (n : NetworkState) → are_all is_of_bridging es ≡ true → IsKeptBeside these n (absorb_all me origin hops es n)
+unfolding with_packet
+bridged_beside these me origin hops [] n own = stays_beside these n
+bridged_beside these me origin hops (effect.Left circuit octets ∷ es) n own = bridged_beside these me origin hops es n own
+bridged_beside these me origin hops (effect.Dropped cause ∷ es) n own = bridged_beside these me origin hops es n own
+bridged_beside these me origin hops (effect.Sent peer wire came octets ∷ es) n own =
+    let sent : NetworkState = with_packet wire me peer origin (hops + 1) octets n in
+    then_beside these n sent (absorb_all me origin hops es sent) (record { peerings = λ k g. refl; pipes = λ i j g f. refl }) (bridged_beside these me origin hops es sent own)
+bridged_beside these me origin hops (effect.Said peer octets ∷ es) n own = absurd (cc (own))
+bridged_beside these me origin hops (effect.Session peer state ∷ es) n own = absurd (cc (own))
+bridged_beside these me origin hops (effect.Wire wire down ∷ es) n own = absurd (cc (own))
+bridged_beside these me origin hops (effect.Pong wire sequence ∷ es) n own = absurd (cc (own))
+bridged_beside these me origin hops (effect.Closed peer ∷ es) n own = absurd (cc (own))
+
+-- nor does an edge whose peerings stay
+same_beside : (these : ℕ → Bool) (me : EdgeId) (e : EdgeState) (n : NetworkState) → e.peering ≡ (n.edges me.0).peering → IsKeptBeside these n (with_edge me e n)
+unfolding with_edge
+same_beside these me e n same = record { peerings = λ k g. at_each k; pipes = λ i j g f. refl } where
+  at_each : (k : ℕ) → (cond (nat_eq k me.0) e (n.edges k)).peering ≡ (n.edges k).peering
+  at_each k = elim (cases_Bool (nat_eq k me.0)) [
+    | inl here ↦ rw here (same ∙ ap (λ (j : ℕ). (n.edges j).peering) (sym (eqb-true k me.0 here)))
+    | inr away ↦ rw away refl
+  ]
+
+taken_beside : (these : ℕ → Bool) (number : ℕ) (n : NetworkState) → IsKeptBeside these n (without_packet number n)
+unfolding without_packet
+taken_beside these number n = record { peerings = λ k h. refl; pipes = λ i j h g. refl }
+
+one_more_beside : (these : ℕ → Bool) (wire : WireId) (from to : EdgeId) (origin hops : ℕ) (octets : List ℕ) (n : NetworkState) → IsKeptBeside these n (with_packet wire from to origin hops octets n)
+unfolding with_packet
+one_more_beside these wire from to origin hops octets n = record { peerings = λ k h. refl; pipes = λ i j h g. refl }
+
+arriving_beside : (these : ℕ → Bool) (plan : Plan) (packet : Packet) (n : NetworkState) → IsKeptBeside these n (arriving plan packet n).state
+unfolding without_packet
+arriving_beside these plan packet n =
+    then_beside these n rest (arriving plan packet n).state (taken_beside these packet.number n)
+    (then_beside these rest (with_edge packet.to work.edge rest) (arriving plan packet n).state
+    (same_beside these packet.to work.edge rest bridges.edge.peering)
+    (bridged_beside these packet.to packet.origin packet.hops work.effects (with_edge packet.to work.edge rest) (own_effects is_of_bridging work.effects bridges.effects)))
+  where
+    rest : NetworkState
+    rest = without_packet packet.number n
+
+    work : Work
+    work = packet_work plan n packet
+
+    bridges : BridgesOnly (begin_at n packet.to) work
+    bridges = packet_bridges plan taken_all packet.bytes (begin_at n packet.to)
+
+arrive_beside : (these : ℕ → Bool) (plan : Plan) (packet : Option Packet) (n : NetworkState) → IsKeptBeside these n (arrive_event plan packet n).state
+arrive_beside these plan None n = stays_beside these n
+arrive_beside these plan (Some packet) n = arriving_beside these plan packet n
+
+discard_beside : (these : ℕ → Bool) (packet : Option Packet) (n : NetworkState) → IsKeptBeside these n (discard_event packet n).state
+discard_beside these None n = stays_beside these n
+discard_beside these (Some packet) n = taken_beside these packet.number n
+
+again_beside : (these : ℕ → Bool) (packet : Option Packet) (n : NetworkState) → IsKeptBeside these n (again_event packet n).state
+again_beside these None n = stays_beside these n
+again_beside these (Some packet) n = one_more_beside these packet.wire packet.from packet.to packet.origin packet.hops packet.bytes n
+
 every_beside : (old now : NetworkState) → IsKeptBeside (λ k. true) old now
 every_beside old now = record {
-  edges = λ k h. let wrong : true ≡ false = h in absurd (cc (wrong));
+  peerings = λ k h. let wrong : true ≡ false = h in absurd (cc (wrong));
   pipes = λ i j h g. let wrong : true ≡ false = h in absurd (cc (wrong));
 }
 
@@ -222,15 +291,18 @@ step_beside plan n (event.Frame circuit octets) = framed_beside plan circuit oct
 step_beside plan n (event.Circuit circuit on) = circuit_beside plan circuit on (circuit_row plan circuit) n
 step_beside plan n (event.Wire me wire on) = answer_beside me (wire_input plan taken_all wire on (begin_at n me)) n
 step_beside plan n (event.Status me wire bits) = answer_beside me (status_input plan taken_all wire bits (begin_at n me)) n
+step_beside plan n (event.Arrive number) = arrive_beside (λ k. false) plan (packet_at n number) n
+step_beside plan n (event.Discard number) = discard_beside (λ k. false) (packet_at n number) n
+step_beside plan n (event.Again number) = again_beside (λ k. false) (packet_at n number) n
 step_beside plan n e = stays_beside (sets_to_work plan e) n
 
 -- ---- so the index is right beside them
 
-deliverable_same : (old now : NetworkState) (i j : ℕ) → now.edges i ≡ old.edges i → now.edges j ≡ old.edges j → now.pipes i j ≡ old.pipes i j → is_deliverable now i j ≡ is_deliverable old i j
+deliverable_same : (old now : NetworkState) (i j : ℕ) → (now.edges i).peering ≡ (old.edges i).peering → (now.edges j).peering ≡ (old.edges j).peering → now.pipes i j ≡ old.pipes i j → is_deliverable now i j ≡ is_deliverable old i j
 deliverable_same old now i j a b c = rw (a, b, c) refl
 
 deliverable_beside : (these : ℕ → Bool) (old now : NetworkState) (i j : ℕ) → IsKeptBeside these old now → these i ≡ false → these j ≡ false → is_deliverable now i j ≡ is_deliverable old i j
-deliverable_beside these old now i j kept h g = deliverable_same old now i j (kept.edges i h) (kept.edges j g) (kept.pipes i j h g)
+deliverable_beside these old now i j kept h g = deliverable_same old now i j (kept.peerings i h) (kept.peerings j g) (kept.pipes i j h g)
 
 pub indexed_beside : (old now : NetLists) (index : IndexLists) (e : Event) → IsIndexed old index → now.plan ≡ old.plan → seen now ≡ (step old.plan (seen old) e).state
     → IsIndexedBeside now index (sets_to_work now.plan e)

@@ -11,5 +11,6 @@ pub mod PairLemmas
 pub mod PipeLemmas
 pub mod RunLemmas
 pub mod TickLemmas
+pub mod UnderWayLemmas
 pub mod WeightLemmas
 pub mod WordLemmas

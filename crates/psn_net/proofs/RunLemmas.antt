@@ -1,5 +1,5 @@
 -- Runs joined, and what a run that comes to its end or is stopped has done.
-use Rattle.std.proofs.Common.{◌≡◌, ◌++◌, ◌∷◌, [], ◌∙◌, List, Option, Some, None, refl, ap, sym, append_assoc, append-nil}
+use Rattle.std.proofs.Common.{◌≡◌, ◌++◌, ◌∷◌, [], ◌∙◌, ℕ, List, Option, Some, None, refl, ap, sym, append_assoc, append-nil, length}
 use Rattle.net_base.specs.declared.plan.Plan.{Plan}
 use Rattle.net_base.specs.declared.trace.entry.Entry.{Entry}
 use Rattle.net_base.specs.declared.trace.event.Event.{Event}
@@ -17,7 +17,7 @@ use Rattle.psn_net.specs.Weight.{stop_at}
 pub ran_append : (plan : Plan) (s : NetworkState) (t : List Entry) (xs ys : List Event)
     → ran plan s t (xs ++ ys) ≡ unless (ran plan s t xs).stop (ran plan s t xs).state (ran plan s t xs).trace (ran plan (ran plan s t xs).state (ran plan s t xs).trace ys)
 ran_append plan s t [] ys = refl
-ran_append plan s t (x ∷ xs) ys = by (stop_at t) _ _ (ran_append plan (step plan s x).state (t ++ (step plan s x).entries) xs ys)
+ran_append plan s t (x ∷ xs) ys = by (stop_at t (length s.under_way) x) _ _ (ran_append plan (step plan s x).state (t ++ (step plan s x).entries) xs ys)
   where
     by : (o : Option NetStop) (a b : Ended) → a ≡ unless b.stop b.state b.trace (ran plan b.state b.trace ys)
         → unless o s t a ≡ unless (unless o s t b).stop (unless o s t b).state (unless o s t b).trace (ran plan (unless o s t b).state (unless o s t b).trace ys)
@@ -27,30 +27,34 @@ ran_append plan s t (x ∷ xs) ys = by (stop_at t) _ _ (ran_append plan (step pl
 -- a run that no limit stops comes to the state after its events
 pub ran_state : (plan : Plan) (s : NetworkState) (t : List Entry) (xs : List Event) → (ran plan s t xs).stop ≡ None → (ran plan s t xs).state ≡ state_after plan s xs
 ran_state plan s t [] h = refl
-ran_state plan s t (x ∷ xs) h = by (stop_at t) _ _ (ran_state plan (step plan s x).state (t ++ (step plan s x).entries) xs) h
+ran_state plan s t (x ∷ xs) h = by (stop_at t (length s.under_way) x) _ _ (ran_state plan (step plan s x).state (t ++ (step plan s x).entries) xs) h
   where
     by : (o : Option NetStop) (a : Ended) (q : NetworkState) → (a.stop ≡ None → a.state ≡ q) → (unless o s t a).stop ≡ None → (unless o s t a).state ≡ q
     by None a q f h = f h
     by (Some x) a q f h = absurd (cc (h))
 
 -- one event that is done, and one that a limit stops
-pub ran_one : (plan : Plan) (old now : NetLists) (event : Event) → stop_at old.trace ≡ None → seen now ≡ (step plan (seen old) event).state → now.trace ≡ old.trace ++ (step plan (seen old) event).entries
+pub ran_one : (plan : Plan) (old now : NetLists) (event : Event) → stop_at old.trace (length (seen old).under_way) event ≡ None → seen now ≡ (step plan (seen old) event).state → now.trace ≡ old.trace ++ (step plan (seen old) event).entries
     → ended now None ≡ ran plan (seen old) old.trace (event ∷ [])
 ran_one plan old now event none state trace =
     let end : Ended = record { state = (step plan (seen old) event).state; trace = old.trace ++ (step plan (seen old) event).entries; stop = None } in
     (λ i. record { state = state i; trace = trace i; stop = None }) ∙ sym (ap (λ (o : Option NetStop). unless o (seen old) old.trace end) none)
 
-pub ran_none : (plan : Plan) (old now : NetLists) (event : Event) (stop : NetStop) → Stops old now stop → Halts stop now (ran plan (seen old) old.trace (event ∷ []))
-ran_none plan old now event (Crowded count number) stops = absurd stops
-ran_none plan old now event (TooMuch weight number) stops =
+ran_refused : (plan : Plan) (old now : NetLists) (event : Event) (stop : NetStop) → stop_at old.trace (length (seen old).under_way) event ≡ Some stop → now ≡ old
+    → ended now (Some stop) ≡ ran plan (seen old) old.trace (event ∷ [])
+ran_refused plan old now event stop met same =
     let end : Ended = record { state = (step plan (seen old) event).state; trace = old.trace ++ (step plan (seen old) event).entries; stop = None } in
-    ap (λ (n : NetLists). ended n (Some (TooMuch weight number))) stops.1 ∙ sym (ap (λ (o : Option NetStop). unless o (seen old) old.trace end) stops.0)
+    ap (λ (n : NetLists). ended n (Some stop)) same ∙ sym (ap (λ (o : Option NetStop). unless o (seen old) old.trace end) met)
+
+pub ran_none : (plan : Plan) (old now : NetLists) (event : Event) (stop : NetStop) → Stops old now event stop → Halts stop now (ran plan (seen old) old.trace (event ∷ []))
+ran_none plan old now event (Crowded count number) stops = ran_refused plan old now event (Crowded count number) stops.0 stops.1
+ran_none plan old now event (TooMuch weight number) stops = ran_refused plan old now event (TooMuch weight number) stops.0 stops.1
 ran_none plan old now event NoMemory stops = tt
 
 -- a run that no limit stops has done all of its events
 run_whole : (plan : Plan) (s : NetworkState) (t : List Entry) (es : List Event) (n : NetLists) → ended n None ≡ ran plan s t es → HasRun plan s t es n
 run_whole plan s t [] n h = record { state_is = ap (λ (r : Ended). r.state) h; trace_is = ap (λ (r : Ended). r.trace) h ∙ sym (append-nil t) }
-run_whole plan s t (e ∷ es) n h = by (stop_at t) h (run_whole plan (step plan s e).state (t ++ (step plan s e).entries) es n)
+run_whole plan s t (e ∷ es) n h = by (stop_at t (length s.under_way) e) h (run_whole plan (step plan s e).state (t ++ (step plan s e).entries) es n)
   where
     by : (o : Option NetStop) → ended n None ≡ unless o s t (ran plan (step plan s e).state (t ++ (step plan s e).entries) es)
         → (ended n None ≡ ran plan (step plan s e).state (t ++ (step plan s e).entries) es → HasRun plan (step plan s e).state (t ++ (step plan s e).entries) es n) → HasRun plan s t (e ∷ es) n
@@ -64,9 +68,9 @@ run_cut : (plan : Plan) (s : NetworkState) (t : List Entry) (es : List Event) (n
 run_cut plan s t [] n x h =
     let wrong : Some x ≡ None = ap (λ (r : Ended). r.stop) h in
     absurd (cc (wrong))
-run_cut plan s t (e ∷ es) n x h = by (stop_at t) refl h (run_cut plan (step plan s e).state (t ++ (step plan s e).entries) es n x)
+run_cut plan s t (e ∷ es) n x h = by (stop_at t (length s.under_way) e) refl h (run_cut plan (step plan s e).state (t ++ (step plan s e).entries) es n x)
   where
-    by : (o : Option NetStop) → stop_at t ≡ o → ended n (Some x) ≡ unless o s t (ran plan (step plan s e).state (t ++ (step plan s e).entries) es)
+    by : (o : Option NetStop) → stop_at t (length s.under_way) e ≡ o → ended n (Some x) ≡ unless o s t (ran plan (step plan s e).state (t ++ (step plan s e).entries) es)
         → (ended n (Some x) ≡ ran plan (step plan s e).state (t ++ (step plan s e).entries) es → IsRunOf plan (step plan s e).state (t ++ (step plan s e).entries) es n (Some x)) → IsRunOf plan s t (e ∷ es) n (Some x)
     by None o q rest = let r = rest q in record {
       done = e ∷ r.done;
@@ -75,7 +79,7 @@ run_cut plan s t (e ∷ es) n x h = by (stop_at t) refl h (run_cut plan (step pl
     }
     by (Some y) o q rest = record {
       done = [];
-      are_done = record { event = e; rest = es; split = refl; refused = ap (λ (r : Ended). stop_at r.trace) q ∙ (o ∙ sym (ap (λ (r : Ended). r.stop) q)) };
+      are_done = record { event = e; rest = es; split = refl; refused = ap (λ (r : Ended). stop_at r.trace (length r.state.under_way) e) q ∙ (o ∙ sym (ap (λ (r : Ended). r.stop) q)) };
       ran = record { state_is = ap (λ (r : Ended). r.state) q; trace_is = ap (λ (r : Ended). r.trace) q ∙ sym (append-nil t) };
     }
 

@@ -1,11 +1,12 @@
 -- One more entry in a counted trace.
-use Rattle.std.proofs.Common.{◌≡◌, ◌≤◌, ◌+◌, ◌-◌, ◌^◌, ◌++◌, ◌∷◌, [], ℕ, Bool, true, false, List, Option, Some, None, cond, min, nat_lt, refl, arith}
+use Rattle.std.proofs.Common.{◌≡◌, ◌≤◌, ◌+◌, ◌-◌, ◌^◌, ◌++◌, ◌∷◌, ◌&&◌, [], ℕ, Bool, true, false, List, Option, Some, None, cond, min, nat_le, nat_lt, length, refl, arith}
 use Rattle.net_base.specs.declared.trace.entry.Entry.{Entry}
+use Rattle.net_base.specs.declared.trace.event.Event.{Event}
 use Rattle.psn_net.specs.Applying.{Stops}
-use Rattle.psn_net.specs.Lists.{NetLists}
+use Rattle.psn_net.specs.Lists.{NetLists, seen}
 use Rattle.psn_net.specs.declared.net_stop.NetStop.{NetStop}
 use Rattle.psn_net.specs.declared.net_stop.NetStop.TheVariants.{Crowded, TooMuch, NoMemory}
-use Rattle.psn_net.specs.Weight.{IsCounted, entry_weight, events_in, is_event, most_weight, next_event, stop_at, total_weight, weight_of}
+use Rattle.psn_net.specs.Weight.{IsCounted, counted_packets, entry_weight, events_in, is_event, may_send, most_packets, most_weight, next_event, stop_at, total_weight, weight_of}
 
 total-append : (xs : List Entry) (e : Entry) → total_weight (xs ++ e ∷ []) ≡ total_weight xs + entry_weight e
 total-append [] e = omega arith
@@ -34,14 +35,13 @@ next_event_is trace events e = saturates (events_in trace) events (2 ^ 64 - 1) e
   saturates a x top p = omega (arith, p)
 
 -- a limit that is met stops a network that has not changed
-pub stops_at : (n : NetLists) (stop : NetStop) → stop_at n.trace ≡ Some stop → Stops n n stop
+pub stops_at : (n : NetLists) (event : Event) (stop : NetStop) → stop_at n.trace (length (seen n).under_way) event ≡ Some stop → Stops n n event stop
 unfolding stop_at
-stops_at n (Crowded count event) met = none_crowded (nat_lt most_weight (weight_of n.trace)) met where
-  none_crowded : (b : Bool) → cond b (Some (TooMuch (weight_of n.trace) (next_event n.trace))) None ≡ Some (Crowded count event) → ⊥
-  none_crowded true e = absurd (cc (e))
-  none_crowded false e = absurd (cc (e))
-stops_at n (TooMuch weight event) met = (met, refl)
-stops_at n NoMemory met = none_refused (nat_lt most_weight (weight_of n.trace)) met where
-  none_refused : (b : Bool) → cond b (Some (TooMuch (weight_of n.trace) (next_event n.trace))) None ≡ Some NoMemory → n.failed ≡ true
-  none_refused true e = absurd (cc (e))
-  none_refused false e = absurd (cc (e))
+stops_at n event (Crowded count number) met = (met, refl)
+stops_at n event (TooMuch weight number) met = (met, refl)
+stops_at n event NoMemory met = none_refused (nat_lt most_weight (weight_of n.trace)) (may_send event && nat_le most_packets (counted_packets (length (seen n).under_way))) met where
+  none_refused : (a b : Bool) → cond a (Some (TooMuch (weight_of n.trace) (next_event n.trace))) (cond b (Some (Crowded (counted_packets (length (seen n).under_way)) (next_event n.trace))) None) ≡ Some NoMemory
+      → n.failed ≡ true
+  none_refused true b e = absurd (cc (e))
+  none_refused false true e = absurd (cc (e))
+  none_refused false false e = absurd (cc (e))

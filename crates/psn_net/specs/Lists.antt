@@ -14,7 +14,7 @@ use Rattle.net_base.specs.declared.trace.entry.Entry.TheVariants.{In}
 use Rattle.edge_model.specs.State.{empty_edge}
 use Rattle.provider_edge.specs.Lists.{EdgeLists}
 use Rattle.provider_edge.specs.Lists as edge
-use Rattle.psn_net.specs.Packets.{UnderWay}
+use Rattle.psn_net.specs.Packets.{ArePacketsOf, UnderWay}
 use Rattle.psn_net.specs.Pipes.{PipeLists}
 use Rattle.psn_net.specs.Pipes as pipes
 
@@ -51,6 +51,7 @@ pub record IsNetwork (n : NetLists) : Type 0 where
   pub count : length n.edges ≡ length n.plan.edges
   pub square : n.pipes.size ≡ length n.plan.edges
   pub planned : (k : ℕ) → k < length n.edges → (edge_lists n k).plan ≡ n.plan
+  pub packets : ArePacketsOf n.plan n.packets.last n.packets.list
   -- each packet that was sent and each frame that entered has an entry
   pub packets_told : n.packets.last ≤ length n.trace
   pub frames_told : n.entered ≤ length n.trace

@@ -1,5 +1,5 @@
 -- A run of the network: events one after another, up to the limit that stops one.
-use Rattle.std.specs.Prelude.{◌≡◌, ◌++◌, List, [], ◌∷◌, Option, Some, None, Result, Ok, Err}
+use Rattle.std.specs.Prelude.{◌≡◌, ◌++◌, ℕ, length, List, [], ◌∷◌, Option, Some, None, Result, Ok, Err}
 use Rattle.net_base.specs.declared.plan.Plan.{Plan}
 use Rattle.net_base.specs.declared.trace.entry.Entry.{Entry}
 use Rattle.net_base.specs.declared.trace.event.Event.{Event}
@@ -24,7 +24,7 @@ unless (Some stop) state trace rest = record { state = state; trace = trace; sto
 -- the events from a state and a trace on; the limit is looked at before each
 abbrev pub ran : Plan → NetworkState → List Entry → List Event → Ended
 ran plan state trace [] = record { state = state; trace = trace; stop = None }
-ran plan state trace (e ∷ es) = unless (stop_at trace) state trace (ran plan (step plan state e).state (trace ++ (step plan state e).entries) es)
+ran plan state trace (e ∷ es) = unless (stop_at trace (length state.under_way) e) state trace (ran plan (step plan state e).state (trace ++ (step plan state e).entries) es)
 
 -- ---- what contracts say
 
@@ -49,18 +49,18 @@ pub record HasRun (plan : Plan) (state : NetworkState) (trace : List Entry) (eve
   pub trace_is : network.trace ≡ trace ++ entries_along plan state events
 
 -- of these events those were done; the limit stopped the next one, where one did, and else all were
-pub record HasStopped (all done : List Event) (trace : List Entry) (stop : NetStop) : Type 0 where
+pub record HasStopped (all done : List Event) (trace : List Entry) (count : ℕ) (stop : NetStop) : Type 0 where
   pub event : Event
   pub rest : List Event
   pub split : all ≡ done ++ event ∷ rest
-  pub refused : stop_at trace ≡ Some stop
+  pub refused : stop_at trace count event ≡ Some stop
 
-abbrev pub AreDone : List Event → List Event → List Entry → Option NetStop → Type 0
-AreDone all done trace None = all ≡ done
-AreDone all done trace (Some stop) = HasStopped all done trace stop
+abbrev pub AreDone : List Event → List Event → List Entry → ℕ → Option NetStop → Type 0
+AreDone all done trace count None = all ≡ done
+AreDone all done trace count (Some stop) = HasStopped all done trace count stop
 
 -- a run is that of some first events
 pub record IsRunOf (plan : Plan) (state : NetworkState) (trace : List Entry) (all : List Event) (network : NetLists) (stop : Option NetStop) : Type 0 where
   pub done : List Event
-  pub are_done : AreDone all done network.trace stop
+  pub are_done : AreDone all done network.trace (length (seen network).under_way) stop
   pub ran : HasRun plan state trace done network

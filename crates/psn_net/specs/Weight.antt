@@ -1,11 +1,11 @@
 -- What a trace weighs, so that a run keeps within the memory of a machine.
-use Rattle.std.specs.Prelude.{◌≡◌, ◌≤◌, ◌+◌, ◌^◌, ◌-◌, nat_lt, min, ℕ, Bool, true, false, List, [], ◌∷◌, length, Option, Some, None, if◌then◌else◌}
+use Rattle.std.specs.Prelude.{◌≡◌, ◌≤◌, ◌+◌, ◌^◌, ◌-◌, ◌&&◌, nat_le, nat_lt, min, ℕ, Bool, true, false, List, [], ◌∷◌, length, Option, Some, None, if◌then◌else◌}
 use Rattle.net_base.specs.declared.trace.entry.Entry.{Entry}
 use Rattle.net_base.specs.declared.trace.entry.Entry.TheVariants.{Did, Said, In, Sent, Left}
 use Rattle.net_base.specs.declared.trace.event.Event.{Event}
-use Rattle.net_base.specs.declared.trace.event.Event.TheVariants.{Frame}
+use Rattle.net_base.specs.declared.trace.event.Event.TheVariants.{Frame, Arrive, Again, Ping}
 use Rattle.psn_net.specs.declared.net_stop.NetStop.{NetStop}
-use Rattle.psn_net.specs.declared.net_stop.NetStop.TheVariants.{TooMuch}
+use Rattle.psn_net.specs.declared.net_stop.NetStop.TheVariants.{Crowded, TooMuch}
 
 -- the most that a trace weighs before a further event is done
 abbrev pub most_weight : ℕ
@@ -50,6 +50,27 @@ pub record IsCounted (trace : List Entry) (weight events : ℕ) : Type 0 where
 abbrev pub next_event : List Entry → ℕ
 next_event trace = min (events_in trace + 1) (2 ^ 64 - 1)
 
--- the limit that stops the next event, where there is one
-unfoldable pub stop_at : List Entry → Option NetStop
-stop_at trace = if nat_lt most_weight (weight_of trace) then Some (TooMuch (weight_of trace) (next_event trace)) else None
+-- an event that may send a packet
+abbrev pub may_send : Event → Bool
+may_send (Frame circuit octets) = true
+may_send (Arrive number) = true
+may_send (Again number) = true
+may_send (Ping edge wire) = true
+may_send event = false
+
+-- so many packets are under way at most before an event that may send one is done
+abbrev pub most_packets : ℕ
+most_packets = 65536
+
+-- the number of packets under way is counted up to 2^32 - 1
+abbrev pub counted_packets : ℕ → ℕ
+counted_packets count = min count (2 ^ 32 - 1)
+
+abbrev pub crowd_at : List Entry → ℕ → Event → Option NetStop
+crowd_at trace count event =
+    if may_send event && nat_le most_packets (counted_packets count) then Some (Crowded (counted_packets count) (next_event trace)) else None
+
+-- the limit that stops an event, where there is one: the trace is too heavy, or so many packets are under way already
+unfoldable pub stop_at : List Entry → ℕ → Event → Option NetStop
+stop_at trace count event =
+    if nat_lt most_weight (weight_of trace) then Some (TooMuch (weight_of trace) (next_event trace)) else crowd_at trace count event

@@ -6,7 +6,8 @@ use thiserror::Error;
 /// Why a network did not do an event. `event` is the number of that event, counted from 1.
 #[derive(Clone, Copy, Debug, PartialEq, Eq, Error)]
 pub enum NetStop {
-    /// 65,536 or more packets are under way, and the event would send one. Network and trace are as they were.
+    /// 65,536 or more packets are under way, and the event may send one: a frame, an arrival, a repetition or a ping. Network
+    /// and trace are as they were.
     #[error("Crowded {count} {event}")]
     Crowded { count: u32, event: u64 },
     /// The trace weighs more than 268,435,456. Network and trace are as they were.

@@ -5,6 +5,7 @@ ghost use Rattle.net_base.specs.plan.Planned.{IsEventOf};
 ghost use Rattle.provider_edge.specs.Lists.{seen as seen_edge};
 ghost use Rattle.network_model.specs.Connection.{is_deliverable};
 ghost use Rattle.network_model.specs.Delivery.{first_pair, next_delivery};
+ghost use Rattle.network_model.specs.Packet.{next_arrival};
 ghost use Rattle.network_model.specs.State.{at_edge, empty_network};
 ghost use Rattle.network_model.specs.Step.{step};
 ghost use Rattle.psn_net.specs.Applying.{Stops};
@@ -65,17 +66,19 @@ impl Network {
     /// Does one event, and adds to the trace what it tells. The event names places of the plan, and its numbers are in
     /// their ranges; a frame has at most 262,144 octets.
     ///
-    /// `TooMuch` exactly where the trace already weighs more than 268,435,456; network and trace are then as they were.
-    /// `NoMemory` where memory was refused; from then on the network is given up, and answers the same to every event.
+    /// `TooMuch` exactly where the trace already weighs more than 268,435,456, and else `Crowded` exactly where the event may
+    /// send a packet (a frame, an arrival, a repetition or a ping) and 65,536 or more are under way; network and trace are
+    /// then as they were. `NoMemory` where memory was refused; from then on the network is given up, and answers the same to
+    /// every event.
     #[tactic(auto, using(crate::proofs::KeptLemmas::indexed_beside, crate::proofs::IndexLemmas::indexed_still))]
     pub fn apply(&mut self, alloc: Global, event: &Event) -> Result<(), NetStop>
         requires { IsEventOf self.old.plan event.now }
         ensures plan { self.new.plan ≡ self.old.plan }
         ensures state { OnOk result (seen self.new ≡ (step self.old.plan (seen self.old) event.now).state) }
         ensures told { OnOk result (self.new.trace ≡ self.old.trace ++ (step self.old.plan (seen self.old) event.now).entries) }
-        ensures within { OnOk result (stop_at self.old.trace ≡ None) }
+        ensures within { OnOk result (stop_at self.old.trace (length (seen self.old).under_way) event.now ≡ None) }
         ensures going { OnOk result ((self.old.failed ≡ false) × (self.new.failed ≡ false)) }
-        ensures stops { IfErr result (Stops self.old self.new) }
+        ensures stops { IfErr result (Stops self.old self.new event.now) }
         ensures given_up { self.old.failed ≡ true → IfErr result (λ stop. stop ≡ NetStop.NoMemory) }
     {
         self.parts.apply(alloc, event)?;
@@ -96,6 +99,15 @@ impl Network {
             to: EdgeId(to as u16),
             count: MOST_OCTETS,
         })
+    }
+
+    /// The next arrival: the packet under way with the lowest number. `None` exactly where none is under way. It is found
+    /// in logarithmic time.
+    pub fn next_arrival(&self) -> Option<Event>
+        ensures next { result ≡ next_arrival (seen self.now) }
+        ensures planned { IfSome result (IsEventOf self.now.plan) }
+    {
+        self.parts.next_arrival()
     }
 
     // The first two edges that have something to deliver. After memory was refused the index may lack something.

@@ -1,5 +1,8 @@
 //! The packets under way.
-ghost use Rattle.std.specs.Prelude.{◌≡◌, ◌<◌, ◌+◌, ◌++◌, ◌∷◌, ◌^◌, [], length, IfOk, OnErr, OnOk};
+ghost use Rattle.std.specs.Prelude.{◌≡◌, ◌<◌, ◌+◌, ◌++◌, ◌∷◌, ◌^◌, [], length, slice_get, option_copied, IfOk, OnErr, OnOk};
+ghost use Rattle.std.specs.List.{find};
+ghost use Rattle.network_model.specs.State.{without_number};
+ghost use Rattle.psn_net.specs.Packets.{is_numbered};
 
 use net_base::{EdgeId, NoMemory, Octets, WireId};
 use network_model::Packet;
@@ -7,8 +10,8 @@ use std::alloc::Global;
 use std::collections::BTreeMap;
 use std::marker::Model;
 
-/// The packets under way, and the number of the last one that was sent. A packet is added in logarithmic time. Contracts
-/// see the packets by rising number.
+/// The packets under way, and the number of the last one that was sent. One is found, taken out and added in logarithmic
+/// time. Contracts see the packets by rising number.
 #[derive(Debug, Drop)]
 pub struct Packets {
     by_number: BTreeMap<u64, Packet>,
@@ -49,6 +52,34 @@ impl Packets {
         ensures { result ≡ self.now.last }
     {
         self.last
+    }
+
+    /// The packet with a number, where it is under way.
+    #[tactic(auto, using(crate::proofs::PacketLemmas::kept_steps))]
+    pub fn get(&self, number: u64) -> Option<&Packet>
+        ensures { option_copied result ≡ find (is_numbered number) self.now.list }
+    {
+        self.by_number.get(&number)
+    }
+
+    /// Takes out the packet with a number, where it is under way.
+    #[tactic(auto, using(crate::proofs::PacketLemmas::kept_steps))]
+    pub fn take(&mut self, number: u64) -> Option<Packet>
+        ensures packet { result ≡ find (is_numbered number) self.old.list }
+        ensures rest { self.new ≡ record self.old { list = without_number number self.old.list } }
+    {
+        self.by_number.remove(&number)
+    }
+
+    /// The packet under way with the lowest number.
+    #[tactic(auto, using(crate::proofs::PacketLemmas::kept_steps))]
+    pub fn first(&self) -> Option<&Packet>
+        ensures { option_copied result ≡ slice_get self.now.list 0 }
+    {
+        match self.by_number.first_key_value() {
+            Some((_, packet)) => Some(packet),
+            None => None,
+        }
     }
 
     /// A packet is sent and has the next number. After `NoMemory` nothing has changed.

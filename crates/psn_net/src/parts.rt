@@ -11,13 +11,14 @@ ghost use Rattle.network_model.specs.State.{at_edge, empty_network};
 ghost use Rattle.network_model.specs.Step.{brings, step};
 ghost use Rattle.psn_net.specs.Applying.{Stops};
 ghost use Rattle.psn_net.specs.Lists.{HasDriven, HasRoom, HasStepped, Keeps, seen};
-ghost use Rattle.psn_net.specs.Weight.{stop_at, weight_of};
+ghost use Rattle.psn_net.specs.Weight.{may_send, stop_at, weight_of};
 
 mod absorb;
 mod connections;
 mod events;
 mod lookups;
 mod opening;
+mod packets;
 
 use crate::NetStop;
 use crate::ledger::Ledger;
@@ -34,6 +35,9 @@ use std::rc::Rc;
 
 /// The most that a trace weighs before a further event is done.
 const MOST_WEIGHT: u64 = 268_435_456;
+
+/// So many packets are under way at most before an event that may send one is done.
+const MOST_PACKETS: u32 = 65_536;
 
 /// The edges of a plan, what is on its way between them, and the trace of what has happened. Contracts see it as lists by
 /// the plan's places, and by `seen` as the state of the network.
@@ -85,23 +89,25 @@ impl Parts {
     /// Does one event, and adds to the trace what it tells. The event names places of the plan, and its numbers are in
     /// their ranges; a frame has at most 262,144 octets.
     ///
-    /// `TooMuch` exactly where the trace already weighs more than 268,435,456; network and trace are then as they were.
-    /// `NoMemory` where memory was refused; from then on the network is given up, and answers the same to every event.
+    /// `TooMuch` exactly where the trace already weighs more than 268,435,456, and else `Crowded` exactly where the event may
+    /// send a packet (a frame, an arrival, a repetition or a ping) and 65,536 or more are under way; network and trace are
+    /// then as they were. `NoMemory` where memory was refused; from then on the network is given up, and answers the same to
+    /// every event.
     #[tactic(auto, using(crate::proofs::WeightLemmas::stops_at))]
     pub fn apply(&mut self, alloc: Global, event: &Event) -> Result<(), NetStop>
         requires { IsEventOf self.old.plan event.now }
         ensures plan { self.new.plan ≡ self.old.plan }
         ensures state { OnOk result (seen self.new ≡ (step self.old.plan (seen self.old) event.now).state) }
         ensures told { OnOk result (self.new.trace ≡ self.old.trace ++ (step self.old.plan (seen self.old) event.now).entries) }
-        ensures within { OnOk result (stop_at self.old.trace ≡ None) }
+        ensures within { OnOk result (stop_at self.old.trace (length (seen self.old).under_way) event.now ≡ None) }
         ensures going { OnOk result ((self.old.failed ≡ false) × (self.new.failed ≡ false)) }
-        ensures stops { IfErr result (Stops self.old self.new) }
+        ensures stops { IfErr result (Stops self.old self.new event.now) }
         ensures given_up { self.old.failed ≡ true → IfErr result (λ stop. stop ≡ NetStop.NoMemory) }
     {
         if self.failed {
             return Err(NetStop::NoMemory);
         }
-        if let Some(stop) = self.refusal() {
+        if let Some(stop) = self.refusal(event) {
             return Err(stop);
         }
         match self.work(alloc, event) {
@@ -113,19 +119,26 @@ impl Parts {
         }
     }
 
-    // The limit that stops the next event, where there is one.
+    // The limit that stops an event, where there is one.
     #[tactic(auto, unfolding(crate::specs::Weight::stop_at))]
-    fn refusal(&self) -> Option<NetStop>
-        ensures { result ≡ stop_at self.now.trace }
+    fn refusal(&self, event: &Event) -> Option<NetStop>
+        ensures { result ≡ stop_at self.now.trace (length (seen self.now).under_way) event.now }
     {
         let weight = self.ledger.weight();
-        if weight <= MOST_WEIGHT {
-            return None;
+        if weight > MOST_WEIGHT {
+            return Some(NetStop::TooMuch {
+                weight,
+                event: self.ledger.next_event(),
+            });
         }
-        Some(NetStop::TooMuch {
-            weight,
-            event: self.ledger.next_event(),
-        })
+        let count = self.under_way();
+        if may_send(event) && count >= MOST_PACKETS {
+            return Some(NetStop::Crowded {
+                count,
+                event: self.ledger.next_event(),
+            });
+        }
+        None
     }
 
     // Tells the event, and then does it.
@@ -154,6 +167,9 @@ impl Parts {
             Event::Restart { edge } => self.restart(alloc, *edge),
             Event::Tick => self.tick(alloc),
             Event::Frame { circuit, bytes } => self.frame(alloc, *circuit, bytes.as_slice()),
+            Event::Arrive { packet } => self.arrive(alloc, *packet),
+            Event::Discard { packet } => self.discard(*packet),
+            Event::Again { packet } => self.again(alloc, *packet),
             Event::Wire { edge, wire, on } => self.wire(alloc, *edge, *wire, *on),
             Event::Circuit { circuit, on } => self.circuit(alloc, *circuit, *on),
             Event::Status { edge, wire, bits } => self.status(alloc, *edge, *wire, *bits),
@@ -194,6 +210,7 @@ impl Parts {
         requires range { IsInRange input }
         ensures keeps { Keeps self.old self.new }
         ensures room { HasRoom self.old → HasRoom self.new }
+        ensures last { self.new.packets.last ≡ self.old.packets.last }
         ensures driven { IfOk result (HasDriven me self.old self.new (edge_step self.old.plan taken_all input.entry (begin_at (seen self.old) me))) }
         ensures fit { IfOk result (λ effects. AllFit self.old.plan effects.list) }
     {
@@ -249,4 +266,14 @@ impl Parts {
     {
         self.ledger.weight()
     }
+}
+
+// Whether an event may send a packet.
+fn may_send(event: &Event) -> bool
+    ensures { result ≡ may_send event.now }
+{
+    matches!(
+        event,
+        Event::Frame { .. } | Event::Arrive { .. } | Event::Again { .. } | Event::Ping { .. }
+    )
 }

@@ -96,6 +96,16 @@ impl PlaceList {
         self.list.as_slice().iter().any(|place| place.wire == wire)
     }
 
+    /// The first slot of a terminal end of a wire.
+    pub(crate) fn terminal(&self, wire: WireId) -> Option<usize>
+        ensures { result ≡ position (is_end_of_wire wire) self.now }
+    {
+        self.list
+            .as_slice()
+            .iter()
+            .position(|place| place.wire == wire && place.terminal)
+    }
+
     /// Whether the edge is a terminal edge of the wire.
     pub(crate) fn ends_here(&self, wire: WireId) -> bool
         ensures { result ≡ list_any (is_end_of_wire wire) self.now }

@@ -123,6 +123,13 @@ impl PwEnds {
         self.places.ends_here(wire)
     }
 
+    /// The slot of the end of a wire of which the edge is a terminal edge; `None` exactly where it is none.
+    pub fn terminal(&self, wire: WireId) -> Option<usize>
+        ensures slot { result ≡ position (is_end_of_wire wire) self.now.places }
+    {
+        self.places.terminal(wire)
+    }
+
     /// The end of a slot. Where it advertises, its PW type has 15 bits.
     #[tactic(auto, using(crate::proofs::SlotLemmas::seen_at, crate::proofs::KeptLemmas::slot_within, crate::proofs::KeptLemmas::ends_at, pw_signalling::proofs::EndsLemmas::moves))]
     pub fn end(&self, slot: usize) -> &PwEnd

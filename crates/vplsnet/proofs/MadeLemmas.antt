@@ -6,6 +6,7 @@ use Rattle.net_base.specs.declared.trace.entry.Entry.{Entry}
 use Rattle.net_base.specs.declared.trace.event.Event.{Event}
 use Rattle.net_base.specs.declared.trace.event.Event.TheVariants.{Tick}
 use Rattle.network_model.specs.Delivery.{next_delivery}
+use Rattle.network_model.specs.Packet.{next_arrival}
 use Rattle.network_model.specs.Run.{state_after}
 use Rattle.network_model.specs.State.{NetworkState}
 use Rattle.network_model.specs.Step.{step}
@@ -14,7 +15,7 @@ use Rattle.psn_net.specs.Lists.{NetLists, seen}
 use Rattle.psn_net.specs.Runs.{Ended, Halts, ended, ran}
 use Rattle.psn_net.proofs.RunLemmas.{halts_on, ran_on, ran_state}
 use Rattle.scenario_text.specs.declared.command.Command.{Command}
-use Rattle.vplsnet.specs.Made.{deliveries, event_and, made, made_by, ticks}
+use Rattle.vplsnet.specs.Made.{arrivals, deliveries, event_and, made, made_by, ticks, turns}
 
 made_on : (plan : Plan) (n : NetLists) (s : NetworkState) (t : List Entry) (c : Command) (cs : List Command)
     → ended n None ≡ ran plan s t (made_by plan s c) → ran plan (seen n) n.trace (made plan (seen n) cs) ≡ ran plan s t (made plan s (c ∷ cs))
@@ -54,37 +55,71 @@ tick_err_at plan n stop s t count i below h =
 
 pub ruleset tick_steps = (tick_on_at, tick_err_at, ticks_end)
 
--- ---- deliveries
+-- ---- turns: the next event of a kind, so many times
 
-deliveries_more : (plan : Plan) (s : NetworkState) (n i : ℕ) (event : Event) → i < n → next_delivery plan s ≡ Some event
-    → deliveries plan (n - i) s ≡ event ∷ deliveries plan (n - (i + 1)) (step plan s event).state
-deliveries_more plan s n i event h found =
+turns_more : (plan : Plan) (next : NetworkState → Option Event) (s : NetworkState) (n i : ℕ) (event : Event) → i < n → next s ≡ Some event
+    → turns plan next (n - i) s ≡ event ∷ turns plan next (n - (i + 1)) (step plan s event).state
+turns_more plan next s n i event h found =
     let e : n - i ≡ suc (n - (i + 1)) = omega arith in
-    ap (λ (k : ℕ). deliveries plan k s) e ∙ ap (λ (o : Option Event). event_and o (λ next. deliveries plan (n - (i + 1)) (step plan s next).state)) found
+    ap (λ (k : ℕ). turns plan next k s) e ∙ ap (λ (o : Option Event). event_and o (λ it. turns plan next (n - (i + 1)) (step plan s it).state)) found
 
--- no further delivery is done at the end of the count, and none where none is left
-pub deliveries_end : (plan : Plan) (s : NetworkState) (n i : ℕ) → n ≤ i → deliveries plan (n - i) s ≡ []
-deliveries_end plan s n i h = let e : n - i ≡ 0 = omega arith in rw e refl
+-- no further turn is done at the end of the count, and none where there is no next event
+turns_end : (plan : Plan) (next : NetworkState → Option Event) (s : NetworkState) (n i : ℕ) → n ≤ i → turns plan next (n - i) s ≡ []
+turns_end plan next s n i h = let e : n - i ≡ 0 = omega arith in rw e refl
 
-pub deliveries_none : (plan : Plan) (s : NetworkState) (n : ℕ) → next_delivery plan s ≡ None → deliveries plan n s ≡ []
-deliveries_none plan s zero none = refl
-deliveries_none plan s (suc n) none = ap (λ (o : Option Event). event_and o (λ next. deliveries plan n (step plan s next).state)) none
+turns_none : (plan : Plan) (next : NetworkState → Option Event) (s : NetworkState) (n : ℕ) → next s ≡ None → turns plan next n s ≡ []
+turns_none plan next s zero none = refl
+turns_none plan next s (suc n) none = ap (λ (o : Option Event). event_and o (λ it. turns plan next n (step plan s it).state)) none
 
 -- the state after an event that was done
-delivered : (plan : Plan) (n : NetLists) (s : NetworkState) (t : List Entry) (event : Event) → ended n None ≡ ran plan s t (event ∷ []) → seen n ≡ (step plan s event).state
-delivered plan n s t event h = ap (λ (r : Ended). r.state) h ∙ ran_state plan s t (event ∷ []) (sym (ap (λ (r : Ended). r.stop) h))
+after_one : (plan : Plan) (n : NetLists) (s : NetworkState) (t : List Entry) (event : Event) → ended n None ≡ ran plan s t (event ∷ []) → seen n ≡ (step plan s event).state
+after_one plan n s t event h = ap (λ (r : Ended). r.state) h ∙ ran_state plan s t (event ∷ []) (sym (ap (λ (r : Ended). r.stop) h))
+
+turn_on_at : (plan : Plan) (next : NetworkState → Option Event) (n : NetLists) (s : NetworkState) (t : List Entry) (count i : ℕ) (event : Event) → i < count → next s ≡ Some event
+    → ended n None ≡ ran plan s t (event ∷ []) → ran plan (seen n) n.trace (turns plan next (count - (i + 1)) (seen n)) ≡ ran plan s t (turns plan next (count - i) s)
+turn_on_at plan next n s t count i event below found h =
+    ap (λ (q : NetworkState). ran plan (seen n) n.trace (turns plan next (count - (i + 1)) q)) (after_one plan n s t event h)
+    ∙ (ran_on plan s t (event ∷ []) (turns plan next (count - (i + 1)) (step plan s event).state) n h
+    ∙ sym (ap (λ (es : List Event). ran plan s t es) (turns_more plan next s count i event below found)))
+
+turn_err_at : (plan : Plan) (next : NetworkState → Option Event) (n : NetLists) (stop : NetStop) (s : NetworkState) (t : List Entry) (count i : ℕ) (event : Event) → i < count → next s ≡ Some event
+    → Halts stop n (ran plan s t (event ∷ [])) → Halts stop n (ran plan s t (turns plan next (count - i) s))
+turn_err_at plan next n stop s t count i event below found h =
+    subst (λ (es : List Event). Halts stop n (ran plan s t es)) (sym (turns_more plan next s count i event below found))
+    (halts_on plan s t (event ∷ []) (turns plan next (count - (i + 1)) (step plan s event).state) n stop h)
+
+-- ---- deliveries
+
+pub deliveries_end : (plan : Plan) (s : NetworkState) (n i : ℕ) → n ≤ i → deliveries plan (n - i) s ≡ []
+deliveries_end plan s n i h = turns_end plan (next_delivery plan) s n i h
+
+pub deliveries_none : (plan : Plan) (s : NetworkState) (n : ℕ) → next_delivery plan s ≡ None → deliveries plan n s ≡ []
+deliveries_none plan s n none = turns_none plan (next_delivery plan) s n none
 
 pub delivery_on_at : (plan : Plan) (n : NetLists) (s : NetworkState) (t : List Entry) (count i : ℕ) (event : Event) → i < count → next_delivery plan s ≡ Some event
     → ended n None ≡ ran plan s t (event ∷ []) → ran plan (seen n) n.trace (deliveries plan (count - (i + 1)) (seen n)) ≡ ran plan s t (deliveries plan (count - i) s)
-delivery_on_at plan n s t count i event below found h =
-    ap (λ (q : NetworkState). ran plan (seen n) n.trace (deliveries plan (count - (i + 1)) q)) (delivered plan n s t event h)
-    ∙ (ran_on plan s t (event ∷ []) (deliveries plan (count - (i + 1)) (step plan s event).state) n h
-    ∙ sym (ap (λ (es : List Event). ran plan s t es) (deliveries_more plan s count i event below found)))
+delivery_on_at plan n s t count i event below found h = turn_on_at plan (next_delivery plan) n s t count i event below found h
 
 pub delivery_err_at : (plan : Plan) (n : NetLists) (stop : NetStop) (s : NetworkState) (t : List Entry) (count i : ℕ) (event : Event) → i < count → next_delivery plan s ≡ Some event
     → Halts stop n (ran plan s t (event ∷ [])) → Halts stop n (ran plan s t (deliveries plan (count - i) s))
-delivery_err_at plan n stop s t count i event below found h =
-    subst (λ (es : List Event). Halts stop n (ran plan s t es)) (sym (deliveries_more plan s count i event below found))
-    (halts_on plan s t (event ∷ []) (deliveries plan (count - (i + 1)) (step plan s event).state) n stop h)
+delivery_err_at plan n stop s t count i event below found h = turn_err_at plan (next_delivery plan) n stop s t count i event below found h
 
 pub ruleset delivery_steps = (delivery_on_at, delivery_err_at, deliveries_end, deliveries_none)
+
+-- ---- arrivals
+
+pub arrivals_end : (plan : Plan) (s : NetworkState) (n i : ℕ) → n ≤ i → arrivals plan (n - i) s ≡ []
+arrivals_end plan s n i h = turns_end plan next_arrival s n i h
+
+pub arrivals_none : (plan : Plan) (s : NetworkState) (n : ℕ) → next_arrival s ≡ None → arrivals plan n s ≡ []
+arrivals_none plan s n none = turns_none plan next_arrival s n none
+
+pub arrival_on_at : (plan : Plan) (n : NetLists) (s : NetworkState) (t : List Entry) (count i : ℕ) (event : Event) → i < count → next_arrival s ≡ Some event
+    → ended n None ≡ ran plan s t (event ∷ []) → ran plan (seen n) n.trace (arrivals plan (count - (i + 1)) (seen n)) ≡ ran plan s t (arrivals plan (count - i) s)
+arrival_on_at plan n s t count i event below found h = turn_on_at plan next_arrival n s t count i event below found h
+
+pub arrival_err_at : (plan : Plan) (n : NetLists) (stop : NetStop) (s : NetworkState) (t : List Entry) (count i : ℕ) (event : Event) → i < count → next_arrival s ≡ Some event
+    → Halts stop n (ran plan s t (event ∷ [])) → Halts stop n (ran plan s t (arrivals plan (count - i) s))
+arrival_err_at plan n stop s t count i event below found h = turn_err_at plan next_arrival n stop s t count i event below found h
+
+pub ruleset arrival_steps = (arrival_on_at, arrival_err_at, arrivals_end, arrivals_none)

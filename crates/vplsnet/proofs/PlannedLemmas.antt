@@ -1,5 +1,5 @@
 -- The events that the commands of an accepted scenario make speak of its plan.
-use Rattle.std.proofs.Common.{◌≡◌, ◌<◌, ◌+◌, ◌++◌, ◌∷◌, ◌∙◌, [], ℕ, zero, suc, Bool, true, false, List, Option, Some, None, cond, refl, sym, ap, arith, length, option_map, inl, inr}
+use Rattle.std.proofs.Common.{◌≡◌, ◌<◌, ◌+◌, ◌++◌, ◌∷◌, ◌∙◌, [], ℕ, zero, suc, Bool, true, false, List, Option, Some, None, cond, refl, sym, ap, subst, arith, length, option_map, slice_get, inl, inr}
 use Rattle.std.proofs.lemmas.Bool.{cases_Bool}
 use Rattle.std.proofs.lemmas.List.Elements.{All-append, All-cons, All-head, All-nil, All-tail}
 use Rattle.std.specs.List.{All}
@@ -9,13 +9,15 @@ use Rattle.net_base.specs.declared.trace.event.Event.TheVariants.{Tick}
 use Rattle.net_base.specs.plan.Planned.{IsEventOf}
 use Rattle.network_model.specs.Connection.{is_deliverable}
 use Rattle.network_model.specs.Delivery.{delivery_of, first_from, first_pair, next_delivery, pair_or}
+use Rattle.network_model.specs.declared.packet.Packet.{Packet}
+use Rattle.network_model.specs.Packet.{arrival_of, next_arrival}
 use Rattle.network_model.specs.Run.{state_after}
 use Rattle.network_model.specs.State.{NetworkState}
 use Rattle.network_model.specs.Step.{step}
 use Rattle.scenario_text.specs.declared.command.Command.{Command}
 use Rattle.scenario_text.specs.declared.command.Command.TheVariants.{One, Settle, Flow, Ticks, Play}
 use Rattle.scenario_text.specs.Planned.{IsPlanned}
-use Rattle.vplsnet.specs.Made.{deliveries, event_and, made, made_by, ticks, turns}
+use Rattle.vplsnet.specs.Made.{arrivals, deliveries, event_and, made, made_by, ticks, turns}
 
 -- the first ones of a list
 pub All-first : {X : Type 0} (P : X → Type 0) (xs ys : List X) → All P (xs ++ ys) → All P xs
@@ -71,19 +73,32 @@ ticks_planned : (plan : Plan) (count : ℕ) → All (IsEventOf plan) (ticks coun
 ticks_planned plan zero = All-nil (IsEventOf plan)
 ticks_planned plan (suc n) = All-cons (IsEventOf plan) Tick (ticks n) tt (ticks_planned plan n)
 
-deliveries_planned : (plan : Plan) (count : ℕ) (network : NetworkState) → All (IsEventOf plan) (deliveries plan count network)
-deliveries_planned plan zero network = All-nil (IsEventOf plan)
-deliveries_planned plan (suc n) network = by (next_delivery plan network) refl (deliveries_planned plan n) where
-  by : (next : Option Event) → next_delivery plan network ≡ next → ((later : NetworkState) → All (IsEventOf plan) (deliveries plan n later))
-      → All (IsEventOf plan) (event_and next (λ event. turns plan (next_delivery plan) n (step plan network event).state))
+turns_planned : (plan : Plan) (next : NetworkState → Option Event) (count : ℕ) (network : NetworkState) → ((n : NetworkState) (event : Event) → next n ≡ Some event → IsEventOf plan event)
+    → All (IsEventOf plan) (turns plan next count network)
+turns_planned plan next zero network all = All-nil (IsEventOf plan)
+turns_planned plan next (suc n) network all = by (next network) refl (λ later. turns_planned plan next n later all) where
+  by : (found : Option Event) → next network ≡ found → ((later : NetworkState) → All (IsEventOf plan) (turns plan next n later))
+      → All (IsEventOf plan) (event_and found (λ event. turns plan next n (step plan network event).state))
   by None is again = All-nil (IsEventOf plan)
   by (Some event) is again =
-      All-cons (IsEventOf plan) event (deliveries plan n (step plan network event).state) (next_planned plan network event is) (again (step plan network event).state)
+      All-cons (IsEventOf plan) event (turns plan next n (step plan network event).state) (all network event is) (again (step plan network event).state)
+
+deliveries_planned : (plan : Plan) (count : ℕ) (network : NetworkState) → All (IsEventOf plan) (deliveries plan count network)
+deliveries_planned plan count network = turns_planned plan (next_delivery plan) count network (next_planned plan)
+
+arrival_planned : (plan : Plan) (packet : Option Packet) (event : Event) → option_map arrival_of packet ≡ Some event → IsEventOf plan event
+arrival_planned plan None event found = absurd (cc (found))
+arrival_planned plan (Some packet) event found =
+    let same : arrival_of packet ≡ event = cc (found) in
+    subst (IsEventOf plan) same tt
+
+arrivals_planned : (plan : Plan) (count : ℕ) (network : NetworkState) → All (IsEventOf plan) (arrivals plan count network)
+arrivals_planned plan count network = turns_planned plan next_arrival count network (λ n event found. arrival_planned plan (slice_get n.under_way 0) event found)
 
 made_by_planned : (plan : Plan) (network : NetworkState) (command : Command) → IsPlanned plan command → All (IsEventOf plan) (made_by plan network command)
 made_by_planned plan network (One event) planned = All-cons (IsEventOf plan) event [] planned (All-nil (IsEventOf plan))
 made_by_planned plan network (Settle count) planned = deliveries_planned plan count network
-made_by_planned plan network (Flow count) planned = All-nil (IsEventOf plan)
+made_by_planned plan network (Flow count) planned = arrivals_planned plan count network
 made_by_planned plan network (Ticks count) planned = ticks_planned plan count
 made_by_planned plan network (Play circuit file) planned = All-nil (IsEventOf plan)
 

@@ -1,5 +1,5 @@
 -- The run of an accepted scenario keeps every promise.
-use Rattle.std.proofs.Common.{◌≡◌, ◌++◌, ◌∷◌, true, ℕ, List, [], Option, Some, None, Ok, subst, sym}
+use Rattle.std.proofs.Common.{◌≡◌, ◌++◌, ◌∷◌, true, ℕ, List, [], Option, Some, None, Ok, length, subst, sym}
 use Rattle.std.specs.List.{All}
 use Rattle.net_base.specs.declared.plan.Plan.{Plan}
 use Rattle.net_base.specs.declared.trace.entry.Entry.{Entry}
@@ -11,12 +11,12 @@ use Rattle.flight_model.specs.Laws.{IsRun}
 use Rattle.flight_model.proofs.BoundRunLemmas.{runs_agree_after_flight, runs_settle}
 use Rattle.flight_model.proofs.RuledRunLemmas.{runs_keep_label_rule, runs_keep_told_rule}
 use Rattle.flight_model.proofs.RunLemmas.{runs_come_up, runs_end_well, runs_follow_table}
-use Rattle.network_model.proofs.IsolatedLemmas.{run_isolated}
 use Rattle.network_model.proofs.SplitLemmas.{run_split}
 use Rattle.network_model.proofs.KnownLemmas.{run_serves_known_once}
 use Rattle.network_model.proofs.OnceLemmas.{run_serves_once}
+use Rattle.packet_model.proofs.RunLemmas.{runs_are_isolated, runs_keep_packet_rule}
 use Rattle.psn_net.specs.declared.net_stop.NetStop.{NetStop}
-use Rattle.psn_net.specs.Lists.{NetLists}
+use Rattle.psn_net.specs.Lists.{NetLists, seen}
 use Rattle.psn_net.specs.Runs.{AreDone, IsRunOf}
 use Rattle.psn_net.proofs.RunLemmas.{run_of}
 use Rattle.scenario_text.specs.declared.scenario.Scenario.{Scenario}
@@ -38,8 +38,9 @@ run_of_first plan events before after joined run = record {
 
 promises_kept : (plan : Plan) (events : List Event) → IsRun plan events → KeepsPromises plan events
 promises_kept plan events run = record {
-  isolated = run_isolated plan events run.checked;
+  isolated = runs_are_isolated plan events run;
   split = run_split plan events run.checked;
+  packets = λ before after joined. runs_keep_packet_rule plan before (first before after joined);
   once = run_serves_once plan events run.checked;
   known = run_serves_known_once plan events run.checked;
   table = λ before after joined a b. runs_follow_table plan before (first before after joined) a b;
@@ -55,9 +56,9 @@ promises_kept plan events run = record {
     first before after joined = run_of_first plan events before after joined run
 
 -- the events that were done are the first ones of all
-done_first : (plan : Plan) (all done : List Event) (trace : List Entry) (stop : Option NetStop) → AreDone all done trace stop → All (IsEventOf plan) all → All (IsEventOf plan) done
-done_first plan all done trace None same planned = subst (λ (es : List Event). All (IsEventOf plan) es) same planned
-done_first plan all done trace (Some stop) stopped planned =
+done_first : (plan : Plan) (all done : List Event) (trace : List Entry) (count : ℕ) (stop : Option NetStop) → AreDone all done trace count stop → All (IsEventOf plan) all → All (IsEventOf plan) done
+done_first plan all done trace count None same planned = subst (λ (es : List Event). All (IsEventOf plan) es) same planned
+done_first plan all done trace count (Some stop) stopped planned =
     All-first (IsEventOf plan) done (stopped.event ∷ stopped.rest) (subst (λ (es : List Event). All (IsEventOf plan) es) stopped.split planned)
 
 is_replay : (octets text : List ℕ) (scenario : Scenario) (network : Option NetLists) (outcome : Outcome) → document octets ≡ Ok scenario → is_built scenario ≡ true → IsChecked scenario.plan
@@ -66,7 +67,7 @@ is_replay octets text scenario network outcome reads built checked planned has =
     let run : IsRunOf scenario.plan (empty_network scenario.plan) [] (events_of scenario) has.left has.reason =
     run_of scenario.plan (empty_network scenario.plan) [] (events_of scenario) has.left has.reason has.ends in
     let done : All (IsEventOf scenario.plan) run.done =
-    done_first scenario.plan (events_of scenario) run.done has.left.trace has.reason run.are_done (made_planned scenario.plan (empty_network scenario.plan) scenario.commands planned) in
+    done_first scenario.plan (events_of scenario) run.done has.left.trace (length (seen has.left).under_way) has.reason run.are_done (made_planned scenario.plan (empty_network scenario.plan) scenario.commands planned) in
     record {
       scenario = scenario;
       reads = reads;

@@ -6,9 +6,9 @@ use Rattle.net_base.specs.declared.plan.wire_plan.WirePlan.{WirePlan}
 use Rattle.net_base.specs.declared.plan.wire_plan.Class.{Class}
 use Rattle.net_base.specs.declared.plan.wire_plan.Class.TheVariants.{Mesh, Spoke}
 use Rattle.net_base.specs.declared.trace.event.Event.{Event}
-use Rattle.net_base.specs.declared.trace.event.Event.TheVariants.{Connect, Deliver, Lose, Restart, Tick, Frame, Wire, Circuit, Status}
+use Rattle.net_base.specs.declared.trace.event.Event.TheVariants.{Priority, Ping}
 use Rattle.scenario_text.specs.declared.command.Command.{Command}
-use Rattle.scenario_text.specs.declared.command.Command.TheVariants.{One, Settle, Ticks}
+use Rattle.scenario_text.specs.declared.command.Command.TheVariants.{One, Play}
 use Rattle.scenario_text.specs.declared.scenario.Scenario.{Scenario}
 
 -- an end offers no control channel
@@ -24,26 +24,17 @@ is_built_class Spoke = false
 abbrev pub is_built_wire : WirePlan → Bool
 is_built_wire row = (is_built_class row.class && length row.path == 2) && (is_built_offer row.near.vccv && is_built_offer row.far.vccv)
 
--- connections and what befalls them, ticks, wires and circuits that are turned, statuses, and, where there is no wire, frames
-abbrev pub is_built_event : Bool → Event → Bool
-is_built_event wireless (Connect from to) = true
-is_built_event wireless (Deliver from to count) = true
-is_built_event wireless (Lose edge peer) = true
-is_built_event wireless (Restart edge) = true
-is_built_event wireless Tick = true
-is_built_event wireless (Frame circuit octets) = wireless
-is_built_event wireless (Wire edge wire on) = true
-is_built_event wireless (Circuit circuit on) = true
-is_built_event wireless (Status edge wire bits) = true
-is_built_event wireless event = false
+-- connections and what befalls them, ticks, wires and circuits that are turned, statuses, frames and packets
+abbrev pub is_built_event : Event → Bool
+is_built_event (Priority edge wire priority) = false
+is_built_event (Ping edge wire) = false
+is_built_event event = true
 
-abbrev pub is_built_command : Bool → Command → Bool
-is_built_command wireless (One event) = is_built_event wireless event
-is_built_command wireless (Settle count) = true
-is_built_command wireless (Ticks count) = true
-is_built_command wireless command = false
+abbrev pub is_built_command : Command → Bool
+is_built_command (One event) = is_built_event event
+is_built_command (Play circuit file) = false
+is_built_command command = true
 
 -- such wires and such commands alone
 abbrev pub is_built : Scenario → Bool
-is_built scenario =
-    list_all is_built_wire scenario.plan.wires && list_all (is_built_command (length scenario.plan.wires == 0)) scenario.commands
+is_built scenario = list_all is_built_wire scenario.plan.wires && list_all is_built_command scenario.commands

@@ -4,11 +4,12 @@ use Rattle.net_base.specs.declared.plan.Plan.{Plan}
 use Rattle.net_base.specs.declared.trace.event.Event.{Event}
 use Rattle.net_base.specs.declared.trace.event.Event.TheVariants.{Tick}
 use Rattle.network_model.specs.Delivery.{next_delivery}
+use Rattle.network_model.specs.Packet.{next_arrival}
 use Rattle.network_model.specs.Run.{state_after}
 use Rattle.network_model.specs.State.{NetworkState}
 use Rattle.network_model.specs.Step.{step}
 use Rattle.scenario_text.specs.declared.command.Command.{Command}
-use Rattle.scenario_text.specs.declared.command.Command.TheVariants.{One, Settle, Ticks}
+use Rattle.scenario_text.specs.declared.command.Command.TheVariants.{One, Settle, Flow, Ticks}
 
 -- so many ticks
 abbrev pub ticks : ℕ → List Event
@@ -28,10 +29,14 @@ turns plan next (suc n) network = event_and (next network) (λ event. turns plan
 abbrev pub deliveries : Plan → ℕ → NetworkState → List Event
 deliveries plan count network = turns plan (next_delivery plan) count network
 
--- the events of a command. Those of `flow` and `play` are to come
+abbrev pub arrivals : Plan → ℕ → NetworkState → List Event
+arrivals plan count network = turns plan next_arrival count network
+
+-- the events of a command. Those of `play` are to come
 abbrev pub made_by : Plan → NetworkState → Command → List Event
 made_by plan network (One event) = event ∷ []
 made_by plan network (Settle count) = deliveries plan count network
+made_by plan network (Flow count) = arrivals plan count network
 made_by plan network (Ticks count) = ticks count
 made_by plan network command = []
 

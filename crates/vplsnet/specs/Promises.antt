@@ -12,6 +12,7 @@ use Rattle.network_model.specs.OnceEach.{OnceEach}
 use Rattle.network_model.specs.Run.{run}
 use Rattle.network_model.specs.State.{NetworkState}
 use Rattle.flight_model.specs.Endings.{TellGoodEnds}
+use Rattle.packet_model.specs.Carried.{KeepsPacketRule}
 use Rattle.flight_model.specs.Laws.{AgreesAfterFlight, AreSettled, BothStand, FollowsTable, IsStill, IsUp, KeepsLabelRule, KeepsToldRule, network_after}
 
 -- something holds of each state on the way of a run: before each event, and after the last one
@@ -34,11 +35,18 @@ AreSettledWhereQuiet plan network = (service : ServiceId) → is_quiet plan netw
 abbrev pub AreUpWhereStill : NetworkState → Type 0
 AreUpWhereStill network = (a b : ℕ) → IsStill network a b → IsUp network a b × IsUp network b a
 
+-- each packet under way carries a frame that entered, in the service of its wire
+abbrev pub CarryFrames : Plan → List Event → Type 0
+CarryFrames plan events = (before after : List Event) → events ≡ before ++ after → KeepsPacketRule plan (network_after plan before) (run plan before).entries
+
 pub record KeepsPromises (plan : Plan) (events : List Event) : Type 0 where
-  -- customers stay apart
+  -- customers stay apart, over wires too
   pub isolated : Isolated plan (run plan events).entries
-  -- split horizon; it has nothing to speak of until wires carry frames
+  -- split horizon: what came by a mesh wire is sent on no mesh wire
   pub split : Split plan (run plan events).entries
+  -- whatever befell it and the network since it was sent, each packet under way carries the inner frame of a frame that entered
+  -- in the service of its wire, and whoever owns its label where it goes is the end of that wire
+  pub packets : CarryFrames plan events
   -- each flooded frame reaches each site once
   pub once : OnceEach plan events
   -- each frame to a known station leaves by one port at most

@@ -1,5 +1,5 @@
 -- What `replay` makes of the octets of its file.
-use Rattle.std.specs.Prelude.{◌≡◌, ◌≢◌, ℕ, Bool, true, false, List, [], Option, Some, None, Result, Ok, Err}
+use Rattle.std.specs.Prelude.{◌≡◌, ◌≢◌, ℕ, Bool, true, false, length, List, [], Option, Some, None, Result, Ok, Err}
 use Rattle.net_base.specs.declared.plan.Plan.{Plan}
 use Rattle.net_base.specs.declared.trace.event.Event.{Event}
 use Rattle.flight_model.specs.Ends.{HasTypes}
@@ -58,7 +58,7 @@ pub record IsReplay (octets text : List ℕ) (network : Option NetLists) (reason
   pub ends : ended left reason ≡ whole_run scenario
   -- the events that were done: all, or those before the one that the limit stopped
   pub done : List Event
-  pub are_done : AreDone (events_of scenario) done left.trace reason
+  pub are_done : AreDone (events_of scenario) done left.trace (length (seen left).under_way) reason
   pub state_is : seen left ≡ state_after scenario.plan (empty_network scenario.plan) done
   pub trace_is : left.trace ≡ (run scenario.plan done).entries
   pub text_is : text ≡ report scenario.plan left.trace (ending_by reason)

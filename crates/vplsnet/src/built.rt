@@ -6,15 +6,13 @@ ghost use Rattle.vplsnet.specs.Built.{is_built, is_built_command, is_built_event
 use net_base::{Class, Event, WirePlan};
 use scenario_text::{Command, Scenario};
 
-/// Whether a scenario is within what is built: mesh wires of two edges, of which none offers a control channel; the commands
-/// `connect`, `deliver`, `settle`, `lose`, `restart`, `wire`, `status`, `circuit` and `tick`; and, where it has no wire,
-/// `frame`.
+/// Whether a scenario is within what is built: mesh wires of two edges, of which none offers a control channel; and all
+/// commands but `priority`, `ping` and `play`.
 pub fn is_built_scenario(scenario: &Scenario) -> bool
     ensures { result ≡ is_built scenario.now }
 {
-    let wires = scenario.plan.wires.as_slice();
-    let commands = are_built(wires.is_empty(), scenario.commands.as_slice());
-    are_built_wires(wires) && commands
+    let commands = are_built(scenario.commands.as_slice());
+    are_built_wires(scenario.plan.wires.as_slice()) && commands
 }
 
 // Whether each wire is built.
@@ -32,38 +30,25 @@ fn is_wire_built(wire: &WirePlan) -> bool
     meshed && wire.path.len() == 2 && silent
 }
 
-// Whether each command is built, where there is no wire, or where there are some.
-fn are_built(wireless: bool, commands: &[Command]) -> bool
-    ensures { result ≡ list_all (is_built_command wireless) commands.now }
+// Whether each command is built.
+fn are_built(commands: &[Command]) -> bool
+    ensures { result ≡ list_all is_built_command commands.now }
 {
-    commands
-        .iter()
-        .all(|command| is_command_built(wireless, command))
+    commands.iter().all(|command| is_command_built(command))
 }
 
-fn is_command_built(wireless: bool, command: &Command) -> bool
-    ensures { result ≡ is_built_command wireless command.now }
+fn is_command_built(command: &Command) -> bool
+    ensures { result ≡ is_built_command command.now }
 {
     match command {
-        Command::One(event) => is_event_built(wireless, event),
-        Command::Settle(_) | Command::Ticks(_) => true,
-        _ => false,
+        Command::One(event) => is_event_built(event),
+        Command::Settle(_) | Command::Flow(_) | Command::Ticks(_) => true,
+        Command::Play(..) => false,
     }
 }
 
-fn is_event_built(wireless: bool, event: &Event) -> bool
-    ensures { result ≡ is_built_event wireless event.now }
+fn is_event_built(event: &Event) -> bool
+    ensures { result ≡ is_built_event event.now }
 {
-    match event {
-        Event::Connect { .. }
-        | Event::Deliver { .. }
-        | Event::Lose { .. }
-        | Event::Restart { .. }
-        | Event::Tick
-        | Event::Wire { .. }
-        | Event::Circuit { .. }
-        | Event::Status { .. } => true,
-        Event::Frame { .. } => wireless,
-        _ => false,
-    }
+    !matches!(event, Event::Priority { .. } | Event::Ping { .. })
 }

@@ -5,7 +5,7 @@ ghost use Rattle.net_base.specs.plan.Planned.{IsEventOf};
 ghost use Rattle.psn_net.specs.Lists.{seen};
 ghost use Rattle.psn_net.specs.Runs.{Gives, ended, ran};
 ghost use Rattle.scenario_text.specs.Planned.{IsPlanned};
-ghost use Rattle.vplsnet.specs.Made.{deliveries, made, made_by, ticks};
+ghost use Rattle.vplsnet.specs.Made.{arrivals, deliveries, made, made_by, ticks};
 ghost use Rattle.vplsnet.specs.Replay.{whole_run};
 
 use net_base::{Event, NoMemory};
@@ -50,6 +50,7 @@ fn run_command(alloc: Global, network: &mut Network, command: &Command) -> Resul
     match command {
         Command::One(event) => apply(alloc, network, event),
         Command::Settle(count) => run_deliveries(alloc, network, *count),
+        Command::Flow(count) => run_arrivals(alloc, network, *count),
         Command::Ticks(count) => run_ticks(alloc, network, *count),
         _ => Ok(()),
     }
@@ -63,6 +64,21 @@ fn run_deliveries(alloc: Global, network: &mut Network, count: u32) -> Result<()
 {
     for _turn in 0..count {
         match network.next_delivery() {
+            Some(event) => apply(alloc, network, &event)?,
+            None => return Ok(()),
+        }
+    }
+    Ok(())
+}
+
+// Does the next arrival so many times, or until there is none.
+#[tactic(auto, using(crate::proofs::MadeLemmas::arrival_steps))]
+fn run_arrivals(alloc: Global, network: &mut Network, count: u32) -> Result<(), NetStop>
+    ensures plan { network.new.plan ≡ network.old.plan }
+    ensures ran { Gives result network.new (ran network.old.plan (seen network.old) network.old.trace (arrivals network.old.plan count (seen network.old))) }
+{
+    for _arrival in 0..count {
+        match network.next_arrival() {
             Some(event) => apply(alloc, network, &event)?,
             None => return Ok(()),
         }

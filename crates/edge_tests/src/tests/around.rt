@@ -3,8 +3,8 @@ ghost use Rattle.provider_edge.specs.Taking.{IsInRange};
 
 use edge_model::{Effects, Input};
 use net_base::{
-    Addr, Class, EdgeId, EdgePlan, List, MemLink, Name, Offer, Plan, ServiceId, ServicePlan, Text,
-    WireId, WirePlan,
+    Addr, CircuitPlan, Class, EdgeId, EdgePlan, List, MemLink, Name, Offer, Plan, ServiceId,
+    ServicePlan, Text, WireId, WirePlan,
 };
 use provider_edge::Edge;
 use std::alloc::Global;
@@ -109,19 +109,32 @@ fn wire(rt: &impl Abort, alloc: Global) -> WirePlan {
     }
 }
 
-// Two edges and a wire between them.
+fn add_circuit(rt: &impl Abort, circuits: &mut List<CircuitPlan>, text: &str, edge: EdgeId) {
+    let row = CircuitPlan {
+        name: name(rt, text),
+        edge,
+        service: ServiceId(0),
+        tag: None,
+    };
+    circuits.push(row).expect(rt, "memory");
+}
+
+// Two edges with a circuit each, and a wire between them.
 fn plan(rt: &impl Abort, alloc: Global) -> Plan {
     let mut edges = List::new(alloc);
     add_edge(rt, &mut edges, "a", 1);
     add_edge(rt, &mut edges, "b", 2);
     let mut services = List::new(alloc);
     services.push(service(rt)).expect(rt, "memory");
+    let mut circuits = List::new(alloc);
+    add_circuit(rt, &mut circuits, "ca", A);
+    add_circuit(rt, &mut circuits, "cb", B);
     let mut wires = List::new(alloc);
     wires.push(wire(rt, alloc)).expect(rt, "memory");
     Plan {
         edges,
         services,
-        circuits: List::new(alloc),
+        circuits,
         wires,
     }
 }
@@ -210,6 +223,15 @@ pub fn put(rt: &impl Abort, alloc: Global, link: &MemLink, place: usize, text: &
     let octets = octets_of(rt, alloc, text);
     match link.calls().get(place) {
         Some(call) => !call.packet && call.bytes.as_slice() == octets.as_slice(),
+        None => false,
+    }
+}
+
+/// Whether the call of a link at a place sent this packet.
+pub fn sent(rt: &impl Abort, alloc: Global, link: &MemLink, place: usize, text: &str) -> bool {
+    let octets = octets_of(rt, alloc, text);
+    match link.calls().get(place) {
+        Some(call) => call.packet && call.bytes.as_slice() == octets.as_slice(),
         None => false,
     }
 }

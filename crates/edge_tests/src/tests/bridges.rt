@@ -279,7 +279,38 @@ fn leaves_connections(rt: &impl Abort, alloc: Global, edge: &mut Edge, peer: Edg
     is_idle(rt, alloc, edge, Input::Connected { peer });
     is_idle(rt, alloc, edge, Input::Octets { peer, bytes });
     is_idle(rt, alloc, edge, Input::Lost { peer });
-    is_idle(rt, alloc, edge, Input::Packet { bytes });
+}
+
+// A packet with these octets is dropped for this cause.
+fn loses(rt: &impl Abort, alloc: Global, edge: &mut Edge, octets: &[u8], cause: DropCause) {
+    gives_loss(rt, alloc, edge, Input::Packet { bytes: octets }, cause);
+}
+
+#[test]
+fn drops_packets_by_the_first_cause(rt: HostRuntime) {
+    // Labels 1, 15 and 16, the bottom bit, and a TTL (RFC 3032 section 2.1).
+    let alloc = rt.alloc();
+    let mut edge = opened(&rt, alloc);
+    loses(&rt, alloc, &mut edge, &[0, 1, 1], DropCause::Short);
+    loses(&rt, alloc, &mut edge, &[0, 1, 1, 0], DropCause::Ttl);
+    loses(&rt, alloc, &mut edge, &[0, 0, 0xF0, 1], DropCause::NoLabel);
+    loses(&rt, alloc, &mut edge, &[0, 1, 0, 1], DropCause::NotBottom);
+    loses(&rt, alloc, &mut edge, &[0, 1, 1, 255], DropCause::NoLabel);
+    loses(&rt, alloc, &mut edge, &[0, 0, 0x10, 1], DropCause::Short);
+    loses(
+        &rt,
+        alloc,
+        &mut edge,
+        &[0, 0, 0x10, 1, 0, 1, 0, 1],
+        DropCause::NotBottom,
+    );
+    loses(
+        &rt,
+        alloc,
+        &mut edge,
+        &[0, 0, 0x10, 1, 0, 1, 1, 1],
+        DropCause::NoLabel,
+    );
 }
 
 // What is told of a wire is idle where no wire is.

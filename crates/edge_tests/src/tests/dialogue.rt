@@ -9,9 +9,9 @@ use provider_edge::Edge;
 use std::alloc::Global;
 use std::process::Abort;
 
-// Hands what a link took, behind so many calls, to the edge at the other end, in pieces of at most so many octets; answers
-// how many calls there are.
-fn hand_over(
+/// Hands what a link took, behind so many calls, to the edge at the other end, in pieces of at most so many octets; answers
+/// how many calls there are.
+pub fn hand_over(
     rt: &impl Abort,
     alloc: Global,
     from: &MemLink,

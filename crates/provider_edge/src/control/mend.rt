@@ -3,7 +3,7 @@ ghost use Rattle.std.specs.Prelude.{◌≡◌, ◌<◌, ◌+◌, List, length, f
 ghost use Rattle.net_base.specs.declared.outside.link_call.LinkCall.{LinkCall};
 ghost use Rattle.pw_ends.specs.Ends.{place_of};
 ghost use Rattle.edge_model.specs.EndPlaces.{end_places};
-ghost use Rattle.edge_model.specs.Mend.{and_says, each_end, mends, mends_end, mends_once, mends_status, tells_downs};
+ghost use Rattle.edge_model.specs.Mend.{and_says, each_end, forgets_downs, mends, mends_end, mends_once, mends_status, tells_downs};
 ghost use Rattle.edge_model.specs.Work.{Agrees, Answers, GoesOn};
 ghost use Rattle.provider_edge.specs.Control.{KeepsPlan, Rest, at_control};
 
@@ -56,6 +56,7 @@ impl Control {
     {
         let refused = self.mend_ends(alloc, link, out)?;
         let failed = self.mend_statuses(refused, alloc, link, out)?;
+        self.forget_downs();
         self.tell_downs(out)?;
         Ok(failed)
     }
@@ -145,6 +146,17 @@ impl Control {
         Ok(before)
     }
 
+    // What was learned at each wire that does not forward is forgotten.
+    fn forget_downs(&mut self)
+        ensures keeps { KeepsPlan self.old self.new }
+        ensures step { (rest : Rest) (calls : List LinkCall) (out : List Effect)
+            → at_control self.new rest calls out ≡ forgets_downs self.old.plan (end_places self.old.plan self.old.me) (at_control self.old rest calls out) }
+    {
+        for slot in 0..self.count_ends() {
+            self.forget_down(slot);
+        }
+    }
+
     // Each wire that began to forward, or stopped, is told.
     fn tell_downs(&mut self, out: &mut List<Effect>) -> Result<(), NoMemory>
         ensures keeps { KeepsPlan self.old self.new }
@@ -158,7 +170,7 @@ impl Control {
     }
 
     // How many ends the edge has: those that the plan gives it, in the plan's order.
-    fn count_ends(&self) -> usize
+    pub(super) fn count_ends(&self) -> usize
         ensures count { result ≡ length self.now.ends.places }
         ensures places { self.now.ends.places ≡ end_places self.now.plan self.now.me }
     {

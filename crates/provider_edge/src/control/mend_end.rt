@@ -6,12 +6,12 @@ ghost use Rattle.net_base.specs.plan.Places.{wire_row};
 ghost use Rattle.pw_signalling.specs.AnyEnd.{end_of};
 ghost use Rattle.pw_tlvs.specs.Written.{has_vlan};
 ghost use Rattle.pw_ends.specs.Ends.{HasKind, IsIdle, end_in, place_of};
-ghost use Rattle.edge_model.specs.Mend.{advertises, advertises_wish, cause_number, mends_end, mends_status, tells_down, tells_new_status, tells_over, terminal_wish, wish, withdraws, withdraws_unless};
+ghost use Rattle.edge_model.specs.Mend.{advertises, advertises_wish, cause_number, forgetting_wire, mends_end, mends_status, tells_down, tells_new_status, tells_over, terminal_wish, wish, withdraws, withdraws_unless};
 ghost use Rattle.edge_model.specs.Role.{down_at, role_at, status_to_tell};
 ghost use Rattle.edge_model.specs.State.{with_told_down};
 ghost use Rattle.edge_model.specs.Work.{Agrees, Answers, GoesOn};
 ghost use Rattle.provider_edge.specs.Control.{KeepsPlan, Rest, at_control, controlled};
-ghost use Rattle.provider_edge.specs.Mending.{may_tell, mended_down};
+ghost use Rattle.provider_edge.specs.Mending.{forgotten_down, may_tell, mended_down};
 
 use super::Control;
 use crate::pw_message::PwMessage;
@@ -258,6 +258,32 @@ impl Control {
         self.say(alloc, place.peer, &message, link, out)
     }
 
+    // What was learned at a wire whose terminal end does not forward is forgotten.
+    pub(super) fn forget_down(&mut self, slot: usize)
+        requires { slot < length self.old.ends.places }
+        ensures keeps { KeepsPlan self.old self.new }
+        ensures step { (rest : Rest) (calls : List LinkCall) (out : List Effect)
+            → at_control self.new rest calls out ≡ forgotten_down self.old.plan (place_of self.old.ends slot) (at_control self.old rest calls out) }
+    {
+        let place = self.place_at(slot);
+        if !place.terminal {
+            return;
+        }
+        if self.down_of(slot).is_some() {
+            self.forget_wire(place.wire);
+        }
+    }
+
+    // What was learned at a wire is forgotten.
+    #[tactic(auto, using(crate::proofs::ForwardLemmas::control_forwarding, crate::proofs::ForwardLemmas::keeps_forwarding))]
+    fn forget_wire(&mut self, wire: WireId)
+        requires { wire.0 < length self.old.plan.wires }
+        ensures keeps { KeepsPlan self.old self.new }
+        ensures step { (rest : Rest) → controlled self.new rest ≡ forgetting_wire self.old.plan wire (wire_row self.old.plan wire) (controlled self.old rest) }
+    {
+        self.forwarding.forget_wire(wire);
+    }
+
     // A wire that began to forward, or stopped, is told at its terminal end.
     pub(super) fn tell_down(&mut self, slot: usize, out: &mut List<Effect>) -> Result<(), NoMemory>
         requires { slot < length self.old.ends.places }
@@ -298,23 +324,24 @@ impl Control {
         requires { wire.0 < length self.now.plan.wires }
         ensures { (rest : Rest) → result ≡ (controlled self.now rest).told_down wire.0 }
     {
-        self.told_down[wire.0 as usize]
+        self.forwarding.told_last(wire)
     }
 
     // This is told of the end of a wire.
+    #[tactic(auto, using(crate::proofs::ForwardLemmas::control_forwarding, crate::proofs::ForwardLemmas::keeps_forwarding))]
     fn set_told(&mut self, wire: WireId, down: Option<Down>)
         requires { wire.0 < length self.old.plan.wires }
         ensures keeps { KeepsPlan self.old self.new }
         ensures step { (rest : Rest) → controlled self.new rest ≡ with_told_down wire down (controlled self.old rest) }
     {
-        self.told_down[wire.0 as usize] = down;
+        self.forwarding.tell(wire, down);
     }
 
     // ---- what an end should tell
 
     // Where the end of a slot is, at a wire of the plan.
     #[tactic(auto, using(crate::proofs::ControlLemmas::slot_wire))]
-    fn place_at(&self, slot: usize) -> EndPlace
+    pub(super) fn place_at(&self, slot: usize) -> EndPlace
         requires { slot < length self.now.ends.places }
         ensures place { result ≡ place_of self.now.ends slot }
         ensures wire { result.wire.0 < length self.now.plan.wires }
@@ -323,7 +350,7 @@ impl Control {
     }
 
     // The end of a slot. Where it advertises, its PW type has 15 bits.
-    fn end_in(&self, slot: usize) -> &PwEnd
+    pub(super) fn end_in(&self, slot: usize) -> &PwEnd
         requires { slot < length self.now.ends.places }
         ensures end { end_of result.now ≡ end_in self.now.ends slot }
         ensures kind { HasKind (end_in self.now.ends slot).local }

@@ -146,7 +146,7 @@ impl Control {
     pub fn down(&self, wire: WireId) -> Option<Down>
         ensures { (rest : Rest) (place : EndPlace) → find (is_end_of_wire wire) (end_places self.now.plan self.now.me) ≡ Some place → result ≡ down_at self.now.plan (controlled self.now rest) place }
     {
-        match terminal_slot(self.ends.places(), wire) {
+        match self.ends.terminal(wire) {
             Some(slot) => self.down_of(slot),
             None => None,
         }
@@ -166,13 +166,4 @@ fn slot_at(places: &[EndPlace], key: SegKey) -> Option<usize>
     ensures { result ≡ position (is_of_segment key) places.now }
 {
     places.iter().position(|place| place.wire == key.wire && place.segment == key.segment)
-}
-
-// The first of the places that is a terminal end of a wire.
-fn terminal_slot(places: &[EndPlace], wire: WireId) -> Option<usize>
-    ensures { result ≡ position (is_end_of_wire wire) places.now }
-{
-    places
-        .iter()
-        .position(|place| place.wire == wire && place.terminal)
 }

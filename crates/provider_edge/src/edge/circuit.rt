@@ -1,12 +1,13 @@
 //! A circuit is turned on or off.
-ghost use Rattle.std.specs.Prelude.{◌≡◌, Some, position, IfOk};
+ghost use Rattle.std.specs.Prelude.{◌≡◌, Some, true, position, IfOk};
 ghost use Rattle.net_base.specs.declared.plan.circuit_plan.CircuitPlan.{CircuitPlan};
 ghost use Rattle.net_base.specs.plan.Places.{circuit_row};
 ghost use Rattle.hvpls_spokes.specs.Port.{is_circuit_port, ports_of};
-ghost use Rattle.edge_model.specs.Circuit.{circuit_input, turned, without_port};
-ghost use Rattle.edge_model.specs.State.{addresses_of, with_addresses, with_circuit};
+ghost use Rattle.edge_model.specs.Circuit.{circuit_input, turned};
+ghost use Rattle.edge_model.specs.State.{addresses_of, with_addresses, with_circuit, without_port};
 ghost use Rattle.edge_model.specs.Work.{Agrees, Answers, GoesOn, beginning};
-ghost use Rattle.provider_edge.specs.Lists.{Keeps, own_service, seen, worked};
+ghost use Rattle.provider_edge.specs.Forwarding.{own_service};
+ghost use Rattle.provider_edge.specs.Lists.{Keeps, seen, worked};
 
 use crate::Edge;
 use crate::quiet::idle;
@@ -23,6 +24,7 @@ impl Edge {
         on: bool,
         link: &mut L,
     ) -> Result<Effects, NoMemory>
+        requires working { self.old.stopped ≡ true }
         ensures keeps { Keeps self.old self.new }
         ensures calls { GoesOn (L.calls link.old) (L.calls link.new) }
         ensures step { IfOk result (λ effects. (told : Answers) → Agrees told (L.calls link.new)
@@ -42,7 +44,8 @@ impl Edge {
 
     // Turns a circuit of the edge; where it is off, the bridge forgets what it learned there.
     fn turn_circuit(&mut self, circuit: CircuitId, service: ServiceId, on: bool)
-        requires own { own_service (seen self.old) (circuit_row self.old.plan circuit) ≡ Some service }
+        requires working { self.old.stopped ≡ true }
+        requires own { own_service self.old.me (circuit_row self.old.plan circuit) ≡ Some service }
         ensures keeps { Keeps self.old self.new }
         ensures step { (row : CircuitPlan) → circuit_row self.old.plan circuit ≡ Some row → seen self.new ≡ turned self.old.plan circuit row on (seen self.old) }
     {
@@ -53,29 +56,22 @@ impl Edge {
     }
 
     // Turns a circuit of the edge.
-    #[tactic(auto, using(crate::proofs::KeptLemmas::edge_turned, crate::proofs::KeptLemmas::seen_turned, crate::proofs::KeptLemmas::own_kept, crate::proofs::OwnLemmas::own_within))]
     fn turn(&mut self, circuit: CircuitId, service: ServiceId, on: bool)
-        requires own { own_service (seen self.old) (circuit_row self.old.plan circuit) ≡ Some service }
+        requires working { self.old.stopped ≡ true }
+        requires own { own_service self.old.me (circuit_row self.old.plan circuit) ≡ Some service }
         ensures keeps { Keeps self.old self.new }
         ensures step { seen self.new ≡ with_circuit circuit on (seen self.old) }
     {
-        let Some(domain) = &mut self.domains[service.0 as usize] else {
-            return;
-        };
-        domain.turn(circuit, on);
-        self.circuits_on[circuit.0 as usize] = on;
+        self.control.turn_circuit(circuit, service, on);
     }
 
     // The bridge forgets what it learned at a circuit of the edge.
-    #[tactic(auto, using(crate::proofs::KeptLemmas::edge_put, crate::proofs::KeptLemmas::seen_put, crate::proofs::KeptLemmas::own_kept, crate::proofs::OwnLemmas::own_within))]
     fn forget_circuit(&mut self, circuit: CircuitId, service: ServiceId)
-        requires own { own_service (seen self.old) (circuit_row self.old.plan circuit) ≡ Some service }
+        requires working { self.old.stopped ≡ true }
+        requires own { own_service self.old.me (circuit_row self.old.plan circuit) ≡ Some service }
         ensures keeps { Keeps self.old self.new }
         ensures step { seen self.new ≡ with_addresses service (without_port (position (is_circuit_port circuit) (ports_of self.old.plan service self.old.me)) (addresses_of (seen self.old) service)) (seen self.old) }
     {
-        let Some(domain) = &mut self.domains[service.0 as usize] else {
-            return;
-        };
-        domain.forget_circuit(circuit);
+        self.control.forget_circuit(circuit, service);
     }
 }

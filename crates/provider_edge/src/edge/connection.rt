@@ -1,5 +1,5 @@
 //! Connections of the edge: one stands, one is lost, and the edge restarts.
-ghost use Rattle.std.specs.Prelude.{◌≡◌, ◌<◌, [], List, None, length, slice_get, slice_index_or, IfOk, OnOk};
+ghost use Rattle.std.specs.Prelude.{◌≡◌, ◌<◌, [], true, List, None, length, slice_get, slice_index_or, IfOk, OnOk};
 ghost use Rattle.net_base.specs.declared.trace.state_name.Reason.TheVariants as reason;
 ghost use Rattle.session_core.specs.State.{IsProper};
 ghost use Rattle.session_core.specs.Table.{Closed};
@@ -13,7 +13,6 @@ ghost use Rattle.provider_edge.specs.Lists.{Keeps, seen, worked};
 ghost use Rattle.provider_edge.specs.Peering.{at_edge, connection_with, peers_between};
 
 use crate::Edge;
-use crate::domain::clear_all;
 use crate::quiet::{idle, nothing};
 use edge_model::{Effect, Effects};
 use net_base::{EdgeId, Link, List, NoMemory};
@@ -29,6 +28,7 @@ impl Edge {
         peer: EdgeId,
         link: &mut L,
     ) -> Result<Effects, NoMemory>
+        requires working { self.old.stopped ≡ true }
         ensures keeps { Keeps self.old self.new }
         ensures calls { GoesOn (L.calls link.old) (L.calls link.new) }
         ensures step { IfOk result (λ effects. (told : Answers) → Agrees told (L.calls link.new)
@@ -56,6 +56,7 @@ impl Edge {
         link: &mut L,
         out: &mut List<Effect>,
     ) -> Result<(), NoMemory>
+        requires working { self.old.stopped ≡ true }
         requires within { peer.0 < length self.old.plan.edges }
         requires proper { IsProper peers }
         requires none { slice_index_or self.old.held peer.0 [] ≡ [] }
@@ -84,6 +85,7 @@ impl Edge {
     // What is held of a peer with which no connection stands is given up.
     #[tactic(auto, using(crate::proofs::EdgeLemmas::edge_worked, crate::proofs::EdgeLemmas::seen_unheld, crate::proofs::EdgeLemmas::unheld))]
     fn forget_octets(&mut self, peer: EdgeId)
+        requires working { self.old.stopped ≡ true }
         requires within { peer.0 < length self.old.plan.edges }
         requires none { (seen self.old).peering peer.0 ≡ None }
         ensures keeps { Keeps self.old self.new }
@@ -100,6 +102,7 @@ impl Edge {
         peer: EdgeId,
         link: &mut L,
     ) -> Result<Effects, NoMemory>
+        requires working { self.old.stopped ≡ true }
         ensures keeps { Keeps self.old self.new }
         ensures calls { GoesOn (L.calls link.old) (L.calls link.new) }
         ensures step { IfOk result (λ effects. (told : Answers) → Agrees told (L.calls link.new)
@@ -116,6 +119,7 @@ impl Edge {
 
     // The session with a peer ends, since the connection is lost.
     fn lose(&mut self, peer: EdgeId, out: &mut List<Effect>) -> Result<(), NoMemory>
+        requires working { self.old.stopped ≡ true }
         ensures keeps { Keeps self.old self.new }
         ensures step { OnOk result ((told : Answers) (calls : List LinkCall)
             → at_edge (seen self.new) calls out.new ≡ happens_with_ends told peer (Closed reason.Closed) (at_edge (seen self.old) calls out.old)) }
@@ -130,6 +134,7 @@ impl Edge {
         link: &mut L,
         out: &mut List<Effect>,
     ) -> Result<(), NoMemory>
+        requires working { self.old.stopped ≡ true }
         ensures keeps { Keeps self.old self.new }
         ensures calls { GoesOn (L.calls link.old) (L.calls link.new) }
         ensures step { OnOk result ((told : Answers) → Agrees told (L.calls link.new)
@@ -140,6 +145,7 @@ impl Edge {
 
     // The edge restarts: it keeps its ticks, what was set of its circuits and wires, and the label that it gives next.
     pub(crate) fn restart(&mut self, alloc: Global) -> Effects
+        requires working { self.old.stopped ≡ true }
         ensures keeps { Keeps self.old self.new }
         ensures step { (calls : List LinkCall) → worked self.new calls result ≡ restart_input (beginning (seen self.old) calls) }
     {
@@ -150,6 +156,7 @@ impl Edge {
 
     // No session stands, and each end is as it was opened.
     fn restart_control(&mut self)
+        requires working { self.old.stopped ≡ true }
         ensures keeps { Keeps self.old self.new }
         ensures step { seen self.new ≡ without_ends (without_peerings (seen self.old)) }
     {
@@ -158,9 +165,10 @@ impl Edge {
 
     // Each bridge forgets all that it has learned.
     fn forget_stations(&mut self)
+        requires working { self.old.stopped ≡ true }
         ensures keeps { Keeps self.old self.new }
         ensures step { seen self.new ≡ with_learned (λ service. []) (seen self.old) }
     {
-        clear_all(&mut self.domains);
+        self.control.clear_bridges();
     }
 }

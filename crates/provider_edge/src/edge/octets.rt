@@ -22,6 +22,7 @@ impl Edge {
         octets: &[u8],
         link: &mut L,
     ) -> Result<Effects, NoMemory>
+        requires working { self.old.stopped ≡ true }
         ensures keeps { Keeps self.old self.new }
         ensures calls { GoesOn (L.calls link.old) (L.calls link.new) }
         ensures step { IfOk result (λ effects. (told : Answers) → Agrees told (L.calls link.new)
@@ -46,6 +47,7 @@ impl Edge {
         link: &mut L,
         out: &mut List<Effect>,
     ) -> Result<(), NoMemory>
+        requires working { self.old.stopped ≡ true }
         requires stands { has_end (seen self.old) peer ≡ true }
         ensures keeps { Keeps self.old self.new }
         ensures calls { GoesOn (L.calls link.old) (L.calls link.new) }

@@ -1,5 +1,5 @@
 //! A tick passes.
-ghost use Rattle.std.specs.Prelude.{◌≡◌, ◌≤◌, length, map, All, IfOk, OnOk};
+ghost use Rattle.std.specs.Prelude.{◌≡◌, true, length, IfOk, OnOk};
 ghost use Rattle.edge_model.specs.State.{later, with_ticks};
 ghost use Rattle.edge_model.specs.Tick.{forgetting, tick_input, ticks_sessions};
 ghost use Rattle.edge_model.specs.Work.{Agrees, Answers, GoesOn, beginning};
@@ -7,7 +7,6 @@ ghost use Rattle.provider_edge.specs.Lists.{Keeps, seen, worked};
 ghost use Rattle.provider_edge.specs.Peering.{at_edge};
 
 use crate::Edge;
-use crate::domain::forget_all;
 use edge_model::{Effect, Effects};
 use net_base::{Link, List, NoMemory};
 use std::alloc::Global;
@@ -16,6 +15,7 @@ impl Edge {
     // The edge counts the tick, its sessions have it, its bridges forget, and then it mends its ends.
     #[tactic(auto, using(crate::proofs::SpeakerLemmas::goes_both))]
     pub(crate) fn tick<L: Link>(&mut self, alloc: Global, link: &mut L) -> Result<Effects, NoMemory>
+        requires working { self.old.stopped ≡ true }
         ensures keeps { Keeps self.old self.new }
         ensures calls { GoesOn (L.calls link.old) (L.calls link.new) }
         ensures step { IfOk result (λ effects. (told : Answers) → Agrees told (L.calls link.new)
@@ -36,6 +36,7 @@ impl Edge {
         link: &mut L,
         out: &mut List<Effect>,
     ) -> Result<(), NoMemory>
+        requires working { self.old.stopped ≡ true }
         ensures keeps { Keeps self.old self.new }
         ensures calls { GoesOn (L.calls link.old) (L.calls link.new) }
         ensures step { OnOk result ((told : Answers) → Agrees told (L.calls link.new)
@@ -45,28 +46,20 @@ impl Edge {
     }
 
     // One tick more.
-    #[tactic(auto, using(crate::proofs::KeptLemmas::edge_later), unfolding(crate::specs::Lists::seen, edge_model::specs::State::with_ticks))]
     fn count_tick(&mut self)
+        requires working { self.old.stopped ≡ true }
         ensures keeps { Keeps self.old self.new }
-        ensures step { seen self.new ≡ with_ticks (later self.old.ticks) (seen self.old) }
+        ensures step { seen self.new ≡ with_ticks (later (seen self.old).ticks) (seen self.old) }
     {
-        self.ticks = next_tick(self.ticks);
+        self.control.count_tick();
     }
 
     // Each bridge forgets what it has not heard for as long as its age limit.
-    #[tactic(auto, using(crate::proofs::KeptLemmas::edge_aged, crate::proofs::KeptLemmas::seen_aged, crate::proofs::KeptLemmas::none_later))]
     fn forget(&mut self)
+        requires working { self.old.stopped ≡ true }
         ensures keeps { Keeps self.old self.new }
         ensures step { seen self.new ≡ forgetting self.old.plan (seen self.old) }
     {
-        forget_all(&mut self.domains, self.ticks);
+        self.control.forget();
     }
-}
-
-// The count of ticks after one more; it stays at its type's end.
-fn next_tick(ticks: u64) -> u64
-    ensures next { result ≡ later ticks }
-    ensures more { ticks ≤ result }
-{
-    if ticks < u64::MAX { ticks + 1 } else { ticks }
 }

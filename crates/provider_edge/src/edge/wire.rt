@@ -1,5 +1,5 @@
 //! A wire is put on or off, and the failure bits of the edge's end of it are set.
-ghost use Rattle.std.specs.Prelude.{◌≡◌, ◌<◌, ◌≤◌, length, IfOk};
+ghost use Rattle.std.specs.Prelude.{◌≡◌, ◌<◌, ◌≤◌, true, length, IfOk};
 ghost use Rattle.edge_model.specs.State.{with_bits};
 ghost use Rattle.edge_model.specs.Wire.{status_input, turned_wire, wire_input};
 ghost use Rattle.edge_model.specs.Work.{Agrees, Answers, GoesOn, beginning};
@@ -20,6 +20,7 @@ impl Edge {
         on: bool,
         link: &mut L,
     ) -> Result<Effects, NoMemory>
+        requires working { self.old.stopped ≡ true }
         ensures keeps { Keeps self.old self.new }
         ensures calls { GoesOn (L.calls link.old) (L.calls link.new) }
         ensures step { IfOk result (λ effects. (told : Answers) → Agrees told (L.calls link.new)
@@ -36,7 +37,8 @@ impl Edge {
 
     // Puts a wire on or off.
     fn turn_wire(&mut self, wire: WireId, on: bool)
-        requires { wire.0 < length self.old.plan.wires }
+        requires working { self.old.stopped ≡ true }
+        requires within { wire.0 < length self.old.plan.wires }
         ensures keeps { Keeps self.old self.new }
         ensures step { seen self.new ≡ turned_wire wire on (seen self.old) }
     {
@@ -51,7 +53,8 @@ impl Edge {
         bits: u8,
         link: &mut L,
     ) -> Result<Effects, NoMemory>
-        requires { bits ≤ 31 }
+        requires working { self.old.stopped ≡ true }
+        requires small { bits ≤ 31 }
         ensures keeps { Keeps self.old self.new }
         ensures calls { GoesOn (L.calls link.old) (L.calls link.new) }
         ensures step { IfOk result (λ effects. (told : Answers) → Agrees told (L.calls link.new)
@@ -68,6 +71,7 @@ impl Edge {
 
     // Sets the failure bits of the edge's end of a wire.
     fn set_bits(&mut self, wire: WireId, bits: u8)
+        requires working { self.old.stopped ≡ true }
         requires within { wire.0 < length self.old.plan.wires }
         requires small { bits ≤ 31 }
         ensures keeps { Keeps self.old self.new }

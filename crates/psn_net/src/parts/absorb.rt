@@ -1,5 +1,5 @@
 //! An edge's work goes into the network.
-ghost use Rattle.std.specs.Prelude.{◌≡◌, ◌<◌, ◌+◌, ◌++◌, ◌∷◌, ◌^◌, [], length, IfOk, OnOk};
+ghost use Rattle.std.specs.Prelude.{◌≡◌, ◌<◌, ◌≤◌, ◌+◌, ◌++◌, ◌∷◌, [], length, IfOk, OnOk};
 ghost use Rattle.net_base.specs.declared.trace.entry.Entry.TheVariants as Entry;
 ghost use Rattle.network_model.specs.Absorb.{absorb_all, absorb_one, all_entries_of, entries_of, put_towards};
 ghost use Rattle.network_model.specs.State.{with_packet, with_pipe};
@@ -24,7 +24,7 @@ impl Parts {
     ) -> Result<(), NoMemory>
         requires me { me.0 < length self.old.plan.edges }
         requires fit { AllFit self.old.plan effects.items }
-        requires hops { hops + 1 < 2 ^ 64 }
+        requires passed { hops ≤ self.old.packets.last }
         requires room { HasRoom self.old }
         ensures keeps { Keeps self.old self.new }
         ensures room { OnOk result (HasRoom self.new) }
@@ -50,10 +50,11 @@ impl Parts {
     ) -> Result<(), NoMemory>
         requires me { me.0 < length self.old.plan.edges }
         requires fit { Fits self.old.plan effect }
-        requires hops { hops + 1 < 2 ^ 64 }
+        requires passed { hops ≤ self.old.packets.last }
         requires room { HasRoom self.old }
         ensures keeps { Keeps self.old self.new }
         ensures room { OnOk result (HasRoom self.new) }
+        ensures more { OnOk result (self.old.packets.last ≤ self.new.packets.last) }
         ensures step { OnOk result (HasStepped self.old self.new (record {
           state = absorb_one me origin hops effect (seen self.old);
           entries = entries_of me origin hops effect (seen self.old);
@@ -66,7 +67,10 @@ impl Parts {
                 wire,
                 arrival,
                 bytes,
-            } => self.send(alloc, me, peer, wire, arrival, origin, hops + 1, bytes),
+            } => {
+                let hops = self.one_more(hops);
+                self.send(alloc, me, peer, wire, arrival, origin, hops, bytes)
+            }
             Effect::Left { circuit, bytes } => self.tell(Entry::Left {
                 circuit,
                 origin,
@@ -100,6 +104,16 @@ impl Parts {
         }
     }
 
+    // One segment more than have been passed.
+    fn one_more(&self, hops: u64) -> u64
+        requires passed { hops ≤ self.now.packets.last }
+        requires room { HasRoom self.now }
+        ensures { result ≡ hops + 1 }
+    {
+        let _told = self.ledger.trace().len();
+        hops + 1
+    }
+
     // Octets of LDP towards a peer.
     fn say(&mut self, me: EdgeId, peer: EdgeId, bytes: Octets) -> Result<(), NoMemory>
         requires me { me.0 < length self.old.plan.edges }
@@ -107,6 +121,7 @@ impl Parts {
         requires room { HasRoom self.old }
         ensures keeps { Keeps self.old self.new }
         ensures room { OnOk result (HasRoom self.new) }
+        ensures last { self.new.packets.last ≡ self.old.packets.last }
         ensures step { OnOk result (HasStepped self.old self.new (record {
           state = put_towards me peer bytes (seen self.old);
           entries = Entry.Said me peer bytes ∷ [];
@@ -127,6 +142,7 @@ impl Parts {
         ensures keeps { Keeps self.old self.new }
         ensures trace { self.new.trace ≡ self.old.trace }
         ensures room { HasRoom self.old → HasRoom self.new }
+        ensures last { self.new.packets.last ≡ self.old.packets.last }
         ensures state { OnOk result (seen self.new ≡ put_towards me peer bytes.now (seen self.old)) }
     {
         if self.stands(peer, me) {
@@ -143,6 +159,7 @@ impl Parts {
         ensures keeps { Keeps self.old self.new }
         ensures trace { self.new.trace ≡ self.old.trace }
         ensures room { HasRoom self.old → HasRoom self.new }
+        ensures last { self.new.packets.last ≡ self.old.packets.last }
         ensures state { OnOk result (seen self.new ≡ with_pipe from to ((seen self.old).pipes from.0 to.0 ++ bytes.now) (seen self.old)) }
     {
         self.pipes.put(from, to, bytes)
@@ -156,6 +173,7 @@ impl Parts {
         ensures keeps { Keeps self.old self.new }
         ensures trace { self.new.trace ≡ self.old.trace }
         ensures room { HasRoom self.old → HasRoom self.new }
+        ensures last { self.new.packets.last ≡ self.old.packets.last }
         ensures state { seen self.new ≡ with_pipe from to [] (seen self.old) }
     {
         self.pipes.clear(from, to);
@@ -173,9 +191,13 @@ impl Parts {
         hops: u64,
         bytes: Octets,
     ) -> Result<(), NoMemory>
+        requires me { me.0 < length self.old.plan.edges }
+        requires peer { peer.0 < length self.old.plan.edges }
+        requires passed { hops ≤ self.old.packets.last + 1 }
         requires room { HasRoom self.old }
         ensures keeps { Keeps self.old self.new }
         ensures room { OnOk result (HasRoom self.new) }
+        ensures more { OnOk result (self.old.packets.last ≤ self.new.packets.last) }
         ensures step { OnOk result (HasStepped self.old self.new (record {
           state = with_packet wire me peer origin hops bytes (seen self.old);
           entries = Entry.Sent ((seen self.old).sent + 1) me peer wire arrival origin hops bytes ∷ [];
@@ -195,8 +217,8 @@ impl Parts {
     }
 
     // A packet is under way, and has the next number.
-    #[tactic(auto, unfolding(crate::specs::Lists::seen, network_model::specs::State::with_packet))]
-    fn add_packet(
+    #[tactic(auto, using(crate::proofs::UnderWayLemmas::packets_more), unfolding(crate::specs::Lists::seen, network_model::specs::State::with_packet))]
+    pub(crate) fn add_packet(
         &mut self,
         wire: WireId,
         from: EdgeId,
@@ -205,6 +227,9 @@ impl Parts {
         hops: u64,
         bytes: Octets,
     ) -> Result<u64, NoMemory>
+        requires from { from.0 < length self.old.plan.edges }
+        requires to { to.0 < length self.old.plan.edges }
+        requires passed { hops ≤ self.old.packets.last + 1 }
         requires room { HasRoom self.old }
         ensures keeps { Keeps self.old self.new }
         ensures trace { self.new.trace ≡ self.old.trace }

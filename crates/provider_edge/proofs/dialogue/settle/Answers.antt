@@ -1,8 +1,7 @@
-use Rattle.std.proofs.Common.{◌≡◌, ◌∙◌, Option, Some, None, sym, ap, subst, refl}
-use Rattle.session_core.specs.State.{SessionState, SessionView, Stands}
+use Rattle.std.proofs.Common.{◌≡◌, ◌∙◌, Some, sym, ap, refl}
+use Rattle.session_core.specs.State.{SessionView, Stands}
 use Rattle.session_core.specs.Session.{view_of}
-use Rattle.edge_model.specs.State.{Peering}
-use Rattle.provider_edge.specs.Peering.{IsBetween, StandsBetween, at_peer, having_put, next_state, state_of}
+use Rattle.provider_edge.specs.Peering.{at_peer, having_put, next_state, state_of}
 use Rattle.provider_edge.proofs.SettleLemmas.{ended_by, not_ended, settled_end, settled_fault, settled_on, stands_by, stands_put, told_change}
 use Rattle.provider_edge.proofs.dialogue.settle.Goals as goal
 

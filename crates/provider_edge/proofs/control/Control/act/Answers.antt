@@ -1,4 +1,4 @@
-use Rattle.std.proofs.Common.{◌≡◌, ◌∙◌, sym}
+use Rattle.std.proofs.Common.{◌∙◌, sym}
 use Rattle.provider_edge.specs.Control.{controlled}
 use Rattle.provider_edge.proofs.ActLemmas.{acts_not, acts_there}
 use Rattle.provider_edge.proofs.SettleLemmas.{map_on}

@@ -1,8 +1,8 @@
-use Rattle.std.proofs.Common.{◌≡◌, Some, ap}
+use Rattle.std.proofs.Common.{Some, ap}
 use Rattle.net_base.specs.declared.trace.state_name.Reason.TheVariants as reason
 use Rattle.session_core.specs.Table.{Closed}
 use Rattle.edge_model.specs.Session.{happens}
-use Rattle.provider_edge.specs.Control.{at_control, controlled}
+use Rattle.provider_edge.specs.Control.{controlled}
 use Rattle.provider_edge.specs.Peering.{kept_with}
 use Rattle.provider_edge.proofs.LiftLemmas.{happened_none, left_none}
 use Rattle.provider_edge.proofs.SettleLemmas.{map_on}

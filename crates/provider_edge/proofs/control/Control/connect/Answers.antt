@@ -1,4 +1,4 @@
-use Rattle.std.proofs.Common.{◌≡◌, ◌∙◌, Some, ap}
+use Rattle.std.proofs.Common.{◌∙◌, Some, ap}
 use Rattle.session_core.specs.State.{opened}
 use Rattle.edge_model.specs.State.{with_peering}
 use Rattle.provider_edge.specs.Control.{at_control, controlled}

@@ -1,4 +1,4 @@
-use Rattle.std.proofs.Common.{◌∙◌, ap, position}
+use Rattle.std.proofs.Common.{◌∙◌, ap}
 use Rattle.edge_model.specs.EndPlaces.{is_end_of_wire}
 use Rattle.edge_model.specs.Role.{down_at}
 use Rattle.provider_edge.specs.Control.{controlled}
@@ -10,10 +10,10 @@ pub returns-in-Some : goal.returns-in-Some
 returns-in-Some c = λ rest place here.
     c.down_of.ensures rest
     ∙ ap (down_at c.args.self.now.plan (controlled c.args.self.now rest))
-    (slot_place (the_view c.self.inside) c.args.self.now (is_end_of_wire c.args.wire) c.terminal_slot.result c.in-Some.slot place c.self.view_is c.self.invariant
-    (c.terminal_slot.ensures ∙ ap (position (is_end_of_wire c.args.wire)) c.places.ensures.places) c.in-Some.is here)
+    (slot_place (the_view c.self.inside) c.args.self.now (is_end_of_wire c.args.wire) c.terminal.result c.in-Some.slot place c.self.view_is c.self.invariant
+    c.terminal.ensures.slot c.in-Some.is here)
 
 pub returns-in-None : goal.returns-in-None
 returns-in-None c = λ rest place here.
-    absurd (no_place (the_view c.self.inside) c.args.self.now (is_end_of_wire c.args.wire) c.terminal_slot.result place c.self.view_is c.self.invariant
-    (c.terminal_slot.ensures ∙ ap (position (is_end_of_wire c.args.wire)) c.places.ensures.places) c.in-None.is here)
+    absurd (no_place (the_view c.self.inside) c.args.self.now (is_end_of_wire c.args.wire) c.terminal.result place c.self.view_is c.self.invariant
+    c.terminal.ensures.slot c.in-None.is here)

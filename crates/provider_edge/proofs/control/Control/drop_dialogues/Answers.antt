@@ -3,7 +3,7 @@ use Rattle.edge_model.specs.State.{without_peerings}
 use Rattle.provider_edge.specs.Control.{ControlLists, IsControl, controlled}
 use Rattle.provider_edge.specs.contracts.control.Control.{the_view}
 use Rattle.provider_edge.specs.Peering.{gone}
-use Rattle.std.proofs.Common.{map, length}
+use Rattle.std.proofs.Common.{map}
 use Rattle.std.proofs.lemmas.List.{length-map}
 use Rattle.provider_edge.proofs.ControlLemmas.{control_dialogues, controlled_gone}
 use Rattle.provider_edge.proofs.control.Control.drop_dialogues.Goals as goal

@@ -1,4 +1,4 @@
-use Rattle.std.proofs.Common.{◌≡◌, ◌<◌, ◌∙◌, true, length, ap, sym, subst}
+use Rattle.std.proofs.Common.{◌<◌, ◌∙◌, length, ap, sym, subst}
 use Rattle.std.specs.List.{list_any}
 use Rattle.edge_model.specs.EndPlaces.{is_end_of_wire}
 use Rattle.provider_edge.specs.Control.{ControlLists}

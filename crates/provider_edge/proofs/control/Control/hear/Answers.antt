@@ -1,7 +1,7 @@
-use Rattle.std.proofs.Common.{◌≡◌, ◌∙◌, ◌+◌, ◌++◌, [], List, ℕ, drop, ap, sym, arith}
+use Rattle.std.proofs.Common.{◌∙◌, ◌+◌, ◌++◌, [], List, ℕ, drop, ap, sym, arith}
 use Rattle.ldp_grammar.specs.Reading.{AreOctets}
 use Rattle.ldp_grammar.proofs.OctetLemmas.{octets_drop}
-use Rattle.provider_edge.specs.Control.{at_control, controlled}
+use Rattle.provider_edge.specs.Control.{at_control}
 use Rattle.provider_edge.proofs.ControlLemmas.{plan_both}
 use Rattle.provider_edge.proofs.HearLemmas.{drop_end, fed_on, on_both, on_same}
 use Rattle.provider_edge.proofs.MessageLemmas.{all_ended, all_held, on_plan, room_for}

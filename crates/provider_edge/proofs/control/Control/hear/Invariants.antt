@@ -1,4 +1,4 @@
-use Rattle.std.proofs.Common.{◌++◌, ◌≤◌, ◌-◌, ℕ, List, drop, length}
+use Rattle.std.proofs.Common.{◌++◌, ◌≤◌, ◌-◌, drop, length}
 use Rattle.provider_edge.specs.Hearing.{HearsOn}
 use Rattle.edge_model.specs.Work.{Agrees, Answers, GoesOn}
 use Rattle.provider_edge.specs.Control.{KeepsPlan, Rest, at_control}

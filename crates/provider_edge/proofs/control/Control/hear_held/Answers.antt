@@ -1,7 +1,7 @@
-use Rattle.std.proofs.Common.{◌≡◌, ◌∙◌, ◌++◌, Option, Some, None, ap, option_copied, refl, sym, subst}
-use Rattle.provider_edge.specs.Hearing.{IsAtFault, IsAtPdu, IsWaiting, StandsNext}
+use Rattle.std.proofs.Common.{◌∙◌, ◌++◌, ap, option_copied, refl, sym, subst}
+use Rattle.provider_edge.specs.Hearing.{IsAtFault, IsAtPdu, StandsNext}
 use Rattle.provider_edge.specs.Control.{at_control, controlled}
-use Rattle.provider_edge.specs.Peering.{Dialogue, kept_with}
+use Rattle.provider_edge.specs.Peering.{kept_with}
 use Rattle.provider_edge.proofs.ControlLemmas.{plan_both}
 use Rattle.provider_edge.proofs.HearLemmas.{on_both}
 use Rattle.provider_edge.proofs.MessageLemmas.{fault_on, on_two, pdu_on, waits_none}

@@ -1,4 +1,3 @@
-use Rattle.std.proofs.Common.{◌≡◌, Some}
 use Rattle.pw_ends.specs.Ends.{place_of}
 use Rattle.edge_model.specs.Signal.{end_of_fec}
 use Rattle.provider_edge.specs.Control.{controlled}

@@ -1,6 +1,6 @@
 use Rattle.std.proofs.Common.{arith}
 use Rattle.provider_edge.proofs.ControlLemmas.{plan_both}
-use Rattle.provider_edge.proofs.MessageLemmas.{heard_at, messages_next}
+use Rattle.provider_edge.proofs.MessageLemmas.{messages_next}
 use Rattle.provider_edge.proofs.SpeakerLemmas.{agrees_before, goes_both}
 use Rattle.provider_edge.proofs.control.Control.hear_messages.Goals as goal
 

@@ -1,4 +1,4 @@
-use Rattle.std.proofs.Common.{◌≡◌, ap, option_copied}
+use Rattle.std.proofs.Common.{ap, option_copied}
 use Rattle.std.proofs.lemmas.Bool.{eq-eqb}
 use Rattle.provider_edge.specs.Control.{controlled}
 use Rattle.provider_edge.proofs.RowLemmas.{status_heard}

@@ -1,5 +1,4 @@
-use Rattle.std.proofs.Common.{◌≡◌, ◌∙◌, Bool, Some, ap, sym, subst}
-use Rattle.edge_model.specs.Put.{Spoken}
+use Rattle.std.proofs.Common.{◌∙◌, Bool, Some, ap}
 use Rattle.edge_model.specs.Work.{Work}
 use Rattle.provider_edge.specs.Control.{at_control, controlled}
 use Rattle.provider_edge.specs.Peering.{had_spoken, is_over, kept_with, put_message}

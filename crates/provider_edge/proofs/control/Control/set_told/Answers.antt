@@ -1,12 +1,19 @@
-use Rattle.std.proofs.Common.{◌≡◌, ◌<◌, length, slice_set, sym, subst, arith}
+use Rattle.std.proofs.Common.{◌≡◌, subst}
 use Rattle.edge_model.specs.State.{with_told_down}
+use Rattle.std.proofs.Common.{◌<◌, length, sym}
+use Rattle.net_base.specs.declared.plan.Plan.{Plan}
 use Rattle.provider_edge.specs.Control.{ControlLists, controlled}
 use Rattle.provider_edge.specs.contracts.control.Control.{the_view}
-use Rattle.provider_edge.proofs.ControlLemmas.{controlled_told}
+use Rattle.provider_edge.proofs.ForwardLemmas.{control_forwarding, controlled_forwarding}
 use Rattle.provider_edge.proofs.control.Control.set_told.Goals as goal
+
+pub invariant_of-self : goal.invariant_of-self
+invariant_of-self c = control_forwarding (the_view c.self.inside) c.tell.new.self c.tell.ensures.keeps c.self.invariant
 
 pub returns-clause-step : goal.returns-clause-step
 returns-clause-step c = λ rest.
-    let within : c.args.wire.0 < length (the_view c.self.inside).plan.wires = subst (λ (n : ControlLists). c.args.wire.0 < length n.plan.wires) (sym c.self.view_is) c.requires in
-    subst (λ (n : ControlLists). controlled (record (the_view c.self.inside) { told_down = slice_set (the_view c.self.inside).told_down c.args.wire.0 c.args.down }) rest ≡ with_told_down c.args.wire c.args.down (controlled n rest)) c.self.view_is
-    (controlled_told (the_view c.self.inside) c.args.wire c.args.down rest (omega (arith, within, c.self.invariant.each_told)))
+    subst (λ (n : ControlLists). controlled (record (the_view c.self.inside) { forwarding = c.tell.new.self }) rest ≡ with_told_down c.args.wire c.args.down (controlled n rest)) c.self.view_is
+    (controlled_forwarding (with_told_down c.args.wire c.args.down) (the_view c.self.inside) c.tell.new.self rest c.self.invariant c.tell.ensures.keeps c.tell.ensures.step)
+
+pub tell-requires : goal.tell-requires
+tell-requires c = subst (λ (p : Plan). c.args.wire.0 < length p.wires) (sym c.self.invariant.plan) (subst (λ (n : ControlLists). c.args.wire.0 < length n.plan.wires) (sym c.self.view_is) c.requires)

@@ -3,7 +3,7 @@ use Rattle.edge_model.specs.State.{with_peering}
 use Rattle.provider_edge.specs.Peering.{kept_with}
 use Rattle.provider_edge.specs.Control.{ControlLists, controlled}
 use Rattle.provider_edge.specs.contracts.control.Control.{the_view}
-use Rattle.provider_edge.proofs.ControlLemmas.{control_put, controlled_past, controlled_put, dialogue_past, dialogue_read}
+use Rattle.provider_edge.proofs.ControlLemmas.{controlled_past, controlled_put, dialogue_past, dialogue_read}
 use Rattle.provider_edge.proofs.control.Control.take_dialogue.Goals as goal
 
 pub returns-then-peer-len-clause-taken : goal.returns-then-peer-len-clause-taken

@@ -1,11 +1,14 @@
-use Rattle.std.proofs.Common.{◌≡◌, ◌<◌, length, sym, subst, arith}
+use Rattle.std.proofs.Common.{◌≡◌, ◌<◌, length, sym, subst}
+use Rattle.net_base.specs.declared.plan.Plan.{Plan}
 use Rattle.provider_edge.specs.Control.{ControlLists, controlled}
 use Rattle.provider_edge.specs.contracts.control.Control.{the_view}
-use Rattle.provider_edge.proofs.ControlLemmas.{told_read}
+use Rattle.provider_edge.proofs.ForwardLemmas.{told_read}
 use Rattle.provider_edge.proofs.control.Control.told_last.Goals as goal
+
+pub told_last-requires : goal.told_last-requires
+told_last-requires c = subst (λ (p : Plan). c.args.wire.0 < length p.wires) (sym c.self.invariant.plan) (subst (λ (n : ControlLists). c.args.wire.0 < length n.plan.wires) (sym c.self.view_is) c.requires)
 
 pub returns : goal.returns
 returns c = λ rest.
-    let within : c.args.wire.0 < length (the_view c.self.inside).plan.wires = subst (λ (n : ControlLists). c.args.wire.0 < length n.plan.wires) (sym c.self.view_is) c.requires in
-    subst (λ (n : ControlLists). c.index.result.now ≡ (controlled n rest).told_down c.args.wire.0) c.self.view_is
-    (told_read (the_view c.self.inside) c.args.wire c.index.result.now rest (omega (arith, within, c.self.invariant.each_told)) c.index.ensures)
+    subst (λ (n : ControlLists). c.told_last.result ≡ (controlled n rest).told_down c.args.wire.0) c.self.view_is
+    (told_read (the_view c.self.inside) c.args.wire c.told_last.result rest c.told_last.ensures)

@@ -1,6 +1,5 @@
 use Rattle.std.proofs.Common.{◌<◌, ◌∙◌, length, ap, sym, subst}
 use Rattle.vsi_bridge.specs.BridgeState.{BridgeState}
-use Rattle.mac_table.specs.Addresses.{AddressTable}
 use Rattle.std.specs.Prelude.{slice_get}
 use Rattle.provider_edge.proofs.EachLemmas.{first_dropped}
 use Rattle.provider_edge.proofs.domain.Domain.clear.Goals as goal

@@ -1,14 +1,14 @@
-use Rattle.std.proofs.Common.{◌≡◌, ◌<◌, ◌∙◌, [], Bool, Some, None, true, false, length, ap, sym, subst}
+use Rattle.std.proofs.Common.{◌≡◌, ◌∙◌, Bool, ap, sym, subst}
 use Rattle.std.proofs.Math.Bool.{beq}
 use Rattle.net_base.specs.plan.Places.{circuit_row}
 use Rattle.edge_model.specs.declared.effects.Effects.{Effects}
 use Rattle.edge_model.specs.Circuit.{circuit_input, turned}
 use Rattle.edge_model.specs.Work.{beginning, changes}
 use Rattle.std.proofs.lemmas.Option.{slice_get_within}
-use Rattle.provider_edge.specs.Lists.{own_service, seen, worked}
+use Rattle.provider_edge.specs.Lists.{seen, worked}
 use Rattle.provider_edge.specs.Peering.{at_edge}
 use Rattle.provider_edge.proofs.EdgeLemmas.{circuit_at, mended}
-use Rattle.provider_edge.proofs.OwnLemmas.{own_row}
+use Rattle.provider_edge.proofs.ForwardingLemmas.{own_row}
 use Rattle.provider_edge.proofs.WorkLemmas.{circuit_already, circuit_done, circuit_other}
 use Rattle.provider_edge.proofs.edge.Edge.circuit.Goals as goal
 
@@ -19,7 +19,7 @@ returns-in_default-clause-step g c = λ told agrees.
 
 pub is_on-requires : goal.is_on-requires
 is_on-requires g c =
-    let found = own_row (seen c.args.self.now) (circuit_row c.args.self.now.plan c.args.circuit) c.in-Some.service (sym c.own_service.ensures ∙ c.in-Some.is) in
+    let found = own_row c.args.self.now.me (circuit_row c.args.self.now.plan c.args.circuit) c.in-Some.service (sym c.own_service.ensures ∙ c.in-Some.is) in
     slice_get_within c.args.self.now.plan.circuits c.args.circuit.0 found.circuit found.is
 
 pub returns-then-is_on-on-clause-step : goal.returns-then-is_on-on-clause-step
@@ -30,7 +30,7 @@ returns-then-is_on-on-clause-step g c = λ told agrees.
 
 pub returns-clause-step : goal.returns-clause-step
 returns-clause-step g c = λ told agrees.
-    let found = own_row (seen c.args.self.now) (circuit_row c.args.self.now.plan c.args.circuit) c.in-Some.service (sym c.own_service.ensures ∙ c.in-Some.is) in
+    let found = own_row c.args.self.now.me (circuit_row c.args.self.now.plan c.args.circuit) c.in-Some.service (sym c.own_service.ensures ∙ c.in-Some.is) in
     circuit_done c.args.self.now told c.args.circuit c.args.on (circuit_row c.args.self.now.plan c.args.circuit) c.in-Some.service (g.L.Link.calls c.args.link.now) _ found
     (ap (λ (b : Bool). beq b c.args.on) (sym c.is_on.ensures) ∙ c.if-is_on-on.false)
     (mended c.args.self.now c.turn_circuit.new.self c.mend.new.self c.args.self.now.plan told (g.L.Link.calls c.args.link.now) (g.L.Link.calls c.args.link.now) (g.L.Link.calls c.mend.new.link) c.new-list.result c.mend.new.out

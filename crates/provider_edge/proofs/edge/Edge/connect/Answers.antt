@@ -1,4 +1,4 @@
-use Rattle.std.proofs.Common.{◌≡◌, ◌∙◌, ◌<◌, ℕ, List, [], length, slice_index_or, ap, sym, subst}
+use Rattle.std.proofs.Common.{◌≡◌, ◌∙◌, ◌<◌, ℕ, List, [], length, slice_index_or, ap, sym, subst, true}
 use Rattle.net_base.specs.declared.plan.Plan.{Plan}
 use Rattle.session_core.specs.State.{opened}
 use Rattle.edge_model.specs.Connection.{connects}
@@ -15,7 +15,7 @@ connect-requires-clause-within g c =
     subst (λ (p : Plan). c.args.peer.0 < length p.edges) (sym c.self.invariant.plan) (subst (λ (n : EdgeLists). c.args.peer.0 < length n.plan.edges) (sym c.self.view_is) c.requires.within)
 
 pub invariant_of-self : goal.invariant_of-self
-invariant_of-self g c = edge_control (the_view c.self.inside) c.connect.new.self c.connect.ensures.keeps c.self.invariant
+invariant_of-self g c = edge_control (the_view c.self.inside) c.connect.new.self (subst (λ (n : EdgeLists). n.stopped ≡ true) (sym c.self.view_is) c.requires.working) c.connect.ensures.keeps c.self.invariant
 
 pub returns-clause-step : goal.returns-clause-step
 returns-clause-step g c =

@@ -1,11 +1,55 @@
-use Rattle.std.proofs.Common.{◌≡◌, ◌∙◌, Some, position, sym}
+use Rattle.std.proofs.Common.{◌≡◌, ◌<◌, ◌∙◌, true, Some, length, position, ap, sym, subst}
+use Rattle.net_base.specs.declared.plan.Plan.{Plan}
+use Rattle.net_base.specs.declared.plan.places.EdgeId.{EdgeId}
+use Rattle.net_base.specs.declared.trace.arrival.Arrival.TheVariants as arrival
+use Rattle.net_base.specs.plan.Places.{circuit_row}
 use Rattle.hvpls_spokes.specs.Port.{is_circuit_port, ports_of}
-use Rattle.hvpls_spokes.specs.PortSet.{has}
-use Rattle.provider_edge.proofs.WorkLemmas.{forwarded_done}
+use Rattle.edge_model.specs.Frame.{received}
+use Rattle.edge_model.specs.State.{EdgeState, is_on}
+use Rattle.edge_model.specs.Synced.{InSync}
+use Rattle.provider_edge.specs.Control.{at_control}
+use Rattle.provider_edge.specs.Forwarding.{own_service}
+use Rattle.provider_edge.specs.Lists.{EdgeLists, rest_of, seen}
+use Rattle.provider_edge.specs.contracts.edge.Edge.{the_view}
+use Rattle.provider_edge.specs.Peering.{at_edge}
+use Rattle.provider_edge.proofs.EdgeLemmas.{edge_control, seen_is, synced_control, worked_edge}
+use Rattle.provider_edge.proofs.ForwardingLemmas.{own_within}
+use Rattle.provider_edge.proofs.SettleLemmas.{map_on}
 use Rattle.provider_edge.proofs.edge.Edge.forward.Goals as goal
 
+pub port_of-port-requires : goal.port_of-port-requires
+port_of-port-requires g c =
+    let v : EdgeLists = the_view c.self.inside in
+    subst (λ (p : Plan). c.args.service.0 < length p.services) (sym c.self.invariant.plan)
+    (own_within v.plan v.me c.args.circuit c.args.service c.self.invariant.checked (subst (λ (n : EdgeLists). own_service n.me (circuit_row n.plan c.args.circuit) ≡ Some c.args.service) (sym c.self.view_is) c.requires.own))
+
+pub receive-requires-clause-service : goal.receive-requires-clause-service
+receive-requires-clause-service g c =
+    let v : EdgeLists = the_view c.self.inside in
+    subst (λ (p : Plan). c.args.service.0 < length p.services) (sym c.self.invariant.plan)
+    (own_within v.plan v.me c.args.circuit c.args.service c.self.invariant.checked (subst (λ (n : EdgeLists). own_service n.me (circuit_row n.plan c.args.circuit) ≡ Some c.args.service) (sym c.self.view_is) c.requires.own))
+
+pub receive-requires-clause-synced : goal.receive-requires-clause-synced
+receive-requires-clause-synced g c = λ rest. synced_control (the_view c.self.inside) rest c.self.invariant (subst (λ (n : EdgeLists). InSync n.plan (seen n)) (sym c.self.view_is) c.requires.synced)
+
+pub receive-requires-clause-on : goal.receive-requires-clause-on
+receive-requires-clause-on g c =
+    let v : EdgeLists = the_view c.self.inside in
+    c.port_of-port.ensures.on (rest_of v)
+    (ap (λ (s : EdgeState). is_on s c.args.circuit) (sym (seen_is v c.self.invariant)) ∙ subst (λ (n : EdgeLists). is_on (seen n) c.args.circuit ≡ true) (sym c.self.view_is) c.requires.on)
+
+pub invariant_of-self : goal.invariant_of-self
+invariant_of-self g c = edge_control (the_view c.self.inside) c.receive.new.self (subst (λ (n : EdgeLists). n.stopped ≡ true) (sym c.self.view_is) c.requires.working) c.receive.ensures.keeps c.self.invariant
+
 pub returns-clause-step : goal.returns-clause-step
-returns-clause-step c =
-    let found : position (is_circuit_port c.args.circuit) (ports_of c.args.self.now.plan c.args.service c.args.self.now.me) ≡ Some c.in-Some.arrival = sym c.port_of.ensures.port ∙ c.in-Some.is in
-    forwarded_done c.copies.result c.args.self.now c.hear-targets.new.self c.args.service c.args.frame.now (position (is_circuit_port c.args.circuit) (ports_of c.args.self.now.plan c.args.service c.args.self.now.me)) c.in-Some.arrival
-    (has c.hear-targets.result) found c.hear-targets.ensures.keeps c.hear-targets.ensures.hears c.hear-targets.ensures.targets c.copies.ensures
+returns-clause-step g c = map_on _ _ c.receive.result
+    (λ step. λ told formed agrees read.
+    let v : EdgeLists = the_view c.self.inside in
+    let port = position (is_circuit_port c.args.circuit) (ports_of v.plan c.args.service v.me) in
+    subst (λ (n : EdgeLists). at_edge (seen (record v { control = c.receive.new.self })) (g.L.Link.calls c.receive.new.link) c.receive.new.out ≡ received n.plan told (arrival.Circuit c.args.circuit) c.args.service (position (is_circuit_port c.args.circuit) (ports_of n.plan c.args.service n.me)) formed (at_edge (seen n) (g.L.Link.calls c.args.link.now) c.args.out.now)) c.self.view_is
+    (worked_edge (received v.plan told (arrival.Circuit c.args.circuit) c.args.service port formed) v c.receive.new.self (g.L.Link.calls c.args.link.now) (g.L.Link.calls c.receive.new.link) c.args.out.now c.receive.new.out c.self.invariant c.receive.ensures.keeps
+    (step told (rest_of v) formed agrees read
+    ∙ (ap (λ p. received v.control.plan told (arrival.Circuit c.args.circuit) c.args.service p formed (at_control v.control (rest_of v) (g.L.Link.calls c.args.link.now) c.args.out.now)) c.port_of-port.ensures.port
+    ∙ (ap (λ (p : Plan). received p told (arrival.Circuit c.args.circuit) c.args.service (position (is_circuit_port c.args.circuit) (ports_of p c.args.service v.control.me)) formed (at_control v.control (rest_of v) (g.L.Link.calls c.args.link.now) c.args.out.now)) c.self.invariant.plan
+    ∙ ap (λ (m : EdgeId). received v.plan told (arrival.Circuit c.args.circuit) c.args.service (position (is_circuit_port c.args.circuit) (ports_of v.plan c.args.service m)) formed (at_control v.control (rest_of v) (g.L.Link.calls c.args.link.now) c.args.out.now)) c.self.invariant.me)))))
+    c.receive.ensures.step

@@ -10,7 +10,7 @@ use Rattle.provider_edge.proofs.edge.Edge.hear_octets.Goals as goal
 
 pub invariant_of-self : goal.invariant_of-self
 invariant_of-self g c =
-    edge_worked (the_view c.self.inside) c.hear.new.self (slice_set (the_view c.self.inside).held c.args.peer.0 c.hear.new.held) c.hear.ensures.keeps
+    edge_worked (the_view c.self.inside) c.hear.new.self (slice_set (the_view c.self.inside).held c.args.peer.0 c.hear.new.held) (subst (λ (n : EdgeLists). n.stopped ≡ true) (sym c.self.view_is) c.requires.working) c.hear.ensures.keeps
     (length-set (the_view c.self.inside).held c.args.peer.0 c.hear.new.held) c.self.invariant
 
 pub returns-clause-step : goal.returns-clause-step

@@ -1,8 +1,7 @@
-use Rattle.std.proofs.Common.{◌≡◌, subst}
+use Rattle.std.proofs.Common.{◌≡◌, subst, true, sym}
 use Rattle.net_base.specs.declared.trace.state_name.Reason.TheVariants as reason
 use Rattle.session_core.specs.Table.{Closed}
 use Rattle.edge_model.specs.Session.{happens_with_ends}
-use Rattle.provider_edge.specs.Control.{at_control}
 use Rattle.provider_edge.specs.Lists.{EdgeLists, rest_of, seen}
 use Rattle.provider_edge.specs.contracts.edge.Edge.{the_view}
 use Rattle.provider_edge.specs.Peering.{at_edge}
@@ -11,7 +10,7 @@ use Rattle.provider_edge.proofs.SettleLemmas.{map_on}
 use Rattle.provider_edge.proofs.edge.Edge.lose.Goals as goal
 
 pub invariant_of-self : goal.invariant_of-self
-invariant_of-self c = edge_control (the_view c.self.inside) c.lose.new.self c.lose.ensures.keeps c.self.invariant
+invariant_of-self c = edge_control (the_view c.self.inside) c.lose.new.self (subst (λ (n : EdgeLists). n.stopped ≡ true) (sym c.self.view_is) c.requires.working) c.lose.ensures.keeps c.self.invariant
 
 pub returns-clause-step : goal.returns-clause-step
 returns-clause-step c = map_on _ _ c.lose.result

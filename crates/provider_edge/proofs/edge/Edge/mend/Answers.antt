@@ -1,4 +1,4 @@
-use Rattle.std.proofs.Common.{◌≡◌, ◌∙◌, ap, subst}
+use Rattle.std.proofs.Common.{◌≡◌, ◌∙◌, ap, subst, true, sym}
 use Rattle.net_base.specs.declared.plan.Plan.{Plan}
 use Rattle.edge_model.specs.Mend.{mends}
 use Rattle.provider_edge.specs.Control.{at_control}
@@ -10,7 +10,7 @@ use Rattle.provider_edge.proofs.SettleLemmas.{map_on}
 use Rattle.provider_edge.proofs.edge.Edge.mend.Goals as goal
 
 pub invariant_of-self : goal.invariant_of-self
-invariant_of-self g c = edge_control (the_view c.self.inside) c.mend.new.self c.mend.ensures.keeps c.self.invariant
+invariant_of-self g c = edge_control (the_view c.self.inside) c.mend.new.self (subst (λ (n : EdgeLists). n.stopped ≡ true) (sym c.self.view_is) c.requires.working) c.mend.ensures.keeps c.self.invariant
 
 pub returns-clause-step : goal.returns-clause-step
 returns-clause-step g c = map_on _ _ c.mend.result

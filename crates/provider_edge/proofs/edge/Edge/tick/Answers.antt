@@ -1,4 +1,4 @@
-use Rattle.std.proofs.Common.{◌≡◌, [], length, subst}
+use Rattle.std.proofs.Common.{◌≡◌, length, subst}
 use Rattle.edge_model.specs.Tick.{counted, forgetting, ticks_sessions}
 use Rattle.edge_model.specs.Work.{beginning, changes}
 use Rattle.provider_edge.specs.Lists.{seen}

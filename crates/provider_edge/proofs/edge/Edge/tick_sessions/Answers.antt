@@ -1,4 +1,4 @@
-use Rattle.std.proofs.Common.{◌≡◌, ◌∙◌, length, ap, subst}
+use Rattle.std.proofs.Common.{◌≡◌, ◌∙◌, length, ap, subst, true, sym}
 use Rattle.net_base.specs.declared.plan.Plan.{Plan}
 use Rattle.edge_model.specs.Tick.{ticks_sessions}
 use Rattle.provider_edge.specs.Control.{at_control}
@@ -10,7 +10,7 @@ use Rattle.provider_edge.proofs.SettleLemmas.{map_on}
 use Rattle.provider_edge.proofs.edge.Edge.tick_sessions.Goals as goal
 
 pub invariant_of-self : goal.invariant_of-self
-invariant_of-self g c = edge_control (the_view c.self.inside) c.tick.new.self c.tick.ensures.keeps c.self.invariant
+invariant_of-self g c = edge_control (the_view c.self.inside) c.tick.new.self (subst (λ (n : EdgeLists). n.stopped ≡ true) (sym c.self.view_is) c.requires.working) c.tick.ensures.keeps c.self.invariant
 
 pub returns-clause-step : goal.returns-clause-step
 returns-clause-step g c = map_on _ _ c.tick.result

@@ -1,4 +1,4 @@
-use Rattle.std.proofs.Common.{◌≡◌, subst}
+use Rattle.std.proofs.Common.{◌≡◌, subst, true, sym}
 use Rattle.edge_model.specs.Wire.{turned_wire}
 use Rattle.provider_edge.specs.Lists.{EdgeLists, seen}
 use Rattle.provider_edge.specs.contracts.edge.Edge.{the_view}
@@ -6,7 +6,7 @@ use Rattle.provider_edge.proofs.EdgeLemmas.{edge_control, worked_state}
 use Rattle.provider_edge.proofs.edge.Edge.turn_wire.Goals as goal
 
 pub invariant_of-self : goal.invariant_of-self
-invariant_of-self c = edge_control (the_view c.self.inside) c.turn.new.self c.turn.ensures.keeps c.self.invariant
+invariant_of-self c = edge_control (the_view c.self.inside) c.turn.new.self (subst (λ (n : EdgeLists). n.stopped ≡ true) (sym c.self.view_is) c.requires.working) c.turn.ensures.keeps c.self.invariant
 
 pub returns-clause-step : goal.returns-clause-step
 returns-clause-step c =

@@ -1,4 +1,4 @@
-use Rattle.std.proofs.Common.{Option, Some, sym, subst, arith}
+use Rattle.std.proofs.Common.{sym, subst, arith}
 use Rattle.ldp_grammar.specs.Reading.{AreOctets}
 use Rattle.ldp_grammar.proofs.OctetLemmas.{octets_drop}
 use Rattle.provider_edge.specs.Hearing.{AreReady}

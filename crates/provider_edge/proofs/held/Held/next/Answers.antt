@@ -1,4 +1,4 @@
-use Rattle.std.proofs.Common.{◌≡◌, ◌∙◌, ℕ, List, ap, refl, subst, sym}
+use Rattle.std.proofs.Common.{◌∙◌, ℕ, List, ap, refl, subst, sym}
 use Rattle.ldp_stream.specs.State.{Answers}
 use Rattle.provider_edge.specs.Hearing.{AreReady, IsAtPdu, octets_in}
 use Rattle.provider_edge.proofs.HearLemmas.{at_pdu, passed_ready}

@@ -1,4 +1,4 @@
-use Rattle.std.proofs.Common.{◌≡◌, ◌++◌}
+use Rattle.std.proofs.Common.{◌≡◌, ◌≤◌, ◌++◌}
 use Rattle.network_model.specs.Absorb.{absorb_all, all_entries_of}
 use Rattle.provider_edge.specs.Said.{AllFit}
 use Rattle.psn_net.specs.Lists.{HasRoom, Keeps, seen}
@@ -11,6 +11,7 @@ invariant-loop-effect l =
     × record {
       keeps : Keeps l.fn.self l.self;
       room : HasRoom l.self;
+      passed : l.hops ≤ l.self.packets.last;
       fit : AllFit l.fn.self.plan l.effect-iterator.rest.items;
       state : absorb_all l.me l.origin l.hops l.effect-iterator.rest.items (seen l.self) ≡ absorb_all l.fn.me l.fn.origin l.fn.hops l.fn.effects.items (seen l.fn.self);
       told : l.self.trace ++ all_entries_of l.me l.origin l.hops l.effect-iterator.rest.items (seen l.self)

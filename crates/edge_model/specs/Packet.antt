@@ -1,0 +1,135 @@
+-- A packet comes from a neighbour: five steps, of which the first one that applies decides (RFC 3032 section 2.1, RFC 4448
+-- section 4, RFC 5085 section 5).
+use Rattle.std.specs.Prelude.{◌==◌, ◌&&◌, ◌/◌, not, nat_lt, ℕ, Bool, true, false, List, length, drop, slice_index, Option, Some, None, Result, Ok, Err, position, if◌then◌else◌}
+use Rattle.std.specs.List.{find}
+use Rattle.net_base.specs.declared.plan.Plan.{Plan}
+use Rattle.net_base.specs.declared.plan.offer.Offer.{Offer}
+use Rattle.net_base.specs.declared.plan.places.EdgeId.{EdgeId}
+use Rattle.net_base.specs.declared.plan.places.WireId.{WireId}
+use Rattle.net_base.specs.declared.plan.wire_plan.WirePlan.{WirePlan}
+use Rattle.net_base.specs.declared.trace.arrival.Arrival.TheVariants as arrival
+use Rattle.net_base.specs.declared.trace.drop_cause.DropCause.{DropCause}
+use Rattle.net_base.specs.declared.trace.drop_cause.DropCause.TheVariants as cause
+use Rattle.net_base.specs.plan.Paths.{offer_of}
+use Rattle.net_base.specs.plan.Places.{mtu_of, wire_row}
+use Rattle.eth_encap.specs.declared.stack_entry.StackEntry.{StackEntry}
+use Rattle.eth_encap.specs.Packet.{entry_of, unpacked}
+use Rattle.pw_signalling.specs.declared.binding.Binding.{Binding}
+use Rattle.pw_signalling.specs.End.{LocalPart, Idle, Advertised, Withdrawing}
+use Rattle.edge_model.specs.declared.end_place.EndPlace.{EndPlace}
+use Rattle.edge_model.specs.EndPlaces.{end_places}
+use Rattle.edge_model.specs.Ends.{is_up}
+use Rattle.edge_model.specs.Frame.{received}
+use Rattle.edge_model.specs.Mend.{port_of_wire}
+use Rattle.edge_model.specs.Role.{down_at}
+use Rattle.edge_model.specs.Send.{drops}
+use Rattle.edge_model.specs.State.{EdgeState, end_at}
+use Rattle.edge_model.specs.Work.{Work, Answers}
+
+-- ---- whose label it is
+
+abbrev pub advertises_label : ℕ → LocalPart → Bool
+advertises_label label (Idle declined) = false
+advertises_label label (Advertised own told) = own == label
+advertises_label label (Withdrawing own) = false
+
+-- the end of the edge that advertises the label
+abbrev pub advertiser : Plan → EdgeState → ℕ → Option EndPlace
+advertiser plan edge label = find (λ place. advertises_label label (end_at edge place).local) (end_places plan edge.me)
+
+-- ---- what stands behind the label stack
+
+-- the label stack of a packet with one entry has four octets
+abbrev pub behind_entry : List ℕ → List ℕ
+behind_entry octets = drop 4 octets
+
+abbrev pub unpacked_by : Offer → Option ℕ → List ℕ → Result (List ℕ) DropCause
+unpacked_by offer None payload = Err cause.Down
+unpacked_by offer (Some mtu) payload = unpacked offer.cword offer.tagged mtu payload
+
+-- the inner frame of a payload that came by a wire with this row to a terminal edge, by the edge's own offer
+abbrev pub unpacked_at : Plan → WirePlan → EdgeId → List ℕ → Result (List ℕ) DropCause
+unpacked_at plan row me payload = unpacked_by (offer_of row me.0) (mtu_of plan row.service) payload
+
+-- ---- 1. a router alert label in front (RFC 3032 section 2.1, RFC 5085 section 5.1.2)
+
+abbrev pub router_alert : ℕ
+router_alert = 1
+
+abbrev pub is_alert : StackEntry → Bool
+is_alert entry = entry.label == router_alert && not entry.bottom
+
+-- Connectivity verification behind a router alert; no control channel type is picked yet, so it is not offered
+abbrev pub alerts_end : Option EndPlace → Work → Work
+alerts_end None work = drops cause.NoLabel work
+alerts_end (Some place) work = if place.terminal then drops cause.NotOffered work else drops cause.NoLabel work
+
+abbrev pub alerted : Plan → Result StackEntry DropCause → Work → Work
+alerted plan (Err why) work = drops why work
+alerted plan (Ok entry) work = if entry.bottom then alerts_end (advertiser plan work.edge entry.label) work else drops cause.NotBottom work
+
+-- ---- 3. a switching point passes the packet on (RFC 6073 section 4); that is to come
+
+abbrev pub switched : Plan → Answers → List ℕ → StackEntry → EndPlace → Work → Work
+switched plan told octets entry place work = work
+
+-- ---- 5. the end does not forward, or the frame is bridged
+
+abbrev pub bridges_frame : Plan → Answers → WirePlan → EndPlace → List ℕ → Work → Work
+bridges_frame plan told row place payload work =
+    received plan told (arrival.Wire place.wire) row.service (port_of_wire plan work.edge place.wire row) (unpacked_at plan row work.edge.me payload) work
+
+abbrev pub enters : Plan → Answers → WirePlan → EndPlace → List ℕ → Work → Work
+enters plan told row place payload work =
+    if is_up (down_at plan work.edge place) then bridges_frame plan told row place payload work else drops cause.Down work
+
+-- ---- 4. a terminal end: is it bound, and is the payload a frame?
+
+-- the first nibble of a payload behind which an associated channel stands (RFC 4385 section 5)
+abbrev pub is_channel : List ℕ → Bool
+is_channel payload = slice_index payload 0 / 16 == 1
+
+-- with a control word: an associated channel is connectivity verification, and no control channel type is picked yet
+abbrev pub by_control_word : Plan → Answers → WirePlan → EndPlace → List ℕ → Work → Work
+by_control_word plan told row place payload work =
+    if length payload == 0 then drops cause.Short work
+    else if is_channel payload then drops cause.NotOffered work
+    else enters plan told row place payload work
+
+abbrev pub by_offer : Plan → Answers → WirePlan → EndPlace → Bool → List ℕ → Work → Work
+by_offer plan told row place true payload work = by_control_word plan told row place payload work
+by_offer plan told row place false payload work = enters plan told row place payload work
+
+abbrev pub terminated : Plan → Answers → EndPlace → Option WirePlan → Option Binding → List ℕ → Work → Work
+terminated plan told place None remote payload work = drops cause.Down work
+terminated plan told place (Some row) None payload work = drops cause.Down work
+terminated plan told place (Some row) (Some binding) payload work = by_offer plan told row place (offer_of row work.edge.me.0).cword payload work
+
+-- ---- 2. the label is one of the edge's own
+
+-- labels below this one are reserved (RFC 3032 section 2.1)
+abbrev pub least_label : ℕ
+least_label = 16
+
+abbrev pub owned : Plan → Answers → List ℕ → StackEntry → Option EndPlace → Work → Work
+owned plan told octets entry None work = drops cause.NoLabel work
+owned plan told octets entry (Some place) work =
+    if place.terminal
+    then terminated plan told place (wire_row plan place.wire) (end_at work.edge place).remote (behind_entry octets) work
+    else switched plan told octets entry place work
+
+abbrev pub labelled : Plan → Answers → List ℕ → StackEntry → Work → Work
+labelled plan told octets entry work =
+    if nat_lt entry.label least_label then drops cause.NoLabel work
+    else if entry.bottom then owned plan told octets entry (advertiser plan work.edge entry.label) work
+    else drops cause.NotBottom work
+
+-- the first entry is read
+abbrev pub opened_by : Plan → Answers → List ℕ → Result StackEntry DropCause → Work → Work
+opened_by plan told octets (Err why) work = drops why work
+opened_by plan told octets (Ok entry) work =
+    if is_alert entry then alerted plan (entry_of (behind_entry octets)) work else labelled plan told octets entry work
+
+-- the input `Packet`: it always applies
+abbrev pub packet_input : Plan → Answers → List ℕ → Work → Work
+packet_input plan told octets work = opened_by plan told octets (entry_of octets) work

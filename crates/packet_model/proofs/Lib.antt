@@ -1,0 +1,5 @@
+pub mod ArriveLemmas
+pub mod PackLemmas
+pub mod RunLemmas
+pub mod SendLemmas
+pub mod StepLemmas

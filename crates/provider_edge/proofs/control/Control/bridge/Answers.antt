@@ -1,0 +1,22 @@
+use Rattle.std.proofs.Common.{◌≡◌, ◌⊎◌, ◌↔◌, [], None, subst}
+use Rattle.std.specs.Prelude.{IfSome, IsNone}
+use Rattle.net_base.specs.declared.plan.Plan.{Plan}
+use Rattle.net_base.specs.declared.plan.places.EdgeId.{EdgeId}
+use Rattle.net_base.specs.plan.Places.{service_row}
+use Rattle.hvpls_spokes.specs.Port.{ports_of}
+use Rattle.edge_model.specs.State.{addresses_of}
+use Rattle.provider_edge.specs.Control.{ControlLists, Rest, controlled}
+use Rattle.provider_edge.specs.contracts.control.Control.{the_view}
+use Rattle.provider_edge.proofs.ForwardLemmas.{learned_if}
+use Rattle.provider_edge.proofs.control.Control.bridge.Goals as goal
+
+pub returns-clause-none : goal.returns-clause-none
+returns-clause-none c =
+    subst (λ (n : ControlLists). IsNone c.bridge.result ↔ ((service_row n.plan c.args.service ≡ None) ⊎ (ports_of n.plan c.args.service n.me ≡ []))) c.self.view_is
+    (subst (λ (m : EdgeId). IsNone c.bridge.result ↔ ((service_row (the_view c.self.inside).plan c.args.service ≡ None) ⊎ (ports_of (the_view c.self.inside).plan c.args.service m ≡ []))) c.self.invariant.me
+    (subst (λ (p : Plan). IsNone c.bridge.result ↔ ((service_row p c.args.service ≡ None) ⊎ (ports_of p c.args.service (the_view c.self.inside).forwarding.me ≡ []))) c.self.invariant.plan c.bridge.ensures.none))
+
+pub returns-clause-learned : goal.returns-clause-learned
+returns-clause-learned c =
+    subst (λ (n : ControlLists). IfSome c.bridge.result (λ bridge. (rest : Rest) → bridge.now.entries ≡ addresses_of (controlled n rest) c.args.service)) c.self.view_is
+    (learned_if (the_view c.self.inside) c.args.service c.bridge.result c.bridge.ensures.learned)

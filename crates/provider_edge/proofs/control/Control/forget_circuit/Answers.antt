@@ -1,0 +1,28 @@
+use Rattle.std.proofs.Common.{◌≡◌, position, subst}
+use Rattle.hvpls_spokes.specs.Port.{is_circuit_port, ports_of}
+use Rattle.edge_model.specs.State.{addresses_of, with_addresses, without_port}
+use Rattle.std.proofs.Common.{Some, sym}
+use Rattle.net_base.specs.declared.plan.Plan.{Plan}
+use Rattle.net_base.specs.declared.plan.places.EdgeId.{EdgeId}
+use Rattle.net_base.specs.plan.Places.{circuit_row}
+use Rattle.provider_edge.specs.Forwarding.{own_service}
+use Rattle.provider_edge.specs.Control.{ControlLists, controlled}
+use Rattle.provider_edge.specs.contracts.control.Control.{the_view}
+use Rattle.provider_edge.proofs.ForwardLemmas.{control_forwarding, controlled_forgot}
+use Rattle.provider_edge.proofs.control.Control.forget_circuit.Goals as goal
+
+pub invariant_of-self : goal.invariant_of-self
+invariant_of-self c = control_forwarding (the_view c.self.inside) c.forget_circuit.new.self c.forget_circuit.ensures.keeps c.self.invariant
+
+pub returns-clause-step : goal.returns-clause-step
+returns-clause-step c = λ rest.
+    subst (λ (n : ControlLists). controlled (record (the_view c.self.inside) { forwarding = c.forget_circuit.new.self }) rest ≡ with_addresses c.args.service (without_port (position (is_circuit_port c.args.circuit) (ports_of n.plan c.args.service n.me)) (addresses_of (controlled n rest) c.args.service)) (controlled n rest)) c.self.view_is
+    (controlled_forgot (is_circuit_port c.args.circuit) (the_view c.self.inside) c.forget_circuit.new.self c.args.service rest c.self.invariant c.forget_circuit.ensures.keeps c.forget_circuit.ensures.step)
+
+pub forget_circuit-requires : goal.forget_circuit-requires
+forget_circuit-requires c = record {
+  own =
+      subst (λ (m : EdgeId). own_service m (circuit_row (the_view c.self.inside).forwarding.plan c.args.circuit) ≡ Some c.args.service) (sym c.self.invariant.me)
+      (subst (λ (p : Plan). own_service (the_view c.self.inside).me (circuit_row p c.args.circuit) ≡ Some c.args.service) (sym c.self.invariant.plan)
+      (subst (λ (n : ControlLists). own_service n.me (circuit_row n.plan c.args.circuit) ≡ Some c.args.service) (sym c.self.view_is) c.requires.own));
+}

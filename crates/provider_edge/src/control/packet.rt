@@ -1,0 +1,416 @@
+//! A packet comes from a neighbour (RFC 3032 section 2.1, RFC 4448 section 4, RFC 5085 section 5): the first step that applies
+//! decides.
+ghost use Rattle.std.specs.Prelude.{◌≡◌, ◌≤◌, ◌<◌, List, Some, Ok, Err, true, length, option_map, position, is_some, IfOk, IfSome, OnOk, MatchResult};
+ghost use Rattle.net_base.specs.declared.outside.link_call.LinkCall.{LinkCall};
+ghost use Rattle.net_base.specs.declared.plan.wire_plan.WirePlan.{WirePlan};
+ghost use Rattle.net_base.specs.plan.Paths.{offer_of};
+ghost use Rattle.net_base.specs.plan.Places.{mtu_of, wire_row};
+ghost use Rattle.eth_encap.specs.Fault.{cause_of};
+ghost use Rattle.eth_encap.specs.Packet.{entry_of};
+ghost use Rattle.hvpls_spokes.specs.Port.{is_wire_port, ports_of};
+ghost use Rattle.edge_model.specs.declared.effect.Effect.{Effect as Given};
+ghost use Rattle.edge_model.specs.Ends.{is_up};
+ghost use Rattle.edge_model.specs.Packet.{advertiser, advertises_label, alerted, alerts_end, bridges_frame, by_control_word, enters, is_alert, is_channel, labelled, opened_by, owned, packet_input, terminated, unpacked_at};
+ghost use Rattle.edge_model.specs.Role.{down_at};
+ghost use Rattle.edge_model.specs.Send.{drops};
+ghost use Rattle.edge_model.specs.Synced.{InSync};
+ghost use Rattle.edge_model.specs.Work.{Agrees, Answers, GoesOn, Work};
+ghost use Rattle.pw_ends.specs.Ends.{end_in, place_of};
+ghost use Rattle.provider_edge.specs.Control.{KeepsPlan, Rest, at_control, controlled};
+ghost use Rattle.provider_edge.specs.Forwarding.{open_ports};
+
+use super::Control;
+use crate::packet::{read_payload, without_entry};
+use crate::quiet::drop_for;
+use edge_model::Effect;
+use eth_encap::{FrameFault, StackEntry, read_entry};
+use net_base::{Arrival, DropCause, Link, List, NoMemory, Offer, ServiceId};
+use pw_signalling::PwEnd;
+use std::alloc::Global;
+
+/// The label of a router alert (RFC 3032 section 2.1).
+const ROUTER_ALERT: u32 = 1;
+
+/// The first label that is not reserved (RFC 3032 section 2.1).
+const LEAST_LABEL: u32 = 16;
+
+/// The first nibble of an associated channel header (RFC 4385 section 5).
+const CHANNEL: u8 = 1;
+
+impl Control {
+    /// A packet comes: its first entry is read.
+    pub fn packet<L: Link>(
+        &mut self,
+        alloc: Global,
+        octets: &[u8],
+        link: &mut L,
+        out: &mut List<Effect>,
+    ) -> Result<(), NoMemory>
+        requires synced { (rest : Rest) → InSync self.old.plan (controlled self.old rest) }
+        ensures keeps { KeepsPlan self.old self.new }
+        ensures calls { GoesOn (L.calls link.old) (L.calls link.new) }
+        ensures step { OnOk result ((told : Answers) (rest : Rest) → Agrees told (L.calls link.new)
+            → at_control self.new rest (L.calls link.new) out.new ≡ packet_input self.old.plan told octets.now (at_control self.old rest (L.calls link.old) out.old)) }
+    {
+        match read_entry(octets) {
+            Ok(entry) => self.opened(alloc, octets, &entry, link, out),
+            Err(fault) => drop_for(fault.cause(), out),
+        }
+    }
+
+    // A packet with this first entry comes.
+    fn opened<L: Link>(
+        &mut self,
+        alloc: Global,
+        octets: &[u8],
+        entry: &StackEntry,
+        link: &mut L,
+        out: &mut List<Effect>,
+    ) -> Result<(), NoMemory>
+        requires synced { (rest : Rest) → InSync self.old.plan (controlled self.old rest) }
+        requires read { entry_of octets.now ≡ Ok entry.now }
+        ensures keeps { KeepsPlan self.old self.new }
+        ensures calls { GoesOn (L.calls link.old) (L.calls link.new) }
+        ensures step { OnOk result ((told : Answers) (rest : Rest) → Agrees told (L.calls link.new)
+            → at_control self.new rest (L.calls link.new) out.new ≡ opened_by self.old.plan told octets.now (Ok entry.now) (at_control self.old rest (L.calls link.old) out.old)) }
+    {
+        let behind = without_entry(octets);
+        if is_alert(entry) {
+            return self.alerted(behind, out);
+        }
+        self.labelled(alloc, octets, entry, link, out)
+    }
+
+    // 1. Behind a router alert a second entry is read. Connectivity verification is not offered yet.
+    fn alerted(&self, octets: &[u8], out: &mut List<Effect>) -> Result<(), NoMemory>
+        ensures { OnOk result ((rest : Rest) (calls : List LinkCall)
+            → at_control self.now rest calls out.new ≡ alerted self.now.plan (entry_of octets.now) (at_control self.now rest calls out.old)) }
+    {
+        match read_entry(octets) {
+            Ok(entry) => drop_for(self.entry_cause(&entry), out),
+            Err(fault) => drop_for(fault.cause(), out),
+        }
+    }
+
+    // Why what has this entry behind a router alert is dropped.
+    fn entry_cause(&self, entry: &StackEntry) -> DropCause
+        ensures { (rest : Rest) (calls : List LinkCall) (out : List Given)
+            → drops result (at_control self.now rest calls out) ≡ alerted self.now.plan (Ok entry.now) (at_control self.now rest calls out) }
+    {
+        if !entry.bottom {
+            return DropCause::NotBottom;
+        }
+        self.alert_cause(entry.label)
+    }
+
+    // Why connectivity verification under a label is dropped.
+    fn alert_cause(&self, label: u32) -> DropCause
+        ensures { (rest : Rest) (calls : List LinkCall) (out : List Given)
+            → drops result (at_control self.now rest calls out) ≡ alerts_end (advertiser self.now.plan (controlled self.now rest) label) (at_control self.now rest calls out) }
+    {
+        match self.advertiser(label) {
+            Some(slot) => self.slot_cause(slot),
+            None => DropCause::NoLabel,
+        }
+    }
+
+    // Why connectivity verification at the end of a slot is dropped.
+    fn slot_cause(&self, slot: usize) -> DropCause
+        requires { slot < length self.now.ends.places }
+        ensures { (work : Work) → drops result work ≡ alerts_end (Some (place_of self.now.ends slot)) work }
+    {
+        let place = self.place_at(slot);
+        if place.terminal {
+            return DropCause::NotOffered;
+        }
+        DropCause::NoLabel
+    }
+
+    // The end that advertises a label.
+    fn advertiser(&self, label: u32) -> Option<usize>
+        ensures named { (rest : Rest) → option_map (place_of self.now.ends) result ≡ advertiser self.now.plan (controlled self.now rest) label }
+        ensures slot { IfSome result (λ slot. slot < length self.now.ends.places) }
+    {
+        for slot in 0..self.count_ends() {
+            if self.advertises(slot, label) {
+                return Some(slot);
+            }
+        }
+        None
+    }
+
+    // Whether the end of a slot advertises a label.
+    fn advertises(&self, slot: usize, label: u32) -> bool
+        requires { slot < length self.now.ends.places }
+        ensures { result ≡ advertises_label label (end_in self.now.ends slot).local }
+    {
+        match self.end_in(slot) {
+            PwEnd::Advertised(end) => end.label().number() == label,
+            PwEnd::Idle(_) => false,
+            PwEnd::Withdrawing(_) => false,
+        }
+    }
+
+    // 2. The label is one of the edge's own, at the bottom of the stack.
+    fn labelled<L: Link>(
+        &mut self,
+        alloc: Global,
+        octets: &[u8],
+        entry: &StackEntry,
+        link: &mut L,
+        out: &mut List<Effect>,
+    ) -> Result<(), NoMemory>
+        requires synced { (rest : Rest) → InSync self.old.plan (controlled self.old rest) }
+        requires long { 4 ≤ length octets.now }
+        ensures keeps { KeepsPlan self.old self.new }
+        ensures calls { GoesOn (L.calls link.old) (L.calls link.new) }
+        ensures step { OnOk result ((told : Answers) (rest : Rest) → Agrees told (L.calls link.new)
+            → at_control self.new rest (L.calls link.new) out.new ≡ labelled self.old.plan told octets.now entry.now (at_control self.old rest (L.calls link.old) out.old)) }
+    {
+        if entry.label < LEAST_LABEL {
+            return drop_for(DropCause::NoLabel, out);
+        }
+        if !entry.bottom {
+            return drop_for(DropCause::NotBottom, out);
+        }
+        self.named(alloc, octets, entry, link, out)
+    }
+
+    // The label is that of one end.
+    fn named<L: Link>(
+        &mut self,
+        alloc: Global,
+        octets: &[u8],
+        entry: &StackEntry,
+        link: &mut L,
+        out: &mut List<Effect>,
+    ) -> Result<(), NoMemory>
+        requires synced { (rest : Rest) → InSync self.old.plan (controlled self.old rest) }
+        requires long { 4 ≤ length octets.now }
+        ensures keeps { KeepsPlan self.old self.new }
+        ensures calls { GoesOn (L.calls link.old) (L.calls link.new) }
+        ensures step { OnOk result ((told : Answers) (rest : Rest) → Agrees told (L.calls link.new)
+            → at_control self.new rest (L.calls link.new) out.new
+            ≡ owned self.old.plan told octets.now entry.now (advertiser self.old.plan (controlled self.old rest) entry.now.label) (at_control self.old rest (L.calls link.old) out.old)) }
+    {
+        match self.advertiser(entry.label) {
+            Some(slot) => self.owned(alloc, octets, entry, slot, link, out),
+            None => drop_for(DropCause::NoLabel, out),
+        }
+    }
+
+    // The end of a slot advertises the label.
+    fn owned<L: Link>(
+        &mut self,
+        alloc: Global,
+        octets: &[u8],
+        entry: &StackEntry,
+        slot: usize,
+        link: &mut L,
+        out: &mut List<Effect>,
+    ) -> Result<(), NoMemory>
+        requires synced { (rest : Rest) → InSync self.old.plan (controlled self.old rest) }
+        requires long { 4 ≤ length octets.now }
+        requires slot { slot < length self.old.ends.places }
+        ensures keeps { KeepsPlan self.old self.new }
+        ensures calls { GoesOn (L.calls link.old) (L.calls link.new) }
+        ensures step { OnOk result ((told : Answers) (rest : Rest) → Agrees told (L.calls link.new)
+            → at_control self.new rest (L.calls link.new) out.new
+            ≡ owned self.old.plan told octets.now entry.now (Some (place_of self.old.ends slot)) (at_control self.old rest (L.calls link.old) out.old)) }
+    {
+        let _ = entry;
+        // 3. A switching point passes the packet on; that is to come.
+        let place = self.place_at(slot);
+        if !place.terminal {
+            return Ok(());
+        }
+        self.terminated(alloc, slot, without_entry(octets), link, out)
+    }
+
+    // 4. A terminal end takes what stands behind its label, where it is bound.
+    fn terminated<L: Link>(
+        &mut self,
+        alloc: Global,
+        slot: usize,
+        payload: &[u8],
+        link: &mut L,
+        out: &mut List<Effect>,
+    ) -> Result<(), NoMemory>
+        requires synced { (rest : Rest) → InSync self.old.plan (controlled self.old rest) }
+        requires slot { slot < length self.old.ends.places }
+        requires terminal { (place_of self.old.ends slot).terminal ≡ true }
+        ensures keeps { KeepsPlan self.old self.new }
+        ensures calls { GoesOn (L.calls link.old) (L.calls link.new) }
+        ensures step { OnOk result ((told : Answers) (rest : Rest) → Agrees told (L.calls link.new)
+            → at_control self.new rest (L.calls link.new) out.new
+            ≡ terminated self.old.plan told (place_of self.old.ends slot) (wire_row self.old.plan (place_of self.old.ends slot).wire) (end_in self.old.ends slot).remote payload.now (at_control self.old rest (L.calls link.old) out.old)) }
+    {
+        if !self.is_bound(slot) {
+            return drop_for(DropCause::Down, out);
+        }
+        let offer = self.offer_at(slot);
+        if !offer.cword {
+            return self.enter(alloc, slot, payload, link, out);
+        }
+        self.by_control_word(alloc, slot, payload, link, out)
+    }
+
+    // Whether the end of a slot holds a binding.
+    fn is_bound(&self, slot: usize) -> bool
+        requires { slot < length self.now.ends.places }
+        ensures { result ≡ is_some (end_in self.now.ends slot).remote }
+    {
+        self.end_in(slot).remote().is_some()
+    }
+
+    // What the edge offers at the end of a slot.
+    #[tactic(auto, using(crate::proofs::ForwardingLemmas::row_read))]
+    fn offer_at(&self, slot: usize) -> Offer
+        requires { slot < length self.now.ends.places }
+        ensures row { (row : WirePlan) → wire_row self.now.plan (place_of self.now.ends slot).wire ≡ Some row → result ≡ offer_of row self.now.me.0 }
+        ensures within { (place_of self.now.ends slot).wire.0 < length self.now.plan.wires }
+    {
+        let wire = self.place_at(slot).wire;
+        self.plan.wires.as_slice()[wire.0 as usize].offer_of(self.me)
+    }
+
+    // With a control word: an associated channel is connectivity verification, and else a frame stands behind it.
+    fn by_control_word<L: Link>(
+        &mut self,
+        alloc: Global,
+        slot: usize,
+        payload: &[u8],
+        link: &mut L,
+        out: &mut List<Effect>,
+    ) -> Result<(), NoMemory>
+        requires synced { (rest : Rest) → InSync self.old.plan (controlled self.old rest) }
+        requires slot { slot < length self.old.ends.places }
+        requires terminal { (place_of self.old.ends slot).terminal ≡ true }
+        ensures keeps { KeepsPlan self.old self.new }
+        ensures calls { GoesOn (L.calls link.old) (L.calls link.new) }
+        ensures step { OnOk result ((told : Answers) (rest : Rest) (row : WirePlan) → Agrees told (L.calls link.new) → wire_row self.old.plan (place_of self.old.ends slot).wire ≡ Some row
+            → at_control self.new rest (L.calls link.new) out.new ≡ by_control_word self.old.plan told row (place_of self.old.ends slot) payload.now (at_control self.old rest (L.calls link.old) out.old)) }
+    {
+        if payload.is_empty() {
+            return drop_for(DropCause::Short, out);
+        }
+        if is_channel(payload) {
+            return drop_for(DropCause::NotOffered, out);
+        }
+        self.enter(alloc, slot, payload, link, out)
+    }
+
+    // 5. A frame comes by a wire whose end forwards, and is bridged.
+    fn enter<L: Link>(
+        &mut self,
+        alloc: Global,
+        slot: usize,
+        payload: &[u8],
+        link: &mut L,
+        out: &mut List<Effect>,
+    ) -> Result<(), NoMemory>
+        requires synced { (rest : Rest) → InSync self.old.plan (controlled self.old rest) }
+        requires slot { slot < length self.old.ends.places }
+        requires terminal { (place_of self.old.ends slot).terminal ≡ true }
+        ensures keeps { KeepsPlan self.old self.new }
+        ensures calls { GoesOn (L.calls link.old) (L.calls link.new) }
+        ensures step { OnOk result ((told : Answers) (rest : Rest) (row : WirePlan) → Agrees told (L.calls link.new) → wire_row self.old.plan (place_of self.old.ends slot).wire ≡ Some row
+            → at_control self.new rest (L.calls link.new) out.new ≡ enters self.old.plan told row (place_of self.old.ends slot) payload.now (at_control self.old rest (L.calls link.old) out.old)) }
+    {
+        if self.down_of(slot).is_some() {
+            return drop_for(DropCause::Down, out);
+        }
+        self.bridge_payload(alloc, slot, payload, link, out)
+    }
+
+    // A frame comes by a wire whose end forwards.
+    fn bridge_payload<L: Link>(
+        &mut self,
+        alloc: Global,
+        slot: usize,
+        payload: &[u8],
+        link: &mut L,
+        out: &mut List<Effect>,
+    ) -> Result<(), NoMemory>
+        requires synced { (rest : Rest) → InSync self.old.plan (controlled self.old rest) }
+        requires slot { slot < length self.old.ends.places }
+        requires terminal { (place_of self.old.ends slot).terminal ≡ true }
+        requires up { (rest : Rest) → is_up (down_at self.old.plan (controlled self.old rest) (place_of self.old.ends slot)) ≡ true }
+        ensures keeps { KeepsPlan self.old self.new }
+        ensures calls { GoesOn (L.calls link.old) (L.calls link.new) }
+        ensures step { OnOk result ((told : Answers) (rest : Rest) (row : WirePlan) → Agrees told (L.calls link.new) → wire_row self.old.plan (place_of self.old.ends slot).wire ≡ Some row
+            → at_control self.new rest (L.calls link.new) out.new ≡ bridges_frame self.old.plan told row (place_of self.old.ends slot) payload.now (at_control self.old rest (L.calls link.old) out.old)) }
+    {
+        let place = self.place_at(slot);
+        let came = Arrival::Wire(place.wire);
+        let service = self.service_at(slot);
+        let port = self.port_at(slot, service);
+        let read = self.read_frame(alloc, slot, payload)?;
+        self.receive(alloc, came, service, port, read, link, out)
+    }
+
+    // The service of the wire of an end.
+    #[tactic(auto, using(crate::proofs::ForwardingLemmas::row_read))]
+    fn service_at(&self, slot: usize) -> ServiceId
+        requires { slot < length self.now.ends.places }
+        ensures row { (row : WirePlan) → wire_row self.now.plan (place_of self.now.ends slot).wire ≡ Some row → result ≡ row.service }
+        ensures within { result.0 < length self.now.plan.services }
+    {
+        let wire = self.place_at(slot).wire;
+        self.plan.wires.as_slice()[wire.0 as usize].service
+    }
+
+    // The port of the wire of a terminal end that forwards; it is open.
+    fn port_at(&self, slot: usize, service: ServiceId) -> Option<u16>
+        requires service { service.0 < length self.now.plan.services }
+        requires synced { (rest : Rest) → InSync self.now.plan (controlled self.now rest) }
+        requires slot { slot < length self.now.ends.places }
+        requires terminal { (place_of self.now.ends slot).terminal ≡ true }
+        requires up { (rest : Rest) → is_up (down_at self.now.plan (controlled self.now rest) (place_of self.now.ends slot)) ≡ true }
+        ensures port { result ≡ position (is_wire_port (place_of self.now.ends slot).wire) (ports_of self.now.plan service self.now.me) }
+        ensures on { IfSome result (λ p. open_ports self.now.forwarding service p ≡ true) }
+    {
+        let place = self.ends.place(slot);
+        self.forwarding.port_of_wire(place.wire, service)
+    }
+
+    // The inner frame of what came by the end of a slot, by the edge's own offer.
+    fn read_frame(
+        &self,
+        alloc: Global,
+        slot: usize,
+        payload: &[u8],
+    ) -> Result<Result<Vec<u8>, FrameFault>, NoMemory>
+        requires { slot < length self.now.ends.places }
+        ensures read { IfOk result (λ read. (row : WirePlan) → wire_row self.now.plan (place_of self.now.ends slot).wire ≡ Some row
+            → MatchResult read (λ frame. unpacked_at self.now.plan row self.now.me payload.now ≡ Ok frame.items) (λ fault. unpacked_at self.now.plan row self.now.me payload.now ≡ Err (cause_of fault))) }
+        ensures header { IfOk result (λ read. IfOk read (λ frame. 14 ≤ length frame.items)) }
+    {
+        let offer = self.offer_at(slot);
+        let mtu = self.mtu_of(self.service_at(slot));
+        read_payload(alloc, &offer, mtu, payload)
+    }
+
+    // The MTU of a service.
+    fn mtu_of(&self, service: ServiceId) -> u16
+        requires { service.0 < length self.now.plan.services }
+        ensures { mtu_of self.now.plan service ≡ Some result }
+    {
+        self.plan.services.as_slice()[service.0 as usize].mtu
+    }
+}
+
+// Whether an entry is a router alert, behind which another entry stands.
+fn is_alert(entry: &StackEntry) -> bool
+    ensures { result ≡ is_alert entry.now }
+{
+    entry.label == ROUTER_ALERT && !entry.bottom
+}
+
+// Whether an associated channel stands behind the label stack.
+fn is_channel(payload: &[u8]) -> bool
+    requires { 1 ≤ length payload.now }
+    ensures { result ≡ is_channel payload.now }
+{
+    payload[0] / 16 == CHANNEL
+}

@@ -1,0 +1,82 @@
+//! Packets of pseudowires: a frame as a terminal edge sends it, and as one reads it (RFC 4448 section 4).
+ghost use Rattle.std.specs.Prelude.{◌≡◌, ◌≤◌, Ok, Err, length, IfOk, MatchResult};
+ghost use Rattle.eth_encap.specs.Fault.{cause_of};
+ghost use Rattle.eth_encap.specs.Packet.{unpacked};
+ghost use Rattle.edge_model.specs.Packet.{behind_entry};
+ghost use Rattle.edge_model.specs.Send.{packet_of, pushed_vlan};
+
+use eth_encap::{FrameFault, pack, unpack};
+use net_base::{List, NoMemory, Octets, Offer};
+use pw_signalling::Binding;
+use std::alloc::Global;
+
+/// The TTL with which a packet begins its way (RFC 4448 section 4.1).
+const FULL_TTL: u8 = 255;
+
+/// The octets of an inner frame as a terminal edge with this offer sends it under a binding.
+pub fn packet_of(
+    alloc: Global,
+    offer: &Offer,
+    binding: &Binding,
+    frame: &[u8],
+) -> Result<Octets, NoMemory>
+    requires header { 14 ≤ length frame.now }
+    ensures { IfOk result (λ octets. octets ≡ packet_of offer.now binding.now frame.now) }
+{
+    let mut out = vec![in alloc; 0u8; frame.len() + 12]?;
+    let vlan = pushed_vlan(offer.tagged, binding.told.vlan);
+    let count = pack(
+        binding.label,
+        FULL_TTL,
+        offer.cword,
+        vlan,
+        frame,
+        out.as_mut_slice(),
+    );
+    let (octets, _) = out.as_slice().split_at(count);
+    List::from_bytes(alloc, octets)
+}
+
+// The VLAN ID of the tag that tagged mode puts on: the one that the peer requests, or 0 (RFC 4448 sections 4.3 and 4.4).
+fn pushed_vlan(tagged: bool, requested: Option<u16>) -> Option<u16>
+    ensures { result ≡ pushed_vlan tagged requested }
+{
+    if tagged {
+        Some(requested.unwrap_or(0))
+    } else {
+        None
+    }
+}
+
+/// What stands behind the first entry of a label stack.
+pub fn without_entry(octets: &[u8]) -> &[u8]
+    requires { 4 ≤ length octets.now }
+    ensures { result.now ≡ behind_entry octets.now }
+{
+    octets.split_at(4).1
+}
+
+/// The inner frame of a payload as a terminal edge with this offer reads it, or its first fault.
+pub fn read_payload(
+    alloc: Global,
+    offer: &Offer,
+    mtu: u16,
+    payload: &[u8],
+) -> Result<Result<Vec<u8>, FrameFault>, NoMemory>
+    ensures { IfOk result (λ read. MatchResult read (λ frame. unpacked offer.now.cword offer.now.tagged mtu payload.now ≡ Ok frame.items) (λ fault. unpacked offer.now.cword offer.now.tagged mtu payload.now ≡ Err (cause_of fault))) }
+{
+    let mut frame = Vec::from_slice(alloc, payload)?;
+    match unpack(
+        offer.cword,
+        offer.tagged,
+        mtu,
+        payload,
+        frame.as_mut_slice(),
+    ) {
+        Ok(count) => {
+            frame.truncate(count);
+            Ok(Ok(frame))
+        }
+        Err(fault) => Ok(Err(fault)),
+    }
+}

@@ -1,0 +1,21 @@
+//! Frames as they leave at circuits.
+ghost use Rattle.std.specs.Prelude.{◌≡◌, ◌≤◌, length, IfOk, IfSome};
+ghost use Rattle.net_base.specs.values.Frame.{dress as dressed_frame};
+
+use eth_encap::dress;
+use net_base::{List, NoMemory, Octets};
+use std::alloc::Global;
+
+/// The inner frame with the tag, where there is one.
+pub fn dressed(alloc: Global, tag: Option<u16>, frame: &[u8]) -> Result<Octets, NoMemory>
+    requires header { 14 ≤ length frame.now }
+    ensures { IfOk result (λ octets. octets ≡ dressed_frame tag frame.now) }
+{
+    if tag.is_none() {
+        return List::from_bytes(alloc, frame);
+    }
+    let mut out = vec![in alloc; 0u8; frame.len() + 4]?;
+    let count = dress(tag, frame, out.as_mut_slice());
+    let (octets, _) = out.as_slice().split_at(count);
+    List::from_bytes(alloc, octets)
+}
