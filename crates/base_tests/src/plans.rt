@@ -1,5 +1,6 @@
 //! Small plans, with faults that were found by hand.
 
+use hvpls_spokes::{Role, role};
 use net_base::{
     Addr, CircuitPlan, Class, EdgeId, EdgePlan, List, Name, Offer, Place, Plan, PlanFault,
     ServiceId, ServicePlan, Table, Text, WirePlan,
@@ -296,5 +297,19 @@ fn tells_the_ends_of_segments(rt: HostRuntime) -> Result<(), Fail> {
     tells(&rt, &wire, 5, 1, (false, None));
     assert_eq!(rt; wire.offer_of(EdgeId(1)).group, 0);
     assert_eq!(rt; wire.offer_of(EdgeId(2)).group, 9);
+    Ok(())
+}
+
+#[test]
+fn tells_what_edges_are_to_a_service(rt: HostRuntime) -> Result<(), Fail> {
+    let plan = plan(
+        rt.alloc(),
+        &[drawn_of("spoke v 01 7")?, drawn_of("mesh w 123 8")?],
+    )?;
+    assert!(rt; role(&plan, ServiceId(0), EdgeId(0)) == Some(Role::SpokeEdge));
+    assert!(rt; role(&plan, ServiceId(0), EdgeId(1)) == Some(Role::Core));
+    assert!(rt; role(&plan, ServiceId(0), EdgeId(3)) == Some(Role::Core));
+    assert!(rt; role(&plan, ServiceId(0), EdgeId(2)).is_none());
+    assert!(rt; role(&plan, ServiceId(1), EdgeId(0)).is_none());
     Ok(())
 }

@@ -45,10 +45,11 @@ pub record LearnsOnly (old new : EdgeState) : Type 0 where
   pub bits : new.bits ≡ old.bits
   pub ends : new.ends ≡ old.ends
   pub downs : new.told_down ≡ old.told_down
+  pub chosen : new.chosen ≡ old.chosen
   pub labels : new.next_label ≡ old.next_label
 
 pub learns_not : (edge : EdgeState) → LearnsOnly edge edge
-learns_not edge = record { me = refl; circuits = refl; ticks = refl; peering = refl; wires = refl; bits = refl; ends = refl; downs = refl; labels = refl }
+learns_not edge = record { me = refl; circuits = refl; ticks = refl; peering = refl; wires = refl; bits = refl; ends = refl; downs = refl; chosen = refl; labels = refl }
 
 pub learns_then : (a b c : EdgeState) → LearnsOnly a b → LearnsOnly b c → LearnsOnly a c
 learns_then a b c first next = record {
@@ -60,6 +61,7 @@ learns_then a b c first next = record {
   bits = next.bits ∙ first.bits;
   ends = next.ends ∙ first.ends;
   downs = next.downs ∙ first.downs;
+  chosen = next.chosen ∙ first.chosen;
   labels = next.labels ∙ first.labels;
 }
 
@@ -75,12 +77,13 @@ learns_is old new only = λ i. record {
   bits = only.bits i;
   ends = only.ends i;
   told_down = only.downs i;
+  chosen = only.chosen i;
   next_label = only.labels i;
 }
 
 addresses_learn : (service : ServiceId) (entries : List MacEntry) (edge : EdgeState) → LearnsOnly edge (with_addresses service entries edge)
 unfolding with_addresses
-addresses_learn service entries edge = record { me = refl; circuits = refl; ticks = refl; peering = refl; wires = refl; bits = refl; ends = refl; downs = refl; labels = refl }
+addresses_learn service entries edge = record { me = refl; circuits = refl; ticks = refl; peering = refl; wires = refl; bits = refl; ends = refl; downs = refl; chosen = refl; labels = refl }
 
 -- ---- the edge forgets
 

@@ -43,7 +43,7 @@ use Rattle.edge_model.specs.Role.{status_to_tell}
 use Rattle.edge_model.specs.Send.{sends}
 use Rattle.edge_model.specs.Session.{clears_ends, comes_of, ends, had_said, happens, happens_to, happens_with_ends, is_same_phase, says, says_to, tells_change, went_on, with_session}
 use Rattle.edge_model.specs.Signal.{end_of_fec, with_end_changed, with_named}
-use Rattle.edge_model.specs.State.{EdgeState, Peering, with_addresses, with_bits, with_circuit, with_end, with_ends_beside, with_learned, with_next_label, with_peering, with_renewed, with_ticks, with_told_down, with_wire, without_ends, without_peerings}
+use Rattle.edge_model.specs.State.{EdgeState, Peering, with_addresses, with_bits, with_chosen, with_circuit, with_end, with_ends_beside, with_learned, with_next_label, with_peering, with_renewed, with_ticks, with_told_down, with_wire, without_ends, without_peerings}
 use Rattle.edge_model.specs.Step.{edge_step}
 use Rattle.edge_model.specs.Wire.{turned_wire}
 use Rattle.edge_model.specs.Work.{Work, Answers, changes, gives, idles, next_answer, puts}
@@ -228,13 +228,14 @@ turned_wire_keeps wire true edge = refl
 turned_wire_keeps wire false edge = refl
 
 mend_steps : (plan : Plan) (told : Answers) (k : ℕ) → MendSteps plan told (FitsOn k)
-unfolding changes gives with_end with_next_label with_told_down
+unfolding changes gives with_chosen with_end with_next_label with_told_down
 mend_steps plan told k = record {
   same = λ work fits. fits;
   joined = λ a b c first next fits. next (first fits);
   advertises = λ place content work is idle wished left fits.
       says_fits told k place.peer (mapping place.pw_id work.edge.next_label content) (changes (advertising place work.edge.next_label content) work) fits;
   withdraws = λ place label content work is advertised wished fits. says_fits told k place.peer (withdrawal place.pw_id label content) (changes (withdrawing place) work) fits;
+  chooses = λ work fits. fits;
   tells_status = λ place label content last work is advertised told_it other fits.
       let status : PwStatus = status_to_tell plan work.edge place in
       says_fits told k place.peer (status_notification place.pw_id status content) (changes (telling_status place status) work) fits;

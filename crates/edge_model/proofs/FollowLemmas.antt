@@ -28,7 +28,7 @@ use Rattle.edge_model.specs.Put.{message_octets_of, put_octets, put_reply}
 use Rattle.edge_model.specs.Send.{sends}
 use Rattle.edge_model.specs.Session.{clears_ends, had_put, had_said, happens, happens_with_ends, says, says_to}
 use Rattle.edge_model.specs.Signal.{end_of_fec, with_end_changed, with_named}
-use Rattle.edge_model.specs.State.{EdgeState, Peering, empty_edge, end_at, has_end, is_there, with_addresses, with_bits, with_circuit, with_end, with_ends_beside, with_learned, with_next_label, with_peering, with_renewed, with_ticks, with_told_down, with_wire, without_ends, without_peerings}
+use Rattle.edge_model.specs.State.{EdgeState, Peering, empty_edge, end_at, has_end, is_there, with_addresses, with_bits, with_chosen, with_circuit, with_end, with_ends_beside, with_learned, with_next_label, with_peering, with_renewed, with_ticks, with_told_down, with_wire, without_ends, without_peerings}
 use Rattle.edge_model.specs.Step.{edge_step}
 use Rattle.edge_model.specs.Wire.{turned_wire}
 use Rattle.edge_model.specs.Work.{Work, Answers, changes, gives, idles, next_answer}
@@ -195,7 +195,7 @@ learns_follow a b only follows wire k none =
     ap (λ (ends : ℕ → ℕ → EndState). ends wire k) only.ends ∙ follows wire k (sym (ap (λ (peering : ℕ → Option Peering). peering k) only.peering) ∙ none)
 
 pub mend_follows : (plan : Plan) (told : Answers) → MendSteps plan told FollowsOn
-unfolding changes gives with_told_down
+unfolding changes gives with_chosen with_told_down
 mend_follows plan told = record {
   same = λ work follows. follows;
   joined = follows_then;
@@ -205,6 +205,7 @@ mend_follows plan told = record {
   withdraws = λ place label content work here is wished.
       change_says_follows told place.peer (withdrawal place.pw_id label content) (withdrawing place) work
       (λ follows. end_follows place (withdrawn (end_at work.edge place)) work.edge (advertised_stands work.edge place label content follows is) follows);
+  chooses = λ work follows. follows;
   tells_status = λ place label content last work here is status other.
       change_says_follows told place.peer (status_notification place.pw_id _ content) (telling_status place _) work
       (λ follows. end_follows place _ work.edge (advertised_stands work.edge place label content follows is) follows);

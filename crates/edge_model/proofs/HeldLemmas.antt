@@ -37,12 +37,13 @@ use Rattle.edge_model.specs.declared.effect.Effect.TheVariants as effect
 use Rattle.edge_model.specs.declared.end_place.EndPlace.{EndPlace}
 use Rattle.edge_model.specs.EndPlaces.{end_named, end_places}
 use Rattle.edge_model.specs.Hear.{acts, acts_on, advice_of, advises, hears_few, hears_front, hears_message, hears_messages, hears_one, hears_pdu, hears_within, holds, was_up}
-use Rattle.edge_model.specs.Mend.{advertises_wish, advertising, and_says, cause_number, each_end, forgets_down, forgets_downs, forgetting_wire, is_up_with, mends, mends_again, mends_end, mends_few, mends_local, mends_once, mends_status, mends_status_of, stays, telling_status, tells_down, tells_downs, tells_over, terminal_wish, wish, wish_of, withdrawing, withdraws_unless}
+use Rattle.edge_model.specs.Mend.{advertises_wish, advertising, and_says, cause_number, each_end, forgets_down, forgets_downs, forgetting_wire, is_up_with, mends, mends_again, mends_end, mends_few, mends_local, mends_once, mends_status, mends_status_of, stays, telling_status, tells_down, tells_downs, tells_over, terminal_wish, then_changes, wish, wish_of, withdrawing, withdraws_unless}
 use Rattle.edge_model.specs.Put.{Spoken, having_spoken, message_octets_of, octets_of, put_octets, put_replies, put_reply, put_reply_to, puts_on, with_spoken}
 use Rattle.edge_model.specs.Role.{down_at, status_to_tell}
 use Rattle.edge_model.specs.Session.{clears_ends, comes_of, ends, had_put, had_said, happens, happens_to, happens_with_ends, is_same_phase, says, says_to, tells_change, went_on, with_session}
 use Rattle.edge_model.specs.Signal.{end_of_fec, hears_status, hears_withdraw, maps_to, releases_label, with_end_changed, with_named}
-use Rattle.edge_model.specs.State.{EdgeState, Peering, end_at, has_end, is_there, put_at, with_addresses, with_end, with_ends_beside, with_next_label, with_peering, with_told_down}
+use Rattle.edge_model.specs.Spokes.{choosing}
+use Rattle.edge_model.specs.State.{EdgeState, Peering, end_at, has_end, is_there, put_at, with_addresses, with_chosen, with_end, with_ends_beside, with_next_label, with_peering, with_told_down}
 use Rattle.edge_model.specs.Work.{Work, Answers, changes, gives, next_answer, puts}
 
 -- ---- what is kept for a peer becomes something else
@@ -301,14 +302,20 @@ forgets_downs_held plan other (place ∷ places) work =
     one true = forget (down_at plan work.edge place)
     one false = refl
 
+choosing_held : (plan : Plan) (other : Holding) (edge : EdgeState) → choosing plan (reheld other edge) ≡ reheld other (choosing plan edge)
+unfolding with_chosen
+choosing_held plan other edge = refl
+
 mends_once_held : (plan : Plan) (told : Answers) (other : Holding) → MendsAlike other (mends_once plan told)
 mends_once_held plan told other work =
     let places : List EndPlace = end_places plan work.edge.me in
     let first : Spoken = each_end (mends_end plan told) places (stays work) in
-    let second : Spoken = each_end (mends_status plan told) places first in
+    let chosen : Spoken = then_changes (choosing plan) first in
+    let second : Spoken = each_end (mends_status plan told) places chosen in
     ap (λ (s : Spoken). last places s)
-    (ap (each_end (mends_status plan told) places) (each_end_held other (mends_end plan told) (mends_end_held plan told other) places (stays work))
-    ∙ each_end_held other (mends_status plan told) (mends_status_held plan told other) places first)
+    (ap (λ (s : Spoken). each_end (mends_status plan told) places (then_changes (choosing plan) s)) (each_end_held other (mends_end plan told) (mends_end_held plan told other) places (stays work))
+    ∙ (ap (λ (w : Work). each_end (mends_status plan told) places (record { work = w; failed = first.failed })) (changes_held other (choosing plan) first.work (choosing_held plan other first.work.edge))
+    ∙ each_end_held other (mends_status plan told) (mends_status_held plan told other) places chosen))
     ∙ ap (λ (w : Work). record { work = w; failed = second.failed })
     (ap (tells_downs plan places) (forgets_downs_held plan other places second.work) ∙ tells_downs_held plan other places (forgets_downs plan places second.work))
   where

@@ -23,7 +23,7 @@ use Rattle.edge_model.specs.Put.{put_reply}
 use Rattle.edge_model.specs.Send.{sends}
 use Rattle.edge_model.specs.Session.{had_said, happens_with_ends, says}
 use Rattle.edge_model.specs.Signal.{end_of_fec, with_end_changed, with_named}
-use Rattle.edge_model.specs.State.{EdgeState, end_at, with_addresses, with_bits, with_circuit, with_end, with_ends_beside, with_learned, with_next_label, with_peering, with_renewed, with_ticks, with_told_down, with_wire, without_ends, without_peerings}
+use Rattle.edge_model.specs.State.{EdgeState, end_at, with_addresses, with_bits, with_chosen, with_circuit, with_end, with_ends_beside, with_learned, with_next_label, with_peering, with_renewed, with_ticks, with_told_down, with_wire, without_ends, without_peerings}
 use Rattle.edge_model.specs.Step.{edge_step}
 use Rattle.edge_model.specs.Wire.{turned_wire}
 use Rattle.edge_model.specs.Work.{Work, Answers, changes, gives, idles}
@@ -107,13 +107,14 @@ advertises_rises told place content work left =
     (session_rises given said (says_works told any place.peer message given refl))
 
 pub mend_rises : (plan : Plan) (told : Answers) → MendSteps plan told WorkRises
-unfolding changes gives with_told_down
+unfolding changes gives with_chosen with_told_down
 mend_rises plan told = record {
   same = rises_not;
   joined = λ a b c. rises_then numbers_end a.edge.next_label b.edge.next_label c.edge.next_label;
   advertises = λ place content work here idle wished left. advertises_rises told place content work left;
   withdraws = λ place label content work here is wished.
       says_rises told place.peer (withdrawal place.pw_id label content) (withdrawing place) work (end_keeps place (withdrawn (end_at work.edge place)) work.edge);
+  chooses = rises_not;
   tells_status = λ place label content last work here is status other.
       says_rises told place.peer (status_notification place.pw_id _ content) (telling_status place _) work (end_keeps place (telling _ (end_at work.edge place)) work.edge);
   forgets_wire = λ place why work here terminal is. learns_rise work (changes (forgetting_wire plan place.wire (wire_row plan place.wire)) work) (forgetting_only plan place.wire (wire_row plan place.wire) work).edge;

@@ -1,4 +1,5 @@
 pub mod BridgeLemmas
+pub mod ChoiceLemmas
 mod Examples
 pub mod CopyLemmas
 pub mod FitLemmas

@@ -12,11 +12,12 @@ use Rattle.pw_signalling.specs.End.{LocalPart, Idle, Advertised, Withdrawing}
 use Rattle.edge_model.specs.Content.{mapping, status_notification, withdrawal}
 use Rattle.edge_model.specs.declared.end_place.EndPlace.{EndPlace}
 use Rattle.edge_model.specs.EndPlaces.{end_places}
-use Rattle.edge_model.specs.Mend.{advertises_wish, advertising, and_says, each_end, mends, mends_again, mends_end, mends_few, mends_local, mends_once, mends_status, mends_status_of, stays, telling_status, tells_over, wish, withdrawing, withdraws_unless}
+use Rattle.edge_model.specs.Mend.{advertises_wish, advertising, and_says, each_end, mends, mends_again, mends_end, mends_few, mends_local, mends_once, mends_status, mends_status_of, stays, telling_status, tells_over, then_changes, wish, withdrawing, withdraws_unless}
 use Rattle.edge_model.specs.Put.{Spoken, having_spoken, message_octets_of, put_octets, with_spoken}
 use Rattle.edge_model.specs.Role.{status_to_tell}
 use Rattle.edge_model.specs.Session.{clears_ends, had_said, says, says_to}
-use Rattle.edge_model.specs.State.{Peering, end_at, has_end, is_there, with_end, with_next_label, with_peering, with_told_down}
+use Rattle.edge_model.specs.Spokes.{choosing}
+use Rattle.edge_model.specs.State.{Peering, end_at, has_end, is_there, with_chosen, with_end, with_next_label, with_peering, with_told_down}
 use Rattle.edge_model.specs.Work.{Work, Answers, changes, gives, next_answer, puts}
 use Rattle.edge_model.proofs.BridgeLemmas.{forgetting_only}
 use Rattle.edge_model.proofs.WalkLemmas.{MendSteps, mends_holds}
@@ -101,7 +102,7 @@ module _ (plan : Plan) (told : Answers) (takes : TakesAll told) where
   mends_once_takes work =
       let places : List EndPlace = end_places plan work.edge.me in
       let first : Spoken = each_end (mends_end plan told) places (stays work) in
-      each_end_takes (mends_status plan told) mends_status_takes places first (each_end_takes (mends_end plan told) mends_end_takes places (stays work) refl)
+      each_end_takes (mends_status plan told) mends_status_takes places (then_changes (choosing plan) first) (each_end_takes (mends_end plan told) mends_end_takes places (stays work) refl)
 
   pub mends_takes : (work : Work) → mends plan told work ≡ (mends_once plan told work).work
   mends_takes work =
@@ -148,7 +149,7 @@ SpeaksFrom k a b = (old : Option Peering) → SpeaksOn old (a.edge.peering k) �
 
 -- no session ends, and none moves to another state
 pub mends_speaks : (plan : Plan) (told : Answers) (k : ℕ) (work : Work) → TakesAll told → SpeaksOn (work.edge.peering k) ((mends plan told work).edge.peering k)
-unfolding changes gives with_end with_next_label with_told_down SpeaksFrom
+unfolding changes gives with_chosen with_end with_next_label with_told_down SpeaksFrom
 mends_speaks plan told k work takes = mends_holds plan told (SpeaksFrom k) steps work (work.edge.peering k) (record { times = 0; is = same (work.edge.peering k) })
   where
     same : (kept : Option Peering) → kept ≡ option_map (having_spoken_times 0) kept
@@ -163,6 +164,7 @@ mends_speaks plan told k work takes = mends_holds plan told (SpeaksFrom k) steps
           says_speaks told k old place.peer (mapping place.pw_id now.edge.next_label content) (changes (advertising place now.edge.next_label content) now) takes speaks;
       withdraws = λ place label content now is advertised wished old speaks.
           says_speaks told k old place.peer (withdrawal place.pw_id label content) (changes (withdrawing place) now) takes speaks;
+      chooses = λ now old speaks. speaks;
       tells_status = λ place label content last now is advertised told_it other old speaks.
           let status : PwStatus = status_to_tell plan now.edge place in
           says_speaks told k old place.peer (status_notification place.pw_id status content) (changes (telling_status place status) now) takes speaks;

@@ -5,6 +5,7 @@ use Rattle.std.specs.List.{AllByRecursion}
 use Rattle.net_base.specs.declared.plan.Plan.{Plan}
 use Rattle.net_base.specs.declared.plan.places.EdgeId.{EdgeId}
 use Rattle.net_base.specs.declared.plan.places.ServiceId.{ServiceId}
+use Rattle.net_base.specs.declared.plan.places.WireId.{WireId}
 use Rattle.net_base.specs.declared.plan.wire_plan.WirePlan.{WirePlan}
 use Rattle.net_base.specs.declared.trace.down.Down.{Down}
 use Rattle.net_base.specs.plan.Paths.{offer_of}
@@ -15,20 +16,26 @@ use Rattle.ldp_grammar.specs.declared.message.Message.{Message}
 use Rattle.pw_tlvs.specs.declared.pw_status.PwStatus.{PwStatus}
 use Rattle.pw_status.specs.Status.{combined, method_by}
 use Rattle.pw_signalling.specs.declared.binding.Binding.{Binding}
+use Rattle.pw_signalling.specs.declared.end_role.EndRole.{EndRole}
+use Rattle.pw_signalling.specs.declared.end_role.EndRole.TheVariants as role
 use Rattle.pw_signalling.specs.declared.told.Told.{Told}
+use Rattle.pw_signalling.specs.Down.{down}
 use Rattle.pw_signalling.specs.End.{EndState, LocalPart, Idle, Advertised, Withdrawing}
 use Rattle.pw_signalling.specs.Rows.{advertised, telling, withdrawn}
+use Rattle.spoke_redundancy.specs.Telling.{is_not_chosen}
 use Rattle.edge_model.specs.Content.{content_of, mapping, status_notification, withdrawal}
 use Rattle.edge_model.specs.declared.effect.Effect.TheVariants.{Wire}
 use Rattle.edge_model.specs.declared.end_place.EndPlace.{EndPlace}
 use Rattle.edge_model.specs.EndPlaces.{end_places, is_terminal}
-use Rattle.edge_model.specs.Mend.{advertises_wish, advertising, and_says, cause_number, each_end, forgets_down, forgets_downs, forgetting_wire, is_up_with, mends, mends_again, mends_end, mends_few, mends_local, mends_once, mends_status, mends_status_of, status_held, port_of_wire, stays, telling_status, tells_down, tells_downs, tells_over, tells_status, wish, wish_of, withdrawing, withdraws_unless}
+use Rattle.edge_model.specs.Mend.{advertises_wish, advertising, and_says, cause_number, each_end, forgets_down, forgets_downs, forgetting_wire, is_up_with, mends, mends_again, mends_end, mends_few, mends_local, mends_once, mends_status, mends_status_of, port_of_wire, status_held, status_offered, stays, telling_status, tells_down, tells_downs, tells_over, tells_status, then_changes, wish, wish_of, withdrawing, withdraws_unless}
 use Rattle.edge_model.specs.Put.{Spoken, having_spoken, message_octets_of, put_octets, with_spoken}
-use Rattle.edge_model.specs.Role.{down_at, is_not_chosen, role_in, status_to_tell}
+use Rattle.edge_model.specs.Role.{down_at, role_in, status_to_tell}
 use Rattle.edge_model.specs.Session.{had_said, says, says_to}
-use Rattle.edge_model.specs.State.{EdgeState, Peering, addresses_of, end_at, with_addresses, with_end, with_next_label, with_peering, with_told_down, without_port}
+use Rattle.edge_model.specs.Spokes.{choosing}
+use Rattle.edge_model.specs.State.{EdgeState, Peering, addresses_of, end_at, with_addresses, with_chosen, with_end, with_next_label, with_peering, with_told_down, without_port}
 use Rattle.edge_model.specs.Work.{Work, Answers, changes, gives, next_answer, puts}
 use Rattle.edge_model.proofs.BridgeLemmas.{LearnsOnly, forgets_downs_only, forgetting_learns, learns_is}
+use Rattle.edge_model.proofs.ChoiceLemmas.{HasChosen, choice_same, choosing_is, choosing_not, telling_down}
 use Rattle.edge_model.proofs.MendLemmas.{TakesAll, mends_once_takes, mends_takes, says_nothing, says_taken}
 use Rattle.edge_model.proofs.PlaceLemmas.{IsEndOf, places_are}
 
@@ -168,9 +175,10 @@ all_map : (P Q : EndPlace → Type 0) → ((place : EndPlace) → P place → Q 
 all_map P Q each [] all = tt
 all_map P Q each (place ∷ places) all = (each place all.0, all_map P Q each places all.1)
 
--- all ends of an edge tell what they should
+-- all ends of an edge tell what they should, and it has chosen among its spokes
 pub record IsMended (plan : Plan) (edge : EdgeState) : Type 0 where
   pub ends : AllByRecursion (λ place. is_mended plan edge place ≡ true) (end_places plan edge.me)
+  pub chosen : HasChosen plan edge
   pub statuses : AllByRecursion (λ place. is_told plan edge place ≡ true) (end_places plan edge.me)
   pub forgotten : AllByRecursion (IsForgotten plan edge) (end_places plan edge.me)
   pub downs : AllByRecursion (λ place. is_down_told plan edge place ≡ true) (end_places plan edge.me)
@@ -184,7 +192,9 @@ mends_once_not plan told work mended =
     let second : each_end (mends_status plan told) places (stays work) ≡ stays work =
     each_end_not (mends_status plan told) work places
     (all_map (λ place. is_told plan work.edge place ≡ true) (λ place. mends_status plan told place work ≡ stays work) (λ place is. mends_status_not plan told place work is) places mended.statuses) in
-    ap (λ (s : Spoken). last places s) (ap (each_end (mends_status plan told) places) first ∙ second)
+    ap (λ (s : Spoken). last places s)
+    (ap (λ (s : Spoken). each_end (mends_status plan told) places (then_changes (choosing plan) s)) first
+    ∙ (ap (λ (w : Work). each_end (mends_status plan told) places (stays w)) (choosing_not plan work mended.chosen) ∙ second))
     ∙ ap stays (ap (tells_downs plan places) (forgets_downs_not plan work places mended.forgotten) ∙ tells_downs_not plan work places mended.downs)
   where
     last : List EndPlace → Spoken → Spoken
@@ -214,15 +224,16 @@ record IsSpoken (old new : EdgeState) : Type 0 where
   wires : new.wire_on ≡ old.wire_on
   bits : new.bits ≡ old.bits
   ends : new.ends ≡ old.ends
+  chosen : new.chosen ≡ old.chosen
   labels : new.next_label ≡ old.next_label
   ups : (k : ℕ) → is_up_with (new.peering k) ≡ is_up_with (old.peering k)
 
 spoken_not : (edge : EdgeState) → IsSpoken edge edge
-spoken_not edge = record { me = refl; wires = refl; bits = refl; ends = refl; labels = refl; ups = λ k. refl }
+spoken_not edge = record { me = refl; wires = refl; bits = refl; ends = refl; chosen = refl; labels = refl; ups = λ k. refl }
 
 put_spoken : (peer : EdgeId) (bytes : List ℕ) (work : Work) → IsSpoken work.edge (put_octets peer bytes true work).work.edge
 unfolding changes gives puts with_peering with_spoken
-put_spoken peer bytes work = record { me = refl; wires = refl; bits = refl; ends = refl; labels = refl; ups = λ k. up k } where
+put_spoken peer bytes work = record { me = refl; wires = refl; bits = refl; ends = refl; chosen = refl; labels = refl; ups = λ k. up k } where
   up : (k : ℕ) → is_up_with (cond (nat_eq k peer.0) (option_map having_spoken (work.edge.peering peer.0)) (work.edge.peering k)) ≡ is_up_with (work.edge.peering k)
   up k = elim (cases_Bool (nat_eq k peer.0)) [
     | inl here ↦ rw here (up_spoken (work.edge.peering peer.0) ∙ ap (λ (n : ℕ). is_up_with (work.edge.peering n)) (sym (eqb-true k peer.0 here)))
@@ -251,25 +262,28 @@ record IsSteady (old new : EdgeState) : Type 0 where
   me : new.me ≡ old.me
   wires : new.wire_on ≡ old.wire_on
   bits : new.bits ≡ old.bits
+  chosen : new.chosen ≡ old.chosen
   remotes : (wire k : ℕ) → (new.ends wire k).remote ≡ (old.ends wire k).remote
   ups : (k : ℕ) → is_up_with (new.peering k) ≡ is_up_with (old.peering k)
 
 steady_not : (edge : EdgeState) → IsSteady edge edge
-steady_not edge = record { me = refl; wires = refl; bits = refl; remotes = λ wire k. refl; ups = λ k. refl }
+steady_not edge = record { me = refl; wires = refl; bits = refl; chosen = refl; remotes = λ wire k. refl; ups = λ k. refl }
 
 steady_then : (a b c : EdgeState) → IsSteady a b → IsSteady b c → IsSteady a c
 steady_then a b c first next = record {
   me = next.me ∙ first.me;
   wires = next.wires ∙ first.wires;
   bits = next.bits ∙ first.bits;
+  chosen = next.chosen ∙ first.chosen;
   remotes = λ wire k. next.remotes wire k ∙ first.remotes wire k;
   ups = λ k. next.ups k ∙ first.ups k;
 }
 
 status_steady : (plan : Plan) (a b : EdgeState) (place : EndPlace) → IsSteady a b → status_to_tell plan b place ≡ status_to_tell plan a place
 status_steady plan a b place steady =
-    ap (λ (bits : ℕ → ℕ). combined (bits place.wire.0) (is_not_chosen (role_in (wire_row plan place.wire) b.me))) steady.bits
-    ∙ ap (λ (me : EdgeId). combined (a.bits place.wire.0) (is_not_chosen (role_in (wire_row plan place.wire) me))) steady.me
+    ap (λ (bits : ℕ → ℕ). combined (bits place.wire.0) (is_not_chosen (role_in (wire_row plan place.wire) b.me b.chosen place.wire))) steady.bits
+    ∙ (ap (λ (me : EdgeId). combined (a.bits place.wire.0) (is_not_chosen (role_in (wire_row plan place.wire) me b.chosen place.wire))) steady.me
+    ∙ ap (λ (chosen : ℕ → Option WireId). combined (a.bits place.wire.0) (is_not_chosen (role_in (wire_row plan place.wire) a.me chosen place.wire))) steady.chosen)
 
 wish_steady : (plan : Plan) (a b : EdgeState) (place : EndPlace) → IsSteady a b → wish plan b place ≡ wish plan a place
 wish_steady plan a b place steady = of (wire_row plan place.wire) where
@@ -353,6 +367,7 @@ changed_step place end label old new remote left spoken = record {
     me = spoken.me;
     wires = spoken.wires;
     bits = spoken.bits;
+    chosen = spoken.chosen;
     remotes = λ wire k. ap (λ (ends : ℕ → ℕ → EndState). (ends wire k).remote) spoken.ends ∙ remote_put place end old remote wire k;
     ups = spoken.ups;
   };
@@ -452,6 +467,8 @@ record EndTells (plan : Plan) (place : EndPlace) (old new : EdgeState) : Type 0 
   step : EndStep place old new
   -- it advertises as before
   same : (wished none_left : Bool) → tells_wish wished none_left (end_at new place).local ≡ tells_wish wished none_left (end_at old place).local
+  -- and forwards as before in each role
+  downs : (role : EndRole) (bits : ℕ) → down role bits (end_at new place) ≡ down role bits (end_at old place)
   told : is_told plan new place ≡ true
 
 end_tells : (plan : Plan) (told : Answers) (place : EndPlace) (work : Work) → (mends_status plan told place work).failed ≡ false → EndTells plan place work.edge (mends_status plan told place work).work.edge
@@ -464,7 +481,7 @@ end_tells plan told place work = of (end_at work.edge place).local refl where
   status = status_to_tell plan a place
 
   stayed : is_told plan a place ≡ true → EndTells plan place a a
-  stayed now = record { step = step_not place a; same = λ wished none_left. refl; told = now }
+  stayed now = record { step = step_not place a; same = λ wished none_left. refl; downs = λ role bits. refl; told = now }
 
   after : (label : ℕ) (content : Told) → (end_at a place).local ≡ Advertised label content → (said : Spoken) → IsSpoken (telling_status place status a) said.work.edge → EndTells plan place a said.work.edge
   after label content is said spoken =
@@ -475,6 +492,7 @@ end_tells plan told place work = of (end_at work.edge place).local refl where
       record {
         step = step;
         same = λ wished none_left. ap (tells_wish wished none_left) there ∙ ap (tells_wish wished none_left) (sym is);
+        downs = λ role bits. ap (down role bits) (changed_end place end a.next_label a said.work.edge spoken) ∙ telling_down role bits status (end_at a place);
         told = ap (λ (l : LocalPart). tells_now (status_to_tell plan said.work.edge place).0 l) there
             ∙ (ap (λ (s : PwStatus). nat_eq status.0 s.0) (status_steady plan a said.work.edge place step.steady) ∙ eq-eqb status.0 status.0 refl);
       }
@@ -574,6 +592,18 @@ tells_keeps_told plan p q old new tells is = elim (cases_Bool (is_at q p.wire.0 
       ∙ (ap (λ (e : EndState). tells_now (status_to_tell plan old p).0 e.local) (tells.step.others p.wire.0 p.peer.0 apart) ∙ is)
 ]
 
+-- a status that was told is no cause for any end not to forward
+tells_keeps_downs : (plan : Plan) (q : EndPlace) (old new : EdgeState) → EndTells plan q old new → (wire k : ℕ) (role : EndRole) (bits : ℕ) → down role bits (new.ends wire k) ≡ down role bits (old.ends wire k)
+tells_keeps_downs plan q old new tells wire k role bits = elim (cases_Bool (is_at q wire k)) [
+  | inl here ↦
+      (let w : wire ≡ q.wire.0 = eqb-true wire q.wire.0 (and_first (nat_eq wire q.wire.0) (nat_eq k q.peer.0) here) in
+      let p : k ≡ q.peer.0 = eqb-true k q.peer.0 (and_second (nat_eq wire q.wire.0) (nat_eq k q.peer.0) here) in
+      ap (down role bits) (end_like new w p) ∙ (tells.downs role bits ∙ ap (down role bits) (sym (end_like old w p))))
+  | inr apart ↦ ap (down role bits) (tells.step.others wire k apart)
+] where
+  end_like : (edge : EdgeState) → wire ≡ q.wire.0 → k ≡ q.peer.0 → edge.ends wire k ≡ end_at edge q
+  end_like edge w p = ap (λ (n : ℕ). edge.ends n k) w ∙ ap (edge.ends q.wire.0) p
+
 -- ---- each end in turn
 
 -- One step of mending at each of these places: what holds throughout goes on, and at its own place the step makes something so that
@@ -618,9 +648,10 @@ terminal_is plan me p end = end.terminal ∙ sym (ap (λ (row : Option WirePlan)
 same_side : (plan : Plan) (me : EdgeId) (p q : EndPlace) → IsEndOf plan me p → IsEndOf plan me q → p.wire.0 ≡ q.wire.0 → p.terminal ≡ q.terminal
 same_side plan me p q one other w = terminal_is plan me p one ∙ (ap (λ (n : ℕ). terminal_in (wire_row plan (record { 0 = n })) me) w ∙ sym (terminal_is plan me q other))
 
--- what ends should tell has not changed, and ends that were mended are
+-- what ends should tell has not changed, ends that were mended are, and each forwards as before in each role
 record StaysMended (plan : Plan) (old now : EdgeState) : Type 0 where
   steady : IsSteady old now
+  downs : (wire k : ℕ) (role : EndRole) (bits : ℕ) → down role bits (now.ends wire k) ≡ down role bits (old.ends wire k)
   mended : (p : EndPlace) → is_mended plan old p ≡ true → is_mended plan now p ≡ true
 
 module _ (plan : Plan) (told : Answers) (me : EdgeId) where
@@ -636,11 +667,45 @@ module _ (plan : Plan) (told : Answers) (me : EdgeId) where
   second_pass old = record {
     goes_on = λ q work here none stays. record {
       steady = steady_then old work.edge (mends_status plan told q work).work.edge stays.steady (end_tells plan told q work none).step.steady;
+      downs = λ wire k role bits. tells_keeps_downs plan q work.edge (mends_status plan told q work).work.edge (end_tells plan told q work none) wire k role bits ∙ stays.downs wire k role bits;
       mended = λ p is. tells_keeps_mended plan p q work.edge (mends_status plan told q work).work.edge (end_tells plan told q work none) (stays.mended p is);
     };
     makes = λ q work here none stays. (end_tells plan told q work none).told;
     keeps = λ p q work one other none stays is. tells_keeps_told plan p q work.edge (mends_status plan told q work).work.edge (end_tells plan told q work none) is;
   }
+
+-- ---- the edge chooses
+
+-- which spokes are chosen tells nothing of whether an end should tell something
+wish_there : (plan : Plan) (chosen : ℕ → Option WireId) (edge : EdgeState) (place : EndPlace) → is_some (wish plan (with_chosen chosen edge) place) ≡ is_some (wish plan edge place)
+unfolding with_chosen
+wish_there plan chosen edge place = of (wire_row plan place.wire) where
+  there : (up tells : Bool) (one other : Told) → is_some (cond up (cond tells (Some one) None) None) ≡ is_some (cond up (cond tells (Some other) None) None)
+  there true true one other = refl
+  there true false one other = refl
+  there false tells one other = refl
+
+  content : EdgeState → WirePlan → Told
+  content e row = content_of (offer_of row e.me.0) (status_offered plan e place (offer_of row e.me.0))
+
+  of : (row : Option WirePlan) → is_some (wish_of plan (with_chosen chosen edge) place row) ≡ is_some (wish_of plan edge place row)
+  of None = refl
+  of (Some row) =
+      there ((edge.wire_on place.wire.0 && is_up_with (edge.peering place.peer.0)) && place.terminal)
+      (tells_status (method_by (offer_of row edge.me.0).status (status_held (end_at edge place).remote)) || nat_eq (edge.bits place.wire.0) 0)
+      (content (with_chosen chosen edge) row) (content edge row)
+
+-- so an end that was mended is once the edge has chosen
+choosing_mended : (plan : Plan) (place : EndPlace) (work : Work) → is_mended plan work.edge place ≡ true → is_mended plan (changes (choosing plan) work).edge place ≡ true
+unfolding changes with_chosen
+choosing_mended plan place work is =
+    let next : EdgeState = (changes (choosing plan) work).edge in
+    ap (λ (wished : Bool). tells_wish wished (nat_eq next.next_label numbers_end) (end_at next place).local) (wish_there plan next.chosen work.edge place) ∙ is
+
+-- it is the same edge
+choosing_me : (plan : Plan) (work : Work) → (changes (choosing plan) work).edge.me ≡ work.edge.me
+unfolding changes with_chosen
+choosing_me plan work = refl
 
 -- ---- what was learned at wires that do not forward is forgotten
 
@@ -854,7 +919,8 @@ round_mends plan told work one none =
     record {
       ends = at_me (λ me. AllByRecursion (λ p. is_mended plan last p ≡ true) (end_places plan me))
           (all_map (λ p. is_mended plan first.work.edge p ≡ true) (λ p. is_mended plan last p ≡ true)
-          (λ p is. subst (λ (e : EdgeState). is_mended plan e p ≡ true) (sym at_last) (statuses.still.mended p is)) places ends.made);
+          (λ p is. subst (λ (e : EdgeState). is_mended plan e p ≡ true) (sym at_last) (statuses.still.mended p (choosing_mended plan p first.work is))) places ends.made);
+      chosen = subst (HasChosen plan) (sym at_last) choice_made;
       statuses = at_me (λ me. AllByRecursion (λ p. is_told plan last p ≡ true) (end_places plan me))
           (all_map (λ p. is_told plan second.work.edge p ≡ true) (λ p. is_told plan last p ≡ true)
           (λ p is. subst (λ (e : EdgeState). is_told plan e p ≡ true) (sym at_last) is) places statuses.made);
@@ -875,8 +941,11 @@ round_mends plan told work one none =
     first : Spoken
     first = each_end (mends_end plan told) places (stays work)
 
+    chosen : Spoken
+    chosen = then_changes (choosing plan) first
+
     second : Spoken
-    second = each_end (mends_status plan told) places first
+    second = each_end (mends_status plan told) places chosen
 
     forgot : Work
     forgot = forgets_downs plan places second.work
@@ -886,11 +955,18 @@ round_mends plan told work one none =
 
     ends : Passed (IsEndOf plan me) (λ now. IsSteady work.edge now) (λ p now. is_mended plan now p ≡ true) places work.edge first.work.edge
     ends = passes (mends_end plan told) (IsEndOf plan me) (λ now. IsSteady work.edge now) (λ p now. is_mended plan now p ≡ true) (first_pass plan told me work.edge) places all (stays work)
-        (fails_not_before (mends_status plan told) places first none) (steady_not work.edge)
+        (fails_not_before (mends_status plan told) places chosen none) (steady_not work.edge)
 
-    statuses : Passed (IsEndOf plan me) (λ now. StaysMended plan first.work.edge now) (λ p now. is_told plan now p ≡ true) places first.work.edge second.work.edge
-    statuses = passes (mends_status plan told) (IsEndOf plan me) (λ now. StaysMended plan first.work.edge now) (λ p now. is_told plan now p ≡ true) (second_pass plan told me first.work.edge) places all first
-        none (record { steady = steady_not first.work.edge; mended = λ p is. is })
+    statuses : Passed (IsEndOf plan me) (λ now. StaysMended plan chosen.work.edge now) (λ p now. is_told plan now p ≡ true) places chosen.work.edge second.work.edge
+    statuses = passes (mends_status plan told) (IsEndOf plan me) (λ now. StaysMended plan chosen.work.edge now) (λ p now. is_told plan now p ≡ true) (second_pass plan told me chosen.work.edge) places all chosen
+        none (record { steady = steady_not chosen.work.edge; downs = λ wire k role bits. refl; mended = λ p is. is })
+
+    -- the choice is that of now: the statuses that were told change nothing of it
+    still_chosen : HasChosen plan second.work.edge
+    still_chosen service =
+        ap (λ (map : ℕ → Option WireId). map service) statuses.still.steady.chosen
+        ∙ (choosing_is plan first.work service
+        ∙ sym (choice_same plan chosen.work.edge second.work.edge statuses.still.steady.me statuses.still.steady.bits (λ wire k bits. statuses.still.downs wire k role.Chosen bits) (record { 0 = service })))
 
     learns : LearnsOnly second.work.edge forgot.edge
     learns = (forgets_downs_only plan places second.work).edge
@@ -901,8 +977,11 @@ round_mends plan told work one none =
     at_last : last ≡ record (second.work.edge) { learned = forgot.edge.learned; told_down = downs.downs }
     at_last = downs.is ∙ ap (λ (e : EdgeState). record e { told_down = downs.downs }) (learns_is second.work.edge forgot.edge learns)
 
+    choice_made : HasChosen plan (record (second.work.edge) { learned = forgot.edge.learned; told_down = downs.downs })
+    choice_made service = still_chosen service
+
     same_me : last.me ≡ me
-    same_me = ap (λ (e : EdgeState). e.me) at_last ∙ (statuses.still.steady.me ∙ ends.still.me)
+    same_me = ap (λ (e : EdgeState). e.me) at_last ∙ (statuses.still.steady.me ∙ (choosing_me plan first.work ∙ ends.still.me))
 
     at_me : (P : EdgeId → Type 0) → P me → P last.me
     at_me P p = subst P (sym same_me) p

@@ -15,7 +15,7 @@ use Rattle.edge_model.specs.Connection.{connected_input, lost_input}
 use Rattle.edge_model.specs.declared.effect.Effect.TheVariants.{Said, Session, Wire, Closed}
 use Rattle.edge_model.specs.Hear.{hears_pdu}
 use Rattle.edge_model.specs.Put.{with_spoken}
-use Rattle.edge_model.specs.State.{EdgeState, empty_edge, with_addresses, with_end, with_ends_beside, with_next_label, with_peering, with_told_down}
+use Rattle.edge_model.specs.State.{EdgeState, empty_edge, with_addresses, with_chosen, with_end, with_ends_beside, with_next_label, with_peering, with_told_down}
 use Rattle.edge_model.specs.Work.{Work, Answers, beginning, changes, gives, idles, puts}
 use Rattle.ldp_grammar.specs.declared.message.Message.{Message}
 use Rattle.ldp_grammar.specs.declared.message.Message.TheVariants.{Initialization, KeepAlive}
@@ -76,25 +76,25 @@ mapping_of_b = 0 ∷ 1 ∷ 0 ∷ 50 ∷ 10 ∷ 0 ∷ 0 ∷ 2 ∷ 0 ∷ 0 ∷ 4 �
 
 -- the passive end waits, the active one speaks
 waits : (connected taken a b).effects ≡ Session b name.Initialized ∷ []
-unfolding changes down gives idles puts with_addresses with_end with_ends_beside with_next_label with_peering with_spoken with_told_down
+unfolding changes down gives idles puts with_addresses with_chosen with_end with_ends_beside with_next_label with_peering with_spoken with_told_down
 waits = refl
 
 speaks : (connected taken b a).effects ≡ Session a name.Initialized ∷ Said a initialization_of_b ∷ Session a name.OpenSent ∷ []
-unfolding changes down gives idles puts with_addresses with_end with_ends_beside with_next_label with_peering with_spoken with_told_down
+unfolding changes down gives idles puts with_addresses with_chosen with_end with_ends_beside with_next_label with_peering with_spoken with_told_down
 speaks = refl
 
 -- where the link does not take it, the session ends at once
 fails : (connected failing b a).effects ≡ Session a name.Initialized ∷ Session a (name.Ended reason.LinkFault) ∷ Closed a ∷ []
-unfolding changes down gives idles puts with_addresses with_end with_ends_beside with_next_label with_peering with_spoken with_told_down
+unfolding changes down gives idles puts with_addresses with_chosen with_end with_ends_beside with_next_label with_peering with_spoken with_told_down
 fails = refl
 
 -- edges that no wire joins have no connection
 apart : (connected taken a (record { 0 = 2 })).idle ≡ true
-unfolding changes down gives idles puts with_addresses with_end with_ends_beside with_next_label with_peering with_spoken with_told_down
+unfolding changes down gives idles puts with_addresses with_chosen with_end with_ends_beside with_next_label with_peering with_spoken with_told_down
 apart = refl
 
 lost : (lost_input plan taken b (beginning (connected taken a b).edge [])).effects ≡ Session b (name.Ended reason.Closed) ∷ Closed b ∷ []
-unfolding changes down gives idles puts with_addresses with_end with_ends_beside with_next_label with_peering with_spoken with_told_down
+unfolding changes down gives idles puts with_addresses with_chosen with_end with_ends_beside with_next_label with_peering with_spoken with_told_down
 lost = refl
 
 -- what each of them puts, as messages
@@ -117,11 +117,11 @@ hearing told peer pdus edge = hears_all told peer pdus (beginning edge [])
 -- the proposal is answered by one's own and by a KeepAlive
 answers : (hearing taken b (from_edge 2 (proposal_of 2 1 ∷ []) ∷ []) (connected taken a b).edge).effects
     ≡ Said b initialization_of_a ∷ Said b keep_alive_of_a ∷ Session b name.OpenRec ∷ []
-unfolding changes down gives idles puts with_addresses with_end with_ends_beside with_next_label with_peering with_spoken with_told_down
+unfolding changes down gives idles puts with_addresses with_chosen with_end with_ends_beside with_next_label with_peering with_spoken with_told_down
 answers = refl
 
 -- and so the session comes up at the other end, which advertises its end of the wire
 comes_up : (hearing taken a (from_edge 1 (proposal_of 1 2 ∷ []) ∷ from_edge 1 (KeepAlive 2 ∷ []) ∷ []) (connected taken b a).edge).effects
     ≡ Said a keep_alive_of_b ∷ Session a name.OpenRec ∷ Session a name.Operational ∷ Said a mapping_of_b ∷ Wire (record { 0 = 0 }) (Some NoRemote) ∷ []
-unfolding changes down gives idles puts with_addresses with_end with_ends_beside with_next_label with_peering with_spoken with_told_down
+unfolding changes down gives idles puts with_addresses with_chosen with_end with_ends_beside with_next_label with_peering with_spoken with_told_down
 comes_up = refl

@@ -36,7 +36,8 @@ use Rattle.edge_model.specs.Put.{Spoken, put_reply}
 use Rattle.edge_model.specs.Role.{down_at, status_to_tell}
 use Rattle.edge_model.specs.Session.{had_said, happens_with_ends, says}
 use Rattle.edge_model.specs.Signal.{end_of_fec, hears_mapping, hears_release, hears_status, hears_withdraw, with_end_changed, with_named}
-use Rattle.edge_model.specs.State.{EdgeState, Peering, end_at, has_end, is_on, with_addresses, with_bits, with_circuit, with_end, with_ends_beside, with_learned, with_next_label, with_peering, with_renewed, with_ticks, with_told_down, with_wire}
+use Rattle.edge_model.specs.Spokes.{choosing}
+use Rattle.edge_model.specs.State.{EdgeState, Peering, end_at, has_end, is_on, with_addresses, with_bits, with_chosen, with_circuit, with_end, with_ends_beside, with_learned, with_next_label, with_peering, with_renewed, with_ticks, with_told_down, with_wire}
 use Rattle.edge_model.specs.Tick.{counted, forgetting, tick_input, ticks_sessions}
 use Rattle.edge_model.specs.Wire.{status_input, turned_wire, wire_input}
 use Rattle.edge_model.specs.Work.{Work, Answers, changes, gives, idles}
@@ -66,7 +67,8 @@ all_signalling (e ∷ es) own =
     ap (λ (b : Bool). b && are_all is_of_signalling es) (more_signalling e (and_left (is_of_session any e) (are_all (is_of_session any) es) own))
     ∙ all_signalling es (and_right (is_of_session any e) (are_all (is_of_session any) es) own)
 
--- of the edge, all stays but its sessions, its ends, what it told of them, its next label, and the addresses that it forgets
+-- of the edge, all stays but its sessions, its ends, what it told of them, the spokes that it has chosen, its next label, and the
+-- addresses that it forgets
 pub record IsSignalled (old new : EdgeState) : Type 0 where
   pub me : new.me ≡ old.me
   pub circuits : new.circuit_on ≡ old.circuit_on
@@ -162,6 +164,13 @@ pub tells_new_status_signals : (told : Answers) (place : EndPlace) (content : To
 tells_new_status_signals told place content status work =
     change_says_signals told place.peer (status_notification place.pw_id status content) (telling_status place status) work (end_signals place (telling status (end_at work.edge place)) work.edge)
 
+choosing_signals : (plan : Plan) (edge : EdgeState) → IsSignalled edge (choosing plan edge)
+unfolding with_chosen
+choosing_signals plan edge = record { me = refl; circuits = refl; ticks = refl; wires = refl; bits = refl }
+
+pub chooses_signals : (plan : Plan) (work : Work) → IsSignalWork work (changes (choosing plan) work)
+chooses_signals plan work = changes_signals (choosing plan) work (choosing_signals plan work.edge)
+
 pub tells_wire_signals : (wire : WireId) (down : Option Down) (work : Work) → IsSignalWork work (gives (effect.Wire wire down) (changes (with_told_down wire down) work))
 unfolding changes gives with_told_down
 tells_wire_signals wire down work = record {
@@ -254,6 +263,7 @@ mend_signals plan told = record {
   joined = signals_then;
   advertises = λ place content work here idle wished left. advertises_signals told place work.edge.next_label content work;
   withdraws = λ place label content work here is wished. withdraws_signals told place label content work;
+  chooses = chooses_signals plan;
   tells_status = λ place label content last work here is status other. tells_new_status_signals told place content _ work;
   forgets_wire = λ place why work here terminal is. forget_signals work (changes (forgetting_wire plan place.wire (wire_row plan place.wire)) work) (forgetting_only plan place.wire (wire_row plan place.wire) work);
   tells_down = λ place work here terminal other. tells_wire_signals place.wire (down_at plan work.edge place) work;

@@ -26,11 +26,12 @@ use Rattle.edge_model.specs.EndPlaces.{end_places, ends_here, is_end_of_wire, pa
 use Rattle.edge_model.specs.Ends.{end_forwards, forwards_at, is_up, wire_end}
 use Rattle.edge_model.specs.Frame.{frame_input, is_own}
 use Rattle.edge_model.specs.Hear.{hears_on, octets_input}
-use Rattle.edge_model.specs.Mend.{cause_number, each_end, forgets_downs, mends, mends_end, mends_few, mends_once, mends_status, stays, tells_downs}
+use Rattle.edge_model.specs.Mend.{cause_number, each_end, forgets_downs, mends, mends_end, mends_few, mends_once, mends_status, stays, tells_downs, then_changes}
 use Rattle.edge_model.specs.Packet.{packet_input}
 use Rattle.edge_model.specs.Put.{Spoken}
 use Rattle.edge_model.specs.Role.{down_at, role_at}
 use Rattle.edge_model.specs.Session.{happens_with_ends}
+use Rattle.edge_model.specs.Spokes.{choosing}
 use Rattle.edge_model.specs.State.{EdgeState, Peering, empty_edge, has_end, is_on, with_bits, with_learned, without_ends, without_peerings}
 use Rattle.edge_model.specs.Step.{edge_step}
 use Rattle.edge_model.specs.Synced.{InSync, IsSynced}
@@ -42,7 +43,7 @@ use Rattle.edge_model.proofs.LocalLemmas.{and_left, and_right}
 use Rattle.edge_model.proofs.MendedLemmas.{HaveTold, all_told, is_down_told}
 use Rattle.edge_model.proofs.OneEndLemmas.{has_one_end}
 use Rattle.edge_model.proofs.PlaceLemmas.{all-map, places_are}
-use Rattle.edge_model.proofs.SignalLemmas.{IsSignalWork, each_end_signals, mends_end_signals, mends_status_signals}
+use Rattle.edge_model.proofs.SignalLemmas.{IsSignalWork, chooses_signals, each_end_signals, mends_end_signals, mends_status_signals}
 
 -- ---- before the first input, and after a restart
 
@@ -89,8 +90,11 @@ round_synced plan told work checked = record { each = subst (λ (me : EdgeId). A
   first : Spoken
   first = each_end (mends_end plan told) places (stays work)
 
+  chosen : Spoken
+  chosen = then_changes (choosing plan) first
+
   second : Spoken
-  second = each_end (mends_status plan told) places first
+  second = each_end (mends_status plan told) places chosen
 
   forgot : Work
   forgot = forgets_downs plan places second.work
@@ -104,11 +108,14 @@ round_synced plan told work checked = record { each = subst (λ (me : EdgeId). A
   one : IsSignalWork work first.work
   one = each_end_signals (mends_end plan told) (mends_end_signals plan told) places (stays work)
 
-  two : IsSignalWork first.work second.work
-  two = each_end_signals (mends_status plan told) (mends_status_signals plan told) places first
+  two : IsSignalWork first.work chosen.work
+  two = chooses_signals plan first.work
+
+  three : IsSignalWork chosen.work second.work
+  three = each_end_signals (mends_status plan told) (mends_status_signals plan told) places chosen
 
   same_me : last.me ≡ me
-  same_me = ap (λ (e : EdgeState). e.me) downs.is ∙ ((forgets_downs_only plan places second.work).edge.me ∙ (two.edge.me ∙ one.edge.me))
+  same_me = ap (λ (e : EdgeState). e.me) downs.is ∙ ((forgets_downs_only plan places second.work).edge.me ∙ (three.edge.me ∙ (two.edge.me ∙ one.edge.me)))
 
   synced : AllByRecursion (IsSynced plan last) places
   synced = all-map (λ place. is_down_told plan last place ≡ true) (IsSynced plan last) places (λ place is. synced_of plan last place is) downs.so

@@ -52,14 +52,15 @@ use Rattle.edge_model.specs.EndPlaces.{end_places, ends_here, passes}
 use Rattle.edge_model.specs.Ends.{is_up, wire_end}
 use Rattle.edge_model.specs.Frame.{copies, copy_by, frame_input, hearing, is_own, port_at, received, targets_of}
 use Rattle.edge_model.specs.Hear.{acts, acts_on, advice_of, advises, hears, hears_few, hears_front, hears_message, hears_messages, hears_on, hears_one, hears_pdu, hears_within, holds, octets_input, was_up}
-use Rattle.edge_model.specs.Mend.{advertises, advertises_wish, advertising, and_says, cause_number, each_end, forgets_down, forgets_downs, forgetting_wire, mends, mends_end, mends_few, mends_local, mends_once, mends_status, mends_status_of, port_of_wire, stays, tells_down, tells_downs, tells_new_status, tells_over, telling_status, wish, withdrawing, withdraws, withdraws_unless}
+use Rattle.edge_model.specs.Mend.{advertises, advertises_wish, advertising, and_says, cause_number, each_end, forgets_down, forgets_downs, forgetting_wire, mends, mends_end, mends_few, mends_local, mends_once, mends_status, mends_status_of, port_of_wire, stays, tells_down, tells_downs, tells_new_status, tells_over, telling_status, then_changes, wish, withdrawing, withdraws, withdraws_unless}
 use Rattle.edge_model.specs.Packet.{advertiser, alerted, alerts_end, behind_entry, bridges_frame, by_offer, enters, is_alert, is_channel, labelled, least_label, opened_by, owned, packet_input, switched, terminated, unpacked_at}
 use Rattle.edge_model.specs.Put.{Spoken, put_reply}
 use Rattle.edge_model.specs.Role.{down_at, status_to_tell}
 use Rattle.edge_model.specs.Send.{drops, packet_of, sends, sends_copy, sends_under}
 use Rattle.edge_model.specs.Session.{had_said, happens_with_ends, says}
 use Rattle.edge_model.specs.Signal.{end_of_fec, hears_mapping, hears_release, hears_status, hears_withdraw, maps_to, releases_label, with_end_changed, with_named}
-use Rattle.edge_model.specs.State.{EdgeState, Peering, end_at, has_end, is_on, with_addresses, with_bits, with_end, with_next_label, with_peering, with_told_down}
+use Rattle.edge_model.specs.Spokes.{choosing}
+use Rattle.edge_model.specs.State.{EdgeState, Peering, end_at, has_end, is_on, with_addresses, with_bits, with_chosen, with_end, with_next_label, with_peering, with_told_down}
 use Rattle.edge_model.specs.Step.{edge_step}
 use Rattle.edge_model.specs.Tick.{counted, forgetting, tick_input, ticks_sessions}
 use Rattle.edge_model.specs.Wire.{status_input, turned_wire, wire_input}
@@ -86,6 +87,8 @@ pub record MendSteps (plan : Plan) (told : Answers) (R : Work → Work → Type 
   pub withdraws : (place : EndPlace) (label : ℕ) (content : Told) (work : Work) → IsEndAt plan work.edge.me place
       → (end_at work.edge place).local ≡ Advertised label content → wish plan work.edge place ≡ None
       → R work (withdraws told place label content work).work
+  -- the edge chooses among its spokes
+  pub chooses : (work : Work) → R work (changes (choosing plan) work)
   -- a new status is told
   pub tells_status : (place : EndPlace) (label : ℕ) (content : Told) (last : PwStatus) (work : Work) → IsEndAt plan work.edge.me place
       → (end_at work.edge place).local ≡ Advertised label content → content.status ≡ Some last → nat_eq last.0 (status_to_tell plan work.edge place).0 ≡ false
@@ -154,6 +157,12 @@ module _ (plan : Plan) (told : Answers) (R : Work → Work → Type 0) (steps : 
 
   mends_end_walks : (place : EndPlace) (work : Work) → IsEndAt plan work.edge.me place → Walks R work (mends_end plan told place work).work
   mends_end_walks place work here = mends_local_walks place (end_at work.edge place).local work here refl
+
+  -- ---- the edge chooses
+
+  chooses_walks : (work : Work) → Walks R work (changes (choosing plan) work)
+  unfolding changes with_chosen
+  chooses_walks work = record { holds = steps.chooses work; me = refl }
 
   -- ---- a status that has changed is told
 
@@ -236,10 +245,12 @@ module _ (plan : Plan) (told : Answers) (R : Work → Work → Type 0) (steps : 
   mends_once_walks work =
       let places : List EndPlace = end_places plan work.edge.me in
       let advertised : Spoken = each_end (mends_end plan told) places (stays work) in
-      let statuses : Spoken = each_end (mends_status plan told) places advertised in
-      let first : Walks R work advertised.work = each_end_walks (mends_end plan told) mends_end_walks [] places (stays work) refl in
+      let chosen : Spoken = then_changes (choosing plan) advertised in
+      let statuses : Spoken = each_end (mends_status plan told) places chosen in
+      let first : Walks R work chosen.work =
+      walks_then steps work advertised.work chosen.work (each_end_walks (mends_end plan told) mends_end_walks [] places (stays work) refl) (chooses_walks advertised.work) in
       let second : Walks R work statuses.work =
-      walks_then steps work advertised.work statuses.work first (each_end_walks (mends_status plan told) mends_status_walks [] places advertised (ap (end_places plan) first.me)) in
+      walks_then steps work chosen.work statuses.work first (each_end_walks (mends_status plan told) mends_status_walks [] places chosen (ap (end_places plan) first.me)) in
       let forgotten : Work = forgets_downs plan places statuses.work in
       let third : Walks R work forgotten = walks_then steps work statuses.work forgotten second (forgets_downs_walks [] places statuses.work (ap (end_places plan) second.me)) in
       walks_then steps work forgotten (mends_once plan told work).work third (tells_downs_walks [] places forgotten (ap (end_places plan) third.me))

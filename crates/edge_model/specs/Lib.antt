@@ -15,6 +15,7 @@ pub mod Role
 pub mod Send
 pub mod Session
 pub mod Signal
+pub mod Spokes
 pub mod State
 pub mod Step
 pub mod Synced

@@ -29,6 +29,7 @@ use Rattle.edge_model.specs.EndPlaces.{end_places}
 use Rattle.edge_model.specs.Put.{Spoken}
 use Rattle.edge_model.specs.Role.{down_at, status_to_tell}
 use Rattle.edge_model.specs.Session.{says}
+use Rattle.edge_model.specs.Spokes.{choosing}
 use Rattle.edge_model.specs.State.{EdgeState, Peering, addresses_of, end_at, with_addresses, with_end, with_next_label, with_told_down, without_port}
 use Rattle.edge_model.specs.Work.{Work, Answers, changes, gives}
 
@@ -40,6 +41,10 @@ and_says before next = record { work = (next before.work).work; failed = before.
 abbrev pub each_end : (EndPlace → Work → Spoken) → List EndPlace → Spoken → Spoken
 each_end mend [] m = m
 each_end mend (place ∷ places) m = each_end mend places (and_says m (mend place))
+
+-- the edge changes, and says nothing
+abbrev pub then_changes : (EdgeState → EdgeState) → Spoken → Spoken
+then_changes change said = record { work = changes change said.work; failed = said.failed }
 
 -- nothing is put
 abbrev pub stays : Work → Spoken
@@ -190,12 +195,14 @@ tells_downs plan [] work = work
 tells_downs plan (place ∷ places) work =
     tells_downs plan places (if place.terminal then tells_down place (down_at plan work.edge place) work else work)
 
--- ---- all steps. Those of spokes are to come
+-- ---- all steps: a spoke edge chooses after its ends were advertised and withdrawn, and before it tells statuses. What was learned
+-- at a spoke that is chosen no longer is forgotten with what was learned at each wire that does not forward
 
 abbrev pub mends_once : Plan → Answers → Work → Spoken
 mends_once plan told work =
     let places : List EndPlace = end_places plan work.edge.me in
-    let statuses : Spoken = each_end (mends_status plan told) places (each_end (mends_end plan told) places (stays work)) in
+    let chosen : Spoken = then_changes (choosing plan) (each_end (mends_end plan told) places (stays work)) in
+    let statuses : Spoken = each_end (mends_status plan told) places chosen in
     record { work = tells_downs plan places (forgets_downs plan places statuses.work); failed = statuses.failed }
 
 -- where the link did not take a message the edge mends again. Each such message ends a session, so there are no more rounds than

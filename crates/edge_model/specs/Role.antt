@@ -1,7 +1,8 @@
 -- What an edge's end of a wire is to its service, what it tells of its status, and why it does not forward.
-use Rattle.std.specs.Prelude.{ℕ, Bool, true, false, Option, Some, None, if◌then◌else◌}
+use Rattle.std.specs.Prelude.{◌==◌, ℕ, Bool, false, Option, Some, None, if◌then◌else◌}
 use Rattle.net_base.specs.declared.plan.Plan.{Plan}
 use Rattle.net_base.specs.declared.plan.places.EdgeId.{EdgeId}
+use Rattle.net_base.specs.declared.plan.places.WireId.{WireId}
 use Rattle.net_base.specs.declared.plan.wire_plan.WirePlan.{WirePlan}
 use Rattle.net_base.specs.declared.trace.down.Down.{Down}
 use Rattle.net_base.specs.plan.Paths.{is_last}
@@ -11,27 +12,34 @@ use Rattle.pw_status.specs.Status.{combined}
 use Rattle.pw_signalling.specs.declared.end_role.EndRole.{EndRole}
 use Rattle.pw_signalling.specs.declared.end_role.EndRole.TheVariants as role
 use Rattle.pw_signalling.specs.Down.{down}
+use Rattle.spoke_redundancy.specs.Telling.{is_not_chosen}
 use Rattle.edge_model.specs.declared.end_place.EndPlace.{EndPlace}
 use Rattle.edge_model.specs.State.{EdgeState, end_at}
 
+-- the wire is the one that is chosen
+abbrev pub is_wire : WireId → Option WireId → Bool
+is_wire wire None = false
+is_wire wire (Some chosen) = chosen.0 == wire.0
+
+-- the spoke is the one that is chosen for its service
+abbrev pub is_chosen : (ℕ → Option WireId) → WireId → WirePlan → Bool
+is_chosen chosen wire row = is_wire wire (chosen row.service.0)
+
 -- A mesh wire has two equal ends. A spoke ends at its spoke edge, the first of its path, and at its core edge, the last (RFC
--- 4762 section 10.1). No spoke edge chooses among its spokes yet
-abbrev pub role_of : WirePlan → EdgeId → EndRole
-role_of row me =
+-- 4762 section 10.1); a spoke edge forwards by the spoke that it has chosen (RFC 6870)
+abbrev pub role_of : WirePlan → EdgeId → Bool → EndRole
+role_of row me chosen =
     if is_mesh_class row.class then role.Mesh
     else if is_last me.0 row.path then role.Core
+    else if chosen then role.Chosen
     else role.NotChosen
 
-abbrev pub role_in : Option WirePlan → EdgeId → EndRole
-role_in None me = role.Mesh
-role_in (Some row) me = role_of row me
+abbrev pub role_in : Option WirePlan → EdgeId → (ℕ → Option WireId) → WireId → EndRole
+role_in None me chosen wire = role.Mesh
+role_in (Some row) me chosen wire = role_of row me (is_chosen chosen wire row)
 
 abbrev pub role_at : Plan → EdgeState → EndPlace → EndRole
-role_at plan edge place = role_in (wire_row plan place.wire) edge.me
-
-abbrev pub is_not_chosen : EndRole → Bool
-is_not_chosen role.NotChosen = true
-is_not_chosen other = false
+role_at plan edge place = role_in (wire_row plan place.wire) edge.me edge.chosen place.wire
 
 -- the status that an end tells: its own failure bits, and that it stands by where it was not chosen (RFC 4446 section 3.5, RFC
 -- 6870 section 5.1)

@@ -44,6 +44,8 @@ pub record EdgeState : Type 0 where
   -- why its end of each wire does not forward, as it was told last; an end of which nothing was told counts as one that
   -- advertises no label
   pub told_down : ℕ → Option Down
+  -- the wire of the spoke that it has chosen for each service (RFC 6870)
+  pub chosen : ℕ → Option WireId
   -- the label that it gives next (RFC 3032 section 2.1)
   pub next_label : ℕ
 
@@ -55,7 +57,8 @@ label_of (Some row) = row.first_label
 abbrev pub first_label : Plan → EdgeId → ℕ
 first_label plan me = label_of (slice_get plan.edges me.0)
 
--- before the first input: every circuit and every wire is on, nothing is learned, no connection stands, and nothing was told
+-- before the first input: every circuit and every wire is on, nothing is learned, no connection stands, nothing was told, and no
+-- spoke is chosen
 abbrev pub empty_edge : Plan → EdgeId → EdgeState
 empty_edge plan me = record {
   me = me;
@@ -67,6 +70,7 @@ empty_edge plan me = record {
   bits = λ wire. 0;
   ends = λ wire peer. fresh;
   told_down = λ wire. Some NoLocal;
+  chosen = λ service. None;
   next_label = first_label plan me;
 }
 
@@ -143,13 +147,17 @@ with_ends_beside peer change edge = record edge { ends = λ wire k. if k == peer
 unfoldable pub with_renewed : WireId → EdgeState → EdgeState
 with_renewed wire edge = record edge { ends = λ k peer. if k == wire.0 then renewed (edge.ends k peer) else edge.ends k peer }
 
--- each end is as before the first input, and what was told of it is forgotten
+-- each end is as before the first input, what was told of it is forgotten, and no spoke is chosen
 unfoldable pub without_ends : EdgeState → EdgeState
-without_ends edge = record edge { ends = λ wire peer. fresh; told_down = λ wire. Some NoLocal }
+without_ends edge = record edge { ends = λ wire peer. fresh; told_down = λ wire. Some NoLocal; chosen = λ service. None }
 
 -- why the end of a wire does not forward was told
 unfoldable pub with_told_down : WireId → Option Down → EdgeState → EdgeState
 with_told_down wire down edge = record edge { told_down = put_at edge.told_down wire.0 down }
+
+-- other spokes are chosen
+unfoldable pub with_chosen : (ℕ → Option WireId) → EdgeState → EdgeState
+with_chosen chosen edge = record edge { chosen = chosen }
 
 -- another label is next
 unfoldable pub with_next_label : ℕ → EdgeState → EdgeState

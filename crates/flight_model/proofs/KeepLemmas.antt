@@ -24,7 +24,7 @@ use Rattle.flight_model.proofs.WorkLemmas.{same_place}
 
 -- ---- the rest of the edge
 
--- all that has to do with pseudowires is as it was
+-- all that has to do with pseudowires, but the choice among spokes, is as it was
 pub record KeepsEnds (old new : EdgeState) : Type 0 where
   pub me : new.me ≡ old.me
   pub wire_on : new.wire_on ≡ old.wire_on

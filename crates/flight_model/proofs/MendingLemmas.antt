@@ -17,7 +17,8 @@ use Rattle.edge_model.specs.Mend.{advertises_wish, advertising, cause_number, ea
 use Rattle.edge_model.specs.Put.{Spoken}
 use Rattle.edge_model.specs.Role.{down_at, status_to_tell}
 use Rattle.edge_model.specs.Session.{says}
-use Rattle.edge_model.specs.State.{EdgeState, end_at, with_told_down}
+use Rattle.edge_model.specs.Spokes.{choosing}
+use Rattle.edge_model.specs.State.{EdgeState, end_at, with_chosen, with_told_down}
 use Rattle.edge_model.specs.Work.{Work, changes, gives}
 use Rattle.edge_model.proofs.BridgeLemmas.{LearnsOnly, forgetting_learns}
 use Rattle.network_model.specs.Absorb.{taken_all}
@@ -39,8 +40,13 @@ pub record KeptByRows (plan : Plan) (me : EdgeId) (I : Work → Type 0) : Type 0
       → last.0 == (status_to_tell plan work.edge place).0 ≡ false → I work → I (tells_new_status taken_all place content (status_to_tell plan work.edge place) work).work
   -- a wire that began to forward, or stopped, is told
   pub tells_down : (place : EndPlace) (down : Option Down) (work : Work) → IsEndOf plan me place → I work → I (gives (Wire place.wire down) (changes (with_told_down place.wire down) work))
-  -- what has nothing to do with neighbours and pseudowires
+  -- what leaves neighbours and the ends of pseudowires as they were
   pub others : (change : EdgeState → EdgeState) (work : Work) → KeepsEnds work.edge (change work.edge) → (change work.edge).peering ≡ work.edge.peering → I work → I (changes change work)
+
+-- the choice among spokes leaves them so
+choosing_rest : (plan : Plan) (edge : EdgeState) → KeepsEnds edge (choosing plan edge) × ((choosing plan edge).peering ≡ edge.peering)
+unfolding with_chosen
+choosing_rest plan edge = (record { me = refl; wire_on = refl; bits = refl; ends = refl; told_down = refl; next_label = refl }, refl)
 
 module _ (plan : Plan) (me : EdgeId) (I : Work → Type 0) (kept : KeptByRows plan me I) where
   end_keeps : (place : EndPlace) → IsEndOf plan me place → (work : Work) → I work → I (mends_end plan taken_all place work).work
@@ -112,13 +118,16 @@ module _ (plan : Plan) (me : EdgeId) (I : Work → Type 0) (kept : KeptByRows pl
     by_side true = down_keeps place (down_at plan work.edge place) all.0 work i
     by_side false = i
 
+  chooses_keep : (work : Work) → I work → I (changes (choosing plan) work)
+  chooses_keep work i = (let rest = choosing_rest plan work.edge in kept.others (choosing plan) work rest.0 rest.1 i)
+
   once_keeps : (work : Work) → I work → I (mends_once plan taken_all work).work
   once_keeps work i =
       let all : AllByRecursion (IsEndOf plan me) (end_places plan work.edge.me) = subst (λ (k : EdgeId). AllByRecursion (IsEndOf plan me) (end_places plan k)) (sym (kept.placed work i)) (places_are plan me) in
       downs_keep (end_places plan work.edge.me) all _
       (forgets_keep (end_places plan work.edge.me) _
       (each_keeps (mends_status plan taken_all) status_keeps (end_places plan work.edge.me) all _
-      (each_keeps (mends_end plan taken_all) end_keeps (end_places plan work.edge.me) all (stays work) i)))
+      (chooses_keep _ (each_keeps (mends_end plan taken_all) end_keeps (end_places plan work.edge.me) all (stays work) i))))
 
   again_keeps : (again : Work → Work) → ((work : Work) → I work → I (again work)) → (m : Spoken) → I m.work → I (mends_again again m)
   again_keeps again more m i = by_put m.failed where

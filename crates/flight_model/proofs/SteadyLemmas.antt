@@ -19,12 +19,13 @@ use Rattle.pw_status.specs.Status.{combined}
 use Rattle.pw_signalling.specs.declared.told.Told.{Told}
 use Rattle.pw_signalling.specs.End.{EndState, Idle, Advertised}
 use Rattle.pw_signalling.specs.Rows.{advertised, telling, withdrawn}
+use Rattle.spoke_redundancy.specs.Telling.{is_not_chosen}
 use Rattle.edge_model.specs.Content.{content_of, mapping, status_notification, withdrawal}
 use Rattle.edge_model.specs.declared.effect.Effect.{Effect}
 use Rattle.edge_model.specs.declared.effect.Effect.TheVariants.{Wire}
 use Rattle.edge_model.specs.declared.end_place.EndPlace.{EndPlace}
 use Rattle.edge_model.specs.Mend.{advertising, is_up_with, status_held, status_offered, telling_status, tells_new_status, tells_status, terminal_wish, wish, withdrawing, withdraws}
-use Rattle.edge_model.specs.Role.{is_not_chosen, role_at, status_to_tell}
+use Rattle.edge_model.specs.Role.{role_at, status_to_tell}
 use Rattle.edge_model.specs.Session.{says}
 use Rattle.edge_model.specs.State.{EdgeState, end_at, with_end, with_next_label, with_told_down}
 use Rattle.edge_model.specs.Work.{Work, changes, gives}

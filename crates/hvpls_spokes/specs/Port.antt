@@ -1,5 +1,5 @@
 -- The ports of a service at an edge.
-use Rattle.std.specs.Prelude.{◌==◌, ◌+◌, ◌++◌, ℕ, Bool, true, false, List, [], ◌∷◌, Option, Some, None, slice_get, if◌then◌else◌}
+use Rattle.std.specs.Prelude.{◌≡◌, ◌==◌, ◌+◌, ◌++◌, nat_lt, ℕ, Bool, true, false, List, [], ◌∷◌, Option, Some, None, AllPairs, slice_get, if◌then◌else◌}
 use Rattle.net_base.specs.declared.plan.circuit_plan.CircuitPlan.{CircuitPlan}
 use Rattle.net_base.specs.declared.plan.places.CircuitId.{CircuitId}
 use Rattle.net_base.specs.declared.plan.places.EdgeId.{EdgeId}
@@ -65,3 +65,27 @@ wire_ports place (row ∷ rows) service edge =
 -- 4762 section 4)
 abbrev pub ports_of : Plan → ServiceId → EdgeId → List Port
 ports_of plan service edge = circuit_ports 0 plan.circuits service edge ++ wire_ports 0 plan.wires service edge
+
+-- ---- the order of the ports
+
+-- the port comes before that of the circuit
+abbrev pub precedes_circuit : CircuitId → Port → Bool
+precedes_circuit circuit (port.Circuit at) = nat_lt at.0 circuit.0
+precedes_circuit circuit (port.Mesh wire) = false
+precedes_circuit circuit (port.Spoke wire) = false
+
+-- the port comes before that of the wire
+abbrev pub precedes_wire : WireId → Port → Bool
+precedes_wire wire (port.Circuit circuit) = true
+precedes_wire wire (port.Mesh at) = nat_lt at.0 wire.0
+precedes_wire wire (port.Spoke at) = nat_lt at.0 wire.0
+
+-- the first port comes before the second one
+abbrev pub precedes : Port → Port → Bool
+precedes first (port.Circuit circuit) = precedes_circuit circuit first
+precedes first (port.Mesh wire) = precedes_wire wire first
+precedes first (port.Spoke wire) = precedes_wire wire first
+
+-- circuits in the order of the plan, and then wires in the order of the plan
+abbrev pub AreInOrder : List Port → Type 0
+AreInOrder ports = AllPairs (λ first second. precedes first second ≡ true) ports

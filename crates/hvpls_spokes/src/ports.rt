@@ -1,7 +1,8 @@
 //! The ports of a service at an edge, in order.
 ghost use Rattle.std.specs.Prelude.{◌≡◌, ◌≤◌, ◌<◌, ◌++◌, length, slice_get, option_map, position, IfOk, IfSome, OnOk};
 ghost use Rattle.net_base.specs.plan.Accepted.{IsChecked};
-ghost use Rattle.hvpls_spokes.specs.Port.{kind_of, circuit_ports, is_circuit_port, is_mesh_port, is_wire_port, ports_of, wire_port, wire_ports};
+ghost use Rattle.hvpls_spokes.specs.Search.{place_if};
+ghost use Rattle.hvpls_spokes.specs.Port.{AreInOrder, kind_of, circuit_ports, is_circuit_port, is_mesh_port, is_wire_port, ports_of, precedes_circuit, precedes_wire, wire_port, wire_ports};
 
 use crate::terminal::ends_at;
 use crate::{Port, PortKind};
@@ -11,7 +12,8 @@ use net_base::{
 use std::alloc::Global;
 use std::marker::Model;
 
-/// The ports of a service at an edge, at most 512, numbered from 0. Contracts see it as the list of them.
+/// The ports of a service at an edge, at most 512, numbered from 0. A port is found by halves, since they stand in the order of
+/// the plan. Contracts see the list of them.
 #[derive(Debug, Drop)]
 pub struct Ports {
     ports: Vec<Port>,
@@ -19,20 +21,21 @@ pub struct Ports {
 
 impl Model for Ports {
     ghost use Rattle.std.specs.Prelude.{List, ◌≤◌, vec_len};
+    ghost use Rattle.hvpls_spokes.specs.Port.{AreInOrder};
     ghost use Rattle.hvpls_spokes.specs.declared.port.Port.{Port};
 
     ghost Value = { List Port };
 
     ghost view = { λ p. p.ports.items };
 
-    ghost invariant = { λ p. vec_len p.ports ≤ 512 };
+    ghost invariant = { λ p. (vec_len p.ports ≤ 512) × AreInOrder p.ports.items };
 }
 
 impl Ports {
     /// The ports of a service at an edge of a checked plan: its attachment circuits in the order of the plan, and then
     /// the wires of which the edge is a terminal edge in the order of the plan, each as a mesh or a spoke wire by its
     /// class (RFC 4762 sections 4, 4.4 and 10.1). A wire that the edge only switches is no port of it.
-    #[tactic(auto, using(crate::proofs::PortsLemmas::ports_fit))]
+    #[tactic(auto, using(crate::proofs::PortsLemmas::ports_fit, crate::proofs::OrderLemmas::ports_in_order))]
     pub fn open(
         alloc: Global,
         plan: &Plan,
@@ -152,10 +155,33 @@ fn port_of_wire(wire: WireId, row: &WirePlan) -> Port
 
 // The place of the port that leads to the circuit.
 fn place_of(ports: &[Port], circuit: CircuitId) -> Option<usize>
+    requires { AreInOrder ports.now }
     ensures place { result ≡ position (is_circuit_port circuit) ports.now }
     ensures within { IfSome result (λ place. place < length ports.now) }
 {
-    ports.iter().position(|port| leads_to(*port, circuit))
+    let place = count_before(ports, circuit);
+    match ports.get(place) {
+        Some(port) if leads_to(*port, circuit) => Some(place),
+        _ => None,
+    }
+}
+
+// How many ports come before that of the circuit.
+fn count_before(ports: &[Port], circuit: CircuitId) -> usize
+    requires { AreInOrder ports.now }
+    ensures { position (is_circuit_port circuit) ports.now ≡ place_if (is_circuit_port circuit) result (slice_get ports.now result) }
+{
+    ports.partition_point(|port| precedes(*port, circuit))
+}
+
+// Whether the port comes before that of the circuit.
+fn precedes(port: Port, circuit: CircuitId) -> bool
+    ensures { result ≡ precedes_circuit circuit port }
+{
+    match port {
+        Port::Circuit(at) => at.0 < circuit.0,
+        Port::Mesh(_) | Port::Spoke(_) => false,
+    }
 }
 
 // Whether the port leads to the circuit.
@@ -170,10 +196,33 @@ fn leads_to(port: Port, circuit: CircuitId) -> bool
 
 // The place of the port that leads to the wire.
 fn place_of_wire(ports: &[Port], wire: WireId) -> Option<usize>
+    requires { AreInOrder ports.now }
     ensures place { result ≡ position (is_wire_port wire) ports.now }
     ensures within { IfSome result (λ place. place < length ports.now) }
 {
-    ports.iter().position(|port| leads_to_wire(*port, wire))
+    let place = count_before_wire(ports, wire);
+    match ports.get(place) {
+        Some(port) if leads_to_wire(*port, wire) => Some(place),
+        _ => None,
+    }
+}
+
+// How many ports come before that of the wire.
+fn count_before_wire(ports: &[Port], wire: WireId) -> usize
+    requires { AreInOrder ports.now }
+    ensures { position (is_wire_port wire) ports.now ≡ place_if (is_wire_port wire) result (slice_get ports.now result) }
+{
+    ports.partition_point(|port| precedes_wire(*port, wire))
+}
+
+// Whether the port comes before that of the wire.
+fn precedes_wire(port: Port, wire: WireId) -> bool
+    ensures { result ≡ precedes_wire wire port }
+{
+    match port {
+        Port::Circuit(_) => true,
+        Port::Mesh(at) | Port::Spoke(at) => at.0 < wire.0,
+    }
 }
 
 // Whether the port leads to the wire.

@@ -13,6 +13,8 @@ mod pw_ends;
 #[cfg(test)]
 mod sessions;
 #[cfg(test)]
+mod spokes;
+#[cfg(test)]
 mod statuses;
 #[cfg(test)]
 mod streams;

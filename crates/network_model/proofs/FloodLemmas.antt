@@ -48,14 +48,16 @@ unknown_still entries from station arrival now absent other = elim (cases_Bool (
   ])
 ]
 
-unknown_hearing : (edge : EdgeState) (service : ServiceId) (frame : List ℕ) (arrival : ℕ)
+-- a bridge that has heard a frame of another source knows no port for a destination that it does not hold
+pub unknown_hearing : (edge : EdgeState) (service : ServiceId) (frame : List ℕ) (arrival : ℕ)
     → has_address (addresses_of edge service) (destination frame) ≡ false → bytes_eq (source_of frame) (destination_of frame) ≡ false
     → known_port (addresses_of (hearing service frame arrival edge) service) (destination frame) ≡ None
 unfolding with_addresses
 unknown_hearing edge service frame arrival absent other =
     rw (eq-eqb service.0 service.0 refl) (unknown_still (addresses_of edge service) (source frame) (destination frame) arrival edge.ticks absent other)
 
-group_hearing : (entries : List MacEntry) (frame : List ℕ) → goes_to_group frame ≡ true → known_port entries (destination frame) ≡ None
+-- nor any bridge for a group
+pub group_hearing : (entries : List MacEntry) (frame : List ℕ) → goes_to_group frame ≡ true → known_port entries (destination frame) ≡ None
 group_hearing entries frame group = rw group refl
 
 -- the bridge knows no port for the destination of a flooded frame

@@ -6,7 +6,6 @@ mod Examples
 pub mod FloodLemmas
 pub mod InnerLemmas
 pub mod KnownLemmas
-pub mod OnceLemmas
 pub mod OtherLemmas
 mod PacketExamples
 pub mod PacketListLemmas

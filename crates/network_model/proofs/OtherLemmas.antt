@@ -241,27 +241,27 @@ apart_after plan origin circuit network (e ∷ es) entered none =
 -- ---- how many segments a copy has passed that left
 
 -- what never left has passed none
-pub never_within : (origin : ℕ) (es : List Entry) → ((circuit : CircuitId) → times_left origin circuit es ≡ 0) → LeftWithin origin es
-never_within origin [] never = tt
-never_within origin (Left at from hops octets ∷ es) never = (
+pub never_within : (most origin : ℕ) (es : List Entry) → ((circuit : CircuitId) → times_left origin circuit es ≡ 0) → LeftWithin most origin es
+never_within most origin [] never = tt
+never_within most origin (Left at from hops octets ∷ es) never = (
   λ same.
       let here : nat_eq from origin ≡ true = eq-eqb from origin same in
       let once : nat_eq at.0 at.0 ≡ true = eq-eqb at.0 at.0 refl in
       let counted : 1 + times_left origin at es ≡ 0 = rw (here, once) at (never at) in
       absurd (omega (arith, counted)),
-  never_within origin es (λ circuit. rest_never (nat_eq from origin && nat_eq at.0 circuit.0) (times_left origin circuit es) (never circuit)),
+  never_within most origin es (λ circuit. rest_never (nat_eq from origin && nat_eq at.0 circuit.0) (times_left origin circuit es) (never circuit)),
 ) where
   rest_never : (here : Bool) (rest : ℕ) → cond {A = ℕ} here 1 0 + rest ≡ 0 → rest ≡ 0
   rest_never true rest none = absurd (omega (arith, none))
   rest_never false rest none = omega (arith, none)
-never_within origin (e ∷ es) never = never_within origin es never
+never_within most origin (e ∷ es) never = never_within most origin es never
 
 -- what enters has passed none
-pub frame_within : (plan : Plan) (number : ℕ) (at : CircuitId) (octets : List ℕ) (row : Option CircuitPlan) (network : NetworkState) → LeftWithin number (frame_event plan at octets row network).entries
-frame_within plan number at octets None network = tt
-frame_within plan number at octets (Some row) network = taken (frame_work plan network at octets row).idle where
-  taken : (idles : Bool) → LeftWithin number (cond idles (idle network) (entering network at octets row (frame_work plan network at octets row))).entries
+pub frame_within : (most : ℕ) (plan : Plan) (number : ℕ) (at : CircuitId) (octets : List ℕ) (row : Option CircuitPlan) (network : NetworkState) → LeftWithin most number (frame_event plan at octets row network).entries
+frame_within most plan number at octets None network = tt
+frame_within most plan number at octets (Some row) network = taken (frame_work plan network at octets row).idle where
+  taken : (idles : Bool) → LeftWithin most number (cond idles (idle network) (entering network at octets row (frame_work plan network at octets row))).entries
   taken true = tt
   taken false =
       let work : Work = frame_work plan network at octets row in
-      own_within number row.edge (next_origin network) work.effects (with_edge row.edge work.edge (with_frame network))
+      own_within most number row.edge (next_origin network) work.effects (with_edge row.edge work.edge (with_frame network))

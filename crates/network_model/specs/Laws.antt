@@ -5,14 +5,10 @@ use Rattle.net_base.specs.declared.trace.event.Event.{Event}
 use Rattle.net_base.specs.plan.Accepted.{IsChecked}
 use Rattle.net_base.specs.trace.Split.{Split}
 use Rattle.network_model.specs.KnownOnce.{KnownOnce}
-use Rattle.network_model.specs.OnceEach.{OnceEach}
 use Rattle.network_model.specs.Run.{run}
 
 abbrev pub RunsAreSplit : Type 0
 RunsAreSplit = (plan : Plan) (events : List Event) → IsChecked plan → Split plan (run plan events).entries
-
-abbrev pub RunsServeOnce : Type 0
-RunsServeOnce = (plan : Plan) (events : List Event) → IsChecked plan → OnceEach plan events
 
 abbrev pub RunsServeKnownOnce : Type 0
 RunsServeKnownOnce = (plan : Plan) (events : List Event) → IsChecked plan → KnownOnce plan events

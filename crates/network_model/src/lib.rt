@@ -5,5 +5,5 @@
 mod laws;
 mod packet;
 
-pub use laws::{runs_are_split, runs_serve_known_once, runs_serve_once};
+pub use laws::{runs_are_split, runs_serve_known_once};
 pub use packet::Packet;

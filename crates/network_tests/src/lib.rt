@@ -2,4 +2,6 @@
 #![tactic(auto)]
 
 #[cfg(test)]
+mod hierarchy;
+#[cfg(test)]
 mod tests;

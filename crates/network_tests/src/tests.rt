@@ -38,15 +38,15 @@ const SECOND_MAPS: [u8; 54] = [
     0, 0, 0, 0, 100, 1, 4, 5, 220, 2, 0, 0, 4, 0, 0, 0, 16, 137, 106, 0, 4, 0, 0, 0, 0,
 ];
 
-// A name of a letter and a number.
-fn name(rt: &impl Abort, alloc: Global, letter: char, number: u16) -> Name {
+/// A name of a letter and a number.
+pub(crate) fn name(rt: &impl Abort, alloc: Global, letter: char, number: u32) -> Name {
     let text = format!(in alloc; "{letter}{number}").expect(rt, "memory");
     Name::read(text.as_str()).expect(rt, "a name")
 }
 
 fn add_edge(rt: &impl Abort, alloc: Global, edges: &mut List<EdgePlan>, place: u8) {
     let row = EdgePlan {
-        name: name(rt, alloc, 'e', u16::from(place)),
+        name: name(rt, alloc, 'e', u32::from(place)),
         address: Addr([10, 0, 0, place.saturating_add(1)]),
         first_label: 16,
         keepalive: 180,
@@ -66,7 +66,7 @@ fn add_service(rt: &impl Abort, alloc: Global, services: &mut List<ServicePlan>)
 
 fn add_circuit(rt: &impl Abort, alloc: Global, circuits: &mut List<CircuitPlan>, place: u16) {
     let row = CircuitPlan {
-        name: name(rt, alloc, 'c', place),
+        name: name(rt, alloc, 'c', u32::from(place)),
         edge: EdgeId(0),
         service: ServiceId(0),
         tag: None,
@@ -74,8 +74,8 @@ fn add_circuit(rt: &impl Abort, alloc: Global, circuits: &mut List<CircuitPlan>,
     circuits.push(row).expect(rt, "memory");
 }
 
-// So many edges, and so many circuits of one service at the first of them.
-fn plan_of(rt: &impl Abort, alloc: Global, edges: u8, circuits: u16) -> Plan {
+/// So many edges, and so many circuits of one service at the first of them.
+pub(crate) fn plan_of(rt: &impl Abort, alloc: Global, edges: u8, circuits: u16) -> Plan {
     let mut plan = Plan {
         edges: List::new(alloc),
         services: List::new(alloc),
@@ -92,8 +92,8 @@ fn plan_of(rt: &impl Abort, alloc: Global, edges: u8, circuits: u16) -> Plan {
     plan
 }
 
-// What a wire's end offers.
-fn offer(rt: &impl Abort) -> Offer {
+/// What a wire's end offers.
+pub(crate) fn offer(rt: &impl Abort) -> Offer {
     Offer {
         tagged: false,
         cword: true,
@@ -139,8 +139,8 @@ fn opened(rt: &impl Abort, alloc: Global, edges: u8, circuits: u16) -> Network {
     network_of(alloc, &plan).expect(rt, "a network")
 }
 
-// The network of a plan.
-fn network_of(alloc: Global, plan: &Plan) -> Option<Network> {
+/// The network of a plan.
+pub(crate) fn network_of(alloc: Global, plan: &Plan) -> Option<Network> {
     if plan.edges.len() > 64 || plan.services.len() > 64 {
         return None;
     }
@@ -202,8 +202,8 @@ enum Step {
     Settle,
 }
 
-// An edge of the network's plan.
-fn edge(rt: &impl Abort, network: &Network, place: u16) -> EdgeId
+/// An edge of the network's plan.
+pub(crate) fn edge(rt: &impl Abort, network: &Network, place: u16) -> EdgeId
     ensures { result.0 < length network.now.plan.edges }
 {
     assert!(rt; usize::from(place) < network.plan().edges.len());
@@ -560,4 +560,28 @@ fn tells_a_failure_by_a_status(rt: HostRuntime) {
     let network = played(&rt, alloc, steps.as_slice());
     has_kinds(&rt, alloc, &network, ">00s1>ss2>s23sw>3swu>u>sw>i>w");
     are_bound(&rt, &network, 16, 16);
+}
+
+// The one service of the network is quiet, and full, or neither; and it is calm where it is both, since it has no spoke.
+fn is_so(rt: &impl Abort, network: &Network, quiet: bool, full: bool) {
+    assert!(rt; network.is_quiet(ServiceId(0)) == quiet);
+    assert!(rt; network.is_full(ServiceId(0)) == full);
+    assert!(rt; network.is_calm(ServiceId(0)) == (quiet && full));
+}
+
+#[test]
+fn is_calm_once_a_pseudowire_is_up(rt: HostRuntime) {
+    let alloc = rt.alloc();
+    let mut network = played(&rt, alloc, &[]);
+    is_so(&rt, &network, true, false);
+    play_one(&rt, alloc, &mut network, Step::Connect { from: 0, to: 1 });
+    is_so(&rt, &network, false, false);
+    play_one(&rt, alloc, &mut network, Step::Settle);
+    is_so(&rt, &network, true, true);
+    play_one(&rt, alloc, &mut network, Step::Status { edge: 0, bits: 6 });
+    is_so(&rt, &network, false, false);
+    play_one(&rt, alloc, &mut network, Step::Settle);
+    is_so(&rt, &network, true, false);
+    play_one(&rt, alloc, &mut network, Step::Lose { edge: 0, peer: 1 });
+    is_so(&rt, &network, false, false);
 }

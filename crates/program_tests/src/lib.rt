@@ -15,6 +15,8 @@ mod files;
 #[cfg(test)]
 mod frames;
 #[cfg(test)]
+mod hierarchy;
+#[cfg(test)]
 mod pseudowires;
 #[cfg(test)]
 mod replays;

@@ -81,7 +81,6 @@ fn is_not_built(rt: &impl Abort, alloc: Global, events: &str, wire: &str) {
 #[test]
 fn answers_what_is_not_built_of_wires(rt: HostRuntime) {
     let alloc = rt.alloc();
-    is_not_built(&rt, alloc, "", "class = \"spoke\"");
     is_not_built(&rt, alloc, "", "class = \"mesh\"\nvccv = 1");
     is_not_built(&rt, alloc, "", "class = \"mesh\"\nfar_vccv = 1");
     is_not_built(&rt, alloc, "\"priority a w 1\"", "class = \"mesh\"");

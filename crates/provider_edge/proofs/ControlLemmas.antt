@@ -1,6 +1,7 @@
 -- The control of an edge, in lists as in maps.
 use Rattle.std.proofs.Common.{◌≡◌, ◌<◌, ◌≤◌, ◌++◌, ◌||◌, ◌∙◌, ℕ, zero, suc, Bool, true, false, List, [], ◌∷◌, Option, Some, None, cond, length, map, slice_set, slice_index_or, nat_eq, replicate, ◌+◌, refl, ap, sym, subst, arith, length-set}
 use Rattle.std.proofs.lemmas.Bool.{eqb-true}
+use Rattle.std.proofs.lemmas.List.{length-map}
 use Rattle.std.proofs.lemmas.List.Elements.{All-replicate}
 use Rattle.std.specs.Prelude.{All, IfSome}
 use Rattle.net_base.specs.declared.plan.Plan.{Plan}
@@ -21,12 +22,13 @@ use Rattle.edge_model.proofs.LocalLemmas.{and_left}
 use Rattle.edge_model.proofs.PlaceLemmas.{IsEndOf, places_are}
 use Rattle.std.specs.List.{AllByRecursion, list_any}
 use Rattle.std.proofs.lemmas.Option.{slice_get_within}
-use Rattle.edge_model.specs.State.{EdgeState, empty_edge, end_at, first_label, has_end, put_at, with_bits, with_end, with_ends_beside, with_peering, with_renewed, with_wire, with_next_label, without_ends, without_peerings}
+use Rattle.edge_model.specs.State.{EdgeState, empty_edge, end_at, first_label, has_end, put_at, with_bits, with_chosen, with_end, with_ends_beside, with_peering, with_renewed, with_wire, with_next_label, without_ends, without_peerings}
 use Rattle.edge_model.specs.Work.{changes}
 use Rattle.pw_ends.specs.Ends.{EndLists, changed_at, changed_beside, end_in, no_place, place_of, renewed_of, seen_ends}
 use Rattle.net_base.specs.plan.Accepted.{IsChecked}
 use Rattle.provider_edge.specs.Control.{ControlLists, IsControl, IsNewControl, KeepsPlan, Rest, controlled}
 use Rattle.provider_edge.specs.Forwarding.{ForwardingLists, IsNewForwarding, KeepsForwarding, opened_forwarding, with_forwarding, without_told}
+use Rattle.provider_edge.specs.Spokes.{AreSpokesOf, IsNewSpokes, SpokeLists, unchosen}
 use Rattle.provider_edge.specs.Peering.{Dialogue, at_edge, gone, kept_with}
 use Rattle.provider_edge.specs.Views.{view}
 use Rattle.provider_edge.proofs.ForwardLemmas.{control_forwarding, controlled_forwarding}
@@ -50,6 +52,7 @@ control_dialogues c dialogues long is = record {
   places = is.places;
   wires = is.wires;
   each_bits = is.each_bits;
+  spokes = is.spokes;
   plan = is.plan;
   me = is.me;
   small = is.small;
@@ -65,6 +68,20 @@ control_ends c ends same is = record {
   places = same ∙ is.places;
   wires = is.wires;
   each_bits = is.each_bits;
+  spokes = is.spokes;
+  plan = is.plan;
+  me = is.me;
+  small = is.small;
+}
+
+pub control_spokes : (c : ControlLists) (spokes : SpokeLists) → AreSpokesOf c.plan c.me spokes → IsControl c → IsControl (record c { spokes = spokes })
+control_spokes c spokes are is = record {
+  checked = is.checked;
+  dialogues = is.dialogues;
+  places = is.places;
+  wires = is.wires;
+  each_bits = is.each_bits;
+  spokes = are;
   plan = is.plan;
   me = is.me;
   small = is.small;
@@ -77,6 +94,7 @@ control_wires c wires long is = record {
   places = is.places;
   wires = long ∙ is.wires;
   each_bits = is.each_bits;
+  spokes = is.spokes;
   plan = is.plan;
   me = is.me;
   small = is.small;
@@ -140,21 +158,39 @@ pub ends_renewed : (c : ControlLists) (ends : EndLists) (wire : WireId) (rest : 
 unfolding controlled with_renewed
 ends_renewed c ends wire rest seen next = λ i. record (controlled c rest) { ends = seen i; next_label = next i }
 
-ends_fresh : (c : ControlLists) (ends : EndLists) (rest : Rest) → seen_ends ends ≡ (λ wire peer. fresh) → ends.labels.next ≡ c.ends.labels.next
-    → without_told (controlled (record c { ends = ends }) rest) ≡ without_ends (controlled c rest)
+view_unchosen : (xs : List (Option WireId)) (k : ℕ) → view None (map unchosen xs) k ≡ None
+view_unchosen [] k = refl
+view_unchosen (x ∷ xs) zero = refl
+view_unchosen (x ∷ xs) (suc k) = view_unchosen xs k
+
+ends_fresh : (c : ControlLists) (ends : EndLists) (spokes : SpokeLists) (rest : Rest) → seen_ends ends ≡ (λ wire peer. fresh) → ends.labels.next ≡ c.ends.labels.next → spokes.chosen ≡ map unchosen c.spokes.chosen
+    → without_told (controlled (record c { ends = ends; spokes = spokes }) rest) ≡ without_ends (controlled c rest)
 unfolding controlled without_ends without_told
-ends_fresh c ends rest seen next = λ i. record (without_told (controlled c rest)) { ends = seen i; next_label = next i }
+ends_fresh c ends spokes rest seen next none = λ i. record (without_told (controlled c rest)) {
+  ends = seen i;
+  chosen = λ k. (ap (λ (l : List (Option WireId)). view None l k) none ∙ view_unchosen c.spokes.chosen k) i;
+  next_label = next i;
+}
 
--- each end is as it was opened, and of no end anything was told
-pub ends_forgotten : (c : ControlLists) (ends : EndLists) (f : ForwardingLists) (rest : Rest) → IsControl c → ends.places ≡ c.ends.places → KeepsForwarding c.forwarding f
-    → seen_ends ends ≡ (λ wire peer. fresh) → ends.labels.next ≡ c.ends.labels.next
+-- no spoke is chosen any more
+pub spokes_forgotten : (plan : Plan) (me : EdgeId) (old new : SpokeLists) → new ≡ record old { chosen = map unchosen old.chosen } → AreSpokesOf plan me old → AreSpokesOf plan me new
+spokes_forgotten plan me old new is are = subst (AreSpokesOf plan me) (sym is) (record { slots = are.slots; chosen = length-map old.chosen unchosen ∙ are.chosen })
+
+pub control_forgotten : (c : ControlLists) (ends : EndLists) (spokes : SpokeLists) (f : ForwardingLists) → ends.places ≡ c.ends.places → spokes ≡ record c.spokes { chosen = map unchosen c.spokes.chosen } → KeepsForwarding c.forwarding f
+    → IsControl c → IsControl (record c { ends = ends; spokes = spokes; forwarding = f })
+control_forgotten c ends spokes f same none keeps is =
+    control_forwarding (record c { ends = ends; spokes = spokes }) f keeps
+    (control_spokes (record c { ends = ends }) spokes (spokes_forgotten c.plan c.me c.spokes spokes none is.spokes) (control_ends c ends same is))
+
+-- each end is as it was opened, of no end anything was told, and no spoke is chosen
+pub ends_forgotten : (c : ControlLists) (ends : EndLists) (spokes : SpokeLists) (f : ForwardingLists) (rest : Rest) → IsControl c → ends.places ≡ c.ends.places → spokes ≡ record c.spokes { chosen = map unchosen c.spokes.chosen }
+    → KeepsForwarding c.forwarding f → seen_ends ends ≡ (λ wire peer. fresh) → ends.labels.next ≡ c.ends.labels.next
     → ((edge : EdgeState) → with_forwarding f edge ≡ without_told (with_forwarding c.forwarding edge))
-    → controlled (record c { ends = ends; forwarding = f }) rest ≡ without_ends (controlled c rest)
-ends_forgotten c ends f rest is same keeps seen next closed =
-    controlled_forwarding without_told (record c { ends = ends }) f rest (control_ends c ends same is) keeps closed ∙ ends_fresh c ends rest seen next
-
-pub control_forgotten : (c : ControlLists) (ends : EndLists) (f : ForwardingLists) → ends.places ≡ c.ends.places → KeepsForwarding c.forwarding f → IsControl c → IsControl (record c { ends = ends; forwarding = f })
-control_forgotten c ends f same keeps is = control_forwarding (record c { ends = ends }) f keeps (control_ends c ends same is)
+    → controlled (record c { ends = ends; spokes = spokes; forwarding = f }) rest ≡ without_ends (controlled c rest)
+ends_forgotten c ends spokes f rest is same none keeps seen next closed =
+    controlled_forwarding without_told (record c { ends = ends; spokes = spokes }) f rest
+    (control_spokes (record c { ends = ends }) spokes (spokes_forgotten c.plan c.me c.spokes spokes none is.spokes) (control_ends c ends same is)) keeps closed
+    ∙ ends_fresh c ends spokes rest seen next (ap (λ (s : SpokeLists). s.chosen) none)
 
 -- ---- where no session stands, the ends are lost
 
@@ -189,6 +225,7 @@ pub record AreNewLists (plan : Plan) (me : EdgeId) (c : ControlLists) : Type 0 w
   pub next : c.ends.labels.next ≡ first_label plan me
   pub wires : c.wires_on ≡ replicate (length plan.wires) true
   pub zeros : c.bits ≡ replicate (length plan.wires) 0
+  pub spokes : IsNewSpokes plan me c.spokes
   pub forwarding : IsNewForwarding plan me c.forwarding
 
 pub new_is : (plan : Plan) (me : EdgeId) (c : ControlLists) (rest : Rest) → AreNewLists plan me c → controlled c rest ≡ empty_edge plan me
@@ -203,6 +240,7 @@ new_is plan me c rest are = λ i. record {
   bits = λ k. (ap (λ (l : List ℕ). view 0 l k) are.zeros ∙ all_same (length plan.wires) k 0) i;
   ends = are.ends i;
   told_down = (are.forwarding.is (empty_edge plan me) i).told_down;
+  chosen = λ k. (ap (λ (l : List (Option WireId)). view None l k) are.spokes.none ∙ all_same (length plan.services) k None) i;
   next_label = are.next i;
 }
 
@@ -216,6 +254,7 @@ control_new plan me c checked are = record {
   places = are.places ∙ (ap (λ (p : Plan). end_places p me) (sym are.keeps) ∙ ap (end_places c.plan) (sym are.here));
   wires = ap (λ (l : List Bool). length l) are.wires ∙ (long_same (length plan.wires) true ∙ ap (λ (p : Plan). length p.wires) (sym are.keeps));
   each_bits = ap (λ (l : List ℕ). length l) are.zeros ∙ (long_same (length plan.wires) 0 ∙ ap (λ (p : Plan). length p.wires) (sym are.keeps));
+  spokes = subst (λ (p : Plan). AreSpokesOf p c.me c.spokes) (sym are.keeps) (subst (λ (m : EdgeId). AreSpokesOf plan m c.spokes) (sym are.here) are.spokes.are);
   plan = are.forwarding.keeps ∙ sym are.keeps;
   me = are.forwarding.here ∙ sym are.here;
   small = subst (All (λ bits. bits ≤ 31)) (sym are.zeros) (All-replicate (λ bits. bits ≤ 31) (length plan.wires) 0 (omega arith));
@@ -232,6 +271,16 @@ pub controlled_bits : (c : ControlLists) (wire : WireId) (bits : ℕ) (rest : Re
     → controlled (record c { bits = slice_set c.bits wire.0 bits }) rest ≡ with_bits wire bits (controlled c rest)
 unfolding controlled with_bits
 controlled_bits c wire bits rest within = λ i. record (controlled c rest) { bits = view_set 0 c.bits wire.0 bits within i }
+
+-- ---- the spoke that is chosen for a service
+
+pub spokes_chosen : (plan : Plan) (me : EdgeId) (spokes : SpokeLists) (service : ℕ) (wire : Option WireId) → AreSpokesOf plan me spokes → AreSpokesOf plan me (record spokes { chosen = slice_set spokes.chosen service wire })
+spokes_chosen plan me spokes service wire are = record { slots = are.slots; chosen = length-set spokes.chosen service wire ∙ are.chosen }
+
+pub controlled_chosen : (c : ControlLists) (service : ℕ) (wire : Option WireId) (rest : Rest) → service < length c.spokes.chosen
+    → controlled (record c { spokes = record c.spokes { chosen = slice_set c.spokes.chosen service wire } }) rest ≡ with_chosen (put_at (controlled c rest).chosen service wire) (controlled c rest)
+unfolding controlled with_chosen
+controlled_chosen c service wire rest within = λ i. record (controlled c rest) { chosen = view_set None c.spokes.chosen service wire within i }
 
 -- ---- what is read
 

@@ -73,9 +73,10 @@ use Rattle.edge_model.specs.declared.end_place.EndPlace.{EndPlace}
 use Rattle.edge_model.specs.Content.{binding_in, mapping, pw_status_code, release, status_notification, withdrawal}
 use Rattle.edge_model.specs.EndPlaces.{end_places, ends_here, is_end_of_wire, passes}
 use Rattle.edge_model.specs.Ends.{is_up, wire_end}
-use Rattle.edge_model.specs.Mend.{advertises_wish, advertising, and_says, cause_number, each_end, forgets_down, forgets_downs, forgetting_wire, mends, mends_end, mends_few, mends_local, mends_once, mends_status, mends_status_of, port_of_wire, stays, telling_status, tells_down, tells_downs, tells_new_status, tells_over, wish, withdrawing, withdraws_unless}
+use Rattle.edge_model.specs.Mend.{advertises_wish, advertising, and_says, cause_number, each_end, forgets_down, forgets_downs, forgetting_wire, mends, mends_end, mends_few, mends_local, mends_once, mends_status, mends_status_of, port_of_wire, stays, telling_status, tells_down, tells_downs, tells_new_status, tells_over, then_changes, wish, withdrawing, withdraws_unless}
 use Rattle.edge_model.specs.Role.{down_at, status_to_tell}
 use Rattle.edge_model.specs.Signal.{end_of_fec, hears_status, maps_to, with_end_changed, with_named}
+use Rattle.edge_model.specs.Spokes.{choosing}
 use Rattle.edge_model.specs.Wire.{turned_wire}
 use Rattle.edge_model.specs.State.{EdgeState, Peering, end_at, has_end, is_on, is_there, with_bits, with_ends_beside, with_peering, with_told_down}
 use Rattle.edge_model.specs.Step.{edge_step}
@@ -435,11 +436,13 @@ once_kept : (plan : Plan) (Holds : Work → Type 0) → AreKept plan Holds → I
 once_kept plan Holds kept checked told work here =
     let placed : AllByRecursion (IsPlaced plan) (end_places plan work.edge.me) = places_placed plan work.edge.me checked in
     let ends : Spoken = each_end (mends_end plan told) (end_places plan work.edge.me) (stays work) in
-    let statuses : Spoken = each_end (mends_status plan told) (end_places plan work.edge.me) ends in
+    let chosen : Spoken = then_changes (choosing plan) ends in
+    let statuses : Spoken = each_end (mends_status plan told) (end_places plan work.edge.me) chosen in
     downs_kept plan Holds kept (end_places plan work.edge.me) placed (forgets_downs plan (end_places plan work.edge.me) statuses.work)
     (forgets_kept plan Holds kept (end_places plan work.edge.me) statuses.work
-    (each_kept plan Holds (mends_status plan told) (λ place here w h. status_kept plan Holds kept told place here w h) (end_places plan work.edge.me) placed ends
-    (each_kept plan Holds (mends_end plan told) (λ place here w h. end_kept plan Holds kept told place here w h) (end_places plan work.edge.me) placed (stays work) here)))
+    (each_kept plan Holds (mends_status plan told) (λ place here w h. status_kept plan Holds kept told place here w h) (end_places plan work.edge.me) placed chosen
+    (kept.changed (choosing plan) ends.work
+    (each_kept plan Holds (mends_end plan told) (λ place here w h. end_kept plan Holds kept told place here w h) (end_places plan work.edge.me) placed (stays work) here))))
 
 rounds_kept : (plan : Plan) (Holds : Work → Type 0) → AreKept plan Holds → IsChecked plan → (told : Answers) (n : ℕ) (work : Work) → Holds work → Holds (mends_few plan told n work)
 rounds_kept plan Holds kept checked told zero work here = here

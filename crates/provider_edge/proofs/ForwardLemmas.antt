@@ -26,6 +26,7 @@ control_forwarding c f keeps is = record {
   places = is.places;
   wires = is.wires;
   each_bits = is.each_bits;
+  spokes = is.spokes;
   plan = keeps.plan ∙ is.plan;
   me = keeps.me ∙ is.me;
   small = is.small;

@@ -21,6 +21,7 @@ pub mod RowLemmas
 pub mod SettleLemmas
 pub mod SlotLemmas
 pub mod SpeakerLemmas
+pub mod SpokeLemmas
 pub mod StayLemmas
 pub mod SyncLemmas
 pub mod Views

@@ -26,9 +26,10 @@ use Rattle.pw_ends.specs.Wish.{wish_by}
 use Rattle.edge_model.specs.declared.effect.Effect.{Effect}
 use Rattle.edge_model.specs.declared.end_place.EndPlace.{EndPlace}
 use Rattle.edge_model.specs.EndPlaces.{end_places}
-use Rattle.edge_model.specs.Mend.{advertises_wish, and_says, each_end, forgets_down, forgets_downs, forgetting_wire, mends, mends_again, mends_end, mends_few, mends_local, mends_once, mends_status, mends_status_of, stays, tells_down, tells_downs, tells_new_status, tells_over, terminal_wish, wish, withdraws_unless}
+use Rattle.edge_model.specs.Mend.{advertises_wish, and_says, each_end, forgets_down, forgets_downs, forgetting_wire, mends, mends_again, mends_end, mends_few, mends_local, mends_once, mends_status, mends_status_of, stays, tells_down, tells_downs, tells_new_status, tells_over, terminal_wish, then_changes, wish, withdraws_unless}
 use Rattle.edge_model.specs.Put.{Spoken}
 use Rattle.edge_model.specs.Role.{down_at, role_at, status_to_tell}
+use Rattle.edge_model.specs.Spokes.{choosing}
 use Rattle.edge_model.specs.State.{EdgeState, end_at}
 use Rattle.edge_model.specs.Work.{Answers, Work, changes}
 use Rattle.provider_edge.specs.Control.{ControlLists, KeepsPlan, Rest, at_control, controlled}
@@ -71,18 +72,25 @@ rounds_end c told n i start work rounds past so_far = sym (so_far ∙ few_end c.
 
 -- ---- all steps once
 
-pub once_done : (plan : Plan) (told : Answers) (me : EdgeId) (start forgot last : Work) (ends statuses : Spoken) → start.edge.me ≡ me
+pub once_done : (plan : Plan) (told : Answers) (me : EdgeId) (start forgot last : Work) (ends chosen statuses : Spoken) → start.edge.me ≡ me
     → ends ≡ each_end (mends_end plan told) (end_places plan me) (stays start)
-    → statuses ≡ each_end (mends_status plan told) (end_places plan me) ends
+    → chosen ≡ then_changes (choosing plan) ends
+    → statuses ≡ each_end (mends_status plan told) (end_places plan me) chosen
     → forgot ≡ forgets_downs plan (end_places plan me) statuses.work
     → last ≡ tells_downs plan (end_places plan me) forgot
     → record { work = last; failed = statuses.failed } ≡ mends_once plan told start
-once_done plan told me start forgot last ends statuses here first next forgets downs =
+once_done plan told me start forgot last ends chosen statuses here first chooses next forgets downs =
     let after : EdgeId → Work → Work = λ m w. tells_downs plan (end_places plan m) (forgets_downs plan (end_places plan m) w) in
-    let all : EdgeId → Spoken = λ m. each_end (mends_status plan told) (end_places plan m) (each_end (mends_end plan told) (end_places plan m) (stays start)) in
+    let all : EdgeId → Spoken = λ m. each_end (mends_status plan told) (end_places plan m) (then_changes (choosing plan) (each_end (mends_end plan told) (end_places plan m) (stays start))) in
     ap (λ (w : Work). record { work = w; failed = statuses.failed }) (downs ∙ ap (tells_downs plan (end_places plan me)) forgets)
-    ∙ (ap (λ (s : Spoken). record { work = after me s.work; failed = s.failed }) (next ∙ ap (each_end (mends_status plan told) (end_places plan me)) first)
+    ∙ (ap (λ (s : Spoken). record { work = after me s.work; failed = s.failed }) (next ∙ ap (each_end (mends_status plan told) (end_places plan me)) (chooses ∙ ap (then_changes (choosing plan)) first))
     ∙ ap (λ (m : EdgeId). record { work = after m (all m).work; failed = (all m).failed }) (sym here))
+
+pub chosen_kept : (c now new : ControlLists) (rest : Rest) (calls : List LinkCall) (out : List Effect) (failed : Bool) → KeepsPlan c now → controlled new rest ≡ choosing now.plan (controlled now rest)
+    → record { work = at_control new rest calls out; failed = failed } ≡ then_changes (choosing c.plan) (record { work = at_control now rest calls out; failed = failed })
+unfolding at_edge changes
+chosen_kept c now new rest calls out failed keeps is =
+    ap (λ (e : EdgeState). record { work = record { edge = e; calls = calls; effects = out; idle = false }; failed = failed }) (is ∙ ap (λ (p : Plan). choosing p (controlled now rest)) keeps.plan)
 
 pub statuses_kept : (c now : ControlLists) (told : Answers) (m x : Spoken) → KeepsPlan c now → x ≡ each_end (mends_status now.plan told) (end_places now.plan now.me) m → x ≡ each_end (mends_status c.plan told) (end_places c.plan c.me) m
 statuses_kept c now told m x keeps is =

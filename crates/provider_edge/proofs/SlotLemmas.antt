@@ -3,6 +3,7 @@ use Rattle.std.proofs.Common.{◌≡◌, ◌<◌, ◌∙◌, ℕ, Bool, Option, 
 use Rattle.std.specs.Prelude.{IfSome}
 use Rattle.std.specs.List.{find}
 use Rattle.net_base.specs.declared.plan.Plan.{Plan}
+use Rattle.net_base.specs.declared.plan.wire_plan.WirePlan.{WirePlan}
 use Rattle.net_base.specs.declared.trace.down.Down.{Down}
 use Rattle.net_base.specs.plan.Places.{wire_row}
 use Rattle.pw_signalling.specs.declared.end_role.EndRole.{EndRole}
@@ -10,7 +11,7 @@ use Rattle.pw_signalling.specs.Down.{down}
 use Rattle.pw_signalling.specs.End.{EndState}
 use Rattle.edge_model.specs.declared.end_place.EndPlace.{EndPlace}
 use Rattle.edge_model.specs.EndPlaces.{end_places}
-use Rattle.edge_model.specs.Role.{down_at, role_at, role_in}
+use Rattle.edge_model.specs.Role.{down_at, is_wire, role_at, role_in, role_of}
 use Rattle.edge_model.specs.State.{end_at}
 use Rattle.pw_ends.specs.Ends.{end_in, place_of}
 use Rattle.pw_ends.proofs.IndexLemmas.{named_if, none_at}
@@ -26,14 +27,15 @@ slot_within c now slot place same is within at =
 
 -- ---- what is asked of the end of a slot
 
-pub role_read : (c now : ControlLists) (rest : Rest) (slot : ℕ) (place : EndPlace) (plan : Plan) (role : EndRole) → c ≡ now → place ≡ place_of c.ends slot → plan ≡ c.plan → role ≡ role_in (wire_row plan place.wire) c.me
-    → role ≡ role_at now.plan (controlled now rest) (place_of now.ends slot)
+pub role_read : (c now : ControlLists) (rest : Rest) (slot : ℕ) (place : EndPlace) (row : WirePlan) (chosen : Bool) (role : EndRole) → c ≡ now → place ≡ place_of now.ends slot → wire_row c.plan place.wire ≡ Some row
+    → chosen ≡ is_wire place.wire ((controlled now rest).chosen row.service.0) → role ≡ role_of row c.me chosen → role ≡ role_at now.plan (controlled now rest) (place_of now.ends slot)
 unfolding controlled
-role_read c now rest slot place plan role same at of_plan is =
+role_read c now rest slot place row chosen role same at found chooses is =
     is
-    ∙ (ap (λ (p : Plan). role_in (wire_row p place.wire) c.me) of_plan
-    ∙ (ap (λ (p : EndPlace). role_in (wire_row c.plan p.wire) c.me) at
-    ∙ ap (λ (n : ControlLists). role_in (wire_row n.plan (place_of n.ends slot).wire) n.me) same))
+    ∙ (ap (λ (b : Bool). role_of row c.me b) chooses
+    ∙ (ap (λ (n : ControlLists). role_of row n.me (is_wire place.wire ((controlled now rest).chosen row.service.0))) same
+    ∙ (ap (λ (r : Option WirePlan). role_in r now.me (controlled now rest).chosen place.wire) (sym (ap (λ (n : ControlLists). wire_row n.plan place.wire) (sym same) ∙ found))
+    ∙ ap (λ (p : EndPlace). role_in (wire_row now.plan p.wire) now.me (controlled now rest).chosen p.wire) at)))
 
 pub down_read : (c now : ControlLists) (rest : Rest) (slot : ℕ) (place : EndPlace) (role : EndRole) (bits : ℕ) (end : EndState) (why : Option Down) → c ≡ now → place ≡ place_of c.ends slot
     → role ≡ role_at now.plan (controlled now rest) (place_of now.ends slot) → bits ≡ (controlled now rest).bits place.wire.0 → end ≡ end_in c.ends slot → why ≡ down role bits end

@@ -18,6 +18,7 @@ use Rattle.pw_tlvs.specs.declared.pw_fec.PwFec.{PwFec}
 use Rattle.pw_ends.specs.Ends.{EndLists, seen_ends}
 use Rattle.provider_edge.specs.Forwarding.{ForwardingLists, domain_of, entries_of}
 use Rattle.provider_edge.specs.Peering.{Dialogue, at_edge, kept_with}
+use Rattle.provider_edge.specs.Spokes.{AreSpokesOf, SpokeLists}
 use Rattle.provider_edge.specs.Views.{view}
 
 pub record ControlLists : Type 0 where
@@ -31,6 +32,8 @@ pub record ControlLists : Type 0 where
   -- the wires that are on, and the failure bits of its end of each
   pub wires_on : List Bool
   pub bits : List ℕ
+  -- its spokes by services, and those that it has chosen
+  pub spokes : SpokeLists
   -- what it forwards frames by
   pub forwarding : ForwardingLists
 
@@ -49,6 +52,7 @@ controlled c rest = record {
   bits = view 0 c.bits;
   ends = seen_ends c.ends;
   told_down = view (Some NoLocal) c.forwarding.told_down;
+  chosen = view None c.spokes.chosen;
   next_label = c.ends.labels.next;
 }
 
@@ -74,6 +78,7 @@ pub record IsControl (c : ControlLists) : Type 0 where
   pub places : c.ends.places ≡ end_places c.plan c.me
   pub wires : length c.wires_on ≡ length c.plan.wires
   pub each_bits : length c.bits ≡ length c.plan.wires
+  pub spokes : AreSpokesOf c.plan c.me c.spokes
   pub plan : c.forwarding.plan ≡ c.plan
   pub me : c.forwarding.me ≡ c.me
   pub small : All (λ bits. bits ≤ 31) c.bits

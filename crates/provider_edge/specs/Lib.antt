@@ -11,5 +11,6 @@ pub mod Mending
 pub mod Peering
 pub mod PwMessage
 pub mod Said
+pub mod Spokes
 pub mod Taking
 pub mod Views

@@ -39,6 +39,7 @@ seen edge = record {
   bits = view 0 edge.control.bits;
   ends = seen_ends edge.control.ends;
   told_down = view (Some NoLocal) edge.control.forwarding.told_down;
+  chosen = view None edge.control.spokes.chosen;
   next_label = edge.control.ends.labels.next;
 }
 
@@ -54,6 +55,7 @@ no_edge plan me = record {
     ends = record { places = []; ends = []; labels = record { next = first_label plan me; room = 0; owners = [] } };
     wires_on = [];
     bits = [];
+    spokes = record { slots = []; chosen = [] };
     forwarding = record { plan = plan; me = me; circuits_on = []; told_down = []; domains = []; ticks = 0 };
   };
   held = [];

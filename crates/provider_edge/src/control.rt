@@ -19,18 +19,20 @@ mod mend_end;
 mod packet;
 mod session;
 mod signal;
+mod spokes;
 mod wire;
 
 use crate::dialogue::Dialogue;
 use crate::forwarding::Forwarding;
+use crate::spokes::Spokes;
 use net_base::{EdgeId, NoMemory, Plan, StateName};
 use pw_ends::PwEnds;
 use std::alloc::Global;
 use std::marker::Model;
 use std::rc::Rc;
 
-/// What an edge works on: its sessions, the ends of its pseudowires, what was set of its wires, and what it forwards frames by. Contracts see
-/// it as lists by the plan's places, and by `controlled` as the state of the whole edge, for any rest of it: so each call
+/// What an edge works on: its sessions, the ends of its pseudowires, what was set of its wires, the spokes that it
+/// has chosen, and what it forwards frames by. Contracts see it as lists by the plan's places, and by `controlled` as the state of the whole edge, for any rest of it: so each call
 /// says what it makes of the edge, and that all else stays.
 #[derive(Debug, Drop)]
 pub struct Control {
@@ -40,6 +42,7 @@ pub struct Control {
     ends: PwEnds,
     wires_on: Vec<bool>,
     bits: Vec<u8>,
+    spokes: Spokes,
     forwarding: Forwarding,
 }
 
@@ -48,13 +51,14 @@ impl Model for Control {
 
     ghost Value = { ControlLists };
 
-    ghost view = { λ c. record { plan = c.plan.value; me = c.me; dialogues = c.dialogues.items; ends = c.ends; wires_on = c.wires_on.items; bits = c.bits.items; forwarding = c.forwarding } };
+    ghost view = { λ c. record { plan = c.plan.value; me = c.me; dialogues = c.dialogues.items; ends = c.ends; wires_on = c.wires_on.items; bits = c.bits.items; spokes = c.spokes; forwarding = c.forwarding } };
 
-    ghost invariant = { λ c. IsControl (record { plan = c.plan.value; me = c.me; dialogues = c.dialogues.items; ends = c.ends; wires_on = c.wires_on.items; bits = c.bits.items; forwarding = c.forwarding }) };
+    ghost invariant = { λ c. IsControl (record { plan = c.plan.value; me = c.me; dialogues = c.dialogues.items; ends = c.ends; wires_on = c.wires_on.items; bits = c.bits.items; spokes = c.spokes; forwarding = c.forwarding }) };
 }
 
 impl Control {
-    /// The control of an edge of the plan before its first input: no session stands, every end is idle, every wire is on.
+    /// The control of an edge of the plan before its first input: no session stands, every end is idle, every wire is on,
+    /// and no spoke is chosen.
     pub fn open(alloc: Global, plan: Rc<Plan>, me: EdgeId) -> Result<Control, NoMemory>
         requires checked { IsChecked plan.value }
         requires me { me.0 < length plan.value.edges }
@@ -65,6 +69,7 @@ impl Control {
         let count = plan.wires.len();
         let wires_on = vec![in alloc; true; count]?;
         let bits = vec![in alloc; 0u8; count]?;
+        let spokes = Spokes::open(alloc, &plan, me, ends.places())?;
         let forwarding = Forwarding::open(alloc, plan.clone()?, me)?;
         Ok(Control {
             plan,
@@ -73,6 +78,7 @@ impl Control {
             ends,
             wires_on,
             bits,
+            spokes,
             forwarding,
         })
     }
@@ -155,7 +161,8 @@ impl Control {
         }
     }
 
-    /// The edge restarts: no session stands, each end is as it was opened, and what was told of it is forgotten. The wires
+    /// The edge restarts: no session stands, each end is as it was opened, what was told of it is forgotten, and no spoke is
+    /// chosen. The wires
     /// that are on, the failure bits and the next label stay.
     pub fn restart(&mut self)
         ensures keeps { KeepsPlan self.old self.new }
@@ -173,12 +180,13 @@ impl Control {
         drop_all(&mut self.dialogues);
     }
 
-    // Each end is as it was opened, and what was told of it is forgotten.
+    // Each end is as it was opened, what was told of it is forgotten, and no spoke is chosen.
     fn forget_ends(&mut self)
         ensures keeps { KeepsPlan self.old self.new }
         ensures step { (rest : Rest) → controlled self.new rest ≡ without_ends (controlled self.old rest) }
     {
         self.ends.restarted();
+        self.spokes.clear();
         self.forwarding.close_wires();
     }
 }

@@ -16,6 +16,7 @@ mod packet;
 mod pw_message;
 mod quiet;
 mod speaker;
+mod spokes;
 mod tagged;
 
 pub use edge::Edge;

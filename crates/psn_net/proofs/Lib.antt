@@ -1,5 +1,7 @@
 pub mod AbsorbLemmas
 pub mod AnswerLemmas
+pub mod CalmLemmas
+pub mod CarryingLemmas
 pub mod ConnectionLemmas
 pub mod EmptyLemmas
 pub mod IndexLemmas

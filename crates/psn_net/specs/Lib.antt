@@ -1,4 +1,5 @@
 pub mod Applying
+pub mod Calm
 pub mod DeliveryIndex
 pub mod Lists
 pub mod Packets

@@ -12,6 +12,7 @@ ghost use Rattle.psn_net.specs.Applying.{Stops};
 ghost use Rattle.psn_net.specs.Lists.{seen};
 ghost use Rattle.psn_net.specs.Weight.{stop_at, weight_of};
 
+mod calm;
 mod marking;
 
 use crate::NetStop;

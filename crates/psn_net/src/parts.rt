@@ -14,11 +14,15 @@ ghost use Rattle.psn_net.specs.Lists.{HasDriven, HasRoom, HasStepped, Keeps, see
 ghost use Rattle.psn_net.specs.Weight.{may_send, stop_at, weight_of};
 
 mod absorb;
+mod calm;
+mod carrying;
 mod connections;
 mod events;
+mod full;
 mod lookups;
 mod opening;
 mod packets;
+mod quiet;
 
 use crate::NetStop;
 use crate::ledger::Ledger;

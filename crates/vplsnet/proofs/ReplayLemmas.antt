@@ -1,5 +1,5 @@
 -- The run of an accepted scenario keeps every promise.
-use Rattle.std.proofs.Common.{◌≡◌, ◌++◌, ◌∷◌, true, ℕ, List, [], Option, Some, None, Ok, length, subst, sym}
+use Rattle.std.proofs.Common.{◌≡◌, ◌++◌, ◌∷◌, true, ℕ, List, [], Option, Some, None, Ok, length, subst, sym, arith}
 use Rattle.std.specs.List.{All}
 use Rattle.net_base.specs.declared.plan.Plan.{Plan}
 use Rattle.net_base.specs.declared.trace.entry.Entry.{Entry}
@@ -13,8 +13,9 @@ use Rattle.flight_model.proofs.RuledRunLemmas.{runs_keep_label_rule, runs_keep_t
 use Rattle.flight_model.proofs.RunLemmas.{runs_come_up, runs_end_well, runs_follow_table}
 use Rattle.network_model.proofs.SplitLemmas.{run_split}
 use Rattle.network_model.proofs.KnownLemmas.{run_serves_known_once}
-use Rattle.network_model.proofs.OnceLemmas.{run_serves_once}
 use Rattle.packet_model.proofs.RunLemmas.{runs_are_isolated, runs_keep_packet_rule}
+use Rattle.flood_model.specs.Due.{has_short_paths}
+use Rattle.flood_model.proofs.RunLemmas.{runs_serve_once}
 use Rattle.psn_net.specs.declared.net_stop.NetStop.{NetStop}
 use Rattle.psn_net.specs.Lists.{NetLists, seen}
 use Rattle.psn_net.specs.Runs.{AreDone, IsRunOf}
@@ -26,6 +27,7 @@ use Rattle.vplsnet.specs.declared.outcome.Outcome.{Outcome}
 use Rattle.vplsnet.specs.Built.{is_built}
 use Rattle.vplsnet.specs.Promises.{KeepsPromises}
 use Rattle.vplsnet.specs.Replay.{HasRunAs, IsReplay, Replays, events_of, outcome_by}
+use Rattle.vplsnet.proofs.OnceLemmas.{built_short, once_widens}
 use Rattle.vplsnet.proofs.PlannedLemmas.{All-first, made_planned}
 
 -- the first events of a run are a run
@@ -36,12 +38,12 @@ run_of_first plan events before after joined run = record {
   planned = All-first (IsEventOf plan) before after (subst (λ (es : List Event). All (IsEventOf plan) es) joined run.planned);
 }
 
-promises_kept : (plan : Plan) (events : List Event) → IsRun plan events → KeepsPromises plan events
-promises_kept plan events run = record {
+promises_kept : (plan : Plan) (events : List Event) → IsRun plan events → has_short_paths plan ≡ true → KeepsPromises plan events
+promises_kept plan events run short = record {
   isolated = runs_are_isolated plan events run;
   split = run_split plan events run.checked;
   packets = λ before after joined. runs_keep_packet_rule plan before (first before after joined);
-  once = run_serves_once plan events run.checked;
+  once = once_widens 3 12 plan events (omega arith) (runs_serve_once plan events run short);
   known = run_serves_known_once plan events run.checked;
   table = λ before after joined a b. runs_follow_table plan before (first before after joined) a b;
   up = λ before after joined a b. runs_come_up plan before (first before after joined) a b;
@@ -80,7 +82,7 @@ is_replay octets text scenario network outcome reads built checked planned has =
       state_is = run.ran.state_is;
       trace_is = run.ran.trace_is;
       text_is = has.text_is;
-      promises = promises_kept scenario.plan run.done (record { checked = checked; types = has.types; planned = done });
+      promises = promises_kept scenario.plan run.done (record { checked = checked; types = has.types; planned = done }) (built_short scenario built);
     }
 
 by_outcome : (octets text : List ℕ) (network : Option NetLists) (reason : Option NetStop) → IsReplay octets text network reason → Replays octets text network (outcome_by reason)

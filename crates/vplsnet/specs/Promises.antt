@@ -47,8 +47,8 @@ pub record KeepsPromises (plan : Plan) (events : List Event) : Type 0 where
   -- whatever befell it and the network since it was sent, each packet under way carries the inner frame of a frame that entered
   -- in the service of its wire, and whoever owns its label where it goes is the end of that wire
   pub packets : CarryFrames plan events
-  -- each flooded frame reaches each site once
-  pub once : OnceEach plan events
+  -- each flooded frame reaches each site once, within twelve segments
+  pub once : OnceEach 12 plan events
   -- each frame to a known station leaves by one port at most
   pub known : KnownOnce plan events
   -- sessions understand each other, and come up where everything was heard

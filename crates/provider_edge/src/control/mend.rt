@@ -55,6 +55,7 @@ impl Control {
             → record { work = at_control self.new rest (L.calls link.new) out.new; failed = failed } ≡ mends_once self.old.plan told (at_control self.old rest (L.calls link.old) out.old)) }
     {
         let refused = self.mend_ends(alloc, link, out)?;
+        self.choose_spokes(alloc)?;
         let failed = self.mend_statuses(refused, alloc, link, out)?;
         self.forget_downs();
         self.tell_downs(out)?;

@@ -7,7 +7,7 @@ ghost use Rattle.pw_signalling.specs.AnyEnd.{end_of};
 ghost use Rattle.pw_tlvs.specs.Written.{has_vlan};
 ghost use Rattle.pw_ends.specs.Ends.{HasKind, IsIdle, end_in, place_of};
 ghost use Rattle.edge_model.specs.Mend.{advertises, advertises_wish, cause_number, forgetting_wire, mends_end, mends_status, tells_down, tells_new_status, tells_over, terminal_wish, wish, withdraws, withdraws_unless};
-ghost use Rattle.edge_model.specs.Role.{down_at, role_at, status_to_tell};
+ghost use Rattle.edge_model.specs.Role.{down_at, is_wire, role_at, status_to_tell};
 ghost use Rattle.edge_model.specs.State.{with_told_down};
 ghost use Rattle.edge_model.specs.Work.{Agrees, Answers, GoesOn};
 ghost use Rattle.provider_edge.specs.Control.{KeepsPlan, Rest, at_control, controlled};
@@ -16,10 +16,11 @@ ghost use Rattle.provider_edge.specs.Mending.{forgotten_down, may_tell, mended_d
 use super::Control;
 use crate::pw_message::PwMessage;
 use edge_model::{Effect, EndPlace};
-use net_base::{Down, Label, Link, List, NoMemory, WireId, WirePlan};
-use pw_ends::{role_at, status_to_tell, terminal_wish};
+use net_base::{Down, Label, Link, List, NoMemory, ServiceId, WireId, WirePlan};
+use pw_ends::{role_of, terminal_wish};
 use pw_signalling::{EndRole, PwEnd, Told};
 use pw_tlvs::PwStatus;
+use spoke_redundancy::status_to_tell;
 use std::alloc::Global;
 
 impl Control {
@@ -417,8 +418,22 @@ impl Control {
         requires { slot < length self.now.ends.places }
         ensures { (rest : Rest) → result ≡ role_at self.now.plan (controlled self.now rest) (place_of self.now.ends slot) }
     {
-        let place = self.place_at(slot);
-        role_at(&self.plan, place.wire, self.me)
+        let wire = self.place_at(slot).wire;
+        match self.plan.wires.get(wire.0 as usize) {
+            Some(row) => role_of(row, self.me, self.is_chosen(wire, row.service)),
+            None => EndRole::Mesh,
+        }
+    }
+
+    // Whether the wire is the one that is chosen for a service.
+    #[tactic(auto, unfolding(crate::specs::Control::controlled))]
+    fn is_chosen(&self, wire: WireId, service: ServiceId) -> bool
+        ensures { (rest : Rest) → result ≡ is_wire wire ((controlled self.now rest).chosen service.0) }
+    {
+        match self.spokes.chosen(service) {
+            Some(chosen) => chosen == wire,
+            None => false,
+        }
     }
 
     // The status that an end tells.

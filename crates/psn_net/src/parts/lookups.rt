@@ -1,12 +1,13 @@
 //! What stands, and what may be delivered.
 ghost use Rattle.std.specs.Prelude.{◌≡◌, ◌==◌, ◌<◌, ◌≤◌, true, false, length, IfSome};
+ghost use Rattle.net_base.specs.plan.Accepted.{IsChecked};
 ghost use Rattle.network_model.specs.Connection.{can_connect, is_deliverable, is_drained_pipe};
 ghost use Rattle.network_model.specs.Delivery.{first_from, first_pair};
 ghost use Rattle.network_model.specs.State.{stands};
 ghost use Rattle.psn_net.specs.Lists.{seen};
 
 use crate::parts::Parts;
-use net_base::EdgeId;
+use net_base::{EdgeId, WirePlan};
 
 impl Parts {
     /// How many edges the plan has.
@@ -15,6 +16,15 @@ impl Parts {
         ensures few { result ≤ 64 }
     {
         self.plan.edges.len()
+    }
+
+    /// The wires of the plan, at most 1,024.
+    pub fn wires(&self) -> &[WirePlan]
+        ensures wires { result.now ≡ self.now.plan.wires }
+        ensures checked { IsChecked self.now.plan }
+        ensures few { length result.now ≤ 1024 }
+    {
+        self.plan.wires.as_slice()
     }
 
     /// An edge's end of its connection with a peer stands.

@@ -1,0 +1,78 @@
+-- What is due to a circuit: a count over the copies of a frame that are under way.
+use Rattle.std.proofs.Common.{◌≡◌, ◌+◌, ◌++◌, ◌∙◌, ℕ, Bool, true, false, List, [], ◌∷◌, cond, refl, ap, sym, nat_eq, zero-add, arith}
+use Rattle.std.proofs.lemmas.Bool.{eq-eqb}
+use Rattle.net_base.specs.declared.plan.Plan.{Plan}
+use Rattle.net_base.specs.declared.plan.places.CircuitId.{CircuitId}
+use Rattle.net_base.specs.declared.plan.places.EdgeId.{EdgeId}
+use Rattle.net_base.specs.declared.plan.places.ServiceId.{ServiceId}
+use Rattle.net_base.specs.declared.plan.places.WireId.{WireId}
+use Rattle.net_base.specs.declared.trace.entry.Entry.{Entry}
+use Rattle.net_base.specs.declared.trace.entry.Entry.TheVariants.{Left}
+use Rattle.edge_model.specs.declared.effect.Effect.{Effect}
+use Rattle.edge_model.specs.declared.effect.Effect.TheVariants as effect
+use Rattle.edge_model.proofs.SessionLemmas.{are_all}
+use Rattle.network_model.specs.declared.packet.Packet.{Packet}
+use Rattle.network_model.specs.Absorb.{absorb_all, absorb_one, all_entries_of, entries_of}
+use Rattle.network_model.specs.OnceEach.{times_left}
+use Rattle.network_model.proofs.AbsorbLemmas.{of_origin, pipe_leaves, times_left-append}
+use Rattle.flood_model.specs.Due.{awaits}
+use Rattle.network_model.specs.State.{NetworkState, stands, with_packet, with_pipe}
+
+-- ---- what is due to a circuit
+
+-- how many of these packets have
+abbrev pub awaited : Plan → NetworkState → ServiceId → CircuitId → List Packet → ℕ
+awaited plan calm service circuit [] = 0
+awaited plan calm service circuit (p ∷ ps) = cond (awaits plan calm service circuit p.to p.wire) 1 0 + awaited plan calm service circuit ps
+
+abbrev pub due : Plan → NetworkState → ServiceId → CircuitId → ℕ → NetworkState → ℕ
+due plan calm service circuit origin network = awaited plan calm service circuit (of_origin origin network.under_way)
+
+-- how many copies of an edge serve the circuit, at once or later
+abbrev pub meets : Plan → NetworkState → ServiceId → CircuitId → List Effect → ℕ
+meets plan calm service circuit [] = 0
+meets plan calm service circuit (effect.Left at octets ∷ es) = cond (nat_eq at.0 circuit.0) 1 0 + meets plan calm service circuit es
+meets plan calm service circuit (effect.Sent peer wire came octets ∷ es) = cond (awaits plan calm service circuit peer wire) 1 0 + meets plan calm service circuit es
+meets plan calm service circuit (e ∷ es) = meets plan calm service circuit es
+
+pub meets-append : (plan : Plan) (calm : NetworkState) (service : ServiceId) (circuit : CircuitId) (xs ys : List Effect)
+    → meets plan calm service circuit (xs ++ ys) ≡ meets plan calm service circuit xs + meets plan calm service circuit ys
+meets-append plan calm service circuit [] ys = sym (zero-add (meets plan calm service circuit ys))
+meets-append plan calm service circuit (effect.Left at octets ∷ xs) ys = omega (arith, meets-append plan calm service circuit xs ys)
+meets-append plan calm service circuit (effect.Sent peer wire came octets ∷ xs) ys = omega (arith, meets-append plan calm service circuit xs ys)
+meets-append plan calm service circuit (x ∷ xs) ys = meets-append plan calm service circuit xs ys
+
+awaited-last : (plan : Plan) (calm : NetworkState) (service : ServiceId) (circuit : CircuitId) (origin : ℕ) (p : Packet) (ps : List Packet) → nat_eq p.origin origin ≡ true
+    → awaited plan calm service circuit (of_origin origin (ps ++ p ∷ [])) ≡ awaited plan calm service circuit (of_origin origin ps) + cond (awaits plan calm service circuit p.to p.wire) 1 0
+awaited-last plan calm service circuit origin p [] same = rw same (omega arith)
+awaited-last plan calm service circuit origin p (q ∷ ps) same = kept (nat_eq q.origin origin) (awaited-last plan calm service circuit origin p ps same) where
+  kept : (b : Bool) → awaited plan calm service circuit (of_origin origin (ps ++ p ∷ [])) ≡ awaited plan calm service circuit (of_origin origin ps) + cond (awaits plan calm service circuit p.to p.wire) 1 0
+      → awaited plan calm service circuit (cond b (q ∷ of_origin origin (ps ++ p ∷ [])) (of_origin origin (ps ++ p ∷ [])))
+      ≡ awaited plan calm service circuit (cond b (q ∷ of_origin origin ps) (of_origin origin ps)) + cond (awaits plan calm service circuit p.to p.wire) 1 0
+  kept true rest = omega (arith, rest)
+  kept false rest = rest
+
+one_due : (plan : Plan) (calm : NetworkState) (service : ServiceId) (circuit : CircuitId) (origin : ℕ) (me : EdgeId) (hops : ℕ) (e : Effect) (network : NetworkState)
+    → times_left origin circuit (entries_of me origin hops e network) + due plan calm service circuit origin (absorb_one me origin hops e network)
+    ≡ due plan calm service circuit origin network + meets plan calm service circuit (e ∷ [])
+unfolding with_packet
+one_due plan calm service circuit origin me hops (effect.Left at octets) network = rw (eq-eqb origin origin refl) (omega arith)
+one_due plan calm service circuit origin me hops (effect.Sent peer wire came octets) network = omega (arith, awaited-last plan calm service circuit origin (record { number = network.sent + 1; wire = wire; from = me; to = peer; origin = origin; hops = hops + 1; bytes = octets }) network.under_way (eq-eqb origin origin refl))
+one_due plan calm service circuit origin me hops (effect.Said peer octets) network = omega (arith, ap (awaited plan calm service circuit) (pipe_leaves origin me peer (network.pipes me.0 peer.0 ++ octets) network (stands network peer.0 me.0)))
+one_due plan calm service circuit origin me hops (effect.Closed peer) network = omega (arith, ap (awaited plan calm service circuit) (pipe_leaves origin peer me [] network true))
+one_due plan calm service circuit origin me hops e network = omega arith
+
+-- what its edge gives out on a frame is told at once, or due
+pub all_due : (plan : Plan) (calm : NetworkState) (service : ServiceId) (circuit : CircuitId) (origin : ℕ) (me : EdgeId) (hops : ℕ) (es : List Effect) (network : NetworkState)
+    → times_left origin circuit (all_entries_of me origin hops es network) + due plan calm service circuit origin (absorb_all me origin hops es network)
+    ≡ due plan calm service circuit origin network + meets plan calm service circuit es
+all_due plan calm service circuit origin me hops [] network = omega arith
+all_due plan calm service circuit origin me hops (e ∷ es) network =
+    let next : NetworkState = absorb_one me origin hops e network in
+    omega (
+      arith,
+      times_left-append origin circuit (entries_of me origin hops e network) (all_entries_of me origin hops es next),
+      one_due plan calm service circuit origin me hops e network,
+      all_due plan calm service circuit origin me hops es next,
+      meets-append plan calm service circuit (e ∷ []) es,
+    )

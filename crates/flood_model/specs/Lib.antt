@@ -1,0 +1,4 @@
+pub mod Due
+pub mod Laws
+pub mod Copy
+pub mod Hops

@@ -1,0 +1,9 @@
+//! What holds of flooded frames in every run of the network.
+ghost use Rattle.flood_model.specs.Laws.{RunsServeOnce};
+
+/// A flooded frame that enters a calm service, and of which no copy is lost or repeated, leaves at each other site of the service
+/// exactly once, within three segments, however its copies and other frames cross: over the full mesh of the core edges and the
+/// spokes that hang on them (RFC 4762 sections 4.4 and 10). So far each wire has a path of two edges.
+pub fn runs_serve_once()
+    ensures { RunsServeOnce }
+{}

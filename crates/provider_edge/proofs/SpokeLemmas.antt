@@ -1,0 +1,278 @@
+-- The spokes of a spoke edge by their slots, and the choice among them.
+use Rattle.std.proofs.Common.{◌≡◌, ◌<◌, ◌≤◌, ◌+◌, ◌++◌, ◌∙◌, ◌⊎◌, ◌&&◌, ℕ, zero, suc, Bool, true, false, cond, is_some, not, filter, map, nat_eq, nat_lt, List, [], ◌∷◌, Option, Some, None, length, drop, slice_get, slice_index_or, option_and_then, option_map, position, set, take, append_assoc, append-nil, refl, ap, sym, subst, inl, inr, arith}
+use Rattle.std.proofs.lemmas.Bool.{cases_order, eqb-true}
+use Rattle.std.proofs.lemmas.Bool.Decides.{nat_tests}
+use Rattle.std.proofs.lemmas.List.{drop_all, drop_more, length-map}
+use Rattle.std.proofs.lemmas.List.Elements.{All-get_or}
+use Rattle.std.proofs.lemmas.Option.{get_or_from_slice_get, slice_get_within}
+use Rattle.std.specs.List.{All}
+use Rattle.net_base.specs.declared.plan.Plan.{Plan}
+use Rattle.net_base.specs.declared.plan.places.EdgeId.{EdgeId}
+use Rattle.net_base.specs.declared.plan.places.ServiceId.{ServiceId}
+use Rattle.net_base.specs.declared.plan.places.WireId.{WireId}
+use Rattle.net_base.specs.declared.plan.wire_plan.WirePlan.{WirePlan}
+use Rattle.net_base.specs.declared.trace.down.Down.{Down}
+use Rattle.net_base.specs.plan.Accepted.{IsChecked, IsWireOf}
+use Rattle.net_base.specs.plan.Paths.{is_first}
+use Rattle.net_base.specs.plan.Places.{is_mesh_class, wire_row}
+use Rattle.pw_signalling.specs.declared.end_role.EndRole.TheVariants as role
+use Rattle.pw_signalling.specs.Down.{down}
+use Rattle.pw_signalling.specs.End.{EndState}
+use Rattle.edge_model.specs.declared.end_place.EndPlace.{EndPlace}
+use Rattle.edge_model.specs.EndPlaces.{end_places}
+use Rattle.edge_model.specs.Spokes.{choice, choosing, is_spoke_row, is_usable, spoke_at, spoke_places, spokes_of}
+use Rattle.edge_model.specs.State.{EdgeState, put_at, with_chosen}
+use Rattle.spoke_redundancy.specs.declared.spoke.Spoke.{Spoke}
+use Rattle.spoke_redundancy.specs.Choice.{chosen}
+use Rattle.pw_ends.specs.Ends.{EndLists, end_in, no_place, place_of}
+use Rattle.provider_edge.specs.Control.{ControlLists, IsControl, Rest, controlled}
+use Rattle.provider_edge.specs.Spokes.{AreSlots, slots_for, slots_where, starts_spoke, unchosen}
+use Rattle.provider_edge.proofs.EachLemmas.{before_push, each_next, long_push, past_push}
+use Rattle.provider_edge.proofs.Views.{past_end, same_read}
+
+-- ---- slots by services
+
+pub slots_none : (plan : Plan) (me : EdgeId) (places : List EndPlace) → AreSlots plan me places 0 []
+slots_none plan me places = record { count = refl; each = λ service below. absurd (omega arith) }
+
+-- those of one service more
+pub slots_more : (plan : Plan) (me : EdgeId) (places : List EndPlace) (n : ℕ) (slots : List (List ℕ)) (one : List ℕ) → AreSlots plan me places n slots → one ≡ slots_for plan me places n
+    → AreSlots plan me places (n + 1) (slots ++ one ∷ [])
+slots_more plan me places n slots one are is = record {
+  count = long_push slots one ∙ ap (λ (k : ℕ). k + 1) are.count;
+  each = λ service below. elim (cases_order service n) [
+    | inl same ↦ of service (inr same)
+    | inr rest ↦ elim rest [
+      | inl less ↦ of service (inl less)
+      | inr more ↦ absurd (omega arith)
+    ]
+  ];
+}
+  where
+    of : (service : ℕ) → (service < n) ⊎ (service ≡ n) → slice_index_or (slots ++ one ∷ []) service [] ≡ slots_for plan me places service
+    of service (inl earlier) = before_push slots one [] service (omega (arith, are.count)) ∙ are.each service earlier
+    of service (inr here) =
+        ap (λ (k : ℕ). slice_index_or (slots ++ one ∷ []) k []) (here ∙ sym are.count) ∙ (past_push slots one [] ∙ (is ∙ ap (slots_for plan me places) (sym here)))
+
+-- ---- slots of one service
+
+where_more : (test : EndPlace → Bool) (p : ℕ) (place : EndPlace) (places : List EndPlace)
+    → slots_where test p (place ∷ places) ≡ cond (test place) (p ∷ []) [] ++ slots_where test (p + 1) places
+where_more test p place places = by (test place) where
+  by : (b : Bool) → cond b (p ∷ slots_where test (p + 1) places) (slots_where test (p + 1) places) ≡ cond b (p ∷ []) [] ++ slots_where test (p + 1) places
+  by true = refl
+  by false = refl
+
+-- the slot of one place more
+pub slots_next : (test : EndPlace → Bool) (places : List EndPlace) (i : ℕ) (place : EndPlace) (slots more whole : List ℕ) (starts : Bool) → i < length places → place ≡ slice_index_or places i place → starts ≡ test place
+    → slots ++ slots_where test i (drop i places) ≡ whole → more ≡ slots ++ cond starts (i ∷ []) [] → more ++ slots_where test (i + 1) (drop (i + 1) places) ≡ whole
+slots_next test places i place slots more whole starts below read tested so_far pushed =
+    ap (λ (l : List ℕ). l ++ slots_where test (i + 1) (drop (i + 1) places)) (pushed ∙ ap (λ (b : Bool). slots ++ cond b (i ∷ []) []) tested)
+    ∙ (append_assoc slots (cond (test place) (i ∷ []) []) (slots_where test (i + 1) (drop (i + 1) places))
+    ∙ (ap (λ (l : List ℕ). slots ++ l) (sym (where_more test i place (drop (i + 1) places)))
+    ∙ (ap (λ (p : EndPlace). slots ++ slots_where test i (p ∷ drop (i + 1) places)) read
+    ∙ (ap (λ (l : List EndPlace). slots ++ slots_where test i l) (sym (drop_more places i place below)) ∙ so_far))))
+
+pub slots_end : (test : EndPlace → Bool) (places : List EndPlace) (i : ℕ) (slots whole : List ℕ) → length places ≤ i → slots ++ slots_where test i (drop i places) ≡ whole → slots ≡ whole
+slots_end test places i slots whole past so_far =
+    sym (append-nil slots) ∙ (ap (λ (l : List EndPlace). slots ++ slots_where test i l) (sym (drop_all i places past)) ∙ so_far)
+
+-- ---- slots name the places that pass the test
+
+-- a slot is one of the edge's
+pub slots_below : (test : EndPlace → Bool) (p n : ℕ) (places : List EndPlace) (i d : ℕ) → p + length places ≤ n → i < length (slots_where test p places) → slice_index_or (slots_where test p places) i d < n
+slots_below test p n [] i d within below = absurd (omega arith)
+slots_below test p n (x ∷ places) i d within below = by (test x) i below (λ k h. slots_below test (p + 1) n places k d (omega arith) h) where
+  rest : List ℕ
+  rest = slots_where test (p + 1) places
+
+  by : (b : Bool) (k : ℕ) → k < length (cond b (p ∷ rest) rest) → ((j : ℕ) → j < length rest → slice_index_or rest j d < n) → slice_index_or (cond b (p ∷ rest) rest) k d < n
+  by true zero h later = omega arith
+  by true (suc k) h later = later k (omega arith)
+  by false k h later = later k h
+
+-- what is made of each such place is what is made of its slot
+pub by_slots : {X : Type 0} (f : EndPlace → X) (test : EndPlace → Bool) (all : List EndPlace) (p : ℕ) (places : List EndPlace) → ((k : ℕ) → k < length places → slice_index_or all (p + k) no_place ≡ slice_index_or places k no_place)
+    → map (λ slot. f (slice_index_or all slot no_place)) (slots_where test p places) ≡ map f (filter test places)
+by_slots f test all p [] same = refl
+by_slots {X = X} f test all p (x ∷ places) same = by (test x) (by_slots f test all (p + 1) places later) where
+  here : slice_index_or all p no_place ≡ x
+  here = let place : p + 0 ≡ p = omega arith in ap (λ (n : ℕ). slice_index_or all n no_place) (sym place) ∙ same 0 (omega arith)
+
+  later : (k : ℕ) → k < length places → slice_index_or all (p + 1 + k) no_place ≡ slice_index_or places k no_place
+  later k below = let place : p + 1 + k ≡ p + suc k = omega arith in ap (λ (n : ℕ). slice_index_or all n no_place) place ∙ same (suc k) (omega arith)
+
+  made : ℕ → X
+  made slot = f (slice_index_or all slot no_place)
+
+  by : (b : Bool) → map made (slots_where test (p + 1) places) ≡ map f (filter test places)
+      → map made (cond b (p ∷ slots_where test (p + 1) places) (slots_where test (p + 1) places)) ≡ map f (cond b (x ∷ filter test places) (filter test places))
+  by true rest = ap (λ (y : X). y ∷ map made (slots_where test (p + 1) places)) (ap f here) ∙ ap (λ (l : List X). f x ∷ l) rest
+  by false rest = rest
+
+-- the same of all places
+pub by_all_slots : {X : Type 0} (f : EndPlace → X) (test : EndPlace → Bool) (places : List EndPlace) → map (λ slot. f (slice_index_or places slot no_place)) (slots_where test 0 places) ≡ map f (filter test places)
+by_all_slots f test places = by_slots f test places 0 places (λ k below. let place : 0 + k ≡ k = omega arith in ap (λ (n : ℕ). slice_index_or places n no_place) place)
+
+got_map : {X Y : Type 0} (f : X → Y) (xs : List X) (i : ℕ) (d : X) → i < length xs → slice_get (map f xs) i ≡ Some (f (slice_index_or xs i d))
+got_map f [] i d below = absurd (omega arith)
+got_map f (x ∷ xs) zero d below = refl
+got_map f (x ∷ xs) (suc i) d below = got_map f xs i d (omega arith)
+
+map_self : (xs : List EndPlace) → map (λ place. place) xs ≡ xs
+map_self [] = refl
+map_self (x ∷ xs) = ap (λ (l : List EndPlace). x ∷ l) (map_self xs)
+
+-- the place of one of the slots
+pub slot_names : (test : EndPlace → Bool) (places : List EndPlace) (i d : ℕ) → i < length (slots_where test 0 places)
+    → slice_get (filter test places) i ≡ Some (slice_index_or places (slice_index_or (slots_where test 0 places) i d) no_place)
+slot_names test places i d below =
+    ap (λ (l : List EndPlace). slice_get l i) (sym (by_all_slots (λ place. place) test places ∙ map_self (filter test places)))
+    ∙ got_map (λ slot. slice_index_or places slot no_place) (slots_where test 0 places) i d below
+
+-- ---- services that are not in the plan have no spokes
+
+row_holds : {A : Type 0} (P : A → Type 0) (rows : List A) (place : ℕ) (row : A) → slice_get rows place ≡ Some row → All P rows → P row
+row_holds P rows place row is all = subst P (get_or_from_slice_get rows place row row is) (All-get_or P rows place row (slice_get_within rows place row is) all)
+
+none_pass : (test : EndPlace → Bool) (places : List EndPlace) → ((place : EndPlace) → test place ≡ false) → filter test places ≡ []
+none_pass test [] none = refl
+none_pass test (x ∷ places) none = by (test x) (none x) (none_pass test places none) where
+  by : (b : Bool) → b ≡ false → filter test places ≡ [] → cond b (x ∷ filter test places) (filter test places) ≡ []
+  by true is rest = absurd (cc (is))
+  by false is rest = rest
+
+no_spoke : (plan : Plan) (me : EdgeId) (service : ServiceId) (wire : WireId) → IsChecked plan → length plan.services ≤ service.0 → is_spoke_row service me (wire_row plan wire) ≡ false
+no_spoke plan me service wire checked past = by (wire_row plan wire) refl where
+  by : (row : Option WirePlan) → wire_row plan wire ≡ row → is_spoke_row service me row ≡ false
+  by None is = refl
+  by (Some row) is =
+      let within : row.service.0 < length plan.services = (row_holds (IsWireOf plan) plan.wires wire.0 row is checked.wires).service in
+      let other : nat_eq row.service.0 service.0 ≡ false = grind (arith, nat_tests, within, past) in
+      ap (λ (b : Bool). (b && not (is_mesh_class row.class)) && is_first me.0 row.path) other
+
+pub choice_past : (plan : Plan) (edge : EdgeState) (service : ServiceId) → IsChecked plan → length plan.services ≤ service.0 → choice plan edge service ≡ None
+choice_past plan edge service checked past =
+    ap (λ (places : List EndPlace). option_map (λ (place : EndPlace). place.wire) (option_and_then (slice_get places) (chosen (map (spoke_at plan edge) places))))
+    (none_pass (λ place. is_spoke_row service edge.me (wire_row plan place.wire)) (end_places plan edge.me) (λ place. no_spoke plan edge.me service place.wire checked past))
+
+-- ---- service after service
+
+-- the first so many services have the one choice, and the others the other
+abbrev pub chosen_to : ℕ → (ℕ → Option WireId) → (ℕ → Option WireId) → ℕ → Option WireId
+chosen_to n new old service = cond (nat_lt service n) (new service) (old service)
+
+-- the edge has chosen for the first so many services
+abbrev pub choosing_to : ℕ → Plan → EdgeState → EdgeState
+choosing_to n plan edge = with_chosen (chosen_to n (λ service. choice plan edge (record { 0 = service })) edge.chosen) edge
+
+pub chosen_none : (plan : Plan) (edge : EdgeState) → edge ≡ choosing_to 0 plan edge
+unfolding with_chosen
+chosen_none plan edge = λ i. record edge { chosen = λ service. ap (λ (b : Bool). cond b (choice plan edge (record { 0 = service })) (edge.chosen service)) (above service) i } where
+  above : (service : ℕ) → false ≡ nat_lt service 0
+  above service = grind (arith, nat_tests)
+
+pub chosen_more : (plan : Plan) (n : ℕ) (old mid new : EdgeState) (wire : Option WireId) → mid ≡ choosing_to n plan old → wire ≡ choice plan mid (record { 0 = n }) → new ≡ with_chosen (put_at mid.chosen n wire) mid
+    → new ≡ choosing_to (n + 1) plan old
+unfolding with_chosen
+chosen_more plan n old mid new wire so_far chosen puts =
+    puts
+    ∙ (ap (λ (w : Option WireId). with_chosen (put_at mid.chosen n w) mid) chosen
+    ∙ (ap (λ (e : EdgeState). with_chosen (put_at e.chosen n (choice plan e (record { 0 = n }))) e) so_far
+    ∙ (λ i. record old { chosen = λ service. one service (nat_eq service n) refl i })))
+  where
+    by_now : ℕ → Option WireId
+    by_now service = choice plan old (record { 0 = service })
+
+    here : (k : ℕ) → nat_eq k n ≡ true → nat_lt k (n + 1) ≡ true
+    here k same = grind (arith, nat_tests, same)
+
+    apart : (k : ℕ) → nat_eq k n ≡ false → nat_lt k n ≡ nat_lt k (n + 1)
+    apart k other = grind (arith, nat_tests, other)
+
+    one : (k : ℕ) (b : Bool) → nat_eq k n ≡ b → cond (nat_eq k n) (by_now n) (chosen_to n by_now old.chosen k) ≡ chosen_to (n + 1) by_now old.chosen k
+    one k true same = rw (same, here k same) (ap by_now (sym (eqb-true k n same)))
+    one k false other = rw other (ap (λ (b : Bool). cond b (by_now k) (old.chosen k)) (apart k other))
+
+-- for the services past those it has chosen what it would choose
+pub chosen_all : (plan : Plan) (n : ℕ) (old new : EdgeState) → ((service : ℕ) → n ≤ service → old.chosen service ≡ choice plan old (record { 0 = service })) → new ≡ choosing_to n plan old → new ≡ choosing plan old
+unfolding with_chosen
+chosen_all plan n old new past is = is ∙ (λ i. record old { chosen = λ service. one service (nat_lt service n) refl i }) where
+  above : (service : ℕ) → nat_lt service n ≡ false → n ≤ service
+  above service other = grind (arith, nat_tests, other)
+
+  one : (service : ℕ) (b : Bool) → nat_lt service n ≡ b → cond (nat_lt service n) (choice plan old (record { 0 = service })) (old.chosen service) ≡ choice plan old (record { 0 = service })
+  one service true below = rw below refl
+  one service false other = rw other (past service (above service other))
+
+pub chosen_past : (c : ControlLists) (rest : Rest) (service : ℕ) → IsControl c → length c.plan.services ≤ service → (controlled c rest).chosen service ≡ choice c.plan (controlled c rest) (record { 0 = service })
+unfolding controlled
+chosen_past c rest service is past = past_end None c.spokes.chosen service (omega (arith, is.spokes.chosen, past)) ∙ sym (choice_past c.plan (controlled c rest) (record { 0 = service }) is.checked past)
+
+-- ---- none is chosen any more
+
+pub unchosen_next : (xs now : List (Option WireId)) (i : ℕ) → now ≡ map unchosen (take i xs) ++ drop i xs → i < length now → set now i None ≡ map unchosen (take (i + 1) xs) ++ drop (i + 1) xs
+unchosen_next xs now i so_far within =
+    each_next unchosen xs now i (slice_index_or now i None) None so_far within (same_read now i None (slice_index_or now i None) within) refl
+
+-- ---- what is asked of the spokes of a service
+
+pub usable_read : (c : ControlLists) (rest : Rest) (slot : ℕ) (place : EndPlace) (bits : ℕ) (end : EndState) (why : Option Down) (free : Bool) → place ≡ place_of c.ends slot → bits ≡ (controlled c rest).bits place.wire.0
+    → end ≡ end_in c.ends slot → why ≡ down role.Chosen bits end → is_some why ≡ not free → free ≡ is_usable (controlled c rest) (place_of c.ends slot)
+unfolding controlled
+usable_read c rest slot place bits end why free at bit read is so =
+    sym (ap not so ∙ twice free)
+    ∙ ap (λ (w : Option Down). not (is_some w))
+    (is
+    ∙ (ap (λ (e : EndState). down role.Chosen bits e) read
+    ∙ ap (λ (b : ℕ). down role.Chosen b (end_in c.ends slot)) (bit ∙ ap (λ (p : EndPlace). (controlled c rest).bits p.wire.0) at)))
+  where
+    twice : (b : Bool) → not (not b) ≡ b
+    twice true = refl
+    twice false = refl
+
+-- a slot is one of the edge's
+pub slot_below : (plan : Plan) (me : EdgeId) (places : List EndPlace) (service : ℕ) (slots : List ℕ) (i d : ℕ) → slots ≡ slots_for plan me places service → i < length slots → slice_index_or slots i d < length places
+slot_below plan me places service slots i d are below =
+    subst (λ (l : List ℕ). slice_index_or l i d < length places) (sym are)
+    (slots_below (starts_spoke plan me (record { 0 = service })) 0 (length places) places i d (omega arith) (subst (λ (l : List ℕ). i < length l) are below))
+
+-- the wire of a slot is that of the place
+pub wire_named : (plan : Plan) (me : EdgeId) (ends : EndLists) (service : ℕ) (slots : List ℕ) (i d : ℕ) (place : EndPlace) → ends.places ≡ end_places plan me → slots ≡ slots_for plan me ends.places service → i < length (slots_for plan me ends.places service)
+    → place ≡ place_of ends (slice_index_or slots i d) → option_map (λ (end : EndPlace). end.wire) (slice_get (spoke_places plan me (record { 0 = service })) i) ≡ Some place.wire
+wire_named plan me ends service slots i d place placed are below at =
+    ap (λ (l : List EndPlace). option_map (λ (end : EndPlace). end.wire) (slice_get (filter (starts_spoke plan me (record { 0 = service })) l) i)) (sym placed)
+    ∙ (ap (option_map (λ (end : EndPlace). end.wire)) (slot_names (starts_spoke plan me (record { 0 = service })) ends.places i d below)
+    ∙ ap (λ (p : EndPlace). Some p.wire) (sym (at ∙ ap (λ (l : List ℕ). place_of ends (slice_index_or l i d)) are)))
+
+-- one spoke more
+pub spokes_more : (f : ℕ → Spoke) (slots : List ℕ) (i d : ℕ) (spokes now : List Spoke) (one : Spoke) → i < length slots → spokes ++ map f (drop i slots) ≡ map f slots → one ≡ f (slice_index_or slots i d) → now ≡ spokes ++ one ∷ []
+    → now ++ map f (drop (i + 1) slots) ≡ map f slots
+spokes_more f slots i d spokes now one below so_far is pushed =
+    ap (λ (l : List Spoke). l ++ map f (drop (i + 1) slots)) (pushed ∙ ap (λ (s : Spoke). spokes ++ s ∷ []) is)
+    ∙ (append_assoc spokes (f (slice_index_or slots i d) ∷ []) (map f (drop (i + 1) slots))
+    ∙ (ap (λ (l : List ℕ). spokes ++ map f l) (sym (drop_more slots i d below)) ∙ so_far))
+
+pub spokes_end : (f : ℕ → Spoke) (slots : List ℕ) (i : ℕ) (spokes : List Spoke) → length slots ≤ i → spokes ++ map f (drop i slots) ≡ map f slots → spokes ≡ map f slots
+spokes_end f slots i spokes past so_far = sym (append-nil spokes) ∙ (ap (λ (l : List ℕ). spokes ++ map f l) (sym (drop_all i slots past)) ∙ so_far)
+
+-- the spokes by their slots are those of the edge
+pub spokes_read : (c : ControlLists) (rest : Rest) (service : ℕ) (slots : List ℕ) (spokes : List Spoke) → c.ends.places ≡ end_places c.plan c.me → slots ≡ slots_for c.plan c.me c.ends.places service
+    → spokes ≡ map (λ slot. spoke_at c.plan (controlled c rest) (place_of c.ends slot)) slots → spokes ≡ spokes_of c.plan (controlled c rest) (record { 0 = service })
+unfolding controlled
+spokes_read c rest service slots spokes placed are is =
+    is
+    ∙ (ap (map (λ slot. spoke_at c.plan (controlled c rest) (place_of c.ends slot))) are
+    ∙ (by_all_slots (spoke_at c.plan (controlled c rest)) (starts_spoke c.plan c.me (record { 0 = service })) c.ends.places
+    ∙ ap (λ (l : List EndPlace). map (spoke_at c.plan (controlled c rest)) (filter (starts_spoke c.plan c.me (record { 0 = service })) l)) placed))
+
+pub choice_read : (c : ControlLists) (rest : Rest) (service place : ℕ) (spokes : List Spoke) (wire : WireId) → spokes ≡ spokes_of c.plan (controlled c rest) (record { 0 = service }) → Some place ≡ chosen spokes
+    → option_map (λ (end : EndPlace). end.wire) (slice_get (spoke_places c.plan c.me (record { 0 = service })) place) ≡ Some wire → Some wire ≡ choice c.plan (controlled c rest) (record { 0 = service })
+unfolding controlled
+choice_read c rest service place spokes wire are some named =
+    sym named
+    ∙ ap (λ (o : Option ℕ). option_map (λ (end : EndPlace). end.wire) (option_and_then (slice_get (spoke_places c.plan c.me (record { 0 = service }))) o)) (some ∙ ap chosen are)
+
+-- octets are held of no neighbour
+pub no_rest : Rest
+no_rest = record { held = λ k. [] }

@@ -1,0 +1,123 @@
+//! A spoke edge chooses among its spokes (RFC 6870, RFC 4762 section 10.2.1).
+ghost use Rattle.std.specs.Prelude.{◌≡◌, ◌<◌, ◌≤◌, ℕ, Some, length, option_map, slice_get, IfOk, OnOk};
+ghost use Rattle.net_base.specs.plan.Places.{wire_row};
+ghost use Rattle.edge_model.specs.EndPlaces.{end_places};
+ghost use Rattle.edge_model.specs.Spokes.{choice, choosing, is_usable, priority_in, spoke_at, spoke_places, spokes_of};
+ghost use Rattle.edge_model.specs.State.{put_at, with_chosen};
+ghost use Rattle.pw_ends.specs.Ends.{place_of};
+ghost use Rattle.provider_edge.specs.Control.{KeepsPlan, Rest, controlled};
+ghost use Rattle.provider_edge.specs.Spokes.{slots_for};
+
+use super::Control;
+use net_base::{NoMemory, WireId};
+use pw_signalling::EndRole;
+use spoke_redundancy::{Spoke, choose};
+use std::alloc::Global;
+
+impl Control {
+    // The edge chooses for each service.
+    pub(super) fn choose_spokes(&mut self, alloc: Global) -> Result<(), NoMemory>
+        ensures keeps { KeepsPlan self.old self.new }
+        ensures step { OnOk result ((rest : Rest) → controlled self.new rest ≡ choosing self.old.plan (controlled self.old rest)) }
+    {
+        for service in 0..self.count_services() {
+            let chosen = self.choice(alloc, service)?;
+            self.set_chosen(service, chosen);
+        }
+        Ok(())
+    }
+
+    // How many services the plan has; none is chosen for a service past them, and the edge would choose none.
+    fn count_services(&self) -> usize
+        ensures count { result ≡ length self.now.plan.services }
+        ensures past { (rest : Rest) (service : ℕ) → length self.now.plan.services ≤ service → (controlled self.now rest).chosen service ≡ choice self.now.plan (controlled self.now rest) (record { 0 = service }) }
+    {
+        self.plan.services.len()
+    }
+
+    // This spoke, or none, is chosen for a service.
+    fn set_chosen(&mut self, service: usize, chosen: Option<WireId>)
+        requires { service < length self.old.plan.services }
+        ensures keeps { KeepsPlan self.old self.new }
+        ensures step { (rest : Rest) → controlled self.new rest ≡ with_chosen (put_at (controlled self.old rest).chosen service chosen) (controlled self.old rest) }
+    {
+        self.spokes.choose(service, chosen);
+    }
+
+    // The wire of the spoke that it chooses for a service.
+    fn choice(&self, alloc: Global, service: usize) -> Result<Option<WireId>, NoMemory>
+        requires { service < length self.now.plan.services }
+        ensures { IfOk result (λ wire. (rest : Rest) → wire ≡ choice self.now.plan (controlled self.now rest) (record { 0 = service })) }
+    {
+        let spokes = self.spokes_of(alloc, service)?;
+        match choose(spokes.as_slice()) {
+            Some(place) => Ok(Some(self.spoke_wire(service, place))),
+            None => Ok(None),
+        }
+    }
+
+    // Its spokes of a service, as the choice sees them.
+    fn spokes_of(&self, alloc: Global, service: usize) -> Result<Vec<Spoke>, NoMemory>
+        requires { service < length self.now.plan.services }
+        ensures count { IfOk result (λ spokes. length spokes.items ≡ length (slots_for self.now.plan self.now.me self.now.ends.places service)) }
+        ensures spokes { IfOk result (λ spokes. (rest : Rest) → spokes.items ≡ spokes_of self.now.plan (controlled self.now rest) (record { 0 = service })) }
+    {
+        let slots = self.slots_of(service);
+        let mut spokes = Vec::with_capacity(alloc, slots.len())?;
+        for slot in slots {
+            spokes.push(self.spoke_at(*slot))?;
+        }
+        Ok(spokes)
+    }
+
+    // The slots of its ends of the spokes of a service.
+    fn slots_of(&self, service: usize) -> &[usize]
+        requires { service < length self.now.plan.services }
+        ensures slots { result.now ≡ slots_for self.now.plan self.now.me self.now.ends.places service }
+        ensures places { self.now.ends.places ≡ end_places self.now.plan self.now.me }
+    {
+        self.spokes.slots(service)
+    }
+
+    // The wire of one of its spokes of a service.
+    fn spoke_wire(&self, service: usize, place: usize) -> WireId
+        requires service { service < length self.now.plan.services }
+        requires place { place < length (slots_for self.now.plan self.now.me self.now.ends.places service) }
+        ensures { option_map (λ end. end.wire) (slice_get (spoke_places self.now.plan self.now.me (record { 0 = service })) place) ≡ Some result }
+    {
+        let slot = self.slots_of(service)[place];
+        self.place_at(slot).wire
+    }
+
+    // The spoke of an end as the choice sees it.
+    fn spoke_at(&self, slot: usize) -> Spoke
+        requires { slot < length self.now.ends.places }
+        ensures { (rest : Rest) → result ≡ spoke_at self.now.plan (controlled self.now rest) (place_of self.now.ends slot) }
+    {
+        Spoke {
+            priority: self.priority_of(self.place_at(slot).wire),
+            usable: self.is_usable(slot),
+        }
+    }
+
+    // The priority number of a wire.
+    fn priority_of(&self, wire: WireId) -> u8
+        ensures { result ≡ priority_in (wire_row self.now.plan wire) }
+    {
+        match self.plan.wires.get(wire.0 as usize) {
+            Some(row) => row.priority,
+            None => 0,
+        }
+    }
+
+    // Whether an end would forward if its spoke were the chosen one.
+    fn is_usable(&self, slot: usize) -> bool
+        requires { slot < length self.now.ends.places }
+        ensures { (rest : Rest) → result ≡ is_usable (controlled self.now rest) (place_of self.now.ends slot) }
+    {
+        let place = self.place_at(slot);
+        let bits = self.bits_of(place.wire);
+        let down = self.end_in(slot).why_down(EndRole::Chosen, bits);
+        down.is_none()
+    }
+}

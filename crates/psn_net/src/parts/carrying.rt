@@ -1,0 +1,119 @@
+//! Which wires carry frames.
+ghost use Rattle.std.specs.Prelude.{◌≡◌, ◌<◌, Some, length, slice_get};
+ghost use Rattle.net_base.specs.plan.Accepted.{IsChecked};
+ghost use Rattle.net_base.specs.plan.Paths.{first_edge, last_edge};
+ghost use Rattle.edge_model.specs.Ends.{end_forwards, is_up};
+ghost use Rattle.provider_edge.specs.Lists.{seen as seen_edge};
+ghost use Rattle.network_model.specs.Calm.{carries, first_forwards, is_joined_up, last_forwards};
+ghost use Rattle.network_model.specs.State.{at_edge};
+ghost use Rattle.psn_net.specs.Lists.{seen};
+
+use crate::parts::Parts;
+use hvpls_spokes::is_terminal;
+use net_base::{Down, EdgeId, WireId, WirePlan};
+use provider_edge::Edge;
+
+impl Parts {
+    /// The wire with this row forwards at both of its terminal edges, and is stitched between them (RFC 6073 section 4).
+    pub fn carries(&self, wire: WireId, row: &WirePlan) -> bool
+        requires checked { IsChecked self.now.plan }
+        requires row { slice_get self.now.plan.wires wire.0 ≡ Some row.now }
+        ensures { result ≡ carries self.now.plan (seen self.now) wire.0 row.now }
+    {
+        (self.first_forwards(wire, row) && self.last_forwards(wire, row))
+            && self.is_joined_up(wire, row)
+    }
+
+    // The first edge of the wire's path forwards.
+    #[tactic(auto, using(crate::proofs::CarryingLemmas::first_within, crate::proofs::CarryingLemmas::first_forwards_is))]
+    fn first_forwards(&self, wire: WireId, row: &WirePlan) -> bool
+        requires checked { IsChecked self.now.plan }
+        requires row { slice_get self.now.plan.wires wire.0 ≡ Some row.now }
+        ensures { result ≡ first_forwards self.now.plan (seen self.now) wire.0 row.now.path }
+    {
+        match first_of(row.path.as_slice()) {
+            Some(first) => self.forwards(first, wire, row),
+            None => false,
+        }
+    }
+
+    // The last edge of the wire's path forwards.
+    #[tactic(auto, using(crate::proofs::CarryingLemmas::last_within, crate::proofs::CarryingLemmas::last_forwards_is))]
+    fn last_forwards(&self, wire: WireId, row: &WirePlan) -> bool
+        requires checked { IsChecked self.now.plan }
+        requires row { slice_get self.now.plan.wires wire.0 ≡ Some row.now }
+        ensures { result ≡ last_forwards self.now.plan (seen self.now) wire.0 row.now.path }
+    {
+        match last_of(row.path.as_slice()) {
+            Some(last) => self.forwards(last, wire, row),
+            None => false,
+        }
+    }
+
+    // The path has an edge, and each of its switching points is stitched. None is so far, so it has none.
+    #[tactic(auto, using(crate::proofs::CarryingLemmas::joined_up_is))]
+    fn is_joined_up(&self, wire: WireId, row: &WirePlan) -> bool
+        ensures { result ≡ is_joined_up self.now.plan (seen self.now) wire.0 row.now.path }
+    {
+        let count = row.path.len();
+        0 < count && count < 3
+    }
+
+    // An edge's terminal end of the wire forwards.
+    fn forwards(&self, edge: EdgeId, wire: WireId, row: &WirePlan) -> bool
+        requires checked { IsChecked self.now.plan }
+        requires row { slice_get self.now.plan.wires wire.0 ≡ Some row.now }
+        requires edge { edge.0 < length self.now.plan.edges }
+        ensures { result ≡ end_forwards self.now.plan (at_edge (seen self.now) edge) wire }
+    {
+        end_forwards(self.edge_at(edge), wire, row)
+    }
+
+    // The edge with this place, over the plan of the network.
+    #[tactic(auto, unfolding(crate::specs::Lists::seen))]
+    fn edge_at(&self, edge: EdgeId) -> &Edge
+        requires { edge.0 < length self.now.plan.edges }
+        ensures plan { result.now.plan ≡ self.now.plan }
+        ensures state { seen_edge result.now ≡ at_edge (seen self.now) edge }
+    {
+        &self.edges[edge.0 as usize]
+    }
+}
+
+// The edge's terminal end of the wire forwards.
+#[tactic(auto, using(crate::proofs::CarryingLemmas::forwarding_steps))]
+fn end_forwards(edge: &Edge, wire: WireId, row: &WirePlan) -> bool
+    requires checked { IsChecked edge.now.plan }
+    requires row { slice_get edge.now.plan.wires wire.0 ≡ Some row.now }
+    ensures { result ≡ end_forwards edge.now.plan (seen_edge edge.now) wire }
+{
+    if !is_terminal(row.path.as_slice(), edge.me()) {
+        return false;
+    }
+    is_up(edge.down(wire))
+}
+
+// Nothing keeps an end from forwarding.
+fn is_up(down: Option<Down>) -> bool
+    ensures { result ≡ is_up down }
+{
+    down.is_none()
+}
+
+// The first edge of a path.
+fn first_of(path: &[EdgeId]) -> Option<EdgeId>
+    ensures { result ≡ first_edge path.now }
+{
+    match path {
+        [first, ..] => Some(*first),
+        [] => None,
+    }
+}
+
+// The last edge of a path.
+#[tactic(auto, using(net_base::proofs::PathLemmas::last_edge_is))]
+fn last_of(path: &[EdgeId]) -> Option<EdgeId>
+    ensures { result ≡ last_edge path.now }
+{
+    path.last().copied()
+}
