@@ -1,5 +1,5 @@
 -- A packet comes from a neighbour, exit by exit.
-use Rattle.std.proofs.Common.{◌≡◌, ◌<◌, ◌≤◌, ◌+◌, ◌++◌, ◌∷◌, ◌∙◌, ◌==◌, [], ℕ, zero, suc, Bool, true, false, cond, not, nat_lt, is_some, List, Option, Some, None, Result, Ok, Err, drop, take, nat_eq, length, option_map, position, slice_get, slice_index_or, refl, ap, sym, subst, arith}
+use Rattle.std.proofs.Common.{◌≡◌, ◌<◌, ◌≤◌, ◌+◌, ◌++◌, ◌∷◌, ◌∙◌, ◌==◌, [], ℕ, zero, suc, Bool, true, false, cond, not, nat_lt, is_some, List, Option, Some, None, Result, Ok, Err, drop, take, nat_eq, length, option_map, position, slice_get, refl, ap, sym, subst, arith}
 use Rattle.std.specs.List.{find}
 use Rattle.std.specs.Prelude.{IfOk, MatchResult}
 use Rattle.std.proofs.lemmas.Bool.Decides.{nat_tests}
@@ -35,7 +35,7 @@ use Rattle.edge_model.specs.Role.{down_at}
 use Rattle.edge_model.specs.Send.{drops}
 use Rattle.edge_model.specs.State.{EdgeState, end_at}
 use Rattle.edge_model.specs.Work.{Answers, Work, gives}
-use Rattle.pw_ends.specs.Ends.{end_in, no_place, place_of}
+use Rattle.pw_ends.specs.Ends.{end_in, end_there, place_of}
 use Rattle.provider_edge.specs.Control.{ControlLists, Rest, at_control, controlled}
 use Rattle.provider_edge.specs.Peering.{at_edge}
 use Rattle.provider_edge.proofs.BridgeLemmas.{dropped_at}
@@ -125,54 +125,10 @@ alerts_between place at work is other = sym (ap (λ (b : Bool). cond b (drops ca
 
 -- ---- whose label it is
 
-abbrev pub has_label : ℕ → EdgeState → EndPlace → Bool
-has_label label edge place = advertises_label label (end_at edge place).local
-
-find_here : (test : EndPlace → Bool) (places : List EndPlace) (i : ℕ) (d : EndPlace) → i < length places → test (slice_index_or places i d) ≡ true → find test (drop i places) ≡ Some (slice_index_or places i d)
-find_here test [] i d below passes = absurd (omega arith)
-find_here test (x ∷ places) zero d below passes = ap (λ (b : Bool). cond b (Some x) (find test places)) passes
-find_here test (x ∷ places) (suc i) d below passes = find_here test places i d (omega arith) passes
-
-find_later : (test : EndPlace → Bool) (places : List EndPlace) (i : ℕ) (d : EndPlace) → i < length places → test (slice_index_or places i d) ≡ false → find test (drop i places) ≡ find test (drop (i + 1) places)
-find_later test [] i d below fails = absurd (omega arith)
-find_later test (x ∷ places) zero d below fails = ap (λ (b : Bool). cond b (Some x) (find test places)) fails
-find_later test (x ∷ places) (suc i) d below fails =
-    let next : suc i + 1 ≡ suc (i + 1) = omega arith in
-    rw next (find_later test places i d (omega arith) fails)
-
-find_past : (test : EndPlace → Bool) (places : List EndPlace) (i : ℕ) → length places ≤ i → find test (drop i places) ≡ None
-find_past test [] zero past = refl
-find_past test [] (suc i) past = refl
-find_past test (x ∷ places) zero past = absurd (omega arith)
-find_past test (x ∷ places) (suc i) past = find_past test places i (omega arith)
-
-label_in : (c : ControlLists) (rest : Rest) (slot label : ℕ) → has_label label (controlled c rest) (place_of c.ends slot) ≡ advertises_label label (end_in c.ends slot).local
+-- the end that was found by the ends' own list is that of the plan
+pub advertiser_in : (c : ControlLists) (rest : Rest) (label : ℕ) → c.ends.places ≡ end_places c.plan c.me → find (λ place. advertises_label label (end_there c.ends place).local) c.ends.places ≡ advertiser c.plan (controlled c rest) label
 unfolding controlled
-label_in c rest slot label = refl
-
-advertiser_in : (c : ControlLists) (rest : Rest) (label : ℕ) → c.ends.places ≡ end_places c.plan c.me → find (has_label label (controlled c rest)) c.ends.places ≡ advertiser c.plan (controlled c rest) label
-unfolding controlled
-advertiser_in c rest label placed = ap (find (has_label label (controlled c rest))) placed
-
--- of the ends from a slot on the first one with the label is the one of all
-abbrev pub IsFromHere : ControlLists → ℕ → ℕ → Type 0
-IsFromHere c label slot = (rest : Rest) → find (has_label label (controlled c rest)) (drop slot c.ends.places) ≡ find (has_label label (controlled c rest)) c.ends.places
-
-pub from_first : (c : ControlLists) (label : ℕ) → IsFromHere c label 0
-from_first c label rest = refl
-
-pub from_next : (c : ControlLists) (label slot : ℕ) (has : Bool) → slot < length c.ends.places → has ≡ advertises_label label (end_in c.ends slot).local → has ≡ false → IsFromHere c label slot → IsFromHere c label (slot + 1)
-from_next c label slot has below is fails so_far rest =
-    sym (find_later (has_label label (controlled c rest)) c.ends.places slot no_place below (label_in c rest slot label ∙ (sym is ∙ fails))) ∙ so_far rest
-
-pub label_found : (c : ControlLists) (label slot : ℕ) (has : Bool) (rest : Rest) → c.ends.places ≡ end_places c.plan c.me → slot < length c.ends.places → has ≡ advertises_label label (end_in c.ends slot).local → has ≡ true → IsFromHere c label slot
-    → Some (place_of c.ends slot) ≡ advertiser c.plan (controlled c rest) label
-label_found c label slot has rest placed below is passes so_far =
-    sym (find_here (has_label label (controlled c rest)) c.ends.places slot no_place below (label_in c rest slot label ∙ (sym is ∙ passes))) ∙ (so_far rest ∙ advertiser_in c rest label placed)
-
-pub label_nowhere : (c : ControlLists) (label slot : ℕ) (rest : Rest) → c.ends.places ≡ end_places c.plan c.me → length c.ends.places ≤ slot → IsFromHere c label slot → None ≡ advertiser c.plan (controlled c rest) label
-label_nowhere c label slot rest placed past so_far =
-    sym (find_past (has_label label (controlled c rest)) c.ends.places slot past) ∙ (so_far rest ∙ advertiser_in c rest label placed)
+advertiser_in c rest label placed = ap (find (λ place. advertises_label label (end_there c.ends place).local)) placed
 
 -- ---- the label is one of the edge's own
 

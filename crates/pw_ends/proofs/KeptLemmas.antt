@@ -21,6 +21,8 @@ use Rattle.pw_ends.specs.declared.end_change.EndChange.TheVariants as change
 use Rattle.pw_ends.specs.Changes.{changed, changed_in}
 use Rattle.pw_ends.specs.Ends.{HasKind, IsIdle}
 use Rattle.pw_ends.specs.Kept.{AreApart, AreKept, Differ, IsOwned, OwnApart, OwnTheirs, count_owned, freed_one, left_label, one_owned, own_of}
+use Rattle.pw_ends.specs.Owned.{AreEarlier, OwnedList, with_owner, without_one}
+use Rattle.pw_ends.proofs.OwnerLemmas.{all_at, differ_sym, index_changed, index_count, index_earlier, index_issued, index_opened, set_same}
 
 -- ---- counting
 
@@ -84,17 +86,6 @@ pushed_some label (x ∷ xs) owner some = elim (cases_Bool (owns label x)) [
 freed_owned : (owners : List LabelOwner) (label : ℕ) (other : Option ℕ) → Differ (Some label) other → IsOwned owners other → IsOwned (filter (λ o. not (owns label o)) owners) other
 freed_owned owners label None differ owned = tt
 freed_owned owners label (Some other) differ owned = λ none. owned (sym (owner_of-kept label other owners (λ same. differ (sym same))) ∙ none)
-
-differ_sym : (a b : Option ℕ) → Differ a b → Differ b a
-differ_sym None None differ = tt
-differ_sym None (Some b) differ = tt
-differ_sym (Some a) None differ = tt
-differ_sym (Some a) (Some b) differ = λ same. differ (sym same)
-
-all_at : (P : Option ℕ → Type 0) (owns : List (Option ℕ)) (slot : ℕ) → AllByRecursion P owns → slot < length owns → P (get_or owns slot None)
-all_at P [] slot all within = absurd (omega (arith, within))
-all_at P (o ∷ os) zero all within = all.0
-all_at P (o ∷ os) (suc slot) all within = all_at P os slot all.1 (omega (arith, within))
 
 all_set : {X : Type 0} (P : X → Type 0) (xs : List X) (slot : ℕ) (x : X) → AllByRecursion P xs → P x → AllByRecursion P (set xs slot x)
 all_set P [] slot x all is = tt
@@ -278,19 +269,16 @@ ends_at P [] slot all within = absurd (omega (arith, within))
 ends_at P (e ∷ es) zero all within = all.0
 ends_at P (e ∷ es) (suc slot) all within = ends_at P es slot all.1 (omega (arith, within))
 
-own_count : (ends : List EndState) → length (map own_of ends) ≡ length ends
+-- there are as many labels, or none, as ends
+pub own_count : (ends : List EndState) → length (map own_of ends) ≡ length ends
 own_count [] = refl
 own_count (e ∷ es) = ap suc (own_count es)
 
-own_at : (ends : List EndState) (slot : ℕ) → get_or (map own_of ends) slot None ≡ own_of (get_or ends slot fresh)
+-- the label that the end of a slot owns
+pub own_at : (ends : List EndState) (slot : ℕ) → get_or (map own_of ends) slot None ≡ own_of (get_or ends slot fresh)
 own_at [] slot = refl
 own_at (e ∷ es) zero = refl
 own_at (e ∷ es) (suc slot) = own_at es slot
-
-set_same : {X : Type 0} (xs : List X) (slot : ℕ) (d x : X) → slot < length xs → x ≡ get_or xs slot d → set xs slot x ≡ xs
-set_same [] slot d x within is = refl
-set_same {X} (y ∷ ys) zero d x within is = ap (λ (z : X). z ∷ ys) is
-set_same {X} (y ∷ ys) (suc slot) d x within is = ap (λ (l : List X). y ∷ l) (set_same ys slot d x (omega (arith, within)) is)
 
 -- after a change the ends own what is left in the label space
 theirs_changed : (own_list : List (Option ℕ)) (labels : LabelNumbers) (slot : ℕ) (before after : Option ℕ) → OwnTheirs own_list labels → slot < length own_list → get_or own_list slot None ≡ before → (after ≡ before) ⊎ (after ≡ None) → OwnTheirs (set own_list slot after) (freed_one (left_label before after) labels)
@@ -302,8 +290,8 @@ theirs_changed own_list labels slot (Some label) (Some other) theirs within at (
 theirs_changed own_list labels slot (Some label) (Some other) theirs within at (inr none) = absurd (something {X = ℕ} other none)
 
 -- a slot is one of the ends
-pub slot_within : (places : List EndPlace) (ends : List PwEnd) (labels : LabelNumbers) (slot : ℕ) → AreKept places (map end_of ends) labels → slot < length places → slot < length ends
-slot_within places ends labels slot kept within = omega (arith, within, kept.count, all_seen ends)
+pub slot_within : (places : List EndPlace) (ends : List PwEnd) (labels : LabelNumbers) (index : OwnedList) (slot : ℕ) → AreKept places (map end_of ends) labels index → slot < length places → slot < length ends
+slot_within places ends labels index slot kept within = omega (arith, within, kept.count, all_seen ends)
   where
     all_seen : (es : List PwEnd) → length (map end_of es) ≡ length es
     all_seen [] = refl
@@ -317,14 +305,16 @@ pub freed_next : (left : Option ℕ) (labels : LabelNumbers) → (freed_one left
 freed_next None labels = refl
 freed_next (Some label) labels = refl
 
-pub kept_changed : (c : EndChange) (places : List EndPlace) (ends : List EndState) (labels : LabelNumbers) (slot : ℕ) → AreKept places ends labels → slot < length places →
+pub kept_changed : (c : EndChange) (places : List EndPlace) (ends : List EndState) (labels : LabelNumbers) (index : OwnedList) (slot : ℕ) → AreKept places ends labels index → slot < length places →
     AreKept places (changed_in (changed c) slot ends) (freed_one (left_label (own_of (get_or ends slot fresh)) (own_of (get_or (changed_in (changed c) slot ends) slot fresh))) labels)
-kept_changed c places ends labels slot kept within =
+    (without_one (left_label (own_of (get_or ends slot fresh)) (own_of (get_or (changed_in (changed c) slot ends) slot fresh))) index)
+kept_changed c places ends labels index slot kept within =
     let old : EndState = get_or ends slot fresh in
     let short : slot < length ends = subst (λ (n : ℕ). slot < n) (sym kept.count) within in
     let short_own : slot < length (map own_of ends) = subst (λ (n : ℕ). slot < n) (sym (own_count ends)) short in
     let now : get_or (changed_in (changed c) slot ends) slot fresh ≡ changed c old = set_at ends slot (changed c old) short in
     let theirs = theirs_changed (map own_of ends) labels slot (own_of old) (own_of (changed c old)) kept.owns short_own (own_at ends slot) (stays_or_none c old) in
+    let slots = index_changed (map own_of ends) labels index slot (own_of old) (own_of (changed c old)) kept.slots kept.owns.apart short_own (own_at ends slot) (stays_or_none c old) in
     let owned : map own_of (changed_in (changed c) slot ends) ≡ set (map own_of ends) slot (own_of (changed c old)) = map-set own_of ends slot (changed c old) in
     rw now (record {
       count = length-set ends slot (changed c old) ∙ kept.count;
@@ -332,6 +322,7 @@ kept_changed c places ends labels slot kept within =
       room = freed_room (left_label (own_of old) (own_of (changed c old))) labels ∙ kept.room;
       owns = rw owned theirs;
       kinds = all_set (λ (end : EndState). HasKind end.local) ends slot (changed c old) kept.kinds (kind_stays c old (ends_at (λ (end : EndState). HasKind end.local) ends slot kept.kinds short));
+      slots = rw owned slots;
     })
   where
     set_at : (es : List EndState) (i : ℕ) (e : EndState) → i < length es → get_or (set es i e) i fresh ≡ e
@@ -340,9 +331,10 @@ kept_changed c places ends labels slot kept within =
     set_at (x ∷ xs) (suc i) e less = set_at xs i e (omega (arith, less))
 
 -- the same of what the code has: the label before and after
-pub kept_moved : (c : EndChange) (places : List EndPlace) (ends now : List EndState) (labels left : LabelNumbers) (slot : ℕ) (before after : Option ℕ) → AreKept places ends labels → slot < length places → now ≡ changed_in (changed c) slot ends → before ≡ own_of (get_or ends slot fresh) → after ≡ own_of (get_or now slot fresh) → left ≡ freed_one (left_label before after) labels → AreKept places now left
-kept_moved c places ends now labels left slot before after kept within is first last freed_is =
-    rw (freed_is, first, last, is) (kept_changed c places ends labels slot kept within)
+pub kept_moved : (c : EndChange) (places : List EndPlace) (ends now : List EndState) (labels left : LabelNumbers) (index others : OwnedList) (slot : ℕ) (before after : Option ℕ) → AreKept places ends labels index → slot < length places → now ≡ changed_in (changed c) slot ends → before ≡ own_of (get_or ends slot fresh) → after ≡ own_of (get_or now slot fresh)
+    → left ≡ freed_one (left_label before after) labels → others ≡ without_one (left_label before after) index → AreKept places now left others
+kept_moved c places ends now labels left index others slot before after kept within is first last freed_is without_is =
+    rw (freed_is, without_is, first, last, is) (kept_changed c places ends labels index slot kept within)
 
 -- ---- an end advertises
 
@@ -352,12 +344,19 @@ idle_none (Advertised label told) idle = absurd idle
 idle_none (Withdrawing label) idle = absurd idle
 
 -- an idle end leaves room for its label
-pub room_for : (places : List EndPlace) (ends : List EndState) (labels : LabelNumbers) (slot : ℕ) → AreKept places ends labels → slot < length places → IsIdle (get_or ends slot fresh).local → length labels.owners < labels.room
-room_for places ends labels slot kept within idle =
+pub room_for : (places : List EndPlace) (ends : List EndState) (labels : LabelNumbers) (index : OwnedList) (slot : ℕ) → AreKept places ends labels index → slot < length places → IsIdle (get_or ends slot fresh).local → length labels.owners < labels.room
+room_for places ends labels index slot kept within idle =
     let short : slot < length (map own_of ends) = subst (λ (n : ℕ). slot < n) (sym (own_count ends ∙ kept.count)) within in
     let none : get_or (map own_of ends) slot None ≡ None = own_at ends slot ∙ idle_none (get_or ends slot fresh).local idle in
     let less : count_owned (map own_of ends) < length (map own_of ends) = count_less (map own_of ends) slot short none in
     omega (arith, kept.owns.few, less, own_count ends, kept.count, kept.room)
+
+-- and room among the labels with their slots, where it is larger than all others
+pub index_room : (places : List EndPlace) (ends : List EndState) (labels : LabelNumbers) (index : OwnedList) (slot : ℕ) → AreKept places ends labels index → slot < length places → IsIdle (get_or ends slot fresh).local → length index.labels < index.room
+index_room places ends labels index slot kept within idle = omega (arith, room_for places ends labels index slot kept within idle, index_count (map own_of ends) labels index kept.slots, kept.slots.room)
+
+pub index_larger : (places : List EndPlace) (ends : List EndState) (labels : LabelNumbers) (index : OwnedList) → AreKept places ends labels index → AreEarlier labels.next index.labels
+index_larger places ends labels index kept = index_earlier labels.next index.labels labels.owners kept.slots.same kept.owns.given
 
 advertised_own : (label : ℕ) (told : Told) (local : LocalPart) → IsIdle local → own_label (advertise_part label told local) ≡ Some label
 advertised_own label told (Idle declined) idle = refl
@@ -375,9 +374,9 @@ issued_room key side labels = elim (cases_Bool (labels.next == numbers_end)) [
   | inr other ↦ rw other refl
 ]
 
-pub kept_issued : (key : SegKey) (side : ℕ) (told : Told) (places : List EndPlace) (ends : List EndState) (labels : LabelNumbers) (slot : ℕ) → AreKept places ends labels → slot < length places → IsIdle (get_or ends slot fresh).local → told.kind ≤ 0x7FFF → (labels.next == numbers_end) ≡ false →
-    AreKept places (changed_in (advertised labels.next told) slot ends) (issued key side labels)
-kept_issued key side told places ends labels slot kept within idle kind left =
+pub kept_issued : (key : SegKey) (side : ℕ) (told : Told) (places : List EndPlace) (ends : List EndState) (labels : LabelNumbers) (index : OwnedList) (slot : ℕ) → AreKept places ends labels index → slot < length places → IsIdle (get_or ends slot fresh).local → told.kind ≤ 0x7FFF → (labels.next == numbers_end) ≡ false →
+    AreKept places (changed_in (advertised labels.next told) slot ends) (issued key side labels) (with_owner labels.next slot index)
+kept_issued key side told places ends labels index slot kept within idle kind left =
     let old : EndState = get_or ends slot fresh in
     let new : EndState = advertised labels.next told old in
     let short : slot < length ends = subst (λ (n : ℕ). slot < n) (sym kept.count) within in
@@ -391,13 +390,15 @@ kept_issued key side told places ends labels slot kept within idle kind left =
       room = issued_room key side labels ∙ kept.room;
       owns = rw owned (theirs_issued (map own_of ends) labels slot key side kept.owns short_own none left);
       kinds = all_set (λ (end : EndState). HasKind end.local) ends slot new kept.kinds (advertised_kind labels.next told old.local idle kind);
+      slots = rw owned (index_issued (map own_of ends) labels index slot key side kept.slots (all_next labels.owners labels.next (map own_of ends) kept.owns.given kept.owns.owned) (index_larger places ends labels index kept) short_own none left);
     }
 
 -- the same of what the code has
-pub kept_advertised : (key : SegKey) (side : ℕ) (told : Told) (places : List EndPlace) (ends now : List EndState) (labels left : LabelNumbers) (slot label : ℕ) → AreKept places ends labels → slot < length places → IsIdle (get_or ends slot fresh).local → told.kind ≤ 0x7FFF → labels.next ≢ numbers_end → label ≡ labels.next → now ≡ changed_in (advertised label told) slot ends → left ≡ issued key side labels → AreKept places now left
-kept_advertised key side told places ends now labels left slot label kept within idle kind some same is issued_is =
-    let more : (labels.next == numbers_end) ≡ false = grind (arith, nat_tests, some) in
-    rw (issued_is, is, same) (kept_issued key side told places ends labels slot kept within idle kind more)
+pub kept_advertised : (key : SegKey) (side : ℕ) (told : Told) (places : List EndPlace) (ends now : List EndState) (labels left : LabelNumbers) (index more : OwnedList) (slot label : ℕ) → AreKept places ends labels index → slot < length places → IsIdle (get_or ends slot fresh).local → told.kind ≤ 0x7FFF → labels.next ≢ numbers_end → label ≡ labels.next
+    → now ≡ changed_in (advertised label told) slot ends → left ≡ issued key side labels → more ≡ with_owner label slot index → AreKept places now left more
+kept_advertised key side told places ends now labels left index more slot label kept within idle kind some same is issued_is with_is =
+    let on : (labels.next == numbers_end) ≡ false = grind (arith, nat_tests, some) in
+    rw (issued_is, with_is, is, same) (kept_issued key side told places ends labels index slot kept within idle kind on)
 
 pub next_issued : (key : SegKey) (side : ℕ) (labels left : LabelNumbers) → labels.next ≢ numbers_end → left ≡ issued key side labels → left.next ≡ labels.next + 1
 next_issued key side labels left some is =
@@ -430,7 +431,7 @@ count_fresh : (count : ℕ) → length (replicate count fresh) ≡ count
 count_fresh zero = refl
 count_fresh (suc count) = ap suc (count_fresh count)
 
-pub kept_opened : (places : List EndPlace) (first : ℕ) → AreApart places → AreKept places (replicate (length places) fresh) (record { next = first; room = length places; owners = [] })
+pub kept_opened : (places : List EndPlace) (first : ℕ) → AreApart places → AreKept places (replicate (length places) fresh) (record { next = first; room = length places; owners = [] }) (record { room = length places; labels = [] })
 kept_opened places first apart = record {
   count = count_fresh (length places);
   apart = apart;
@@ -442,4 +443,5 @@ kept_opened places first apart = record {
     given = below_none first;
   });
   kinds = none_kind (length places);
+  slots = rw (none_own (length places)) (index_opened (length places) (length places) first);
 }

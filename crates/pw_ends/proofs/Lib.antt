@@ -1,5 +1,9 @@
+pub mod AdvertiserLemmas
 pub mod IndexLemmas
 pub mod KeptLemmas
+pub mod NoneLemmas
+pub mod OrderLemmas
+pub mod OwnedLemmas
 pub mod OwnerLemmas
 pub mod PlaceLemmas
 pub mod SlotLemmas

@@ -1,18 +1,240 @@
--- The owner of a label among ends.
-use Rattle.std.proofs.Common.{◌≡◌, ◌+◌, ℕ, suc, not, cond, List, [], ◌∷◌, length, map, position, refl, ap}
-use Rattle.std.specs.List.{position_or_len}
-use Rattle.pw_signalling.specs.declared.pw_end.PwEnd.{PwEnd}
-use Rattle.pw_signalling.specs.AnyEnd.{end_of}
-use Rattle.pw_ends.specs.Ends.{owns_label}
+-- The slots by labels: each label that is owned has the slot of its owner, before and after the calls.
+use Rattle.std.proofs.Common.{◌≡◌, ◌≢◌, ◌<◌, ◌≤◌, ◌+◌, ◌++◌, ◌∙◌, ◌==◌, ◌⊎◌, ℕ, zero, suc, Bool, true, false, not, cond, nat_lt, IfSome, List, [], ◌∷◌, Option, Some, None, length, get_or, set, map, filter, option_map, position, replicate, refl, ap, sym, subst, arith, inl, inr}
+use Rattle.std.specs.List.{AllByRecursion, find, position_or_len}
+use Rattle.std.proofs.lemmas.Bool.{cases_Bool, eqb-true, ne_eqb, lt-ltb}
+use Rattle.std.proofs.lemmas.Bool.Decides.{nat_tests}
+use Rattle.std.proofs.lemmas.List.{length-set}
+use Rattle.std.proofs.lemmas.List.Elements.{All-cons, All-head, All-nil, All-tail}
+use Rattle.std.proofs.lemmas.List.Quantifiers.{position-Some}
+use Rattle.net_base.specs.declared.plan.places.SegKey.{SegKey}
+use Rattle.label_space.specs.declared.label_owner.LabelOwner.{LabelOwner}
+use Rattle.label_space.specs.Labels.{AreBelow, LabelNumbers, freed, issued, numbers_end, owns}
+use Rattle.pw_signalling.specs.End.{EndState, fresh}
+use Rattle.edge_model.specs.declared.end_place.EndPlace.{EndPlace}
+use Rattle.pw_ends.specs.declared.owned_labels.OwnedLabel.{OwnedLabel}
+use Rattle.pw_ends.specs.Ends.{is_label, owns_label}
+use Rattle.pw_ends.specs.Kept.{Differ, IsIndex, OwnApart, freed_one, left_label, own_of}
+use Rattle.pw_ends.specs.Owned.{AreEarlier, OwnedList, has_label, slot_of, with_owner, without, without_one}
 
-number_seen : (label : ℕ) (ends : List PwEnd) → position_or_len (λ end. owns_label label (end_of end)) ends ≡ position_or_len (owns_label label) (map end_of ends)
-number_seen label [] = refl
-number_seen label (e ∷ es) = ap (λ (n : ℕ). cond (not (owns_label label (end_of e))) (1 + n) 0) (number_seen label es)
+-- ---- small facts
 
-count_seen : (ends : List PwEnd) → length ends ≡ length (map end_of ends)
-count_seen [] = refl
-count_seen (e ∷ es) = ap suc (count_seen es)
+something : {X : Type 0} (x : X) → Some x ≡ None → ⊥
+something x is = cc
 
--- ends and what contracts see of them have their owners at the same slots
-pub position_seen : (label : ℕ) (ends : List PwEnd) → position (λ end. owns_label label (end_of end)) ends ≡ position (owns_label label) (map end_of ends)
-position_seen label ends = rw (number_seen label ends, count_seen ends) refl
+same : (n : ℕ) → (n == n) ≡ true
+same n = grind (arith, nat_tests)
+
+not_below : (n : ℕ) → nat_lt n n ≡ false
+not_below n = grind (arith, nat_tests)
+
+pub differ_sym : (a b : Option ℕ) → Differ a b → Differ b a
+differ_sym None None differ = tt
+differ_sym None (Some b) differ = tt
+differ_sym (Some a) None differ = tt
+differ_sym (Some a) (Some b) differ = λ same. differ (sym same)
+
+pub all_at : (P : Option ℕ → Type 0) (owns : List (Option ℕ)) (slot : ℕ) → AllByRecursion P owns → slot < length owns → P (get_or owns slot None)
+all_at P [] slot all within = absurd (omega (arith, within))
+all_at P (o ∷ os) zero all within = all.0
+all_at P (o ∷ os) (suc slot) all within = all_at P os slot all.1 (omega (arith, within))
+
+pub set_same : {X : Type 0} (xs : List X) (slot : ℕ) (d x : X) → slot < length xs → x ≡ get_or xs slot d → set xs slot x ≡ xs
+set_same [] slot d x within is = refl
+set_same {X} (y ∷ ys) zero d x within is = ap (λ (z : X). z ∷ ys) is
+set_same {X} (y ∷ ys) (suc slot) d x within is = ap (λ (l : List X). y ∷ l) (set_same ys slot d x (omega (arith, within)) is)
+
+-- ---- the labels with their slots
+
+-- a label that is larger than all others has the slot that it comes with
+find_pushed : (label slot : ℕ) (xs : List OwnedLabel) → AreEarlier label xs → find (has_label label) (xs ++ record { label = label; slot = slot } ∷ []) ≡ Some (record { label = label; slot = slot })
+find_pushed label slot [] earlier = rw (same label) refl
+find_pushed label slot (x ∷ xs) earlier =
+    let less : x.label < label = All-head (λ (o : OwnedLabel). o.label < label) x xs earlier in
+    let away : has_label label x ≡ false = grind (arith, nat_tests, less) in
+    rw away (find_pushed label slot xs (All-tail (λ (o : OwnedLabel). o.label < label) x xs earlier))
+
+-- all other labels keep their slots
+find_pushed_other : (label other slot : ℕ) (xs : List OwnedLabel) → (label == other) ≡ false → find (has_label other) (xs ++ record { label = label; slot = slot } ∷ []) ≡ find (has_label other) xs
+find_pushed_other label other slot [] away = rw away refl
+find_pushed_other label other slot (x ∷ xs) away = ap (λ (o : Option OwnedLabel). cond (has_label other x) (Some x) o) (find_pushed_other label other slot xs away)
+
+-- a label that is taken out has no slot
+find_without : (label : ℕ) (xs : List OwnedLabel) → find (has_label label) (filter (λ o. not (has_label label o)) xs) ≡ None
+find_without label [] = refl
+find_without label (x ∷ xs) = elim (cases_Bool (has_label label x)) [
+  | inl found ↦ rw found (find_without label xs)
+  | inr other ↦ rw (other, other) (find_without label xs)
+]
+
+find_without_other : (label other : ℕ) (xs : List OwnedLabel) → (label == other) ≡ false → find (has_label other) (filter (λ o. not (has_label label o)) xs) ≡ find (has_label other) xs
+find_without_other label other [] away = refl
+find_without_other label other (x ∷ xs) away = elim (cases_Bool (has_label label x)) [
+  | inl found ↦
+      (let unlike : has_label other x ≡ false = elsewhere x.label found in
+      rw (found, unlike) (find_without_other label other xs away))
+  | inr kept ↦ rw kept (ap (λ (o : Option OwnedLabel). cond (has_label other x) (Some x) o) (find_without_other label other xs away))
+]
+  where
+    elsewhere : (n : ℕ) → (n == label) ≡ true → (n == other) ≡ false
+    elsewhere n found = grind (arith, nat_tests, found, away)
+
+-- ---- the labels that the ends own
+
+-- an end that owns another label, or none
+pub away : (label : ℕ) (own : Option ℕ) → Differ (Some label) own → is_label label own ≡ false
+away label None differ = refl
+away label (Some other) differ = ne_eqb other label (λ is. differ (sym is))
+
+number_set : (label : ℕ) (owns : List (Option ℕ)) (slot : ℕ) (own : Option ℕ) → slot < length owns → is_label label own ≡ is_label label (get_or owns slot None) → position_or_len (is_label label) (set owns slot own) ≡ position_or_len (is_label label) owns
+number_set label [] slot own within alike = absurd (omega (arith, within))
+number_set label (o ∷ os) zero own within alike = ap (λ (b : Bool). cond (not b) (1 + position_or_len (is_label label) os) 0) alike
+number_set label (o ∷ os) (suc slot) own within alike = ap (λ (n : ℕ). cond (not (is_label label o)) (1 + n) 0) (number_set label os slot own (omega (arith, within)) alike)
+
+-- an end that owned no such label, and does not own it now
+position_set : (label : ℕ) (owns : List (Option ℕ)) (slot : ℕ) (own : Option ℕ) → slot < length owns → is_label label own ≡ is_label label (get_or owns slot None) → position (is_label label) (set owns slot own) ≡ position (is_label label) owns
+position_set label owns slot own within alike = rw (number_set label owns slot own within alike, length-set owns slot own) refl
+
+number_put : (label : ℕ) (owns : List (Option ℕ)) (slot : ℕ) → AllByRecursion (Differ (Some label)) owns → slot < length owns → position_or_len (is_label label) (set owns slot (Some label)) ≡ slot
+number_put label [] slot differ within = absurd (omega (arith, within))
+number_put label (o ∷ os) zero differ within = rw (same label) refl
+number_put label (o ∷ os) (suc slot) differ within =
+    let rest : position_or_len (is_label label) (set os slot (Some label)) ≡ slot = number_put label os slot differ.1 (omega (arith, within)) in
+    rw (away label o differ.0) (omega (arith, rest))
+
+-- an end owns a label that no end owned
+position_put : (label : ℕ) (owns : List (Option ℕ)) (slot : ℕ) → AllByRecursion (Differ (Some label)) owns → slot < length owns → position (is_label label) (set owns slot (Some label)) ≡ Some slot
+position_put label owns slot differ within = rw (number_put label owns slot differ within, length-set owns slot (Some label), lt-ltb slot (length owns) within) refl
+
+number_none : (label : ℕ) (owns : List (Option ℕ)) → AllByRecursion (Differ (Some label)) owns → position_or_len (is_label label) owns ≡ length owns
+number_none label [] differ = refl
+number_none label (o ∷ os) differ =
+    let rest : position_or_len (is_label label) os ≡ length os = number_none label os differ.1 in
+    rw (away label o differ.0) (omega (arith, rest))
+
+number_left : (label : ℕ) (owns : List (Option ℕ)) (slot : ℕ) → OwnApart owns → slot < length owns → get_or owns slot None ≡ Some label → position_or_len (is_label label) (set owns slot None) ≡ length owns
+number_left label [] slot apart within at = absurd (omega (arith, within))
+number_left label (o ∷ os) zero apart within at =
+    let rest : position_or_len (is_label label) os ≡ length os = number_none label os (subst (λ (own : Option ℕ). AllByRecursion (Differ own) os) at apart.0) in
+    omega (arith, rest)
+number_left label (o ∷ os) (suc slot) apart within at =
+    let differ : Differ o (Some label) = subst (Differ o) at (all_at (Differ o) os slot apart.0 (omega (arith, within))) in
+    let rest : position_or_len (is_label label) (set os slot None) ≡ length os = number_left label os slot apart.1 (omega (arith, within)) at in
+    rw (away label o (differ_sym o (Some label) differ)) (omega (arith, rest))
+
+-- no end owns a label that its owner has left
+position_left : (label : ℕ) (owns : List (Option ℕ)) (slot : ℕ) → OwnApart owns → slot < length owns → get_or owns slot None ≡ Some label → position (is_label label) (set owns slot None) ≡ None
+position_left label owns slot apart within at = rw (number_left label owns slot apart within at, length-set owns slot None, not_below (length owns)) refl
+
+-- no end owns a label
+abbrev no_label : Option ℕ
+no_label = None
+
+number_opened : (label count : ℕ) → position_or_len (is_label label) (replicate count no_label) ≡ length (replicate count no_label)
+number_opened label zero = refl
+number_opened label (suc count) = omega (arith, number_opened label count)
+
+-- ---- opened
+
+pub index_opened : (room count first : ℕ) → IsIndex (replicate count None) (record { next = first; room = room; owners = [] }) (record { room = room; labels = [] })
+index_opened room count first = record {
+  room = refl;
+  same = refl;
+  slot = λ label. sym (rw (number_opened label count, not_below (length (replicate count no_label))) refl);
+}
+
+-- ---- a label is given
+
+map_pushed : {X : Type 0} (f : X → ℕ) (xs : List X) (x : X) → map f (xs ++ x ∷ []) ≡ map f xs ++ f x ∷ []
+map_pushed f [] x = refl
+map_pushed f (y ∷ ys) x = ap (λ (l : List ℕ). f y ∷ l) (map_pushed f ys x)
+
+pub index_issued : (own_list : List (Option ℕ)) (labels : LabelNumbers) (index : OwnedList) (slot : ℕ) (key : SegKey) (side : ℕ) → IsIndex own_list labels index → AllByRecursion (Differ (Some labels.next)) own_list → AreEarlier labels.next index.labels → slot < length own_list → get_or own_list slot None ≡ None → (labels.next == numbers_end) ≡ false
+    → IsIndex (set own_list slot (Some labels.next)) (issued key side labels) (with_owner labels.next slot index)
+index_issued own_list labels index slot key side is differ earlier within at left = rw left (record {
+  room = is.room;
+  same = map_pushed (λ (o : OwnedLabel). o.label) index.labels (record { label = labels.next; slot = slot }) ∙ (ap (λ (l : List ℕ). l ++ labels.next ∷ []) is.same ∙ sym (map_pushed (λ (o : LabelOwner). o.label) labels.owners (record { label = labels.next; key = key; side = side })));
+  slot = λ label. by label (cases_Bool (labels.next == label));
+})
+  where
+    by : (label : ℕ) → ((labels.next == label) ≡ true) ⊎ ((labels.next == label) ≡ false) → slot_of label (index.labels ++ record { label = labels.next; slot = slot } ∷ []) ≡ position (is_label label) (set own_list slot (Some labels.next))
+    by label (inl here) =
+        let one : labels.next ≡ label = eqb-true labels.next label here in
+        subst (λ (n : ℕ). slot_of n (index.labels ++ record { label = labels.next; slot = slot } ∷ []) ≡ position (is_label n) (set own_list slot (Some labels.next))) one
+        (ap (option_map (λ (o : OwnedLabel). o.slot)) (find_pushed labels.next slot index.labels earlier) ∙ sym (position_put labels.next own_list slot differ within))
+    by label (inr other) =
+        ap (option_map (λ (o : OwnedLabel). o.slot)) (find_pushed_other labels.next label slot index.labels other)
+        ∙ (is.slot label ∙ sym (position_set label own_list slot (Some labels.next) within (other ∙ sym (ap (is_label label) at))))
+
+-- ---- a label is freed
+
+map_filtered : {X : Type 0} (f : X → ℕ) (p : ℕ → Bool) (xs : List X) → map f (filter (λ x. p (f x)) xs) ≡ filter p (map f xs)
+map_filtered f p [] = refl
+map_filtered {X} f p (x ∷ xs) = elim (p (f x)) as (λ b. map f (cond b (x ∷ filter (λ y. p (f y)) xs) (filter (λ y. p (f y)) xs)) ≡ cond b (f x ∷ filter p (map f xs)) (filter p (map f xs))) [
+  | true ↦ ap (λ (l : List ℕ). f x ∷ l) (map_filtered f p xs)
+  | false ↦ map_filtered f p xs
+]
+
+index_freed : (own_list : List (Option ℕ)) (labels : LabelNumbers) (index : OwnedList) (slot label : ℕ) → IsIndex own_list labels index → OwnApart own_list → slot < length own_list → get_or own_list slot None ≡ Some label → IsIndex (set own_list slot None) (freed label labels) (without label index)
+index_freed own_list labels index slot label is apart within at = record {
+  room = is.room;
+  same =
+      map_filtered (λ (o : OwnedLabel). o.label) (λ n. not (n == label)) index.labels
+      ∙ (ap (λ (l : List ℕ). filter (λ n. not (n == label)) l) is.same ∙ sym (map_filtered (λ (o : LabelOwner). o.label) (λ n. not (n == label)) labels.owners));
+  slot = λ other. by other (cases_Bool (label == other));
+}
+  where
+    by : (other : ℕ) → ((label == other) ≡ true) ⊎ ((label == other) ≡ false) → slot_of other (filter (λ o. not (has_label label o)) index.labels) ≡ position (is_label other) (set own_list slot None)
+    by other (inl here) =
+        let one : label ≡ other = eqb-true label other here in
+        subst (λ (n : ℕ). slot_of n (filter (λ o. not (has_label label o)) index.labels) ≡ position (is_label n) (set own_list slot None)) one
+        (ap (option_map (λ (o : OwnedLabel). o.slot)) (find_without label index.labels) ∙ sym (position_left label own_list slot apart within at))
+    by other (inr differ) =
+        ap (option_map (λ (o : OwnedLabel). o.slot)) (find_without_other label other index.labels differ)
+        ∙ (is.slot other ∙ sym (position_set other own_list slot None within (sym (ap (is_label other) at ∙ differ))))
+
+-- after a change each label that is left has its slot
+pub index_changed : (own_list : List (Option ℕ)) (labels : LabelNumbers) (index : OwnedList) (slot : ℕ) (before after : Option ℕ) → IsIndex own_list labels index → OwnApart own_list → slot < length own_list → get_or own_list slot None ≡ before → (after ≡ before) ⊎ (after ≡ None)
+    → IsIndex (set own_list slot after) (freed_one (left_label before after) labels) (without_one (left_label before after) index)
+index_changed own_list labels index slot None None is apart within at either = rw (set_same own_list slot None None within (sym at)) is
+index_changed own_list labels index slot None (Some label) is apart within at (inl same) = absurd (something {X = ℕ} label same)
+index_changed own_list labels index slot None (Some label) is apart within at (inr none) = absurd (something {X = ℕ} label none)
+index_changed own_list labels index slot (Some label) None is apart within at either = index_freed own_list labels index slot label is apart within at
+index_changed own_list labels index slot (Some label) (Some other) is apart within at (inl same) = rw (set_same own_list slot None (Some other) within (same ∙ sym at)) is
+index_changed own_list labels index slot (Some label) (Some other) is apart within at (inr none) = absurd (something {X = ℕ} other none)
+
+-- ---- what the index says
+
+-- the labels that are owned were given before the number, as those of the label space were
+pub index_earlier : (number : ℕ) (xs : List OwnedLabel) (owners : List LabelOwner) → map (λ o. o.label) xs ≡ map (λ o. o.label) owners → AreBelow number owners → AreEarlier number xs
+index_earlier number [] owners same below = All-nil (λ (o : OwnedLabel). o.label < number)
+index_earlier number (x ∷ xs) [] same below = absurd (cc (same))
+index_earlier number (x ∷ xs) (o ∷ owners) same below =
+    let head : x.label ≡ o.label = cc (same) in
+    let tail : map (λ (o : OwnedLabel). o.label) xs ≡ map (λ (o : LabelOwner). o.label) owners = cc (same) in
+    let less : o.label < number = All-head (λ (o : LabelOwner). o.label < number) o owners below in
+    All-cons (λ (o : OwnedLabel). o.label < number) x xs (omega (arith, head, less)) (index_earlier number xs owners tail (All-tail (λ (o : LabelOwner). o.label < number) o owners below))
+
+length_map : {X : Type 0} (f : X → ℕ) (xs : List X) → length (map f xs) ≡ length xs
+length_map f [] = refl
+length_map f (x ∷ xs) = ap suc (length_map f xs)
+
+-- there are as many of them
+pub index_count : (own_list : List (Option ℕ)) (labels : LabelNumbers) (index : OwnedList) → IsIndex own_list labels index → length index.labels ≡ length labels.owners
+index_count own_list labels index is = sym (length_map (λ (o : OwnedLabel). o.label) index.labels) ∙ (ap (λ (l : List ℕ). length l) is.same ∙ length_map (λ (o : LabelOwner). o.label) labels.owners)
+
+number_own : (label : ℕ) (ends : List EndState) → position_or_len (is_label label) (map own_of ends) ≡ position_or_len (owns_label label) ends
+number_own label [] = refl
+number_own label (e ∷ es) = ap (λ (n : ℕ). cond (not (owns_label label e)) (1 + n) 0) (number_own label es)
+
+count_own : (ends : List EndState) → length (map own_of ends) ≡ length ends
+count_own [] = refl
+count_own (e ∷ es) = ap suc (count_own es)
+
+-- the end of the slot is the first one that owns the label
+pub owner_found : (label : ℕ) (ends : List EndState) (labels : LabelNumbers) (index : OwnedList) → IsIndex (map own_of ends) labels index → slot_of label index.labels ≡ position (owns_label label) ends
+owner_found label ends labels index is = is.slot label ∙ rw (number_own label ends, count_own ends) refl
+
+-- it is one of the slots
+pub owner_within : (label : ℕ) (places : List EndPlace) (ends : List EndState) (found : Option ℕ) → length ends ≡ length places → found ≡ position (owns_label label) ends → IfSome found (λ slot. slot < length places)
+owner_within label places ends None count is = tt
+owner_within label places ends (Some slot) count is = omega (arith, count, (position-Some (owns_label label) ends slot fresh (sym is)).0)

@@ -104,7 +104,8 @@ along_of_wire wire row me segment (last ∷ []) = tt
 along_of_wire wire row me segment (first ∷ next ∷ rest) =
     all_append (λ p. p.wire.0 ≡ wire.0) (places_at wire row me segment first next) (places_along wire row me (segment + 1) (next ∷ rest)) (at_of_wire wire row me segment first next) (along_of_wire wire row me (segment + 1) (next ∷ rest))
 
-from_later : (me : EdgeId) (wire : ℕ) (rows : List WirePlan) → AllByRecursion (λ (p : EndPlace). wire ≤ p.wire.0) (places_from me wire rows)
+-- the ends of the wires from a place on are of no earlier wire
+pub from_later : (me : EdgeId) (wire : ℕ) (rows : List WirePlan) → AllByRecursion (λ (p : EndPlace). wire ≤ p.wire.0) (places_from me wire rows)
 from_later me wire [] = tt
 from_later me wire (row ∷ rows) =
     all_append (λ p. wire ≤ p.wire.0) (places_along (record { 0 = wire }) row me 0 row.path) (places_from me (wire + 1) rows)

@@ -35,6 +35,10 @@ no_place = record { wire = record { 0 = 0 }; peer = record { 0 = 0 }; pw_id = 0;
 abbrev pub place_of : EndLists → ℕ → EndPlace
 place_of lists slot = slice_index_or lists.places slot no_place
 
+-- the end at a place
+abbrev pub end_there : EndLists → EndPlace → EndState
+end_there lists place = seen_ends lists place.wire.0 place.peer.0
+
 -- the end of a slot
 abbrev pub end_in : EndLists → ℕ → EndState
 end_in lists slot = seen_ends lists (place_of lists slot).wire.0 (place_of lists slot).peer.0

@@ -1,12 +1,13 @@
 -- What always holds of the pseudowire ends of an edge.
-use Rattle.std.specs.Prelude.{◌≡◌, ◌≢◌, ◌≤◌, ◌+◌, ℕ, false, List, [], ◌∷◌, Option, Some, None, length, map}
+use Rattle.std.specs.Prelude.{◌≡◌, ◌≢◌, ◌≤◌, ◌+◌, ℕ, false, List, [], ◌∷◌, Option, Some, None, length, map, position}
 use Rattle.std.specs.List.{AllByRecursion}
 use Rattle.label_space.specs.declared.label_owner.LabelOwner.{LabelOwner}
 use Rattle.label_space.specs.Labels.{AreBelow, LabelNumbers, freed, owner_of}
 use Rattle.pw_signalling.specs.End.{EndState}
 use Rattle.pw_signalling.specs.Laws.{own_label}
 use Rattle.edge_model.specs.declared.end_place.EndPlace.{EndPlace}
-use Rattle.pw_ends.specs.Ends.{HasKind, is_at}
+use Rattle.pw_ends.specs.Ends.{HasKind, is_at, is_label}
+use Rattle.pw_ends.specs.Owned.{OwnedList, slot_of}
 
 -- no two places are of one wire and beside one neighbour
 abbrev pub AreApart : List EndPlace → Type 0
@@ -48,13 +49,21 @@ pub record OwnTheirs (owns : List (Option ℕ)) (labels : LabelNumbers) : Type 0
   pub few : length labels.owners ≤ count_owned owns
   pub given : AreBelow labels.next labels.owners
 
--- each end has a place of its own, the label space has room for as many labels, and the ends own its labels
-pub record AreKept (places : List EndPlace) (ends : List EndState) (labels : LabelNumbers) : Type 0 where
+-- the labels of the label space, each with the slot of the end that owns it
+pub record IsIndex (owns : List (Option ℕ)) (labels : LabelNumbers) (index : OwnedList) : Type 0 where
+  pub room : index.room ≡ labels.room
+  pub same : map (λ o. o.label) index.labels ≡ map (λ o. o.label) labels.owners
+  pub slot : (label : ℕ) → slot_of label index.labels ≡ position (is_label label) owns
+
+-- each end has a place of its own, the label space has room for as many labels, and the ends own its labels, by which they are
+-- found
+pub record AreKept (places : List EndPlace) (ends : List EndState) (labels : LabelNumbers) (index : OwnedList) : Type 0 where
   pub count : length ends ≡ length places
   pub apart : AreApart places
   pub room : labels.room ≡ length places
   pub owns : OwnTheirs (map own_of ends) labels
   pub kinds : AllByRecursion (λ end. HasKind end.local) ends
+  pub slots : IsIndex (map own_of ends) labels index
 
 -- the label that was owned, and is not any more
 abbrev pub left_label : Option ℕ → Option ℕ → Option ℕ

@@ -1,11 +1,10 @@
 //! Ends by their slots.
-ghost use Rattle.std.specs.Prelude.{◌≡◌, ◌<◌, length, map, position, slice_index_or, replicate, IfOk};
+ghost use Rattle.std.specs.Prelude.{◌≡◌, ◌<◌, length, map, slice_index_or, replicate, IfOk};
 ghost use Rattle.pw_signalling.specs.AnyEnd.{end_of};
 ghost use Rattle.pw_signalling.specs.End.{fresh};
 ghost use Rattle.pw_signalling.specs.Laws.{own_label};
 ghost use Rattle.pw_signalling.specs.Rows.{advertised};
 ghost use Rattle.pw_ends.specs.Changes.{changed, changed_in};
-ghost use Rattle.pw_ends.specs.Ends.{owns_label};
 
 use crate::end_change::{EndChange, advertise};
 use net_base::{Label, NoMemory};
@@ -62,28 +61,4 @@ pub(crate) fn change_at(ends: &mut Vec<PwEnd>, slot: usize, change: &EndChange)
 {
     let end = mem::replace(&mut ends[slot], PwEnd::Idle(PwIdle::new()));
     ends[slot] = change.of(end);
-}
-
-// Whether an end owns the label.
-fn owns(end: &PwEnd, label: Label) -> bool
-    ensures { result ≡ owns_label label (end_of end.now) }
-{
-    match own_label_of(end) {
-        Some(own) => own == label,
-        None => false,
-    }
-}
-
-/// The slot of the first end that owns the label.
-pub(crate) fn owner_among(ends: &[PwEnd], label: Label) -> Option<usize>
-    ensures { result ≡ position (owns_label label) (map end_of ends.now) }
-{
-    first_owner(ends, label)
-}
-
-// The same by the ends themselves.
-fn first_owner(ends: &[PwEnd], label: Label) -> Option<usize>
-    ensures { result ≡ position (λ end. owns_label label (end_of end)) ends.now }
-{
-    ends.iter().position(|end| owns(end, label))
 }

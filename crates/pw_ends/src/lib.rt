@@ -9,6 +9,7 @@ mod content;
 mod end_change;
 mod end_slots;
 mod messages;
+mod owned_labels;
 mod path_ends;
 mod place_list;
 mod plan_places;

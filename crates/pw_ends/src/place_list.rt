@@ -2,9 +2,11 @@
 ghost use Rattle.std.specs.Prelude.{◌≡◌, ◌≤◌, ◌<◌, IfOk, IfSome, Some, None, length, option_and_then, position, slice_get, slice_index_or};
 ghost use Rattle.std.specs.List.{find, list_any};
 ghost use Rattle.net_base.specs.plan.Accepted.{IsChecked};
+ghost use Rattle.hvpls_spokes.specs.Search.{place_if};
 ghost use Rattle.edge_model.specs.EndPlaces.{end_places, is_end_of_wire, is_named, is_of_wire};
 ghost use Rattle.pw_ends.specs.Kept.{AreApart};
 ghost use Rattle.pw_ends.specs.Names.{Finds, name_of};
+ghost use Rattle.pw_ends.specs.Order.{AreInOrder, precedes_wire};
 ghost use Rattle.pw_ends.specs.Ends.{no_place};
 
 use crate::plan_places::end_places;
@@ -14,8 +16,8 @@ use net_base::{EdgeId, List, NoMemory, Plan, WireId};
 use std::alloc::Global;
 use std::marker::Model;
 
-/// The places of an edge's ends in order, in which the end of a peer and a PW ID is found without a walk over them. Contracts
-/// see the list of the places.
+/// The places of an edge's ends in order, in which the end of a peer and a PW ID, and the ends of a wire, are found without a
+/// walk over them. Contracts see the list of the places.
 #[derive(Debug, Drop)]
 pub struct PlaceList {
     list: List<EndPlace>,
@@ -31,8 +33,9 @@ impl Model for PlaceList {
     ghost view = { λ l. l.list };
 
     ghost use Rattle.pw_ends.specs.Names.{Finds};
+    ghost use Rattle.pw_ends.specs.Order.{AreInOrder};
 
-    ghost invariant = { λ l. Finds l.list l.index.entries };
+    ghost invariant = { λ l. Finds l.list l.index.entries × AreInOrder l.list };
 }
 
 impl PlaceList {
@@ -90,31 +93,67 @@ impl PlaceList {
     }
 
     /// Whether the wire passes the edge.
+    #[tactic(auto, using(hvpls_spokes::proofs::SearchLemmas::any_found))]
     pub(crate) fn passes(&self, wire: WireId) -> bool
         ensures { result ≡ list_any (is_of_wire wire) self.now }
     {
-        self.list.as_slice().iter().any(|place| place.wire == wire)
+        first_of_wire(self.list.as_slice(), wire).is_some()
     }
 
     /// The first slot of a terminal end of a wire.
     pub(crate) fn terminal(&self, wire: WireId) -> Option<usize>
         ensures { result ≡ position (is_end_of_wire wire) self.now }
     {
-        self.list
-            .as_slice()
-            .iter()
-            .position(|place| place.wire == wire && place.terminal)
+        first_terminal(self.list.as_slice(), wire)
     }
 
     /// Whether the edge is a terminal edge of the wire.
+    #[tactic(auto, using(hvpls_spokes::proofs::SearchLemmas::any_found))]
     pub(crate) fn ends_here(&self, wire: WireId) -> bool
         ensures { result ≡ list_any (is_end_of_wire wire) self.now }
     {
-        self.list
-            .as_slice()
-            .iter()
-            .any(|place| place.wire == wire && place.terminal)
+        self.terminal(wire).is_some()
     }
+}
+
+// The first slot of an end of a wire.
+fn first_of_wire(places: &[EndPlace], wire: WireId) -> Option<usize>
+    requires { AreInOrder places.now }
+    ensures { result ≡ position (is_of_wire wire) places.now }
+{
+    let slot = count_before(places, wire);
+    match places.get(slot) {
+        Some(place) if place.wire == wire => Some(slot),
+        _ => None,
+    }
+}
+
+// The first slot of a terminal end of a wire. All its ends are terminal alike.
+fn first_terminal(places: &[EndPlace], wire: WireId) -> Option<usize>
+    requires { AreInOrder places.now }
+    ensures { result ≡ position (is_end_of_wire wire) places.now }
+{
+    let slot = count_before(places, wire);
+    match places.get(slot) {
+        Some(place) if place.wire == wire && place.terminal => Some(slot),
+        _ => None,
+    }
+}
+
+// How many ends are of earlier wires.
+fn count_before(places: &[EndPlace], wire: WireId) -> usize
+    requires { AreInOrder places.now }
+    ensures wire { position (is_of_wire wire) places.now ≡ place_if (is_of_wire wire) result (slice_get places.now result) }
+    ensures terminal { position (is_end_of_wire wire) places.now ≡ place_if (is_end_of_wire wire) result (slice_get places.now result) }
+{
+    places.partition_point(|place| precedes(place, wire))
+}
+
+// Whether the end is one of an earlier wire.
+fn precedes(place: &EndPlace, wire: WireId) -> bool
+    ensures { result ≡ precedes_wire wire place.now }
+{
+    place.wire.0 < wire.0
 }
 
 // The first slot of each name. A later slot is put in first, and gives way.

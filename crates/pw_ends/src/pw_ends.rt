@@ -1,5 +1,5 @@
 //! The pseudowire ends of an edge.
-ghost use Rattle.std.specs.Prelude.{◌≡◌, ◌≤◌, ◌<◌, ◌+◌, ◌==◌, ◌↔◌, ℕ, Some, None, length, map, position, slice_get, option_and_then, IfOk, IfSome};
+ghost use Rattle.std.specs.Prelude.{◌≡◌, ◌≤◌, ◌<◌, ◌+◌, ◌==◌, ◌↔◌, ℕ, Some, None, length, map, position, slice_get, option_and_then, option_map, IfOk, IfSome};
 ghost use Rattle.std.specs.List.{find, list_any};
 ghost use Rattle.net_base.specs.plan.Accepted.{IsChecked};
 ghost use Rattle.label_space.specs.Labels.{numbers_end};
@@ -8,13 +8,16 @@ ghost use Rattle.pw_signalling.specs.End.{fresh};
 ghost use Rattle.pw_signalling.specs.Laws.{own_label};
 ghost use Rattle.pw_signalling.specs.Rows.{advertised, bound, group_stated, group_unbound, lost, released, stated, telling, unbound, withdrawn};
 ghost use Rattle.edge_model.specs.EndPlaces.{end_places, is_end_of_wire, is_named, is_of_wire};
+ghost use Rattle.edge_model.specs.Packet.{advertises_label};
 ghost use Rattle.edge_model.specs.State.{first_label};
 ghost use Rattle.pw_ends.specs.Changes.{changed, changed_each, changed_in};
 ghost use Rattle.pw_ends.specs.Kept.{freed_one, left_label};
-ghost use Rattle.pw_ends.specs.Ends.{HasKind, IsIdle, changed_at, changed_beside, end_in, owns_label, place_of, renewed_of, seen_ends};
+ghost use Rattle.pw_ends.specs.Owned.{without_one};
+ghost use Rattle.pw_ends.specs.Ends.{HasKind, IsIdle, changed_at, changed_beside, end_in, end_there, owns_label, place_of, renewed_of, seen_ends};
 
 use crate::end_change::EndChange;
-use crate::end_slots::{advertise_at, change_at, idle_ends, own_label_at, owner_among};
+use crate::end_slots::{advertise_at, change_at, idle_ends, own_label_at};
+use crate::owned_labels::OwnedLabels;
 use crate::place_list::PlaceList;
 use crate::which_ends::WhichEnds;
 use edge_model::EndPlace;
@@ -33,6 +36,7 @@ pub struct PwEnds {
     places: PlaceList,
     ends: Vec<PwEnd>,
     labels: LabelSpace,
+    owned: OwnedLabels,
 }
 
 impl Model for PwEnds {
@@ -45,7 +49,7 @@ impl Model for PwEnds {
 
     ghost view = { λ e. record { places = e.places; ends = map end_of e.ends.items; labels = e.labels } };
 
-    ghost invariant = { λ e. AreKept e.places (map end_of e.ends.items) e.labels };
+    ghost invariant = { λ e. AreKept e.places (map end_of e.ends.items) e.labels e.owned };
 }
 
 impl PwEnds {
@@ -62,10 +66,12 @@ impl PwEnds {
         let places = PlaceList::open(alloc, plan, me)?;
         let labels = LabelSpace::open(alloc, first_label(plan, me), places.len() as u32)?;
         let ends = idle_ends(alloc, places.len())?;
+        let owned = OwnedLabels::open(alloc, places.len())?;
         Ok(PwEnds {
             places,
             ends,
             labels,
+            owned,
         })
     }
 
@@ -154,14 +160,46 @@ impl PwEnds {
     pub fn owner(&self, label: Label) -> Option<usize>
         ensures slot { result ≡ position (owns_label label) self.now.ends }
     {
-        owner_among(self.ends.as_slice(), label)
+        self.owner_of(label.number())
+    }
+
+    /// The slot of the end that advertises the label with this number: the end that owns it, unless it has withdrawn it. `None`
+    /// exactly where no end advertises it.
+    pub fn advertiser(&self, number: u32) -> Option<usize>
+        ensures place { option_map (place_of self.now) result ≡ find (λ place. advertises_label number (end_there self.now place).local) self.now.places }
+        ensures slot { IfSome result (λ slot. slot < length self.now.places) }
+    {
+        let _ = &self.places;
+        match self.owner_of(number) {
+            Some(slot) if self.advertises(slot, number) => Some(slot),
+            _ => None,
+        }
+    }
+
+    // Whether the end of a slot advertises the label with this number.
+    fn advertises(&self, slot: usize, number: u32) -> bool
+        requires { slot < length self.now.places }
+        ensures { result ≡ advertises_label number (end_in self.now slot).local }
+    {
+        match self.end(slot) {
+            PwEnd::Advertised(end) => end.label().number() == number,
+            PwEnd::Idle(_) | PwEnd::Withdrawing(_) => false,
+        }
+    }
+
+    // The slot of the end that owns the label with this number.
+    fn owner_of(&self, number: u32) -> Option<usize>
+        ensures slot { result ≡ position (owns_label number) self.now.ends }
+        ensures within { IfSome result (λ slot. slot < length self.now.places) }
+    {
+        self.owned.slot(number)
     }
 
     // ---- what an end does
 
     /// A Label Mapping with the next label and this content is put for an idle end, which then owns the label (RFC 5036
     /// section 3.5.7). `None` exactly where no label is left, and then nothing has changed.
-    #[tactic(auto, using(crate::proofs::KeptLemmas::room_for, crate::proofs::KeptLemmas::slot_within, crate::proofs::KeptLemmas::next_issued, crate::proofs::SlotLemmas::seen_at))]
+    #[tactic(auto, using(crate::proofs::KeptLemmas::room_for, crate::proofs::KeptLemmas::index_room, crate::proofs::KeptLemmas::index_larger, crate::proofs::KeptLemmas::slot_within, crate::proofs::KeptLemmas::next_issued, crate::proofs::SlotLemmas::seen_at))]
     pub fn advertise(&mut self, slot: usize, told: &Told) -> Option<Label>
         requires slot { slot < length self.old.places }
         requires idle { IsIdle (end_in self.old slot).local }
@@ -182,6 +220,7 @@ impl PwEnds {
             return None;
         };
         advertise_at(&mut self.ends, slot, label, told);
+        self.owned.add(label, slot);
         Some(label)
     }
 
@@ -335,17 +374,23 @@ impl PwEnds {
         let before = own_label_at(&self.ends, slot);
         change_at(&mut self.ends, slot, change);
         let after = own_label_at(&self.ends, slot);
-        free_left(&mut self.labels, before, after);
+        free_left(&mut self.labels, &mut self.owned, before, after);
     }
 }
 
 // Frees a label that was owned and is not any more.
-fn free_left(labels: &mut LabelSpace, before: Option<Label>, after: Option<Label>)
-    ensures { labels.new ≡ freed_one (left_label before after) labels.old }
+fn free_left(
+    labels: &mut LabelSpace,
+    owned: &mut OwnedLabels,
+    before: Option<Label>,
+    after: Option<Label>,
+)
+    ensures labels { labels.new ≡ freed_one (left_label before after) labels.old }
+    ensures owned { owned.new ≡ without_one (left_label before after) owned.old }
 {
-    match (before, after) {
-        (Some(label), None) => labels.free(label),
-        _ => {}
+    if let (Some(label), None) = (before, after) {
+        labels.free(label);
+        owned.remove(label);
     }
 }
 

@@ -10,7 +10,7 @@ ghost use Rattle.eth_encap.specs.Packet.{entry_of};
 ghost use Rattle.hvpls_spokes.specs.Port.{is_wire_port, ports_of};
 ghost use Rattle.edge_model.specs.declared.effect.Effect.{Effect as Given};
 ghost use Rattle.edge_model.specs.Ends.{is_up};
-ghost use Rattle.edge_model.specs.Packet.{advertiser, advertises_label, alerted, alerts_end, bridges_frame, by_control_word, enters, is_alert, is_channel, labelled, opened_by, owned, packet_input, terminated, unpacked_at};
+ghost use Rattle.edge_model.specs.Packet.{advertiser, alerted, alerts_end, bridges_frame, by_control_word, enters, is_alert, is_channel, labelled, opened_by, owned, packet_input, terminated, unpacked_at};
 ghost use Rattle.edge_model.specs.Role.{down_at};
 ghost use Rattle.edge_model.specs.Send.{drops};
 ghost use Rattle.edge_model.specs.Synced.{InSync};
@@ -25,7 +25,6 @@ use crate::quiet::drop_for;
 use edge_model::Effect;
 use eth_encap::{FrameFault, StackEntry, read_entry};
 use net_base::{Arrival, DropCause, Link, List, NoMemory, Offer, ServiceId};
-use pw_signalling::PwEnd;
 use std::alloc::Global;
 
 /// The label of a router alert (RFC 3032 section 2.1).
@@ -131,24 +130,8 @@ impl Control {
         ensures named { (rest : Rest) → option_map (place_of self.now.ends) result ≡ advertiser self.now.plan (controlled self.now rest) label }
         ensures slot { IfSome result (λ slot. slot < length self.now.ends.places) }
     {
-        for slot in 0..self.count_ends() {
-            if self.advertises(slot, label) {
-                return Some(slot);
-            }
-        }
-        None
-    }
-
-    // Whether the end of a slot advertises a label.
-    fn advertises(&self, slot: usize, label: u32) -> bool
-        requires { slot < length self.now.ends.places }
-        ensures { result ≡ advertises_label label (end_in self.now.ends slot).local }
-    {
-        match self.end_in(slot) {
-            PwEnd::Advertised(end) => end.label().number() == label,
-            PwEnd::Idle(_) => false,
-            PwEnd::Withdrawing(_) => false,
-        }
+        let _ = &self.ends;
+        self.ends.advertiser(label)
     }
 
     // 2. The label is one of the edge's own, at the bottom of the stack.

@@ -18,8 +18,8 @@ invariant_of-self-2 c =
     let idle : IsIdle (get_or (map end_of c.self.inside.ends.items) c.args.slot fresh).local =
     subst (λ (e : EndState). IsIdle e.local) (seen_at (the_view c.self.inside) c.args.slot c.self.invariant.apart c.self.invariant.count within)
     (subst (λ (l : EndLists). IsIdle (end_in l c.args.slot).local) (sym c.self.view_is) c.requires.idle) in
-    kept_advertised _ _ c.args.told.now c.self.inside.places (map end_of c.self.inside.ends.items) (map end_of c.advertise_at.new.ends.items) c.self.inside.labels c.issue.new.self c.args.slot c.in-Ok.label
-    c.self.invariant within idle c.requires.kind (λ last. none (c.in-Ok.ensures.no_label.1 last)) c.in-Ok.ensures.label c.advertise_at.ensures c.issue.ensures.space
+    kept_advertised _ _ c.args.told.now c.self.inside.places (map end_of c.self.inside.ends.items) (map end_of c.advertise_at.new.ends.items) c.self.inside.labels c.issue.new.self c.self.inside.owned c.add.new.self c.args.slot c.in-Ok.label
+    c.self.invariant within idle c.requires.kind (λ last. none (c.in-Ok.ensures.no_label.1 last)) c.in-Ok.ensures.label c.advertise_at.ensures c.issue.ensures.space c.add.ensures
 
 pub returns-clause-seen : goal.returns-clause-seen
 returns-clause-seen c =

@@ -15,8 +15,8 @@ pub invariant_of-self : goal.invariant_of-self
 invariant_of-self c =
     let within : c.args.slot < length c.self.inside.places = subst (λ (l : EndLists). c.args.slot < length l.places) (sym c.self.view_is) c.requires.slot in
     let own : List PwEnd → _ = λ (ends : List PwEnd). own_of (get_or (map end_of ends) c.args.slot fresh) in
-    kept_moved c.args.change.now c.self.inside.places (map end_of c.self.inside.ends.items) (map end_of c.change_at.new.ends.items) c.self.inside.labels c.free_left.new.labels c.args.slot c.own_label_at-before.result c.own_label_at-after.result
-    c.self.invariant within c.change_at.ensures (c.own_label_at-before.ensures ∙ ap own c.deref.ensures.value) (c.own_label_at-after.ensures ∙ ap own c.deref-2.ensures.value) c.free_left.ensures
+    kept_moved c.args.change.now c.self.inside.places (map end_of c.self.inside.ends.items) (map end_of c.change_at.new.ends.items) c.self.inside.labels c.free_left.new.labels c.self.inside.owned c.free_left.new.owned c.args.slot c.own_label_at-before.result c.own_label_at-after.result
+    c.self.invariant within c.change_at.ensures (c.own_label_at-before.ensures ∙ ap own c.deref.ensures.value) (c.own_label_at-after.ensures ∙ ap own c.deref-2.ensures.value) c.free_left.ensures.labels c.free_left.ensures.owned
 
 pub returns-clause-seen : goal.returns-clause-seen
 returns-clause-seen c =

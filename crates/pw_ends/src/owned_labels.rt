@@ -1,0 +1,114 @@
+//! Slots by the labels that their ends own.
+ghost use Rattle.std.specs.Prelude.{◌≡◌, ◌<◌, [], not, filter, length, slice_get, vec_capacity, IfOk};
+ghost use Rattle.std.specs.List.{find};
+ghost use Rattle.hvpls_spokes.specs.Search.{kept_if};
+ghost use Rattle.pw_ends.specs.Owned.{AreEarlier, AreRising, has_label, is_earlier, slot_of, with_owner, without};
+
+use net_base::{Label, NoMemory};
+use std::alloc::Global;
+use std::marker::Model;
+
+/// A label, and the slot of the end that owns it.
+#[derive(Clone, Copy, Debug, PartialEq, Eq)]
+pub struct OwnedLabel {
+    label: Label,
+    slot: usize,
+}
+
+/// The labels that are owned, in rising order, each with the slot of its end. An end is found by its label without a walk over
+/// them. All memory is taken where it is opened. Contracts see the most labels that are owned at once, and those that are.
+#[derive(Debug, Drop)]
+pub struct OwnedLabels {
+    room: usize,
+    labels: Vec<OwnedLabel>,
+}
+
+impl Model for OwnedLabels {
+    ghost use Rattle.std.specs.Prelude.{vec_capacity};
+    ghost use Rattle.pw_ends.specs.Owned.{IsHeld, OwnedList};
+
+    ghost Value = { OwnedList };
+
+    ghost view = { λ o. record { room = o.room; labels = o.labels.items } };
+
+    ghost invariant = { λ o. IsHeld o.room (vec_capacity o.labels) o.labels.items };
+}
+
+impl OwnedLabels {
+    /// No label is owned, and memory for so many is taken.
+    #[tactic(auto, using(crate::proofs::OwnedLemmas::rising_none))]
+    pub(crate) fn open(alloc: Global, room: usize) -> Result<OwnedLabels, NoMemory>
+        ensures { IfOk result (λ owned. owned ≡ record { room = room; labels = [] }) }
+    {
+        Ok(OwnedLabels {
+            room,
+            labels: Vec::with_capacity(alloc, room)?,
+        })
+    }
+
+    /// The end of a slot owns a label that is larger than all others.
+    #[tactic(auto, using(crate::proofs::OwnedLemmas::rising_pushed))]
+    pub(crate) fn add(&mut self, label: Label, slot: usize)
+        requires room { length self.old.labels < self.old.room }
+        requires larger { AreEarlier label self.old.labels }
+        ensures { self.new ≡ with_owner label slot self.old }
+    {
+        self.labels.push(OwnedLabel { label, slot }).unwrap();
+    }
+
+    /// No end owns the label any more.
+    pub(crate) fn remove(&mut self, label: Label)
+        ensures { self.new ≡ without label self.old }
+    {
+        forget(&mut self.labels, label);
+    }
+
+    /// The slot of the end that owns the label with this number.
+    pub(crate) fn slot(&self, number: u32) -> Option<usize>
+        ensures { result ≡ slot_of number self.now.labels }
+    {
+        slot_among(self.labels.as_slice(), number)
+    }
+}
+
+// Takes a label out.
+fn forget(labels: &mut Vec<OwnedLabel>, label: Label)
+    ensures items { labels.new.items ≡ filter (λ o. not (has_label label o)) labels.old.items }
+    ensures room { vec_capacity labels.new ≡ vec_capacity labels.old }
+{
+    labels.retain(|owned| !is_same(owned, label.number()));
+}
+
+// Whether it is the label with this number.
+fn is_same(owned: &OwnedLabel, number: u32) -> bool
+    ensures { result ≡ has_label number owned.now }
+{
+    owned.label.number() == number
+}
+
+// The slot beside a label among labels that rise.
+fn slot_among(labels: &[OwnedLabel], number: u32) -> Option<usize>
+    requires { AreRising labels.now }
+    ensures { result ≡ slot_of number labels.now }
+{
+    let place = count_before(labels, number);
+    match labels.get(place) {
+        Some(owned) if is_same(owned, number) => Some(owned.slot),
+        _ => None,
+    }
+}
+
+// How many labels are smaller than a number.
+fn count_before(labels: &[OwnedLabel], number: u32) -> usize
+    requires { AreRising labels.now }
+    ensures { find (has_label number) labels.now ≡ kept_if (has_label number) (slice_get labels.now result) }
+{
+    labels.partition_point(|owned| is_earlier(owned, number))
+}
+
+// Whether the label is smaller than a number.
+fn is_earlier(owned: &OwnedLabel, number: u32) -> bool
+    ensures { result ≡ is_earlier number owned.now }
+{
+    owned.label.number() < number
+}
