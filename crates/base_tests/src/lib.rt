@@ -12,3 +12,5 @@ mod plans;
 mod tables;
 #[cfg(test)]
 mod texts;
+#[cfg(test)]
+mod withdrawals;

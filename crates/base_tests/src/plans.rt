@@ -11,7 +11,7 @@ use std::test::Fail;
 
 // A wire of a row: its class, its name, the edges of its path, a digit each, and its PW ID.
 #[derive(Clone, Copy)]
-struct Drawn<'a> {
+pub(crate) struct Drawn<'a> {
     class: Class,
     name: &'a str,
     path: &'a str,
@@ -19,7 +19,7 @@ struct Drawn<'a> {
 }
 
 // The wire of these words, as `mesh v 12 7`.
-fn drawn_of(words: &str) -> Result<Drawn<'_>, Fail> {
+pub(crate) fn drawn_of(words: &str) -> Result<Drawn<'_>, Fail> {
     let (class, words) = words.split_once(' ').ok_or("a class")?;
     let (name, words) = words.split_once(' ').ok_or("a name")?;
     let (path, pw_id) = words.split_once(' ').ok_or("a path")?;
@@ -135,7 +135,7 @@ fn wires(alloc: Global, drawn: &[Drawn<'_>]) -> Result<List<WirePlan>, Fail> {
 }
 
 // Six edges, one service, one circuit at edge 1, and these wires.
-fn plan(alloc: Global, drawn: &[Drawn<'_>]) -> Result<Plan, Fail> {
+pub(crate) fn plan(alloc: Global, drawn: &[Drawn<'_>]) -> Result<Plan, Fail> {
     let edges = edges(alloc)?;
     let services = services(alloc)?;
     let circuits = circuits(alloc)?;

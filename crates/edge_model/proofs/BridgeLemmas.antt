@@ -12,6 +12,7 @@ use Rattle.net_base.specs.declared.trace.arrival.Arrival.TheVariants as arrival
 use Rattle.net_base.specs.declared.trace.down.Down.{Down}
 use Rattle.net_base.specs.declared.trace.drop_cause.DropCause.{DropCause}
 use Rattle.net_base.specs.declared.trace.drop_cause.DropCause.TheVariants as cause
+use Rattle.net_base.specs.declared.values.mac.Mac.{Mac}
 use Rattle.net_base.specs.plan.Paths.{offer_of}
 use Rattle.net_base.specs.plan.Places.{wire_row}
 use Rattle.net_base.specs.trace.Isolated.{inner_at}
@@ -22,6 +23,7 @@ use Rattle.hvpls_spokes.specs.declared.port.Port.TheVariants as port
 use Rattle.hvpls_spokes.specs.Port.{ports_of}
 use Rattle.mac_table.specs.declared.mac_entry.MacEntry.{MacEntry}
 use Rattle.pw_signalling.specs.declared.binding.Binding.{Binding}
+use Rattle.edge_model.specs.Clear.{withdrawing_at}
 use Rattle.edge_model.specs.declared.effect.Effect.{Effect}
 use Rattle.edge_model.specs.declared.effect.Effect.TheVariants as effect
 use Rattle.edge_model.specs.declared.end_place.EndPlace.{EndPlace}
@@ -45,11 +47,12 @@ pub record LearnsOnly (old new : EdgeState) : Type 0 where
   pub bits : new.bits ≡ old.bits
   pub ends : new.ends ≡ old.ends
   pub downs : new.told_down ≡ old.told_down
+  pub priorities : new.priority ≡ old.priority
   pub chosen : new.chosen ≡ old.chosen
   pub labels : new.next_label ≡ old.next_label
 
 pub learns_not : (edge : EdgeState) → LearnsOnly edge edge
-learns_not edge = record { me = refl; circuits = refl; ticks = refl; peering = refl; wires = refl; bits = refl; ends = refl; downs = refl; chosen = refl; labels = refl }
+learns_not edge = record { me = refl; circuits = refl; ticks = refl; peering = refl; wires = refl; bits = refl; ends = refl; downs = refl; priorities = refl; chosen = refl; labels = refl }
 
 pub learns_then : (a b c : EdgeState) → LearnsOnly a b → LearnsOnly b c → LearnsOnly a c
 learns_then a b c first next = record {
@@ -61,6 +64,7 @@ learns_then a b c first next = record {
   bits = next.bits ∙ first.bits;
   ends = next.ends ∙ first.ends;
   downs = next.downs ∙ first.downs;
+  priorities = next.priorities ∙ first.priorities;
   chosen = next.chosen ∙ first.chosen;
   labels = next.labels ∙ first.labels;
 }
@@ -77,13 +81,14 @@ learns_is old new only = λ i. record {
   bits = only.bits i;
   ends = only.ends i;
   told_down = only.downs i;
+  priority = only.priorities i;
   chosen = only.chosen i;
   next_label = only.labels i;
 }
 
 addresses_learn : (service : ServiceId) (entries : List MacEntry) (edge : EdgeState) → LearnsOnly edge (with_addresses service entries edge)
 unfolding with_addresses
-addresses_learn service entries edge = record { me = refl; circuits = refl; ticks = refl; peering = refl; wires = refl; bits = refl; ends = refl; downs = refl; chosen = refl; labels = refl }
+addresses_learn service entries edge = record { me = refl; circuits = refl; ticks = refl; peering = refl; wires = refl; bits = refl; ends = refl; downs = refl; priorities = refl; chosen = refl; labels = refl }
 
 -- ---- the edge forgets
 
@@ -117,6 +122,11 @@ forgetting_learns plan wire (Some row) edge = addresses_learn row.service _ edge
 pub forgetting_only : (plan : Plan) (wire : WireId) (row : Option WirePlan) (work : Work) → ForgetsOnly work (changes (forgetting_wire plan wire row) work)
 unfolding changes
 forgetting_only plan wire row work = record { edge = forgetting_learns plan wire row work.edge; calls = refl; effects = refl; idle = refl }
+
+-- those that a MAC withdraw names go
+pub withdrawing_only : (service : ServiceId) (addresses : List Mac) (from : ℕ) (work : Work) → ForgetsOnly work (changes (withdrawing_at service addresses from) work)
+unfolding changes
+withdrawing_only service addresses from work = record { edge = addresses_learn service _ work.edge; calls = refl; effects = refl; idle = refl }
 
 pub forgets_down_only : (plan : Plan) (place : EndPlace) (down : Option Down) (work : Work) → ForgetsOnly work (forgets_down plan place down work)
 forgets_down_only plan place None work = forgets_not work

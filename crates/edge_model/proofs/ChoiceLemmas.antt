@@ -1,12 +1,11 @@
--- What the choice among spokes depends on: of an edge, its place, its failure bits, and whether its ends would forward. What was
--- chosen before, and which status an end has told, change nothing of it.
+-- What the choice among spokes depends on: of an edge, its place, its failure bits, the priorities of its spokes, and whether its ends
+-- would forward. What was chosen before, and which status an end has told, change nothing of it.
 use Rattle.std.proofs.Common.{◌≡◌, ◌∙◌, not, is_some, map, ℕ, List, [], ◌∷◌, Option, None, Some, option_and_then, option_map, slice_get, refl, sym, ap}
 use Rattle.net_base.specs.declared.plan.Plan.{Plan}
 use Rattle.net_base.specs.declared.plan.places.EdgeId.{EdgeId}
 use Rattle.net_base.specs.declared.plan.places.ServiceId.{ServiceId}
 use Rattle.net_base.specs.declared.plan.places.WireId.{WireId}
 use Rattle.net_base.specs.declared.trace.down.Down.{Down}
-use Rattle.net_base.specs.plan.Places.{wire_row}
 use Rattle.pw_tlvs.specs.declared.pw_status.PwStatus.{PwStatus}
 use Rattle.pw_signalling.specs.declared.binding.Binding.{Binding}
 use Rattle.pw_signalling.specs.declared.end_role.EndRole.{EndRole}
@@ -17,7 +16,7 @@ use Rattle.pw_signalling.specs.Rows.{tell_part, telling}
 use Rattle.spoke_redundancy.specs.declared.spoke.Spoke.{Spoke}
 use Rattle.spoke_redundancy.specs.Choice.{chosen}
 use Rattle.edge_model.specs.declared.end_place.EndPlace.{EndPlace}
-use Rattle.edge_model.specs.Spokes.{choice, choosing, priority_in, spoke_at, spoke_places}
+use Rattle.edge_model.specs.Spokes.{choice, choosing, spoke_at, spoke_places}
 use Rattle.edge_model.specs.State.{EdgeState, end_at, with_chosen}
 use Rattle.edge_model.specs.Work.{Work, changes}
 
@@ -36,22 +35,23 @@ telling_down role bits status end = by end.local end.remote where
 -- ---- the same choice
 
 -- where ends would forward as before, the choice is the same
-pub choice_same : (plan : Plan) (old new : EdgeState) → new.me ≡ old.me → new.bits ≡ old.bits → ((wire k bits : ℕ) → down role.Chosen bits (new.ends wire k) ≡ down role.Chosen bits (old.ends wire k))
+pub choice_same : (plan : Plan) (old new : EdgeState) → new.me ≡ old.me → new.bits ≡ old.bits → new.priority ≡ old.priority → ((wire k bits : ℕ) → down role.Chosen bits (new.ends wire k) ≡ down role.Chosen bits (old.ends wire k))
     → (service : ServiceId) → choice plan new service ≡ choice plan old service
-choice_same plan old new me bits downs service =
-    ap (λ (k : EdgeId). among k (map (spoke_at plan new) (spoke_places plan k service))) me ∙ ap (among old.me) (all (spoke_places plan old.me service))
+choice_same plan old new me bits priorities downs service =
+    ap (λ (k : EdgeId). among k (map (spoke_at new) (spoke_places plan k service))) me ∙ ap (among old.me) (all (spoke_places plan old.me service))
   where
     among : EdgeId → List Spoke → Option WireId
     among me spokes = option_map (λ (place : EndPlace). place.wire) (option_and_then (slice_get (spoke_places plan me service)) (chosen spokes))
 
-    one : (place : EndPlace) → spoke_at plan new place ≡ spoke_at plan old place
+    one : (place : EndPlace) → spoke_at new place ≡ spoke_at old place
     one place =
-        ap (λ (why : Option Down). record { priority = priority_in (wire_row plan place.wire); usable = not (is_some why) })
+        ap (λ (p : ℕ → ℕ). record { priority = p place.wire.0; usable = not (is_some (down role.Chosen (new.bits place.wire.0) (end_at new place))) }) priorities
+        ∙ ap (λ (why : Option Down). record { priority = old.priority place.wire.0; usable = not (is_some why) })
         (ap (λ (b : ℕ → ℕ). down role.Chosen (b place.wire.0) (end_at new place)) bits ∙ downs place.wire.0 place.peer.0 (old.bits place.wire.0))
 
-    all : (places : List EndPlace) → map (spoke_at plan new) places ≡ map (spoke_at plan old) places
+    all : (places : List EndPlace) → map (spoke_at new) places ≡ map (spoke_at old) places
     all [] = refl
-    all (place ∷ places) = ap (λ (spoke : Spoke). spoke ∷ map (spoke_at plan new) places) (one place) ∙ ap (λ (spokes : List Spoke). spoke_at plan old place ∷ spokes) (all places)
+    all (place ∷ places) = ap (λ (spoke : Spoke). spoke ∷ map (spoke_at new) places) (one place) ∙ ap (λ (spokes : List Spoke). spoke_at old place ∷ spokes) (all places)
 
 -- ---- an edge that has chosen
 

@@ -29,8 +29,9 @@ use Rattle.session_core.specs.State.{SessionState, is_active}
 use Rattle.session_core.specs.StatusCodes.{about_none, bad_ldp_identifier, keep_alive_timer_expired}
 use Rattle.session_core.specs.Table.{SessionEvent, Outcome, Stay, Goes, Ends, Start, Heard, Received, Refused, Spoke, Ticked, Closed, is_expired, is_quiet, judged, later, notified, outcome_of, reason_in, table, ticked}
 use Rattle.edge_model.specs.Circuit.{turned}
+use Rattle.edge_model.specs.Clear.{withdrawing_at}
 use Rattle.edge_model.specs.Connection.{opened_with}
-use Rattle.edge_model.specs.Content.{mapping, release, status_notification, withdrawal}
+use Rattle.edge_model.specs.Content.{mac_withdrawal, mapping, release, status_notification, withdrawal}
 use Rattle.edge_model.specs.declared.effect.Effect.TheVariants as effect
 use Rattle.edge_model.specs.declared.end_place.EndPlace.{EndPlace}
 use Rattle.edge_model.specs.declared.input.Input.{Input}
@@ -43,11 +44,11 @@ use Rattle.edge_model.specs.Role.{status_to_tell}
 use Rattle.edge_model.specs.Send.{sends}
 use Rattle.edge_model.specs.Session.{clears_ends, comes_of, ends, had_said, happens, happens_to, happens_with_ends, is_same_phase, says, says_to, tells_change, went_on, with_session}
 use Rattle.edge_model.specs.Signal.{end_of_fec, with_end_changed, with_named}
-use Rattle.edge_model.specs.State.{EdgeState, Peering, with_addresses, with_bits, with_chosen, with_circuit, with_end, with_ends_beside, with_learned, with_next_label, with_peering, with_renewed, with_ticks, with_told_down, with_wire, without_ends, without_peerings}
+use Rattle.edge_model.specs.State.{EdgeState, Peering, with_addresses, with_bits, with_chosen, with_circuit, with_end, with_ends_beside, with_learned, with_next_label, with_peering, with_priority, with_renewed, with_ticks, with_told_down, with_wire, without_ends, without_peerings}
 use Rattle.edge_model.specs.Step.{edge_step}
 use Rattle.edge_model.specs.Wire.{turned_wire}
 use Rattle.edge_model.specs.Work.{Work, Answers, changes, gives, idles, next_answer, puts}
-use Rattle.edge_model.proofs.BridgeLemmas.{forgetting_only, sends_bridges}
+use Rattle.edge_model.proofs.BridgeLemmas.{forgetting_only, sends_bridges, withdrawing_only}
 use Rattle.edge_model.proofs.HeldLemmas.{clears_keep}
 use Rattle.edge_model.proofs.WalkLemmas.{HearSteps, InputSteps, MendSteps, hears_pdu_holds, step_holds}
 
@@ -239,6 +240,7 @@ mend_steps plan told k = record {
   tells_status = λ place label content last work is advertised told_it other fits.
       let status : PwStatus = status_to_tell plan work.edge place in
       says_fits told k place.peer (status_notification place.pw_id status content) (changes (telling_status place status) work) fits;
+  tells_piece = λ place label content addresses work advertised fits. says_fits told k place.peer (mac_withdrawal place.pw_id addresses content) work fits;
   forgets_wire = λ place why work is terminal down. same_fits k work (changes (forgetting_wire plan place.wire (wire_row plan place.wire)) work) (forgetting_only plan place.wire (wire_row plan place.wire) work).edge.peering;
   tells_down = λ place work is terminal other fits. fits;
 }
@@ -260,10 +262,11 @@ hear_steps plan told k = record {
       changes_fit k (λ edge. with_end_changed (released label) (end_of_fec plan edge peer fec) edge) work (changed_keeps (released label) (end_of_fec plan work.edge peer fec) work.edge) fits;
   states = λ peer fec status work there fits.
       changes_fit k (with_named plan peer fec (stated status) (group_stated fec.group status) fec.pw_id) work (named_keeps plan peer fec (stated status) (group_stated fec.group status) fec.pw_id work.edge) fits;
+  clears = λ service addresses from work. same_fits k work (changes (withdrawing_at service addresses from) work) (withdrawing_only service addresses from work).edge.peering;
 }
 
 input_steps : (plan : Plan) (told : Answers) (k : ℕ) → InputSteps plan told (FitsOn k)
-unfolding changes gives idles with_addresses with_bits with_learned with_ticks without_ends without_peerings
+unfolding changes gives idles with_addresses with_bits with_learned with_priority with_ticks without_ends without_peerings
 input_steps plan told k = record {
   hear = hear_steps plan told k;
   idles = λ work fits. fits;
@@ -274,6 +277,7 @@ input_steps plan told k = record {
   turns = λ circuit row on work fits. changes_fit k (turned plan circuit row on) work (turned_keeps plan circuit row on work.edge) fits;
   turns_wire = λ wire on work fits. changes_fit k (turned_wire wire on) work (turned_wire_keeps wire on work.edge) fits;
   sets_bits = λ wire bits work fits. fits;
+  sets_priority = λ wire priority work fits. fits;
   learns = λ service frame arrival work fits. fits;
   leaves = λ circuit octets work fits. fits;
   drops = λ cause work fits. fits;

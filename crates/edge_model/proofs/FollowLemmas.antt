@@ -18,7 +18,8 @@ use Rattle.session_core.specs.declared.reply.Reply.{Reply}
 use Rattle.session_core.specs.Table.{SessionEvent}
 use Rattle.ldp_grammar.specs.declared.message.Message.{Message}
 use Rattle.edge_model.specs.Circuit.{turned}
-use Rattle.edge_model.specs.Content.{mapping, release, status_notification, withdrawal}
+use Rattle.edge_model.specs.Clear.{withdrawing_at}
+use Rattle.edge_model.specs.Content.{mac_withdrawal, mapping, release, status_notification, withdrawal}
 use Rattle.edge_model.specs.declared.end_place.EndPlace.{EndPlace}
 use Rattle.edge_model.specs.declared.input.Input.{Input}
 use Rattle.edge_model.specs.EndPlaces.{end_named, end_places, is_named}
@@ -28,11 +29,11 @@ use Rattle.edge_model.specs.Put.{message_octets_of, put_octets, put_reply}
 use Rattle.edge_model.specs.Send.{sends}
 use Rattle.edge_model.specs.Session.{clears_ends, had_put, had_said, happens, happens_with_ends, says, says_to}
 use Rattle.edge_model.specs.Signal.{end_of_fec, with_end_changed, with_named}
-use Rattle.edge_model.specs.State.{EdgeState, Peering, empty_edge, end_at, has_end, is_there, with_addresses, with_bits, with_chosen, with_circuit, with_end, with_ends_beside, with_learned, with_next_label, with_peering, with_renewed, with_ticks, with_told_down, with_wire, without_ends, without_peerings}
+use Rattle.edge_model.specs.State.{EdgeState, Peering, empty_edge, end_at, has_end, is_there, with_addresses, with_bits, with_chosen, with_circuit, with_end, with_ends_beside, with_learned, with_next_label, with_peering, with_priority, with_renewed, with_ticks, with_told_down, with_wire, without_ends, without_peerings}
 use Rattle.edge_model.specs.Step.{edge_step}
 use Rattle.edge_model.specs.Wire.{turned_wire}
 use Rattle.edge_model.specs.Work.{Work, Answers, changes, gives, idles, next_answer}
-use Rattle.edge_model.proofs.BridgeLemmas.{LearnsOnly, forgetting_only, sends_bridges}
+use Rattle.edge_model.proofs.BridgeLemmas.{LearnsOnly, forgetting_only, sends_bridges, withdrawing_only}
 use Rattle.edge_model.proofs.LocalLemmas.{and_left}
 use Rattle.edge_model.proofs.SessionLemmas.{IsSessionWork, happens_works, message_works, reply_works}
 use Rattle.edge_model.proofs.WalkLemmas.{HearSteps, InputSteps, MendSteps, hears_message_holds, hears_one_holds, mends_holds, step_holds}
@@ -209,6 +210,7 @@ mend_follows plan told = record {
   tells_status = λ place label content last work here is status other.
       change_says_follows told place.peer (status_notification place.pw_id _ content) (telling_status place _) work
       (λ follows. end_follows place _ work.edge (advertised_stands work.edge place label content follows is) follows);
+  tells_piece = λ place label content addresses work is. says_follows told place.peer (mac_withdrawal place.pw_id addresses content) work;
   forgets_wire = λ place why work here terminal is. learns_follow work (changes (forgetting_wire plan place.wire (wire_row plan place.wire)) work) (forgetting_only plan place.wire (wire_row plan place.wire) work).edge;
   tells_down = λ place work here terminal other follows. follows;
 }
@@ -246,6 +248,7 @@ hear_follows plan told = record {
   states = λ peer fec status work there.
       changes_follow (with_named plan peer fec (stated status) (group_stated fec.group status) fec.pw_id) work
       (named_follows plan peer fec (stated status) (group_stated fec.group status) fec.pw_id work.edge there);
+  clears = λ service addresses from work. learns_follow work (changes (withdrawing_at service addresses from) work) (withdrawing_only service addresses from work).edge;
 }
 
 -- ---- inputs
@@ -268,7 +271,7 @@ turned_wire_follows wire true edge follows = renewed_follows wire (with_wire wir
 turned_wire_follows wire false edge follows = follows
 
 pub input_follows : (plan : Plan) (told : Answers) → InputSteps plan told FollowsOn
-unfolding changes gives idles with_addresses with_bits with_learned with_ticks without_ends without_peerings
+unfolding changes gives idles with_addresses with_bits with_learned with_priority with_ticks without_ends without_peerings
 input_follows plan told = record {
   hear = hear_follows plan told;
   idles = λ work follows. follows;
@@ -279,6 +282,7 @@ input_follows plan told = record {
   turns = λ circuit row on work. changes_follow (turned plan circuit row on) work (turned_follows plan circuit row on work.edge);
   turns_wire = λ wire on work. changes_follow (turned_wire wire on) work (turned_wire_follows wire on work.edge);
   sets_bits = λ wire bits work follows. follows;
+  sets_priority = λ wire priority work follows. follows;
   learns = λ service frame arrival work follows. follows;
   leaves = λ circuit octets work follows. follows;
   drops = λ cause work follows. follows;

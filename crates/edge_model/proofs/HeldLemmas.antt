@@ -1,24 +1,33 @@
 -- What is held of a peer tells nothing of how more is heard: it is read once, before anything is heard.
-use Rattle.std.proofs.Common.{◌≡◌, ◌∙◌, ◌&&◌, ◌||◌, ℕ, zero, suc, Bool, true, false, List, [], ◌∷◌, Option, Some, None, cond, refl, sym, ap, length, nat_eq, option_map, inl, inr}
+use Rattle.std.proofs.Common.{◌≡◌, ◌+◌, ◌∙◌, ◌&&◌, ◌||◌, ℕ, zero, suc, Bool, true, false, List, [], ◌∷◌, Option, Some, None, cond, refl, sym, ap, length, nat_eq, option_map, inl, inr}
 use Rattle.std.proofs.lemmas.Bool.{cases_Bool, eqb-true, eq-eqb}
 use Rattle.net_base.specs.declared.plan.Plan.{Plan}
 use Rattle.net_base.specs.declared.plan.wire_plan.WirePlan.{WirePlan}
 use Rattle.net_base.specs.declared.plan.places.EdgeId.{EdgeId}
+use Rattle.net_base.specs.declared.plan.places.ServiceId.{ServiceId}
 use Rattle.net_base.specs.declared.plan.places.WireId.{WireId}
 use Rattle.net_base.specs.declared.trace.down.Down.{Down}
 use Rattle.net_base.specs.declared.trace.state_name.Reason.{Reason}
 use Rattle.net_base.specs.declared.trace.state_name.Reason.TheVariants as reason
 use Rattle.net_base.specs.declared.trace.state_name.StateName.TheVariants as name
+use Rattle.net_base.specs.declared.values.mac.Mac.{Mac}
 use Rattle.net_base.specs.plan.Paths.{offer_of}
 use Rattle.net_base.specs.plan.Places.{wire_row}
+use Rattle.hvpls_spokes.specs.declared.edge_role.Role.{Role}
+use Rattle.hvpls_spokes.specs.declared.port.Port.{Port}
+use Rattle.hvpls_spokes.specs.declared.port.Port.TheVariants as port
+use Rattle.hvpls_spokes.specs.Port.{ports_of}
+use Rattle.hvpls_spokes.specs.Role as roles
 use Rattle.label_space.specs.Labels.{numbers_end}
 use Rattle.ldp_codec.specs.declared.decode_fault.DecodeFault.{DecodeFault}
 use Rattle.ldp_codec.specs.Decoded.{refusal_of}
 use Rattle.ldp_grammar.specs.declared.message.Message.{Message}
-use Rattle.ldp_grammar.specs.declared.message.Message.TheVariants.{Notification, LabelMapping, LabelWithdraw, LabelRelease}
+use Rattle.ldp_grammar.specs.declared.message.Message.TheVariants.{Notification, AddressWithdraw, LabelMapping, LabelWithdraw, LabelRelease}
 use Rattle.ldp_grammar.specs.declared.pdu.Pdu.{Pdu}
 use Rattle.ldp_grammar.specs.declared.status_code.StatusCode.{StatusCode}
 use Rattle.ldp_stream.specs.FrontOf.{Front, More, Got, Bad, front_of}
+use Rattle.mac_withdraw.specs.Passing.{is_passed_to}
+use Rattle.mac_withdraw.specs.Pieces.{pieces_of}
 use Rattle.pw_tlvs.specs.declared.point.Point.{Point}
 use Rattle.pw_tlvs.specs.declared.pw_fec.PwFec.{PwFec}
 use Rattle.pw_tlvs.specs.declared.pw_status.PwStatus.{PwStatus}
@@ -32,18 +41,22 @@ use Rattle.session_core.specs.Session.{phase_name}
 use Rattle.session_core.specs.State.{SessionState, is_active}
 use Rattle.session_core.specs.StatusCodes.{about_none, data_of}
 use Rattle.session_core.specs.Table.{SessionEvent, Outcome, Stay, Goes, Ends, Heard, Received, Refused, outcome_of, table}
-use Rattle.edge_model.specs.Content.{mapping, pw_status_code, release, status_notification, withdrawal}
+use Rattle.edge_model.specs.Clear.{clears_at, clears_by, clears_wire, hears_mac_withdraw, passes_on, tells_at, tells_by, withdrawing_at}
+use Rattle.edge_model.specs.Content.{mac_withdrawal, mapping, pw_status_code, release, status_notification, withdrawal}
 use Rattle.edge_model.specs.declared.effect.Effect.TheVariants as effect
 use Rattle.edge_model.specs.declared.end_place.EndPlace.{EndPlace}
 use Rattle.edge_model.specs.EndPlaces.{end_named, end_places}
+use Rattle.edge_model.specs.Ends.{wire_end}
+use Rattle.edge_model.specs.Frame.{copies}
 use Rattle.edge_model.specs.Hear.{acts, acts_on, advice_of, advises, hears_few, hears_front, hears_message, hears_messages, hears_one, hears_pdu, hears_within, holds, was_up}
-use Rattle.edge_model.specs.Mend.{advertises_wish, advertising, and_says, cause_number, each_end, forgets_down, forgets_downs, forgetting_wire, is_up_with, mends, mends_again, mends_end, mends_few, mends_local, mends_once, mends_status, mends_status_of, stays, telling_status, tells_down, tells_downs, tells_over, terminal_wish, then_changes, wish, wish_of, withdrawing, withdraws_unless}
-use Rattle.edge_model.specs.Put.{Spoken, having_spoken, message_octets_of, octets_of, put_octets, put_replies, put_reply, put_reply_to, puts_on, with_spoken}
+use Rattle.edge_model.specs.Mend.{advertises_wish, advertising, and_says, cause_number, each_end, forgets_down, forgets_downs, forgetting_wire, is_new_choice, is_up_with, mends, mends_again, mends_choice, mends_end, mends_few, mends_local, mends_once, mends_status, mends_status_of, port_of_wire, telling_status, tells_down, tells_downs, tells_over, terminal_wish, then_changes, wish, wish_of, withdrawing, withdraws_unless}
+use Rattle.edge_model.specs.Put.{Spoken, having_spoken, message_octets_of, octets_of, put_octets, put_replies, put_reply, put_reply_to, puts_on, with_spoken, stays}
 use Rattle.edge_model.specs.Role.{down_at, status_to_tell}
 use Rattle.edge_model.specs.Session.{clears_ends, comes_of, ends, had_put, had_said, happens, happens_to, happens_with_ends, is_same_phase, says, says_to, tells_change, went_on, with_session}
 use Rattle.edge_model.specs.Signal.{end_of_fec, hears_status, hears_withdraw, maps_to, releases_label, with_end_changed, with_named}
 use Rattle.edge_model.specs.Spokes.{choosing}
 use Rattle.edge_model.specs.State.{EdgeState, Peering, end_at, has_end, is_there, put_at, with_addresses, with_chosen, with_end, with_ends_beside, with_next_label, with_peering, with_told_down}
+use Rattle.edge_model.specs.Withdraw.{tells_piece, tells_piece_by, tells_pieces}
 use Rattle.edge_model.specs.Work.{Work, Answers, changes, gives, next_answer, puts}
 
 -- ---- what is kept for a peer becomes something else
@@ -256,6 +269,19 @@ mends_status_held plan told other place work = of (end_at work.edge place).local
   of (Advertised label content) = over_last content (status_to_tell plan work.edge place) content.status
   of (Withdrawing label) = refl
 
+tells_piece_held : (told : Answers) (other : Holding) (place : EndPlace) (addresses : List Mac) → MendsAlike other (tells_piece told place addresses)
+tells_piece_held told other place addresses work = of (end_at work.edge place).local where
+  of : (local : LocalPart) → tells_piece_by told place addresses local (rehold other work) ≡ rehold_spoken other (tells_piece_by told place addresses local work)
+  of (Idle declined) = refl
+  of (Advertised label content) = says_held told other place.peer (mac_withdrawal place.pw_id addresses content) work
+  of (Withdrawing label) = refl
+
+mends_choice_held : (plan : Plan) (told : Answers) (other : Holding) (before : ℕ → Option WireId) (place : EndPlace) → MendsAlike other (mends_choice plan told before place)
+mends_choice_held plan told other before place work = by (is_new_choice before work.edge.chosen place.wire (wire_row plan place.wire)) where
+  by : (b : Bool) → cond b (tells_piece told place [] (rehold other work)) (stays (rehold other work)) ≡ rehold_spoken other (cond b (tells_piece told place [] work) (stays work))
+  by true = tells_piece_held told other place [] work
+  by false = refl
+
 each_end_held : (other : Holding) (mend : EndPlace → Work → Spoken) → ((place : EndPlace) → MendsAlike other (mend place)) → (places : List EndPlace) (m : Spoken)
     → each_end mend places (rehold_spoken other m) ≡ rehold_spoken other (each_end mend places m)
 each_end_held other mend alike [] m = refl
@@ -312,12 +338,15 @@ mends_once_held plan told other work =
     let first : Spoken = each_end (mends_end plan told) places (stays work) in
     let chosen : Spoken = then_changes (choosing plan) first in
     let second : Spoken = each_end (mends_status plan told) places chosen in
+    let moved : Spoken → Spoken = each_end (mends_choice plan told work.edge.chosen) places in
+    let third : Spoken = moved second in
     ap (λ (s : Spoken). last places s)
-    (ap (λ (s : Spoken). each_end (mends_status plan told) places (then_changes (choosing plan) s)) (each_end_held other (mends_end plan told) (mends_end_held plan told other) places (stays work))
-    ∙ (ap (λ (w : Work). each_end (mends_status plan told) places (record { work = w; failed = first.failed })) (changes_held other (choosing plan) first.work (choosing_held plan other first.work.edge))
-    ∙ each_end_held other (mends_status plan told) (mends_status_held plan told other) places chosen))
-    ∙ ap (λ (w : Work). record { work = w; failed = second.failed })
-    (ap (tells_downs plan places) (forgets_downs_held plan other places second.work) ∙ tells_downs_held plan other places (forgets_downs plan places second.work))
+    (ap (λ (s : Spoken). moved (each_end (mends_status plan told) places (then_changes (choosing plan) s))) (each_end_held other (mends_end plan told) (mends_end_held plan told other) places (stays work))
+    ∙ (ap (λ (w : Work). moved (each_end (mends_status plan told) places (record { work = w; failed = first.failed }))) (changes_held other (choosing plan) first.work (choosing_held plan other first.work.edge))
+    ∙ (ap moved (each_end_held other (mends_status plan told) (mends_status_held plan told other) places chosen)
+    ∙ each_end_held other (mends_choice plan told work.edge.chosen) (mends_choice_held plan told other work.edge.chosen) places second)))
+    ∙ ap (λ (w : Work). record { work = w; failed = third.failed })
+    (ap (tells_downs plan places) (forgets_downs_held plan other places third.work) ∙ tells_downs_held plan other places (forgets_downs plan places third.work))
   where
     last : List EndPlace → Spoken → Spoken
     last places s = record { work = tells_downs plan places (forgets_downs plan places s.work); failed = s.failed }
@@ -376,6 +405,73 @@ status_held plan other peer code (Some status) (Some fec) work = by (nat_eq code
   by true = changes_held other change work (named_held plan other peer fec (stated status) (group_stated fec.group status) fec.pw_id work.edge)
   by false = refl
 
+-- ---- a MAC withdraw
+
+tells_pieces_held : (told : Answers) (other : Holding) (place : EndPlace) (pieces : List (List Mac)) (work : Work) → tells_pieces told place pieces (rehold other work) ≡ rehold other (tells_pieces told place pieces work)
+tells_pieces_held told other place [] work = refl
+tells_pieces_held told other place (piece ∷ pieces) work =
+    ap (λ (s : Spoken). tells_pieces told place pieces s.work) (tells_piece_held told other place piece work) ∙ tells_pieces_held told other place pieces (tells_piece told place piece work).work
+
+tells_by_held : (told : Answers) (other : Holding) (addresses : List Mac) (place : Option EndPlace) (work : Work) → tells_by told addresses place (rehold other work) ≡ rehold other (tells_by told addresses place work)
+tells_by_held told other addresses None work = refl
+tells_by_held told other addresses (Some place) work = tells_pieces_held told other place (pieces_of addresses) work
+
+tells_at_held : (plan : Plan) (told : Answers) (other : Holding) (addresses : List Mac) (x : Port) (work : Work) → tells_at plan told addresses x (rehold other work) ≡ rehold other (tells_at plan told addresses x work)
+tells_at_held plan told other addresses (port.Circuit circuit) work = refl
+tells_at_held plan told other addresses (port.Mesh wire) work = tells_by_held told other addresses (wire_end plan work.edge.me wire) work
+tells_at_held plan told other addresses (port.Spoke wire) work = tells_by_held told other addresses (wire_end plan work.edge.me wire) work
+
+tells_ports_held : (plan : Plan) (told : Answers) (other : Holding) (passed : ℕ → Bool) (addresses : List Mac) (p : ℕ) (ports : List Port) (work : Work)
+    → copies passed (tells_at plan told addresses) p ports (rehold other work) ≡ rehold other (copies passed (tells_at plan told addresses) p ports work)
+tells_ports_held plan told other passed addresses p [] work = refl
+tells_ports_held plan told other passed addresses p (x ∷ ports) work =
+    ap (copies passed (tells_at plan told addresses) (p + 1) ports) (one (passed p))
+    ∙ tells_ports_held plan told other passed addresses (p + 1) ports (cond (passed p) (tells_at plan told addresses x work) work)
+  where
+    one : (b : Bool) → cond b (tells_at plan told addresses x (rehold other work)) (rehold other work) ≡ rehold other (cond b (tells_at plan told addresses x work) work)
+    one true = tells_at_held plan told other addresses x work
+    one false = refl
+
+passes_on_held : (plan : Plan) (told : Answers) (other : Holding) (addresses : List Mac) (service : ServiceId) (from : ℕ) (role : Option Role) (work : Work)
+    → passes_on plan told addresses service from role (rehold other work) ≡ rehold other (passes_on plan told addresses service from role work)
+passes_on_held plan told other addresses service from None work = refl
+passes_on_held plan told other addresses service from (Some role) work =
+    let ports : List Port = ports_of plan service work.edge.me in
+    tells_ports_held plan told other (is_passed_to role ports from) addresses 0 ports work
+
+withdrawing_held : (other : Holding) (service : ServiceId) (addresses : List Mac) (from : ℕ) (edge : EdgeState) → withdrawing_at service addresses from (reheld other edge) ≡ reheld other (withdrawing_at service addresses from edge)
+unfolding with_addresses
+withdrawing_held other service addresses from edge = refl
+
+clears_at_held : (plan : Plan) (told : Answers) (other : Holding) (addresses : List Mac) (service : ServiceId) (from : Option ℕ) (work : Work)
+    → clears_at plan told addresses service from (rehold other work) ≡ rehold other (clears_at plan told addresses service from work)
+clears_at_held plan told other addresses service None work = refl
+clears_at_held plan told other addresses service (Some from) work =
+    let change : EdgeState → EdgeState = withdrawing_at service addresses from in
+    let role : Option Role = roles.role_of plan service work.edge.me in
+    ap (passes_on plan told addresses service from role) (changes_held other change work (withdrawing_held other service addresses from work.edge))
+    ∙ passes_on_held plan told other addresses service from role (changes change work)
+
+clears_wire_held : (plan : Plan) (told : Answers) (other : Holding) (addresses : List Mac) (place : EndPlace) (row : Option WirePlan) (work : Work)
+    → clears_wire plan told addresses place row (rehold other work) ≡ rehold other (clears_wire plan told addresses place row work)
+clears_wire_held plan told other addresses place None work = refl
+clears_wire_held plan told other addresses place (Some row) work = clears_at_held plan told other addresses row.service (port_of_wire plan work.edge place.wire row) work
+
+clears_by_held : (plan : Plan) (told : Answers) (other : Holding) (addresses : List Mac) (place : Option EndPlace) (work : Work)
+    → clears_by plan told addresses place (rehold other work) ≡ rehold other (clears_by plan told addresses place work)
+clears_by_held plan told other addresses None work = refl
+clears_by_held plan told other addresses (Some place) work = by place.terminal where
+  by : (b : Bool) → cond b (clears_wire plan told addresses place (wire_row plan place.wire) (rehold other work)) (rehold other work)
+      ≡ rehold other (cond b (clears_wire plan told addresses place (wire_row plan place.wire) work) work)
+  by true = clears_wire_held plan told other addresses place (wire_row plan place.wire) work
+  by false = refl
+
+mac_withdraw_held : (plan : Plan) (told : Answers) (other : Holding) (peer : EdgeId) (fec : Option PwFec) (addresses : Option (List Mac)) (work : Work)
+    → hears_mac_withdraw plan told peer fec addresses (rehold other work) ≡ rehold other (hears_mac_withdraw plan told peer fec addresses work)
+mac_withdraw_held plan told other peer None addresses work = refl
+mac_withdraw_held plan told other peer (Some fec) None work = refl
+mac_withdraw_held plan told other peer (Some fec) (Some addresses) work = clears_by_held plan told other addresses (end_of_fec plan work.edge peer fec) work
+
 -- ---- messages
 
 advises_held : (told : Answers) (other : Holding) (peer : EdgeId) (advice : Option Reply) (work : Work) → advises told peer advice (rehold other work) ≡ rehold other (advises told peer advice work)
@@ -389,6 +485,7 @@ acts_on_held plan told other peer (LabelWithdraw id fec label) work = withdraw_h
 acts_on_held plan told other peer (LabelRelease id fec label) work =
     changes_held other (λ edge. with_end_changed (released label) (end_of_fec plan edge peer fec) edge) work (changed_held other (released label) (end_of_fec plan work.edge peer fec) work.edge)
 acts_on_held plan told other peer (Notification id code status fec) work = status_held plan other peer code status fec work
+acts_on_held plan told other peer (AddressWithdraw id addresses fec macs) work = mac_withdraw_held plan told other peer fec macs work
 acts_on_held plan told other peer message work = advises_held told other peer (advice_of message) work
 
 acts_held : (plan : Plan) (told : Answers) (other : Holding) (peer : EdgeId) (message : Message) (up : Bool) (work : Work) → acts plan told peer message up (rehold other work) ≡ rehold other (acts plan told peer message up work)

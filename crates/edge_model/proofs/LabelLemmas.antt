@@ -14,7 +14,8 @@ use Rattle.pw_signalling.specs.End.{EndState}
 use Rattle.pw_signalling.specs.Rows.{bound, group_stated, group_unbound, released, stated, telling, unbound, withdrawn}
 use Rattle.ldp_grammar.specs.declared.message.Message.{Message}
 use Rattle.edge_model.specs.Circuit.{turned}
-use Rattle.edge_model.specs.Content.{mapping, release, status_notification, withdrawal}
+use Rattle.edge_model.specs.Clear.{withdrawing_at}
+use Rattle.edge_model.specs.Content.{mac_withdrawal, mapping, release, status_notification, withdrawal}
 use Rattle.edge_model.specs.declared.end_place.EndPlace.{EndPlace}
 use Rattle.edge_model.specs.declared.input.Input.{Input}
 use Rattle.edge_model.specs.EndPlaces.{end_named}
@@ -23,11 +24,11 @@ use Rattle.edge_model.specs.Put.{put_reply}
 use Rattle.edge_model.specs.Send.{sends}
 use Rattle.edge_model.specs.Session.{had_said, happens_with_ends, says}
 use Rattle.edge_model.specs.Signal.{end_of_fec, with_end_changed, with_named}
-use Rattle.edge_model.specs.State.{EdgeState, end_at, with_addresses, with_bits, with_chosen, with_circuit, with_end, with_ends_beside, with_learned, with_next_label, with_peering, with_renewed, with_ticks, with_told_down, with_wire, without_ends, without_peerings}
+use Rattle.edge_model.specs.State.{EdgeState, end_at, with_addresses, with_bits, with_chosen, with_circuit, with_end, with_ends_beside, with_learned, with_next_label, with_peering, with_priority, with_renewed, with_ticks, with_told_down, with_wire, without_ends, without_peerings}
 use Rattle.edge_model.specs.Step.{edge_step}
 use Rattle.edge_model.specs.Wire.{turned_wire}
 use Rattle.edge_model.specs.Work.{Work, Answers, changes, gives, idles}
-use Rattle.edge_model.proofs.BridgeLemmas.{LearnsOnly, forgetting_only, sends_bridges}
+use Rattle.edge_model.proofs.BridgeLemmas.{LearnsOnly, forgetting_only, sends_bridges, withdrawing_only}
 use Rattle.edge_model.proofs.SessionLemmas.{IsSessionWork, advice_works, any, happens_with_ends_works, says_works}
 use Rattle.edge_model.proofs.WalkLemmas.{HearSteps, InputSteps, MendSteps, mends_holds, step_holds}
 
@@ -117,6 +118,9 @@ mend_rises plan told = record {
   chooses = rises_not;
   tells_status = λ place label content last work here is status other.
       says_rises told place.peer (status_notification place.pw_id _ content) (telling_status place _) work (end_keeps place (telling _ (end_at work.edge place)) work.edge);
+  tells_piece = λ place label content addresses work is.
+      let message : ℕ → Message = mac_withdrawal place.pw_id addresses content in
+      session_rises work (says told place.peer message work).work (says_works told any place.peer message work refl);
   forgets_wire = λ place why work here terminal is. learns_rise work (changes (forgetting_wire plan place.wire (wire_row plan place.wire)) work) (forgetting_only plan place.wire (wire_row plan place.wire) work).edge;
   tells_down = λ place work here terminal other. rises_not work;
 }
@@ -136,6 +140,7 @@ hear_rises plan told = record {
       keeps (λ edge. with_end_changed (released label) (end_of_fec plan edge peer fec) edge) work (changed_keeps (released label) (end_of_fec plan work.edge peer fec) work.edge);
   states = λ peer fec status work there.
       keeps (with_named plan peer fec (stated status) (group_stated fec.group status) fec.pw_id) work (named_keeps plan peer fec (stated status) (group_stated fec.group status) fec.pw_id work.edge);
+  clears = λ service addresses from work. learns_rise work (changes (withdrawing_at service addresses from) work) (withdrawing_only service addresses from work).edge;
 }
 
 turned_keeps : (plan : Plan) (circuit : CircuitId) (row : CircuitPlan) (on : Bool) (edge : EdgeState) → (turned plan circuit row on edge).next_label ≡ edge.next_label
@@ -149,7 +154,7 @@ turned_wire_keeps wire true edge = refl
 turned_wire_keeps wire false edge = refl
 
 pub input_rises : (plan : Plan) (told : Answers) → InputSteps plan told WorkRises
-unfolding changes gives idles with_addresses with_bits with_learned with_peering with_ticks without_ends without_peerings
+unfolding changes gives idles with_addresses with_bits with_learned with_peering with_priority with_ticks without_ends without_peerings
 input_rises plan told = record {
   hear = hear_rises plan told;
   idles = rises_not;
@@ -160,6 +165,7 @@ input_rises plan told = record {
   turns = λ circuit row on work. keeps (turned plan circuit row on) work (turned_keeps plan circuit row on work.edge);
   turns_wire = λ wire on work. keeps (turned_wire wire on) work (turned_wire_keeps wire on work.edge);
   sets_bits = λ wire bits work. rises_not work;
+  sets_priority = λ wire priority work. rises_not work;
   learns = λ service frame arrival work. rises_not work;
   leaves = λ circuit octets work. rises_not work;
   drops = λ cause work. rises_not work;

@@ -3,21 +3,24 @@ use Rattle.std.proofs.Common.{◌≡◌, ◌∙◌, ◌||◌, ℕ, zero, suc, Bo
 use Rattle.std.proofs.lemmas.Bool.{cases_Bool, eqb-true, eq-eqb}
 use Rattle.net_base.specs.declared.plan.Plan.{Plan}
 use Rattle.net_base.specs.declared.plan.places.EdgeId.{EdgeId}
+use Rattle.net_base.specs.declared.plan.places.WireId.{WireId}
+use Rattle.net_base.specs.declared.values.mac.Mac.{Mac}
 use Rattle.net_base.specs.plan.Places.{wire_row}
 use Rattle.label_space.specs.Labels.{numbers_end}
 use Rattle.ldp_grammar.specs.declared.message.Message.{Message}
 use Rattle.pw_tlvs.specs.declared.pw_status.PwStatus.{PwStatus}
 use Rattle.pw_signalling.specs.declared.told.Told.{Told}
 use Rattle.pw_signalling.specs.End.{LocalPart, Idle, Advertised, Withdrawing}
-use Rattle.edge_model.specs.Content.{mapping, status_notification, withdrawal}
+use Rattle.edge_model.specs.Content.{mac_withdrawal, mapping, status_notification, withdrawal}
 use Rattle.edge_model.specs.declared.end_place.EndPlace.{EndPlace}
 use Rattle.edge_model.specs.EndPlaces.{end_places}
-use Rattle.edge_model.specs.Mend.{advertises_wish, advertising, and_says, each_end, mends, mends_again, mends_end, mends_few, mends_local, mends_once, mends_status, mends_status_of, stays, telling_status, tells_over, then_changes, wish, withdrawing, withdraws_unless}
-use Rattle.edge_model.specs.Put.{Spoken, having_spoken, message_octets_of, put_octets, with_spoken}
+use Rattle.edge_model.specs.Mend.{advertises_wish, advertising, and_says, each_end, is_new_choice, mends, mends_again, mends_choice, mends_end, mends_few, mends_local, mends_once, mends_status, mends_status_of, telling_status, tells_over, then_changes, wish, withdrawing, withdraws_unless}
+use Rattle.edge_model.specs.Put.{Spoken, having_spoken, message_octets_of, put_octets, with_spoken, stays}
 use Rattle.edge_model.specs.Role.{status_to_tell}
 use Rattle.edge_model.specs.Session.{clears_ends, had_said, says, says_to}
 use Rattle.edge_model.specs.Spokes.{choosing}
 use Rattle.edge_model.specs.State.{Peering, end_at, has_end, is_there, with_chosen, with_end, with_next_label, with_peering, with_told_down}
+use Rattle.edge_model.specs.Withdraw.{tells_piece, tells_piece_by}
 use Rattle.edge_model.specs.Work.{Work, Answers, changes, gives, next_answer, puts}
 use Rattle.edge_model.proofs.BridgeLemmas.{forgetting_only}
 use Rattle.edge_model.proofs.WalkLemmas.{MendSteps, mends_holds}
@@ -92,6 +95,19 @@ module _ (plan : Plan) (told : Answers) (takes : TakesAll told) where
     of (Advertised label content) = tells_it content (status_to_tell plan work.edge place) content.status
     of (Withdrawing label) = refl
 
+  pub tells_piece_takes : (place : EndPlace) (addresses : List Mac) (work : Work) → (tells_piece told place addresses work).failed ≡ false
+  tells_piece_takes place addresses work = of (end_at work.edge place).local where
+    of : (local : LocalPart) → (tells_piece_by told place addresses local work).failed ≡ false
+    of (Idle declined) = refl
+    of (Advertised label content) = says_takes told place.peer (mac_withdrawal place.pw_id addresses content) work takes
+    of (Withdrawing label) = refl
+
+  mends_choice_takes : (before : ℕ → Option WireId) (place : EndPlace) (work : Work) → (mends_choice plan told before place work).failed ≡ false
+  mends_choice_takes before place work = by (is_new_choice before work.edge.chosen place.wire (wire_row plan place.wire)) where
+    by : (b : Bool) → (cond b (tells_piece told place [] work) (stays work)).failed ≡ false
+    by true = tells_piece_takes place [] work
+    by false = refl
+
   each_end_takes : (mend : EndPlace → Work → Spoken) → ((place : EndPlace) (work : Work) → (mend place work).failed ≡ false) → (places : List EndPlace) (m : Spoken) → m.failed ≡ false → (each_end mend places m).failed ≡ false
   each_end_takes mend each [] m none = none
   each_end_takes mend each (place ∷ places) m none =
@@ -102,7 +118,9 @@ module _ (plan : Plan) (told : Answers) (takes : TakesAll told) where
   mends_once_takes work =
       let places : List EndPlace = end_places plan work.edge.me in
       let first : Spoken = each_end (mends_end plan told) places (stays work) in
-      each_end_takes (mends_status plan told) mends_status_takes places (then_changes (choosing plan) first) (each_end_takes (mends_end plan told) mends_end_takes places (stays work) refl)
+      let chosen : Spoken = then_changes (choosing plan) first in
+      each_end_takes (mends_choice plan told work.edge.chosen) (mends_choice_takes work.edge.chosen) places (each_end (mends_status plan told) places chosen)
+      (each_end_takes (mends_status plan told) mends_status_takes places chosen (each_end_takes (mends_end plan told) mends_end_takes places (stays work) refl))
 
   pub mends_takes : (work : Work) → mends plan told work ≡ (mends_once plan told work).work
   mends_takes work =
@@ -168,6 +186,8 @@ mends_speaks plan told k work takes = mends_holds plan told (SpeaksFrom k) steps
       tells_status = λ place label content last now is advertised told_it other old speaks.
           let status : PwStatus = status_to_tell plan now.edge place in
           says_speaks told k old place.peer (status_notification place.pw_id status content) (changes (telling_status place status) now) takes speaks;
+      tells_piece = λ place label content addresses now advertised old speaks.
+          says_speaks told k old place.peer (mac_withdrawal place.pw_id addresses content) now takes speaks;
       forgets_wire = λ place why now is terminal down old speaks.
           subst (λ (peering : ℕ → Option Peering). SpeaksOn old (peering k)) (sym (forgetting_only plan place.wire (wire_row plan place.wire) now).edge.peering) speaks;
       tells_down = λ place now is terminal other old speaks. speaks;

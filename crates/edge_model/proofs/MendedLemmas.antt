@@ -23,16 +23,17 @@ use Rattle.pw_signalling.specs.Down.{down}
 use Rattle.pw_signalling.specs.End.{EndState, LocalPart, Idle, Advertised, Withdrawing}
 use Rattle.pw_signalling.specs.Rows.{advertised, telling, withdrawn}
 use Rattle.spoke_redundancy.specs.Telling.{is_not_chosen}
-use Rattle.edge_model.specs.Content.{content_of, mapping, status_notification, withdrawal}
+use Rattle.edge_model.specs.Content.{content_of, mac_withdrawal, mapping, status_notification, withdrawal}
 use Rattle.edge_model.specs.declared.effect.Effect.TheVariants.{Wire}
 use Rattle.edge_model.specs.declared.end_place.EndPlace.{EndPlace}
 use Rattle.edge_model.specs.EndPlaces.{end_places, is_terminal}
-use Rattle.edge_model.specs.Mend.{advertises_wish, advertising, and_says, cause_number, each_end, forgets_down, forgets_downs, forgetting_wire, is_up_with, mends, mends_again, mends_end, mends_few, mends_local, mends_once, mends_status, mends_status_of, port_of_wire, status_held, status_offered, stays, telling_status, tells_down, tells_downs, tells_over, tells_status, then_changes, wish, wish_of, withdrawing, withdraws_unless}
-use Rattle.edge_model.specs.Put.{Spoken, having_spoken, message_octets_of, put_octets, with_spoken}
-use Rattle.edge_model.specs.Role.{down_at, role_in, status_to_tell}
+use Rattle.edge_model.specs.Mend.{advertises_wish, advertising, and_says, cause_number, each_end, forgets_down, forgets_downs, forgetting_wire, is_new_choice, is_up_with, mends, mends_again, mends_choice, mends_end, mends_few, mends_local, mends_once, mends_status, mends_status_of, port_of_wire, status_held, status_offered, telling_status, tells_down, tells_downs, tells_over, tells_status, then_changes, wish, wish_of, withdrawing, withdraws_unless}
+use Rattle.edge_model.specs.Put.{Spoken, having_spoken, message_octets_of, put_octets, with_spoken, stays}
+use Rattle.edge_model.specs.Role.{down_at, is_chosen, role_in, status_to_tell}
 use Rattle.edge_model.specs.Session.{had_said, says, says_to}
 use Rattle.edge_model.specs.Spokes.{choosing}
 use Rattle.edge_model.specs.State.{EdgeState, Peering, addresses_of, end_at, with_addresses, with_chosen, with_end, with_next_label, with_peering, with_told_down, without_port}
+use Rattle.edge_model.specs.Withdraw.{tells_piece, tells_piece_by}
 use Rattle.edge_model.specs.Work.{Work, Answers, changes, gives, next_answer, puts}
 use Rattle.edge_model.proofs.BridgeLemmas.{LearnsOnly, forgets_downs_only, forgetting_learns, learns_is}
 use Rattle.edge_model.proofs.ChoiceLemmas.{HasChosen, choice_same, choosing_is, choosing_not, telling_down}
@@ -115,6 +116,18 @@ mends_status_not plan told place work = of (end_at work.edge place).local where
   of (Advertised label content) e = over content content.status e
   of (Withdrawing label) e = refl
 
+-- what is chosen is as it was, so no spoke was chosen anew
+no_new_choice : (chosen : ℕ → Option WireId) (wire : WireId) (row : Option WirePlan) → is_new_choice chosen chosen wire row ≡ false
+no_new_choice chosen wire None = refl
+no_new_choice chosen wire (Some row) = by (is_chosen chosen wire row) where
+  by : (b : Bool) → b && not b ≡ false
+  by true = refl
+  by false = refl
+
+mends_choice_not : (plan : Plan) (told : Answers) (place : EndPlace) (work : Work) → mends_choice plan told work.edge.chosen place work ≡ stays work
+mends_choice_not plan told place work =
+    ap (λ (b : Bool). cond b (tells_piece told place [] work) (stays work)) (no_new_choice work.edge.chosen place.wire (wire_row plan place.wire))
+
 tells_down_not : (plan : Plan) (place : EndPlace) (work : Work) → is_down_told plan work.edge place ≡ true → cond place.terminal (tells_down place (down_at plan work.edge place) work) work ≡ work
 tells_down_not plan place work = of place.terminal where
   down : Option Down
@@ -192,9 +205,13 @@ mends_once_not plan told work mended =
     let second : each_end (mends_status plan told) places (stays work) ≡ stays work =
     each_end_not (mends_status plan told) work places
     (all_map (λ place. is_told plan work.edge place ≡ true) (λ place. mends_status plan told place work ≡ stays work) (λ place is. mends_status_not plan told place work is) places mended.statuses) in
+    let moved : Spoken → Spoken = each_end (mends_choice plan told work.edge.chosen) places in
+    let third : moved (stays work) ≡ stays work =
+    each_end_not (mends_choice plan told work.edge.chosen) work places
+    (all_map (λ place. is_told plan work.edge place ≡ true) (λ place. mends_choice plan told work.edge.chosen place work ≡ stays work) (λ place is. mends_choice_not plan told place work) places mended.statuses) in
     ap (λ (s : Spoken). last places s)
-    (ap (λ (s : Spoken). each_end (mends_status plan told) places (then_changes (choosing plan) s)) first
-    ∙ (ap (λ (w : Work). each_end (mends_status plan told) places (stays w)) (choosing_not plan work mended.chosen) ∙ second))
+    (ap (λ (s : Spoken). moved (each_end (mends_status plan told) places (then_changes (choosing plan) s))) first
+    ∙ (ap (λ (w : Work). moved (each_end (mends_status plan told) places (stays w))) (choosing_not plan work mended.chosen) ∙ (ap moved second ∙ third)))
     ∙ ap stays (ap (tells_downs plan places) (forgets_downs_not plan work places mended.forgotten) ∙ tells_downs_not plan work places mended.downs)
   where
     last : List EndPlace → Spoken → Spoken
@@ -223,22 +240,35 @@ record IsSpoken (old new : EdgeState) : Type 0 where
   me : new.me ≡ old.me
   wires : new.wire_on ≡ old.wire_on
   bits : new.bits ≡ old.bits
+  priorities : new.priority ≡ old.priority
   ends : new.ends ≡ old.ends
   chosen : new.chosen ≡ old.chosen
   labels : new.next_label ≡ old.next_label
   ups : (k : ℕ) → is_up_with (new.peering k) ≡ is_up_with (old.peering k)
 
 spoken_not : (edge : EdgeState) → IsSpoken edge edge
-spoken_not edge = record { me = refl; wires = refl; bits = refl; ends = refl; chosen = refl; labels = refl; ups = λ k. refl }
+spoken_not edge = record { me = refl; wires = refl; bits = refl; priorities = refl; ends = refl; chosen = refl; labels = refl; ups = λ k. refl }
 
 put_spoken : (peer : EdgeId) (bytes : List ℕ) (work : Work) → IsSpoken work.edge (put_octets peer bytes true work).work.edge
 unfolding changes gives puts with_peering with_spoken
-put_spoken peer bytes work = record { me = refl; wires = refl; bits = refl; ends = refl; chosen = refl; labels = refl; ups = λ k. up k } where
+put_spoken peer bytes work = record { me = refl; wires = refl; bits = refl; priorities = refl; ends = refl; chosen = refl; labels = refl; ups = λ k. up k } where
   up : (k : ℕ) → is_up_with (cond (nat_eq k peer.0) (option_map having_spoken (work.edge.peering peer.0)) (work.edge.peering k)) ≡ is_up_with (work.edge.peering k)
   up k = elim (cases_Bool (nat_eq k peer.0)) [
     | inl here ↦ rw here (up_spoken (work.edge.peering peer.0) ∙ ap (λ (n : ℕ). is_up_with (work.edge.peering n)) (sym (eqb-true k peer.0 here)))
     | inr away ↦ rw away refl
   ]
+
+spoken_then : (a b c : EdgeState) → IsSpoken a b → IsSpoken b c → IsSpoken a c
+spoken_then a b c first next = record {
+  me = next.me ∙ first.me;
+  wires = next.wires ∙ first.wires;
+  bits = next.bits ∙ first.bits;
+  priorities = next.priorities ∙ first.priorities;
+  ends = next.ends ∙ first.ends;
+  chosen = next.chosen ∙ first.chosen;
+  labels = next.labels ∙ first.labels;
+  ups = λ k. next.ups k ∙ first.ups k;
+}
 
 says_spoken : (told : Answers) (peer : EdgeId) (message : ℕ → Message) (work : Work) → (says told peer message work).failed ≡ false → IsSpoken work.edge (says told peer message work).work.edge
 unfolding puts
@@ -262,18 +292,20 @@ record IsSteady (old new : EdgeState) : Type 0 where
   me : new.me ≡ old.me
   wires : new.wire_on ≡ old.wire_on
   bits : new.bits ≡ old.bits
+  priorities : new.priority ≡ old.priority
   chosen : new.chosen ≡ old.chosen
   remotes : (wire k : ℕ) → (new.ends wire k).remote ≡ (old.ends wire k).remote
   ups : (k : ℕ) → is_up_with (new.peering k) ≡ is_up_with (old.peering k)
 
 steady_not : (edge : EdgeState) → IsSteady edge edge
-steady_not edge = record { me = refl; wires = refl; bits = refl; chosen = refl; remotes = λ wire k. refl; ups = λ k. refl }
+steady_not edge = record { me = refl; wires = refl; bits = refl; priorities = refl; chosen = refl; remotes = λ wire k. refl; ups = λ k. refl }
 
 steady_then : (a b c : EdgeState) → IsSteady a b → IsSteady b c → IsSteady a c
 steady_then a b c first next = record {
   me = next.me ∙ first.me;
   wires = next.wires ∙ first.wires;
   bits = next.bits ∙ first.bits;
+  priorities = next.priorities ∙ first.priorities;
   chosen = next.chosen ∙ first.chosen;
   remotes = λ wire k. next.remotes wire k ∙ first.remotes wire k;
   ups = λ k. next.ups k ∙ first.ups k;
@@ -367,6 +399,7 @@ changed_step place end label old new remote left spoken = record {
     me = spoken.me;
     wires = spoken.wires;
     bits = spoken.bits;
+    priorities = spoken.priorities;
     chosen = spoken.chosen;
     remotes = λ wire k. ap (λ (ends : ℕ → ℕ → EndState). (ends wire k).remote) spoken.ends ∙ remote_put place end old remote wire k;
     ups = spoken.ups;
@@ -621,6 +654,56 @@ record Passed (places : EndPlace → Type 0) (throughout : EdgeState → Type 0)
 fails_not_before : (mend : EndPlace → Work → Spoken) (places : List EndPlace) (m : Spoken) → (each_end mend places m).failed ≡ false → m.failed ≡ false
 fails_not_before mend [] m none = none
 fails_not_before mend (q ∷ rest) m none = or_left m.failed (mend q m.work).failed (fails_not_before mend rest (and_says m (mend q)) none)
+
+-- of each end, what it tells is as before where no session ended as it told that addresses have moved
+choice_spoken : (plan : Plan) (told : Answers) (before : ℕ → Option WireId) (place : EndPlace) (work : Work) → (mends_choice plan told before place work).failed ≡ false
+    → IsSpoken work.edge (mends_choice plan told before place work).work.edge
+choice_spoken plan told before place work = by (is_new_choice before work.edge.chosen place.wire (wire_row plan place.wire)) where
+  piece : (local : LocalPart) → (tells_piece_by told place [] local work).failed ≡ false → IsSpoken work.edge (tells_piece_by told place [] local work).work.edge
+  piece (Idle declined) none = spoken_not work.edge
+  piece (Advertised label content) none = says_spoken told place.peer (mac_withdrawal place.pw_id [] content) work none
+  piece (Withdrawing label) none = spoken_not work.edge
+
+  by : (b : Bool) → (cond b (tells_piece told place [] work) (stays work)).failed ≡ false → IsSpoken work.edge (cond b (tells_piece told place [] work) (stays work)).work.edge
+  by true none = piece (end_at work.edge place).local none
+  by false none = spoken_not work.edge
+
+choices_spoken : (plan : Plan) (told : Answers) (before : ℕ → Option WireId) (places : List EndPlace) (m : Spoken) → (each_end (mends_choice plan told before) places m).failed ≡ false
+    → IsSpoken m.work.edge (each_end (mends_choice plan told before) places m).work.edge
+choices_spoken plan told before [] m none = spoken_not m.work.edge
+choices_spoken plan told before (q ∷ rest) m none =
+    let mend : EndPlace → Work → Spoken = mends_choice plan told before in
+    let next : Spoken = and_says m (mend q) in
+    let taken : (mend q m.work).failed ≡ false = or_right m.failed (mend q m.work).failed (fails_not_before mend rest next none) in
+    spoken_then m.work.edge next.work.edge (each_end mend rest next).work.edge (choice_spoken plan told before q m.work taken) (choices_spoken plan told before rest next none)
+
+-- then what ends should tell, and what they told, is as before
+spoken_steady : (old new : EdgeState) → IsSpoken old new → IsSteady old new
+spoken_steady old new spoken = record {
+  me = spoken.me;
+  wires = spoken.wires;
+  bits = spoken.bits;
+  priorities = spoken.priorities;
+  chosen = spoken.chosen;
+  remotes = λ wire k. ap (λ (ends : ℕ → ℕ → EndState). (ends wire k).remote) spoken.ends;
+  ups = spoken.ups;
+}
+
+spoken_mended : (plan : Plan) (p : EndPlace) (old new : EdgeState) → IsSpoken old new → is_mended plan old p ≡ true → is_mended plan new p ≡ true
+spoken_mended plan p old new spoken is =
+    mended_still plan p old new (spoken_steady old new spoken) (λ none. ap (λ (n : ℕ). nat_eq n numbers_end) spoken.labels ∙ none)
+    (λ wished none_left. ap (λ (ends : ℕ → ℕ → EndState). tells_wish wished none_left (ends p.wire.0 p.peer.0).local) spoken.ends) is
+
+spoken_told : (plan : Plan) (p : EndPlace) (old new : EdgeState) → IsSpoken old new → is_told plan old p ≡ true → is_told plan new p ≡ true
+spoken_told plan p old new spoken is =
+    ap (λ (s : PwStatus). tells_now s.0 (end_at new p).local) (status_steady plan old new p (spoken_steady old new spoken))
+    ∙ (ap (λ (ends : ℕ → ℕ → EndState). tells_now (status_to_tell plan old p).0 (ends p.wire.0 p.peer.0).local) spoken.ends ∙ is)
+
+spoken_chosen : (plan : Plan) (old new : EdgeState) → IsSpoken old new → HasChosen plan old → HasChosen plan new
+spoken_chosen plan old new spoken chosen service =
+    ap (λ (map : ℕ → Option WireId). map service) spoken.chosen
+    ∙ (chosen service
+    ∙ sym (choice_same plan old new spoken.me spoken.bits spoken.priorities (λ wire k bits. ap (λ (ends : ℕ → ℕ → EndState). down role.Chosen bits (ends wire k)) spoken.ends) (record { 0 = service })))
 
 passes : (mend : EndPlace → Work → Spoken) (places : EndPlace → Type 0) (throughout : EdgeState → Type 0) (so : EndPlace → EdgeState → Type 0) → IsPass mend places throughout so → (list : List EndPlace)
     → AllByRecursion places list → (m : Spoken) → (each_end mend list m).failed ≡ false → throughout m.work.edge → Passed places throughout so list m.work.edge (each_end mend list m).work.edge
@@ -919,13 +1002,13 @@ round_mends plan told work one none =
     record {
       ends = at_me (λ me. AllByRecursion (λ p. is_mended plan last p ≡ true) (end_places plan me))
           (all_map (λ p. is_mended plan first.work.edge p ≡ true) (λ p. is_mended plan last p ≡ true)
-          (λ p is. subst (λ (e : EdgeState). is_mended plan e p ≡ true) (sym at_last) (statuses.still.mended p (choosing_mended plan p first.work is))) places ends.made);
+          (λ p is. subst (λ (e : EdgeState). is_mended plan e p ≡ true) (sym at_last) (spoken_mended plan p second.work.edge third.work.edge moved (statuses.still.mended p (choosing_mended plan p first.work is)))) places ends.made);
       chosen = subst (HasChosen plan) (sym at_last) choice_made;
       statuses = at_me (λ me. AllByRecursion (λ p. is_told plan last p ≡ true) (end_places plan me))
           (all_map (λ p. is_told plan second.work.edge p ≡ true) (λ p. is_told plan last p ≡ true)
-          (λ p is. subst (λ (e : EdgeState). is_told plan e p ≡ true) (sym at_last) is) places statuses.made);
+          (λ p is. subst (λ (e : EdgeState). is_told plan e p ≡ true) (sym at_last) (spoken_told plan p second.work.edge third.work.edge moved is)) places statuses.made);
       forgotten = at_me (λ me. AllByRecursion (IsForgotten plan last) (end_places plan me))
-          (all_map (IsForgotten plan forgot.edge) (IsForgotten plan last) (λ p gone. subst (λ (e : EdgeState). IsForgotten plan e p) (sym downs.is) gone) places (all_go plan places second.work));
+          (all_map (IsForgotten plan forgot.edge) (IsForgotten plan last) (λ p gone. subst (λ (e : EdgeState). IsForgotten plan e p) (sym downs.is) gone) places (all_go plan places third.work));
       downs = at_me (λ me. AllByRecursion (λ p. is_down_told plan last p ≡ true) (end_places plan me)) downs.so;
     }
   where
@@ -947,41 +1030,50 @@ round_mends plan told work one none =
     second : Spoken
     second = each_end (mends_status plan told) places chosen
 
+    third : Spoken
+    third = each_end (mends_choice plan told work.edge.chosen) places second
+
     forgot : Work
-    forgot = forgets_downs plan places second.work
+    forgot = forgets_downs plan places third.work
 
     last : EdgeState
     last = (tells_downs plan places forgot).edge
 
+    none_second : second.failed ≡ false
+    none_second = fails_not_before (mends_choice plan told work.edge.chosen) places second none
+
     ends : Passed (IsEndOf plan me) (λ now. IsSteady work.edge now) (λ p now. is_mended plan now p ≡ true) places work.edge first.work.edge
     ends = passes (mends_end plan told) (IsEndOf plan me) (λ now. IsSteady work.edge now) (λ p now. is_mended plan now p ≡ true) (first_pass plan told me work.edge) places all (stays work)
-        (fails_not_before (mends_status plan told) places chosen none) (steady_not work.edge)
+        (fails_not_before (mends_status plan told) places chosen none_second) (steady_not work.edge)
 
     statuses : Passed (IsEndOf plan me) (λ now. StaysMended plan chosen.work.edge now) (λ p now. is_told plan now p ≡ true) places chosen.work.edge second.work.edge
     statuses = passes (mends_status plan told) (IsEndOf plan me) (λ now. StaysMended plan chosen.work.edge now) (λ p now. is_told plan now p ≡ true) (second_pass plan told me chosen.work.edge) places all chosen
-        none (record { steady = steady_not chosen.work.edge; downs = λ wire k role bits. refl; mended = λ p is. is })
+        none_second (record { steady = steady_not chosen.work.edge; downs = λ wire k role bits. refl; mended = λ p is. is })
+
+    moved : IsSpoken second.work.edge third.work.edge
+    moved = choices_spoken plan told work.edge.chosen places second none
 
     -- the choice is that of now: the statuses that were told change nothing of it
     still_chosen : HasChosen plan second.work.edge
     still_chosen service =
         ap (λ (map : ℕ → Option WireId). map service) statuses.still.steady.chosen
         ∙ (choosing_is plan first.work service
-        ∙ sym (choice_same plan chosen.work.edge second.work.edge statuses.still.steady.me statuses.still.steady.bits (λ wire k bits. statuses.still.downs wire k role.Chosen bits) (record { 0 = service })))
+        ∙ sym (choice_same plan chosen.work.edge second.work.edge statuses.still.steady.me statuses.still.steady.bits statuses.still.steady.priorities (λ wire k bits. statuses.still.downs wire k role.Chosen bits) (record { 0 = service })))
 
-    learns : LearnsOnly second.work.edge forgot.edge
-    learns = (forgets_downs_only plan places second.work).edge
+    learns : LearnsOnly third.work.edge forgot.edge
+    learns = (forgets_downs_only plan places third.work).edge
 
     downs : HaveTold plan me places forgot.edge last
     downs = all_told plan me one places all forgot
 
-    at_last : last ≡ record (second.work.edge) { learned = forgot.edge.learned; told_down = downs.downs }
-    at_last = downs.is ∙ ap (λ (e : EdgeState). record e { told_down = downs.downs }) (learns_is second.work.edge forgot.edge learns)
+    at_last : last ≡ record (third.work.edge) { learned = forgot.edge.learned; told_down = downs.downs }
+    at_last = downs.is ∙ ap (λ (e : EdgeState). record e { told_down = downs.downs }) (learns_is third.work.edge forgot.edge learns)
 
-    choice_made : HasChosen plan (record (second.work.edge) { learned = forgot.edge.learned; told_down = downs.downs })
-    choice_made service = still_chosen service
+    choice_made : HasChosen plan (record (third.work.edge) { learned = forgot.edge.learned; told_down = downs.downs })
+    choice_made service = spoken_chosen plan second.work.edge third.work.edge moved still_chosen service
 
     same_me : last.me ≡ me
-    same_me = ap (λ (e : EdgeState). e.me) at_last ∙ (statuses.still.steady.me ∙ (choosing_me plan first.work ∙ ends.still.me))
+    same_me = ap (λ (e : EdgeState). e.me) at_last ∙ (moved.me ∙ (statuses.still.steady.me ∙ (choosing_me plan first.work ∙ ends.still.me)))
 
     at_me : (P : EdgeId → Type 0) → P me → P last.me
     at_me P p = subst P (sym same_me) p

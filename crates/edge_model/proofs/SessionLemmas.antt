@@ -55,6 +55,7 @@ pub record IsBesides (mine : ℕ → Bool) (old new : EdgeState) : Type 0 where
   pub bits : new.bits ≡ old.bits
   pub ends : (wire k : ℕ) → mine k ≡ false → new.ends wire k ≡ old.ends wire k
   pub downs : new.told_down ≡ old.told_down
+  pub priorities : new.priority ≡ old.priority
   pub chosen : new.chosen ≡ old.chosen
   pub labels : new.next_label ≡ old.next_label
 
@@ -79,7 +80,7 @@ pub own_effects : (test : Effect → Bool) (es : List Effect) → GivesOnly test
 own_effects test es gives = ap (are_all test) gives.given ∙ gives.own
 
 besides_still : (mine : ℕ → Bool) (edge : EdgeState) → IsBesides mine edge edge
-besides_still mine edge = record { me = refl; circuits = refl; learned = refl; ticks = refl; others = λ k apart. refl; wires = refl; bits = refl; ends = λ wire k apart. refl; downs = refl; chosen = refl; labels = refl }
+besides_still mine edge = record { me = refl; circuits = refl; learned = refl; ticks = refl; others = λ k apart. refl; wires = refl; bits = refl; ends = λ wire k apart. refl; downs = refl; priorities = refl; chosen = refl; labels = refl }
 
 pub gives_none : (test : Effect → Bool) (es : List Effect) → GivesOnly test es es
 gives_none test es = record { more = []; given = sym (append-nil es); own = refl }
@@ -98,6 +99,7 @@ besides_then mine a b c first next = record {
   bits = next.bits ∙ first.bits;
   ends = λ wire k apart. next.ends wire k apart ∙ first.ends wire k apart;
   downs = next.downs ∙ first.downs;
+  priorities = next.priorities ∙ first.priorities;
   chosen = next.chosen ∙ first.chosen;
   labels = next.labels ∙ first.labels;
 }
@@ -130,7 +132,7 @@ is_apart mine k p own apart = elim (cases_Bool (nat_eq k p)) [
 peering_works : (mine : ℕ → Bool) (peer : EdgeId) (kept : Option Peering) (work : Work) → mine peer.0 ≡ true → IsSessionWork mine work (changes (with_peering peer kept) work)
 unfolding changes with_peering
 peering_works mine peer kept work own = record {
-  edge = record { me = refl; circuits = refl; learned = refl; ticks = refl; others = λ k apart. rw (is_apart mine k peer.0 own apart) refl; wires = refl; bits = refl; ends = λ wire k apart. refl; downs = refl; chosen = refl; labels = refl };
+  edge = record { me = refl; circuits = refl; learned = refl; ticks = refl; others = λ k apart. rw (is_apart mine k peer.0 own apart) refl; wires = refl; bits = refl; ends = λ wire k apart. refl; downs = refl; priorities = refl; chosen = refl; labels = refl };
   effects = gives_none (is_of_session mine) work.effects;
   idle = refl;
 }
@@ -150,7 +152,7 @@ puts_works mine peer bytes taken work = record { edge = besides_still mine work.
 spoken_works : (mine : ℕ → Bool) (peer : EdgeId) (work : Work) → mine peer.0 ≡ true → IsSessionWork mine work (changes (with_spoken peer) work)
 unfolding changes with_peering with_spoken
 spoken_works mine peer work own = record {
-  edge = record { me = refl; circuits = refl; learned = refl; ticks = refl; others = λ k apart. rw (is_apart mine k peer.0 own apart) refl; wires = refl; bits = refl; ends = λ wire k apart. refl; downs = refl; chosen = refl; labels = refl };
+  edge = record { me = refl; circuits = refl; learned = refl; ticks = refl; others = λ k apart. rw (is_apart mine k peer.0 own apart) refl; wires = refl; bits = refl; ends = λ wire k apart. refl; downs = refl; priorities = refl; chosen = refl; labels = refl };
   effects = gives_none (is_of_session mine) work.effects;
   idle = refl;
 }
@@ -272,7 +274,7 @@ clears_works mine peer work own = by (has_end work.edge peer) where
   by : (stands : Bool) → IsSessionWork mine work (cond stands work (changes (with_ends_beside peer lost) work))
   by true = works_not mine work
   by false = record {
-    edge = record { me = refl; circuits = refl; learned = refl; ticks = refl; others = λ k apart. refl; wires = refl; bits = refl; ends = λ wire k apart. rw (is_apart mine k peer.0 own apart) refl; downs = refl; chosen = refl; labels = refl };
+    edge = record { me = refl; circuits = refl; learned = refl; ticks = refl; others = λ k apart. refl; wires = refl; bits = refl; ends = λ wire k apart. rw (is_apart mine k peer.0 own apart) refl; downs = refl; priorities = refl; chosen = refl; labels = refl };
     effects = gives_none (is_of_session mine) work.effects;
     idle = refl;
   }

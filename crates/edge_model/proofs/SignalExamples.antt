@@ -8,13 +8,13 @@ use Rattle.net_base.specs.declared.plan.offer.Offer.{Offer}
 use Rattle.net_base.specs.declared.plan.places.EdgeId.{EdgeId}
 use Rattle.net_base.specs.declared.plan.places.WireId.{WireId}
 use Rattle.net_base.specs.declared.plan.wire_plan.WirePlan.{WirePlan}
-use Rattle.net_base.specs.declared.plan.wire_plan.Class.TheVariants.{Mesh}
+use Rattle.net_base.specs.declared.plan.wire_plan.Class.TheVariants.{Mesh, Spoke}
 use Rattle.net_base.specs.declared.trace.down.Down.TheVariants.{NoLocal, NoRemote, Mtu, LocalFault, RemoteFault}
 use Rattle.net_base.specs.declared.trace.state_name.Reason.TheVariants as reason
 use Rattle.net_base.specs.declared.trace.state_name.StateName.TheVariants as name
 use Rattle.net_base.specs.declared.values.addr.Addr.{Addr}
 use Rattle.ldp_grammar.specs.declared.message.Message.{Message}
-use Rattle.ldp_grammar.specs.declared.message.Message.TheVariants.{Initialization, KeepAlive, LabelMapping, LabelWithdraw, LabelRelease, Notification}
+use Rattle.ldp_grammar.specs.declared.message.Message.TheVariants.{AddressWithdraw, Initialization, KeepAlive, LabelMapping, LabelWithdraw, LabelRelease, Notification}
 use Rattle.ldp_grammar.specs.Written.{written}
 use Rattle.mac_table.specs.declared.mac_entry.MacEntry.{MacEntry}
 use Rattle.pw_tlvs.specs.declared.pw_fec.PwFec.{PwFec}
@@ -264,3 +264,31 @@ gives_the_last = refl
 none_is_left : (hearing last_plan b (KeepAlive 2 ∷ []) (hearing last_plan b (proposal_of 2 1 ∷ []) (connected last_plan a b)).edge).edge.told_down 1 ≡ Some NoLocal
 unfolding changes down gives idles puts with_addresses with_chosen with_end with_ends_beside with_next_label with_peering with_spoken with_told_down
 none_is_left = refl
+
+-- ---- spokes: a tells that addresses have moved as it chooses one, and b forgets them and passes it on
+
+abbrev a_spoke : ℕ → WirePlan
+a_spoke pw_id = record (a_wire 0 pw_id (an_offer 1500 0) (an_offer 1500 0)) { class = Spoke }
+
+abbrev spoke_plan : Plan
+spoke_plan = plan_of 16 (a_spoke 100 ∷ a_spoke 200 ∷ [])
+
+-- all is meant that b did not learn by the spoke on which it is told
+abbrev all_moved : ℕ → ℕ → Message
+all_moved id pw_id = AddressWithdraw id None (Some (bare_fec_of pw_id usual)) (Some [])
+
+tells_as_it_chooses : (hearing spoke_plan b (mapping_with 3 100 16 usual ∷ []) (a_up spoke_plan)).effects
+    ≡ said_by_a (Notification 5 pw_status_notice (Some (record { 0 = 0 })) (Some (bare_fec_of 100 usual))) ∷ said_by_a (all_moved 6 100) ∷ Wire w None ∷ []
+unfolding changes down gives idles puts with_addresses with_chosen with_end with_ends_beside with_next_label with_peering with_spoken with_told_down
+tells_as_it_chooses = refl
+
+abbrev b_spoked : EdgeState
+b_spoked = with_learned (λ service. learned_at 0 ∷ learned_at 1 ∷ []) (hearing spoke_plan a (mapping_with 3 100 16 usual ∷ mapping_with 4 200 17 usual ∷ []) (b_up spoke_plan)).edge
+
+forgets_elsewhere : (hearing spoke_plan a (all_moved 5 100 ∷ []) b_spoked).edge.learned 0 ≡ learned_at 0 ∷ []
+unfolding changes down gives idles puts with_addresses with_chosen with_end with_ends_beside with_learned with_next_label with_peering with_spoken with_told_down
+forgets_elsewhere = refl
+
+passes_on : (hearing spoke_plan a (all_moved 5 100 ∷ []) b_spoked).effects ≡ said_by_b (all_moved 5 200) ∷ []
+unfolding changes down gives idles puts with_addresses with_chosen with_end with_ends_beside with_learned with_next_label with_peering with_spoken with_told_down
+passes_on = refl

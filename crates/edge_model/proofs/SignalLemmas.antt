@@ -9,6 +9,7 @@ use Rattle.net_base.specs.declared.plan.places.EdgeId.{EdgeId}
 use Rattle.net_base.specs.declared.plan.places.WireId.{WireId}
 use Rattle.net_base.specs.declared.trace.down.Down.{Down}
 use Rattle.net_base.specs.declared.trace.state_name.Reason.TheVariants as reason
+use Rattle.net_base.specs.declared.values.mac.Mac.{Mac}
 use Rattle.net_base.specs.plan.Paths.{are_joined}
 use Rattle.net_base.specs.plan.Places.{wire_row}
 use Rattle.label_space.specs.Labels.{numbers_end}
@@ -24,24 +25,26 @@ use Rattle.pw_signalling.specs.Rows.{bound, group_stated, group_unbound, release
 use Rattle.session_core.specs.Table as table
 use Rattle.edge_model.specs.Circuit.{circuit_input, is_same, turned}
 use Rattle.edge_model.specs.Connection.{connected_input, connects, connects_between, lost_input, opened_with}
-use Rattle.edge_model.specs.Content.{mapping, release, status_notification, withdrawal}
+use Rattle.edge_model.specs.Clear.{withdrawing_at}
+use Rattle.edge_model.specs.Content.{mac_withdrawal, mapping, release, status_notification, withdrawal}
 use Rattle.edge_model.specs.declared.effect.Effect.{Effect}
 use Rattle.edge_model.specs.declared.effect.Effect.TheVariants as effect
 use Rattle.edge_model.specs.declared.end_place.EndPlace.{EndPlace}
 use Rattle.edge_model.specs.EndPlaces.{end_named, ends_here, passes}
 use Rattle.edge_model.specs.Frame.{is_own}
 use Rattle.edge_model.specs.Hear.{acts_on, hears, hears_message, hears_messages, hears_on, hears_one, hears_pdu, octets_input}
-use Rattle.edge_model.specs.Mend.{advertises, advertises_wish, advertising, and_says, cause_number, each_end, forgets_downs, forgetting_wire, mends, mends_end, mends_local, mends_once, mends_status, mends_status_of, stays, tells_down, tells_downs, tells_new_status, tells_over, telling_status, wish, withdrawing, withdraws, withdraws_unless}
-use Rattle.edge_model.specs.Put.{Spoken, put_reply}
+use Rattle.edge_model.specs.Mend.{advertises, advertises_wish, advertising, and_says, cause_number, each_end, forgets_downs, forgetting_wire, is_new_choice, mends, mends_choice, mends_end, mends_local, mends_once, mends_status, mends_status_of, tells_down, tells_downs, tells_new_status, tells_over, telling_status, wish, withdrawing, withdraws, withdraws_unless}
+use Rattle.edge_model.specs.Put.{Spoken, put_reply, stays}
 use Rattle.edge_model.specs.Role.{down_at, status_to_tell}
 use Rattle.edge_model.specs.Session.{had_said, happens_with_ends, says}
 use Rattle.edge_model.specs.Signal.{end_of_fec, hears_mapping, hears_release, hears_status, hears_withdraw, with_end_changed, with_named}
 use Rattle.edge_model.specs.Spokes.{choosing}
-use Rattle.edge_model.specs.State.{EdgeState, Peering, end_at, has_end, is_on, with_addresses, with_bits, with_chosen, with_circuit, with_end, with_ends_beside, with_learned, with_next_label, with_peering, with_renewed, with_ticks, with_told_down, with_wire}
+use Rattle.edge_model.specs.State.{EdgeState, Peering, end_at, has_end, is_on, with_addresses, with_bits, with_chosen, with_circuit, with_end, with_ends_beside, with_learned, with_next_label, with_peering, with_priority, with_renewed, with_ticks, with_told_down, with_wire}
 use Rattle.edge_model.specs.Tick.{counted, forgetting, tick_input, ticks_sessions}
-use Rattle.edge_model.specs.Wire.{status_input, turned_wire, wire_input}
+use Rattle.edge_model.specs.Wire.{is_own_spoke, priority_input, status_input, turned_wire, wire_input}
+use Rattle.edge_model.specs.Withdraw.{tells_piece, tells_piece_by}
 use Rattle.edge_model.specs.Work.{Work, Answers, changes, gives, idles}
-use Rattle.edge_model.proofs.BridgeLemmas.{ForgetsOnly, forgets_downs_only, forgetting_only}
+use Rattle.edge_model.proofs.BridgeLemmas.{ForgetsOnly, forgets_downs_only, forgetting_only, withdrawing_only}
 use Rattle.edge_model.proofs.LocalLemmas.{and_left, and_right}
 use Rattle.edge_model.proofs.SessionLemmas.{GivesOnly, IsSessionWork, advice_works, any, are_all, connects_works, gives_none, gives_then, happens_with_ends_works, is_of_session, says_works}
 use Rattle.edge_model.proofs.WalkLemmas.{HearSteps, MendSteps, acts_on_holds, hears_holds, hears_mapping_holds, hears_message_holds, hears_messages_holds, hears_on_holds, hears_one_holds, hears_pdu_holds, hears_status_holds, hears_withdraw_holds, mends_holds, mends_once_holds, ticks_hold}
@@ -75,6 +78,7 @@ pub record IsSignalled (old new : EdgeState) : Type 0 where
   pub ticks : new.ticks ≡ old.ticks
   pub wires : new.wire_on ≡ old.wire_on
   pub bits : new.bits ≡ old.bits
+  pub priorities : new.priority ≡ old.priority
 
 -- work of signalling, with any peers
 pub record IsSignalWork (old new : Work) : Type 0 where
@@ -83,7 +87,7 @@ pub record IsSignalWork (old new : Work) : Type 0 where
   pub idle : new.idle ≡ old.idle
 
 signalled_not : (edge : EdgeState) → IsSignalled edge edge
-signalled_not edge = record { me = refl; circuits = refl; ticks = refl; wires = refl; bits = refl }
+signalled_not edge = record { me = refl; circuits = refl; ticks = refl; wires = refl; bits = refl; priorities = refl }
 
 signalled_then : (a b c : EdgeState) → IsSignalled a b → IsSignalled b c → IsSignalled a c
 signalled_then a b c first next = record {
@@ -92,6 +96,7 @@ signalled_then a b c first next = record {
   ticks = next.ticks ∙ first.ticks;
   wires = next.wires ∙ first.wires;
   bits = next.bits ∙ first.bits;
+  priorities = next.priorities ∙ first.priorities;
 }
 
 pub signals_not : (work : Work) → IsSignalWork work work
@@ -107,7 +112,7 @@ signals_then a b c first next = record {
 -- work of sessions is work of signalling
 pub session_signals : (a b : Work) → IsSessionWork any a b → IsSignalWork a b
 session_signals a b works = record {
-  edge = record { me = works.edge.me; circuits = works.edge.circuits; ticks = works.edge.ticks; wires = works.edge.wires; bits = works.edge.bits };
+  edge = record { me = works.edge.me; circuits = works.edge.circuits; ticks = works.edge.ticks; wires = works.edge.wires; bits = works.edge.bits; priorities = works.edge.priorities };
   effects = record { more = works.effects.more; given = works.effects.given; own = all_signalling works.effects.more works.effects.own };
   idle = works.idle;
 }
@@ -123,15 +128,15 @@ says_signals told peer message work = session_signals work (says told peer messa
 
 end_signals : (place : EndPlace) (end : EndState) (edge : EdgeState) → IsSignalled edge (with_end place end edge)
 unfolding with_end
-end_signals place end edge = record { me = refl; circuits = refl; ticks = refl; wires = refl; bits = refl }
+end_signals place end edge = record { me = refl; circuits = refl; ticks = refl; wires = refl; bits = refl; priorities = refl }
 
 advertising_signals : (place : EndPlace) (label : ℕ) (content : Told) (edge : EdgeState) → IsSignalled edge (advertising place label content edge)
 unfolding with_end with_next_label
-advertising_signals place label content edge = record { me = refl; circuits = refl; ticks = refl; wires = refl; bits = refl }
+advertising_signals place label content edge = record { me = refl; circuits = refl; ticks = refl; wires = refl; bits = refl; priorities = refl }
 
 beside_signals : (peer : EdgeId) (change : EndState → EndState) (edge : EdgeState) → IsSignalled edge (with_ends_beside peer change edge)
 unfolding with_ends_beside
-beside_signals peer change edge = record { me = refl; circuits = refl; ticks = refl; wires = refl; bits = refl }
+beside_signals peer change edge = record { me = refl; circuits = refl; ticks = refl; wires = refl; bits = refl; priorities = refl }
 
 changed_signals : (change : EndState → EndState) (place : Option EndPlace) (edge : EdgeState) → IsSignalled edge (with_end_changed change place edge)
 changed_signals change None edge = signalled_not edge
@@ -143,7 +148,7 @@ named_signals plan peer fec one all (Some pw_id) edge = changed_signals one (end
 
 held_signals : (peer : EdgeId) (kept : Option Peering) (edge : EdgeState) → IsSignalled edge (with_peering peer kept edge)
 unfolding with_peering
-held_signals peer kept edge = record { me = refl; circuits = refl; ticks = refl; wires = refl; bits = refl }
+held_signals peer kept edge = record { me = refl; circuits = refl; ticks = refl; wires = refl; bits = refl; priorities = refl }
 
 -- a change of the edge, and a message after it
 change_says_signals : (told : Answers) (peer : EdgeId) (message : ℕ → Message) (change : EdgeState → EdgeState) (work : Work) → IsSignalled work.edge (change work.edge)
@@ -166,7 +171,7 @@ tells_new_status_signals told place content status work =
 
 choosing_signals : (plan : Plan) (edge : EdgeState) → IsSignalled edge (choosing plan edge)
 unfolding with_chosen
-choosing_signals plan edge = record { me = refl; circuits = refl; ticks = refl; wires = refl; bits = refl }
+choosing_signals plan edge = record { me = refl; circuits = refl; ticks = refl; wires = refl; bits = refl; priorities = refl }
 
 pub chooses_signals : (plan : Plan) (work : Work) → IsSignalWork work (changes (choosing plan) work)
 chooses_signals plan work = changes_signals (choosing plan) work (choosing_signals plan work.edge)
@@ -174,7 +179,7 @@ chooses_signals plan work = changes_signals (choosing plan) work (choosing_signa
 pub tells_wire_signals : (wire : WireId) (down : Option Down) (work : Work) → IsSignalWork work (gives (effect.Wire wire down) (changes (with_told_down wire down) work))
 unfolding changes gives with_told_down
 tells_wire_signals wire down work = record {
-  edge = record { me = refl; circuits = refl; ticks = refl; wires = refl; bits = refl };
+  edge = record { me = refl; circuits = refl; ticks = refl; wires = refl; bits = refl; priorities = refl };
   effects = record { more = effect.Wire wire down ∷ []; given = refl; own = refl };
   idle = refl;
 }
@@ -221,6 +226,19 @@ mends_status_signals plan told place work = by (end_at work.edge place).local wh
   by (Advertised label content) = tells_over_signals told place content (status_to_tell plan work.edge place) content.status work
   by (Withdrawing label) = signals_not work
 
+pub tells_piece_signals : (told : Answers) (place : EndPlace) (addresses : List Mac) (work : Work) → IsSignalWork work (tells_piece told place addresses work).work
+tells_piece_signals told place addresses work = by (end_at work.edge place).local where
+  by : (local : LocalPart) → IsSignalWork work (tells_piece_by told place addresses local work).work
+  by (Idle declined) = signals_not work
+  by (Advertised label content) = says_signals told place.peer (mac_withdrawal place.pw_id addresses content) work
+  by (Withdrawing label) = signals_not work
+
+pub mends_choice_signals : (plan : Plan) (told : Answers) (before : ℕ → Option WireId) (place : EndPlace) (work : Work) → IsSignalWork work (mends_choice plan told before place work).work
+mends_choice_signals plan told before place work = by (is_new_choice before work.edge.chosen place.wire (wire_row plan place.wire)) where
+  by : (b : Bool) → IsSignalWork work (cond b (tells_piece told place [] work) (stays work)).work
+  by true = tells_piece_signals told place [] work
+  by false = signals_not work
+
 -- each end in turn
 pub each_end_signals : (mend : EndPlace → Work → Spoken) → ((place : EndPlace) (work : Work) → IsSignalWork work (mend place work).work) → (places : List EndPlace) (m : Spoken)
     → IsSignalWork m.work (each_end mend places m).work
@@ -247,7 +265,7 @@ tells_downs_signals plan (place ∷ places) work =
 -- work that forgets alone
 pub forget_signals : (a b : Work) → ForgetsOnly a b → IsSignalWork a b
 forget_signals a b only = record {
-  edge = record { me = only.edge.me; circuits = only.edge.circuits; ticks = only.edge.ticks; wires = only.edge.wires; bits = only.edge.bits };
+  edge = record { me = only.edge.me; circuits = only.edge.circuits; ticks = only.edge.ticks; wires = only.edge.wires; bits = only.edge.bits; priorities = only.edge.priorities };
   effects = record { more = []; given = only.effects ∙ sym (append-nil a.effects); own = refl };
   idle = only.idle;
 }
@@ -265,6 +283,7 @@ mend_signals plan told = record {
   withdraws = λ place label content work here is wished. withdraws_signals told place label content work;
   chooses = chooses_signals plan;
   tells_status = λ place label content last work here is status other. tells_new_status_signals told place content _ work;
+  tells_piece = λ place label content addresses work is. says_signals told place.peer (mac_withdrawal place.pw_id addresses content) work;
   forgets_wire = λ place why work here terminal is. forget_signals work (changes (forgetting_wire plan place.wire (wire_row plan place.wire)) work) (forgetting_only plan place.wire (wire_row plan place.wire) work);
   tells_down = λ place work here terminal other. tells_wire_signals place.wire (down_at plan work.edge place) work;
 }
@@ -283,6 +302,7 @@ hear_signals plan told = record {
       changes_signals (λ edge. with_end_changed (released label) (end_of_fec plan edge peer fec) edge) work (changed_signals (released label) (end_of_fec plan work.edge peer fec) work.edge);
   states = λ peer fec status work there.
       changes_signals (with_named plan peer fec (stated status) (group_stated fec.group status) fec.pw_id) work (named_signals plan peer fec (stated status) (group_stated fec.group status) fec.pw_id work.edge);
+  clears = λ service addresses from work. forget_signals work (changes (withdrawing_at service addresses from) work) (withdrawing_only service addresses from work);
 }
 
 pub mends_once_signals : (plan : Plan) (told : Answers) (work : Work) → IsSignalWork work (mends_once plan told work).work
@@ -472,4 +492,16 @@ pub status_signals : (plan : Plan) (told : Answers) (wire : WireId) (bits : ℕ)
 status_signals plan told wire bits work = by (ends_here plan work.edge.me wire && not (nat_eq bits (work.edge.bits wire.0))) where
   by : (b : Bool) → IsWireInput work (cond b (mends plan told (changes (with_bits wire bits) work)) (idles work))
   by true = bits_signal plan told wire bits work
+  by false = idles_wire work
+
+priority_signals_on : (plan : Plan) (told : Answers) (wire : WireId) (priority : ℕ) (work : Work) → IsWireInput work (mends plan told (changes (with_priority wire priority) work))
+unfolding changes with_priority
+priority_signals_on plan told wire priority work =
+    let signals = mends_signals plan told (changes (with_priority wire priority) work) in
+    record { me = signals.edge.me; circuits = signals.edge.circuits; ticks = signals.edge.ticks; effects = signals.effects }
+
+pub priority_signals : (plan : Plan) (told : Answers) (wire : WireId) (priority : ℕ) (work : Work) → IsWireInput work (priority_input plan told wire priority work)
+priority_signals plan told wire priority work = by (is_own_spoke work.edge.me (wire_row plan wire) && not (nat_eq priority (work.edge.priority wire.0))) where
+  by : (b : Bool) → IsWireInput work (cond b (mends plan told (changes (with_priority wire priority) work)) (idles work))
+  by true = priority_signals_on plan told wire priority work
   by false = idles_wire work

@@ -9,6 +9,7 @@ use Rattle.net_base.specs.declared.plan.places.WireId.{WireId}
 use Rattle.net_base.specs.declared.trace.arrival.Arrival.TheVariants as arrival
 use Rattle.net_base.specs.declared.trace.state_name.Reason.TheVariants as reason
 use Rattle.net_base.specs.plan.Paths.{are_joined}
+use Rattle.net_base.specs.plan.Places.{wire_row}
 use Rattle.net_base.specs.trace.Isolated.{inner_at}
 use Rattle.session_core.specs.Table.{Closed}
 use Rattle.edge_model.specs.Circuit.{circuit_input, is_same, turned}
@@ -19,8 +20,8 @@ use Rattle.edge_model.specs.EndPlaces.{ends_here, passes}
 use Rattle.edge_model.specs.Mend.{mends}
 use Rattle.edge_model.specs.Packet.{packet_input}
 use Rattle.edge_model.specs.Session.{happens_with_ends}
-use Rattle.edge_model.specs.State.{Peering, has_end, is_on, is_there, with_bits}
-use Rattle.edge_model.specs.Wire.{status_input, turned_wire, wire_input}
+use Rattle.edge_model.specs.State.{Peering, has_end, is_on, is_there, with_bits, with_priority}
+use Rattle.edge_model.specs.Wire.{is_own_spoke, priority_input, status_input, turned_wire, wire_input}
 use Rattle.edge_model.specs.Work.{Answers, Work, changes, idles}
 use Rattle.edge_model.proofs.BridgeLemmas.{packet_bridges, received_bridges}
 use Rattle.edge_model.proofs.SignalLemmas.{begun_signals, ended_signals, heard_signals, mends_signals}
@@ -88,6 +89,20 @@ status_still plan told wire bits work begins idle = by (ends_here plan work.edge
     by : (b : Bool) → (cond b set (idles work)).idle ≡ true → (cond b set (idles work)).edge ≡ work.edge
     by true e =
         let wrong : true ≡ false = sym e ∙ ((mends_signals plan told (changes (with_bits wire bits) work)).idle ∙ begins) in
+        absurd (cc (wrong))
+    by false e = refl
+
+pub priority_still : (plan : Plan) (told : Answers) (wire : WireId) (priority : ℕ) (work : Work)
+    → work.idle ≡ false → (priority_input plan told wire priority work).idle ≡ true → (priority_input plan told wire priority work).edge ≡ work.edge
+unfolding changes idles
+priority_still plan told wire priority work begins idle = by (is_own_spoke work.edge.me (wire_row plan wire) && not (nat_eq priority (work.edge.priority wire.0))) idle
+  where
+    set : Work
+    set = mends plan told (changes (with_priority wire priority) work)
+
+    by : (b : Bool) → (cond b set (idles work)).idle ≡ true → (cond b set (idles work)).edge ≡ work.edge
+    by true e =
+        let wrong : true ≡ false = sym e ∙ ((mends_signals plan told (changes (with_priority wire priority) work)).idle ∙ begins) in
         absurd (cc (wrong))
     by false e = refl
 

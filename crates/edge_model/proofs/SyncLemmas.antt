@@ -13,7 +13,7 @@ use Rattle.net_base.specs.declared.trace.down.Down.TheVariants as cause
 use Rattle.net_base.specs.declared.trace.state_name.Reason.TheVariants as reason
 use Rattle.net_base.specs.plan.Accepted.{IsChecked}
 use Rattle.net_base.specs.plan.Paths.{are_joined}
-use Rattle.net_base.specs.plan.Places.{circuit_row}
+use Rattle.net_base.specs.plan.Places.{circuit_row, wire_row}
 use Rattle.pw_signalling.specs.Down.{down}
 use Rattle.pw_signalling.specs.End.{EndState, fresh}
 use Rattle.session_core.specs.Table.{Closed}
@@ -21,29 +21,29 @@ use Rattle.edge_model.specs.Circuit.{circuit_input, is_same, turned}
 use Rattle.edge_model.specs.Connection.{connected_input, connects, connects_between, opened_with, restart_input}
 use Rattle.edge_model.specs.declared.end_place.EndPlace.{EndPlace}
 use Rattle.edge_model.specs.declared.input.Input.{Input}
-use Rattle.edge_model.specs.declared.input.Input.TheVariants.{Connected, Octets, Lost, Restart, Tick, Frame, Packet, Wire, Circuit, Status}
+use Rattle.edge_model.specs.declared.input.Input.TheVariants.{Connected, Octets, Lost, Restart, Tick, Frame, Packet, Wire, Circuit, Status, Priority}
 use Rattle.edge_model.specs.EndPlaces.{end_places, ends_here, is_end_of_wire, passes}
 use Rattle.edge_model.specs.Ends.{end_forwards, forwards_at, is_up, wire_end}
 use Rattle.edge_model.specs.Frame.{frame_input, is_own}
 use Rattle.edge_model.specs.Hear.{hears_on, octets_input}
-use Rattle.edge_model.specs.Mend.{cause_number, each_end, forgets_downs, mends, mends_end, mends_few, mends_once, mends_status, stays, tells_downs, then_changes}
+use Rattle.edge_model.specs.Mend.{cause_number, each_end, forgets_downs, mends, mends_choice, mends_end, mends_few, mends_once, mends_status, tells_downs, then_changes}
 use Rattle.edge_model.specs.Packet.{packet_input}
-use Rattle.edge_model.specs.Put.{Spoken}
+use Rattle.edge_model.specs.Put.{Spoken, stays}
 use Rattle.edge_model.specs.Role.{down_at, role_at}
 use Rattle.edge_model.specs.Session.{happens_with_ends}
 use Rattle.edge_model.specs.Spokes.{choosing}
-use Rattle.edge_model.specs.State.{EdgeState, Peering, empty_edge, has_end, is_on, with_bits, with_learned, without_ends, without_peerings}
+use Rattle.edge_model.specs.State.{EdgeState, Peering, empty_edge, has_end, is_on, with_bits, with_learned, with_priority, without_ends, without_peerings}
 use Rattle.edge_model.specs.Step.{edge_step}
 use Rattle.edge_model.specs.Synced.{InSync, IsSynced}
 use Rattle.edge_model.specs.Tick.{counted, forgetting, ticks_sessions}
-use Rattle.edge_model.specs.Wire.{turned_wire}
+use Rattle.edge_model.specs.Wire.{is_own_spoke, turned_wire}
 use Rattle.edge_model.specs.Work.{Work, Answers, changes, idles}
 use Rattle.edge_model.proofs.BridgeLemmas.{LearnsOnly, forgets_downs_only, frame_bridges, learns_is, packet_bridges}
 use Rattle.edge_model.proofs.LocalLemmas.{and_left, and_right}
 use Rattle.edge_model.proofs.MendedLemmas.{HaveTold, all_told, is_down_told}
 use Rattle.edge_model.proofs.OneEndLemmas.{has_one_end}
 use Rattle.edge_model.proofs.PlaceLemmas.{all-map, places_are}
-use Rattle.edge_model.proofs.SignalLemmas.{IsSignalWork, chooses_signals, each_end_signals, mends_end_signals, mends_status_signals}
+use Rattle.edge_model.proofs.SignalLemmas.{IsSignalWork, chooses_signals, each_end_signals, mends_choice_signals, mends_end_signals, mends_status_signals}
 
 -- ---- before the first input, and after a restart
 
@@ -96,8 +96,11 @@ round_synced plan told work checked = record { each = subst (λ (me : EdgeId). A
   second : Spoken
   second = each_end (mends_status plan told) places chosen
 
+  third : Spoken
+  third = each_end (mends_choice plan told work.edge.chosen) places second
+
   forgot : Work
-  forgot = forgets_downs plan places second.work
+  forgot = forgets_downs plan places third.work
 
   last : EdgeState
   last = (tells_downs plan places forgot).edge
@@ -114,8 +117,11 @@ round_synced plan told work checked = record { each = subst (λ (me : EdgeId). A
   three : IsSignalWork chosen.work second.work
   three = each_end_signals (mends_status plan told) (mends_status_signals plan told) places chosen
 
+  four : IsSignalWork second.work third.work
+  four = each_end_signals (mends_choice plan told work.edge.chosen) (mends_choice_signals plan told work.edge.chosen) places second
+
   same_me : last.me ≡ me
-  same_me = ap (λ (e : EdgeState). e.me) downs.is ∙ ((forgets_downs_only plan places second.work).edge.me ∙ (three.edge.me ∙ (two.edge.me ∙ one.edge.me)))
+  same_me = ap (λ (e : EdgeState). e.me) downs.is ∙ ((forgets_downs_only plan places third.work).edge.me ∙ (four.edge.me ∙ (three.edge.me ∙ (two.edge.me ∙ one.edge.me))))
 
   synced : AllByRecursion (IsSynced plan last) places
   synced = all-map (λ place. is_down_told plan last place ≡ true) (IsSynced plan last) places (λ place is. synced_of plan last place is) downs.so
@@ -195,6 +201,8 @@ module _ (plan : Plan) (told : Answers) (work : Work) (checked : IsChecked plan)
   input_synced (Circuit circuit on) = circuit_synced circuit on (circuit_row plan circuit)
   input_synced (Wire wire on) = mended_synced (passes plan work.edge.me wire && not (is_same on (work.edge.wire_on wire.0))) (changes (turned_wire wire on) work)
   input_synced (Status wire bits) = mended_synced (ends_here plan work.edge.me wire && not (nat_eq bits (work.edge.bits wire.0))) (changes (with_bits wire bits) work)
+  input_synced (Priority wire priority) =
+      mended_synced (is_own_spoke work.edge.me (wire_row plan wire) && not (nat_eq priority (work.edge.priority wire.0))) (changes (with_priority wire priority) work)
   input_synced input = idles_synced
 
 pub step_synced : (plan : Plan) (told : Answers) (input : Input) (work : Work) → IsChecked plan → InSync plan work.edge → InSync plan (edge_step plan told input work).edge

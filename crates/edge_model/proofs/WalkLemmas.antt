@@ -16,19 +16,24 @@ use Rattle.net_base.specs.declared.trace.drop_cause.DropCause.{DropCause}
 use Rattle.net_base.specs.declared.trace.drop_cause.DropCause.TheVariants as cause
 use Rattle.net_base.specs.declared.trace.state_name.Reason.TheVariants as reason
 use Rattle.net_base.specs.declared.trace.state_name.StateName.TheVariants as name
+use Rattle.net_base.specs.declared.values.mac.Mac.{Mac}
 use Rattle.net_base.specs.plan.Paths.{are_joined, offer_of}
 use Rattle.net_base.specs.plan.Places.{circuit_row, wire_row}
 use Rattle.net_base.specs.trace.Isolated.{inner_at}
 use Rattle.eth_encap.specs.declared.stack_entry.StackEntry.{StackEntry}
 use Rattle.eth_encap.specs.Packet.{entry_of}
+use Rattle.hvpls_spokes.specs.declared.edge_role.Role.{Role}
 use Rattle.hvpls_spokes.specs.declared.port.Port.{Port}
 use Rattle.hvpls_spokes.specs.declared.port.Port.TheVariants as port
 use Rattle.hvpls_spokes.specs.Port.{ports_of}
+use Rattle.hvpls_spokes.specs.Role as roles
 use Rattle.ldp_codec.specs.Decoded.{refusal_of}
 use Rattle.ldp_grammar.specs.declared.message.Message.{Message}
-use Rattle.ldp_grammar.specs.declared.message.Message.TheVariants.{Notification, LabelMapping, LabelWithdraw, LabelRelease}
+use Rattle.ldp_grammar.specs.declared.message.Message.TheVariants.{Notification, AddressWithdraw, LabelMapping, LabelWithdraw, LabelRelease}
 use Rattle.ldp_grammar.specs.declared.pdu.Pdu.{Pdu}
 use Rattle.ldp_grammar.specs.declared.status_code.StatusCode.{StatusCode}
+use Rattle.mac_withdraw.specs.Passing.{is_passed_to}
+use Rattle.mac_withdraw.specs.Pieces.{pieces_of}
 use Rattle.ldp_stream.specs.FrontOf.{Front, More, Got, Bad, front_of}
 use Rattle.session_core.specs.declared.reply.Reply.{Reply}
 use Rattle.session_core.specs.Table as table
@@ -43,27 +48,29 @@ use Rattle.pw_signalling.specs.declared.told.Told.{Told}
 use Rattle.pw_signalling.specs.End.{LocalPart, Idle, Advertised, Withdrawing}
 use Rattle.edge_model.specs.declared.effect.Effect.TheVariants as effect
 use Rattle.edge_model.specs.declared.end_place.EndPlace.{EndPlace}
-use Rattle.edge_model.specs.Content.{binding_in, mapping, pw_status_code, status_notification, withdrawal}
+use Rattle.edge_model.specs.Content.{binding_in, mac_withdrawal, mapping, pw_status_code, status_notification, withdrawal}
 use Rattle.edge_model.specs.Circuit.{circuit_input, is_same, turned}
+use Rattle.edge_model.specs.Clear.{clears_at, clears_by, clears_wire, hears_mac_withdraw, passes_on, tells_at, tells_by, withdrawing_at}
 use Rattle.edge_model.specs.Connection.{connected_input, connects_between, lost_input, opened_with, restart_input}
 use Rattle.edge_model.specs.declared.input.Input.{Input}
-use Rattle.edge_model.specs.declared.input.Input.TheVariants.{Connected, Octets, Lost, Restart, Tick, Frame, Packet, Wire, Circuit, Status}
+use Rattle.edge_model.specs.declared.input.Input.TheVariants.{Connected, Octets, Lost, Restart, Tick, Frame, Packet, Wire, Circuit, Status, Priority}
 use Rattle.edge_model.specs.EndPlaces.{end_places, ends_here, passes}
 use Rattle.edge_model.specs.Ends.{is_up, wire_end}
 use Rattle.edge_model.specs.Frame.{copies, copy_by, frame_input, hearing, is_own, port_at, received, targets_of}
 use Rattle.edge_model.specs.Hear.{acts, acts_on, advice_of, advises, hears, hears_few, hears_front, hears_message, hears_messages, hears_on, hears_one, hears_pdu, hears_within, holds, octets_input, was_up}
-use Rattle.edge_model.specs.Mend.{advertises, advertises_wish, advertising, and_says, cause_number, each_end, forgets_down, forgets_downs, forgetting_wire, mends, mends_end, mends_few, mends_local, mends_once, mends_status, mends_status_of, port_of_wire, stays, tells_down, tells_downs, tells_new_status, tells_over, telling_status, then_changes, wish, withdrawing, withdraws, withdraws_unless}
+use Rattle.edge_model.specs.Mend.{advertises, advertises_wish, advertising, and_says, cause_number, each_end, forgets_down, forgets_downs, forgetting_wire, is_new_choice, mends, mends_choice, mends_end, mends_few, mends_local, mends_once, mends_status, mends_status_of, port_of_wire, tells_down, tells_downs, tells_new_status, tells_over, telling_status, then_changes, wish, withdrawing, withdraws, withdraws_unless}
 use Rattle.edge_model.specs.Packet.{advertiser, alerted, alerts_end, behind_entry, bridges_frame, by_offer, enters, is_alert, is_channel, labelled, least_label, opened_by, owned, packet_input, switched, terminated, unpacked_at}
-use Rattle.edge_model.specs.Put.{Spoken, put_reply}
+use Rattle.edge_model.specs.Put.{Spoken, put_reply, stays}
 use Rattle.edge_model.specs.Role.{down_at, status_to_tell}
 use Rattle.edge_model.specs.Send.{drops, packet_of, sends, sends_copy, sends_under}
 use Rattle.edge_model.specs.Session.{had_said, happens_with_ends, says}
 use Rattle.edge_model.specs.Signal.{end_of_fec, hears_mapping, hears_release, hears_status, hears_withdraw, maps_to, releases_label, with_end_changed, with_named}
 use Rattle.edge_model.specs.Spokes.{choosing}
-use Rattle.edge_model.specs.State.{EdgeState, Peering, end_at, has_end, is_on, with_addresses, with_bits, with_chosen, with_end, with_next_label, with_peering, with_told_down}
+use Rattle.edge_model.specs.State.{EdgeState, Peering, end_at, has_end, is_on, with_addresses, with_bits, with_chosen, with_end, with_next_label, with_peering, with_priority, with_told_down}
 use Rattle.edge_model.specs.Step.{edge_step}
 use Rattle.edge_model.specs.Tick.{counted, forgetting, tick_input, ticks_sessions}
-use Rattle.edge_model.specs.Wire.{status_input, turned_wire, wire_input}
+use Rattle.edge_model.specs.Wire.{is_own_spoke, priority_input, status_input, turned_wire, wire_input}
+use Rattle.edge_model.specs.Withdraw.{tells_piece, tells_piece_by, tells_pieces}
 use Rattle.edge_model.specs.Work.{Work, Answers, changes, gives, idles}
 use Rattle.edge_model.proofs.SessionLemmas.{any, says_works}
 
@@ -93,6 +100,9 @@ pub record MendSteps (plan : Plan) (told : Answers) (R : Work → Work → Type 
   pub tells_status : (place : EndPlace) (label : ℕ) (content : Told) (last : PwStatus) (work : Work) → IsEndAt plan work.edge.me place
       → (end_at work.edge place).local ≡ Advertised label content → content.status ≡ Some last → nat_eq last.0 (status_to_tell plan work.edge place).0 ≡ false
       → R work (tells_new_status told place content (status_to_tell plan work.edge place) work).work
+  -- a neighbour is told that addresses are to be forgotten
+  pub tells_piece : (place : EndPlace) (label : ℕ) (content : Told) (addresses : List Mac) (work : Work) → (end_at work.edge place).local ≡ Advertised label content
+      → R work (says told place.peer (mac_withdrawal place.pw_id addresses content) work).work
   -- a wire that began to forward, or stopped, is told
   pub tells_down : (place : EndPlace) (work : Work) → IsEndAt plan work.edge.me place
       → place.terminal ≡ true → nat_eq (cause_number (work.edge.told_down place.wire.0)) (cause_number (down_at plan work.edge place)) ≡ false
@@ -189,6 +199,25 @@ module _ (plan : Plan) (told : Answers) (R : Work → Work → Type 0) (steps : 
   mends_status_walks : (place : EndPlace) (work : Work) → IsEndAt plan work.edge.me place → Walks R work (mends_status plan told place work).work
   mends_status_walks place work here = mends_status_of_walks place (end_at work.edge place).local work here refl
 
+  -- ---- a spoke that was chosen anew tells that addresses have moved
+
+  tells_piece_by_walks : (place : EndPlace) (addresses : List Mac) (local : LocalPart) (work : Work) → (end_at work.edge place).local ≡ local → Walks R work (tells_piece_by told place addresses local work).work
+  tells_piece_by_walks place addresses (Idle declined) work is = walks_not steps work
+  tells_piece_by_walks place addresses (Advertised label content) work is = record {
+    holds = steps.tells_piece place label content addresses work is;
+    me = (says_works told any place.peer (mac_withdrawal place.pw_id addresses content) work refl).edge.me;
+  }
+  tells_piece_by_walks place addresses (Withdrawing label) work is = walks_not steps work
+
+  tells_piece_walks : (place : EndPlace) (addresses : List Mac) (work : Work) → Walks R work (tells_piece told place addresses work).work
+  tells_piece_walks place addresses work = tells_piece_by_walks place addresses (end_at work.edge place).local work refl
+
+  mends_choice_walks : (chosen : ℕ → Option WireId) (place : EndPlace) (work : Work) → Walks R work (mends_choice plan told chosen place work).work
+  mends_choice_walks chosen place work = by (is_new_choice chosen work.edge.chosen place.wire (wire_row plan place.wire)) where
+    by : (b : Bool) → Walks R work (cond b (tells_piece told place [] work) (stays work)).work
+    by true = tells_piece_walks place [] work
+    by false = walks_not steps work
+
   -- ---- each end in turn
 
   each_end_walks : (mend : EndPlace → Work → Spoken) → ((place : EndPlace) (work : Work) → IsEndAt plan work.edge.me place → Walks R work (mend place work).work)
@@ -251,9 +280,13 @@ module _ (plan : Plan) (told : Answers) (R : Work → Work → Type 0) (steps : 
       walks_then steps work advertised.work chosen.work (each_end_walks (mends_end plan told) mends_end_walks [] places (stays work) refl) (chooses_walks advertised.work) in
       let second : Walks R work statuses.work =
       walks_then steps work chosen.work statuses.work first (each_end_walks (mends_status plan told) mends_status_walks [] places chosen (ap (end_places plan) first.me)) in
-      let forgotten : Work = forgets_downs plan places statuses.work in
-      let third : Walks R work forgotten = walks_then steps work statuses.work forgotten second (forgets_downs_walks [] places statuses.work (ap (end_places plan) second.me)) in
-      walks_then steps work forgotten (mends_once plan told work).work third (tells_downs_walks [] places forgotten (ap (end_places plan) third.me))
+      let moved : Spoken = each_end (mends_choice plan told work.edge.chosen) places statuses in
+      let third : Walks R work moved.work =
+      walks_then steps work statuses.work moved.work second
+      (each_end_walks (mends_choice plan told work.edge.chosen) (λ place now here. mends_choice_walks work.edge.chosen place now) [] places statuses (ap (end_places plan) second.me)) in
+      let forgotten : Work = forgets_downs plan places moved.work in
+      let fourth : Walks R work forgotten = walks_then steps work moved.work forgotten third (forgets_downs_walks [] places moved.work (ap (end_places plan) third.me)) in
+      walks_then steps work forgotten (mends_once plan told work).work fourth (tells_downs_walks [] places forgotten (ap (end_places plan) fourth.me))
 
   mends_few_walks : (n : ℕ) (work : Work) → Walks R work (mends_few plan told n work)
   mends_few_walks zero work = walks_not steps work
@@ -273,6 +306,9 @@ mends_once_holds plan told R steps work = (mends_once_walks plan told R steps wo
 pub mends_holds : (plan : Plan) (told : Answers) (R : Work → Work → Type 0) → MendSteps plan told R → (work : Work) → R work (mends plan told work)
 mends_holds plan told R steps work = (mends_few_walks plan told R steps (suc (length plan.edges)) work).holds
 
+pub tells_piece_holds : (plan : Plan) (told : Answers) (R : Work → Work → Type 0) → MendSteps plan told R → (place : EndPlace) (addresses : List Mac) (work : Work) → R work (tells_piece told place addresses work).work
+tells_piece_holds plan told R steps place addresses work = (tells_piece_walks plan told R steps place addresses work).holds
+
 -- ---- an edge hears
 
 -- something holds of each step of hearing
@@ -291,6 +327,8 @@ pub record HearSteps (plan : Plan) (told : Answers) (R : Work → Work → Type 
   pub released : (peer : EdgeId) (fec : PwFec) (label : Option ℕ) (work : Work) → has_end work.edge peer ≡ true → R work (hears_release plan peer fec label work)
   pub states : (peer : EdgeId) (fec : PwFec) (status : PwStatus) (work : Work) → has_end work.edge peer ≡ true
       → R work (changes (with_named plan peer fec (stated status) (group_stated fec.group status) fec.pw_id) work)
+  -- what a MAC withdraw by a port names is forgotten
+  pub clears : (service : ServiceId) (addresses : List Mac) (from : ℕ) (work : Work) → R work (changes (withdrawing_at service addresses from) work)
 
 module _ (plan : Plan) (told : Answers) (R : Work → Work → Type 0) (steps : HearSteps plan told R) where
   pub advises_holds : (peer : EdgeId) (advice : Option Reply) (work : Work) → R work (advises told peer advice work)
@@ -322,11 +360,67 @@ module _ (plan : Plan) (told : Answers) (R : Work → Work → Type 0) (steps : 
     by true = steps.states peer fec status work there
     by false = steps.mend.same work
 
+  -- ---- a MAC withdraw
+
+  tells_pieces_hold : (place : EndPlace) (pieces : List (List Mac)) (work : Work) → R work (tells_pieces told place pieces work)
+  tells_pieces_hold place [] work = steps.mend.same work
+  tells_pieces_hold place (piece ∷ pieces) work =
+      let first : Work = (tells_piece told place piece work).work in
+      steps.mend.joined work first (tells_pieces told place pieces first) (tells_piece_holds plan told R steps.mend place piece work) (tells_pieces_hold place pieces first)
+
+  tells_by_holds : (addresses : List Mac) (place : Option EndPlace) (work : Work) → R work (tells_by told addresses place work)
+  tells_by_holds addresses None work = steps.mend.same work
+  tells_by_holds addresses (Some place) work = tells_pieces_hold place (pieces_of addresses) work
+
+  tells_at_holds : (addresses : List Mac) (x : Port) (b : Bool) (work : Work) → R work (cond b (tells_at plan told addresses x work) work)
+  tells_at_holds addresses x false work = steps.mend.same work
+  tells_at_holds addresses (port.Circuit circuit) true work = steps.mend.same work
+  tells_at_holds addresses (port.Mesh wire) true work = tells_by_holds addresses (wire_end plan work.edge.me wire) work
+  tells_at_holds addresses (port.Spoke wire) true work = tells_by_holds addresses (wire_end plan work.edge.me wire) work
+
+  tells_ports_hold : (passed : ℕ → Bool) (addresses : List Mac) (p : ℕ) (ports : List Port) (work : Work) → R work (copies passed (tells_at plan told addresses) p ports work)
+  tells_ports_hold passed addresses p [] work = steps.mend.same work
+  tells_ports_hold passed addresses p (x ∷ ports) work =
+      let first : Work = cond (passed p) (tells_at plan told addresses x work) work in
+      steps.mend.joined work first (copies passed (tells_at plan told addresses) (p + 1) ports first) (tells_at_holds addresses x (passed p) work)
+      (tells_ports_hold passed addresses (p + 1) ports first)
+
+  passes_on_holds : (addresses : List Mac) (service : ServiceId) (from : ℕ) (role : Option Role) (work : Work) → R work (passes_on plan told addresses service from role work)
+  passes_on_holds addresses service from None work = steps.mend.same work
+  passes_on_holds addresses service from (Some role) work =
+      let ports : List Port = ports_of plan service work.edge.me in
+      tells_ports_hold (is_passed_to role ports from) addresses 0 ports work
+
+  clears_at_holds : (addresses : List Mac) (service : ServiceId) (from : Option ℕ) (work : Work) → R work (clears_at plan told addresses service from work)
+  clears_at_holds addresses service None work = steps.mend.same work
+  clears_at_holds addresses service (Some from) work =
+      let cleared : Work = changes (withdrawing_at service addresses from) work in
+      let role : Option Role = roles.role_of plan service work.edge.me in
+      steps.mend.joined work cleared (passes_on plan told addresses service from role cleared) (steps.clears service addresses from work)
+      (passes_on_holds addresses service from role cleared)
+
+  clears_wire_holds : (addresses : List Mac) (place : EndPlace) (row : Option WirePlan) (work : Work) → R work (clears_wire plan told addresses place row work)
+  clears_wire_holds addresses place None work = steps.mend.same work
+  clears_wire_holds addresses place (Some row) work = clears_at_holds addresses row.service (port_of_wire plan work.edge place.wire row) work
+
+  clears_by_holds : (addresses : List Mac) (place : Option EndPlace) (work : Work) → R work (clears_by plan told addresses place work)
+  clears_by_holds addresses None work = steps.mend.same work
+  clears_by_holds addresses (Some place) work = by place.terminal where
+    by : (b : Bool) → R work (cond b (clears_wire plan told addresses place (wire_row plan place.wire) work) work)
+    by true = clears_wire_holds addresses place (wire_row plan place.wire) work
+    by false = steps.mend.same work
+
+  pub hears_mac_withdraw_holds : (peer : EdgeId) (fec : Option PwFec) (addresses : Option (List Mac)) (work : Work) → R work (hears_mac_withdraw plan told peer fec addresses work)
+  hears_mac_withdraw_holds peer None addresses work = steps.mend.same work
+  hears_mac_withdraw_holds peer (Some fec) None work = steps.mend.same work
+  hears_mac_withdraw_holds peer (Some fec) (Some addresses) work = clears_by_holds addresses (end_of_fec plan work.edge peer fec) work
+
   pub acts_on_holds : (peer : EdgeId) (message : Message) (work : Work) → has_end work.edge peer ≡ true → R work (acts_on plan told peer message work)
   acts_on_holds peer (LabelMapping id fec label status points) work there = hears_mapping_holds peer fec label status points work there
   acts_on_holds peer (LabelWithdraw id fec label) work there = hears_withdraw_holds peer fec label work there
   acts_on_holds peer (LabelRelease id fec label) work there = steps.released peer fec label work there
   acts_on_holds peer (Notification id code status fec) work there = hears_status_holds peer code status fec work there
+  acts_on_holds peer (AddressWithdraw id addresses fec macs) work there = hears_mac_withdraw_holds peer fec macs work
   acts_on_holds peer message work there = advises_holds peer (advice_of message) work
 
   -- ---- messages
@@ -417,6 +511,7 @@ pub record InputSteps (plan : Plan) (told : Answers) (R : Work → Work → Type
   pub turns : (circuit : CircuitId) (row : CircuitPlan) (on : Bool) (work : Work) → R work (changes (turned plan circuit row on) work)
   pub turns_wire : (wire : WireId) (on : Bool) (work : Work) → R work (changes (turned_wire wire on) work)
   pub sets_bits : (wire : WireId) (bits : ℕ) (work : Work) → R work (changes (with_bits wire bits) work)
+  pub sets_priority : (wire : WireId) (priority : ℕ) (work : Work) → R work (changes (with_priority wire priority) work)
   -- frames
   pub learns : (service : ServiceId) (frame : List ℕ) (arrival : ℕ) (work : Work) → R work (changes (hearing service frame arrival) work)
   pub leaves : (circuit : CircuitId) (octets : List ℕ) (work : Work) → R work (gives (effect.Left circuit octets) work)
@@ -584,6 +679,12 @@ module _ (plan : Plan) (told : Answers) (R : Work → Work → Type 0) (steps : 
     by true = changed_holds (with_bits wire bits) work (steps.sets_bits wire bits work)
     by false = steps.idles work
 
+  pub priority_holds : (wire : WireId) (priority : ℕ) (work : Work) → R work (priority_input plan told wire priority work)
+  priority_holds wire priority work = by (is_own_spoke work.edge.me (wire_row plan wire) && not (nat_eq priority (work.edge.priority wire.0))) where
+    by : (b : Bool) → R work (cond b (mends plan told (changes (with_priority wire priority) work)) (idles work))
+    by true = changed_holds (with_priority wire priority) work (steps.sets_priority wire priority work)
+    by false = steps.idles work
+
   pub step_holds : (input : Input) (work : Work) → R work (edge_step plan told input work)
   step_holds (Connected peer) work = connected_holds peer work
   step_holds (Octets peer bytes) work = octets_hold peer bytes.now (work.edge.peering peer.0) work
@@ -595,4 +696,5 @@ module _ (plan : Plan) (told : Answers) (R : Work → Work → Type 0) (steps : 
   step_holds (Circuit circuit on) work = circuit_holds circuit on (circuit_row plan circuit) work
   step_holds (Wire wire on) work = wire_holds wire on work
   step_holds (Status wire bits) work = status_holds wire bits work
+  step_holds (Priority wire priority) work = priority_holds wire priority work
   step_holds input work = steps.idles work

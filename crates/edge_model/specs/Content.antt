@@ -1,12 +1,13 @@
 -- What is told of a pseudowire, and how messages carry it (RFC 8077 section 6).
-use Rattle.std.specs.Prelude.{ℕ, Bool, true, List, [], Option, Some, None, option_map, if◌then◌else◌}
+use Rattle.std.specs.Prelude.{ℕ, Bool, List, [], Option, Some, None, option_map, if◌then◌else◌}
 use Rattle.net_base.specs.declared.plan.offer.Offer.{Offer}
+use Rattle.net_base.specs.declared.values.mac.Mac.{Mac}
 use Rattle.pw_tlvs.specs.declared.if_params.IfParams.{IfParams}
 use Rattle.pw_tlvs.specs.declared.point.Point.{Point}
 use Rattle.pw_tlvs.specs.declared.pw_fec.PwFec.{PwFec}
 use Rattle.pw_tlvs.specs.declared.pw_status.PwStatus.{PwStatus}
 use Rattle.ldp_grammar.specs.declared.message.Message.{Message}
-use Rattle.ldp_grammar.specs.declared.message.Message.TheVariants.{Notification, LabelMapping, LabelWithdraw, LabelRelease}
+use Rattle.ldp_grammar.specs.declared.message.Message.TheVariants.{Notification, AddressWithdraw, LabelMapping, LabelWithdraw, LabelRelease}
 use Rattle.ldp_grammar.specs.declared.status_code.StatusCode.{StatusCode}
 use Rattle.pw_signalling.specs.declared.binding.Binding.{Binding}
 use Rattle.pw_signalling.specs.declared.told.Told.{Told}
@@ -98,3 +99,7 @@ pw_status_notice = record { fatal = Bool.false; forward = Bool.false; code = pw_
 
 abbrev pub status_notification : ℕ → PwStatus → Told → ℕ → Message
 status_notification pw_id status told id = Notification id pw_status_notice (Some status) (Some (bare_fec_of pw_id told))
+
+-- a MAC withdraw of these addresses, where none are named of all that were learned elsewhere (RFC 4762 section 6.2)
+abbrev pub mac_withdrawal : ℕ → List Mac → Told → ℕ → Message
+mac_withdrawal pw_id addresses told id = AddressWithdraw id None (Some (bare_fec_of pw_id told)) (Some addresses)

@@ -1,5 +1,5 @@
 -- Where an edge has ends of pseudowires, by the plan: in the order of the wires, and of the segments of each.
-use Rattle.std.specs.Prelude.{◌==◌, ◌&&◌, ◌||◌, ◌+◌, ◌++◌, ℕ, Bool, List, [], ◌∷◌, Option, Some, None, if◌then◌else◌}
+use Rattle.std.specs.Prelude.{◌==◌, ◌&&◌, ◌||◌, ◌+◌, ◌++◌, ℕ, Bool, List, [], ◌∷◌, Option, if◌then◌else◌}
 use Rattle.std.specs.List.{find, list_any}
 use Rattle.net_base.specs.declared.plan.Plan.{Plan}
 use Rattle.net_base.specs.declared.plan.places.EdgeId.{EdgeId}

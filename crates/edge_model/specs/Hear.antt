@@ -4,7 +4,7 @@ use Rattle.std.specs.Prelude.{◌==◌, ◌++◌, ℕ, Bool, true, false, zero, 
 use Rattle.net_base.specs.declared.plan.Plan.{Plan}
 use Rattle.net_base.specs.declared.plan.places.EdgeId.{EdgeId}
 use Rattle.ldp_grammar.specs.declared.message.Message.{Message}
-use Rattle.ldp_grammar.specs.declared.message.Message.TheVariants.{Notification, LabelMapping, LabelWithdraw, LabelRelease, Other, Unprocessed}
+use Rattle.ldp_grammar.specs.declared.message.Message.TheVariants.{Notification, AddressWithdraw, LabelMapping, LabelWithdraw, LabelRelease, Other, Unprocessed}
 use Rattle.ldp_grammar.specs.declared.message_kind.MessageKind.TheVariants as kind
 use Rattle.ldp_grammar.specs.declared.why.Why.{Why}
 use Rattle.ldp_grammar.specs.declared.why.Why.TheVariants.{UnknownTlv, Missing, UnknownFec}
@@ -18,6 +18,7 @@ use Rattle.session_core.specs.declared.reply.Reply.TheVariants.{Notice}
 use Rattle.session_core.specs.Phase.{Phase}
 use Rattle.session_core.specs.Phase as phase
 use Rattle.session_core.specs.Table.{Heard, Received, Refused}
+use Rattle.edge_model.specs.Clear.{hears_mac_withdraw}
 use Rattle.edge_model.specs.Mend.{mends}
 use Rattle.edge_model.specs.Put.{put_reply}
 use Rattle.edge_model.specs.Session.{had_said, happens_with_ends}
@@ -61,12 +62,13 @@ abbrev pub advises : Answers → EdgeId → Option Reply → Work → Work
 advises told peer None work = work
 advises told peer (Some reply) work = (had_said peer (put_reply told peer reply work)).work
 
--- what an edge does on a message, one definition each. What it does of addresses is to come
+-- what an edge does on a message, one definition each
 abbrev pub acts_on : Plan → Answers → EdgeId → Message → Work → Work
 acts_on plan told peer (LabelMapping id fec label status points) work = hears_mapping plan told peer fec label status points work
 acts_on plan told peer (LabelWithdraw id fec label) work = hears_withdraw plan told peer fec label work
 acts_on plan told peer (LabelRelease id fec label) work = hears_release plan peer fec label work
 acts_on plan told peer (Notification id code status fec) work = hears_status plan peer code status fec work
+acts_on plan told peer (AddressWithdraw id addresses fec macs) work = hears_mac_withdraw plan told peer fec macs work
 acts_on plan told peer message work = advises told peer (advice_of message) work
 
 -- a session that was up, and still is, acts on a message

@@ -1,4 +1,5 @@
 pub mod Circuit
+pub mod Clear
 pub mod Connection
 pub mod Content
 pub mod Copies
@@ -21,4 +22,5 @@ pub mod Step
 pub mod Synced
 pub mod Tick
 pub mod Wire
+pub mod Withdraw
 pub mod Work

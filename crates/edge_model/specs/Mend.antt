@@ -11,14 +11,13 @@ use Rattle.net_base.specs.plan.Paths.{offer_of}
 use Rattle.net_base.specs.plan.Places.{wire_row}
 use Rattle.hvpls_spokes.specs.Port.{is_wire_port, ports_of}
 use Rattle.label_space.specs.Labels.{numbers_end}
-use Rattle.ldp_grammar.specs.declared.message.Message.{Message}
 use Rattle.pw_tlvs.specs.declared.pw_status.PwStatus.{PwStatus}
 use Rattle.pw_status.specs.declared.method.Method.{Method}
 use Rattle.pw_status.specs.declared.method.Method.TheVariants as method
 use Rattle.pw_status.specs.Status.{method_by}
 use Rattle.pw_signalling.specs.declared.binding.Binding.{Binding}
 use Rattle.pw_signalling.specs.declared.told.Told.{Told}
-use Rattle.pw_signalling.specs.End.{EndState, LocalPart, Idle, Advertised, Withdrawing}
+use Rattle.pw_signalling.specs.End.{LocalPart, Idle, Advertised, Withdrawing}
 use Rattle.pw_signalling.specs.Rows.{advertised, telling, withdrawn}
 use Rattle.session_core.specs.Phase.{Phase}
 use Rattle.session_core.specs.Phase as phase
@@ -26,11 +25,12 @@ use Rattle.edge_model.specs.declared.effect.Effect.TheVariants.{Wire}
 use Rattle.edge_model.specs.declared.end_place.EndPlace.{EndPlace}
 use Rattle.edge_model.specs.Content.{content_of, mapping, status_notification, withdrawal}
 use Rattle.edge_model.specs.EndPlaces.{end_places}
-use Rattle.edge_model.specs.Put.{Spoken}
-use Rattle.edge_model.specs.Role.{down_at, status_to_tell}
+use Rattle.edge_model.specs.Put.{Spoken, stays}
+use Rattle.edge_model.specs.Role.{down_at, is_chosen, status_to_tell}
 use Rattle.edge_model.specs.Session.{says}
 use Rattle.edge_model.specs.Spokes.{choosing}
 use Rattle.edge_model.specs.State.{EdgeState, Peering, addresses_of, end_at, with_addresses, with_end, with_next_label, with_told_down, without_port}
+use Rattle.edge_model.specs.Withdraw.{tells_piece}
 use Rattle.edge_model.specs.Work.{Work, Answers, changes, gives}
 
 -- one thing after another at an edge that mends: a message that the link did not take stays known
@@ -45,10 +45,6 @@ each_end mend (place ∷ places) m = each_end mend places (and_says m (mend plac
 -- the edge changes, and says nothing
 abbrev pub then_changes : (EdgeState → EdgeState) → Spoken → Spoken
 then_changes change said = record { work = changes change said.work; failed = said.failed }
-
--- nothing is put
-abbrev pub stays : Work → Spoken
-stays work = record { work = work; failed = false }
 
 -- ---- what an end should tell
 
@@ -148,6 +144,18 @@ mends_status_of plan told place local work = stays work
 abbrev pub mends_status : Plan → Answers → EndPlace → Work → Spoken
 mends_status plan told place work = mends_status_of plan told place (end_at work.edge place).local work
 
+-- ---- a spoke that was chosen anew tells its core edge that addresses have moved (RFC 4762 section 6.2)
+
+-- the spoke is the one that is chosen now, and was not before
+abbrev pub is_new_choice : (before now : ℕ → Option WireId) → WireId → Option WirePlan → Bool
+is_new_choice before now wire None = false
+is_new_choice before now wire (Some row) = is_chosen now wire row && not (is_chosen before wire row)
+
+-- an empty list: all is meant that was not learned by this spoke
+abbrev pub mends_choice : Plan → Answers → (before : ℕ → Option WireId) → EndPlace → Work → Spoken
+mends_choice plan told before place work =
+    if is_new_choice before work.edge.chosen place.wire (wire_row plan place.wire) then tells_piece told place [] work else stays work
+
 -- ---- what was learned at a wire that does not forward is forgotten
 
 -- the port of a wire of the edge, which has this row
@@ -195,15 +203,17 @@ tells_downs plan [] work = work
 tells_downs plan (place ∷ places) work =
     tells_downs plan places (if place.terminal then tells_down place (down_at plan work.edge place) work else work)
 
--- ---- all steps: a spoke edge chooses after its ends were advertised and withdrawn, and before it tells statuses. What was learned
--- at a spoke that is chosen no longer is forgotten with what was learned at each wire that does not forward
+-- ---- all steps: a spoke edge chooses after its ends were advertised and withdrawn, and before it tells statuses; then it withdraws
+-- addresses on each spoke that it has chosen anew. What was learned at a spoke that is chosen no longer is forgotten with what was
+-- learned at each wire that does not forward
 
 abbrev pub mends_once : Plan → Answers → Work → Spoken
 mends_once plan told work =
     let places : List EndPlace = end_places plan work.edge.me in
     let chosen : Spoken = then_changes (choosing plan) (each_end (mends_end plan told) places (stays work)) in
     let statuses : Spoken = each_end (mends_status plan told) places chosen in
-    record { work = tells_downs plan places (forgets_downs plan places statuses.work); failed = statuses.failed }
+    let moved : Spoken = each_end (mends_choice plan told work.edge.chosen) places statuses in
+    record { work = tells_downs plan places (forgets_downs plan places moved.work); failed = moved.failed }
 
 -- where the link did not take a message the edge mends again. Each such message ends a session, so there are no more rounds than
 -- edges

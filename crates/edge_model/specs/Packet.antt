@@ -1,11 +1,10 @@
 -- A packet comes from a neighbour: five steps, of which the first one that applies decides (RFC 3032 section 2.1, RFC 4448
 -- section 4, RFC 5085 section 5).
-use Rattle.std.specs.Prelude.{◌==◌, ◌&&◌, ◌/◌, not, nat_lt, ℕ, Bool, true, false, List, length, drop, slice_index, Option, Some, None, Result, Ok, Err, position, if◌then◌else◌}
+use Rattle.std.specs.Prelude.{◌==◌, ◌&&◌, ◌/◌, not, nat_lt, ℕ, Bool, true, false, List, length, drop, slice_index, Option, Some, None, Result, Ok, Err, if◌then◌else◌}
 use Rattle.std.specs.List.{find}
 use Rattle.net_base.specs.declared.plan.Plan.{Plan}
 use Rattle.net_base.specs.declared.plan.offer.Offer.{Offer}
 use Rattle.net_base.specs.declared.plan.places.EdgeId.{EdgeId}
-use Rattle.net_base.specs.declared.plan.places.WireId.{WireId}
 use Rattle.net_base.specs.declared.plan.wire_plan.WirePlan.{WirePlan}
 use Rattle.net_base.specs.declared.trace.arrival.Arrival.TheVariants as arrival
 use Rattle.net_base.specs.declared.trace.drop_cause.DropCause.{DropCause}

@@ -16,6 +16,10 @@ pub record Spoken : Type 0 where
   pub work : Work
   pub failed : Bool
 
+-- nothing is put
+abbrev pub stays : Work → Spoken
+stays work = record { work = work; failed = false }
+
 -- the platform's label space of a router (RFC 5036 section 2.2.2)
 abbrev pub platform_of : Addr → LdpId
 platform_of router = record { router = router; space = 0 }

@@ -1,6 +1,6 @@
 -- What an edge makes of the messages about pseudowires that it hears in a session that is up: one definition a message (RFC
 -- 5036 sections 3.5.7, 3.5.10 and 3.5.11, RFC 8077 sections 6 and 6.3.2).
-use Rattle.std.specs.Prelude.{◌==◌, ◌&&◌, ℕ, List, Option, Some, None, option_and_then, if◌then◌else◌}
+use Rattle.std.specs.Prelude.{◌==◌, ℕ, List, Option, Some, None, option_and_then, if◌then◌else◌}
 use Rattle.net_base.specs.declared.plan.Plan.{Plan}
 use Rattle.net_base.specs.declared.plan.places.EdgeId.{EdgeId}
 use Rattle.pw_tlvs.specs.declared.point.Point.{Point}

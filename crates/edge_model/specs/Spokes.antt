@@ -1,5 +1,5 @@
 -- A spoke edge chooses among its spokes of a service (RFC 6870, RFC 4762 section 10.2.1).
-use Rattle.std.specs.Prelude.{is_some, not, ℕ, Bool, false, List, Option, Some, None, map, filter, option_and_then, option_map, slice_get}
+use Rattle.std.specs.Prelude.{is_some, not, Bool, false, List, Option, Some, None, map, filter, option_and_then, option_map, slice_get}
 use Rattle.net_base.specs.declared.plan.Plan.{Plan}
 use Rattle.net_base.specs.declared.plan.places.EdgeId.{EdgeId}
 use Rattle.net_base.specs.declared.plan.places.ServiceId.{ServiceId}
@@ -28,16 +28,12 @@ spoke_places plan me service = filter (λ place. is_spoke_row service me (wire_r
 abbrev pub is_usable : EdgeState → EndPlace → Bool
 is_usable edge place = not (is_some (down role.Chosen (edge.bits place.wire.0) (end_at edge place)))
 
-abbrev pub priority_in : Option WirePlan → ℕ
-priority_in None = 0
-priority_in (Some row) = row.priority
-
 -- a spoke as the choice sees it
-abbrev pub spoke_at : Plan → EdgeState → EndPlace → Spoke
-spoke_at plan edge place = record { priority = priority_in (wire_row plan place.wire); usable = is_usable edge place }
+abbrev pub spoke_at : EdgeState → EndPlace → Spoke
+spoke_at edge place = record { priority = edge.priority place.wire.0; usable = is_usable edge place }
 
 abbrev pub spokes_of : Plan → EdgeState → ServiceId → List Spoke
-spokes_of plan edge service = map (spoke_at plan edge) (spoke_places plan edge.me service)
+spokes_of plan edge service = map (spoke_at edge) (spoke_places plan edge.me service)
 
 -- the wire of the spoke that the edge chooses for a service: of the usable ones the first with the least priority number
 abbrev pub choice : Plan → EdgeState → ServiceId → Option WireId

@@ -2,6 +2,7 @@
 use Rattle.std.specs.Prelude.{◌==◌, ◌+◌, ◌^◌, ◌-◌, filter, not, nat_lt, ℕ, Bool, true, false, List, [], Option, Some, None, slice_get, if◌then◌else◌}
 use Rattle.net_base.specs.declared.plan.Plan.{Plan}
 use Rattle.net_base.specs.declared.plan.edge_plan.EdgePlan.{EdgePlan}
+use Rattle.net_base.specs.declared.plan.wire_plan.WirePlan.{WirePlan}
 use Rattle.net_base.specs.declared.plan.places.EdgeId.{EdgeId}
 use Rattle.net_base.specs.declared.plan.places.ServiceId.{ServiceId}
 use Rattle.net_base.specs.declared.plan.places.CircuitId.{CircuitId}
@@ -44,6 +45,8 @@ pub record EdgeState : Type 0 where
   -- why its end of each wire does not forward, as it was told last; an end of which nothing was told counts as one that
   -- advertises no label
   pub told_down : ℕ → Option Down
+  -- the priority number of its spoke on each wire (RFC 6870)
+  pub priority : ℕ → ℕ
   -- the wire of the spoke that it has chosen for each service (RFC 6870)
   pub chosen : ℕ → Option WireId
   -- the label that it gives next (RFC 3032 section 2.1)
@@ -57,8 +60,13 @@ label_of (Some row) = row.first_label
 abbrev pub first_label : Plan → EdgeId → ℕ
 first_label plan me = label_of (slice_get plan.edges me.0)
 
--- before the first input: every circuit and every wire is on, nothing is learned, no connection stands, nothing was told, and no
--- spoke is chosen
+-- the priority number of a spoke by the plan
+abbrev pub priority_in : Option WirePlan → ℕ
+priority_in None = 0
+priority_in (Some row) = row.priority
+
+-- before the first input: every circuit and every wire is on, nothing is learned, no connection stands, nothing was told, spokes
+-- have the priorities of the plan, and none is chosen
 abbrev pub empty_edge : Plan → EdgeId → EdgeState
 empty_edge plan me = record {
   me = me;
@@ -70,6 +78,7 @@ empty_edge plan me = record {
   bits = λ wire. 0;
   ends = λ wire peer. fresh;
   told_down = λ wire. Some NoLocal;
+  priority = λ wire. priority_in (slice_get plan.wires wire);
   chosen = λ service. None;
   next_label = first_label plan me;
 }
@@ -154,6 +163,10 @@ without_ends edge = record edge { ends = λ wire peer. fresh; told_down = λ wir
 -- why the end of a wire does not forward was told
 unfoldable pub with_told_down : WireId → Option Down → EdgeState → EdgeState
 with_told_down wire down edge = record edge { told_down = put_at edge.told_down wire.0 down }
+
+-- another priority number of the spoke on one wire
+unfoldable pub with_priority : WireId → ℕ → EdgeState → EdgeState
+with_priority wire priority edge = record edge { priority = put_at edge.priority wire.0 priority }
 
 -- other spokes are chosen
 unfoldable pub with_chosen : (ℕ → Option WireId) → EdgeState → EdgeState

@@ -2,14 +2,14 @@
 use Rattle.net_base.specs.declared.plan.Plan.{Plan}
 use Rattle.net_base.specs.plan.Places.{circuit_row}
 use Rattle.edge_model.specs.declared.input.Input.{Input}
-use Rattle.edge_model.specs.declared.input.Input.TheVariants.{Connected, Octets, Lost, Restart, Tick, Frame, Packet, Wire, Circuit, Status}
+use Rattle.edge_model.specs.declared.input.Input.TheVariants.{Connected, Octets, Lost, Restart, Tick, Frame, Packet, Wire, Circuit, Status, Priority}
 use Rattle.edge_model.specs.Circuit.{circuit_input}
 use Rattle.edge_model.specs.Connection.{connected_input, lost_input, restart_input}
 use Rattle.edge_model.specs.Frame.{frame_input}
 use Rattle.edge_model.specs.Hear.{octets_input}
 use Rattle.edge_model.specs.Packet.{packet_input}
 use Rattle.edge_model.specs.Tick.{tick_input}
-use Rattle.edge_model.specs.Wire.{status_input, wire_input}
+use Rattle.edge_model.specs.Wire.{priority_input, status_input, wire_input}
 use Rattle.edge_model.specs.Work.{Work, Answers, idles}
 
 -- one definition an input. Those that are to come do not apply yet
@@ -24,4 +24,5 @@ edge_step plan told (Packet bytes) work = packet_input plan told bytes.now work
 edge_step plan told (Circuit circuit on) work = circuit_input plan told circuit on (circuit_row plan circuit) work
 edge_step plan told (Wire wire on) work = wire_input plan told wire on work
 edge_step plan told (Status wire bits) work = status_input plan told wire bits work
+edge_step plan told (Priority wire priority) work = priority_input plan told wire priority work
 edge_step plan told input work = idles work

@@ -8,3 +8,4 @@ mod frames;
 mod packets;
 mod pseudowires;
 mod sessions;
+mod withdraws;

@@ -4,7 +4,7 @@ use Rattle.net_base.specs.declared.plan.Plan.{Plan}
 use Rattle.net_base.specs.declared.plan.places.EdgeId.{EdgeId}
 use Rattle.net_base.specs.plan.Accepted.{IsChecked}
 use Rattle.ldp_grammar.specs.declared.message.Message.{Message}
-use Rattle.ldp_grammar.specs.declared.message.Message.TheVariants.{Notification, Initialization, KeepAlive, LabelMapping, LabelWithdraw, LabelRelease}
+use Rattle.ldp_grammar.specs.declared.message.Message.TheVariants.{Notification, Initialization, KeepAlive, AddressWithdraw, LabelMapping, LabelWithdraw, LabelRelease}
 use Rattle.ldp_grammar.specs.declared.status_code.StatusCode.{StatusCode}
 use Rattle.pw_tlvs.specs.declared.point.Point.{Point}
 use Rattle.pw_tlvs.specs.declared.pw_fec.PwFec.{PwFec}
@@ -28,8 +28,9 @@ use Rattle.flight_model.specs.Ends.{ends_at}
 use Rattle.flight_model.specs.Meeting.{Spares}
 use Rattle.flight_model.specs.Messages.{IsSaid, IsSound}
 use Rattle.flight_model.specs.Pair.{IsStanding}
-use Rattle.flight_model.proofs.EdgeBindingLemmas.{HasSameEnds, end_beside_other, end_label}
+use Rattle.flight_model.proofs.EdgeBindingLemmas.{HasSameEnds, clash, end_beside_other, end_label}
 use Rattle.flight_model.proofs.HeardBindingLemmas.{HearsAs, bound_hears, bound_hears_unknown, bound_hears_withdrawal, mapping_known, mapping_unknown, other_code, release_heard, status_heard_as, unknown_released, withdraw_heard}
+use Rattle.flight_model.proofs.HearingLemmas.{withdraws_addresses}
 use Rattle.flight_model.proofs.LeaveLemmas.{leaves_same, leaves_spoken}
 use Rattle.flight_model.proofs.OfferLemmas.{IsOfWires, release_is}
 use Rattle.flight_model.proofs.PlaceLemmas.{named_is}
@@ -54,7 +55,7 @@ heard_leaves plan me peer far out m messages change work none same hears leaves 
 }
 
 -- the same where nothing changes
-unchanged_leaves : (plan : Plan) (me peer : EdgeId) (far : EdgeState) (out : List ℕ) (m : Message) (messages : List Message) (work : Work) → ((pw_id label : ℕ) → is_withdrawal_of pw_id label m ≡ false)
+pub unchanged_leaves : (plan : Plan) (me peer : EdgeId) (far : EdgeState) (out : List ℕ) (m : Message) (messages : List Message) (work : Work) → ((pw_id label : ℕ) → is_withdrawal_of pw_id label m ≡ false)
     → HearsAs plan me peer m work.edge work.edge → LeavesBound plan me peer.0 far out (m ∷ messages) work → LeavesBound plan me peer.0 far out messages work
 unchanged_leaves plan me peer far out m messages work none hears leaves = record {
   bound = λ ms are is near other. bound_hears plan me peer m work.edge work.edge far ms messages none hears (leaves.bound ms are is near other);
@@ -138,18 +139,19 @@ module _ (plan : Plan) (peer : EdgeId) (checked : IsChecked plan) (far : EdgeSta
         (named_peering plan peer fec (stated status) (group_stated fec.group status) fec.pw_id work.edge) (status_heard_as plan peer id code status fec work.edge checked right) leaves
     by_code false wrong = unchanged_leaves plan work.edge.me peer far out (Notification id code (Some status) (Some fec)) messages work (λ pw_id own. refl) (other_code plan peer id code status fec work.edge wrong) leaves
 
-  pub acts_leaves : (m : Message) (other : Peers) → IsSaid other m → LeavesBound plan work.edge.me peer.0 far out (m ∷ messages) work → LeavesBound plan work.edge.me peer.0 far out messages (acts_on plan taken_all peer m work)
-  acts_leaves (Initialization id params) other said leaves =
+  pub acts_leaves : (m : Message) (other : Peers) → IsSaid other m → withdraws_addresses m ≡ false → LeavesBound plan work.edge.me peer.0 far out (m ∷ messages) work → LeavesBound plan work.edge.me peer.0 far out messages (acts_on plan taken_all peer m work)
+  acts_leaves (Initialization id params) other said plain leaves =
       unchanged_leaves plan work.edge.me peer far out (Initialization id params) messages work (λ pw_id own. refl) (record { label = refl; local = λ wire row is joined. refl; remote = λ wire row next near is joined alone. refl }) leaves
-  acts_leaves (KeepAlive id) other said leaves =
+  acts_leaves (KeepAlive id) other said plain leaves =
       unchanged_leaves plan work.edge.me peer far out (KeepAlive id) messages work (λ pw_id own. refl) (record { label = refl; local = λ wire row is joined. refl; remote = λ wire row next near is joined alone. refl }) leaves
-  acts_leaves (Notification id code status fec) other said leaves = status_leaves id code status fec leaves
-  acts_leaves (LabelMapping id fec label status points) other said leaves = mapping_leaves id fec label status points said leaves
-  acts_leaves (LabelWithdraw id fec label) other said leaves = withdraw_leaves id fec label said leaves
-  acts_leaves (LabelRelease id fec label) other said leaves =
+  acts_leaves (Notification id code status fec) other said plain leaves = status_leaves id code status fec leaves
+  acts_leaves (AddressWithdraw id addresses fec macs) other said plain leaves = clash (sym plain)
+  acts_leaves (LabelMapping id fec label status points) other said plain leaves = mapping_leaves id fec label status points said leaves
+  acts_leaves (LabelWithdraw id fec label) other said plain leaves = withdraw_leaves id fec label said leaves
+  acts_leaves (LabelRelease id fec label) other said plain leaves =
       heard_leaves plan work.edge.me peer far out (LabelRelease id fec label) messages (λ edge. with_end_changed (released label) (end_of_fec plan edge peer fec) edge) work (λ pw_id own. refl)
       (changed_peering (released label) (end_of_fec plan work.edge peer fec) work.edge) (release_heard plan peer id fec label work.edge checked) leaves
-  acts_leaves m other said leaves = absurd said
+  acts_leaves m other said plain leaves = absurd said
 
 -- ---- for every other place
 
@@ -220,15 +222,16 @@ module _ (plan : Plan) (peer : EdgeId) (place : ℕ) (apart : nat_eq place peer.
         (all_same fec (stated status) (group_stated fec.group status) fec.pw_id work.edge)
     by_code false = wires_same place work
 
-  pub acts_spare : (m : Message) (other : Peers) (work : Work) → IsSaid other m → SparesWires place work (acts_on plan taken_all peer m work)
-  acts_spare (Initialization id params) other work said = wires_same place work
-  acts_spare (KeepAlive id) other work said = wires_same place work
-  acts_spare (Notification id code status fec) other work said = states_spare code status fec work
-  acts_spare (LabelMapping id fec label status points) other work said = maps_spare fec label status points work
-  acts_spare (LabelWithdraw id fec label) other work said =
+  pub acts_spare : (m : Message) (other : Peers) (work : Work) → IsSaid other m → withdraws_addresses m ≡ false → SparesWires place work (acts_on plan taken_all peer m work)
+  acts_spare (Initialization id params) other work said plain = wires_same place work
+  acts_spare (KeepAlive id) other work said plain = wires_same place work
+  acts_spare (Notification id code status fec) other work said plain = states_spare code status fec work
+  acts_spare (AddressWithdraw id addresses fec macs) other work said plain = clash (sym plain)
+  acts_spare (LabelMapping id fec label status points) other work said plain = maps_spare fec label status points work
+  acts_spare (LabelWithdraw id fec label) other work said plain =
       let change : EdgeState → EdgeState = with_named plan peer fec (unbound label) (group_unbound fec.group) fec.pw_id in
       wires_then place work (changes change work) _ (changes_spare place change work (named_peering plan peer fec (unbound label) (group_unbound fec.group) fec.pw_id work.edge) (all_same fec (unbound label) (group_unbound fec.group) fec.pw_id work.edge))
       (says_spare place peer (release fec label) (changes change work) apart)
-  acts_spare (LabelRelease id fec label) other work said =
+  acts_spare (LabelRelease id fec label) other work said plain =
       changes_spare place (λ edge. with_end_changed (released label) (end_of_fec plan edge peer fec) edge) work (changed_peering (released label) (end_of_fec plan work.edge peer fec) work.edge) (fec_same (released label) fec.pw_id work.edge)
-  acts_spare m other work said = absurd said
+  acts_spare m other work said plain = absurd said

@@ -7,7 +7,7 @@ use Rattle.std.specs.List.{find}
 use Rattle.net_base.specs.declared.plan.Plan.{Plan}
 use Rattle.net_base.specs.declared.plan.places.EdgeId.{EdgeId}
 use Rattle.ldp_grammar.specs.declared.message.Message.{Message}
-use Rattle.ldp_grammar.specs.declared.message.Message.TheVariants.{Notification, Initialization, KeepAlive, LabelMapping, LabelWithdraw, LabelRelease}
+use Rattle.ldp_grammar.specs.declared.message.Message.TheVariants.{Notification, Initialization, KeepAlive, AddressWithdraw, LabelMapping, LabelWithdraw, LabelRelease}
 use Rattle.ldp_grammar.specs.declared.status_code.StatusCode.{StatusCode}
 use Rattle.pw_tlvs.specs.declared.point.Point.{Point}
 use Rattle.pw_tlvs.specs.declared.pw_fec.PwFec.{PwFec}
@@ -28,6 +28,7 @@ use Rattle.edge_model.specs.Work.{Work, changes}
 use Rattle.network_model.specs.Absorb.{taken_all}
 use Rattle.flight_model.specs.Messages.{IsSaid, IsSound}
 use Rattle.flight_model.specs.Sound.{IsSoundEnd, IsSoundPart, TellsSoundly}
+use Rattle.flight_model.proofs.HearingLemmas.{withdraws_addresses}
 use Rattle.flight_model.proofs.OfferLemmas.{release_is}
 use Rattle.flight_model.proofs.RowLemmas.{clash}
 use Rattle.flight_model.proofs.SoundLemmas.{sound_beside, sound_with_end}
@@ -197,11 +198,12 @@ module _ (plan : Plan) (me peer : EdgeId) (other : Peers) (I : Work → Type 0) 
     by_code true = changed change work (all_changes plan peer fec (stated status) (group_stated fec.group status) fec.pw_id work.edge (stated_keeps status) (group_stated_keeps fec.group status) up) i
     by_code false = i
 
-  pub steady_acts : (m : Message) (work : Work) → IsSaid other m → is_up_with (work.edge.peering peer.0) ≡ true → I work → I (acts_on plan taken_all peer m work)
-  steady_acts (Initialization id params) work said up i = i
-  steady_acts (KeepAlive id) work said up i = i
-  steady_acts (Notification id code status fec) work said up i = states code status fec work up i
-  steady_acts (LabelMapping id fec label status points) work said up i = maps id fec label status points work up said i
-  steady_acts (LabelWithdraw id fec label) work said up i = withdraws id fec label work up said i
-  steady_acts (LabelRelease id fec label) work said up i = releases fec label work up i
-  steady_acts m work said up i = absurd said
+  pub steady_acts : (m : Message) (work : Work) → IsSaid other m → withdraws_addresses m ≡ false → is_up_with (work.edge.peering peer.0) ≡ true → I work → I (acts_on plan taken_all peer m work)
+  steady_acts (Initialization id params) work said plain up i = i
+  steady_acts (KeepAlive id) work said plain up i = i
+  steady_acts (Notification id code status fec) work said plain up i = states code status fec work up i
+  steady_acts (AddressWithdraw id addresses fec macs) work said plain up i = clash (sym plain)
+  steady_acts (LabelMapping id fec label status points) work said plain up i = maps id fec label status points work up said i
+  steady_acts (LabelWithdraw id fec label) work said plain up i = withdraws id fec label work up said i
+  steady_acts (LabelRelease id fec label) work said plain up i = releases fec label work up i
+  steady_acts m work said plain up i = absurd said

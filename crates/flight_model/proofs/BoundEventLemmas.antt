@@ -9,6 +9,7 @@ use Rattle.net_base.specs.declared.plan.places.EdgeId.{EdgeId}
 use Rattle.net_base.specs.declared.plan.places.WireId.{WireId}
 use Rattle.net_base.specs.declared.trace.arrival.Arrival.TheVariants as arrival
 use Rattle.net_base.specs.plan.Accepted.{IsChecked}
+use Rattle.net_base.specs.plan.Places.{wire_row}
 use Rattle.net_base.specs.trace.Isolated.{inner_at}
 use Rattle.ldp_grammar.specs.declared.message.Message.{Message}
 use Rattle.edge_model.specs.Circuit.{is_same, turned}
@@ -17,9 +18,9 @@ use Rattle.edge_model.specs.EndPlaces.{ends_here, passes}
 use Rattle.edge_model.specs.Frame.{is_own, port_at, received}
 use Rattle.edge_model.specs.Hear.{hears_few, octets_input}
 use Rattle.edge_model.specs.Mend.{mends}
-use Rattle.edge_model.specs.State.{EdgeState, Peering, is_on, is_there, with_bits, with_learned, without_ends, without_peerings}
+use Rattle.edge_model.specs.State.{EdgeState, Peering, is_on, is_there, with_bits, with_learned, with_priority, without_ends, without_peerings}
 use Rattle.edge_model.specs.Tick.{tick_input}
-use Rattle.edge_model.specs.Wire.{turned_wire}
+use Rattle.edge_model.specs.Wire.{is_own_spoke, turned_wire}
 use Rattle.edge_model.specs.Work.{Work, changes, idles}
 use Rattle.network_model.specs.Absorb.{absorb, answer, begin_at, idle, taken_all}
 use Rattle.network_model.specs.Circuit.{circuit_event}
@@ -29,7 +30,7 @@ use Rattle.network_model.specs.declared.packet.Packet.{Packet}
 use Rattle.network_model.specs.Packet.{again_event, arrive_event, discard_event, packet_work, repeating}
 use Rattle.network_model.specs.State.{NetworkState, held, held_by, stands, with_frame, with_packet, with_pipe, without_octets_to, without_packet}
 use Rattle.network_model.specs.Tick.{tick_at, tick_event, ticks_from}
-use Rattle.network_model.specs.Wire.{status_event, wire_event}
+use Rattle.network_model.specs.Wire.{priority_event, status_event, wire_event}
 use Rattle.flight_model.specs.Bound.{AreAnswers, AreBoundBy, LeavesBound}
 use Rattle.flight_model.specs.Ends.{HasTypes, IsOrdered, WorksOn, ends_at}
 use Rattle.flight_model.specs.Facts.{HoldsOfTwo, LeavesFor, Turns, flight}
@@ -45,7 +46,7 @@ use Rattle.flight_model.proofs.MendingLemmas.{mends_keep}
 use Rattle.flight_model.proofs.PipeLemmas.{pipe_from, pipe_there, pipe_to}
 use Rattle.flight_model.proofs.SettleLemmas.{apart_turned, settle}
 use Rattle.flight_model.proofs.WorkBindingLemmas.{HoldsOctets, WorksBound, bound_work_kept, leaves_octets}
-use Rattle.flight_model.proofs.WorkingLemmas.{bits_kept, circuit_kept, lost_kept, packet_kept, received_kept, tick_kept, wire_kept}
+use Rattle.flight_model.proofs.WorkingLemmas.{bits_kept, circuit_kept, lost_kept, packet_kept, priority_kept, received_kept, tick_kept, wire_kept}
 use Rattle.flight_model.proofs.WorksLemmas.{no_more, work_keeps, works_begin, works_kept}
 
 -- the ends of wires between each two edges are bound
@@ -256,6 +257,14 @@ status_bounds plan me wire bits network checked types few ordered bounds =
     let start : Starts plan network me = starts plan network me ordered in
     answer_bounds plan network me (ends_here plan (begin_at network me).edge.me wire && not (nat_eq bits ((begin_at network me).edge.bits wire.0))) checked types (mends plan taken_all (changes (with_bits wire bits) (begin_at network me))) bounds start
     (bits_kept plan me (WorksBound plan network me checked types (λ k. held network me.0 k) start.answers) (bound_work_kept plan network me checked types (λ k. held network me.0 k) start.answers) wire bits (begin_at network me) few
+    (starts_bound plan network me checked types ordered bounds start))
+
+pub priority_bounds : (plan : Plan) (me : EdgeId) (wire : WireId) (priority : ℕ) (network : NetworkState) → IsChecked plan → HasTypes plan → IsOrdered plan network → Bounds plan network → Bounds plan (priority_event plan me wire priority network).state
+priority_bounds plan me wire priority network checked types ordered bounds =
+    let start : Starts plan network me = starts plan network me ordered in
+    answer_bounds plan network me (is_own_spoke (begin_at network me).edge.me (wire_row plan wire) && not (nat_eq priority ((begin_at network me).edge.priority wire.0))) checked types
+    (mends plan taken_all (changes (with_priority wire priority) (begin_at network me))) bounds start
+    (priority_kept plan me (WorksBound plan network me checked types (λ k. held network me.0 k) start.answers) (bound_work_kept plan network me checked types (λ k. held network me.0 k) start.answers) wire priority (begin_at network me)
     (starts_bound plan network me checked types ordered bounds start))
 
 -- ---- octets are delivered

@@ -38,6 +38,7 @@ rows_both plan me I J one other = record {
   advertises = λ place content work is at wished some both. (one.advertises place content work is at wished some both.0, other.advertises place content work is at wished some both.1);
   withdraws = λ place label content work is at wished both. (one.withdraws place label content work is at wished both.0, other.withdraws place label content work is at wished both.1);
   tells = λ place label content last work is at told changed both. (one.tells place label content last work is at told changed both.0, other.tells place label content last work is at told changed both.1);
+  clears = λ place label content addresses work is at piece both. (one.clears place label content addresses work is at piece both.0, other.clears place label content addresses work is at piece both.1);
   tells_down = λ place down work is both. (one.tells_down place down work is both.0, other.tells_down place down work is both.1);
   others = λ change work keeps peering both. (one.others change work keeps peering both.0, other.others change work keeps peering both.1);
 }
@@ -49,7 +50,8 @@ hearing_both plan me peer other I J one two = record {
   sender = λ messages work both. (one.sender messages work both.0, two.sender messages work both.1);
   gone = λ m messages work at both. (one.gone m messages work at both.0, two.gone m messages work at both.1);
   event = λ m messages kept work at said ends both. (one.event m messages kept work at said ends both.0, two.event m messages kept work at said ends both.1);
-  acts = λ m messages kept work at up said plain both. (one.acts m messages kept work at up said plain both.0, two.acts m messages kept work at up said plain both.1);
+  acts = λ m messages kept work at up said plain pseudowires both. (one.acts m messages kept work at up said plain pseudowires both.0, two.acts m messages kept work at up said plain pseudowires both.1);
+  goes_by = λ m messages kept work at up said addresses both. (one.goes_by m messages kept work at up said addresses both.0, two.goes_by m messages kept work at up said addresses both.1);
   mends = λ messages. rows_both plan me (I messages) (J messages) (one.mends messages) (two.mends messages);
 }
 
@@ -76,10 +78,11 @@ module _ (plan : Plan) (network : NetworkState) (me peer : EdgeId) (apart : nat_
         sender = λ messages work hears. (base.sender messages work hears.0, event_held (Heard (platform_of (ends_at plan peer.0 me.0).me)) work hears.1);
         gone = λ m messages work at hears. (base.gone m messages work at hears.0, hears.1);
         event = λ m messages kept work at said ends hears. (base.event m messages kept work at said ends hears.0, event_held (Received m) work hears.1);
-        acts = λ m messages kept work at up said plain hears. (
-          base.acts m messages kept work at up said plain hears.0,
-          (steady_acts plan me peer (ends_at plan peer.0 me.0) (HearsHeld (m ∷ messages)) (steady_held (m ∷ messages)) m work said (rw at (ap is_operational up)) hears).1,
+        acts = λ m messages kept work at up said plain pseudowires hears. (
+          base.acts m messages kept work at up said plain pseudowires hears.0,
+          (steady_acts plan me peer (ends_at plan peer.0 me.0) (HearsHeld (m ∷ messages)) (steady_held (m ∷ messages)) m work said pseudowires (rw at (ap is_operational up)) hears).1,
         );
+        goes_by = λ m messages kept work at up said addresses hears. (base.goes_by m messages kept work at up said addresses hears.0, hears.1);
         mends = λ messages. steady_rows plan me checked types (HearsHeld messages) (steady_held messages);
       }
 

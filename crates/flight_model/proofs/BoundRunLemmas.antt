@@ -10,7 +10,7 @@ use Rattle.net_base.specs.declared.plan.places.EdgeId.{EdgeId}
 use Rattle.net_base.specs.declared.plan.places.ServiceId.{ServiceId}
 use Rattle.net_base.specs.declared.plan.wire_plan.WirePlan.{WirePlan}
 use Rattle.net_base.specs.declared.trace.event.Event.{Event}
-use Rattle.net_base.specs.declared.trace.event.Event.TheVariants.{Connect, Deliver, Lose, Restart, Tick, Frame, Arrive, Discard, Again, Wire, Circuit, Status}
+use Rattle.net_base.specs.declared.trace.event.Event.TheVariants.{Connect, Deliver, Lose, Restart, Tick, Frame, Arrive, Discard, Again, Wire, Circuit, Status, Priority}
 use Rattle.net_base.specs.plan.Accepted.{IsChecked, IsWireOf}
 use Rattle.net_base.specs.plan.Paths.{joins}
 use Rattle.net_base.specs.plan.Places.{circuit_row}
@@ -32,7 +32,7 @@ use Rattle.flight_model.specs.Facts.{flight}
 use Rattle.flight_model.specs.Laws.{BothStand, HasAgreed, IsRun, IsStill, IsUnbound, OfWires, RunsAgreeAfterFlight, RunsSettle, network_after}
 use Rattle.flight_model.specs.Pair.{ArePaired}
 use Rattle.flight_model.proofs.BoundConnectLemmas.{connect_bounds, low_end}
-use Rattle.flight_model.proofs.BoundEventLemmas.{Bounds, again_bounds, arrive_bounds, circuit_bounds, deliver_bounds, discard_bounds, frame_bounds, lose_bounds, restart_bounds, status_bounds, tick_bounds, wire_bounds}
+use Rattle.flight_model.proofs.BoundEventLemmas.{Bounds, again_bounds, arrive_bounds, circuit_bounds, deliver_bounds, discard_bounds, frame_bounds, lose_bounds, restart_bounds, priority_bounds, status_bounds, tick_bounds, wire_bounds}
 use Rattle.flight_model.proofs.EdgeBindingLemmas.{clash}
 use Rattle.flight_model.proofs.RunLemmas.{both_apart, empty_ordered, none_said, run_ordered, runs_come_up, step_keeps}
 
@@ -48,6 +48,7 @@ brings_bounds plan (Frame circuit octets) network checked types planned ordered 
 brings_bounds plan (Circuit circuit on) network checked types planned ordered bounds = circuit_bounds plan circuit on (circuit_row plan circuit) network checked types ordered bounds
 brings_bounds plan (Wire me wire on) network checked types planned ordered bounds = wire_bounds plan me wire on network checked types ordered bounds
 brings_bounds plan (Status me wire bits) network checked types planned ordered bounds = status_bounds plan me wire bits network checked types planned.2 ordered bounds
+brings_bounds plan (Priority me wire priority) network checked types planned ordered bounds = priority_bounds plan me wire priority network checked types ordered bounds
 brings_bounds plan (Arrive number) network checked types planned ordered bounds = arrive_bounds plan (packet_at network number) network checked types ordered bounds
 brings_bounds plan (Discard number) network checked types planned ordered bounds = discard_bounds plan (packet_at network number) network bounds
 brings_bounds plan (Again number) network checked types planned ordered bounds = again_bounds plan (packet_at network number) network bounds

@@ -7,13 +7,14 @@ use Rattle.net_base.specs.declared.plan.places.EdgeId.{EdgeId}
 use Rattle.net_base.specs.declared.plan.places.WireId.{WireId}
 use Rattle.net_base.specs.declared.trace.arrival.Arrival.TheVariants as arrival
 use Rattle.net_base.specs.plan.Accepted.{IsChecked}
+use Rattle.net_base.specs.plan.Places.{wire_row}
 use Rattle.net_base.specs.trace.Isolated.{inner_at}
 use Rattle.edge_model.specs.Circuit.{is_same, turned}
 use Rattle.edge_model.specs.EndPlaces.{ends_here, passes}
 use Rattle.edge_model.specs.Frame.{is_own, port_at, received}
 use Rattle.edge_model.specs.Mend.{mends}
-use Rattle.edge_model.specs.State.{is_on, with_bits}
-use Rattle.edge_model.specs.Wire.{turned_wire}
+use Rattle.edge_model.specs.State.{is_on, with_bits, with_priority}
+use Rattle.edge_model.specs.Wire.{is_own_spoke, turned_wire}
 use Rattle.edge_model.specs.Work.{Work, changes, idles}
 use Rattle.network_model.specs.Absorb.{absorb, answer, begin_at, idle, taken_all}
 use Rattle.network_model.specs.Circuit.{circuit_event}
@@ -21,10 +22,10 @@ use Rattle.network_model.specs.Frame.{entering, frame_event, next_origin}
 use Rattle.network_model.specs.declared.packet.Packet.{Packet}
 use Rattle.network_model.specs.Packet.{again_event, arrive_event, discard_event, packet_work, repeating}
 use Rattle.network_model.specs.State.{NetworkState, with_frame, with_packet, without_packet}
-use Rattle.network_model.specs.Wire.{status_event, wire_event}
+use Rattle.network_model.specs.Wire.{priority_event, status_event, wire_event}
 use Rattle.flight_model.specs.Ends.{HasTypes, IsOrdered, KeepsOrder, WorksOn}
 use Rattle.flight_model.proofs.EventLemmas.{idle_keeps}
-use Rattle.flight_model.proofs.WorkingLemmas.{bits_kept, circuit_kept, packet_kept, received_kept, wire_kept}
+use Rattle.flight_model.proofs.WorkingLemmas.{bits_kept, circuit_kept, packet_kept, priority_kept, received_kept, wire_kept}
 use Rattle.flight_model.proofs.WorksLemmas.{work_keeps, works_begin, works_kept}
 
 pub idles_are : (work : Work) → (idles work).idle ≡ true
@@ -122,3 +123,8 @@ pub status_keeps : (plan : Plan) (me : EdgeId) (wire : WireId) (bits : ℕ) (net
 status_keeps plan me wire bits network checked types few ordered =
     answer_keeps plan network me (ends_here plan (begin_at network me).edge.me wire && not (nat_eq bits ((begin_at network me).edge.bits wire.0))) (mends plan taken_all (changes (with_bits wire bits) (begin_at network me))) ordered
     (bits_kept plan me (WorksOn plan network me) (works_kept plan network me checked types) wire bits (begin_at network me) few (works_begin plan network me ordered))
+
+pub priority_keeps : (plan : Plan) (me : EdgeId) (wire : WireId) (priority : ℕ) (network : NetworkState) → IsChecked plan → HasTypes plan → IsOrdered plan network → KeepsOrder plan (priority_event plan me wire priority network)
+priority_keeps plan me wire priority network checked types ordered =
+    answer_keeps plan network me (is_own_spoke (begin_at network me).edge.me (wire_row plan wire) && not (nat_eq priority ((begin_at network me).edge.priority wire.0))) (mends plan taken_all (changes (with_priority wire priority) (begin_at network me))) ordered
+    (priority_kept plan me (WorksOn plan network me) (works_kept plan network me checked types) wire priority (begin_at network me) (works_begin plan network me ordered))

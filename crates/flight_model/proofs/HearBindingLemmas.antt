@@ -5,7 +5,7 @@ use Rattle.net_base.specs.declared.plan.Plan.{Plan}
 use Rattle.net_base.specs.declared.plan.places.EdgeId.{EdgeId}
 use Rattle.net_base.specs.plan.Accepted.{IsChecked}
 use Rattle.ldp_grammar.specs.declared.message.Message.{Message}
-use Rattle.ldp_grammar.specs.declared.message.Message.TheVariants.{Notification, Initialization, KeepAlive, LabelMapping, LabelWithdraw, LabelRelease}
+use Rattle.ldp_grammar.specs.declared.message.Message.TheVariants.{Notification, Initialization, KeepAlive, AddressWithdraw, LabelMapping, LabelWithdraw, LabelRelease}
 use Rattle.ldp_grammar.specs.declared.status_code.StatusCode.{StatusCode}
 use Rattle.pw_tlvs.specs.declared.pw_fec.PwFec.{PwFec}
 use Rattle.pw_tlvs.specs.declared.pw_status.PwStatus.{PwStatus}
@@ -34,11 +34,11 @@ use Rattle.flight_model.specs.Facts.{flight}
 use Rattle.flight_model.specs.Messages.{IsSaid}
 use Rattle.flight_model.specs.Pair.{AreTalking, StayInStep}
 use Rattle.flight_model.specs.Sound.{IsSoundEnd}
-use Rattle.flight_model.proofs.ActBindingLemmas.{acts_leaves, acts_spare, spared_leaves}
+use Rattle.flight_model.proofs.ActBindingLemmas.{acts_leaves, acts_spare, spared_leaves, unchanged_leaves}
 use Rattle.flight_model.proofs.EdgeBindingLemmas.{clash}
 use Rattle.flight_model.proofs.EventBindingLemmas.{event_spare, goes_on, leaves_event, leaves_no_event}
 use Rattle.flight_model.proofs.HeardBindingLemmas.{HearsAs, bound_hears}
-use Rattle.flight_model.proofs.HearingLemmas.{KeptByHearing}
+use Rattle.flight_model.proofs.HearingLemmas.{KeptByHearing, withdraws_addresses}
 use Rattle.flight_model.proofs.HearLemmas.{HearsOn, hears_kept, hears_steady}
 use Rattle.flight_model.proofs.LeaveLemmas.{leaves_none}
 use Rattle.flight_model.proofs.ReactLemmas.{heard_in_step, received_in_step}
@@ -60,6 +60,12 @@ pub session_goes : (s : SessionState) (other : Peers) (m : Message) → is_up s.
 session_goes s other (Initialization id params) up said goes = refl
 session_goes s other (KeepAlive id) up said goes = refl
 session_goes s other (Notification id code status fec) up said goes = refl
+session_goes s other (AddressWithdraw id addresses fec macs) up said goes = by_phase s.phase refl up where
+  by_phase : (p : Phase) → s.phase ≡ p → is_up p ≡ false → false ≡ true
+  by_phase phase.Initialized at up = rw at at goes
+  by_phase phase.OpenSent at up = rw at at goes
+  by_phase phase.OpenRec at up = rw at at goes
+  by_phase phase.Operational at up = sym up
 session_goes s other (LabelMapping id fec label status points) up said goes = by_phase s.phase refl up where
   by_phase : (p : Phase) → s.phase ≡ p → is_up p ≡ false → false ≡ true
   by_phase phase.Initialized at up = rw at at goes
@@ -203,22 +209,32 @@ module _ (plan : Plan) (network : NetworkState) (me peer : EdgeId) (apart : nat_
           bound_hears plan me peer m work.edge work.edge (network.edges peer.0) ms messages (λ pw_id own. session_says_none m pw_id own is)
           (session_heard_as plan me peer m work.edge is (λ wire. none_held (is_up_with (work.edge.peering peer.0)) (work.edge.ends wire peer.0) (ap is_up_with at ∙ not_up kept.session.phase up) (hears.0.sound.ends wire peer.0))) bound
 
-  acting_leaves : (m : Message) (messages : List Message) (kept : Peering) (work : Work) → work.edge.peering peer.0 ≡ Some kept → IsSaid (ends_at plan peer.0 me.0) m → HearsBound (m ∷ messages) work → LeavesFor messages (acts_on plan taken_all peer m work)
+  acting_leaves : (m : Message) (messages : List Message) (kept : Peering) (work : Work) → work.edge.peering peer.0 ≡ Some kept → IsSaid (ends_at plan peer.0 me.0) m → withdraws_addresses m ≡ false
+      → HearsBound (m ∷ messages) work → LeavesFor messages (acts_on plan taken_all peer m work)
   unfolding Bound
-  acting_leaves m messages kept work at said hears =
+  acting_leaves m messages kept work at said plain hears =
       by_place (m ∷ messages) messages work (acts_on plan taken_all peer m work)
-      (λ bound. own bound) (λ place there bound. spared_leaves plan me place (network.edges place) (flight network me.0 place) (others place) work (acts_on plan taken_all peer m work) (acts_spare plan peer place there m (ends_at plan peer.0 me.0) work said) bound) hears.1
+      (λ bound. own bound) (λ place there bound. spared_leaves plan me place (network.edges place) (flight network me.0 place) (others place) work (acts_on plan taken_all peer m work) (acts_spare plan peer place there m (ends_at plan peer.0 me.0) work said plain) bound) hears.1
     where
       Acts : EdgeId → Type 0
       Acts k = HasSaid plan k peer.0 (network.edges peer.0) (flight network me.0 peer.0) work → LeavesBound plan k peer.0 (network.edges peer.0) (flight network me.0 peer.0) (m ∷ messages) work
           → LeavesBound plan k peer.0 (network.edges peer.0) (flight network me.0 peer.0) messages (acts_on plan taken_all peer m work)
 
       as_placed : Acts work.edge.me
-      as_placed has leaves = acts_leaves plan peer checked (network.edges peer.0) (flight network me.0 peer.0) messages kept work has at m (ends_at plan peer.0 me.0) said leaves
+      as_placed has leaves = acts_leaves plan peer checked (network.edges peer.0) (flight network me.0 peer.0) messages kept work has at m (ends_at plan peer.0 me.0) said plain leaves
 
       own : LeavesBound plan me peer.0 (network.edges peer.0) (flight network me.0 peer.0) (m ∷ messages) work → LeavesBound plan me peer.0 (network.edges peer.0) (flight network me.0 peer.0) messages (acts_on plan taken_all peer m work)
       own leaves = subst Acts hears.0.meets.fine.place as_placed
           (record { messages = hears.0.meets.messages; answers = cond (is_there (work.edge.peering peer.0)) (m ∷ messages) []; out_is = hears.0.meets.out_is; talk = hears.0.meets.talk }) leaves
+
+  -- a MAC withdraw says nothing of the ends of wires
+  by_leaves : (m : Message) (messages : List Message) (work : Work) → withdraws_addresses m ≡ true → LeavesFor (m ∷ messages) work → LeavesFor messages work
+  unfolding Bound
+  by_leaves (AddressWithdraw id addresses fec macs) messages work is leaves =
+      by_place (AddressWithdraw id addresses fec macs ∷ messages) messages work work
+      (λ bound. unchanged_leaves plan me peer (network.edges peer.0) (flight network me.0 peer.0) (AddressWithdraw id addresses fec macs) messages work (λ pw_id own. refl)
+      (record { label = refl; local = λ wire row at joined. refl; remote = λ wire row next near at joined alone. refl }) bound) (λ place there bound. bound) leaves
+  by_leaves m messages work is leaves = clash is
 
   pub bound_kept : KeptByHearing plan me peer (ends_at plan peer.0 me.0) HearsBound
   unfolding Bound
@@ -236,7 +252,8 @@ module _ (plan : Plan) (network : NetworkState) (me peer : EdgeId) (apart : nat_
           by_place (m ∷ messages) messages work work (λ bound. leaves_none plan me peer.0 (network.edges peer.0) (flight network me.0 peer.0) messages work at) (λ place there bound. bound) hears.1,
         );
         event = λ m messages kept work at said ends hears. (base.event m messages kept work at said ends hears.0, received_leaves m messages kept work at said ends hears);
-        acts = λ m messages kept work at up said plain hears. (base.acts m messages kept work at up said plain hears.0, acting_leaves m messages kept work at said hears);
+        acts = λ m messages kept work at up said plain pseudowires hears. (base.acts m messages kept work at up said plain pseudowires hears.0, acting_leaves m messages kept work at said pseudowires hears);
+        goes_by = λ m messages kept work at up said addresses hears. (base.goes_by m messages kept work at up said addresses hears.0, by_leaves m messages work addresses hears.1);
         mends = λ messages. rows_leave plan me checked network.edges (flight network me.0) (answers_for messages) types (HearsOn plan network me peer messages)
             (steady_rows plan me checked types (HearsOn plan network me peer messages) (hears_steady plan network me peer apart messages)) (λ work hears. hears.sound) (λ work hears. said_all messages work hears);
       }

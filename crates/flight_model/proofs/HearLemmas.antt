@@ -146,9 +146,15 @@ module _ (plan : Plan) (network : NetworkState) (me peer : EdgeId) (apart : nat_
     sender = λ answers work hears. event_hears answers answers (Heard (platform_of other.me)) work (λ kept messages t. heard_in_step own other kept far messages answers t) hears;
     gone = λ m answers work at hears. record { meets = meets_gone own other me peer far out (m ∷ answers) answers work at hears.meets; sound = hears.sound; alone = hears.alone; left = hears.left };
     event = λ m answers kept work at said ends hears. event_hears (m ∷ answers) answers (Received m) work (λ k messages t. received_in_step own other k far messages answers m t) hears;
-    acts = λ m answers kept work at up said plain hears.
-        steady_acts plan me peer other (HearsOn plan network me peer answers) (hears_steady answers) m work said (rw at (ap is_operational up))
+    acts = λ m answers kept work at up said plain pseudowires hears.
+        steady_acts plan me peer other (HearsOn plan network me peer answers) (hears_steady answers) m work said pseudowires (rw at (ap is_operational up))
         (record { meets = meets_up own other me peer kept far out m answers work at up hears.meets; sound = hears.sound; alone = hears.alone; left = hears.left });
+    goes_by = λ m answers kept work at up said addresses hears. record {
+      meets = meets_up own other me peer kept far out m answers work at up hears.meets;
+      sound = hears.sound;
+      alone = hears.alone;
+      left = hears.left;
+    };
     mends = λ answers. steady_rows plan me checked types (HearsOn plan network me peer answers) (hears_steady answers);
   }
 

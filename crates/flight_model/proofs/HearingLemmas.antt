@@ -6,6 +6,7 @@ use Rattle.net_base.specs.declared.plan.places.EdgeId.{EdgeId}
 use Rattle.net_base.specs.declared.trace.state_name.Reason.{Reason}
 use Rattle.net_base.specs.declared.trace.state_name.Reason.TheVariants as reason
 use Rattle.ldp_grammar.specs.declared.message.Message.{Message}
+use Rattle.ldp_grammar.specs.declared.message.Message.TheVariants.{AddressWithdraw}
 use Rattle.ldp_stream.specs.FrontOf.{More, front_of}
 use Rattle.session_core.specs.declared.peers.Peers.{Peers}
 use Rattle.session_core.specs.Phase.{Phase}
@@ -23,6 +24,8 @@ use Rattle.flight_model.specs.Messages.{AreSaid, IsSaid, octets_of_all}
 use Rattle.flight_model.specs.Pair.{AreFit}
 use Rattle.flight_model.proofs.FrontLemmas.{HasNext, front_is}
 use Rattle.flight_model.proofs.MendingLemmas.{KeptByRows, mends_keep}
+use Rattle.flight_model.proofs.PassingLemmas.{withdraw_keeps}
+use Rattle.flight_model.proofs.PieceLemmas.{heard_are}
 use Rattle.flight_model.proofs.RowLemmas.{clash}
 use Rattle.flight_model.proofs.SaidLemmas.{fatal_ends, stays_up}
 use Rattle.flight_model.proofs.WorkLemmas.{same_place}
@@ -74,6 +77,11 @@ module _ (plan : Plan) (peer : EdgeId) (other : Peers) (fit : AreFit other) (J :
 
 -- ---- one message
 
+-- the message withdraws addresses
+abbrev pub withdraws_addresses : Message → Bool
+withdraws_addresses (AddressWithdraw id addresses fec macs) = true
+withdraws_addresses m = false
+
 -- a message that is said: the session has it and ends or goes on, or is up and acts on it; then the edge mends its ends
 pub record KeptByHearing (plan : Plan) (me peer : EdgeId) (other : Peers) (J : List Message → Work → Type 0) : Type 0 where
   pub window : (messages : List Message) (kept : Peering) (work : Work) → work.edge.peering peer.0 ≡ Some kept → J messages work → (256 ≤ kept.session.max_pdu) × (kept.session.max_pdu ≤ 4096)
@@ -84,8 +92,11 @@ pub record KeptByHearing (plan : Plan) (me peer : EdgeId) (other : Peers) (J : L
   pub event : (m : Message) (messages : List Message) (kept : Peering) (work : Work) → work.edge.peering peer.0 ≡ Some kept → IsSaid other m → (is_up kept.session.phase ≡ false) ⊎ (is_fatal m ≡ true) → J (m ∷ messages) work
       → J messages (happens_with_ends taken_all peer (Received m) work)
   -- a session that is up, and stays so
-  pub acts : (m : Message) (messages : List Message) (kept : Peering) (work : Work) → work.edge.peering peer.0 ≡ Some kept → kept.session.phase ≡ phase.Operational → IsSaid other m → is_fatal m ≡ false → J (m ∷ messages) work
-      → J messages (acts_on plan taken_all peer m work)
+  pub acts : (m : Message) (messages : List Message) (kept : Peering) (work : Work) → work.edge.peering peer.0 ≡ Some kept → kept.session.phase ≡ phase.Operational → IsSaid other m → is_fatal m ≡ false → withdraws_addresses m ≡ false
+      → J (m ∷ messages) work → J messages (acts_on plan taken_all peer m work)
+  -- a MAC withdraw alone makes nothing of what is kept
+  pub goes_by : (m : Message) (messages : List Message) (kept : Peering) (work : Work) → work.edge.peering peer.0 ≡ Some kept → kept.session.phase ≡ phase.Operational → IsSaid other m → withdraws_addresses m ≡ true
+      → J (m ∷ messages) work → J messages work
   pub mends : (messages : List Message) → KeptByRows plan me (J messages)
 
 none_acts : (plan : Plan) (told : Answers) (peer : EdgeId) (m : Message) (up : Bool) (work : Work) → work.edge.peering peer.0 ≡ None → acts plan told peer m up work ≡ work
@@ -137,6 +148,15 @@ pub fatal_heard : (plan : Plan) (other : Peers) (peer : EdgeId) (m : Message) (k
 fatal_heard plan other peer m kept work at said fatal =
     none_acts plan taken_all peer m (was_up (work.edge.peering peer.0)) (happens_with_ends taken_all peer (Received m) work) (fatal_gone other peer m kept work at said fatal)
 
+-- what a session that is up acts on: a MAC withdraw is passed on as rows are mended
+acts_kept : (plan : Plan) (me peer : EdgeId) (other : Peers) (J : List Message → Work → Type 0) → KeptByHearing plan me peer other J
+    → (m : Message) (messages : List Message) (kept : Peering) (work : Work) → work.edge.peering peer.0 ≡ Some kept → kept.session.phase ≡ phase.Operational → IsSaid other m → is_fatal m ≡ false
+    → J (m ∷ messages) work → J messages (acts_on plan taken_all peer m work)
+acts_kept plan me peer other J keeps (AddressWithdraw id None (Some fec) (Some macs)) messages kept work at up said plain j =
+    withdraw_keeps plan me (J messages) (keeps.mends messages) peer fec macs (heard_are id fec macs said.0) work (keeps.goes_by (AddressWithdraw id None (Some fec) (Some macs)) messages kept work at up said refl j)
+acts_kept plan me peer other J keeps (AddressWithdraw id addresses fec macs) messages kept work at up said plain j = absurd said.1
+acts_kept plan me peer other J keeps m messages kept work at up said plain j = keeps.acts m messages kept work at up said plain refl j
+
 pub one_heard : (plan : Plan) (me peer : EdgeId) (other : Peers) (J : List Message → Work → Type 0) → KeptByHearing plan me peer other J
     → (m : Message) (messages : List Message) (kept : Peering) (work : Work) → work.edge.peering peer.0 ≡ Some kept → IsSaid other m → J (m ∷ messages) work → J messages (hears_one plan taken_all peer m work)
 one_heard plan me peer other J keeps m messages kept work at said j = elim (cases_Bool (is_fatal m)) [
@@ -151,7 +171,7 @@ one_heard plan me peer other J keeps m messages kept work at said j = elim (case
     by_phase plain phase.Initialized is = not_up (ap is_up is)
     by_phase plain phase.OpenSent is = not_up (ap is_up is)
     by_phase plain phase.OpenRec is = not_up (ap is_up is)
-    by_phase plain phase.Operational is = subst (J messages) (sym (up_heard plan other peer m kept work at is said plain)) (keeps.acts m messages kept work at is said plain j)
+    by_phase plain phase.Operational is = subst (J messages) (sym (up_heard plan other peer m kept work at is said plain)) (acts_kept plan me peer other J keeps m messages kept work at is said plain j)
 
 pub message_heard : (plan : Plan) (me peer : EdgeId) (other : Peers) (J : List Message → Work → Type 0) → KeptByHearing plan me peer other J → KeptByMessages plan peer other J
 message_heard plan me peer other J keeps = record {

@@ -26,6 +26,8 @@ pub mod MentionLemmas
 pub mod NameLemmas
 pub mod OfferLemmas
 pub mod OutcomeLemmas
+pub mod PassingLemmas
+pub mod PieceLemmas
 pub mod PipeLemmas
 pub mod PlaceLemmas
 pub mod PlanLemmas

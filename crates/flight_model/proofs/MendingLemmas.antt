@@ -3,7 +3,9 @@ use Rattle.std.proofs.Common.{◌≡◌, ◌==◌, ℕ, zero, suc, Bool, true, f
 use Rattle.std.specs.List.{AllByRecursion}
 use Rattle.net_base.specs.declared.plan.Plan.{Plan}
 use Rattle.net_base.specs.declared.plan.places.EdgeId.{EdgeId}
+use Rattle.net_base.specs.declared.plan.places.WireId.{WireId}
 use Rattle.net_base.specs.declared.trace.down.Down.{Down}
+use Rattle.net_base.specs.declared.values.mac.Mac.{Mac}
 use Rattle.net_base.specs.plan.Places.{wire_row}
 use Rattle.label_space.specs.Labels.{numbers_end}
 use Rattle.pw_tlvs.specs.declared.pw_status.PwStatus.{PwStatus}
@@ -11,19 +13,21 @@ use Rattle.pw_signalling.specs.declared.told.Told.{Told}
 use Rattle.pw_signalling.specs.End.{LocalPart, Idle, Advertised, Withdrawing}
 use Rattle.edge_model.specs.declared.effect.Effect.TheVariants.{Wire}
 use Rattle.edge_model.specs.declared.end_place.EndPlace.{EndPlace}
-use Rattle.edge_model.specs.Content.{mapping}
+use Rattle.edge_model.specs.Content.{mac_withdrawal, mapping}
 use Rattle.edge_model.specs.EndPlaces.{end_places}
-use Rattle.edge_model.specs.Mend.{advertises_wish, advertising, cause_number, each_end, forgets_down, forgets_downs, forgetting_wire, mends, mends_again, mends_end, mends_few, mends_local, mends_once, mends_status, mends_status_of, stays, tells_down, tells_downs, tells_new_status, tells_over, wish, withdraws, withdraws_unless}
-use Rattle.edge_model.specs.Put.{Spoken}
+use Rattle.edge_model.specs.Mend.{advertises_wish, advertising, cause_number, each_end, forgets_down, forgets_downs, forgetting_wire, is_new_choice, mends, mends_again, mends_choice, mends_end, mends_few, mends_local, mends_once, mends_status, mends_status_of, tells_down, tells_downs, tells_new_status, tells_over, wish, withdraws, withdraws_unless}
+use Rattle.edge_model.specs.Put.{Spoken, stays}
 use Rattle.edge_model.specs.Role.{down_at, status_to_tell}
 use Rattle.edge_model.specs.Session.{says}
 use Rattle.edge_model.specs.Spokes.{choosing}
 use Rattle.edge_model.specs.State.{EdgeState, end_at, with_chosen, with_told_down}
+use Rattle.edge_model.specs.Withdraw.{tells_piece, tells_piece_by}
 use Rattle.edge_model.specs.Work.{Work, changes, gives}
 use Rattle.edge_model.proofs.BridgeLemmas.{LearnsOnly, forgetting_learns}
 use Rattle.network_model.specs.Absorb.{taken_all}
 use Rattle.flight_model.proofs.BridgeLemmas.{learns_keeps}
 use Rattle.flight_model.proofs.KeepLemmas.{KeepsEnds}
+use Rattle.flight_model.proofs.PieceLemmas.{IsPiece, none_are_piece}
 use Rattle.flight_model.proofs.PlaceLemmas.{IsEndOf, places_are}
 
 -- what is so of an edge at work at this place, and what each row of mending keeps
@@ -38,6 +42,9 @@ pub record KeptByRows (plan : Plan) (me : EdgeId) (I : Work → Type 0) : Type 0
   -- an end that has told a status tells another one
   pub tells : (place : EndPlace) (label : ℕ) (content : Told) (last : PwStatus) (work : Work) → IsEndOf plan me place → (end_at work.edge place).local ≡ Advertised label content → content.status ≡ Some last
       → last.0 == (status_to_tell plan work.edge place).0 ≡ false → I work → I (tells_new_status taken_all place content (status_to_tell plan work.edge place) work).work
+  -- an end that advertises tells that addresses are to be forgotten
+  pub clears : (place : EndPlace) (label : ℕ) (content : Told) (addresses : List Mac) (work : Work) → IsEndOf plan me place → (end_at work.edge place).local ≡ Advertised label content → IsPiece addresses
+      → I work → I (says taken_all place.peer (mac_withdrawal place.pw_id addresses content) work).work
   -- a wire that began to forward, or stopped, is told
   pub tells_down : (place : EndPlace) (down : Option Down) (work : Work) → IsEndOf plan me place → I work → I (gives (Wire place.wire down) (changes (with_told_down place.wire down) work))
   -- what leaves neighbours and the ends of pseudowires as they were
@@ -49,7 +56,7 @@ unfolding with_chosen
 choosing_rest plan edge = (record { me = refl; wire_on = refl; bits = refl; ends = refl; told_down = refl; next_label = refl }, refl)
 
 module _ (plan : Plan) (me : EdgeId) (I : Work → Type 0) (kept : KeptByRows plan me I) where
-  end_keeps : (place : EndPlace) → IsEndOf plan me place → (work : Work) → I work → I (mends_end plan taken_all place work).work
+  pub end_keeps : (place : EndPlace) → IsEndOf plan me place → (work : Work) → I work → I (mends_end plan taken_all place work).work
   end_keeps place is work i = by_local (end_at work.edge place).local refl where
     by_label : (content : Told) → (end_at work.edge place).local ≡ Idle false → wish plan work.edge place ≡ Some content → (none : Bool) → work.edge.next_label == numbers_end ≡ none
         → I (cond none (stays work) (says taken_all place.peer (mapping place.pw_id work.edge.next_label content) (changes (advertising place work.edge.next_label content) work))).work
@@ -70,7 +77,7 @@ module _ (plan : Plan) (me : EdgeId) (I : Work → Type 0) (kept : KeptByRows pl
     by_local (Advertised label content) at = unless label content at (wish plan work.edge place) refl
     by_local (Withdrawing label) at = i
 
-  status_keeps : (place : EndPlace) → IsEndOf plan me place → (work : Work) → I work → I (mends_status plan taken_all place work).work
+  pub status_keeps : (place : EndPlace) → IsEndOf plan me place → (work : Work) → I work → I (mends_status plan taken_all place work).work
   status_keeps place is work i = by_local (end_at work.edge place).local refl where
     by_change : (label : ℕ) (content : Told) (last : PwStatus) → (end_at work.edge place).local ≡ Advertised label content → content.status ≡ Some last → (same : Bool)
         → last.0 == (status_to_tell plan work.edge place).0 ≡ same → I (cond same (stays work) (tells_new_status taken_all place content (status_to_tell plan work.edge place) work)).work
@@ -87,12 +94,26 @@ module _ (plan : Plan) (me : EdgeId) (I : Work → Type 0) (kept : KeptByRows pl
     by_local (Advertised label content) at = by_status label content at content.status refl
     by_local (Withdrawing label) at = i
 
-  each_keeps : (mend : EndPlace → Work → Spoken) → ((place : EndPlace) → IsEndOf plan me place → (work : Work) → I work → I (mend place work).work)
+  -- one piece of addresses
+  pub piece_keeps : (place : EndPlace) → IsEndOf plan me place → (addresses : List Mac) → IsPiece addresses → (work : Work) → I work → I (tells_piece taken_all place addresses work).work
+  piece_keeps place is addresses piece work i = by_local (end_at work.edge place).local refl where
+    by_local : (local : LocalPart) → (end_at work.edge place).local ≡ local → I (tells_piece_by taken_all place addresses local work).work
+    by_local (Idle declined) at = i
+    by_local (Advertised label content) at = kept.clears place label content addresses work is at piece i
+    by_local (Withdrawing label) at = i
+
+  pub choice_keeps : (before : ℕ → Option WireId) (place : EndPlace) → IsEndOf plan me place → (work : Work) → I work → I (mends_choice plan taken_all before place work).work
+  choice_keeps before place is work i = by_choice (is_new_choice before work.edge.chosen place.wire (wire_row plan place.wire)) where
+    by_choice : (chosen : Bool) → I (cond chosen (tells_piece taken_all place [] work) (stays work)).work
+    by_choice true = piece_keeps place is [] none_are_piece work i
+    by_choice false = i
+
+  pub each_keeps : (mend : EndPlace → Work → Spoken) → ((place : EndPlace) → IsEndOf plan me place → (work : Work) → I work → I (mend place work).work)
       → (places : List EndPlace) → AllByRecursion (IsEndOf plan me) places → (m : Spoken) → I m.work → I (each_end mend places m).work
   each_keeps mend one [] all m i = i
   each_keeps mend one (place ∷ places) all m i = each_keeps mend one places all.1 _ (one place all.0 m.work i)
 
-  forgets_keep : (places : List EndPlace) (work : Work) → I work → I (forgets_downs plan places work)
+  pub forgets_keep : (places : List EndPlace) (work : Work) → I work → I (forgets_downs plan places work)
   forgets_keep [] work i = i
   forgets_keep (place ∷ places) work i = forgets_keep places _ (by_side place.terminal) where
     by_down : (down : Option Down) → I (forgets_down plan place down work)
@@ -111,14 +132,14 @@ module _ (plan : Plan) (me : EdgeId) (I : Work → Type 0) (kept : KeptByRows pl
     by_cause true = i
     by_cause false = kept.tells_down place down work is i
 
-  downs_keep : (places : List EndPlace) → AllByRecursion (IsEndOf plan me) places → (work : Work) → I work → I (tells_downs plan places work)
+  pub downs_keep : (places : List EndPlace) → AllByRecursion (IsEndOf plan me) places → (work : Work) → I work → I (tells_downs plan places work)
   downs_keep [] all work i = i
   downs_keep (place ∷ places) all work i = downs_keep places all.1 _ (by_side place.terminal) where
     by_side : (terminal : Bool) → I (cond terminal (tells_down place (down_at plan work.edge place) work) work)
     by_side true = down_keeps place (down_at plan work.edge place) all.0 work i
     by_side false = i
 
-  chooses_keep : (work : Work) → I work → I (changes (choosing plan) work)
+  pub chooses_keep : (work : Work) → I work → I (changes (choosing plan) work)
   chooses_keep work i = (let rest = choosing_rest plan work.edge in kept.others (choosing plan) work rest.0 rest.1 i)
 
   once_keeps : (work : Work) → I work → I (mends_once plan taken_all work).work
@@ -126,8 +147,9 @@ module _ (plan : Plan) (me : EdgeId) (I : Work → Type 0) (kept : KeptByRows pl
       let all : AllByRecursion (IsEndOf plan me) (end_places plan work.edge.me) = subst (λ (k : EdgeId). AllByRecursion (IsEndOf plan me) (end_places plan k)) (sym (kept.placed work i)) (places_are plan me) in
       downs_keep (end_places plan work.edge.me) all _
       (forgets_keep (end_places plan work.edge.me) _
+      (each_keeps (mends_choice plan taken_all work.edge.chosen) (choice_keeps work.edge.chosen) (end_places plan work.edge.me) all _
       (each_keeps (mends_status plan taken_all) status_keeps (end_places plan work.edge.me) all _
-      (chooses_keep _ (each_keeps (mends_end plan taken_all) end_keeps (end_places plan work.edge.me) all (stays work) i))))
+      (chooses_keep _ (each_keeps (mends_end plan taken_all) end_keeps (end_places plan work.edge.me) all (stays work) i)))))
 
   again_keeps : (again : Work → Work) → ((work : Work) → I work → I (again work)) → (m : Spoken) → I m.work → I (mends_again again m)
   again_keeps again more m i = by_put m.failed where

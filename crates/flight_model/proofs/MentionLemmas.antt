@@ -3,6 +3,7 @@ use Rattle.std.proofs.Common.{◌≡◌, ◌++◌, ℕ, List, [], ◌∷◌, Opt
 use Rattle.std.specs.Option.{option_and_then}
 use Rattle.net_base.specs.declared.plan.Plan.{Plan}
 use Rattle.net_base.specs.declared.plan.places.EdgeId.{EdgeId}
+use Rattle.net_base.specs.declared.values.mac.Mac.{Mac}
 use Rattle.pw_tlvs.specs.declared.point.Point.{Point}
 use Rattle.pw_tlvs.specs.declared.pw_fec.PwFec.{PwFec}
 use Rattle.pw_tlvs.specs.declared.pw_status.PwStatus.{PwStatus}
@@ -17,7 +18,7 @@ use Rattle.session_core.specs.declared.reply.Reply.{Reply}
 use Rattle.session_core.specs.declared.reply.Reply.TheVariants as reply
 use Rattle.session_core.specs.Messages.{message_of}
 use Rattle.edge_model.specs.declared.end_place.EndPlace.{EndPlace}
-use Rattle.edge_model.specs.Content.{mapping, release, status_notification, withdrawal}
+use Rattle.edge_model.specs.Content.{mac_withdrawal, mapping, release, status_notification, withdrawal}
 use Rattle.edge_model.specs.EndPlaces.{end_named}
 use Rattle.edge_model.specs.Signal.{end_of_fec}
 use Rattle.edge_model.specs.State.{EdgeState}
@@ -73,7 +74,7 @@ pub withdrawal_names : (plan : Plan) (edge : EdgeState) (peer : ℕ) (place : En
     → MayName edge place.wire.0 peer label → NamesOwn plan edge peer (withdrawal pw_id label told id)
 withdrawal_names plan edge peer place pw_id label told id named may = rw named may
 
--- they name no label of the peer, and a status and a release name none of the edge's own
+-- they name no label of the peer, and a status, a MAC withdraw and a release name none of the edge's own
 pub mapping_far : (plan : Plan) (far : EdgeState) (me pw_id label : ℕ) (told : Told) (id : ℕ) → NamesFar plan far me (mapping pw_id label told id)
 mapping_far plan far me pw_id label told id = tt
 
@@ -85,6 +86,12 @@ status_own plan edge peer pw_id status told id = tt
 
 pub status_far : (plan : Plan) (far : EdgeState) (me pw_id : ℕ) (status : PwStatus) (told : Told) (id : ℕ) → NamesFar plan far me (status_notification pw_id status told id)
 status_far plan far me pw_id status told id = tt
+
+pub clearance_own : (plan : Plan) (edge : EdgeState) (peer pw_id : ℕ) (addresses : List Mac) (told : Told) (id : ℕ) → NamesOwn plan edge peer (mac_withdrawal pw_id addresses told id)
+clearance_own plan edge peer pw_id addresses told id = tt
+
+pub clearance_far : (plan : Plan) (far : EdgeState) (me pw_id : ℕ) (addresses : List Mac) (told : Told) (id : ℕ) → NamesFar plan far me (mac_withdrawal pw_id addresses told id)
+clearance_far plan far me pw_id addresses told id = tt
 
 pub release_own : (plan : Plan) (edge : EdgeState) (peer : ℕ) (fec : PwFec) (label : Option ℕ) (id : ℕ) → NamesOwn plan edge peer (release fec label id)
 release_own plan edge peer fec label id = tt

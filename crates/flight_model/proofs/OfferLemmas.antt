@@ -4,6 +4,7 @@ use Rattle.std.specs.Prelude.{IfSome, option_map}
 use Rattle.std.specs.List.{AllByRecursion}
 use Rattle.std.proofs.lemmas.Bool.Decides.{nat_tests}
 use Rattle.net_base.specs.declared.plan.offer.Offer.{Offer}
+use Rattle.net_base.specs.declared.values.mac.Mac.{Mac}
 use Rattle.net_base.specs.plan.Accepted.{IsOffer}
 use Rattle.net_base.specs.plan.Faults.{is_told_within}
 use Rattle.net_base.specs.values.Label.{IsLabel}
@@ -20,12 +21,13 @@ use Rattle.ldp_grammar.specs.Written.{IsState, label_tlvs, status_tlvs}
 use Rattle.ldp_grammar.proofs.OctetLemmas.{AreOctets, octet_front}
 use Rattle.ldp_grammar.proofs.WrittenOctets.{four_octets, no_octets, octets_append, status_are, two_octets}
 use Rattle.session_core.specs.declared.peers.Peers.{Peers}
-use Rattle.edge_model.specs.Content.{bare, bare_fec_of, content_of, fec_of, mapping, no_params, params_of, pw_status_notice, release, status_notification, withdrawal}
+use Rattle.edge_model.specs.Content.{bare, bare_fec_of, content_of, fec_of, mac_withdrawal, mapping, no_params, params_of, pw_status_notice, release, status_notification, withdrawal}
 use Rattle.ldp_grammar.specs.declared.message.Message.{Message}
 use Rattle.flight_model.specs.Ends.{IsFieldOffer}
 use Rattle.flight_model.specs.Flight.{is_initialization}
 use Rattle.flight_model.specs.Messages.{HaveOctets, IsSaid}
 use Rattle.flight_model.specs.Sound.{CanBeTold}
+use Rattle.flight_model.proofs.PieceLemmas.{IsPiece, macs_octets}
 
 -- a message of pseudowires, by its Message ID: any ends may say it, and it is no Initialization
 pub record IsOfWires (message : ℕ → Message) : Type 0 where
@@ -157,6 +159,20 @@ status_is pw_id label status told small fits can = record {
       (status_are pw_status_notice, (four_octets status.0, (bare_octets (bare_fec_of pw_id told) refl, tt))),
     ),
     inr (refl, refl, refl),
+  );
+  plain = λ id. refl;
+}
+
+-- a MAC withdraw of few addresses
+pub clearance_is : (pw_id label : ℕ) (macs : List Mac) (told : Told) → pw_id < 2 ^ 32 → IsPiece macs → CanBeTold label told → IsOfWires (mac_withdrawal pw_id macs told)
+clearance_is pw_id label macs told small piece can = record {
+  said = λ ends id few. (
+    (
+      (few, tt, bare_in_range (bare_fec_of pw_id told) refl can.group small, piece.are.six),
+      bare_writable (bare_fec_of pw_id told) refl can.kind,
+      (bare_octets (bare_fec_of pw_id told) refl, (macs_octets macs piece.are.octets, tt)),
+    ),
+    (refl, piece.few),
   );
   plain = λ id. refl;
 }

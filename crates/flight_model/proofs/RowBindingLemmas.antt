@@ -6,6 +6,7 @@ use Rattle.net_base.specs.declared.plan.Plan.{Plan}
 use Rattle.net_base.specs.declared.plan.offer.Offer.{Offer}
 use Rattle.net_base.specs.declared.plan.places.EdgeId.{EdgeId}
 use Rattle.net_base.specs.declared.trace.down.Down.{Down}
+use Rattle.net_base.specs.declared.values.mac.Mac.{Mac}
 use Rattle.net_base.specs.plan.Accepted.{IsChecked}
 use Rattle.net_base.specs.plan.Paths.{offer_of}
 use Rattle.net_base.specs.values.Label.{IsLabel}
@@ -17,7 +18,7 @@ use Rattle.pw_signalling.specs.End.{EndState, LocalPart, Idle, Advertised}
 use Rattle.pw_signalling.specs.Rows.{advertise_part, advertised, tell_part, telling, withdraw_part, withdrawn}
 use Rattle.edge_model.specs.declared.effect.Effect.TheVariants.{Wire}
 use Rattle.edge_model.specs.declared.end_place.EndPlace.{EndPlace}
-use Rattle.edge_model.specs.Content.{mapping, status_notification, withdrawal}
+use Rattle.edge_model.specs.Content.{mac_withdrawal, mapping, status_notification, withdrawal}
 use Rattle.edge_model.specs.Mend.{advertising, is_up_with, telling_status, wish, withdrawing}
 use Rattle.edge_model.specs.Role.{status_to_tell}
 use Rattle.edge_model.specs.Session.{says}
@@ -29,12 +30,13 @@ use Rattle.flight_model.specs.Ends.{HasTypes, ends_at}
 use Rattle.flight_model.specs.Meeting.{said_to}
 use Rattle.flight_model.specs.Pair.{IsStanding}
 use Rattle.flight_model.specs.Sound.{TellsSoundly}
-use Rattle.flight_model.proofs.BindingLemmas.{binding_advertises, binding_goes_on, binding_tells, binding_withdraws}
+use Rattle.flight_model.proofs.BindingLemmas.{binding_advertises, binding_goes_on, binding_says_other, binding_tells, binding_withdraws}
 use Rattle.flight_model.proofs.EdgeBindingLemmas.{SaysOf, bound_says, clash, end_beside_other, end_label, end_of_other, end_there}
 use Rattle.flight_model.proofs.KeepLemmas.{KeepsEnds}
 use Rattle.flight_model.proofs.LeaveLemmas.{leaves_goes, leaves_same, leaves_spoken}
 use Rattle.flight_model.proofs.MendingLemmas.{KeptByRows}
-use Rattle.flight_model.proofs.OfferLemmas.{IsOfWires, mapping_is, status_is, withdrawal_is}
+use Rattle.flight_model.proofs.OfferLemmas.{IsOfWires, clearance_is, mapping_is, status_is, withdrawal_is}
+use Rattle.flight_model.proofs.PieceLemmas.{IsPiece}
 use Rattle.flight_model.proofs.PlaceLemmas.{IsEndOf}
 use Rattle.flight_model.proofs.SpokenLemmas.{HasSpoken, says_spoken}
 use Rattle.flight_model.proofs.SteadyLemmas.{WishesOffer, advertised_up, end_small, next_is_label, offer_field, offer_fits, status_small, wishes}
@@ -115,6 +117,21 @@ telling_says place label told content status id edge at =
     (λ far out back is. subst (λ (l : LocalPart). IsBoundBy place.pw_id edge.next_label l far (out ++ status_notification place.pw_id status content id ∷ []) back) (sym (ap (tell_part status) at))
     (binding_tells place.pw_id edge.next_label label told content status id far out back (subst (λ (l : LocalPart). IsBoundBy place.pw_id edge.next_label l far out back) at is)))
     (λ pw_id apart. other_number place.pw_id pw_id apart) (λ pw_id next near. refl)
+
+-- it has told that addresses are to be forgotten, and is as it was
+clearing_says : (place : EndPlace) (addresses : List Mac) (content : Told) (id : ℕ) (edge : EdgeState) → SaysOf place (mac_withdrawal place.pw_id addresses content id) edge edge
+clearing_says place addresses content id edge = record {
+  goes = λ pw_id near far out back is. is;
+  others = λ wire away. refl;
+  remote = refl;
+  own = λ far out back is. binding_says_other place.pw_id edge.next_label (end_at edge place).local far out back (mac_withdrawal place.pw_id addresses content id) refl is;
+  silent = λ pw_id apart. refl;
+  releases = λ pw_id next near. refl;
+}
+
+unchanged_is : (work : Work) → changes (λ edge. edge) work ≡ work
+unfolding changes
+unchanged_is work = refl
 
 -- ---- a session that is up
 
@@ -226,6 +243,16 @@ module _ (plan : Plan) (me : EdgeId) (checked : IsChecked plan) (fars : ℕ → 
               (status_is place.pw_id label status content (end_small plan me place checked is) (status_small plan work.edge place (sound work all.0)) can.1) (said work all.0) all.1,
         )
 
+    all_clear : (place : EndPlace) (label : ℕ) (content : Told) (addresses : List Mac) (work : Work) → IsEndOf plan me place → (end_at work.edge place).local ≡ Advertised label content → IsPiece addresses
+        → KeepsAll work → KeepsAll (says taken_all place.peer (mac_withdrawal place.pw_id addresses content) work).work
+    all_clear place label content addresses work is at piece all =
+        let can = advertised_up (is_up_with (work.edge.peering place.peer.0)) (end_at work.edge place) label content ((sound work all.0).ends place.wire.0 place.peer.0) at in (
+          rows.clears place label content addresses work is at piece all.0,
+          subst (λ (w : Work). LeavesAll (says taken_all place.peer (mac_withdrawal place.pw_id addresses content) w).work) (unchanged_is work)
+              (row_leaves place (mac_withdrawal place.pw_id addresses content) (λ edge. edge) work is can.0 refl (λ id. clearing_says place addresses content id work.edge) (λ wire peer away. refl)
+              (clearance_is place.pw_id label addresses content (end_small plan me place checked is) piece can.1) (said work all.0) all.1),
+        )
+
     down_leaves : (place : EndPlace) (down : Option Down) (work : Work) → LeavesAll work → LeavesAll (gives (Wire place.wire down) (changes (with_told_down place.wire down) work))
     unfolding gives changes with_told_down
     down_leaves place down work leaves c away =
@@ -243,6 +270,7 @@ module _ (plan : Plan) (me : EdgeId) (checked : IsChecked plan) (fars : ℕ → 
       advertises = all_advertise;
       withdraws = all_withdraw;
       tells = all_tell;
+      clears = all_clear;
       tells_down = λ place down work is all. (rows.tells_down place down work is all.0, down_leaves place down work all.1);
       others = λ change work keeps peering all. (rows.others change work keeps peering all.0, others_leave change work keeps peering all.1);
     }

@@ -8,6 +8,7 @@ use Rattle.net_base.specs.declared.plan.places.WireId.{WireId}
 use Rattle.net_base.specs.declared.trace.state_name.Reason.TheVariants as reason
 use Rattle.net_base.specs.declared.trace.arrival.Arrival.TheVariants as arrival
 use Rattle.net_base.specs.plan.Accepted.{IsChecked}
+use Rattle.net_base.specs.plan.Places.{wire_row}
 use Rattle.net_base.specs.trace.Isolated.{inner_at}
 use Rattle.session_core.specs.Table as table
 use Rattle.edge_model.specs.Circuit.{is_same, turned}
@@ -16,9 +17,9 @@ use Rattle.edge_model.specs.EndPlaces.{ends_here, passes}
 use Rattle.edge_model.specs.Frame.{is_own, port_at, received}
 use Rattle.edge_model.specs.Mend.{mends}
 use Rattle.edge_model.specs.Session.{happens_with_ends}
-use Rattle.edge_model.specs.State.{EdgeState, has_end, is_on, with_bits, with_learned, without_ends, without_peerings}
+use Rattle.edge_model.specs.State.{EdgeState, has_end, is_on, with_bits, with_learned, with_priority, without_ends, without_peerings}
 use Rattle.edge_model.specs.Tick.{tick_input}
-use Rattle.edge_model.specs.Wire.{turned_wire}
+use Rattle.edge_model.specs.Wire.{is_own_spoke, turned_wire}
 use Rattle.edge_model.specs.Work.{Work, changes, idles}
 use Rattle.network_model.specs.Absorb.{answer, begin_at, idle, taken_all}
 use Rattle.network_model.specs.Circuit.{circuit_event}
@@ -28,11 +29,11 @@ use Rattle.network_model.specs.declared.packet.Packet.{Packet}
 use Rattle.network_model.specs.Packet.{again_event, arrive_event, discard_event, packet_work, repeating}
 use Rattle.network_model.specs.State.{NetworkState, stands, with_frame, with_packet, without_octets_to, without_packet}
 use Rattle.network_model.specs.Tick.{tick_at, tick_event, ticks_from}
-use Rattle.network_model.specs.Wire.{status_event, wire_event}
+use Rattle.network_model.specs.Wire.{priority_event, status_event, wire_event}
 use Rattle.flight_model.specs.Ends.{HasTypes}
 use Rattle.flight_model.specs.Facts.{FromBoth, HoldsBut, flight}
 use Rattle.flight_model.proofs.NameLemmas.{KeepsNames, names_restarted, names_same}
-use Rattle.flight_model.proofs.RuledInputLemmas.{circuit_ruled, idle_ruled, lost_ruled, packet_ruled, received_ruled, status_ruled, tick_ruled, wire_ruled}
+use Rattle.flight_model.proofs.RuledInputLemmas.{circuit_ruled, idle_ruled, lost_ruled, packet_ruled, priority_ruled, received_ruled, status_ruled, tick_ruled, wire_ruled}
 use Rattle.flight_model.proofs.RuledLemmas.{IsRuledEdge, WorksRuled, steps_keep}
 use Rattle.flight_model.proofs.RuledNetworkLemmas.{IsRuledNetwork, OutRules, RulesTo, StaysRuled, held_at, ruled_answer, ruled_begin, ruled_settle, ruled_work, stays_ruled, stays_then}
 use Rattle.flight_model.proofs.SettleLemmas.{apart_turned}
@@ -115,6 +116,18 @@ module _ (plan : Plan) (checked : IsChecked plan) (types : HasTypes plan) where
 
     by_test : (b : Bool) → StaysRuled plan network (answer me 0 0 (cond b (mends plan taken_all (changes (with_bits wire bits) begun)) (idles begun)) network).state
     by_test true = ruled_answer plan network me 0 0 (mends plan taken_all (changes (with_bits wire bits) begun)) ruled (status_ruled plan checked types network.edges me (network.edges me.0) (held_at network me.0) wire bits begun low works)
+    by_test false = ruled_answer plan network me 0 0 (idles begun) ruled (idle_ruled plan checked types network.edges me (network.edges me.0) (held_at network me.0) begun works)
+
+  pub priority_event_ruled : (me : EdgeId) (wire : WireId) (priority : ℕ) (network : NetworkState) → IsRuledNetwork plan network → StaysRuled plan network (priority_event plan me wire priority network).state
+  priority_event_ruled me wire priority network ruled = by_test (is_own_spoke begun.edge.me (wire_row plan wire) && not (nat_eq priority (begun.edge.priority wire.0))) where
+    begun : Work
+    begun = begin_at network me
+
+    works : At network me begun
+    works = ruled_begin plan network me ruled
+
+    by_test : (b : Bool) → StaysRuled plan network (answer me 0 0 (cond b (mends plan taken_all (changes (with_priority wire priority) begun)) (idles begun)) network).state
+    by_test true = ruled_answer plan network me 0 0 (mends plan taken_all (changes (with_priority wire priority) begun)) ruled (priority_ruled plan checked types network.edges me (network.edges me.0) (held_at network me.0) wire priority begun works)
     by_test false = ruled_answer plan network me 0 0 (idles begun) ruled (idle_ruled plan checked types network.edges me (network.edges me.0) (held_at network me.0) begun works)
 
   -- ---- frames

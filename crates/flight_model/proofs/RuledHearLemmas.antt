@@ -16,7 +16,7 @@ use Rattle.pw_tlvs.specs.declared.pw_fec.PwFec.{PwFec}
 use Rattle.pw_tlvs.specs.declared.pw_status.PwStatus.{PwStatus}
 use Rattle.pw_tlvs.specs.Written.{has_vlan, may_tell, writable_fec}
 use Rattle.ldp_grammar.specs.declared.message.Message.{Message}
-use Rattle.ldp_grammar.specs.declared.message.Message.TheVariants.{Notification, Initialization, KeepAlive, LabelMapping, LabelWithdraw, LabelRelease}
+use Rattle.ldp_grammar.specs.declared.message.Message.TheVariants.{Notification, Initialization, KeepAlive, AddressWithdraw, LabelMapping, LabelWithdraw, LabelRelease}
 use Rattle.ldp_grammar.specs.declared.status_code.StatusCode.{StatusCode}
 use Rattle.pw_signalling.specs.declared.binding.Binding.{Binding}
 use Rattle.pw_signalling.specs.End.{EndState}
@@ -35,13 +35,14 @@ use Rattle.network_model.specs.Absorb.{taken_all}
 use Rattle.flight_model.specs.Ends.{HasTypes, ends_at}
 use Rattle.flight_model.specs.Messages.{IsSaid}
 use Rattle.flight_model.specs.Rules.{AllMessages, BindsGiven, FarTells, MayName, MayNameAt, NamesTold, TellsExpected, TellsOfWire, told_of}
-use Rattle.flight_model.proofs.HearingLemmas.{KeptByHearing}
+use Rattle.flight_model.proofs.HearingLemmas.{KeptByHearing, withdraws_addresses}
 use Rattle.flight_model.proofs.MendingLemmas.{KeptByRows}
 use Rattle.flight_model.proofs.MentionLemmas.{binds_status, binds_unless, release_of_withdrawal, release_own}
 use Rattle.flight_model.proofs.NameLemmas.{end_fact, names_end, names_same, owns_released}
 use Rattle.flight_model.proofs.OfferLemmas.{IsOfWires, release_is}
 use Rattle.flight_model.proofs.PlaceLemmas.{NamedEnd, end_of}
 use Rattle.flight_model.proofs.RuledLemmas.{ChangesEnds, FitsIf, IsFitEnd, IsRuled, WorksRuled, changes_keep}
+use Rattle.flight_model.proofs.RowLemmas.{clash}
 use Rattle.flight_model.proofs.RuledMendLemmas.{rows_ruled}
 use Rattle.flight_model.proofs.RuledSessionLemmas.{event_ruled, says_ruled}
 use Rattle.flight_model.proofs.SaidLemmas.{ready}
@@ -60,6 +61,7 @@ rows_hearing plan others me peer first held messages rows = record {
   advertises = λ place content work end_is idle wished some hears. record { works = rows.advertises place content work end_is idle wished some hears.works; to_hear = hears.to_hear };
   withdraws = λ place label content work end_is at wished hears. record { works = rows.withdraws place label content work end_is at wished hears.works; to_hear = hears.to_hear };
   tells = λ place label content last work end_is at told other hears. record { works = rows.tells place label content last work end_is at told other hears.works; to_hear = hears.to_hear };
+  clears = λ place label content addresses work end_is at piece hears. record { works = rows.clears place label content addresses work end_is at piece hears.works; to_hear = hears.to_hear };
   tells_down = λ place down work end_is hears. record { works = rows.tells_down place down work end_is hears.works; to_hear = hears.to_hear };
   others = λ change work keeps peering hears. record { works = rows.others change work keeps peering hears.works; to_hear = hears.to_hear };
 }
@@ -219,14 +221,15 @@ module _ (plan : Plan) (checked : IsChecked plan) (types : HasTypes plan) (other
 
   -- ---- one message
 
-  acts_ruled : (other : Peers) (m : Message) (work : Work) → IsSaid other m → Ruled m → At work → At (acts_on plan taken_all peer m work)
-  acts_ruled other (Initialization id params) work said ruled works = works
-  acts_ruled other (KeepAlive id) work said ruled works = works
-  acts_ruled other (Notification id code status fec) work said ruled works = status_heard id code status fec work ruled works
-  acts_ruled other (LabelMapping id fec label status points) work said ruled works = mapping_heard id fec label status points work ruled works
-  acts_ruled other (LabelWithdraw id fec label) work said ruled works = withdrawal_heard id fec label work ruled works
-  acts_ruled other (LabelRelease id fec label) work said ruled works = release_heard fec label work works
-  acts_ruled other m work said ruled works = absurd said
+  acts_ruled : (other : Peers) (m : Message) (work : Work) → IsSaid other m → withdraws_addresses m ≡ false → Ruled m → At work → At (acts_on plan taken_all peer m work)
+  acts_ruled other (Initialization id params) work said plain ruled works = works
+  acts_ruled other (KeepAlive id) work said plain ruled works = works
+  acts_ruled other (Notification id code status fec) work said plain ruled works = status_heard id code status fec work ruled works
+  acts_ruled other (AddressWithdraw id addresses fec macs) work said plain ruled works = clash (sym plain)
+  acts_ruled other (LabelMapping id fec label status points) work said plain ruled works = mapping_heard id fec label status points work ruled works
+  acts_ruled other (LabelWithdraw id fec label) work said plain ruled works = withdrawal_heard id fec label work ruled works
+  acts_ruled other (LabelRelease id fec label) work said plain ruled works = release_heard fec label work works
+  acts_ruled other m work said plain ruled works = absurd said
 
   window : (kept : Peering) (work : Work) → work.edge.peering peer.0 ≡ Some kept → At work → IsFitEnd (ends_at plan me.0 peer.0) kept
   window kept work at works = subst (FitsIf (ends_at plan me.0 peer.0)) at (works.edge.sessions peer.0)
@@ -237,6 +240,7 @@ module _ (plan : Plan) (checked : IsChecked plan) (types : HasTypes plan) (other
     sender = λ messages work hears. record { works = event_ruled plan others me.0 first held peer (Heard (platform_of (ends_at plan peer.0 me.0).me)) work tt hears.works; to_hear = hears.to_hear };
     gone = λ m messages work at hears. record { works = hears.works; to_hear = hears.to_hear.1 };
     event = λ m messages kept work at said ends hears. record { works = event_ruled plan others me.0 first held peer (Received m) work (hears.to_hear.0.ready.fits, hears.to_hear.0.ready.can) hears.works; to_hear = hears.to_hear.1 };
-    acts = λ m messages kept work at up said plain hears. record { works = acts_ruled (ends_at plan peer.0 me.0) m work said hears.to_hear.0 hears.works; to_hear = hears.to_hear.1 };
+    acts = λ m messages kept work at up said plain pseudowires hears. record { works = acts_ruled (ends_at plan peer.0 me.0) m work said pseudowires hears.to_hear.0 hears.works; to_hear = hears.to_hear.1 };
+    goes_by = λ m messages kept work at up said addresses hears. record { works = hears.works; to_hear = hears.to_hear.1 };
     mends = λ messages. rows_hearing plan others me peer.0 first held messages (rows_ruled plan checked types others me first held);
   }

@@ -17,7 +17,7 @@ use Rattle.edge_model.specs.Frame.{received}
 use Rattle.edge_model.specs.Mend.{mends}
 use Rattle.edge_model.specs.Packet.{packet_input}
 use Rattle.edge_model.specs.Session.{happens_with_ends}
-use Rattle.edge_model.specs.State.{EdgeState, with_addresses, with_bits, with_circuit, with_learned, with_renewed, with_ticks, with_wire}
+use Rattle.edge_model.specs.State.{EdgeState, with_addresses, with_bits, with_circuit, with_learned, with_priority, with_renewed, with_ticks, with_wire}
 use Rattle.edge_model.specs.Tick.{counted, forgetting, ticks_sessions}
 use Rattle.edge_model.specs.Wire.{turned_wire}
 use Rattle.edge_model.specs.Work.{Work, Answers, changes, idles}
@@ -67,6 +67,10 @@ forgetting_leaves plan edge = record { same = record { me = refl; ends = refl; b
 wire_leaves : (wire : WireId) (on : Bool) (edge : EdgeState) → LeavesEnds edge (with_wire wire on edge)
 unfolding with_wire
 wire_leaves wire on edge = record { same = record { me = refl; ends = refl; bits = refl; next = refl }; peering = refl }
+
+priority_leaves : (wire : WireId) (priority : ℕ) (edge : EdgeState) → LeavesEnds edge (with_priority wire priority edge)
+unfolding with_priority
+priority_leaves wire priority edge = record { same = record { me = refl; ends = refl; bits = refl; next = refl }; peering = refl }
 
 bridged_quiet : (old new : Work) → IsBridged old new → IsQuietStep old new
 bridged_quiet old new bridged = record {
@@ -153,6 +157,9 @@ module _ (plan : Plan) (checked : IsChecked plan) (types : HasTypes plan) (other
 
   pub status_ruled : (wire : WireId) (bits : ℕ) (work : Work) → bits ≤ 31 → WorksRuled plan others me.0 first held work → WorksRuled plan others me.0 first held (mends plan taken_all (changes (with_bits wire bits) work))
   status_ruled wire bits work low works = mends_ruled (changes (with_bits wire bits) work) (changes_keep plan others me.0 first held (with_bits wire bits) work (bits_changes wire bits work low works) works)
+
+  pub priority_ruled : (wire : WireId) (priority : ℕ) (work : Work) → WorksRuled plan others me.0 first held work → WorksRuled plan others me.0 first held (mends plan taken_all (changes (with_priority wire priority) work))
+  priority_ruled wire priority work works = mends_ruled (changes (with_priority wire priority) work) (leaves_keep (with_priority wire priority) work (priority_leaves wire priority work.edge) works)
 
   -- ---- frames and packets
 

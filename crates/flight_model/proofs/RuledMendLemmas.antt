@@ -8,6 +8,7 @@ use Rattle.net_base.specs.declared.plan.places.EdgeId.{EdgeId}
 use Rattle.net_base.specs.declared.plan.places.WireId.{WireId}
 use Rattle.net_base.specs.declared.plan.wire_plan.WirePlan.{WirePlan}
 use Rattle.net_base.specs.declared.trace.down.Down.{Down}
+use Rattle.net_base.specs.declared.values.mac.Mac.{Mac}
 use Rattle.net_base.specs.plan.Accepted.{IsChecked, IsOffer, IsWireOf}
 use Rattle.net_base.specs.plan.Paths.{expected, follows, is_first, joins, offer_of}
 use Rattle.net_base.specs.plan.Places.{wire_row}
@@ -21,7 +22,7 @@ use Rattle.pw_signalling.specs.Rows.{advertised, telling, withdrawn}
 use Rattle.spoke_redundancy.specs.Telling.{is_not_chosen}
 use Rattle.edge_model.specs.declared.effect.Effect.TheVariants.{Wire}
 use Rattle.edge_model.specs.declared.end_place.EndPlace.{EndPlace}
-use Rattle.edge_model.specs.Content.{content_of, mapping, status_notification, withdrawal}
+use Rattle.edge_model.specs.Content.{content_of, mac_withdrawal, mapping, status_notification, withdrawal}
 use Rattle.edge_model.specs.EndPlaces.{end_named, is_terminal}
 use Rattle.edge_model.specs.Mend.{advertising, is_up_with, status_held, status_offered, telling_status, tells_status, terminal_wish, wish, withdrawing}
 use Rattle.edge_model.specs.Role.{role_at, status_to_tell}
@@ -34,16 +35,17 @@ use Rattle.flight_model.specs.Rules.{BindsGiven, MayName, NearTells, TellsExpect
 use Rattle.flight_model.specs.Sound.{CanBeTold}
 use Rattle.flight_model.proofs.KeepLemmas.{KeepsEnds}
 use Rattle.flight_model.proofs.MendingLemmas.{KeptByRows}
-use Rattle.flight_model.proofs.MentionLemmas.{mapping_far, mapping_names, status_far, status_own, withdrawal_far, withdrawal_names}
+use Rattle.flight_model.proofs.MentionLemmas.{clearance_far, clearance_own, mapping_far, mapping_names, status_far, status_own, withdrawal_far, withdrawal_names}
 use Rattle.flight_model.proofs.NameLemmas.{end_fact, is_same, names_advertising, names_new, names_telling, names_withdrawing, split}
-use Rattle.flight_model.proofs.OfferLemmas.{IsOfWires, content_can, mapping_is, status_is, withdrawal_is}
+use Rattle.flight_model.proofs.OfferLemmas.{IsOfWires, clearance_is, content_can, mapping_is, status_is, withdrawal_is}
+use Rattle.flight_model.proofs.PieceLemmas.{IsPiece}
 use Rattle.flight_model.proofs.PlaceLemmas.{IsEndOf, NamedEnd, end_of}
 use Rattle.flight_model.proofs.PlanLemmas.{row_holds}
 use Rattle.flight_model.proofs.RuledLemmas.{ChangesEnds, IsQuietStep, IsRuled, WorksRuled, changes_keep, quiet_keeps}
 use Rattle.flight_model.proofs.RuledSessionLemmas.{SaysNothing, gives_quiet, says_ruled}
 use Rattle.flight_model.proofs.SaidLemmas.{ready}
 use Rattle.flight_model.proofs.TellLemmas.{TellsOwnOffer, tells_own_offer}
-use Rattle.flight_model.proofs.ToldLemmas.{TellsAt, has_status, local_tells, mapping_tells, near_advertised, near_told, near_withdrawn, notification_tells, offer_tells, withdrawal_tells}
+use Rattle.flight_model.proofs.ToldLemmas.{TellsAt, clearance_tells, has_status, local_tells, mapping_tells, near_advertised, near_told, near_withdrawn, notification_tells, offer_tells, withdrawal_tells}
 
 clash : {P : Type 0} → false ≡ true → P
 clash e = absurd (cc)
@@ -304,6 +306,22 @@ module _ (plan : Plan) (checked : IsChecked plan) (types : HasTypes plan) (other
       })
       (changes_keep plan others me.0 first held (telling_status place status) work new works)
 
+  clears_ruled : (place : EndPlace) (label : ℕ) (content : Told) (addresses : List Mac) (work : Work) → IsEndOf plan me place → (end_at work.edge place).local ≡ Advertised label content → IsPiece addresses → At work
+      → At (says taken_all place.peer (mac_withdrawal place.pw_id addresses content) work).work
+  clears_ruled place label content addresses work end_is at piece works =
+      let tells : TellsExpected plan end_is.row me.0 place.peer.0 content = near_is place label content work end_is at works in
+      let row_small : place.pw_id < 2 ^ 32 = subst (λ (n : ℕ). n < 2 ^ 32) (sym end_is.pw_id) (pw_id_fits plan place.wire end_is.row checked end_is.is) in
+      let sayable : IsOfWires (mac_withdrawal place.pw_id addresses content) =
+      clearance_is place.pw_id label addresses content row_small piece (told_can plan place.wire end_is.row me.0 place.peer.0 label content types end_is.is tells (label_is place label content work at works)) in
+      says_ruled plan others me.0 first held place.peer (mac_withdrawal place.pw_id addresses content) work
+      (λ id low fit away. record {
+        fit = fit;
+        ready = ready (ends_at plan me.0 place.peer.0) (mac_withdrawal place.pw_id addresses content id) fit (sayable.said (ends_at plan me.0 place.peer.0) id low);
+        own = clearance_own plan work.edge place.peer.0 place.pw_id addresses content id;
+        far = clearance_far plan (others place.peer.0) me.0 place.pw_id addresses content id;
+        tells = clearance_tells plan place.wire end_is.row me.0 place.peer.0 place.pw_id id addresses content end_is.is end_is.joined end_is.pw_id tells;
+      }) works
+
   wire_nothing : (wire : WireId) (down : Option Down) → SaysNothing (Wire wire down)
   wire_nothing wire down = record { says = λ place. refl; closes = λ place. refl }
 
@@ -332,6 +350,7 @@ module _ (plan : Plan) (checked : IsChecked plan) (types : HasTypes plan) (other
     advertises = λ place content work end_is idle wished some works. advertises_ruled place content work end_is idle wished some works;
     withdraws = λ place label content work end_is at wished works. withdraws_ruled place label content work end_is at works;
     tells = λ place label content last work end_is at told other works. tells_ruled place label content last (status_to_tell plan work.edge place) work end_is at told (status_small plan work.edge place (works.edge.bits place.wire.0)) works;
+    clears = clears_ruled;
     tells_down = λ place down work end_is works. downs_ruled place.wire down work works;
     others = λ change work keeps peering works. quiet_keeps plan others me.0 first held work (changes change work) (change_quiet change work keeps peering) works;
   }

@@ -5,7 +5,7 @@ use Rattle.std.specs.List.{All}
 use Rattle.net_base.specs.declared.plan.Plan.{Plan}
 use Rattle.net_base.specs.declared.plan.edge_plan.EdgePlan.{EdgePlan}
 use Rattle.net_base.specs.declared.trace.event.Event.{Event}
-use Rattle.net_base.specs.declared.trace.event.Event.TheVariants.{Connect, Deliver, Lose, Restart, Tick, Frame, Arrive, Discard, Again, Wire, Circuit, Status}
+use Rattle.net_base.specs.declared.trace.event.Event.TheVariants.{Connect, Deliver, Lose, Restart, Tick, Frame, Arrive, Discard, Again, Wire, Circuit, Status, Priority}
 use Rattle.net_base.specs.plan.Accepted.{IsChecked, IsEdge}
 use Rattle.net_base.specs.plan.Places.{circuit_row}
 use Rattle.net_base.specs.plan.Planned.{IsEventOf}
@@ -21,7 +21,7 @@ use Rattle.flight_model.specs.Rules.{NamesFar, NamesOwn, TellsPlan}
 use Rattle.flight_model.proofs.MentionLemmas.{all_kept}
 use Rattle.flight_model.proofs.PlanLemmas.{row_holds}
 use Rattle.flight_model.proofs.RuledDeliverLemmas.{connect_event_ruled, deliver_event_ruled, ruled_said}
-use Rattle.flight_model.proofs.RuledEventLemmas.{again_event_ruled, arrive_event_ruled, circuit_event_ruled, discard_event_ruled, frame_event_ruled, lose_ruled, restart_event_ruled, status_event_ruled, tick_event_ruled, wire_event_ruled}
+use Rattle.flight_model.proofs.RuledEventLemmas.{again_event_ruled, arrive_event_ruled, circuit_event_ruled, discard_event_ruled, frame_event_ruled, lose_ruled, priority_event_ruled, restart_event_ruled, status_event_ruled, tick_event_ruled, wire_event_ruled}
 use Rattle.flight_model.proofs.RuledLemmas.{IsRuled}
 use Rattle.flight_model.proofs.RuledNetworkLemmas.{IsRuledNetwork, RulesTo, StaysRuled, stays_ruled}
 use Rattle.flight_model.proofs.RunLemmas.{empty_ordered, run_ordered, step_keeps}
@@ -40,6 +40,7 @@ brings_stays plan (Frame circuit octets) network checked types planned ordered r
 brings_stays plan (Circuit circuit on) network checked types planned ordered ruled = circuit_event_ruled plan checked types circuit on (circuit_row plan circuit) network ruled
 brings_stays plan (Wire me wire on) network checked types planned ordered ruled = wire_event_ruled plan checked types me wire on network ruled
 brings_stays plan (Status me wire bits) network checked types planned ordered ruled = status_event_ruled plan checked types me wire bits network planned.2 ruled
+brings_stays plan (Priority me wire priority) network checked types planned ordered ruled = priority_event_ruled plan checked types me wire priority network ruled
 brings_stays plan (Arrive number) network checked types planned ordered ruled = arrive_event_ruled plan checked types (packet_at network number) network ruled
 brings_stays plan (Discard number) network checked types planned ordered ruled = discard_event_ruled plan checked types (packet_at network number) network ruled
 brings_stays plan (Again number) network checked types planned ordered ruled = again_event_ruled plan checked types (packet_at network number) network ruled

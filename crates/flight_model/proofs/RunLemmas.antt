@@ -4,7 +4,7 @@ use Rattle.std.proofs.lemmas.Bool.{cases_Bool, eqb-true}
 use Rattle.net_base.specs.declared.plan.Plan.{Plan}
 use Rattle.net_base.specs.declared.values.addr.Addr.{Addr}
 use Rattle.net_base.specs.declared.trace.event.Event.{Event}
-use Rattle.net_base.specs.declared.trace.event.Event.TheVariants.{Connect, Deliver, Lose, Restart, Tick, Frame, Arrive, Discard, Again, Wire, Circuit, Status}
+use Rattle.net_base.specs.declared.trace.event.Event.TheVariants.{Connect, Deliver, Lose, Restart, Tick, Frame, Arrive, Discard, Again, Wire, Circuit, Status, Priority}
 use Rattle.std.proofs.lemmas.List.Elements.{All-head, All-tail}
 use Rattle.std.specs.List.{All}
 use Rattle.label_space.specs.Labels.{numbers_end}
@@ -27,7 +27,7 @@ use Rattle.flight_model.specs.Flight.{is_row}
 use Rattle.flight_model.specs.Laws.{BothStand, FollowsTable, HasRow, IsRun, IsStill, IsUp, RunsComeUp, RunsEndWell, RunsFollowTable, network_after}
 use Rattle.flight_model.specs.Messages.{octets_of_all}
 use Rattle.flight_model.specs.Pair.{ArePaired}
-use Rattle.flight_model.proofs.CircuitLemmas.{again_keeps, arrive_keeps, circuit_keeps, discard_keeps, frame_keeps, status_keeps, wire_keeps}
+use Rattle.flight_model.proofs.CircuitLemmas.{again_keeps, arrive_keeps, circuit_keeps, discard_keeps, frame_keeps, priority_keeps, status_keeps, wire_keeps}
 use Rattle.flight_model.proofs.ConnectLemmas.{connect_keeps}
 use Rattle.flight_model.proofs.EventLemmas.{deliver_keeps, lose_keeps, restart_keeps, tick_keeps}
 use Rattle.flight_model.proofs.PipeLemmas.{good-append}
@@ -46,6 +46,7 @@ brings_keeps plan (Frame circuit octets) network checked types planned ordered =
 brings_keeps plan (Circuit circuit on) network checked types planned ordered = circuit_keeps plan circuit on (circuit_row plan circuit) network checked types ordered
 brings_keeps plan (Wire me wire on) network checked types planned ordered = wire_keeps plan me wire on network checked types ordered
 brings_keeps plan (Status me wire bits) network checked types planned ordered = status_keeps plan me wire bits network checked types planned.2 ordered
+brings_keeps plan (Priority me wire priority) network checked types planned ordered = priority_keeps plan me wire priority network checked types ordered
 brings_keeps plan (Arrive number) network checked types planned ordered = arrive_keeps plan (packet_at network number) network checked types ordered
 brings_keeps plan (Discard number) network checked types planned ordered = discard_keeps plan (packet_at network number) network ordered
 brings_keeps plan (Again number) network checked types planned ordered = again_keeps plan (packet_at network number) network ordered

@@ -1,10 +1,13 @@
 -- What the messages of a peer make of a session.
-use Rattle.std.proofs.Common.{◌≡◌, ◌≤◌, ◌<◌, ◌+◌, ◌++◌, ◌∙◌, ℕ, true, false, List, [], ◌∷◌, length, None, refl, sym, ap, subst, append_assoc, arith, ⊎_elim}
+use Rattle.std.proofs.Common.{◌≡◌, ◌≤◌, ◌<◌, ◌+◌, ◌++◌, ◌∙◌, ℕ, true, false, List, [], ◌∷◌, length, Some, None, refl, sym, ap, subst, append_assoc, arith, ⊎_elim}
 use Rattle.std.specs.List.{AllByRecursion}
 use Rattle.net_base.specs.declared.trace.state_name.Reason.TheVariants as reason
 use Rattle.net_base.specs.declared.values.addr.Addr.{Addr}
+use Rattle.net_base.specs.declared.values.mac.Mac.{Mac}
+use Rattle.pw_tlvs.specs.declared.pw_fec.PwFec.{PwFec}
+use Rattle.mac_withdraw.specs.Pieces.{most_in_piece}
 use Rattle.ldp_grammar.specs.declared.message.Message.{Message}
-use Rattle.ldp_grammar.specs.declared.message.Message.TheVariants.{Notification, Initialization, KeepAlive, LabelMapping, LabelWithdraw, LabelRelease}
+use Rattle.ldp_grammar.specs.declared.message.Message.TheVariants.{Notification, Initialization, KeepAlive, AddressWithdraw, LabelMapping, LabelWithdraw, LabelRelease}
 use Rattle.ldp_grammar.specs.declared.session_params.SessionParams.{SessionParams}
 use Rattle.ldp_grammar.specs.declared.status_code.StatusCode.{StatusCode}
 use Rattle.ldp_grammar.specs.Written.{Fits, mac_count, message_octets, writable, written}
@@ -23,10 +26,12 @@ use Rattle.session_core.specs.Reasons.{is_fatal, is_keep_alive}
 use Rattle.session_core.specs.State.{SessionState, is_active}
 use Rattle.session_core.specs.Table.{Heard, Received, Stay, Goes, Ends, enters, outcome_of}
 use Rattle.session_core.proofs.PutLemmas.{replies_are_put}
+use Rattle.edge_model.specs.Content.{no_params}
 use Rattle.edge_model.specs.Put.{platform_of}
 use Rattle.flight_model.specs.Flight.{is_initialization}
 use Rattle.flight_model.specs.Messages.{IsLeaving, IsSaid, IsSound, IsStatusNotice, AreSaid, expiry, octets_of_all}
 use Rattle.flight_model.specs.Pair.{AreFit}
+use Rattle.flight_model.proofs.PieceLemmas.{withdraw_is_short}
 use Rattle.flight_model.proofs.RowLemmas.{clash}
 
 -- ---- outcomes
@@ -56,6 +61,7 @@ pub stays_up : (s : SessionState) (ends : Peers) (m : Message) → s.phase ≡ p
 stays_up s ends (Initialization id params) at said fatal = rw at refl
 stays_up s ends (KeepAlive id) at said fatal = rw at refl
 stays_up s ends (Notification id status pw fec) at said fatal = rw (at, fatal) refl
+stays_up s ends (AddressWithdraw id addresses fec macs) at said fatal = rw at refl
 stays_up s ends (LabelMapping id fec label status points) at said fatal = rw at refl
 stays_up s ends (LabelWithdraw id fec label) at said fatal = rw at refl
 stays_up s ends (LabelRelease id fec label) at said fatal = rw at refl
@@ -81,6 +87,7 @@ leaving_form ends (Notification id status pw fec) said fatal = ⊎_elim
     (λ (h : IsLeaving status pw fec). record { id = id; is = rw (h.0, h.1, h.2) refl })
     (λ (h : IsStatusNotice status pw fec). clash (sym (ap (λ (c : StatusCode). c.fatal) h.0) ∙ fatal))
     said.1
+leaving_form ends (AddressWithdraw id addresses fec macs) said fatal = clash fatal
 leaving_form ends (LabelMapping id fec label status points) said fatal = clash fatal
 leaving_form ends (LabelWithdraw id fec label) said fatal = clash fatal
 leaving_form ends (LabelRelease id fec label) said fatal = clash fatal
@@ -135,6 +142,16 @@ ready_sound ends m fit none few sound = record {
   octets = written_are m (platform_of ends.me) sound.2 (address_octets ends.me.0 fit.me.octets);
 }
 
+-- a MAC withdraw
+ready_withdraw : (ends : Peers) (id : ℕ) (pw : PwFec) (macs : List Mac) → AreFit ends → pw.params ≡ no_params → length macs ≤ most_in_piece → IsSound (AddressWithdraw id None (Some pw) (Some macs))
+    → IsReady (AddressWithdraw id None (Some pw) (Some macs)) ends.me
+ready_withdraw ends id pw macs fit bare few sound = record {
+  can = sound.1;
+  fits = sound.0;
+  short = withdraw_is_short id pw macs bare few sound.0.3;
+  octets = written_are (AddressWithdraw id None (Some pw) (Some macs)) (platform_of ends.me) sound.2 (address_octets ends.me.0 fit.me.octets);
+}
+
 pub ready : (ends : Peers) (m : Message) → AreFit ends → IsSaid ends m → IsReady m ends.me
 ready ends (Initialization id params) fit said =
     subst (λ (p : SessionParams). IsReady (Initialization id p) ends.me) (sym said.1)
@@ -150,6 +167,8 @@ ready ends (Initialization id params) fit said =
     ))
 ready ends (KeepAlive id) fit said = ready_reply ends reply.KeepAlive id fit tt said
 ready ends (Notification id status pw fec) fit said = ready_sound ends (Notification id status pw fec) fit refl (omega arith) said.0
+ready ends (AddressWithdraw id None (Some pw) (Some macs)) fit said = ready_withdraw ends id pw macs fit said.1.0 said.1.1 said.0
+ready ends (AddressWithdraw id addresses pw macs) fit said = absurd said.1
 ready ends (LabelMapping id fec label status points) fit said = ready_sound ends (LabelMapping id fec label status points) fit refl (omega arith) said
 ready ends (LabelWithdraw id fec label) fit said = ready_sound ends (LabelWithdraw id fec label) fit refl (omega arith) said
 ready ends (LabelRelease id fec label) fit said = ready_sound ends (LabelRelease id fec label) fit refl (omega arith) said

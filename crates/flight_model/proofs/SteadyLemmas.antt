@@ -1,6 +1,6 @@
 -- What is kept by calm steps of an edge at work is kept by mending, and by what an edge makes of a message: changes of its ends,
 -- effects that say nothing to a neighbour, and messages about pseudowires in sessions that are up.
-use Rattle.std.proofs.Common.{◌≡◌, ◌≤◌, ◌<◌, ◌^◌, ◌==◌, ◌&&◌, ◌||◌, ◌∙◌, ℕ, Bool, true, false, cond, [], ◌∷◌, Option, Some, None, refl, sym, ap, subst, arith}
+use Rattle.std.proofs.Common.{◌≡◌, ◌≤◌, ◌<◌, ◌^◌, ◌==◌, ◌&&◌, ◌||◌, ◌∙◌, ℕ, Bool, true, false, cond, List, [], ◌∷◌, Option, Some, None, refl, sym, ap, subst, arith}
 use Rattle.std.proofs.lemmas.Bool.Decides.{nat_tests}
 use Rattle.label_space.specs.Labels.{numbers_end}
 use Rattle.net_base.specs.declared.plan.Plan.{Plan}
@@ -8,6 +8,7 @@ use Rattle.net_base.specs.declared.plan.offer.Offer.{Offer}
 use Rattle.net_base.specs.declared.plan.places.EdgeId.{EdgeId}
 use Rattle.net_base.specs.declared.plan.wire_plan.WirePlan.{WirePlan}
 use Rattle.net_base.specs.declared.trace.down.Down.{Down}
+use Rattle.net_base.specs.declared.values.mac.Mac.{Mac}
 use Rattle.net_base.specs.plan.Accepted.{IsChecked, IsOffer, IsWireOf}
 use Rattle.net_base.specs.plan.Paths.{is_first, offer_of}
 use Rattle.net_base.specs.plan.Places.{wire_row}
@@ -20,7 +21,7 @@ use Rattle.pw_signalling.specs.declared.told.Told.{Told}
 use Rattle.pw_signalling.specs.End.{EndState, Idle, Advertised}
 use Rattle.pw_signalling.specs.Rows.{advertised, telling, withdrawn}
 use Rattle.spoke_redundancy.specs.Telling.{is_not_chosen}
-use Rattle.edge_model.specs.Content.{content_of, mapping, status_notification, withdrawal}
+use Rattle.edge_model.specs.Content.{content_of, mac_withdrawal, mapping, status_notification, withdrawal}
 use Rattle.edge_model.specs.declared.effect.Effect.{Effect}
 use Rattle.edge_model.specs.declared.effect.Effect.TheVariants.{Wire}
 use Rattle.edge_model.specs.declared.end_place.EndPlace.{EndPlace}
@@ -35,7 +36,8 @@ use Rattle.flight_model.specs.Ends.{AreFieldOffers, HasTypes, IsFieldOffer}
 use Rattle.flight_model.specs.Meeting.{TellsWell, closes, said_to}
 use Rattle.flight_model.specs.Sound.{CanBeTold, IsSoundEnd, IsSoundPart, TellsSoundly}
 use Rattle.flight_model.proofs.MendingLemmas.{KeptByRows}
-use Rattle.flight_model.proofs.OfferLemmas.{IsOfWires, content_can, mapping_is, status_is, withdrawal_is}
+use Rattle.flight_model.proofs.OfferLemmas.{IsOfWires, clearance_is, content_can, mapping_is, status_is, withdrawal_is}
+use Rattle.flight_model.proofs.PieceLemmas.{IsPiece}
 use Rattle.flight_model.proofs.PlaceLemmas.{IsEndOf}
 use Rattle.flight_model.proofs.PlanLemmas.{row_holds}
 use Rattle.flight_model.proofs.RowLemmas.{clash}
@@ -219,6 +221,12 @@ module _ (plan : Plan) (me : EdgeId) (checked : IsChecked plan) (types : HasType
       (sound_with_end place (telling status (end_at work.edge place)) work.edge
       (up_sound (is_up_with (work.edge.peering place.peer.0)) (telling status (end_at work.edge place)) can.0 (rw at (record { is_label = can.1.is_label; kind = can.1.kind; group = can.1.group }))) sound) i)
 
+  steady_clears : (place : EndPlace) (label : ℕ) (content : Told) (addresses : List Mac) (work : Work) → IsEndOf plan me place → (end_at work.edge place).local ≡ Advertised label content → IsPiece addresses
+      → I work → I (says taken_all place.peer (mac_withdrawal place.pw_id addresses content) work).work
+  steady_clears place label content addresses work is at piece i =
+      let can = advertised_up (is_up_with (work.edge.peering place.peer.0)) (end_at work.edge place) label content ((steady.sound work i).ends place.wire.0 place.peer.0) at in
+      steady.says place.peer (mac_withdrawal place.pw_id addresses content) work can.0 (clearance_is place.pw_id label addresses content (end_small plan me place checked is) piece can.1) i
+
   steady_tells_down : (place : EndPlace) (down : Option Down) (work : Work) → I work → I (gives (Wire place.wire down) (changes (with_told_down place.wire down) work))
   steady_tells_down place down work i =
       let rest = down_rest place down work.edge in
@@ -231,6 +239,7 @@ module _ (plan : Plan) (me : EdgeId) (checked : IsChecked plan) (types : HasType
     advertises = steady_advertises;
     withdraws = λ place label content work is at wished i. steady_withdraws place label content work is at i;
     tells = λ place label content last work is at told other i. steady_tells place label content work is at i;
+    clears = steady_clears;
     tells_down = λ place down work is i. steady_tells_down place down work i;
     others = λ change work keeps peering i.
         steady.changes change work peering keeps.me (sound_same work.edge (change work.edge) keeps.next_label keeps.bits peering keeps.ends (steady.sound work i)) i;

@@ -6,13 +6,14 @@ use Rattle.net_base.specs.declared.plan.offer.Offer.{Offer}
 use Rattle.net_base.specs.declared.plan.places.WireId.{WireId}
 use Rattle.net_base.specs.declared.plan.wire_plan.WirePlan.{WirePlan}
 use Rattle.net_base.specs.plan.Paths.{Expected, expected, joins, offer_of}
+use Rattle.net_base.specs.declared.values.mac.Mac.{Mac}
 use Rattle.net_base.specs.plan.Places.{wire_row}
 use Rattle.pw_tlvs.specs.declared.point.Point.{Point}
 use Rattle.pw_tlvs.specs.declared.pw_fec.PwFec.{PwFec}
 use Rattle.pw_tlvs.specs.declared.pw_status.PwStatus.{PwStatus}
 use Rattle.net_base.specs.values.Label.{IsLabel}
 use Rattle.ldp_grammar.specs.declared.message.Message.{Message}
-use Rattle.ldp_grammar.specs.declared.message.Message.TheVariants.{Notification, LabelMapping, LabelWithdraw, LabelRelease}
+use Rattle.ldp_grammar.specs.declared.message.Message.TheVariants.{Notification, AddressWithdraw, LabelMapping, LabelWithdraw, LabelRelease}
 use Rattle.pw_signalling.specs.declared.binding.Binding.{Binding}
 use Rattle.pw_signalling.specs.declared.told.Told.{Told}
 use Rattle.pw_signalling.specs.End.{EndState, LocalPart, Idle, Advertised, Withdrawing}
@@ -21,7 +22,7 @@ use Rattle.session_core.specs.declared.peers.Peers.{Peers}
 use Rattle.session_core.specs.declared.reply.Reply.{Reply}
 use Rattle.session_core.specs.declared.reply.Reply.TheVariants as reply
 use Rattle.session_core.specs.Messages.{message_of}
-use Rattle.edge_model.specs.Content.{bare, bare_fec_of, content_of, mapping, release, status_notification, told_in, withdrawal}
+use Rattle.edge_model.specs.Content.{bare, bare_fec_of, content_of, mac_withdrawal, mapping, release, status_notification, told_in, withdrawal}
 use Rattle.edge_model.specs.State.{EdgeState}
 use Rattle.flight_model.specs.Rules.{FarTells, NamesTold, NearTells, TellsExpected, TellsOfWire, TellsPlan, told_of}
 use Rattle.flight_model.proofs.NameLemmas.{split}
@@ -47,6 +48,7 @@ TellsFirm plan from to (LabelMapping id fec label status points) = TellsOfWire p
 TellsFirm plan from to (LabelWithdraw id fec label) = NamesTold plan from to fec
 TellsFirm plan from to (LabelRelease id fec label) = NamesTold plan to from fec
 TellsFirm plan from to (Notification id code status (Some fec)) = NamesStatus plan from to fec
+TellsFirm plan from to (AddressWithdraw id addresses (Some fec) macs) = NamesTold plan from to fec
 TellsFirm plan from to message = Unit {0}
 
 pub tells_plan : (plan : Plan) (from to : ℕ) (m : Message) → TellsFirm plan from to m → TellsPlan plan from to m
@@ -55,6 +57,8 @@ tells_plan plan from to (LabelWithdraw id fec label) tells = tells
 tells_plan plan from to (LabelRelease id fec label) tells = tells
 tells_plan plan from to (Notification id code status (Some fec)) tells = names_told plan from to fec tells
 tells_plan plan from to (Notification id code status None) tells = tt
+tells_plan plan from to (AddressWithdraw id addresses (Some fec) macs) tells = tells
+tells_plan plan from to (AddressWithdraw id addresses None macs) tells = tt
 tells_plan plan from to m tells = tt
 
 -- what a session says of itself tells of no pseudowire
@@ -109,6 +113,10 @@ pub notification_tells : (plan : Plan) (wire : WireId) (row : WirePlan) (from to
     → TellsExpected plan row from to told → (expected plan row from to).offer.status ≡ true → TellsFirm plan from to (status_notification pw_id status told id)
 notification_tells plan wire row from to pw_id id status told is joined same tells carries =
     record { wire = wire; row = row; is = is; joined = joined; bare = bare_named plan row from to pw_id told same tells; carries = carries }
+
+pub clearance_tells : (plan : Plan) (wire : WireId) (row : WirePlan) (from to pw_id id : ℕ) (addresses : List Mac) (told : Told) → wire_row plan wire ≡ Some row → joins from to row.path ≡ true → pw_id ≡ row.pw_id
+    → TellsExpected plan row from to told → TellsFirm plan from to (mac_withdrawal pw_id addresses told id)
+clearance_tells plan wire row from to pw_id id addresses told is joined same tells = record { wire = wire; row = row; is = is; joined = joined; bare = bare_named plan row from to pw_id told same tells }
 
 -- a release tells what the message told that it answers
 bare_in : (e : Expected) (fec : PwFec) (status : Option PwStatus) (points : List Point) (pw_id : ℕ) → fec.pw_id ≡ Some pw_id → told_in fec status points ≡ told_of e status → bare fec ≡ bare_fec_of pw_id (told_of e None)

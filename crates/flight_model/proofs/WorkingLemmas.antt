@@ -15,7 +15,7 @@ use Rattle.edge_model.specs.Frame.{received}
 use Rattle.edge_model.specs.Mend.{mends}
 use Rattle.edge_model.specs.Packet.{packet_input}
 use Rattle.edge_model.specs.Session.{happens_with_ends}
-use Rattle.edge_model.specs.State.{EdgeState, with_addresses, with_bits, with_circuit, with_learned, with_ticks}
+use Rattle.edge_model.specs.State.{EdgeState, with_addresses, with_bits, with_circuit, with_learned, with_priority, with_ticks}
 use Rattle.edge_model.specs.Tick.{counted, forgetting, tick_input, ticks_sessions}
 use Rattle.edge_model.specs.Wire.{turned_wire}
 use Rattle.edge_model.specs.Work.{Work, Answers, changes}
@@ -49,6 +49,10 @@ unfolding with_addresses with_circuit
 turned_keeps plan circuit row true edge = (record { me = refl; wire_on = refl; bits = refl; ends = refl; told_down = refl; next_label = refl }, refl)
 turned_keeps plan circuit row false edge = (record { me = refl; wire_on = refl; bits = refl; ends = refl; told_down = refl; next_label = refl }, refl)
 
+pub priority_keeps : (wire : WireId) (priority : ℕ) (edge : EdgeState) → KeepsEnds edge (with_priority wire priority edge) × ((with_priority wire priority edge).peering ≡ edge.peering)
+unfolding with_priority
+priority_keeps wire priority edge = (record { me = refl; wire_on = refl; bits = refl; ends = refl; told_down = refl; next_label = refl }, refl)
+
 module _ (plan : Plan) (me : EdgeId) (I : Work → Type 0) (kept : KeptByWork plan me I) where
   -- a tick
   sessions_kept : (place count : ℕ) (work : Work) → I work → I (ticks_sessions taken_all place count work)
@@ -80,6 +84,12 @@ module _ (plan : Plan) (me : EdgeId) (I : Work → Type 0) (kept : KeptByWork pl
 
   pub bits_kept : (wire : WireId) (bits : ℕ) (work : Work) → bits ≤ 31 → I work → I (mends plan taken_all (changes (with_bits wire bits) work))
   bits_kept wire bits work few i = mends_keep plan me I kept.rows _ (kept.bits wire bits work few i)
+
+  -- a spoke has another priority number
+  pub priority_kept : (wire : WireId) (priority : ℕ) (work : Work) → I work → I (mends plan taken_all (changes (with_priority wire priority) work))
+  priority_kept wire priority work i =
+      let one = priority_keeps wire priority work.edge in
+      mends_keep plan me I kept.rows _ (kept.rows.others (with_priority wire priority) work one.0 one.1 i)
 
   -- a frame comes, or a packet
   pub received_kept : (told : Answers) (came : Arrival) (service : ServiceId) (arrival : Option ℕ) (read : Result (List ℕ) DropCause) (work : Work) → I work → I (received plan told came service arrival read work)

@@ -1,19 +1,22 @@
 -- The messages that an edge says on a connection, and their octets.
-use Rattle.std.specs.Prelude.{◌≡◌, ◌<◌, ◌^◌, ◌++◌, ◌⊎◌, ℕ, true, false, List, [], ◌∷◌, Option, None, is_some}
+use Rattle.std.specs.Prelude.{◌≡◌, ◌≤◌, ◌<◌, ◌^◌, ◌++◌, ◌⊎◌, ℕ, true, false, List, [], ◌∷◌, length, Option, Some, None, is_some}
 use Rattle.std.specs.List.{AllByRecursion}
 use Rattle.net_base.specs.declared.values.addr.Addr.{Addr}
+use Rattle.net_base.specs.declared.values.mac.Mac.{Mac}
+use Rattle.ldp_grammar.specs.declared.address_list.AddressList.{AddressList}
 use Rattle.ldp_grammar.specs.declared.message.Message.{Message}
-use Rattle.ldp_grammar.specs.declared.message.Message.TheVariants.{Notification, Initialization, KeepAlive, LabelMapping, LabelWithdraw, LabelRelease}
+use Rattle.ldp_grammar.specs.declared.message.Message.TheVariants.{Notification, Initialization, KeepAlive, AddressWithdraw, LabelMapping, LabelWithdraw, LabelRelease}
 use Rattle.ldp_grammar.specs.declared.status_code.StatusCode.{StatusCode}
 use Rattle.ldp_grammar.specs.Reading.{AreOctets}
 use Rattle.ldp_grammar.specs.Tlvs.{Tlv}
 use Rattle.ldp_grammar.specs.Written.{Fits, writable, written, written_tlvs}
 use Rattle.pw_tlvs.specs.declared.pw_fec.PwFec.{PwFec}
 use Rattle.pw_tlvs.specs.declared.pw_status.PwStatus.{PwStatus}
+use Rattle.mac_withdraw.specs.Pieces.{most_in_piece}
 use Rattle.session_core.specs.declared.peers.Peers.{Peers}
 use Rattle.session_core.specs.Parameters.{proposal}
 use Rattle.session_core.specs.StatusCodes.{keep_alive_timer_expired}
-use Rattle.edge_model.specs.Content.{pw_status_notice}
+use Rattle.edge_model.specs.Content.{no_params, pw_status_notice}
 use Rattle.edge_model.specs.Put.{platform_of}
 
 -- the octets of messages of one router, each in a PDU of its own
@@ -32,6 +35,12 @@ IsLeaving code status fec = (code ≡ expiry) × (status ≡ None) × (fec ≡ N
 abbrev pub IsStatusNotice : StatusCode → Option PwStatus → Option PwFec → Type 0
 IsStatusNotice code status fec = (code ≡ pw_status_notice) × (is_some status ≡ true) × (is_some fec ≡ true)
 
+-- an Address Withdraw is a MAC withdraw: it names no addresses of routers, a FEC without parameters, and so few MAC addresses that a
+-- PDU of it keeps to every maximum of a session (RFC 4762 section 6.2)
+abbrev pub IsMacWithdraw : Option AddressList → Option PwFec → Option (List Mac) → Type 0
+IsMacWithdraw None (Some fec) (Some macs) = (fec.params ≡ no_params) × (length macs ≤ most_in_piece)
+IsMacWithdraw addresses fec macs = ⊥
+
 -- the values of TLVs are octets
 abbrev pub HaveOctets : List Tlv → Type 0
 HaveOctets tlvs = AllByRecursion (λ tlv. AreOctets tlv.value) tlvs
@@ -40,11 +49,13 @@ HaveOctets tlvs = AllByRecursion (λ tlv. AreOctets tlv.value) tlvs
 abbrev pub IsSound : Message → Type 0
 IsSound message = Fits message × (writable message ≡ true) × HaveOctets (written_tlvs message)
 
--- an end says its proposal, KeepAlives, what it has to say of pseudowires, and the Notification with which it leaves
+-- an end says its proposal, KeepAlives, what it has to say of pseudowires and of addresses that have moved, and the Notification with
+-- which it leaves
 abbrev pub IsSaid : Peers → Message → Type 0
 IsSaid ends (Initialization id params) = (id < 2 ^ 32) × (params ≡ proposal ends)
 IsSaid ends (KeepAlive id) = id < 2 ^ 32
 IsSaid ends (Notification id code status fec) = IsSound (Notification id code status fec) × (IsLeaving code status fec ⊎ IsStatusNotice code status fec)
+IsSaid ends (AddressWithdraw id addresses fec macs) = IsSound (AddressWithdraw id addresses fec macs) × IsMacWithdraw addresses fec macs
 IsSaid ends (LabelMapping id fec label status points) = IsSound (LabelMapping id fec label status points)
 IsSaid ends (LabelWithdraw id fec label) = IsSound (LabelWithdraw id fec label)
 IsSaid ends (LabelRelease id fec label) = IsSound (LabelRelease id fec label)

@@ -10,7 +10,7 @@ use Rattle.pw_tlvs.specs.declared.point.Point.{Point}
 use Rattle.pw_tlvs.specs.declared.pw_fec.PwFec.{PwFec}
 use Rattle.pw_tlvs.specs.declared.pw_status.PwStatus.{PwStatus}
 use Rattle.ldp_grammar.specs.declared.message.Message.{Message}
-use Rattle.ldp_grammar.specs.declared.message.Message.TheVariants.{Notification, LabelMapping, LabelWithdraw, LabelRelease}
+use Rattle.ldp_grammar.specs.declared.message.Message.TheVariants.{Notification, AddressWithdraw, LabelMapping, LabelWithdraw, LabelRelease}
 use Rattle.pw_signalling.specs.declared.binding.Binding.{Binding}
 use Rattle.pw_signalling.specs.declared.told.Told.{Told}
 use Rattle.pw_signalling.specs.End.{LocalPart, Idle, Advertised, Withdrawing}
@@ -104,6 +104,7 @@ TellsPlan plan from to (LabelMapping id fec label status points) = TellsOfWire p
 TellsPlan plan from to (LabelWithdraw id fec label) = NamesTold plan from to fec
 TellsPlan plan from to (LabelRelease id fec label) = NamesTold plan to from fec
 TellsPlan plan from to (Notification id code status (Some fec)) = NamesTold plan from to fec
+TellsPlan plan from to (AddressWithdraw id addresses (Some fec) macs) = NamesTold plan from to fec
 TellsPlan plan from to message = Unit {0}
 
 abbrev pub NearTells : Plan → WirePlan → ℕ → ℕ → LocalPart → Type 0

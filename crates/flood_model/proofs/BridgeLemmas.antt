@@ -41,7 +41,7 @@ use Rattle.flood_model.proofs.WirePeerLemmas.{ServesMore, end_is_due, end_serves
 -- ---- the ports to which a bridge floods
 
 -- a frame that came by an arrival, a wire or else a circuit, may be flooded to a wire of a class
-abbrev class_may : Plan → Option ℕ → ℕ → Bool → Bool
+abbrev pub class_may : Plan → Option ℕ → ℕ → Bool → Bool
 class_may plan None place mesh = true
 class_may plan (Some from) place mesh = not (place == from) && not (is_mesh_wire plan (record { 0 = from }) && mesh)
 
@@ -50,12 +50,12 @@ class_is plan None place row = refl
 class_is plan (Some from) place row = refl
 
 -- a port goes out that forwards, where its circuit passes a test and its wire may be flooded to
-abbrev goes_by : Plan → EdgeState → (ℕ → Bool) → Option ℕ → Port → Bool
+abbrev pub goes_by : Plan → EdgeState → (ℕ → Bool) → Option ℕ → Port → Bool
 goes_by plan edge others from (port.Circuit at) = edge.circuit_on at.0 && others at.0
 goes_by plan edge others from (port.Mesh wire) = end_forwards plan edge wire && class_may plan from wire.0 true
 goes_by plan edge others from (port.Spoke wire) = end_forwards plan edge wire && class_may plan from wire.0 false
 
-goes_forward : (plan : Plan) (edge : EdgeState) (others : ℕ → Bool) (from : Option ℕ) (x : Port) → goes_by plan edge others from x ≡ true → forwards plan edge (Some x) ≡ true
+pub goes_forward : (plan : Plan) (edge : EdgeState) (others : ℕ → Bool) (from : Option ℕ) (x : Port) → goes_by plan edge others from x ≡ true → forwards plan edge (Some x) ≡ true
 goes_forward plan edge others from (port.Circuit at) goes = and_left (edge.circuit_on at.0) (others at.0) goes
 goes_forward plan edge others from (port.Mesh wire) goes = and_left (end_forwards plan edge wire) (class_may plan from wire.0 true) goes
 goes_forward plan edge others from (port.Spoke wire) goes = and_left (end_forwards plan edge wire) (class_may plan from wire.0 false) goes
@@ -64,7 +64,7 @@ goes_forward plan edge others from (port.Spoke wire) goes = and_left (end_forwar
 
 module _ (plan : Plan) (came : Arrival) (calm : NetworkState) (service : ServiceId) (circuit : CircuitId) (frame : List ℕ) (edge : EdgeState) where
   -- one where a copy by the port serves the circuit
-  abbrev port_serves : Port → ℕ
+  abbrev pub port_serves : Port → ℕ
   port_serves (port.Circuit at) = cond (nat_eq at.0 circuit.0) 1 0
   port_serves (port.Mesh wire) = end_serves plan calm service circuit (wire_end plan edge.me wire)
   port_serves (port.Spoke wire) = end_serves plan calm service circuit (wire_end plan edge.me wire)
@@ -86,10 +86,10 @@ module _ (plan : Plan) (came : Arrival) (calm : NetworkState) (service : Service
   copy_serves (port.Spoke wire) true work same up = by_wire wire work same (up refl)
 
   -- those that are targets
-  abbrev serves_if : (Port → Bool) → Port → ℕ
+  abbrev pub serves_if : (Port → Bool) → Port → ℕ
   serves_if test x = cond (test x) (port_serves x) 0
 
-  copies_serve : (targets : ℕ → Bool) (test : Port → Bool) → ((x : Port) → test x ≡ true → forwards plan edge (Some x) ≡ true)
+  pub copies_serve : (targets : ℕ → Bool) (test : Port → Bool) → ((x : Port) → test x ≡ true → forwards plan edge (Some x) ≡ true)
       → (p : ℕ) (ports : List Port) (work : Work) → work.edge ≡ edge → ((q : ℕ) (x : Port) → slice_get ports q ≡ Some x → targets (p + q) ≡ test x)
       → ServesMore plan calm service circuit (tally (serves_if test) ports) work (copies targets (copy_by plan taken_all came frame) p ports work)
   copies_serve targets test up p [] work same are = record { edge = refl; meet = omega arith }
@@ -134,7 +134,7 @@ module _ (plan : Plan) (came : Arrival) (calm : NetworkState) (service : Service
   count x = serves_if plan came calm service circuit frame after (goes_by plan after others from) x
 
   -- the port of a circuit
-  circuits_serve : tally count (circuit_ports 0 plan.circuits service edge.me) ≡ cond (serves_here plan service edge circuit && others circuit.0) 1 0
+  pub circuits_serve : tally count (circuit_ports 0 plan.circuits service edge.me) ≡ cond (serves_here plan service edge circuit && others circuit.0) 1 0
   unfolding with_addresses
   circuits_serve =
       tally_circuits count circuit.0 away 0 circuit.0 plan.circuits service edge.me (sym (zero-add circuit.0)) ∙ here (circuit_row plan circuit)
@@ -163,7 +163,7 @@ module _ (plan : Plan) (came : Arrival) (calm : NetworkState) (service : Service
     by false = refl
 
   module _ (short : has_short_paths plan ≡ true) (still : IsStillEdge (calm.edges edge.me.0) edge) where
-    wires_serve : tally count (wire_ports 0 plan.wires service edge.me) ≡ wires_due plan calm service circuit edge.me.0 from
+    pub wires_serve : tally count (wire_ports 0 plan.wires service edge.me) ≡ wires_due plan calm service circuit edge.me.0 from
     unfolding with_addresses
     wires_serve =
         tally_wires count 0 plan.wires service edge.me
@@ -230,7 +230,7 @@ apart_from ports p q circuit wire at_p at_q =
     ne_eqb q p (λ e. no_port_of_both ports p circuit wire at_p (record { is = ap (λ (i : ℕ). wire_behind (slice_get ports i)) (sym e) ∙ at_q.is }))
 
 -- a frame that came by a circuit goes to the others and to all wires
-circuit_targets : (plan : Plan) (service : ServiceId) (at : EdgeId) (edge : EdgeState) (known : Option ℕ) (arrival sender p : ℕ) (x : Port)
+pub circuit_targets : (plan : Plan) (service : ServiceId) (at : EdgeId) (edge : EdgeState) (known : Option ℕ) (arrival sender p : ℕ) (x : Port)
     → known ≡ None → LeadsTo (ports_of plan service at) arrival sender → slice_get (ports_of plan service at) p ≡ Some x
     → is_target (ports_of plan service at) (port_forwards plan edge (ports_of plan service at)) arrival known p ≡ goes_by plan edge (λ c. not (nat_eq c sender)) None x
 circuit_targets plan service at edge known arrival sender p (port.Circuit c) unknown from to =
@@ -250,7 +250,7 @@ circuit_targets plan service at edge known arrival sender p (port.Spoke wire) un
     ∙ goes_all (end_forwards plan edge wire)
 
 -- one that came by a wire goes to all circuits and to the other wires, but from a mesh wire to no mesh wire
-wire_targets : (plan : Plan) (service : ServiceId) (at : EdgeId) (edge : EdgeState) (known : Option ℕ) (arrival : ℕ) (wire : WireId) (w : WirePlan) (p : ℕ) (x : Port)
+pub wire_targets : (plan : Plan) (service : ServiceId) (at : EdgeId) (edge : EdgeState) (known : Option ℕ) (arrival : ℕ) (wire : WireId) (w : WirePlan) (p : ℕ) (x : Port)
     → known ≡ None → wire_row plan wire ≡ Some w → LeadsToWire (ports_of plan service at) arrival wire.0 → slice_get (ports_of plan service at) p ≡ Some x
     → is_target (ports_of plan service at) (port_forwards plan edge (ports_of plan service at)) arrival known p ≡ goes_by plan edge (λ c. true) (Some wire.0) x
 wire_targets plan service at edge known arrival wire w p x unknown is from to = by x to where

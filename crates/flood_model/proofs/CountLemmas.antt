@@ -1,22 +1,18 @@
 -- What is due to a circuit: a count over the copies of a frame that are under way.
-use Rattle.std.proofs.Common.{◌≡◌, ◌+◌, ◌++◌, ◌∙◌, ℕ, Bool, true, false, List, [], ◌∷◌, cond, refl, ap, sym, nat_eq, zero-add, arith}
+use Rattle.std.proofs.Common.{◌≡◌, ◌+◌, ◌++◌, ℕ, Bool, true, false, List, [], ◌∷◌, cond, refl, ap, sym, nat_eq, zero-add, arith}
 use Rattle.std.proofs.lemmas.Bool.{eq-eqb}
 use Rattle.net_base.specs.declared.plan.Plan.{Plan}
 use Rattle.net_base.specs.declared.plan.places.CircuitId.{CircuitId}
 use Rattle.net_base.specs.declared.plan.places.EdgeId.{EdgeId}
 use Rattle.net_base.specs.declared.plan.places.ServiceId.{ServiceId}
-use Rattle.net_base.specs.declared.plan.places.WireId.{WireId}
-use Rattle.net_base.specs.declared.trace.entry.Entry.{Entry}
-use Rattle.net_base.specs.declared.trace.entry.Entry.TheVariants.{Left}
 use Rattle.edge_model.specs.declared.effect.Effect.{Effect}
 use Rattle.edge_model.specs.declared.effect.Effect.TheVariants as effect
-use Rattle.edge_model.proofs.SessionLemmas.{are_all}
 use Rattle.network_model.specs.declared.packet.Packet.{Packet}
 use Rattle.network_model.specs.Absorb.{absorb_all, absorb_one, all_entries_of, entries_of}
 use Rattle.network_model.specs.OnceEach.{times_left}
 use Rattle.network_model.proofs.AbsorbLemmas.{of_origin, pipe_leaves, times_left-append}
 use Rattle.flood_model.specs.Due.{awaits}
-use Rattle.network_model.specs.State.{NetworkState, stands, with_packet, with_pipe}
+use Rattle.network_model.specs.State.{NetworkState, stands, with_packet}
 
 -- ---- what is due to a circuit
 

@@ -24,13 +24,13 @@ abbrev pub by_spoke : Plan → NetworkState → ServiceId → ℕ → ℕ → �
 by_spoke plan calm service from to k row = cond (is_live_spoke plan calm service from k row && is_last to row.path) 1 0
 
 -- the one spoke of an edge that carries frames
-record LiveSpoke (plan : Plan) (calm : NetworkState) (service : ServiceId) (edge place : ℕ) (rows : List WirePlan) : Type 0 where
-  k : ℕ
-  row : WirePlan
-  is : slice_get rows k ≡ Some row
-  live : is_live_spoke plan calm service edge (place + k) row ≡ true
-  home : home_among plan calm service edge place rows ≡ last_place row.path
-  sum : (to : ℕ) → sum_wires (by_spoke plan calm service edge to) place rows ≡ cond (is_last to row.path) 1 0
+pub record LiveSpoke (plan : Plan) (calm : NetworkState) (service : ServiceId) (edge place : ℕ) (rows : List WirePlan) : Type 0 where
+  pub k : ℕ
+  pub row : WirePlan
+  pub is : slice_get rows k ≡ Some row
+  pub live : is_live_spoke plan calm service edge (place + k) row ≡ true
+  pub home : home_among plan calm service edge place rows ≡ last_place row.path
+  pub sum : (to : ℕ) → sum_wires (by_spoke plan calm service edge to) place rows ≡ cond (is_last to row.path) 1 0
 
 module _ (plan : Plan) (calm : NetworkState) (service : ServiceId) (edge : ℕ) where
   none_live : (to place : ℕ) (rows : List WirePlan) → count_wires (is_live_spoke plan calm service edge) place rows ≡ 0 → sum_wires (by_spoke plan calm service edge to) place rows ≡ 0
@@ -45,7 +45,7 @@ module _ (plan : Plan) (calm : NetworkState) (service : ServiceId) (edge : ℕ) 
           let sum_none : sum ≡ 0 = rest gone in
           omega arith
 
-  live_found : (place : ℕ) (rows : List WirePlan) → count_wires (is_live_spoke plan calm service edge) place rows ≡ 1 → LiveSpoke plan calm service edge place rows
+  pub live_found : (place : ℕ) (rows : List WirePlan) → count_wires (is_live_spoke plan calm service edge) place rows ≡ 1 → LiveSpoke plan calm service edge place rows
   live_found place [] one = absurd (omega arith)
   live_found place (row ∷ rows) one = elim (cases_Bool (is_live_spoke plan calm service edge place row)) [
     | inl here ↦

@@ -31,12 +31,12 @@ use Rattle.flood_model.proofs.MeshLemmas.{by_mesh, core_edge, far_core, mesh_car
 use Rattle.flood_model.proofs.SumLemmas.{one_of_count, sum-add, sum-at, sum-same, sum-times}
 
 -- an edge with a circuit of the service has a port of it
-circuit_port : (plan : Plan) (service : ServiceId) (at : CircuitId) (row : CircuitPlan) → circuit_row plan at ≡ Some row → nat_eq row.service.0 service.0 ≡ true → has_port plan service row.edge.0 ≡ true
+pub circuit_port : (plan : Plan) (service : ServiceId) (at : CircuitId) (row : CircuitPlan) → circuit_row plan at ≡ Some row → nat_eq row.service.0 service.0 ≡ true → has_port plan service row.edge.0 ≡ true
 circuit_port plan service at row is of_service =
     or_left (list_any (is_circuit_at service row.edge.0) plan.circuits) (list_any (ends_at service row.edge.0) plan.wires)
     (any_at (is_circuit_at service row.edge.0) plan.circuits at.0 row is (rw (of_service, eq-eqb row.edge.0 row.edge.0 refl) refl))
 
-circuit_within : (plan : Plan) (at : CircuitId) (row : CircuitPlan) → IsChecked plan → circuit_row plan at ≡ Some row → row.edge.0 < length plan.edges
+pub circuit_within : (plan : Plan) (at : CircuitId) (row : CircuitPlan) → IsChecked plan → circuit_row plan at ≡ Some row → row.edge.0 < length plan.edges
 circuit_within plan at row checked is = (row_holds (IsCircuitOf plan) plan.circuits at.0 row is checked.circuits).edge
 
 -- the home of a circuit of the service
@@ -46,7 +46,7 @@ site_home plan calm service circuit site checked short calmed site_is of_service
     has_home plan calm service site.edge.0 checked short calmed (circuit_within plan circuit site checked site_is) (circuit_port plan service circuit site site_is of_service)
 
 -- a frame that is flooded to all wires of an edge with a port of the service
-entry_at : (plan : Plan) (calm : NetworkState) (service : ServiceId) (circuit : CircuitId) (site : CircuitPlan) (e : ℕ) → IsChecked plan → has_short_paths plan ≡ true → is_calm plan calm service ≡ true
+pub entry_at : (plan : Plan) (calm : NetworkState) (service : ServiceId) (circuit : CircuitId) (site : CircuitPlan) (e : ℕ) → IsChecked plan → has_short_paths plan ≡ true → is_calm plan calm service ≡ true
     → circuit_row plan circuit ≡ Some site → nat_eq site.service.0 service.0 ≡ true → e < length plan.edges → has_port plan service e ≡ true
     → wires_due plan calm service circuit e None ≡ cond (nat_eq site.edge.0 e) 0 1
 entry_at plan calm service circuit site e checked short calmed site_is of_service within port = elim (cases_Bool (is_spoke_edge plan service e)) [

@@ -26,14 +26,14 @@ pub port_at : (plan : Plan) (service : ServiceId) (e k : ℕ) (row : WirePlan) �
 port_at plan service e k row is ends = or_right (list_any (is_circuit_at service e) plan.circuits) (list_any (ends_at service e) plan.wires) (any_at (ends_at service e) plan.wires k row is ends)
 
 -- a mesh wire between two edges that carries frames
-record MeshWire (plan : Plan) (calm : NetworkState) (service : ServiceId) (a b : ℕ) : Type 0 where
-  k : ℕ
-  row : WirePlan
-  is : slice_get plan.wires k ≡ Some row
-  between : is_between service a b row ≡ true
-  live : carries plan calm k row ≡ true
+pub record MeshWire (plan : Plan) (calm : NetworkState) (service : ServiceId) (a b : ℕ) : Type 0 where
+  pub k : ℕ
+  pub row : WirePlan
+  pub is : slice_get plan.wires k ≡ Some row
+  pub between : is_between service a b row ≡ true
+  pub live : carries plan calm k row ≡ true
 
-mesh_wire : (plan : Plan) (calm : NetworkState) (service : ServiceId) (a b : ℕ) → is_calm plan calm service ≡ true → a < length plan.edges → b < length plan.edges
+pub mesh_wire : (plan : Plan) (calm : NetworkState) (service : ServiceId) (a b : ℕ) → is_calm plan calm service ≡ true → a < length plan.edges → b < length plan.edges
     → is_core_edge plan service a ≡ true → is_core_edge plan service b ≡ true → nat_eq a b ≡ false → MeshWire plan calm service a b
 mesh_wire plan calm service a b calmed within within_too core core_too apart =
     let full = and_right (is_quiet plan calm service) (is_full plan calm service) (and_left (is_quiet plan calm service && is_full plan calm service) (has_live_spokes plan calm service) calmed) in

@@ -51,11 +51,11 @@ use Rattle.flood_model.proofs.WindowLemmas.{IsAfter, IsReached, StaysUnknown, st
 
 -- ---- the events before the frame, and from it on
 
-front_all : {X : Type 0} (P : X → Type 0) (xs ys : List X) → All P (xs ++ ys) → All P xs
+pub front_all : {X : Type 0} (P : X → Type 0) (xs ys : List X) → All P (xs ++ ys) → All P xs
 front_all P [] ys all = All-nil P
 front_all P (x ∷ xs) ys all = All-cons P x xs (All-head P x (xs ++ ys) all) (front_all P xs ys (All-tail P x (xs ++ ys) all))
 
-back_all : {X : Type 0} (P : X → Type 0) (xs ys : List X) → All P (xs ++ ys) → All P ys
+pub back_all : {X : Type 0} (P : X → Type 0) (xs ys : List X) → All P (xs ++ ys) → All P ys
 back_all P [] ys all = all
 back_all P (x ∷ xs) ys all = back_all P xs ys (All-tail P x (xs ++ ys) all)
 

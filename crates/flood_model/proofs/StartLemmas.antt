@@ -50,7 +50,7 @@ abbrev pub owed_to : CircuitId → CircuitId → ℕ
 owed_to at circuit = cond {A = ℕ} (not (nat_eq circuit.0 at.0)) 1 0
 
 -- of a site and the sender: the site is served at the sender's edge, or a copy is due to it
-owed_by : (same_edge sender : Bool) → (sender ≡ true → same_edge ≡ true) → cond {A = ℕ} (same_edge && not sender) 1 0 + cond {A = ℕ} same_edge 0 1 ≡ cond {A = ℕ} (not sender) 1 0
+pub owed_by : (same_edge sender : Bool) → (sender ≡ true → same_edge ≡ true) → cond {A = ℕ} (same_edge && not sender) 1 0 + cond {A = ℕ} same_edge 0 1 ≡ cond {A = ℕ} (not sender) 1 0
 owed_by true true both = refl
 owed_by true false both = refl
 owed_by false true both = absurd (cc (both refl))

@@ -93,7 +93,7 @@ still_learns calm old new only still = record { learned = new.learned; is = lear
 abbrev StaysStill : NetworkState → ℕ → EdgeState → Type 0
 StaysStill calm k edge = IsStillEdge (calm.edges k) edge
 
-frame_still : (plan : Plan) (calm network : NetworkState) (circuit : CircuitId) (octets : List ℕ) (row : Option CircuitPlan) → IsStill calm network → IsStill calm (frame_event plan circuit octets row network).state
+pub frame_still : (plan : Plan) (calm network : NetworkState) (circuit : CircuitId) (octets : List ℕ) (row : Option CircuitPlan) → IsStill calm network → IsStill calm (frame_event plan circuit octets row network).state
 frame_still plan calm network circuit octets None still = still
 frame_still plan calm network circuit octets (Some row) still = by (frame_work plan network circuit octets row).idle where
   by : (idles : Bool) → IsStill calm (cond idles (idle network) (entering network circuit octets row (frame_work plan network circuit octets row))).state
@@ -103,18 +103,18 @@ frame_still plan calm network circuit octets (Some row) still = by (frame_work p
         (still_learns (calm.edges row.edge.0) (network.edges row.edge.0) (frame_work plan network circuit octets row).edge (frame_bridges plan taken_all circuit octets (Some row) (begin_at network row.edge)).edge (still.edges row.edge.0));
   }
 
-arrive_still : (plan : Plan) (calm network : NetworkState) (found : Option Packet) → IsStill calm network → IsStill calm (arrive_event plan found network).state
+pub arrive_still : (plan : Plan) (calm network : NetworkState) (found : Option Packet) → IsStill calm network → IsStill calm (arrive_event plan found network).state
 arrive_still plan calm network None still = still
 arrive_still plan calm network (Some packet) still = record {
   edges = absorb_each (StaysStill calm) packet.to packet.origin packet.hops (packet_work plan network packet) (without_packet packet.number network) (without_each (StaysStill calm) packet.number network still.edges)
       (still_learns (calm.edges packet.to.0) (network.edges packet.to.0) (packet_work plan network packet).edge (packet_bridges plan taken_all packet.bytes (begin_at network packet.to)).edge (still.edges packet.to.0));
 }
 
-discard_still : (calm network : NetworkState) (found : Option Packet) → IsStill calm network → IsStill calm (discard_event found network).state
+pub discard_still : (calm network : NetworkState) (found : Option Packet) → IsStill calm network → IsStill calm (discard_event found network).state
 discard_still calm network None still = still
 discard_still calm network (Some packet) still = record { edges = without_each (StaysStill calm) packet.number network still.edges }
 
-again_still : (calm network : NetworkState) (found : Option Packet) → IsStill calm network → IsStill calm (again_event found network).state
+pub again_still : (calm network : NetworkState) (found : Option Packet) → IsStill calm network → IsStill calm (again_event found network).state
 again_still calm network None still = still
 again_still calm network (Some packet) still = record { edges = repeated_each (StaysStill calm) packet network still.edges }
 

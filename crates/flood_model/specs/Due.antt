@@ -1,6 +1,6 @@
 -- What is due to a circuit by the wires of a bridge that floods: one for each copy that it sends and that has still to serve the
 -- circuit. Which wires carry frames is told by the network as it was when the frame entered.
-use Rattle.std.specs.Prelude.{◌==◌, ◌&&◌, ◌+◌, not, ℕ, Bool, true, false, List, [], ◌∷◌, length, Option, Some, None, if◌then◌else◌}
+use Rattle.std.specs.Prelude.{◌==◌, ◌&&◌, ◌+◌, not, ℕ, Bool, true, List, [], ◌∷◌, length, Option, Some, None, if◌then◌else◌}
 use Rattle.std.specs.List.{list_all}
 use Rattle.net_base.specs.declared.plan.Plan.{Plan}
 use Rattle.net_base.specs.declared.plan.wire_plan.WirePlan.{WirePlan}

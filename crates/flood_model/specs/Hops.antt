@@ -1,5 +1,5 @@
 -- How many segments a copy of a flooded frame has passed at most, over wires with paths of two edges.
-use Rattle.std.specs.Prelude.{ℕ, Option, Some, None, if◌then◌else◌}
+use Rattle.std.specs.Prelude.{ℕ, if◌then◌else◌}
 use Rattle.net_base.specs.declared.plan.wire_plan.WirePlan.{WirePlan}
 use Rattle.net_base.specs.plan.Paths.{is_first}
 use Rattle.net_base.specs.plan.Places.{is_mesh_class}

@@ -7,18 +7,18 @@ use Rattle.net_base.specs.declared.plan.places.CircuitId.{CircuitId}
 use Rattle.net_base.specs.declared.plan.places.EdgeId.{EdgeId}
 use Rattle.net_base.specs.declared.plan.places.WireId.{WireId}
 use Rattle.net_base.specs.declared.trace.event.Event.{Event}
-use Rattle.net_base.specs.declared.trace.event.Event.TheVariants.{Connect, Deliver, Lose, Restart, Tick, Frame, Arrive, Discard, Again, Wire, Circuit, Status}
+use Rattle.net_base.specs.declared.trace.event.Event.TheVariants.{Connect, Deliver, Lose, Restart, Tick, Frame, Arrive, Discard, Again, Wire, Circuit, Status, Priority}
 use Rattle.net_base.specs.plan.Places.{circuit_row}
 use Rattle.edge_model.specs.Circuit.{circuit_input}
 use Rattle.edge_model.specs.Connection.{restart_input}
 use Rattle.edge_model.specs.declared.effect.Effect.{Effect}
 use Rattle.edge_model.specs.State.{EdgeState, empty_edge, first_label}
 use Rattle.edge_model.specs.Tick.{tick_input}
-use Rattle.edge_model.specs.Wire.{status_input, wire_input}
+use Rattle.edge_model.specs.Wire.{priority_input, status_input, wire_input}
 use Rattle.edge_model.specs.Work.{Work}
 use Rattle.edge_model.proofs.FollowLemmas.{EndsFollowSessions, FollowsOn, empty_follows, input_follows}
 use Rattle.edge_model.proofs.LabelLemmas.{LabelsFit, WorkRises, fits_same, fits_then, input_rises}
-use Rattle.edge_model.proofs.WalkLemmas.{InputSteps, circuit_holds, connected_holds, frame_holds, lost_holds, octets_hold, packet_holds, status_holds, tick_holds, wire_holds}
+use Rattle.edge_model.proofs.WalkLemmas.{InputSteps, circuit_holds, connected_holds, frame_holds, lost_holds, octets_hold, packet_holds, priority_holds, status_holds, tick_holds, wire_holds}
 use Rattle.network_model.specs.Absorb.{absorb, absorb_all, answer, begin_at, idle, taken_all}
 use Rattle.network_model.specs.Circuit.{circuit_event}
 use Rattle.network_model.specs.Connection.{can_connect, connect_event, connected_work, connecting, deliver_event, delivering, hearing_work, is_deliverable, is_drained_pipe, lose_event, losing, losing_work, restart_event}
@@ -29,7 +29,7 @@ use Rattle.network_model.specs.Run.{state_after}
 use Rattle.network_model.specs.State.{NetworkState, at_edge, empty_network, stands, with_edge, with_frame, with_packet, with_pipe, without_octets_to, without_packet}
 use Rattle.network_model.specs.Step.{step}
 use Rattle.network_model.specs.Tick.{tick_at, ticks_from}
-use Rattle.network_model.specs.Wire.{status_event, wire_event}
+use Rattle.network_model.specs.Wire.{priority_event, status_event, wire_event}
 use Rattle.network_model.proofs.AbsorbLemmas.{all_keep}
 
 -- it holds of each edge
@@ -157,6 +157,11 @@ module _ (plan : Plan) (P : ℕ → EdgeState → Type 0) (R : Work → Work →
       let work : Work = status_input plan taken_all wire bits (begin_at network me) in
       answer_holds me 0 0 work network holds (worked me work network holds (status_holds plan taken_all R steps wire bits (begin_at network me)))
 
+  priority_keeps : (me : EdgeId) (wire : WireId) (priority : ℕ) (network : NetworkState) → HoldsOfEach P network → HoldsOfEach P (priority_event plan me wire priority network).state
+  priority_keeps me wire priority network holds =
+      let work : Work = priority_input plan taken_all wire priority (begin_at network me) in
+      answer_holds me 0 0 work network holds (worked me work network holds (priority_holds plan taken_all R steps wire priority (begin_at network me)))
+
   -- ---- packets
 
   without_holds : (number : ℕ) (network : NetworkState) → HoldsOfEach P network → HoldsOfEach P (without_packet number network)
@@ -191,6 +196,7 @@ module _ (plan : Plan) (P : ℕ → EdgeState → Type 0) (R : Work → Work →
   event_holds (Circuit circuit on) network holds = circuit_keeps circuit on (circuit_row plan circuit) network holds
   event_holds (Wire me wire on) network holds = wire_keeps me wire on network holds
   event_holds (Status me wire bits) network holds = status_keeps me wire bits network holds
+  event_holds (Priority me wire priority) network holds = priority_keeps me wire priority network holds
   event_holds (Arrive number) network holds = arrive_holds (packet_at network number) network holds
   event_holds (Discard number) network holds = discard_holds (packet_at network number) network holds
   event_holds (Again number) network holds = again_holds (packet_at network number) network holds

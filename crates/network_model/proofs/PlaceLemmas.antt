@@ -7,7 +7,7 @@ use Rattle.net_base.specs.declared.plan.places.CircuitId.{CircuitId}
 use Rattle.net_base.specs.declared.plan.places.EdgeId.{EdgeId}
 use Rattle.net_base.specs.declared.plan.places.WireId.{WireId}
 use Rattle.net_base.specs.declared.trace.event.Event.{Event}
-use Rattle.net_base.specs.declared.trace.event.Event.TheVariants.{Connect, Deliver, Lose, Restart, Tick, Frame, Arrive, Discard, Again, Wire, Circuit, Status}
+use Rattle.net_base.specs.declared.trace.event.Event.TheVariants.{Connect, Deliver, Lose, Restart, Tick, Frame, Arrive, Discard, Again, Wire, Circuit, Status, Priority}
 use Rattle.net_base.specs.plan.Places.{circuit_row}
 use Rattle.edge_model.specs.Circuit.{circuit_input}
 use Rattle.edge_model.specs.Connection.{restart_input}
@@ -15,10 +15,10 @@ use Rattle.edge_model.specs.declared.effect.Effect.{Effect}
 use Rattle.edge_model.specs.State.{EdgeState}
 use Rattle.edge_model.specs.Tick.{tick_input}
 use Rattle.edge_model.specs.Work.{Work}
-use Rattle.edge_model.specs.Wire.{status_input, wire_input}
+use Rattle.edge_model.specs.Wire.{priority_input, status_input, wire_input}
 use Rattle.edge_model.proofs.BridgeLemmas.{frame_bridges, packet_bridges}
 use Rattle.edge_model.proofs.SessionLemmas.{restart_works}
-use Rattle.edge_model.proofs.SignalLemmas.{circuit_signals, connected_signals, lost_signals, octets_signal, status_signals, tick_works, wire_signals}
+use Rattle.edge_model.proofs.SignalLemmas.{circuit_signals, connected_signals, lost_signals, octets_signal, priority_signals, status_signals, tick_works, wire_signals}
 use Rattle.network_model.specs.Absorb.{absorb, absorb_all, answer, begin_at, idle, taken_all}
 use Rattle.network_model.specs.Circuit.{circuit_event}
 use Rattle.network_model.specs.Connection.{can_connect, connect_event, connected_work, connecting, deliver_event, delivering, hearing_work, is_deliverable, is_drained_pipe, lose_event, losing, losing_work, restart_event}
@@ -29,7 +29,7 @@ use Rattle.network_model.specs.Run.{state_after}
 use Rattle.network_model.specs.State.{NetworkState, at_edge, empty_network, stands, with_edge, with_frame, with_packet, with_pipe, without_octets_to, without_packet}
 use Rattle.network_model.specs.Step.{step}
 use Rattle.network_model.specs.Tick.{tick_at, ticks_from}
-use Rattle.network_model.specs.Wire.{status_event, wire_event}
+use Rattle.network_model.specs.Wire.{priority_event, status_event, wire_event}
 use Rattle.network_model.proofs.AbsorbLemmas.{all_keep}
 
 -- each edge of the network has its own place
@@ -87,6 +87,10 @@ wire_placed plan me wire on network placed =
 status_placed : (plan : Plan) (me : EdgeId) (wire : WireId) (bits : ℕ) (network : NetworkState) → IsPlaced network → IsPlaced (status_event plan me wire bits network).state
 status_placed plan me wire bits network placed =
     answer_placed me 0 0 (status_input plan taken_all wire bits (begin_at network me)) network placed (status_signals plan taken_all wire bits (begin_at network me)).me
+
+priority_placed : (plan : Plan) (me : EdgeId) (wire : WireId) (priority : ℕ) (network : NetworkState) → IsPlaced network → IsPlaced (priority_event plan me wire priority network).state
+priority_placed plan me wire priority network placed =
+    answer_placed me 0 0 (priority_input plan taken_all wire priority (begin_at network me)) network placed (priority_signals plan taken_all wire priority (begin_at network me)).me
 
 ticks_placed : (plan : Plan) (place count : ℕ) (network : NetworkState) → IsPlaced network → IsPlaced (ticks_from plan place count network).state
 ticks_placed plan place zero network placed = placed
@@ -182,6 +186,7 @@ step_placed plan network (Frame circuit octets) placed = frame_placed plan netwo
 step_placed plan network (Circuit circuit on) placed = circuit_placed plan network circuit on (circuit_row plan circuit) placed
 step_placed plan network (Wire me wire on) placed = wire_placed plan me wire on network placed
 step_placed plan network (Status me wire bits) placed = status_placed plan me wire bits network placed
+step_placed plan network (Priority me wire priority) placed = priority_placed plan me wire priority network placed
 step_placed plan network (Arrive number) placed = arrive_placed plan (packet_at network number) network placed
 step_placed plan network (Discard number) placed = discard_placed (packet_at network number) network placed
 step_placed plan network (Again number) placed = again_placed (packet_at network number) network placed

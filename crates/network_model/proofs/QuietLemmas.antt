@@ -9,7 +9,7 @@ use Rattle.net_base.specs.declared.plan.places.WireId.{WireId}
 use Rattle.net_base.specs.declared.trace.entry.Entry.{Entry}
 use Rattle.net_base.specs.declared.trace.entry.Entry.TheVariants.{Left, Sent}
 use Rattle.net_base.specs.declared.trace.event.Event.{Event}
-use Rattle.net_base.specs.declared.trace.event.Event.TheVariants.{Connect, Deliver, Lose, Restart, Tick, Frame, Arrive, Discard, Again, Wire, Circuit, Status}
+use Rattle.net_base.specs.declared.trace.event.Event.TheVariants.{Connect, Deliver, Lose, Restart, Tick, Frame, Arrive, Discard, Again, Wire, Circuit, Status, Priority}
 use Rattle.net_base.specs.plan.Places.{circuit_row}
 use Rattle.edge_model.specs.Circuit.{circuit_input}
 use Rattle.edge_model.specs.Connection.{restart_input}
@@ -17,18 +17,18 @@ use Rattle.edge_model.specs.declared.effect.Effect.{Effect}
 use Rattle.edge_model.specs.declared.effect.Effect.TheVariants as effect
 use Rattle.edge_model.specs.State.{EdgeState}
 use Rattle.edge_model.specs.Tick.{tick_input}
-use Rattle.edge_model.specs.Wire.{status_input, wire_input}
+use Rattle.edge_model.specs.Wire.{priority_input, status_input, wire_input}
 use Rattle.edge_model.specs.Work.{Work, changes}
 use Rattle.edge_model.proofs.LocalLemmas.{and_left, and_right}
 use Rattle.edge_model.proofs.SessionLemmas.{are_all, own_effects}
-use Rattle.edge_model.proofs.SignalLemmas.{circuit_signals, connected_signals, is_of_signalling, lost_signals, octets_signal, status_signals, tick_works, wire_signals}
+use Rattle.edge_model.proofs.SignalLemmas.{circuit_signals, connected_signals, is_of_signalling, lost_signals, octets_signal, priority_signals, status_signals, tick_works, wire_signals}
 use Rattle.network_model.specs.Absorb.{Stepped, absorb, absorb_all, absorb_one, all_entries_of, answer, begin_at, idle, taken_all}
 use Rattle.network_model.specs.Circuit.{circuit_event}
 use Rattle.network_model.specs.Connection.{can_connect, connect_event, connected_work, connecting, deliver_event, delivering, given_out, hearing_work, is_deliverable, is_drained_pipe, lose_event, losing, losing_work, restart_event}
 use Rattle.network_model.specs.State.{NetworkState, at_edge, stands, with_edge, with_pipe, without_octets_to}
 use Rattle.network_model.specs.Step.{step}
 use Rattle.network_model.specs.Tick.{tick_at, tick_event, ticks_from}
-use Rattle.network_model.specs.Wire.{status_event, wire_event}
+use Rattle.network_model.specs.Wire.{priority_event, status_event, wire_event}
 
 -- no frame left, and no packet was sent
 abbrev pub NoneGoesOut : List Entry → Type 0
@@ -107,6 +107,11 @@ pub status_own : (plan : Plan) (network : NetworkState) (me : EdgeId) (wire : Wi
 status_own plan network me wire bits =
     own_effects is_of_signalling (status_input plan taken_all wire bits (begin_at network me)).effects (status_signals plan taken_all wire bits (begin_at network me)).effects
 
+pub priority_own : (plan : Plan) (network : NetworkState) (me : EdgeId) (wire : WireId) (priority : ℕ)
+    → are_all is_of_signalling (priority_input plan taken_all wire priority (begin_at network me)).effects ≡ true
+priority_own plan network me wire priority =
+    own_effects is_of_signalling (priority_input plan taken_all wire priority (begin_at network me)).effects (priority_signals plan taken_all wire priority (begin_at network me)).effects
+
 -- ---- the events
 
 pub connect_tells : (plan : Plan) (from to : EdgeId) (network : NetworkState) → NoneGoesOut (connect_event plan from to network).entries
@@ -168,6 +173,9 @@ wire_tells plan me wire on network = answer_tells me (wire_input plan taken_all 
 
 pub status_tells : (plan : Plan) (me : EdgeId) (wire : WireId) (bits : ℕ) (network : NetworkState) → NoneGoesOut (status_event plan me wire bits network).entries
 status_tells plan me wire bits network = answer_tells me (status_input plan taken_all wire bits (begin_at network me)) network (status_own plan network me wire bits)
+
+pub priority_tells : (plan : Plan) (me : EdgeId) (wire : WireId) (priority : ℕ) (network : NetworkState) → NoneGoesOut (priority_event plan me wire priority network).entries
+priority_tells plan me wire priority network = answer_tells me (priority_input plan taken_all wire priority (begin_at network me)) network (priority_own plan network me wire priority)
 
 ticks_tell : (plan : Plan) (place count : ℕ) (network : NetworkState) → NoneGoesOut (ticks_from plan place count network).entries
 ticks_tell plan place zero network = tt
@@ -298,6 +306,10 @@ step_signals plan network (Wire me wire on) other = record {
 step_signals plan network (Status me wire bits) other = record {
   tells = status_tells plan me wire bits network;
   quiet = answer_quiet me (status_input plan taken_all wire bits (begin_at network me)) network (status_own plan network me wire bits);
+}
+step_signals plan network (Priority me wire priority) other = record {
+  tells = priority_tells plan me wire priority network;
+  quiet = answer_quiet me (priority_input plan taken_all wire priority (begin_at network me)) network (priority_own plan network me wire priority);
 }
 step_signals plan network (Frame circuit octets) other = absurd (cc (other))
 step_signals plan network (Arrive number) other = absurd (cc (other))

@@ -1,6 +1,6 @@
 -- Connections between edges: their ends come to stand, octets are delivered on them, and their ends are lost. Each keeps the
 -- order of its octets, and an end that is lost loses what was on its way to it (RFC 5036 section 2.5).
-use Rattle.std.specs.Prelude.{◌++◌, ◌&&◌, ◌||◌, ◌==◌, not, take, drop, length, ℕ, Bool, List, if◌then◌else◌}
+use Rattle.std.specs.Prelude.{◌&&◌, ◌||◌, ◌==◌, not, take, drop, length, ℕ, Bool, List, if◌then◌else◌}
 use Rattle.net_base.specs.declared.plan.Plan.{Plan}
 use Rattle.net_base.specs.declared.plan.places.EdgeId.{EdgeId}
 use Rattle.net_base.specs.plan.Paths.{are_joined}

@@ -2,7 +2,7 @@
 use Rattle.std.specs.Prelude.{◌∷◌}
 use Rattle.net_base.specs.declared.plan.Plan.{Plan}
 use Rattle.net_base.specs.declared.trace.event.Event.{Event}
-use Rattle.net_base.specs.declared.trace.event.Event.TheVariants.{Connect, Deliver, Lose, Restart, Tick, Frame, Arrive, Discard, Again, Wire, Circuit, Status}
+use Rattle.net_base.specs.declared.trace.event.Event.TheVariants.{Connect, Deliver, Lose, Restart, Tick, Frame, Arrive, Discard, Again, Wire, Circuit, Status, Priority}
 use Rattle.net_base.specs.declared.trace.entry.Entry.TheVariants.{Did}
 use Rattle.net_base.specs.plan.Places.{circuit_row}
 use Rattle.network_model.specs.Absorb.{Stepped, stays}
@@ -12,9 +12,9 @@ use Rattle.network_model.specs.Frame.{frame_event}
 use Rattle.network_model.specs.Packet.{again_event, arrive_event, discard_event, packet_at}
 use Rattle.network_model.specs.State.{NetworkState}
 use Rattle.network_model.specs.Tick.{tick_event}
-use Rattle.network_model.specs.Wire.{status_event, wire_event}
+use Rattle.network_model.specs.Wire.{priority_event, status_event, wire_event}
 
--- One definition an event. Those of priorities and pings are to come; no scenario that is run makes them yet
+-- One definition an event. That of pings is to come; no scenario that is run makes one yet
 abbrev pub brings : Plan → Event → NetworkState → Stepped
 brings plan (Connect from to) network = connect_event plan from to network
 brings plan (Deliver from to count) network = deliver_event plan from to count network
@@ -25,6 +25,7 @@ brings plan (Frame circuit octets) network = frame_event plan circuit octets (ci
 brings plan (Circuit circuit on) network = circuit_event plan circuit on (circuit_row plan circuit) network
 brings plan (Wire me wire on) network = wire_event plan me wire on network
 brings plan (Status me wire bits) network = status_event plan me wire bits network
+brings plan (Priority me wire priority) network = priority_event plan me wire priority network
 brings plan (Arrive number) network = arrive_event plan (packet_at network number) network
 brings plan (Discard number) network = discard_event (packet_at network number) network
 brings plan (Again number) network = again_event (packet_at network number) network

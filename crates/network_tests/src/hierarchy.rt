@@ -2,7 +2,7 @@
 
 use crate::tests::{edge, name, network_of, offer, plan_of};
 use net_base::{
-    CircuitId, CircuitPlan, Class, EdgeId, Entry, Event, List, Plan, ServiceId, WirePlan,
+    CircuitId, CircuitPlan, Class, EdgeId, Entry, Event, List, Plan, ServiceId, WireId, WirePlan,
 };
 use psn_net::Network;
 use std::alloc::Global;
@@ -19,6 +19,9 @@ const WIRES: [(Class, u16, u16, u32); 8] = [
     (Class::Spoke, 4, 0, 201),
     (Class::Spoke, 5, 2, 203),
 ];
+
+/// A second spoke of edge 4.
+const SECOND_SPOKE: (Class, u16, u16, u32) = (Class::Spoke, 4, 1, 202);
 
 /// A broadcast from the station 02:00:00:00:00:01, and a frame to it from the station 02:00:00:00:00:02.
 const BROADCAST: [u8; 14] = [255, 255, 255, 255, 255, 255, 2, 0, 0, 0, 0, 1, 8, 0];
@@ -54,7 +57,7 @@ fn add_circuit(rt: &impl Abort, alloc: Global, plan: &mut Plan, place: u16) {
 }
 
 // Six edges with a circuit each, and the wires between them.
-fn hierarchy(rt: &impl Abort, alloc: Global) -> Network {
+fn hierarchy_plan(rt: &impl Abort, alloc: Global) -> Plan {
     let mut plan = plan_of(rt, alloc, 6, 0);
     for place in 0..6 {
         add_circuit(rt, alloc, &mut plan, place);
@@ -62,6 +65,18 @@ fn hierarchy(rt: &impl Abort, alloc: Global) -> Network {
     for row in WIRES.iter() {
         add_wire(rt, alloc, &mut plan, *row);
     }
+    plan
+}
+
+fn hierarchy(rt: &impl Abort, alloc: Global) -> Network {
+    let plan = hierarchy_plan(rt, alloc);
+    network_of(alloc, &plan).expect(rt, "a network")
+}
+
+// The same where edge 4 has a second spoke, as wire 8.
+fn with_two_spokes(rt: &impl Abort, alloc: Global) -> Network {
+    let mut plan = hierarchy_plan(rt, alloc);
+    add_wire(rt, alloc, &mut plan, SECOND_SPOKE);
     network_of(alloc, &plan).expect(rt, "a network")
 }
 
@@ -205,4 +220,41 @@ fn is_not_calm_without_a_spoke(rt: HostRuntime) {
     assert!(rt; network.is_quiet(ServiceId(0)));
     assert!(rt; network.is_full(ServiceId(0)));
     assert!(rt; !is_calm(&rt, &network));
+}
+
+// The spoke of wire 6 is to have this priority; answers whether that applies at the edge.
+fn prefers(rt: &impl Abort, alloc: Global, network: &mut Network, me: u16, priority: u8) -> bool {
+    assert!(rt; network.plan().wires.len() == 9);
+    let event = Event::Priority {
+        edge: edge(rt, network, me),
+        wire: WireId(6),
+        priority,
+    };
+    assert!(rt; network.apply(alloc, &event).is_ok());
+    let count = network.trace().len();
+    settle(rt, alloc, network);
+    match network.trace().as_slice().get(count.saturating_sub(1)) {
+        Some(Entry::Idle) => false,
+        Some(_) | None => true,
+    }
+}
+
+#[test]
+fn moves_to_another_spoke_by_priority(rt: HostRuntime) {
+    // The answer is flooded from where the station was forgotten, and finds it over the new spoke.
+    let alloc = rt.alloc();
+    let mut network = with_two_spokes(&rt, alloc);
+    set_up(&rt, alloc, &mut network);
+    connect(&rt, alloc, &mut network, 4, 1);
+    settle(&rt, alloc, &mut network);
+    enter(&rt, alloc, &mut network, 4, &BROADCAST);
+    assert!(rt; flow(&rt, alloc, &mut network) == 5);
+    leaves(&rt, alloc, &network, 1, ["1", "2", "2", "2", "", "3"]);
+    assert!(rt; !prefers(&rt, alloc, &mut network, 0, 20));
+    assert!(rt; !prefers(&rt, alloc, &mut network, 4, 10));
+    assert!(rt; prefers(&rt, alloc, &mut network, 4, 20));
+    assert!(rt; is_calm(&rt, &network));
+    enter(&rt, alloc, &mut network, 5, &ANSWER);
+    assert!(rt; flow(&rt, alloc, &mut network) == 5);
+    leaves(&rt, alloc, &network, 2, ["2", "2", "1", "2", "3", ""]);
 }

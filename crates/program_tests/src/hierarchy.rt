@@ -107,8 +107,8 @@ priority = 10
 path = [\"y\", \"c\"]
 ";
 
-// A second spoke of the edge x.
-const SECOND_SPOKE: &str = "
+// A second spoke of each of these two edges.
+const SECOND_SPOKES: &str = "
 [[wire]]
 name = \"xb\"
 service = \"s\"
@@ -116,11 +116,32 @@ class = \"spoke\"
 pw_id = 202
 priority = 20
 path = [\"x\", \"b\"]
+[[wire]]
+name = \"yd\"
+service = \"s\"
+class = \"spoke\"
+pw_id = 204
+priority = 20
+path = [\"y\", \"d\"]
+";
+
+// A spoke with a switching point.
+const LONG_SPOKE: &str = "
+[[wire]]
+name = \"xbc\"
+service = \"s\"
+class = \"spoke\"
+pw_id = 205
+path = [\"x\", \"b\", \"c\"]
 ";
 
 // Every wire is set up.
 const SET_UP: &str =
     "\"connect a b\", \"connect a c\", \"connect a d\", \"connect a x\", \"connect b c\", \"connect b d\", \"connect c d\", \"connect c y\", \"settle 1000\"";
+
+// The same with the second spokes.
+const SET_UP_TWICE: &str =
+    "\"connect a b\", \"connect a c\", \"connect a d\", \"connect a x\", \"connect b c\", \"connect b d\", \"connect b x\", \"connect c d\", \"connect c y\", \"connect d y\", \"settle 1000\"";
 
 // A broadcast of a station at x goes to every other edge, and the answer to it comes back to x alone (RFC 4762 sections 4.1 and
 // 4.4).
@@ -150,7 +171,37 @@ sent 7 c a ac yc 2 2 000111ff000000000200000000010200000000020800
 sent 8 a x xa ac 2 3 000101ff000000000200000000010200000000020800
 > arrive 8
 left cx 2 3 0200000000010200000000020800
-end events=52 in=2 left=6 sent=8 dropped=0
+";
+
+// The edge x tells on its first spoke that it stands by, on its second that it does so no longer, and withdraws addresses there (RFC
+// 6870, RFC 4762 section 6.2).
+const MOVES: &str = "> priority x xb 5
+said x a 000100340a00000500000001002a000000060300000a00000028000000000000896a0004000000200100000c8080050400000000000000c9
+said x b 000100340a00000500000001002a000000040300000a00000028000000000000896a0004000000000100000c8080050400000000000000ca
+said x b 000100220a000005000003010018000000050100000c8080050400000000000000ca84040000
+wire x xa Standby
+wire x xb up
+";
+
+// Each edge has forgotten the station: a frame for it comes to each other edge, and to x by the second spoke.
+const COMES_ANEW: &str = "> frame cd 0200000000010200000000040800
+in cd 3 0200000000010200000000040800
+sent 9 d a ad cd 3 1 000121ff000000000200000000010200000000040800
+sent 10 d b bd cd 3 1 000121ff000000000200000000010200000000040800
+sent 11 d c dc cd 3 1 000121ff000000000200000000010200000000040800
+> arrive 9
+left ca 3 1 0200000000010200000000040800
+> arrive 10
+left cb 3 1 0200000000010200000000040800
+sent 12 b x xb bd 3 2 000111ff000000000200000000010200000000040800
+> arrive 11
+left cc 3 1 0200000000010200000000040800
+sent 13 c y yc dc 3 2 000101ff000000000200000000010200000000040800
+> arrive 12
+left cx 3 2 0200000000010200000000040800
+> arrive 13
+left cy 3 2 0200000000010200000000040800
+end events=85 in=3 left=11 sent=13 dropped=0
 ";
 
 // Replays events over the hierarchy, with more tables behind it.
@@ -168,13 +219,62 @@ fn floods_over_a_hierarchy(rt: HostRuntime) {
         "{SET_UP}, \"frame cx ffffffffffff0200000000010800\", \"flow 100\", \"frame cy 0200000000010200000000020800\", \"flow 100\""
     ).expect(&rt, "memory");
     let ended = replay(&rt, alloc, events.as_str(), "", SOUND);
+    let tail = format!(in alloc; "{CROSSES}end events=59 in=2 left=6 sent=8 dropped=0\n").expect(
+        &rt, "memory",
+    );
     assert!(rt; ended.status == 0);
-    assert!(rt; ended.taken.as_slice().ends_with(CROSSES.as_bytes()));
+    assert!(rt; ended.taken.as_slice().ends_with(tail.as_bytes()));
 }
 
 #[test]
-fn is_not_built_with_two_spokes_of_an_edge(rt: HostRuntime) {
-    let ended = replay(&rt, rt.alloc(), SET_UP, SECOND_SPOKE, SOUND);
+fn floods_where_each_spoke_edge_has_two_spokes(rt: HostRuntime) {
+    let alloc = rt.alloc();
+    let events = format!(in alloc;
+        "{SET_UP_TWICE}, \"frame cx ffffffffffff0200000000010800\", \"flow 100\", \"frame cy 0200000000010200000000020800\", \"flow 100\""
+    ).expect(&rt, "memory");
+    let ended = replay(&rt, alloc, events.as_str(), SECOND_SPOKES, SOUND);
+    let tail = format!(in alloc; "{CROSSES}end events=70 in=2 left=6 sent=8 dropped=0\n").expect(
+        &rt, "memory",
+    );
+    assert!(rt; ended.status == 0);
+    assert!(rt; ended.taken.as_slice().ends_with(tail.as_bytes()));
+}
+
+// Replays the same, and then the move of the edge x to its second spoke, with more events behind it.
+fn replay_move(rt: &impl Abort, alloc: Global, more: &str) -> Ended {
+    let events = format!(in alloc;
+        "{SET_UP_TWICE}, \"frame cx ffffffffffff0200000000010800\", \"flow 100\", \"frame cy 0200000000010200000000020800\", \"flow 100\", \"priority x xb 5\"{more}"
+    ).expect(rt, "memory");
+    replay(rt, alloc, events.as_str(), SECOND_SPOKES, SOUND)
+}
+
+#[test]
+fn moves_to_the_second_spoke(rt: HostRuntime) {
+    let alloc = rt.alloc();
+    let ended = replay_move(&rt, alloc, "");
+    let tail = format!(in alloc;
+        "{CROSSES}{MOVES}end events=71 in=2 left=6 sent=8 dropped=0\n"
+    ).expect(&rt, "memory");
+    assert!(rt; ended.status == 0);
+    assert!(rt; ended.taken.as_slice().ends_with(tail.as_bytes()));
+}
+
+#[test]
+fn finds_a_station_by_the_second_spoke(rt: HostRuntime) {
+    let alloc = rt.alloc();
+    let ended = replay_move(
+        &rt,
+        alloc,
+        ", \"settle 100\", \"frame cd 0200000000010200000000040800\", \"flow 100\"",
+    );
+    assert!(rt; ended.status == 0);
+    assert!(rt; ended.taken.as_slice().ends_with(COMES_ANEW.as_bytes()));
+}
+
+#[test]
+fn is_not_built_with_a_path_of_three_edges(rt: HostRuntime) {
+    let ended = replay(&rt, rt.alloc(), SET_UP, LONG_SPOKE, SOUND);
     assert!(rt; ended.status == 5);
     assert!(rt; matches!(ended.outcome, Outcome::NotBuilt));
+    assert!(rt; ended.taken.is_empty());
 }

@@ -83,6 +83,5 @@ fn answers_what_is_not_built_of_wires(rt: HostRuntime) {
     let alloc = rt.alloc();
     is_not_built(&rt, alloc, "", "class = \"mesh\"\nvccv = 1");
     is_not_built(&rt, alloc, "", "class = \"mesh\"\nfar_vccv = 1");
-    is_not_built(&rt, alloc, "\"priority a w 1\"", "class = \"mesh\"");
     is_not_built(&rt, alloc, "\"ping a w\"", "class = \"mesh\"");
 }

@@ -1,5 +1,5 @@
 -- The control of an edge, in lists as in maps.
-use Rattle.std.proofs.Common.{◌≡◌, ◌<◌, ◌≤◌, ◌++◌, ◌||◌, ◌∙◌, ℕ, zero, suc, Bool, true, false, List, [], ◌∷◌, Option, Some, None, cond, length, map, slice_set, slice_index_or, nat_eq, replicate, ◌+◌, refl, ap, sym, subst, arith, length-set}
+use Rattle.std.proofs.Common.{◌≡◌, ◌<◌, ◌≤◌, ◌++◌, ◌||◌, ◌∙◌, ℕ, zero, suc, Bool, true, false, List, [], ◌∷◌, Option, Some, None, cond, length, map, slice_set, slice_index_or, nat_eq, replicate, ◌+◌, refl, ap, sym, subst, arith, length-set, slice_get}
 use Rattle.std.proofs.lemmas.Bool.{eqb-true}
 use Rattle.std.proofs.lemmas.List.{length-map}
 use Rattle.std.proofs.lemmas.List.Elements.{All-replicate}
@@ -7,6 +7,7 @@ use Rattle.std.specs.Prelude.{All, IfSome}
 use Rattle.net_base.specs.declared.plan.Plan.{Plan}
 use Rattle.net_base.specs.declared.plan.places.EdgeId.{EdgeId}
 use Rattle.net_base.specs.declared.plan.places.WireId.{WireId}
+use Rattle.net_base.specs.declared.plan.wire_plan.WirePlan.{WirePlan}
 use Rattle.net_base.specs.declared.outside.link_call.LinkCall.{LinkCall}
 use Rattle.pw_signalling.specs.End.{EndState, fresh}
 use Rattle.label_space.specs.Labels.{numbers_end}
@@ -22,7 +23,7 @@ use Rattle.edge_model.proofs.LocalLemmas.{and_left}
 use Rattle.edge_model.proofs.PlaceLemmas.{IsEndOf, places_are}
 use Rattle.std.specs.List.{AllByRecursion, list_any}
 use Rattle.std.proofs.lemmas.Option.{slice_get_within}
-use Rattle.edge_model.specs.State.{EdgeState, empty_edge, end_at, first_label, has_end, put_at, with_bits, with_chosen, with_end, with_ends_beside, with_peering, with_renewed, with_wire, with_next_label, without_ends, without_peerings}
+use Rattle.edge_model.specs.State.{EdgeState, empty_edge, end_at, first_label, has_end, priority_in, put_at, with_bits, with_chosen, with_end, with_ends_beside, with_peering, with_priority, with_renewed, with_wire, with_next_label, without_ends, without_peerings}
 use Rattle.edge_model.specs.Work.{changes}
 use Rattle.pw_ends.specs.Ends.{EndLists, changed_at, changed_beside, end_in, no_place, place_of, renewed_of, seen_ends}
 use Rattle.net_base.specs.plan.Accepted.{IsChecked}
@@ -56,6 +57,7 @@ control_dialogues c dialogues long is = record {
   plan = is.plan;
   me = is.me;
   small = is.small;
+  priorities = is.priorities;
 }
 
 pub control_put : (c : ControlLists) (peer : EdgeId) (kept : Option Dialogue) → IsControl c → IsControl (record c { dialogues = slice_set c.dialogues peer.0 kept })
@@ -72,6 +74,7 @@ control_ends c ends same is = record {
   plan = is.plan;
   me = is.me;
   small = is.small;
+  priorities = is.priorities;
 }
 
 pub control_spokes : (c : ControlLists) (spokes : SpokeLists) → AreSpokesOf c.plan c.me spokes → IsControl c → IsControl (record c { spokes = spokes })
@@ -85,6 +88,7 @@ control_spokes c spokes are is = record {
   plan = is.plan;
   me = is.me;
   small = is.small;
+  priorities = is.priorities;
 }
 
 pub control_wires : (c : ControlLists) (wires : List Bool) → length wires ≡ length c.wires_on → IsControl c → IsControl (record c { wires_on = wires })
@@ -98,6 +102,7 @@ control_wires c wires long is = record {
   plan = is.plan;
   me = is.me;
   small = is.small;
+  priorities = is.priorities;
 }
 
 -- ---- one session
@@ -225,8 +230,15 @@ pub record AreNewLists (plan : Plan) (me : EdgeId) (c : ControlLists) : Type 0 w
   pub next : c.ends.labels.next ≡ first_label plan me
   pub wires : c.wires_on ≡ replicate (length plan.wires) true
   pub zeros : c.bits ≡ replicate (length plan.wires) 0
+  pub priorities : c.priorities ≡ map (λ (row : WirePlan). row.priority) plan.wires
   pub spokes : IsNewSpokes plan me c.spokes
   pub forwarding : IsNewForwarding plan me c.forwarding
+
+-- the priorities of the plan, in a list as in a map
+by_plan : (rows : List WirePlan) (k : ℕ) → slice_index_or (map (λ (row : WirePlan). row.priority) rows) k (priority_in (slice_get rows k)) ≡ priority_in (slice_get rows k)
+by_plan [] k = refl
+by_plan (x ∷ rows) zero = refl
+by_plan (x ∷ rows) (suc k) = by_plan rows k
 
 pub new_is : (plan : Plan) (me : EdgeId) (c : ControlLists) (rest : Rest) → AreNewLists plan me c → controlled c rest ≡ empty_edge plan me
 unfolding controlled with_forwarding opened_forwarding
@@ -238,6 +250,9 @@ new_is plan me c rest are = λ i. record {
   peering = λ k. (ap (λ (l : List (Option Dialogue)). kept_with (rest.held k) (view None l k)) are.dialogues ∙ ap (kept_with (rest.held k)) (all_same (length plan.edges) k None)) i;
   wire_on = λ k. (ap (λ (l : List Bool). view true l k) are.wires ∙ all_same (length plan.wires) k true) i;
   bits = λ k. (ap (λ (l : List ℕ). view 0 l k) are.zeros ∙ all_same (length plan.wires) k 0) i;
+  priority = λ k.
+      (ap (λ (l : List ℕ). slice_index_or l k (priority_in (slice_get c.plan.wires k))) are.priorities
+      ∙ (ap (λ (p : Plan). slice_index_or (map (λ (row : WirePlan). row.priority) plan.wires) k (priority_in (slice_get p.wires k))) are.keeps ∙ by_plan plan.wires k)) i;
   ends = are.ends i;
   told_down = (are.forwarding.is (empty_edge plan me) i).told_down;
   chosen = λ k. (ap (λ (l : List (Option WireId)). view None l k) are.spokes.none ∙ all_same (length plan.services) k None) i;
@@ -258,6 +273,7 @@ control_new plan me c checked are = record {
   plan = are.forwarding.keeps ∙ sym are.keeps;
   me = are.forwarding.here ∙ sym are.here;
   small = subst (All (λ bits. bits ≤ 31)) (sym are.zeros) (All-replicate (λ bits. bits ≤ 31) (length plan.wires) 0 (omega arith));
+  priorities = ap (λ (l : List ℕ). length l) are.priorities ∙ (length-map plan.wires (λ (row : WirePlan). row.priority) ∙ ap (λ (p : Plan). length p.wires) (sym are.keeps));
 }
 
 -- ---- a wire at a place of its own
@@ -271,6 +287,11 @@ pub controlled_bits : (c : ControlLists) (wire : WireId) (bits : ℕ) (rest : Re
     → controlled (record c { bits = slice_set c.bits wire.0 bits }) rest ≡ with_bits wire bits (controlled c rest)
 unfolding controlled with_bits
 controlled_bits c wire bits rest within = λ i. record (controlled c rest) { bits = view_set 0 c.bits wire.0 bits within i }
+
+pub controlled_priority : (c : ControlLists) (wire : WireId) (priority : ℕ) (rest : Rest) → wire.0 < length c.priorities
+    → controlled (record c { priorities = slice_set c.priorities wire.0 priority }) rest ≡ with_priority wire priority (controlled c rest)
+unfolding controlled with_priority
+controlled_priority c wire priority rest within = λ i. record (controlled c rest) { priority = λ k. view_at (priority_in (slice_get c.plan.wires k)) c.priorities wire.0 priority k within i }
 
 -- ---- the spoke that is chosen for a service
 
@@ -291,6 +312,10 @@ next_at c rest = refl
 pub bits_read : (c : ControlLists) (wire : WireId) (bits : ℕ) (rest : Rest) → wire.0 < length c.bits → bits ≡ slice_index_or c.bits wire.0 bits → bits ≡ (controlled c rest).bits wire.0
 unfolding controlled
 bits_read c wire bits rest within read = read ∙ same_read c.bits wire.0 bits 0 within
+
+pub priority_read : (c : ControlLists) (wire : WireId) (priority : ℕ) (rest : Rest) → wire.0 < length c.priorities → priority ≡ slice_index_or c.priorities wire.0 priority → priority ≡ (controlled c rest).priority wire.0
+unfolding controlled
+priority_read c wire priority rest within read = read ∙ same_read c.priorities wire.0 priority (priority_in (slice_get c.plan.wires wire.0)) within
 
 pub on_read : (c : ControlLists) (wire : WireId) (on : Bool) (rest : Rest) → wire.0 < length c.wires_on → on ≡ slice_index_or c.wires_on wire.0 on → on ≡ (controlled c rest).wire_on wire.0
 unfolding controlled

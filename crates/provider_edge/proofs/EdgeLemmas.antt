@@ -15,6 +15,7 @@ use Rattle.net_base.specs.declared.plan.places.ServiceId.{ServiceId}
 use Rattle.net_base.specs.declared.plan.places.WireId.{WireId}
 use Rattle.vsi_bridge.specs.BridgeState.{BridgeState}
 use Rattle.net_base.specs.declared.trace.state_name.Reason.TheVariants as reason
+use Rattle.net_base.specs.plan.Places.{wire_row}
 use Rattle.net_base.specs.plan.Paths.{are_joined}
 use Rattle.net_base.specs.declared.trace.down.Down.{Down}
 use Rattle.net_base.specs.declared.plan.places.SegKey.{SegKey}
@@ -31,11 +32,11 @@ use Rattle.edge_model.specs.Hear.{hears, hears_on, octets_input}
 use Rattle.edge_model.specs.Mend.{mends}
 use Rattle.edge_model.specs.Role.{down_at}
 use Rattle.edge_model.specs.Session.{happens_with_ends}
-use Rattle.edge_model.specs.State.{EdgeState, Peering, addresses_of, end_at, has_end, is_there, later, with_bits, with_learned, with_ticks, without_ends, without_peerings}
+use Rattle.edge_model.specs.State.{EdgeState, Peering, addresses_of, end_at, has_end, is_there, later, with_bits, with_learned, with_priority, with_ticks, without_ends, without_peerings}
 use Rattle.edge_model.specs.Synced.{InSync, IsSynced}
 use Rattle.edge_model.proofs.PlaceLemmas.{all-map}
 use Rattle.edge_model.specs.Tick.{counted, forgetting, ticks_sessions}
-use Rattle.edge_model.specs.Wire.{status_input, turned_wire, wire_input}
+use Rattle.edge_model.specs.Wire.{is_own_spoke, priority_input, status_input, turned_wire, wire_input}
 use Rattle.edge_model.specs.Work.{Answers, Work, beginning, changes, idles}
 use Rattle.provider_edge.specs.Control.{ControlLists, KeepsPlan, Rest, at_control, controlled, holding}
 use Rattle.provider_edge.specs.EndOf.{is_of_segment}
@@ -318,6 +319,13 @@ pub bits_seen : (e : EdgeLists) (k : ℕ) → (controlled e.control (rest_of e))
 unfolding seen controlled
 bits_seen e k = refl
 
+pub priority_seen : (e : EdgeLists) (k : ℕ) → (controlled e.control (rest_of e)).priority k ≡ (seen e).priority k
+unfolding seen controlled
+priority_seen e k = refl
+
+pub own_edge : (e : EdgeLists) (wire : WireId) → IsEdge e → is_own_spoke e.control.me (wire_row e.control.plan wire) ≡ is_own_spoke e.me (wire_row e.plan wire)
+own_edge e wire is = ap (λ (p : Plan). is_own_spoke e.control.me (wire_row p wire)) is.plan ∙ ap (λ (m : EdgeId). is_own_spoke m (wire_row e.plan wire)) is.me
+
 pub apart_eqb : (a b : ℕ) → (a ≡ b → ⊥) → nat_eq a b ≡ false
 apart_eqb a b apart = by (nat_eq a b) refl where
   by : (x : Bool) → nat_eq a b ≡ x → x ≡ false
@@ -370,6 +378,27 @@ status_set e told wire bits calls work here other is =
 pub bits_at : (e mid : EdgeLists) (wire : WireId) (bits : ℕ) (calls : List LinkCall) → seen mid ≡ with_bits wire bits (seen e) → at_edge (seen mid) calls [] ≡ changes (with_bits wire bits) (beginning (seen e) calls)
 unfolding at_edge changes
 bits_at e mid wire bits calls is = ap (λ (s : EdgeState). record { edge = s; calls = calls; effects = []; idle = false }) is
+
+pub priority_apart : (e : EdgeLists) (told : Answers) (wire : WireId) (priority : ℕ) (calls : List LinkCall) → is_own_spoke e.me (wire_row e.plan wire) ≡ false → worked e calls (record { idle = true; list = [] }) ≡ priority_input e.plan told wire priority (beginning (seen e) calls)
+unfolding seen
+priority_apart e told wire priority calls apart =
+    not_there e calls ∙ sym (ap (λ (b : Bool). cond (b && not (priority == (seen e).priority wire.0)) (mends e.plan told (changes (with_priority wire priority) (beginning (seen e) calls))) (idles (beginning (seen e) calls))) apart)
+
+pub priority_already : (e : EdgeLists) (told : Answers) (wire : WireId) (priority : ℕ) (calls : List LinkCall) → (priority == (seen e).priority wire.0) ≡ true → worked e calls (record { idle = true; list = [] }) ≡ priority_input e.plan told wire priority (beginning (seen e) calls)
+priority_already e told wire priority calls same =
+    not_there e calls ∙ sym (ap (λ (b : Bool). cond b (mends e.plan told (changes (with_priority wire priority) (beginning (seen e) calls))) (idles (beginning (seen e) calls)))
+    (and_not (is_own_spoke (seen e).me (wire_row e.plan wire)) (priority == (seen e).priority wire.0) same))
+
+pub priority_set : (e : EdgeLists) (told : Answers) (wire : WireId) (priority : ℕ) (calls : List LinkCall) (work : Work) → is_own_spoke e.me (wire_row e.plan wire) ≡ true → (priority == (seen e).priority wire.0) ≡ false
+    → work ≡ mends e.plan told (changes (with_priority wire priority) (beginning (seen e) calls)) → work ≡ priority_input e.plan told wire priority (beginning (seen e) calls)
+unfolding seen
+priority_set e told wire priority calls work here other is =
+    is ∙ sym (ap (λ (b : Bool). cond (b && not (priority == (seen e).priority wire.0)) (mends e.plan told (changes (with_priority wire priority) (beginning (seen e) calls))) (idles (beginning (seen e) calls))) here
+    ∙ ap (λ (b : Bool). cond (not b) (mends e.plan told (changes (with_priority wire priority) (beginning (seen e) calls))) (idles (beginning (seen e) calls))) other)
+
+pub priority_at : (e mid : EdgeLists) (wire : WireId) (priority : ℕ) (calls : List LinkCall) → seen mid ≡ with_priority wire priority (seen e) → at_edge (seen mid) calls [] ≡ changes (with_priority wire priority) (beginning (seen e) calls)
+unfolding at_edge changes
+priority_at e mid wire priority calls is = ap (λ (s : EdgeState). record { edge = s; calls = calls; effects = []; idle = false }) is
 
 -- ---- circuits
 

@@ -64,21 +64,28 @@ use Rattle.edge_model.specs.Circuit.{circuit_input, is_same, turned}
 use Rattle.edge_model.specs.Connection.{connected_input, connects_between, lost_input, opened_with, restarted}
 use Rattle.edge_model.specs.Frame.{copies, copy_by, forwarded, frame_input, hearing, is_own, port_at, received, tag_of, targets_of}
 use Rattle.edge_model.specs.Hear.{acts, acts_on, advice_of, advises, hears_few, hears_front, hears_message, hears_messages, hears_on, hears_one, hears_pdu, hears_within, holds, octets_input, was_up}
+use Rattle.net_base.specs.declared.values.mac.Mac.{Mac}
+use Rattle.hvpls_spokes.specs.declared.edge_role.Role.{Role}
+use Rattle.hvpls_spokes.specs.Role as roles
+use Rattle.mac_withdraw.specs.Passing.{is_passed_to}
+use Rattle.mac_withdraw.specs.Pieces.{pieces_of}
+use Rattle.edge_model.specs.Clear.{clears_at, clears_by, clears_wire, hears_mac_withdraw, passes_on, tells_at, tells_by, withdrawing_at}
+use Rattle.edge_model.specs.Withdraw.{tells_piece, tells_piece_by, tells_pieces}
 use Rattle.edge_model.specs.Packet.{advertiser, alerted, alerts_end, behind_entry, bridges_frame, by_offer, enters, is_alert, is_channel, labelled, least_label, opened_by, owned, packet_input, switched, terminated, unpacked_at}
 use Rattle.edge_model.specs.Send.{drops, had_posted, packet_of, sends, sends_copy, sends_under}
 use Rattle.edge_model.specs.Synced.{InSync}
-use Rattle.edge_model.specs.Put.{Spoken, message_octets_of, octets_of, put_octets, put_replies, put_reply, put_reply_to, puts_on, with_spoken}
+use Rattle.edge_model.specs.Put.{Spoken, message_octets_of, octets_of, put_octets, put_replies, put_reply, put_reply_to, puts_on, with_spoken, stays}
 use Rattle.edge_model.specs.Session.{clears_ends, comes_of, ends, had_put, had_said, happens, happens_to, happens_with_ends, says, says_to, is_same_phase, tells_change, went_on, with_session}
 use Rattle.edge_model.specs.declared.end_place.EndPlace.{EndPlace}
-use Rattle.edge_model.specs.Content.{binding_in, mapping, pw_status_code, release, status_notification, withdrawal}
+use Rattle.edge_model.specs.Content.{binding_in, mac_withdrawal, mapping, pw_status_code, release, status_notification, withdrawal}
 use Rattle.edge_model.specs.EndPlaces.{end_places, ends_here, is_end_of_wire, passes}
 use Rattle.edge_model.specs.Ends.{is_up, wire_end}
-use Rattle.edge_model.specs.Mend.{advertises_wish, advertising, and_says, cause_number, each_end, forgets_down, forgets_downs, forgetting_wire, mends, mends_end, mends_few, mends_local, mends_once, mends_status, mends_status_of, port_of_wire, stays, telling_status, tells_down, tells_downs, tells_new_status, tells_over, then_changes, wish, withdrawing, withdraws_unless}
+use Rattle.edge_model.specs.Mend.{advertises_wish, advertising, and_says, cause_number, each_end, forgets_down, forgets_downs, forgetting_wire, is_new_choice, mends, mends_choice, mends_end, mends_few, mends_local, mends_once, mends_status, mends_status_of, port_of_wire, telling_status, tells_down, tells_downs, tells_new_status, tells_over, then_changes, wish, withdrawing, withdraws_unless}
 use Rattle.edge_model.specs.Role.{down_at, status_to_tell}
 use Rattle.edge_model.specs.Signal.{end_of_fec, hears_status, maps_to, with_end_changed, with_named}
 use Rattle.edge_model.specs.Spokes.{choosing}
-use Rattle.edge_model.specs.Wire.{turned_wire}
-use Rattle.edge_model.specs.State.{EdgeState, Peering, end_at, has_end, is_on, is_there, with_bits, with_ends_beside, with_peering, with_told_down}
+use Rattle.edge_model.specs.Wire.{is_own_spoke, turned_wire}
+use Rattle.edge_model.specs.State.{EdgeState, Peering, end_at, has_end, is_on, is_there, with_bits, with_ends_beside, with_peering, with_priority, with_told_down}
 use Rattle.edge_model.specs.Step.{edge_step}
 use Rattle.edge_model.specs.Tick.{counted, forgetting, ticks_sessions}
 use Rattle.edge_model.specs.Work.{Agrees, Answers, GoesOn, Work, beginning, changes, gives, idles, next_answer, posts, puts}
@@ -405,6 +412,19 @@ status_kept plan Holds kept told place placed work here = to (end_at work.edge p
   to (Advertised label content) = over content (status_to_tell plan work.edge place) content.status
   to (Withdrawing label) = here
 
+piece_kept : (plan : Plan) (Holds : Work → Type 0) → AreKept plan Holds → (told : Answers) (place : EndPlace) → IsPlaced plan place → (addresses : List Mac) (work : Work) → Holds work → Holds (tells_piece told place addresses work).work
+piece_kept plan Holds kept told place placed addresses work here = to (end_at work.edge place).local where
+  to : (local : LocalPart) → Holds (tells_piece_by told place addresses local work).work
+  to (Idle declined) = here
+  to (Advertised label content) = says_kept plan Holds kept told place.peer placed.peer (mac_withdrawal place.pw_id addresses content) work here
+  to (Withdrawing label) = here
+
+choice_kept : (plan : Plan) (Holds : Work → Type 0) → AreKept plan Holds → (told : Answers) (before : ℕ → Option WireId) (place : EndPlace) → IsPlaced plan place → (work : Work) → Holds work → Holds (mends_choice plan told before place work).work
+choice_kept plan Holds kept told before place placed work here = by (is_new_choice before work.edge.chosen place.wire (wire_row plan place.wire)) where
+  by : (b : Bool) → Holds (cond b (tells_piece told place [] work) (stays work)).work
+  by true = piece_kept plan Holds kept told place placed [] work here
+  by false = here
+
 each_kept : (plan : Plan) (Holds : Work → Type 0) (mend : EndPlace → Work → Spoken) → ((place : EndPlace) → IsPlaced plan place → (work : Work) → Holds work → Holds (mend place work).work)
     → (places : List EndPlace) → AllByRecursion (IsPlaced plan) places → (m : Spoken) → Holds m.work → Holds (each_end mend places m).work
 each_kept plan Holds mend one [] placed m here = here
@@ -438,11 +458,13 @@ once_kept plan Holds kept checked told work here =
     let ends : Spoken = each_end (mends_end plan told) (end_places plan work.edge.me) (stays work) in
     let chosen : Spoken = then_changes (choosing plan) ends in
     let statuses : Spoken = each_end (mends_status plan told) (end_places plan work.edge.me) chosen in
-    downs_kept plan Holds kept (end_places plan work.edge.me) placed (forgets_downs plan (end_places plan work.edge.me) statuses.work)
-    (forgets_kept plan Holds kept (end_places plan work.edge.me) statuses.work
+    let moved : Spoken = each_end (mends_choice plan told work.edge.chosen) (end_places plan work.edge.me) statuses in
+    downs_kept plan Holds kept (end_places plan work.edge.me) placed (forgets_downs plan (end_places plan work.edge.me) moved.work)
+    (forgets_kept plan Holds kept (end_places plan work.edge.me) moved.work
+    (each_kept plan Holds (mends_choice plan told work.edge.chosen) (λ place here w h. choice_kept plan Holds kept told work.edge.chosen place here w h) (end_places plan work.edge.me) placed statuses
     (each_kept plan Holds (mends_status plan told) (λ place here w h. status_kept plan Holds kept told place here w h) (end_places plan work.edge.me) placed chosen
     (kept.changed (choosing plan) ends.work
-    (each_kept plan Holds (mends_end plan told) (λ place here w h. end_kept plan Holds kept told place here w h) (end_places plan work.edge.me) placed (stays work) here))))
+    (each_kept plan Holds (mends_end plan told) (λ place here w h. end_kept plan Holds kept told place here w h) (end_places plan work.edge.me) placed (stays work) here)))))
 
 rounds_kept : (plan : Plan) (Holds : Work → Type 0) → AreKept plan Holds → IsChecked plan → (told : Answers) (n : ℕ) (work : Work) → Holds work → Holds (mends_few plan told n work)
 rounds_kept plan Holds kept checked told zero work here = here
@@ -456,10 +478,60 @@ rounds_kept plan Holds kept checked told (suc n) work here =
 mends_kept : (plan : Plan) (Holds : Work → Type 0) → AreKept plan Holds → IsChecked plan → (told : Answers) (work : Work) → Holds work → Holds (mends plan told work)
 mends_kept plan Holds kept checked told work here = rounds_kept plan Holds kept checked told (suc (length plan.edges)) work here
 
+-- ---- a MAC withdraw
+
+pieces_kept : (plan : Plan) (Holds : Work → Type 0) → AreKept plan Holds → (told : Answers) (place : EndPlace) → IsPlaced plan place → (pieces : List (List Mac)) (work : Work) → Holds work → Holds (tells_pieces told place pieces work)
+pieces_kept plan Holds kept told place placed [] work here = here
+pieces_kept plan Holds kept told place placed (piece ∷ pieces) work here =
+    pieces_kept plan Holds kept told place placed pieces (tells_piece told place piece work).work (piece_kept plan Holds kept told place placed piece work here)
+
+told_by_kept : (plan : Plan) (Holds : Work → Type 0) → AreKept plan Holds → (told : Answers) (addresses : List Mac) (end : Option EndPlace) (work : Work) → ((place : EndPlace) → end ≡ Some place → IsPlaced plan place) → Holds work
+    → Holds (tells_by told addresses end work)
+told_by_kept plan Holds kept told addresses None work placed here = here
+told_by_kept plan Holds kept told addresses (Some place) work placed here = pieces_kept plan Holds kept told place (placed place refl) (pieces_of addresses) work here
+
+told_at_kept : (plan : Plan) (Holds : Work → Type 0) → AreKept plan Holds → IsChecked plan → (told : Answers) (addresses : List Mac) (x : Port) (b : Bool) (work : Work) → Holds work → Holds (cond b (tells_at plan told addresses x work) work)
+told_at_kept plan Holds kept checked told addresses x false work here = here
+told_at_kept plan Holds kept checked told addresses (port.Circuit c) true work here = here
+told_at_kept plan Holds kept checked told addresses (port.Mesh wire) true work here =
+    told_by_kept plan Holds kept told addresses (wire_end plan work.edge.me wire) work (λ place. found_holds (IsPlaced plan) (is_end_of_wire wire) (end_places plan work.edge.me) place (places_placed plan work.edge.me checked)) here
+told_at_kept plan Holds kept checked told addresses (port.Spoke wire) true work here =
+    told_by_kept plan Holds kept told addresses (wire_end plan work.edge.me wire) work (λ place. found_holds (IsPlaced plan) (is_end_of_wire wire) (end_places plan work.edge.me) place (places_placed plan work.edge.me checked)) here
+
+passed_kept : (plan : Plan) (Holds : Work → Type 0) → AreKept plan Holds → IsChecked plan → (told : Answers) (addresses : List Mac) (passed : ℕ → Bool) (p : ℕ) (ports : List Port) (work : Work) → Holds work
+    → Holds (copies passed (tells_at plan told addresses) p ports work)
+passed_kept plan Holds kept checked told addresses passed p [] work here = here
+passed_kept plan Holds kept checked told addresses passed p (x ∷ ports) work here =
+    passed_kept plan Holds kept checked told addresses passed (p + 1) ports (cond (passed p) (tells_at plan told addresses x work) work) (told_at_kept plan Holds kept checked told addresses x (passed p) work here)
+
+withdraw_kept : (plan : Plan) (Holds : Work → Type 0) → AreKept plan Holds → IsChecked plan → (told : Answers) (peer : EdgeId) (fec : Option PwFec) (macs : Option (List Mac)) (work : Work) → Holds work → Holds (hears_mac_withdraw plan told peer fec macs work)
+withdraw_kept plan Holds kept checked told peer None macs work here = here
+withdraw_kept plan Holds kept checked told peer (Some fec) None work here = here
+withdraw_kept plan Holds kept checked told peer (Some fec) (Some addresses) work here = named (end_of_fec plan work.edge peer fec) where
+  on : (service : ServiceId) (from : ℕ) (role : Option Role) (w : Work) → Holds w → Holds (passes_on plan told addresses service from role w)
+  on service from None w h = h
+  on service from (Some role) w h = passed_kept plan Holds kept checked told addresses (is_passed_to role (ports_of plan service w.edge.me) from) 0 (ports_of plan service w.edge.me) w h
+
+  at : (service : ServiceId) (found : Option ℕ) → Holds (clears_at plan told addresses service found work)
+  at service None = here
+  at service (Some from) = on service from (roles.role_of plan service work.edge.me) (changes (withdrawing_at service addresses from) work) (kept.changed (withdrawing_at service addresses from) work here)
+
+  wire : (place : EndPlace) (row : Option WirePlan) → Holds (clears_wire plan told addresses place row work)
+  wire place None = here
+  wire place (Some row) = at row.service (port_of_wire plan work.edge place.wire row)
+
+  by : (place : EndPlace) (b : Bool) → Holds (cond b (clears_wire plan told addresses place (wire_row plan place.wire) work) work)
+  by place true = wire place (wire_row plan place.wire)
+  by place false = here
+
+  named : (end : Option EndPlace) → Holds (clears_by plan told addresses end work)
+  named None = here
+  named (Some place) = by place place.terminal
+
 -- ---- what is heard
 
-acted_kept : (plan : Plan) (Holds : Work → Type 0) → AreKept plan Holds → (told : Answers) (peer : EdgeId) → peer.0 < length plan.edges → (message : Message) (work : Work) → Holds work → Holds (acts_on plan told peer message work)
-acted_kept plan Holds kept told peer within m work here = to m where
+acted_kept : (plan : Plan) (Holds : Work → Type 0) → AreKept plan Holds → IsChecked plan → (told : Answers) (peer : EdgeId) → peer.0 < length plan.edges → (message : Message) (work : Work) → Holds work → Holds (acts_on plan told peer message work)
+acted_kept plan Holds kept checked told peer within m work here = to m where
   maps : (fec : PwFec) (label : ℕ) (status : Option PwStatus) (points : List Point) (x : Option EndPlace) → Holds (maps_to told peer fec label status points x work)
   maps fec label status points None = says_kept plan Holds kept told peer within (release fec (Some label)) work here
   maps fec label status points (Some place) = kept.changed (with_end_changed (bound (binding_in fec label status points)) (Some place)) work here
@@ -486,7 +558,7 @@ acted_kept plan Holds kept told peer within m work here = to m where
   to (message.Initialization id params) = advised (advice_of (message.Initialization id params))
   to (message.KeepAlive id) = advised (advice_of (message.KeepAlive id))
   to (message.Address id family octets) = advised (advice_of (message.Address id family octets))
-  to (message.AddressWithdraw id addresses pw macs) = advised (advice_of (message.AddressWithdraw id addresses pw macs))
+  to (message.AddressWithdraw id addresses pw macs) = withdraw_kept plan Holds kept checked told peer pw macs work here
   to (message.LabelRequest id pw) = advised (advice_of (message.LabelRequest id pw))
   to (message.LabelAbort id pw request) = advised (advice_of (message.LabelAbort id pw request))
   to (message.Other id u number) = advised (advice_of (message.Other id u number))
@@ -501,7 +573,7 @@ message_kept plan Holds kept checked told peer within m work here = heard (has_e
   after = with_ends_kept plan Holds kept told peer within (Received m) work here
 
   still : (b : Bool) → Holds (cond b (acts_on plan told peer m mid) mid)
-  still true = acted_kept plan Holds kept told peer within m mid after
+  still true = acted_kept plan Holds kept checked told peer within m mid after
   still false = after
 
   up : (b : Bool) → Holds (acts plan told peer m b mid)
@@ -598,7 +670,8 @@ step_kept plan Holds kept checked told (input.Packet bytes) work peers here = pa
 step_kept plan Holds kept checked told (input.Wire wire on) work peers here = changed_kept plan Holds kept checked told (turned_wire wire on) work (passes plan work.edge.me wire && not (is_same on (work.edge.wire_on wire.0))) here
 step_kept plan Holds kept checked told (input.Circuit circuit on) work peers here = circuit_kept plan Holds kept checked told circuit on (circuit_row plan circuit) work here
 step_kept plan Holds kept checked told (input.Status wire bits) work peers here = changed_kept plan Holds kept checked told (with_bits wire bits) work (ends_here plan work.edge.me wire && not (nat_eq bits (work.edge.bits wire.0))) here
-step_kept plan Holds kept checked told (input.Priority wire priority) work peers here = kept.idle work here
+step_kept plan Holds kept checked told (input.Priority wire priority) work peers here =
+    changed_kept plan Holds kept checked told (with_priority wire priority) work (is_own_spoke work.edge.me (wire_row plan wire) && not (nat_eq priority (work.edge.priority wire.0))) here
 step_kept plan Holds kept checked told (input.Ping wire) work peers here = kept.idle work here
 
 -- ---- effects name what is in the plan

@@ -30,6 +30,7 @@ control_forwarding c f keeps is = record {
   plan = keeps.plan ∙ is.plan;
   me = keeps.me ∙ is.me;
   small = is.small;
+  priorities = is.priorities;
 }
 
 pub keeps_forwarding : (c : ControlLists) (f : ForwardingLists) → KeepsPlan c (record c { forwarding = f })

@@ -15,23 +15,25 @@ use Rattle.net_base.specs.declared.plan.places.ServiceId.{ServiceId}
 use Rattle.net_base.specs.declared.plan.places.WireId.{WireId}
 use Rattle.net_base.specs.declared.trace.down.Down.{Down}
 use Rattle.net_base.specs.declared.trace.down.Down.TheVariants.{NoLocal}
+use Rattle.net_base.specs.declared.values.mac.Mac.{Mac}
 use Rattle.net_base.specs.plan.Accepted.{IsChecked, IsCircuitOf, IsWireOf}
 use Rattle.net_base.specs.plan.Places.{circuit_row, service_row, wire_row}
 use Rattle.hvpls_spokes.specs.declared.port.Port.{Port}
 use Rattle.hvpls_spokes.specs.Port.{is_circuit_port, is_wire_port, ports_of}
 use Rattle.hvpls_spokes.specs.PortSet.{has}
-use Rattle.mac_table.specs.Addresses.{NoneAfter, is_young}
+use Rattle.mac_table.specs.Addresses.{NoneAfter, is_young, stays}
 use Rattle.mac_table.specs.declared.mac_entry.MacEntry.{MacEntry}
 use Rattle.mac_table.proofs.AddressLemmas.{none_after_filtered, none_after_later}
 use Rattle.vsi_bridge.specs.BridgeState.{BridgeState}
 use Rattle.vsi_bridge.specs.Targets.{heard, is_target, known_port}
+use Rattle.edge_model.specs.Clear.{withdrawing_at}
 use Rattle.edge_model.specs.Ends.{is_up}
 use Rattle.edge_model.specs.Frame.{destination, hearing, source}
 use Rattle.edge_model.specs.Mend.{forgetting_wire}
 use Rattle.edge_model.specs.State.{EdgeState, addresses_of, put_at, with_addresses, with_circuit, with_learned, with_ticks, with_told_down, without_port}
 use Rattle.edge_model.specs.Tick.{aged, forgetting}
 use Rattle.provider_edge.specs.declared.domain.Domain.{Domain}
-use Rattle.provider_edge.specs.Domain.{AreClosed, AreNew, IsDomain, IsKept, IsKeptClosed, IsKeptTurned, IsNew, KeptNotAfter, aged_kept, all_on, cleared_kept, forgot_kept, is_found, is_wire, nothing_told, port_opens}
+use Rattle.provider_edge.specs.Domain.{AreClosed, AreNew, IsDomain, IsKept, IsKeptClosed, IsKeptTurned, IsNew, KeptNotAfter, aged_kept, all_on, cleared_kept, forgot_kept, is_found, is_wire, nothing_told, port_opens, withdrawn_kept}
 use Rattle.provider_edge.specs.Forwarding.{ForwardingLists, IsForwarding, IsNewForwarding, circuits_in, domain_of, entries_of, forgotten, open_ports, opened_forwarding, own_service, told_in, with_forwarding, without_told}
 use Rattle.provider_edge.specs.Views.{view}
 use Rattle.provider_edge.proofs.OpenLemmas.{closed_port, opens_within, same_tests, told_elsewhere, told_ports, turned_elsewhere, turned_ports}
@@ -218,6 +220,37 @@ wire_forgot f service wire row after edge at of is_now =
     is_now
     ∙ (ap (λ (s : ServiceId). with_addresses s (without_port (position (is_wire_port wire) (ports_of f.plan s f.me)) (addresses_of (with_forwarding f edge) s)) (with_forwarding f edge)) (sym of)
     ∙ ap (λ (r : Option WirePlan). forgetting_wire f.plan wire r (with_forwarding f edge)) (sym at))
+
+-- ---- what a MAC withdraw names is forgotten
+
+kept_withdrew : (plan : Plan) (me : EdgeId) (on : ℕ → Bool) (told : ℕ → Option Down) (ticks : ℕ) (service : ServiceId) (from : ℕ) (addresses : List Mac) (kept : Option Domain)
+    → IsKept plan me on told ticks service kept → IsKept plan me on told ticks service (withdrawn_kept from addresses kept)
+kept_withdrew plan me on told ticks service from addresses None is = is
+kept_withdrew plan me on told ticks service from addresses (Some domain) is = record {
+  ports = is.ports;
+  some = is.some;
+  age = is.age;
+  forwarding = is.forwarding;
+  ticks = none_after_filtered (stays from addresses) ticks domain.bridge.entries _ is.ticks refl;
+}
+
+entries_withdrew : (from : ℕ) (addresses : List Mac) (kept : Option Domain) → entries_of (withdrawn_kept from addresses kept) ≡ filter (stays from addresses) (entries_of kept)
+entries_withdrew from addresses None = refl
+entries_withdrew from addresses (Some domain) = refl
+
+pub withdrew_is : (f : ForwardingLists) (service : ServiceId) (from : ℕ) (addresses : List Mac) (kept after : Option Domain) → WasRead f service kept → after ≡ withdrawn_kept from addresses kept → IsForwarding (put_kept f service after)
+withdrew_is f service from addresses kept after was is =
+    forwarding_put f service after was.is was.within
+    (subst (IsKeptIn f service) (sym is) (kept_withdrew f.plan f.me (circuits_in f) (told_in f) f.ticks service from addresses kept (the_kept f service kept was)))
+
+pub withdrew_seen : (f : ForwardingLists) (service : ServiceId) (from : ℕ) (addresses : List Mac) (kept after : Option Domain) (edge : EdgeState) → WasRead f service kept → after ≡ withdrawn_kept from addresses kept
+    → with_forwarding (put_kept f service after) edge ≡ withdrawing_at service addresses from (with_forwarding f edge)
+withdrew_seen f service from addresses kept after edge was is =
+    seen_put f service after edge (place_of f service was.is was.within)
+    ∙ ap (λ (es : List MacEntry). with_addresses service es (with_forwarding f edge))
+    (ap entries_of is
+    ∙ (entries_withdrew from addresses kept
+    ∙ ap (filter (stays from addresses)) (sym (learned_in f service edge ∙ ap entries_of (read_is f service kept was)))))
 
 -- ---- a circuit is turned
 

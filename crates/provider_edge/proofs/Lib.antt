@@ -1,5 +1,6 @@
 pub mod ActLemmas
 pub mod BridgeLemmas
+pub mod ClearLemmas
 pub mod ControlLemmas
 pub mod CopyLemmas
 pub mod DomainLemmas
@@ -26,3 +27,4 @@ pub mod StayLemmas
 pub mod SyncLemmas
 pub mod Views
 pub mod WorkLemmas
+pub mod WithdrawLemmas

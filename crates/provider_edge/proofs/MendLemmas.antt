@@ -26,11 +26,12 @@ use Rattle.pw_ends.specs.Wish.{wish_by}
 use Rattle.edge_model.specs.declared.effect.Effect.{Effect}
 use Rattle.edge_model.specs.declared.end_place.EndPlace.{EndPlace}
 use Rattle.edge_model.specs.EndPlaces.{end_places}
-use Rattle.edge_model.specs.Mend.{advertises_wish, and_says, each_end, forgets_down, forgets_downs, forgetting_wire, mends, mends_again, mends_end, mends_few, mends_local, mends_once, mends_status, mends_status_of, stays, tells_down, tells_downs, tells_new_status, tells_over, terminal_wish, then_changes, wish, withdraws_unless}
-use Rattle.edge_model.specs.Put.{Spoken}
+use Rattle.edge_model.specs.Mend.{advertises_wish, and_says, each_end, forgets_down, forgets_downs, forgetting_wire, is_new_choice, mends, mends_again, mends_choice, mends_end, mends_few, mends_local, mends_once, mends_status, mends_status_of, tells_down, tells_downs, tells_new_status, tells_over, terminal_wish, then_changes, wish, withdraws_unless}
+use Rattle.edge_model.specs.Put.{Spoken, stays}
 use Rattle.edge_model.specs.Role.{down_at, role_at, status_to_tell}
 use Rattle.edge_model.specs.Spokes.{choosing}
 use Rattle.edge_model.specs.State.{EdgeState, end_at}
+use Rattle.edge_model.specs.Withdraw.{tells_piece}
 use Rattle.edge_model.specs.Work.{Answers, Work, changes}
 use Rattle.provider_edge.specs.Control.{ControlLists, KeepsPlan, Rest, at_control, controlled}
 use Rattle.provider_edge.specs.Mending.{forgotten_down, mended_down}
@@ -72,18 +73,24 @@ rounds_end c told n i start work rounds past so_far = sym (so_far ∙ few_end c.
 
 -- ---- all steps once
 
-pub once_done : (plan : Plan) (told : Answers) (me : EdgeId) (start forgot last : Work) (ends chosen statuses : Spoken) → start.edge.me ≡ me
+pub once_done : (plan : Plan) (told : Answers) (me : EdgeId) (before : ℕ → Option WireId) (start forgot last : Work) (ends chosen statuses moved : Spoken) → start.edge.me ≡ me → before ≡ start.edge.chosen
     → ends ≡ each_end (mends_end plan told) (end_places plan me) (stays start)
     → chosen ≡ then_changes (choosing plan) ends
     → statuses ≡ each_end (mends_status plan told) (end_places plan me) chosen
-    → forgot ≡ forgets_downs plan (end_places plan me) statuses.work
+    → moved ≡ each_end (mends_choice plan told before) (end_places plan me) statuses
+    → forgot ≡ forgets_downs plan (end_places plan me) moved.work
     → last ≡ tells_downs plan (end_places plan me) forgot
-    → record { work = last; failed = statuses.failed } ≡ mends_once plan told start
-once_done plan told me start forgot last ends chosen statuses here first chooses next forgets downs =
+    → record { work = last; failed = moved.failed } ≡ mends_once plan told start
+once_done plan told me before start forgot last ends chosen statuses moved here chose first chooses next moves forgets downs =
     let after : EdgeId → Work → Work = λ m w. tells_downs plan (end_places plan m) (forgets_downs plan (end_places plan m) w) in
-    let all : EdgeId → Spoken = λ m. each_end (mends_status plan told) (end_places plan m) (then_changes (choosing plan) (each_end (mends_end plan told) (end_places plan m) (stays start))) in
-    ap (λ (w : Work). record { work = w; failed = statuses.failed }) (downs ∙ ap (tells_downs plan (end_places plan me)) forgets)
-    ∙ (ap (λ (s : Spoken). record { work = after me s.work; failed = s.failed }) (next ∙ ap (each_end (mends_status plan told) (end_places plan me)) (chooses ∙ ap (then_changes (choosing plan)) first))
+    let told_all : EdgeId → Spoken = λ m. each_end (mends_status plan told) (end_places plan m) (then_changes (choosing plan) (each_end (mends_end plan told) (end_places plan m) (stays start))) in
+    let all : EdgeId → Spoken = λ m. each_end (mends_choice plan told start.edge.chosen) (end_places plan m) (told_all m) in
+    ap (λ (w : Work). record { work = w; failed = moved.failed }) (downs ∙ ap (tells_downs plan (end_places plan me)) forgets)
+    ∙ (ap (λ (s : Spoken). record { work = after me s.work; failed = s.failed })
+    (moves
+    ∙ (ap (λ (b : ℕ → Option WireId). each_end (mends_choice plan told b) (end_places plan me) statuses) chose
+    ∙ ap (each_end (mends_choice plan told start.edge.chosen) (end_places plan me))
+    (next ∙ ap (each_end (mends_status plan told) (end_places plan me)) (chooses ∙ ap (then_changes (choosing plan)) first))))
     ∙ ap (λ (m : EdgeId). record { work = after m (all m).work; failed = (all m).failed }) (sym here))
 
 pub chosen_kept : (c now new : ControlLists) (rest : Rest) (calls : List LinkCall) (out : List Effect) (failed : Bool) → KeepsPlan c now → controlled new rest ≡ choosing now.plan (controlled now rest)
@@ -96,6 +103,12 @@ pub statuses_kept : (c now : ControlLists) (told : Answers) (m x : Spoken) → K
 statuses_kept c now told m x keeps is =
     is ∙ (ap (λ (p : Plan). each_end (mends_status p told) (end_places p now.me) m) keeps.plan ∙ ap (λ (e : EdgeId). each_end (mends_status c.plan told) (end_places c.plan e) m) keeps.me)
 
+pub choices_kept : (c now : ControlLists) (told : Answers) (before : ℕ → Option WireId) (m x : Spoken) → KeepsPlan c now → x ≡ each_end (mends_choice now.plan told before) (end_places now.plan now.me) m
+    → x ≡ each_end (mends_choice c.plan told before) (end_places c.plan c.me) m
+choices_kept c now told before m x keeps is =
+    is
+    ∙ (ap (λ (p : Plan). each_end (mends_choice p told before) (end_places p now.me) m) keeps.plan ∙ ap (λ (e : EdgeId). each_end (mends_choice c.plan told before) (end_places c.plan e) m) keeps.me)
+
 pub downs_kept : (c now : ControlLists) (work x : Work) → KeepsPlan c now → x ≡ tells_downs now.plan (end_places now.plan now.me) work → x ≡ tells_downs c.plan (end_places c.plan c.me) work
 downs_kept c now work x keeps is =
     is ∙ (ap (λ (p : Plan). tells_downs p (end_places p now.me) work) keeps.plan ∙ ap (λ (e : EdgeId). tells_downs c.plan (end_places c.plan e) work) keeps.me)
@@ -107,6 +120,10 @@ forgets_kept c now work x keeps is =
 pub me_at : (c : ControlLists) (rest : Rest) (calls : List LinkCall) (out : List Effect) → (at_control c rest calls out).edge.me ≡ c.me
 unfolding controlled at_edge
 me_at c rest calls out = refl
+
+pub chosen_at : (c : ControlLists) (rest : Rest) (calls : List LinkCall) (out : List Effect) → (controlled c rest).chosen ≡ (at_control c rest calls out).edge.chosen
+unfolding at_edge
+chosen_at c rest calls out = refl
 
 -- ---- each end in turn
 
@@ -304,6 +321,24 @@ forgot_down plan place at None edge now calls out is here so down forgets = absu
 forgot_down plan place at (Some cause) edge now calls out is here so down forgets =
     ap (λ (e : EdgeState). record { edge = e; calls = calls; effects = out; idle = false }) (forgets ∙ ap (λ (p : EndPlace). forgetting_wire plan p.wire (wire_row plan p.wire) edge) is)
     ∙ forgot_terminal plan place at (Some cause) (record { edge = edge; calls = calls; effects = out; idle = false }) is here so
+
+-- ---- a spoke that was chosen anew
+
+pub choice_stays : (plan : Plan) (told : Answers) (before : ℕ → Option WireId) (place : EndPlace) (edge : EdgeState) (calls : List LinkCall) (out : List Effect) (new : Bool)
+    → new ≡ is_new_choice before edge.chosen place.wire (wire_row plan place.wire) → new ≡ false
+    → stays (at_edge edge calls out) ≡ mends_choice plan told before place (at_edge edge calls out)
+unfolding at_edge
+choice_stays plan told before place edge calls out new is same =
+    let start : Work = record { edge = edge; calls = calls; effects = out; idle = false } in
+    sym (ap (λ (b : Bool). cond b (tells_piece told place [] start) (stays start)) (sym is ∙ same))
+
+pub choice_tells : (plan : Plan) (told : Answers) (before : ℕ → Option WireId) (place : EndPlace) (edge : EdgeState) (calls : List LinkCall) (out : List Effect) (new : Bool) (put : Spoken)
+    → new ≡ is_new_choice before edge.chosen place.wire (wire_row plan place.wire) → new ≡ true → put ≡ tells_piece told place [] (at_edge edge calls out)
+    → put ≡ mends_choice plan told before place (at_edge edge calls out)
+unfolding at_edge
+choice_tells plan told before place edge calls out new put is other puts =
+    let start : Work = record { edge = edge; calls = calls; effects = out; idle = false } in
+    puts ∙ sym (ap (λ (b : Bool). cond b (tells_piece told place [] start) (stays start)) (sym is ∙ other))
 
 -- ---- what an end should tell
 

@@ -1,8 +1,9 @@
 -- What is read of the ends of an edge by their slots.
-use Rattle.std.proofs.Common.{◌≡◌, ◌<◌, ◌∙◌, ℕ, Bool, Option, Some, None, length, option_map, position, ap, sym, subst}
+use Rattle.std.proofs.Common.{◌≡◌, ◌<◌, ◌&&◌, ◌∙◌, ℕ, Bool, true, false, not, Option, Some, None, length, option_map, position, ap, sym, subst}
 use Rattle.std.specs.Prelude.{IfSome}
 use Rattle.std.specs.List.{find}
 use Rattle.net_base.specs.declared.plan.Plan.{Plan}
+use Rattle.net_base.specs.declared.plan.places.WireId.{WireId}
 use Rattle.net_base.specs.declared.plan.wire_plan.WirePlan.{WirePlan}
 use Rattle.net_base.specs.declared.trace.down.Down.{Down}
 use Rattle.net_base.specs.plan.Places.{wire_row}
@@ -11,6 +12,7 @@ use Rattle.pw_signalling.specs.Down.{down}
 use Rattle.pw_signalling.specs.End.{EndState}
 use Rattle.edge_model.specs.declared.end_place.EndPlace.{EndPlace}
 use Rattle.edge_model.specs.EndPlaces.{end_places}
+use Rattle.edge_model.specs.Mend.{is_new_choice}
 use Rattle.edge_model.specs.Role.{down_at, is_wire, role_at, role_in, role_of}
 use Rattle.edge_model.specs.State.{end_at}
 use Rattle.pw_ends.specs.Ends.{end_in, place_of}
@@ -48,6 +50,22 @@ down_read c now rest slot place role bits end why same at of_role of_bits of_end
     ∙ (ap (λ (r : EndRole). down r bits end) of_role
     ∙ (ap (λ (b : ℕ). down (role_at now.plan (controlled now rest) (place_of now.ends slot)) b end) bit
     ∙ ap (λ (e : EndState). down (role_at now.plan (controlled now rest) (place_of now.ends slot)) ((controlled now rest).bits (place_of now.ends slot).wire.0) e) state))
+
+-- ---- a spoke that was chosen anew
+
+pub new_there : (now before chosen was : Bool) → chosen ≡ now → chosen ≡ true → was ≡ before → not was ≡ (now && not before)
+new_there now before chosen was is so had = ap not had ∙ ap (λ (b : Bool). b && not before) (sym (sym is ∙ so))
+
+pub new_away : (now before chosen : Bool) → chosen ≡ now → chosen ≡ false → chosen ≡ (now && not before)
+new_away now before chosen is so = so ∙ ap (λ (b : Bool). b && not before) (sym (sym is ∙ so))
+
+pub new_read : (c now : ControlLists) (rest : Rest) (slot : ℕ) (place : EndPlace) (row : WirePlan) (before : ℕ → Option WireId) (new : Bool) → c ≡ now → place ≡ place_of now.ends slot → wire_row c.plan place.wire ≡ Some row
+    → new ≡ (is_wire place.wire ((controlled now rest).chosen row.service.0) && not (is_wire place.wire (before row.service.0)))
+    → new ≡ is_new_choice before (controlled now rest).chosen (place_of now.ends slot).wire (wire_row now.plan (place_of now.ends slot).wire)
+new_read c now rest slot place row before new same at found is =
+    is
+    ∙ (ap (λ (r : Option WirePlan). is_new_choice before (controlled now rest).chosen place.wire r) (sym (ap (λ (n : ControlLists). wire_row n.plan place.wire) (sym same) ∙ found))
+    ∙ ap (λ (p : EndPlace). is_new_choice before (controlled now rest).chosen p.wire (wire_row now.plan p.wire)) at)
 
 -- ---- the first end of which something holds
 

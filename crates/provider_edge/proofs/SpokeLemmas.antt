@@ -77,6 +77,21 @@ pub slots_end : (test : EndPlace → Bool) (places : List EndPlace) (i : ℕ) (s
 slots_end test places i slots whole past so_far =
     sym (append-nil slots) ∙ (ap (λ (l : List EndPlace). slots ++ slots_where test i l) (sym (drop_all i places past)) ∙ so_far)
 
+-- ---- priorities by the plan
+
+pub priorities_next : (rows : List WirePlan) (i : ℕ) (row : WirePlan) (priorities now : List ℕ) → i < length rows → row ≡ slice_index_or rows i row
+    → priorities ++ map (λ (r : WirePlan). r.priority) (drop i rows) ≡ map (λ (r : WirePlan). r.priority) rows → now ≡ priorities ++ row.priority ∷ []
+    → now ++ map (λ (r : WirePlan). r.priority) (drop (i + 1) rows) ≡ map (λ (r : WirePlan). r.priority) rows
+priorities_next rows i row priorities now below read so_far pushed =
+    ap (λ (l : List ℕ). l ++ map (λ (r : WirePlan). r.priority) (drop (i + 1) rows)) (pushed ∙ ap (λ (r : WirePlan). priorities ++ r.priority ∷ []) read)
+    ∙ (append_assoc priorities ((slice_index_or rows i row).priority ∷ []) (map (λ (r : WirePlan). r.priority) (drop (i + 1) rows))
+    ∙ (ap (λ (l : List WirePlan). priorities ++ map (λ (r : WirePlan). r.priority) l) (sym (drop_more rows i row below)) ∙ so_far))
+
+pub priorities_end : (rows : List WirePlan) (i : ℕ) (priorities : List ℕ) → length rows ≤ i
+    → priorities ++ map (λ (r : WirePlan). r.priority) (drop i rows) ≡ map (λ (r : WirePlan). r.priority) rows → priorities ≡ map (λ (r : WirePlan). r.priority) rows
+priorities_end rows i priorities past so_far =
+    sym (append-nil priorities) ∙ (ap (λ (l : List WirePlan). priorities ++ map (λ (r : WirePlan). r.priority) l) (sym (drop_all i rows past)) ∙ so_far)
+
 -- ---- slots name the places that pass the test
 
 -- a slot is one of the edge's
@@ -153,7 +168,7 @@ no_spoke plan me service wire checked past = by (wire_row plan wire) refl where
 
 pub choice_past : (plan : Plan) (edge : EdgeState) (service : ServiceId) → IsChecked plan → length plan.services ≤ service.0 → choice plan edge service ≡ None
 choice_past plan edge service checked past =
-    ap (λ (places : List EndPlace). option_map (λ (place : EndPlace). place.wire) (option_and_then (slice_get places) (chosen (map (spoke_at plan edge) places))))
+    ap (λ (places : List EndPlace). option_map (λ (place : EndPlace). place.wire) (option_and_then (slice_get places) (chosen (map (spoke_at edge) places))))
     (none_pass (λ place. is_spoke_row service edge.me (wire_row plan place.wire)) (end_places plan edge.me) (λ place. no_spoke plan edge.me service place.wire checked past))
 
 -- ---- service after service
@@ -258,13 +273,13 @@ spokes_end f slots i spokes past so_far = sym (append-nil spokes) ∙ (ap (λ (l
 
 -- the spokes by their slots are those of the edge
 pub spokes_read : (c : ControlLists) (rest : Rest) (service : ℕ) (slots : List ℕ) (spokes : List Spoke) → c.ends.places ≡ end_places c.plan c.me → slots ≡ slots_for c.plan c.me c.ends.places service
-    → spokes ≡ map (λ slot. spoke_at c.plan (controlled c rest) (place_of c.ends slot)) slots → spokes ≡ spokes_of c.plan (controlled c rest) (record { 0 = service })
+    → spokes ≡ map (λ slot. spoke_at (controlled c rest) (place_of c.ends slot)) slots → spokes ≡ spokes_of c.plan (controlled c rest) (record { 0 = service })
 unfolding controlled
 spokes_read c rest service slots spokes placed are is =
     is
-    ∙ (ap (map (λ slot. spoke_at c.plan (controlled c rest) (place_of c.ends slot))) are
-    ∙ (by_all_slots (spoke_at c.plan (controlled c rest)) (starts_spoke c.plan c.me (record { 0 = service })) c.ends.places
-    ∙ ap (λ (l : List EndPlace). map (spoke_at c.plan (controlled c rest)) (filter (starts_spoke c.plan c.me (record { 0 = service })) l)) placed))
+    ∙ (ap (map (λ slot. spoke_at (controlled c rest) (place_of c.ends slot))) are
+    ∙ (by_all_slots (spoke_at (controlled c rest)) (starts_spoke c.plan c.me (record { 0 = service })) c.ends.places
+    ∙ ap (λ (l : List EndPlace). map (spoke_at (controlled c rest)) (filter (starts_spoke c.plan c.me (record { 0 = service })) l)) placed))
 
 pub choice_read : (c : ControlLists) (rest : Rest) (service place : ℕ) (spokes : List Spoke) (wire : WireId) → spokes ≡ spokes_of c.plan (controlled c rest) (record { 0 = service }) → Some place ≡ chosen spokes
     → option_map (λ (end : EndPlace). end.wire) (slice_get (spoke_places c.plan c.me (record { 0 = service })) place) ≡ Some wire → Some wire ≡ choice c.plan (controlled c rest) (record { 0 = service })

@@ -1,6 +1,6 @@
 -- What the control works on at an edge, as contracts see it: lists by the plan's places, and by `controlled` the state of the
 -- whole edge, for any rest of it.
-use Rattle.std.specs.Prelude.{◌≡◌, ◌≤◌, ℕ, Bool, true, List, Option, Some, None, All, length}
+use Rattle.std.specs.Prelude.{◌≡◌, ◌≤◌, ℕ, Bool, true, List, Option, Some, None, All, length, slice_get, slice_index_or}
 use Rattle.net_base.specs.declared.outside.link_call.LinkCall.{LinkCall}
 use Rattle.net_base.specs.declared.plan.Plan.{Plan}
 use Rattle.net_base.specs.declared.plan.places.EdgeId.{EdgeId}
@@ -8,7 +8,7 @@ use Rattle.net_base.specs.declared.trace.down.Down.TheVariants.{NoLocal}
 use Rattle.net_base.specs.plan.Accepted.{IsChecked}
 use Rattle.edge_model.specs.declared.effect.Effect.{Effect}
 use Rattle.edge_model.specs.EndPlaces.{end_places}
-use Rattle.edge_model.specs.State.{EdgeState, empty_edge, put_at}
+use Rattle.edge_model.specs.State.{EdgeState, empty_edge, priority_in, put_at}
 use Rattle.edge_model.specs.Work.{Answers, Work, changes}
 use Rattle.edge_model.specs.Signal.{releases_label, with_end_changed}
 use Rattle.edge_model.specs.declared.end_place.EndPlace.{EndPlace}
@@ -32,6 +32,8 @@ pub record ControlLists : Type 0 where
   -- the wires that are on, and the failure bits of its end of each
   pub wires_on : List Bool
   pub bits : List ℕ
+  -- the priority number of its spoke on each wire
+  pub priorities : List ℕ
   -- its spokes by services, and those that it has chosen
   pub spokes : SpokeLists
   -- what it forwards frames by
@@ -50,6 +52,7 @@ controlled c rest = record {
   peering = λ k. kept_with (rest.held k) (view None c.dialogues k);
   wire_on = view true c.wires_on;
   bits = view 0 c.bits;
+  priority = λ wire. slice_index_or c.priorities wire (priority_in (slice_get c.plan.wires wire));
   ends = seen_ends c.ends;
   told_down = view (Some NoLocal) c.forwarding.told_down;
   chosen = view None c.spokes.chosen;
@@ -82,6 +85,7 @@ pub record IsControl (c : ControlLists) : Type 0 where
   pub plan : c.forwarding.plan ≡ c.plan
   pub me : c.forwarding.me ≡ c.me
   pub small : All (λ bits. bits ≤ 31) c.bits
+  pub priorities : length c.priorities ≡ length c.plan.wires
 
 -- before the first input
 pub record IsNewControl (plan : Plan) (me : EdgeId) (c : ControlLists) : Type 0 where

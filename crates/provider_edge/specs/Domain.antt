@@ -6,12 +6,13 @@ use Rattle.net_base.specs.declared.plan.places.ServiceId.{ServiceId}
 use Rattle.net_base.specs.declared.plan.service_plan.ServicePlan.{ServicePlan}
 use Rattle.net_base.specs.declared.trace.down.Down.{Down}
 use Rattle.net_base.specs.declared.trace.down.Down.TheVariants.{NoLocal}
+use Rattle.net_base.specs.declared.values.mac.Mac.{Mac}
 use Rattle.net_base.specs.plan.Places.{service_row}
 use Rattle.hvpls_spokes.specs.declared.port.Port.{Port}
 use Rattle.hvpls_spokes.specs.declared.port.Port.TheVariants as port
 use Rattle.hvpls_spokes.specs.Port.{ports_of}
 use Rattle.hvpls_spokes.specs.PortSet.{has}
-use Rattle.mac_table.specs.Addresses.{NoneAfter, is_young}
+use Rattle.mac_table.specs.Addresses.{NoneAfter, is_young, stays}
 use Rattle.edge_model.specs.Ends.{is_up}
 use Rattle.edge_model.specs.State.{without_port}
 use Rattle.provider_edge.specs.declared.domain.Domain.{Domain}
@@ -92,6 +93,13 @@ forgot_domain test domain = record domain { bridge = record domain.bridge { entr
 
 abbrev pub forgot_kept : (Port → Bool) → Option Domain → Option Domain
 forgot_kept test kept = option_map (forgot_domain test) kept
+
+-- the bridge forgot what a MAC withdraw by a port names
+abbrev pub withdrawn_domain : ℕ → List Mac → Domain → Domain
+withdrawn_domain from addresses domain = record domain { bridge = record domain.bridge { entries = filter (stays from addresses) domain.bridge.entries } }
+
+abbrev pub withdrawn_kept : ℕ → List Mac → Option Domain → Option Domain
+withdrawn_kept from addresses kept = option_map (withdrawn_domain from addresses) kept
 
 -- ---- no wire's port is open
 

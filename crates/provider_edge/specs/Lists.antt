@@ -1,10 +1,10 @@
 -- An edge as contracts see it: lists by the plan's places, and by `seen` maps.
-use Rattle.std.specs.Prelude.{◌≡◌, ℕ, Bool, true, false, List, [], Some, None}
+use Rattle.std.specs.Prelude.{◌≡◌, ℕ, Bool, true, false, List, [], Some, None, slice_get, slice_index_or}
 use Rattle.net_base.specs.declared.outside.link_call.LinkCall.{LinkCall}
 use Rattle.net_base.specs.declared.plan.Plan.{Plan}
 use Rattle.net_base.specs.declared.plan.places.EdgeId.{EdgeId}
 use Rattle.edge_model.specs.declared.effects.Effects.{Effects}
-use Rattle.edge_model.specs.State.{EdgeState, first_label}
+use Rattle.edge_model.specs.State.{EdgeState, first_label, priority_in}
 use Rattle.edge_model.specs.Work.{Work}
 use Rattle.net_base.specs.declared.trace.down.Down.TheVariants.{NoLocal}
 use Rattle.pw_ends.specs.Ends.{seen_ends}
@@ -37,6 +37,7 @@ seen edge = record {
   peering = λ k. kept_with (view [] edge.held k) (view None edge.control.dialogues k);
   wire_on = view true edge.control.wires_on;
   bits = view 0 edge.control.bits;
+  priority = λ wire. slice_index_or edge.control.priorities wire (priority_in (slice_get edge.control.plan.wires wire));
   ends = seen_ends edge.control.ends;
   told_down = view (Some NoLocal) edge.control.forwarding.told_down;
   chosen = view None edge.control.spokes.chosen;
@@ -55,6 +56,7 @@ no_edge plan me = record {
     ends = record { places = []; ends = []; labels = record { next = first_label plan me; room = 0; owners = [] } };
     wires_on = [];
     bits = [];
+    priorities = [];
     spokes = record { slots = []; chosen = [] };
     forwarding = record { plan = plan; me = me; circuits_on = []; told_down = []; domains = []; ticks = 0 };
   };

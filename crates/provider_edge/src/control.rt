@@ -11,6 +11,7 @@ ghost use Rattle.provider_edge.specs.Control.{IsNewControl, KeepsPlan, Rest, at_
 ghost use Rattle.provider_edge.specs.Peering.{gone, kept_with, session_name};
 
 mod bridge;
+mod clear;
 mod ends;
 mod forward;
 mod hear;
@@ -21,10 +22,11 @@ mod session;
 mod signal;
 mod spokes;
 mod wire;
+mod withdraw;
 
 use crate::dialogue::Dialogue;
 use crate::forwarding::Forwarding;
-use crate::spokes::Spokes;
+use crate::spokes::{Spokes, priorities};
 use net_base::{EdgeId, NoMemory, Plan, StateName};
 use pw_ends::PwEnds;
 use std::alloc::Global;
@@ -42,6 +44,7 @@ pub struct Control {
     ends: PwEnds,
     wires_on: Vec<bool>,
     bits: Vec<u8>,
+    priorities: Vec<u8>,
     spokes: Spokes,
     forwarding: Forwarding,
 }
@@ -51,14 +54,14 @@ impl Model for Control {
 
     ghost Value = { ControlLists };
 
-    ghost view = { λ c. record { plan = c.plan.value; me = c.me; dialogues = c.dialogues.items; ends = c.ends; wires_on = c.wires_on.items; bits = c.bits.items; spokes = c.spokes; forwarding = c.forwarding } };
+    ghost view = { λ c. record { plan = c.plan.value; me = c.me; dialogues = c.dialogues.items; ends = c.ends; wires_on = c.wires_on.items; bits = c.bits.items; priorities = c.priorities.items; spokes = c.spokes; forwarding = c.forwarding } };
 
-    ghost invariant = { λ c. IsControl (record { plan = c.plan.value; me = c.me; dialogues = c.dialogues.items; ends = c.ends; wires_on = c.wires_on.items; bits = c.bits.items; spokes = c.spokes; forwarding = c.forwarding }) };
+    ghost invariant = { λ c. IsControl (record { plan = c.plan.value; me = c.me; dialogues = c.dialogues.items; ends = c.ends; wires_on = c.wires_on.items; bits = c.bits.items; priorities = c.priorities.items; spokes = c.spokes; forwarding = c.forwarding }) };
 }
 
 impl Control {
     /// The control of an edge of the plan before its first input: no session stands, every end is idle, every wire is on,
-    /// and no spoke is chosen.
+    /// spokes have the priorities of the plan, and none is chosen.
     pub fn open(alloc: Global, plan: Rc<Plan>, me: EdgeId) -> Result<Control, NoMemory>
         requires checked { IsChecked plan.value }
         requires me { me.0 < length plan.value.edges }
@@ -69,6 +72,7 @@ impl Control {
         let count = plan.wires.len();
         let wires_on = vec![in alloc; true; count]?;
         let bits = vec![in alloc; 0u8; count]?;
+        let priorities = priorities(alloc, &plan)?;
         let spokes = Spokes::open(alloc, &plan, me, ends.places())?;
         let forwarding = Forwarding::open(alloc, plan.clone()?, me)?;
         Ok(Control {
@@ -78,6 +82,7 @@ impl Control {
             ends,
             wires_on,
             bits,
+            priorities,
             spokes,
             forwarding,
         })
@@ -162,8 +167,7 @@ impl Control {
     }
 
     /// The edge restarts: no session stands, each end is as it was opened, what was told of it is forgotten, and no spoke is
-    /// chosen. The wires
-    /// that are on, the failure bits and the next label stay.
+    /// chosen. The wires that are on, the failure bits, the priorities and the next label stay.
     pub fn restart(&mut self)
         ensures keeps { KeepsPlan self.old self.new }
         ensures step { (rest : Rest) → controlled self.new rest ≡ without_ends (without_peerings (controlled self.old rest)) }

@@ -142,7 +142,7 @@ impl Dialogue {
         self,
         alloc: Global,
         peer: EdgeId,
-        message: &PwMessage,
+        message: &PwMessage<'_>,
         link: &mut L,
         out: &mut List<Effect>,
     ) -> Result<Option<Dialogue>, NoMemory>

@@ -6,10 +6,10 @@ ghost use Rattle.hvpls_spokes.specs.PortSet.{has};
 ghost use Rattle.mac_table.specs.Addresses.{NoneAfter};
 ghost use Rattle.vsi_bridge.specs.Targets.{heard, is_target, known_port};
 ghost use Rattle.edge_model.specs.Frame.{destination, source};
-ghost use Rattle.provider_edge.specs.Domain.{AreClosed, AreNew, IsClosed, IsKeptClosed, IsKeptTurned, IsNew, IsTurned, KeptNotAfter, aged_domain, aged_kept, all_on, cleared_domain, cleared_kept, forgot_domain, forgot_kept, is_wire, nothing_told, port_opens};
+ghost use Rattle.provider_edge.specs.Domain.{AreClosed, AreNew, IsClosed, IsKeptClosed, IsKeptTurned, IsNew, IsTurned, KeptNotAfter, aged_domain, aged_kept, all_on, cleared_domain, cleared_kept, forgot_domain, forgot_kept, is_wire, nothing_told, port_opens, withdrawn_domain, withdrawn_kept};
 
 use hvpls_spokes::{Port, PortKind, PortSet, Ports};
-use net_base::{CircuitId, EdgeId, Mac, NoMemory, Plan, ServiceId, WireId};
+use net_base::{CircuitId, EdgeId, List, Mac, NoMemory, Plan, ServiceId, WireId};
 use std::alloc::Global;
 use vsi_bridge::Bridge;
 
@@ -136,6 +136,13 @@ impl Domain {
         }
     }
 
+    // The bridge forgets what a MAC withdraw by a port names.
+    fn withdraw(&mut self, from: u16, addresses: &List<Mac>)
+        ensures { self.new ≡ withdrawn_domain from addresses.now self.old }
+    {
+        self.bridge.withdraw(from, addresses);
+    }
+
     /// No wire's port forwards.
     #[tactic(auto, using(crate::proofs::DomainLemmas::closed_next, crate::proofs::DomainLemmas::closed_end))]
     pub fn close_wires(&mut self)
@@ -226,6 +233,15 @@ pub fn forget_kept_wire(kept: &mut Option<Domain>, wire: WireId)
 {
     if let Some(domain) = kept {
         domain.forget_wire(wire);
+    }
+}
+
+/// The bridge forgets what a MAC withdraw by a port names, where there is one.
+pub fn withdraw_kept(kept: &mut Option<Domain>, from: u16, addresses: &List<Mac>)
+    ensures { kept.new ≡ withdrawn_kept from addresses.now kept.old }
+{
+    if let Some(domain) = kept {
+        domain.withdraw(from, addresses);
     }
 }
 

@@ -102,8 +102,9 @@ impl Edge {
     /// for `Connected` an edge to which no segment joins this one, or a peer whose end stands; for `Octets` and `Lost` a peer
     /// whose end does not stand; for `Frame` a circuit of another edge or one that is off; for `Circuit` a circuit of
     /// another edge or one that is so already; for `Wire` a wire that does not pass the edge or one that is so already; for
-    /// `Status` a wire of which the edge is no terminal edge, or bits that are set already. `Restart` and `Tick` always
-    /// apply. A `Packet` always applies. Priorities and pings do not apply yet. The bits of a `Status` are at most 31.
+    /// `Status` a wire of which the edge is no terminal edge, or bits that are set already; for `Priority` a wire that is no
+    /// spoke from this edge, or a priority that is set already. `Restart` and `Tick` always apply. A `Packet` always applies.
+    /// Pings do not apply yet. The bits of a `Status` are at most 31.
     ///
     /// `NoMemory` where memory was refused; from then on the edge is given up, and answers `Stopped` to every input.
     #[tactic(auto, using(crate::proofs::EffectLemmas::steps_fit, crate::proofs::EffectLemmas::steps_tell, crate::proofs::StayLemmas::steps_local, crate::proofs::EffectLemmas::steps_synced, crate::proofs::EffectLemmas::goes_nowhere, crate::proofs::EdgeLemmas::edge_stopped, crate::proofs::EdgeLemmas::edge_going, crate::proofs::EdgeLemmas::seen_stopped))]
@@ -167,7 +168,8 @@ impl Edge {
             Input::Circuit { circuit, on } => self.circuit(alloc, circuit, on, link),
             Input::Wire { wire, on } => self.wire(alloc, wire, on, link),
             Input::Status { wire, bits } => self.status(alloc, wire, bits, link),
-            Input::Priority { .. } | Input::Ping { .. } => Ok(idle(alloc)),
+            Input::Priority { wire, priority } => self.priority(alloc, wire, priority, link),
+            Input::Ping { .. } => Ok(idle(alloc)),
         }
     }
 

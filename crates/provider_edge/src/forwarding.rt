@@ -6,6 +6,7 @@ ghost use Rattle.net_base.specs.plan.Places.{circuit_row, service_row, wire_row}
 ghost use Rattle.hvpls_spokes.specs.Port.{is_circuit_port, is_wire_port, ports_of};
 ghost use Rattle.hvpls_spokes.specs.PortSet.{has};
 ghost use Rattle.vsi_bridge.specs.Targets.{is_target, known_port};
+ghost use Rattle.edge_model.specs.Clear.{withdrawing_at};
 ghost use Rattle.edge_model.specs.Frame.{destination, hearing};
 ghost use Rattle.edge_model.specs.Mend.{forgetting_wire};
 ghost use Rattle.edge_model.specs.State.{EdgeState, addresses_of, later, with_addresses, with_circuit, with_learned, with_ticks, with_told_down, without_port};
@@ -14,10 +15,10 @@ ghost use Rattle.provider_edge.specs.Forwarding.{IsNewForwarding, IsServiceOf, K
 
 use crate::domain::{
     Domain, clear_all, close_all, forget_all, forget_kept_circuit, forget_kept_wire, open_domains,
-    turn_kept, turn_kept_wire,
+    turn_kept, turn_kept_wire, withdraw_kept,
 };
 use hvpls_spokes::{PortSet, Ports};
-use net_base::{CircuitId, Down, EdgeId, NoMemory, Plan, ServiceId, WireId};
+use net_base::{CircuitId, Down, EdgeId, List, Mac, NoMemory, Plan, ServiceId, WireId};
 use std::alloc::Global;
 use std::marker::Model;
 use std::rc::Rc;
@@ -195,6 +196,15 @@ impl Forwarding {
             Some(domain) => domain.port_of_wire(wire),
             None => None,
         }
+    }
+
+    /// The bridge of a service forgets what a MAC withdraw by a port names (RFC 4762 section 6.2).
+    pub fn withdraw(&mut self, service: ServiceId, from: u16, addresses: &List<Mac>)
+        requires { service.0 < length self.old.plan.services }
+        ensures keeps { KeepsForwarding self.old self.new }
+        ensures step { (edge : EdgeState) → with_forwarding self.new edge ≡ withdrawing_at service addresses.now from (with_forwarding self.old edge) }
+    {
+        withdraw_kept(&mut self.domains[service.0 as usize], from, addresses);
     }
 
     /// The bridge of a service hears an inner frame by a port that forwards, and decides on the targets.

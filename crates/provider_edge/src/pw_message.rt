@@ -1,17 +1,18 @@
 //! What an edge puts about a pseudowire.
-ghost use Rattle.std.specs.Prelude.{◌≡◌, ◌≤◌, ◌+◌, true, length};
+ghost use Rattle.std.specs.Prelude.{◌≡◌, ◌≤◌, ◌+◌, true, length, IfOk};
 ghost use Rattle.ldp_grammar.specs.Written.{message_octets, writable};
 ghost use Rattle.provider_edge.specs.PwMessage.{CanBeSaid, numbered};
 
 use ldp_grammar::Message;
-use net_base::Label;
-use pw_ends::{mapping, release, status_notification, withdrawal};
+use net_base::{Label, List, Mac, NoMemory};
+use pw_ends::{mac_withdrawal, mapping, release, status_notification, withdrawal};
 use pw_signalling::Told;
 use pw_tlvs::{PwFec, PwStatus};
+use std::alloc::Global;
 
 /// A message about a pseudowire, without its Message ID (RFC 8077 section 6).
-#[derive(Clone, Copy, Debug, PartialEq, Eq)]
-pub enum PwMessage {
+#[derive(Clone, Copy, Debug)]
+pub enum PwMessage<'a> {
     /// A Label Mapping: the label is bound to the pseudowire with this content (RFC 5036 section 3.5.7).
     Mapping {
         pw_id: u32,
@@ -35,25 +36,51 @@ pub enum PwMessage {
         status: PwStatus,
         told: Told,
     },
+    /// A MAC withdraw of at most 30 addresses on a pseudowire that was advertised with this content (RFC 4762 section 6.2).
+    MacWithdrawal {
+        pw_id: u32,
+        addresses: &'a [Mac],
+        told: Told,
+    },
 }
 
-impl PwMessage {
-    /// The message with this Message ID. A PDU with it alone has a PDU Length of at most 256, and it can be written where its
-    /// PW type has 15 bits and the VLAN ID of a mapping has 12.
-    pub fn with_id(&self, id: u32) -> Message
-        ensures message { result ≡ numbered self.now id }
-        ensures writable { CanBeSaid self.now → writable result ≡ true }
-        ensures short { 6 + length (message_octets result) ≤ 256 }
+impl PwMessage<'_> {
+    /// The message with this Message ID, where its PW type has 15 bits, the VLAN ID of a mapping has 12, and a MAC withdraw names
+    /// at most 30 addresses. It can be written, and a PDU with it alone has a PDU Length of at most 256.
+    pub fn with_id(&self, alloc: Global, id: u32) -> Result<Message, NoMemory>
+        requires { CanBeSaid self.now }
+        ensures message { IfOk result (λ message. message ≡ numbered self.now id) }
+        ensures writable { IfOk result (λ message. writable message ≡ true) }
+        ensures short { IfOk result (λ message. 6 + length (message_octets message) ≤ 256) }
     {
         match self {
-            PwMessage::Mapping { pw_id, label, told } => mapping(*pw_id, *label, told, id),
-            PwMessage::Withdrawal { pw_id, label, told } => withdrawal(*pw_id, *label, told, id),
-            PwMessage::Release { fec, label } => release(fec, *label, id),
+            PwMessage::Mapping { pw_id, label, told } => Ok(mapping(*pw_id, *label, told, id)),
+            PwMessage::Withdrawal { pw_id, label, told } => {
+                Ok(withdrawal(*pw_id, *label, told, id))
+            }
+            PwMessage::Release { fec, label } => Ok(release(fec, *label, id)),
             PwMessage::Status {
                 pw_id,
                 status,
                 told,
-            } => status_notification(*pw_id, *status, told, id),
+            } => Ok(status_notification(*pw_id, *status, told, id)),
+            PwMessage::MacWithdrawal {
+                pw_id,
+                addresses,
+                told,
+            } => {
+                let addresses = list_of(alloc, addresses)?;
+                Ok(mac_withdrawal(*pw_id, addresses, told, id))
+            }
         }
     }
+}
+
+// A list of these addresses.
+fn list_of(alloc: Global, addresses: &[Mac]) -> Result<List<Mac>, NoMemory>
+    ensures { IfOk result (λ list. list ≡ addresses.now) }
+{
+    let mut list = List::new(alloc);
+    list.extend_from_slice(addresses)?;
+    Ok(list)
 }

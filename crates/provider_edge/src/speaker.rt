@@ -104,7 +104,7 @@ impl Speaker {
         &mut self,
         alloc: Global,
         peer: EdgeId,
-        message: &PwMessage,
+        message: &PwMessage<'_>,
         link: &mut L,
         out: &mut List<Effect>,
     ) -> Result<bool, NoMemory>
@@ -155,11 +155,11 @@ impl Speaker {
     }
 
     // The octets of a message about a pseudowire, in a PDU of its own.
-    fn message_octets_of(&self, alloc: Global, message: &PwMessage) -> Result<Octets, NoMemory>
+    fn message_octets_of(&self, alloc: Global, message: &PwMessage<'_>) -> Result<Octets, NoMemory>
         requires { CanBeSaid message.now }
         ensures { IfOk result (λ octets. octets ≡ written (numbered message.now self.now.next_id) (platform_of self.now.peers.me)) }
     {
-        let message = message.with_id(self.next_id);
+        let message = message.with_id(alloc, self.next_id)?;
         let mut out = [0u8; LONGEST];
         encoded(alloc, &message, platform_of(self.peers.me), &mut out)
     }

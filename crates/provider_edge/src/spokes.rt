@@ -1,11 +1,12 @@
 //! The spokes of a spoke edge, and which of them it has chosen.
-ghost use Rattle.std.specs.Prelude.{◌≡◌, ◌≤◌, ◌<◌, ◌++◌, ◌∷◌, [], None, length, map, not, replicate, slice_set, if◌then◌else◌, IfOk, OnOk};
+ghost use Rattle.std.specs.Prelude.{◌≡◌, ◌≤◌, ◌<◌, ◌++◌, ◌∷◌, [], None, Some, length, map, not, replicate, slice_set, if◌then◌else◌, IfOk, OnOk};
 ghost use Rattle.net_base.specs.plan.Accepted.{IsChecked};
 ghost use Rattle.net_base.specs.plan.Paths.{is_first};
 ghost use Rattle.net_base.specs.plan.Places.{is_mesh_class, wire_row};
 ghost use Rattle.net_base.specs.plan.Roles.{is_spoke_from};
 ghost use Rattle.edge_model.specs.EndPlaces.{end_places};
 ghost use Rattle.edge_model.specs.Spokes.{is_spoke_row};
+ghost use Rattle.edge_model.specs.Wire.{is_own_spoke};
 ghost use Rattle.provider_edge.specs.Spokes.{AreSlots, IsNewSpokes, slots_for, slots_in, unchosen};
 ghost use Rattle.provider_edge.specs.Views.{view};
 
@@ -65,6 +66,13 @@ impl Spokes {
         self.slots[service].as_slice()
     }
 
+    /// The wires of the spokes that are chosen, by services.
+    pub fn all_chosen(&self, alloc: Global) -> Result<Vec<Option<WireId>>, NoMemory>
+        ensures { IfOk result (λ chosen. chosen.items ≡ self.now.chosen) }
+    {
+        Ok(Vec::from_slice(alloc, self.chosen.as_slice())?)
+    }
+
     /// This spoke, or none, is chosen for a service.
     pub fn choose(&mut self, service: usize, chosen: Option<WireId>)
         requires { service < length self.old.chosen }
@@ -79,6 +87,19 @@ impl Spokes {
     {
         clear_all(&mut self.chosen);
     }
+}
+
+/// The priority number of each wire by the plan.
+#[tactic(auto, using(crate::proofs::SpokeLemmas::priorities_next, crate::proofs::SpokeLemmas::priorities_end))]
+pub fn priorities(alloc: Global, plan: &Plan) -> Result<Vec<u8>, NoMemory>
+    ensures { IfOk result (λ priorities. priorities.items ≡ map (λ row. row.priority) plan.now.wires) }
+{
+    let rows = plan.wires.as_slice();
+    let mut priorities = Vec::with_capacity(alloc, rows.len())?;
+    for place in 0..rows.len() {
+        priorities.push(rows[place].priority)?;
+    }
+    Ok(priorities)
 }
 
 // No spoke is chosen any more.
@@ -148,6 +169,13 @@ fn push_where(slots: &mut List<usize>, slot: usize, starts: bool) -> Result<(), 
         slots.push(slot)?;
     }
     Ok(())
+}
+
+/// Whether a wire is a spoke that starts at the edge.
+pub fn is_own_spoke(row: &WirePlan, me: EdgeId) -> bool
+    ensures { result ≡ is_own_spoke me (Some row.now) }
+{
+    is_spoke(row.class) && is_first(row.path.as_slice(), me)
 }
 
 // Whether the edge starts the wire as a spoke of the service.

@@ -11,14 +11,14 @@ use Rattle.net_base.specs.plan.Places.{circuit_row}
 use Rattle.edge_model.specs.Circuit.{circuit_input}
 use Rattle.edge_model.specs.declared.effect.Effect.{Effect}
 use Rattle.edge_model.specs.declared.effects.Effects.{Effects}
-use Rattle.edge_model.specs.Wire.{status_input, wire_input}
+use Rattle.edge_model.specs.Wire.{priority_input, status_input, wire_input}
 use Rattle.edge_model.specs.Work.{Work}
-use Rattle.edge_model.proofs.StillLemmas.{circuit_still, status_still, wire_still}
+use Rattle.edge_model.proofs.StillLemmas.{circuit_still, priority_still, status_still, wire_still}
 use Rattle.network_model.specs.Absorb.{Stepped, absorb, absorb_all, all_entries_of, answer, begin_at, taken_all}
 use Rattle.network_model.specs.Absorb.{idle as idle_event}
 use Rattle.network_model.specs.Circuit.{circuit_event}
 use Rattle.network_model.specs.State.{NetworkState, at_edge, with_edge}
-use Rattle.network_model.specs.Wire.{status_event, wire_event}
+use Rattle.network_model.specs.Wire.{priority_event, status_event, wire_event}
 use Rattle.psn_net.specs.Lists.{HasDriven, HasStepped, NetLists, edge_of, seen}
 use Rattle.psn_net.proofs.NetworkLemmas.{edge_stays, some_edge}
 
@@ -77,7 +77,7 @@ circuit_stepped old mid now circuit on me effects at driven idle absorbed =
     subst (λ (s : Stepped). HasStepped old now s) (circuit_answer old.plan circuit on (circuit_row old.plan circuit) me (seen old) at)
     (answered old mid now me (circuit_input old.plan taken_all circuit on (circuit_row old.plan circuit) (begin_at (seen old) me)) effects driven idle absorbed)
 
--- ---- a wire, and its failure bits
+-- ---- a wire, its failure bits, and the priority of a spoke
 
 pub wire_idle_stepped : (old mid now : NetLists) (wire : WireId) (on : Bool) (me : EdgeId) (effects : Effects)
     → HasDriven me old mid (wire_input old.plan taken_all wire on (begin_at (seen old) me)) effects
@@ -108,3 +108,18 @@ pub status_stepped : (old mid now : NetLists) (wire : WireId) (bits : ℕ) (me :
     → HasStepped old now (status_event old.plan me wire bits (seen old))
 status_stepped old mid now wire bits me effects driven idle absorbed =
     answered old mid now me (status_input old.plan taken_all wire bits (begin_at (seen old) me)) effects driven idle absorbed
+
+pub priority_idle_stepped : (old mid now : NetLists) (wire : WireId) (priority : ℕ) (me : EdgeId) (effects : Effects)
+    → HasDriven me old mid (priority_input old.plan taken_all wire priority (begin_at (seen old) me)) effects
+    → effects.idle ≡ true → seen now ≡ seen mid → now.trace ≡ mid.trace ++ Idle ∷ []
+    → HasStepped old now (priority_event old.plan me wire priority (seen old))
+priority_idle_stepped old mid now wire priority me effects driven idle state told =
+    answered_idle old mid now me (priority_input old.plan taken_all wire priority (begin_at (seen old) me)) effects driven idle
+    (priority_still old.plan taken_all wire priority (begin_at (seen old) me) refl) state told
+
+pub priority_stepped : (old mid now : NetLists) (wire : WireId) (priority : ℕ) (me : EdgeId) (effects : Effects)
+    → HasDriven me old mid (priority_input old.plan taken_all wire priority (begin_at (seen old) me)) effects → effects.idle ≡ false
+    → HasStepped mid now (record { state = absorb_all me 0 0 effects.list (seen mid); entries = all_entries_of me 0 0 effects.list (seen mid) })
+    → HasStepped old now (priority_event old.plan me wire priority (seen old))
+priority_stepped old mid now wire priority me effects driven idle absorbed =
+    answered old mid now me (priority_input old.plan taken_all wire priority (begin_at (seen old) me)) effects driven idle absorbed

@@ -14,7 +14,7 @@ use Rattle.edge_model.specs.declared.effect.Effect.TheVariants as effect
 use Rattle.edge_model.specs.Circuit.{circuit_input}
 use Rattle.edge_model.specs.Connection.{restart_input}
 use Rattle.edge_model.specs.State.{EdgeState, put_at}
-use Rattle.edge_model.specs.Wire.{status_input, wire_input}
+use Rattle.edge_model.specs.Wire.{priority_input, status_input, wire_input}
 use Rattle.edge_model.specs.Work.{Work}
 use Rattle.edge_model.proofs.BridgeLemmas.{BridgesOnly, is_of_bridging, packet_bridges}
 use Rattle.edge_model.proofs.SessionLemmas.{are_all, own_effects}
@@ -291,6 +291,7 @@ step_beside plan n (event.Frame circuit octets) = framed_beside plan circuit oct
 step_beside plan n (event.Circuit circuit on) = circuit_beside plan circuit on (circuit_row plan circuit) n
 step_beside plan n (event.Wire me wire on) = answer_beside me (wire_input plan taken_all wire on (begin_at n me)) n
 step_beside plan n (event.Status me wire bits) = answer_beside me (status_input plan taken_all wire bits (begin_at n me)) n
+step_beside plan n (event.Priority me wire priority) = answer_beside me (priority_input plan taken_all wire priority (begin_at n me)) n
 step_beside plan n (event.Arrive number) = arrive_beside (λ k. false) plan (packet_at n number) n
 step_beside plan n (event.Discard number) = discard_beside (λ k. false) (packet_at n number) n
 step_beside plan n (event.Again number) = again_beside (λ k. false) (packet_at n number) n

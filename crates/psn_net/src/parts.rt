@@ -177,6 +177,11 @@ impl Parts {
             Event::Wire { edge, wire, on } => self.wire(alloc, *edge, *wire, *on),
             Event::Circuit { circuit, on } => self.circuit(alloc, *circuit, *on),
             Event::Status { edge, wire, bits } => self.status(alloc, *edge, *wire, *bits),
+            Event::Priority {
+                edge,
+                wire,
+                priority,
+            } => self.priority(alloc, *edge, *wire, *priority),
             _ => Ok(()),
         }
     }

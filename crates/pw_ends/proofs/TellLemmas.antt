@@ -1,20 +1,24 @@
 -- What is told of a pseudowire can be written.
-use Rattle.std.proofs.Common.{◌≡◌, ◌≤◌, ◌+◌, ◌++◌, ◌∙◌, ℕ, true, List, ◌∷◌, Option, Some, None, length, flat_map, refl, ap, arith}
+use Rattle.std.proofs.Common.{◌≡◌, ◌≤◌, ◌+◌, ◌++◌, ◌∙◌, ℕ, true, List, [], ◌∷◌, Option, Some, None, length, flat_map, refl, ap, arith}
 use Rattle.std.proofs.lemmas.Bool.Decides.{nat_tests}
 use Rattle.std.proofs.lemmas.List.{length-append}
 use Rattle.std.proofs.lemmas.Grind.{flat_map-append}
 use Rattle.net_base.specs.declared.plan.offer.Offer.{Offer}
+use Rattle.net_base.specs.declared.values.mac.Mac.{Mac}
 use Rattle.net_base.specs.plan.Accepted.{IsOffer}
 use Rattle.net_base.specs.plan.Faults.{is_told_within}
 use Rattle.pw_tlvs.specs.declared.point.Point.{Point}
 use Rattle.pw_tlvs.specs.declared.pw_fec.PwFec.{PwFec}
 use Rattle.pw_tlvs.specs.declared.pw_status.PwStatus.{PwStatus}
+use Rattle.pw_tlvs.specs.Macs.{mac_octets}
 use Rattle.pw_tlvs.specs.Written.{has_vlan, written_fec}
-use Rattle.ldp_grammar.specs.declared.message.Message.TheVariants.{LabelMapping}
+use Rattle.pw_signalling.specs.declared.told.Told.{Told}
+use Rattle.edge_model.specs.Content.{bare_fec_of}
+use Rattle.ldp_grammar.specs.declared.message.Message.TheVariants.{AddressWithdraw, LabelMapping}
 use Rattle.ldp_grammar.specs.Octets.{four}
-use Rattle.ldp_grammar.specs.Rows.{fec, label}
+use Rattle.ldp_grammar.specs.Rows.{fec, label, mac_list}
 use Rattle.ldp_grammar.specs.Tlvs.{Tlv, spell_tlv}
-use Rattle.ldp_grammar.specs.Written.{message_octets, point_tlvs, status_tlvs, tlv}
+use Rattle.ldp_grammar.specs.Written.{ignorable, message_octets, point_tlvs, status_tlvs, tlv}
 
 first_length : (t : Tlv) (ts : List Tlv) → length (flat_map spell_tlv (t ∷ ts)) ≡ 4 + length t.value + length (flat_map spell_tlv ts)
 first_length t ts = omega (arith, length-append t.value (flat_map spell_tlv ts))
@@ -41,3 +45,12 @@ mapping_short id pw given state points fec_fits points_fit =
     let second = first_length (tlv label (four given)) (status_tlvs state ++ point_tlvs points) in
     let first = first_length (tlv fec (written_fec pw)) (tlv label (four given) ∷ (status_tlvs state ++ point_tlvs points)) in
     omega (arith, first, second, last, states_short state, fec_fits, points_fit)
+
+-- a MAC withdraw of few addresses
+pub withdrawal_short : (id pw_id : ℕ) (told : Told) (pw : PwFec) (addresses : List Mac) → pw ≡ bare_fec_of pw_id told → length (mac_octets addresses) ≤ 180 → 6 + length (message_octets (AddressWithdraw id None (Some pw) (Some addresses))) ≤ 256
+withdrawal_short id pw_id told pw addresses same few =
+    let bare_fits : length (written_fec (bare_fec_of pw_id told)) ≡ 12 = refl in
+    let fec_fits : length (written_fec pw) ≡ 12 = ap (λ (p : PwFec). length (written_fec p)) same ∙ bare_fits in
+    let second = first_length (ignorable mac_list (mac_octets addresses)) [] in
+    let first = first_length (tlv fec (written_fec pw)) (ignorable mac_list (mac_octets addresses) ∷ []) in
+    omega (arith, first, second, fec_fits, few)

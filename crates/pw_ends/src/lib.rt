@@ -19,7 +19,7 @@ mod which_ends;
 mod wish;
 
 pub use content::{bare, bare_fec_of, binding_in, content_of, fec_of};
-pub use messages::{mapping, release, status_notification, withdrawal};
+pub use messages::{mac_withdrawal, mapping, release, status_notification, withdrawal};
 pub use pw_ends::PwEnds;
 pub use role::role_of;
 pub use wish::terminal_wish;

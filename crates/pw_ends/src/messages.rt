@@ -1,15 +1,15 @@
 //! The messages about a pseudowire.
 ghost use Rattle.std.specs.Prelude.{◌≡◌, ◌≤◌, ◌+◌, true, flat_map, length};
-ghost use Rattle.edge_model.specs.Content.{mapping, pw_status_notice, release, status_notification, withdrawal};
+ghost use Rattle.edge_model.specs.Content.{mac_withdrawal, mapping, pw_status_notice, release, status_notification, withdrawal};
 ghost use Rattle.ldp_grammar.specs.Written.{address_octets, mac_count, message_octets, point_tlvs, writable};
 ghost use Rattle.ldp_grammar.specs.Tlvs.{spell_tlv};
 ghost use Rattle.pw_tlvs.specs.Written.{has_vlan};
 
 use crate::content::{bare, bare_fec_of, fec_of};
 use ldp_grammar::{Message, StatusCode, TLV_HEADER};
-use net_base::Label;
+use net_base::{Label, List, Mac};
 use pw_signalling::Told;
-use pw_tlvs::{Points, PwFec, PwStatus, fec_size, point_size};
+use pw_tlvs::{Points, PwFec, PwStatus, fec_size, macs_size, point_size};
 
 // The status data of a Notification that tells the status of a pseudowire (RFC 8077 section 6.3.2).
 const PW_STATUS_CODE: u32 = 0x28;
@@ -81,6 +81,27 @@ pub fn status_notification(pw_id: u32, status: PwStatus, told: &Told, id: u32) -
         status: pw_status_notice(),
         pw_status: Some(status),
         fec: Some(bare_fec_of(pw_id, told)),
+    }
+}
+
+/// A MAC withdraw with this Message ID (RFC 4762 section 6.2) on a pseudowire with this content: the receiver forgets these
+/// addresses, and where there are none all that it has learned elsewhere. It can be written where the PW type has 15 bits, and
+/// of at most 30 addresses a PDU with it alone has a PDU Length of at most 256.
+pub fn mac_withdrawal(pw_id: u32, addresses: List<Mac>, told: &Told, id: u32) -> Message
+    ensures message { result ≡ mac_withdrawal pw_id addresses told.now id }
+    ensures writable { told.now.kind ≤ 0x7FFF → writable result ≡ true }
+    ensures short { length addresses ≤ 30 → 6 + length (message_octets result) ≤ 256 }
+    ensures no_addresses { address_octets result ≡ 0 }
+    ensures macs { mac_count result ≡ length addresses }
+{
+    let fec = bare_fec_of(pw_id, told);
+    // How long a MAC withdraw is at most follows from the size of its list.
+    let _ = macs_size(&addresses);
+    Message::AddressWithdraw {
+        id,
+        addresses: None,
+        fec: Some(fec),
+        macs: Some(addresses),
     }
 }
 

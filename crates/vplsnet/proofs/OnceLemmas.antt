@@ -1,5 +1,5 @@
 -- What is built has short paths, and what holds of flooded frames within some segments holds within more.
-use Rattle.std.proofs.Common.{◌≡◌, ◌≤◌, ◌&&◌, ◌==◌, ◌∙◌, ℕ, Bool, true, false, List, [], ◌∷◌, length, refl, ap, arith}
+use Rattle.std.proofs.Common.{◌≡◌, ◌≤◌, ◌&&◌, ◌++◌, ◌==◌, ℕ, Bool, true, List, [], ◌∷◌, length, refl, arith}
 use Rattle.std.specs.List.{list_all}
 use Rattle.net_base.specs.declared.plan.Plan.{Plan}
 use Rattle.net_base.specs.declared.plan.wire_plan.WirePlan.{WirePlan}
@@ -11,9 +11,11 @@ use Rattle.network_model.specs.Frame.{next_origin}
 use Rattle.network_model.specs.OnceEach.{LeftWithin, OnceEach}
 use Rattle.network_model.specs.Run.{run, state_after}
 use Rattle.network_model.specs.State.{empty_network}
+use Rattle.address_model.specs.Laws.{KnownAreReached}
+use Rattle.flight_model.specs.Laws.{network_after}
 use Rattle.flood_model.specs.Due.{has_short_paths}
 use Rattle.scenario_text.specs.declared.scenario.Scenario.{Scenario}
-use Rattle.vplsnet.specs.Built.{is_built, is_built_command, is_built_offer, is_built_wire, some_two, start_together}
+use Rattle.vplsnet.specs.Built.{is_built, is_built_command, is_built_offer, is_built_wire}
 
 within_widens : (less most origin : ℕ) (es : List Entry) → less ≤ most → LeftWithin less origin es → LeftWithin most origin es
 within_widens less most origin [] wider within = tt
@@ -27,6 +29,16 @@ once_widens less most plan events wider each before circuit octets during after 
     let served = each before circuit octets during after service joined window in
     record { once = served.once; within = within_widens less most (next_origin (state_after plan (empty_network plan) before)) (run plan events).entries wider served.within }
 
+-- and what holds of frames to stations
+pub known_widens : (less most : ℕ) (plan : Plan) (events : List Event) → less ≤ most → KnownAreReached less plan events → KnownAreReached most plan events
+known_widens less most plan events wider each before during circuit octets later after service site joined one starts stretch enters =
+    let reached = each before during circuit octets later after service site joined one starts stretch enters in
+    record {
+      once = reached.once;
+      others = reached.others;
+      within = within_widens less most (next_origin (network_after plan (before ++ during))) (run plan events).entries wider reached.within;
+    }
+
 all_short : (rows : List WirePlan) → list_all is_built_wire rows ≡ true → list_all (λ (row : WirePlan). length row.path == 2) rows ≡ true
 all_short [] all = refl
 all_short (row ∷ rows) all =
@@ -39,4 +51,4 @@ all_short (row ∷ rows) all =
 
 -- a scenario that is built has wires with paths of two edges alone
 pub built_short : (scenario : Scenario) → is_built scenario ≡ true → has_short_paths scenario.plan ≡ true
-built_short scenario built = all_short scenario.plan.wires (and_left (list_all is_built_wire scenario.plan.wires) _ (and_left _ (list_all is_built_command scenario.commands) built))
+built_short scenario built = all_short scenario.plan.wires (and_left (list_all is_built_wire scenario.plan.wires) (list_all is_built_command scenario.commands) built)

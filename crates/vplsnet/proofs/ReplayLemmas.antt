@@ -16,6 +16,9 @@ use Rattle.network_model.proofs.KnownLemmas.{run_serves_known_once}
 use Rattle.packet_model.proofs.RunLemmas.{runs_are_isolated, runs_keep_packet_rule}
 use Rattle.flood_model.specs.Due.{has_short_paths}
 use Rattle.flood_model.proofs.RunLemmas.{runs_serve_once}
+use Rattle.address_model.proofs.KnownLemmas.{runs_reach_known}
+use Rattle.address_model.proofs.PointsLemmas.{runs_keep_points}
+use Rattle.move_model.proofs.HealLemmas.{runs_heal_moves}
 use Rattle.psn_net.specs.declared.net_stop.NetStop.{NetStop}
 use Rattle.psn_net.specs.Lists.{NetLists, seen}
 use Rattle.psn_net.specs.Runs.{AreDone, IsRunOf}
@@ -27,7 +30,7 @@ use Rattle.vplsnet.specs.declared.outcome.Outcome.{Outcome}
 use Rattle.vplsnet.specs.Built.{is_built}
 use Rattle.vplsnet.specs.Promises.{KeepsPromises}
 use Rattle.vplsnet.specs.Replay.{HasRunAs, IsReplay, Replays, events_of, outcome_by}
-use Rattle.vplsnet.proofs.OnceLemmas.{built_short, once_widens}
+use Rattle.vplsnet.proofs.OnceLemmas.{built_short, known_widens, once_widens}
 use Rattle.vplsnet.proofs.PlannedLemmas.{All-first, made_planned}
 
 -- the first events of a run are a run
@@ -45,6 +48,9 @@ promises_kept plan events run short = record {
   packets = λ before after joined. runs_keep_packet_rule plan before (first before after joined);
   once = once_widens 3 12 plan events (omega arith) (runs_serve_once plan events run short);
   known = run_serves_known_once plan events run.checked;
+  points = runs_keep_points plan events run short;
+  stations = known_widens 3 12 plan events (omega arith) (runs_reach_known plan events run short);
+  moves = runs_heal_moves plan events run short;
   table = λ before after joined a b. runs_follow_table plan before (first before after joined) a b;
   up = λ before after joined a b. runs_come_up plan before (first before after joined) a b;
   agree = λ before after joined a b. runs_agree_after_flight plan before (first before after joined) a b;

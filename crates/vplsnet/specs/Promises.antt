@@ -13,6 +13,8 @@ use Rattle.network_model.specs.Run.{run}
 use Rattle.network_model.specs.State.{NetworkState}
 use Rattle.flight_model.specs.Endings.{TellGoodEnds}
 use Rattle.packet_model.specs.Carried.{KeepsPacketRule}
+use Rattle.address_model.specs.Laws.{KnownAreReached, PointsLast}
+use Rattle.move_model.specs.Laws.{MovesHeal}
 use Rattle.flight_model.specs.Laws.{AgreesAfterFlight, AreSettled, BothStand, FollowsTable, IsStill, IsUp, KeepsLabelRule, KeepsToldRule, network_after}
 
 -- something holds of each state on the way of a run: before each event, and after the last one
@@ -51,6 +53,12 @@ pub record KeepsPromises (plan : Plan) (events : List Event) : Type 0 where
   pub once : OnceEach 12 plan events
   -- each frame to a known station leaves by one port at most
   pub known : KnownOnce plan events
+  -- learned addresses that point to the sites of their stations keep to it as frames and packets come
+  pub points : PointsLast plan events
+  -- and each frame to a station then reaches its site once, and no other one more than once, within twelve segments
+  pub stations : KnownAreReached 12 plan events
+  -- once a spoke edge has moved to another spoke and no octet is on its way any more, they point to the sites again
+  pub moves : MovesHeal plan events
   -- sessions understand each other, and come up where everything was heard
   pub table : Throughout (FollowTable plan) plan events
   pub up : Throughout AreUpWhereStill plan events

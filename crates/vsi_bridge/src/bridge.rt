@@ -3,13 +3,13 @@ ghost use Rattle.std.specs.Prelude.{◌≡◌, ◌==◌, ◌<◌, ◌≤◌, ◌
 ghost use Rattle.net_base.specs.values.Mac.{is_group_address};
 ghost use Rattle.hvpls_spokes.specs.Flood.{is_in_flood};
 ghost use Rattle.hvpls_spokes.specs.PortSet.{has};
-ghost use Rattle.mac_table.specs.Addresses.{AreDistinct, NoneAfter, is_young};
+ghost use Rattle.mac_table.specs.Addresses.{AreDistinct, NoneAfter, is_young, stays};
 ghost use Rattle.vsi_bridge.specs.BridgeState.{table_of, most_addresses};
 ghost use Rattle.vsi_bridge.specs.Targets.{heard, is_target, known_port};
 
 use hvpls_spokes::{PortSet, Ports, flood_set};
 use mac_table::MacTable;
-use net_base::{Mac, NoMemory};
+use net_base::{List, Mac, NoMemory};
 use std::alloc::Global;
 use std::marker::Model;
 
@@ -110,6 +110,15 @@ impl Bridge {
         ensures ticks { (now : ℕ) → NoneAfter now self.old.entries → NoneAfter now self.new.entries }
     {
         self.table.drop_port(port);
+    }
+
+    /// Forgets what a MAC withdraw that came by the port `from` names (RFC 4762 section 6.2): of a list that is not empty its
+    /// addresses that are at `from`, and of an empty one all addresses that are not at `from`. The others stay in order.
+    pub fn withdraw(&mut self, from: u16, list: &List<Mac>)
+        ensures entries { self.new ≡ record self.old { entries = filter (stays from list.now) self.old.entries } }
+        ensures ticks { (now : ℕ) → NoneAfter now self.old.entries → NoneAfter now self.new.entries }
+    {
+        self.table.withdraw(from, list);
     }
 
     /// The addresses that were learned.

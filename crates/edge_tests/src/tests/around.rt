@@ -1,4 +1,4 @@
-//! Two edges that a wire joins, and what they put when their session comes up.
+//! Two edges that a wire joins, what they put when their session comes up, and a core edge of a hierarchy.
 ghost use Rattle.provider_edge.specs.Taking.{IsInRange};
 
 use edge_model::{Effects, Input};
@@ -14,6 +14,10 @@ use std::process::Abort;
 pub const A: EdgeId = EdgeId(0);
 
 pub const B: EdgeId = EdgeId(1);
+
+pub const C: EdgeId = EdgeId(2);
+
+pub const X: EdgeId = EdgeId(3);
 
 /// What they put when their session comes up.
 pub const PROPOSAL_OF_B: &str =
@@ -89,20 +93,28 @@ fn offer(rt: &impl Abort) -> Offer {
     }
 }
 
-fn path(rt: &impl Abort, alloc: Global) -> List<EdgeId> {
+fn path(rt: &impl Abort, alloc: Global, first: EdgeId, last: EdgeId) -> List<EdgeId> {
     let mut path = List::new(alloc);
-    path.push(A).expect(rt, "memory");
-    path.push(B).expect(rt, "memory");
+    path.push(first).expect(rt, "memory");
+    path.push(last).expect(rt, "memory");
     path
 }
 
-fn wire(rt: &impl Abort, alloc: Global) -> WirePlan {
+fn wire(
+    rt: &impl Abort,
+    alloc: Global,
+    text: &str,
+    class: Class,
+    first: EdgeId,
+    last: EdgeId,
+    pw_id: u32,
+) -> WirePlan {
     WirePlan {
-        name: name(rt, "w"),
+        name: name(rt, text),
         service: ServiceId(0),
-        class: Class::Mesh,
-        path: path(rt, alloc),
-        pw_id: 100,
+        class,
+        path: path(rt, alloc, first, last),
+        pw_id,
         near: offer(rt),
         far: offer(rt),
         priority: 0,
@@ -130,13 +142,36 @@ fn plan(rt: &impl Abort, alloc: Global) -> Plan {
     add_circuit(rt, &mut circuits, "ca", A);
     add_circuit(rt, &mut circuits, "cb", B);
     let mut wires = List::new(alloc);
-    wires.push(wire(rt, alloc)).expect(rt, "memory");
+    let joining = wire(rt, alloc, "w", Class::Mesh, A, B, 100);
+    wires.push(joining).expect(rt, "memory");
     Plan {
         edges,
         services,
         circuits,
         wires,
     }
+}
+
+// Three core edges in full mesh, and a spoke edge that hangs on the first of them.
+fn hierarchy(rt: &impl Abort, alloc: Global) -> Plan {
+    let mut plan = plan(rt, alloc);
+    add_edge(rt, &mut plan.edges, "c", 3);
+    add_edge(rt, &mut plan.edges, "x", 4);
+    add_circuit(rt, &mut plan.circuits, "cc", C);
+    add_circuit(rt, &mut plan.circuits, "cx", X);
+    let second = wire(rt, alloc, "w1", Class::Mesh, A, C, 101);
+    let third = wire(rt, alloc, "w2", Class::Mesh, B, C, 102);
+    let spoke = wire(rt, alloc, "w3", Class::Spoke, X, A, 201);
+    plan.wires.push(second).expect(rt, "memory");
+    plan.wires.push(third).expect(rt, "memory");
+    plan.wires.push(spoke).expect(rt, "memory");
+    plan
+}
+
+/// The first core edge of a hierarchy: wires 0 and 1 are its mesh wires to B and C, and wire 3 is the spoke from X.
+pub fn opened_core(rt: &impl Abort, alloc: Global) -> Edge {
+    let plan = hierarchy(rt, alloc);
+    edge_of(alloc, &plan, A).expect(rt, "an edge")
 }
 
 // The edge of a plan with this place.

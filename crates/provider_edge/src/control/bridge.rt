@@ -123,7 +123,7 @@ impl Control {
     }
 
     // The ports of a service; `None` exactly where it has none at the edge.
-    fn ports(&self, service: ServiceId) -> Option<&Ports>
+    pub(super) fn ports(&self, service: ServiceId) -> Option<&Ports>
         requires { service.0 < length self.now.plan.services }
         ensures some { IfSome result (λ ports. ports.now ≡ ports_of self.now.plan service self.now.me) }
         ensures none { result ≡ None → ports_of self.now.plan service self.now.me ≡ [] }

@@ -230,11 +230,13 @@ impl Control {
                 self.hear_status(peer, *status, *pw_status, fec.as_ref());
                 Ok(())
             }
+            Message::AddressWithdraw { fec, macs, .. } => {
+                self.hear_mac_withdraw(alloc, peer, fec, macs, link, out)
+            }
             Message::Hello { .. }
             | Message::Initialization { .. }
             | Message::KeepAlive { .. }
             | Message::Address { .. }
-            | Message::AddressWithdraw { .. }
             | Message::LabelRequest { .. }
             | Message::LabelAbort { .. }
             | Message::Other { .. }

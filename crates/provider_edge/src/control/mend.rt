@@ -1,15 +1,16 @@
 //! An edge mends its ends (RFC 8077 sections 6 and 6.3): all steps, in the order of its ends.
-ghost use Rattle.std.specs.Prelude.{◌≡◌, ◌<◌, ◌+◌, List, length, false, IfOk, OnOk};
+ghost use Rattle.std.specs.Prelude.{◌≡◌, ◌<◌, ◌+◌, List, None, length, false, IfOk, OnOk};
 ghost use Rattle.net_base.specs.declared.outside.link_call.LinkCall.{LinkCall};
 ghost use Rattle.pw_ends.specs.Ends.{place_of};
 ghost use Rattle.edge_model.specs.EndPlaces.{end_places};
-ghost use Rattle.edge_model.specs.Mend.{and_says, each_end, forgets_downs, mends, mends_end, mends_once, mends_status, tells_downs};
+ghost use Rattle.edge_model.specs.Mend.{and_says, each_end, forgets_downs, mends, mends_choice, mends_end, mends_once, mends_status, tells_downs};
 ghost use Rattle.edge_model.specs.Work.{Agrees, Answers, GoesOn};
 ghost use Rattle.provider_edge.specs.Control.{KeepsPlan, Rest, at_control};
+ghost use Rattle.provider_edge.specs.Views.{view};
 
 use super::Control;
 use edge_model::Effect;
-use net_base::{Link, List, NoMemory};
+use net_base::{Link, List, NoMemory, WireId};
 use std::alloc::Global;
 
 impl Control {
@@ -54,9 +55,11 @@ impl Control {
         ensures step { IfOk result (λ failed. (told : Answers) (rest : Rest) → Agrees told (L.calls link.new)
             → record { work = at_control self.new rest (L.calls link.new) out.new; failed = failed } ≡ mends_once self.old.plan told (at_control self.old rest (L.calls link.old) out.old)) }
     {
+        let before = self.all_chosen(alloc)?;
         let refused = self.mend_ends(alloc, link, out)?;
         self.choose_spokes(alloc)?;
-        let failed = self.mend_statuses(refused, alloc, link, out)?;
+        let untold = self.mend_statuses(refused, alloc, link, out)?;
+        let failed = self.mend_choices(before.as_slice(), untold, alloc, link, out)?;
         self.forget_downs();
         self.tell_downs(out)?;
         Ok(failed)
@@ -142,6 +145,51 @@ impl Control {
             ≡ and_says (record { work = at_control self.old rest (L.calls link.old) out.old; failed = before }) (mends_status self.old.plan told (place_of self.old.ends slot))) }
     {
         if self.mend_status(alloc, slot, link, out)? {
+            return Ok(true);
+        }
+        Ok(before)
+    }
+
+    // Each spoke that was chosen anew withdraws addresses. Before this round the edge had chosen these wires, by services.
+    fn mend_choices<L: Link>(
+        &mut self,
+        chosen: &[Option<WireId>],
+        before: bool,
+        alloc: Global,
+        link: &mut L,
+        out: &mut List<Effect>,
+    ) -> Result<bool, NoMemory>
+        ensures keeps { KeepsPlan self.old self.new }
+        ensures calls { GoesOn (L.calls link.old) (L.calls link.new) }
+        ensures step { IfOk result (λ failed. (told : Answers) (rest : Rest) → Agrees told (L.calls link.new)
+            → record { work = at_control self.new rest (L.calls link.new) out.new; failed = failed }
+            ≡ each_end (mends_choice self.old.plan told (view None chosen.now)) (end_places self.old.plan self.old.me) (record { work = at_control self.old rest (L.calls link.old) out.old; failed = before })) }
+    {
+        let mut failed = before;
+        for slot in 0..self.count_ends() {
+            failed = self.and_mend_choice(chosen, failed, alloc, slot, link, out)?;
+        }
+        Ok(failed)
+    }
+
+    // One spoke that was chosen anew withdraws addresses after others.
+    fn and_mend_choice<L: Link>(
+        &mut self,
+        chosen: &[Option<WireId>],
+        before: bool,
+        alloc: Global,
+        slot: usize,
+        link: &mut L,
+        out: &mut List<Effect>,
+    ) -> Result<bool, NoMemory>
+        requires { slot < length self.old.ends.places }
+        ensures keeps { KeepsPlan self.old self.new }
+        ensures calls { GoesOn (L.calls link.old) (L.calls link.new) }
+        ensures step { IfOk result (λ failed. (told : Answers) (rest : Rest) → Agrees told (L.calls link.new)
+            → record { work = at_control self.new rest (L.calls link.new) out.new; failed = failed }
+            ≡ and_says (record { work = at_control self.old rest (L.calls link.old) out.old; failed = before }) (mends_choice self.old.plan told (view None chosen.now) (place_of self.old.ends slot))) }
+    {
+        if self.mend_choice(chosen, alloc, slot, link, out)? {
             return Ok(true);
         }
         Ok(before)

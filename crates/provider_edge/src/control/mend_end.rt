@@ -1,17 +1,18 @@
 //! One end is mended: what it tells follows what it should tell by now (RFC 8077 sections 6 and 6.3).
-ghost use Rattle.std.specs.Prelude.{◌≡◌, ◌<◌, ◌≤◌, ◌==◌, List, length, Some, None, true, IfOk, OnOk, IfSome};
+ghost use Rattle.std.specs.Prelude.{◌≡◌, ◌<◌, ◌≤◌, ◌==◌, ◌&&◌, not, List, length, Some, None, true, IfOk, OnOk, IfSome};
 ghost use Rattle.net_base.specs.declared.outside.link_call.LinkCall.{LinkCall};
 ghost use Rattle.net_base.specs.plan.Paths.{offer_of};
 ghost use Rattle.net_base.specs.plan.Places.{wire_row};
 ghost use Rattle.pw_signalling.specs.AnyEnd.{end_of};
 ghost use Rattle.pw_tlvs.specs.Written.{has_vlan};
 ghost use Rattle.pw_ends.specs.Ends.{HasKind, IsIdle, end_in, place_of};
-ghost use Rattle.edge_model.specs.Mend.{advertises, advertises_wish, cause_number, forgetting_wire, mends_end, mends_status, tells_down, tells_new_status, tells_over, terminal_wish, wish, withdraws, withdraws_unless};
+ghost use Rattle.edge_model.specs.Mend.{advertises, advertises_wish, cause_number, forgetting_wire, is_new_choice, mends_choice, mends_end, mends_status, tells_down, tells_new_status, tells_over, terminal_wish, wish, withdraws, withdraws_unless};
 ghost use Rattle.edge_model.specs.Role.{down_at, is_wire, role_at, status_to_tell};
 ghost use Rattle.edge_model.specs.State.{with_told_down};
 ghost use Rattle.edge_model.specs.Work.{Agrees, Answers, GoesOn};
 ghost use Rattle.provider_edge.specs.Control.{KeepsPlan, Rest, at_control, controlled};
 ghost use Rattle.provider_edge.specs.Mending.{forgotten_down, may_tell, mended_down};
+ghost use Rattle.provider_edge.specs.Views.{view};
 
 use super::Control;
 use crate::pw_message::PwMessage;
@@ -259,6 +260,48 @@ impl Control {
         self.say(alloc, place.peer, &message, link, out)
     }
 
+    // A spoke that was chosen anew withdraws addresses; answers whether the link did not take that. Before this round the edge
+    // had chosen these wires, by services.
+    pub(super) fn mend_choice<L: Link>(
+        &mut self,
+        chosen: &[Option<WireId>],
+        alloc: Global,
+        slot: usize,
+        link: &mut L,
+        out: &mut List<Effect>,
+    ) -> Result<bool, NoMemory>
+        requires { slot < length self.old.ends.places }
+        ensures keeps { KeepsPlan self.old self.new }
+        ensures calls { GoesOn (L.calls link.old) (L.calls link.new) }
+        ensures step { IfOk result (λ failed. (told : Answers) (rest : Rest) → Agrees told (L.calls link.new)
+            → record { work = at_control self.new rest (L.calls link.new) out.new; failed = failed }
+            ≡ mends_choice self.old.plan told (view None chosen.now) (place_of self.old.ends slot) (at_control self.old rest (L.calls link.old) out.old)) }
+    {
+        if !self.is_new_choice(chosen, slot) {
+            return Ok(false);
+        }
+        self.tell_piece(alloc, slot, &[], link, out)
+    }
+
+    // Whether the spoke of an end is the one that is chosen now, and was not before.
+    fn is_new_choice(&self, chosen: &[Option<WireId>], slot: usize) -> bool
+        requires { slot < length self.now.ends.places }
+        ensures { (rest : Rest) → result ≡ is_new_choice (view None chosen.now) (controlled self.now rest).chosen (place_of self.now.ends slot).wire (wire_row self.now.plan (place_of self.now.ends slot).wire) }
+    {
+        let wire = self.place_at(slot).wire;
+        match self.plan.wires.get(wire.0 as usize) {
+            Some(row) => self.is_new(chosen, wire, row.service),
+            None => false,
+        }
+    }
+
+    // Whether the wire is the one that is chosen for a service now, and was not before.
+    fn is_new(&self, chosen: &[Option<WireId>], wire: WireId, service: ServiceId) -> bool
+        ensures { (rest : Rest) → result ≡ (is_wire wire ((controlled self.now rest).chosen service.0) && not (is_wire wire (view None chosen.now service.0))) }
+    {
+        self.is_chosen(wire, service) && !is_wire_of(chosen, wire, service)
+    }
+
     // What was learned at a wire whose terminal end does not forward is forgotten.
     pub(super) fn forget_down(&mut self, slot: usize)
         requires { slot < length self.old.ends.places }
@@ -454,6 +497,16 @@ impl Control {
         let place = self.place_at(slot);
         let role = self.role_of(slot);
         self.end_in(slot).why_down(role, self.bits_of(place.wire))
+    }
+}
+
+// Whether the wire is the one that was chosen for a service.
+fn is_wire_of(chosen: &[Option<WireId>], wire: WireId, service: ServiceId) -> bool
+    ensures { result ≡ is_wire wire (view None chosen.now service.0) }
+{
+    match chosen.get(service.0 as usize) {
+        Some(Some(chosen)) => *chosen == wire,
+        Some(None) | None => false,
     }
 }
 

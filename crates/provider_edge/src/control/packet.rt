@@ -334,7 +334,7 @@ impl Control {
 
     // The service of the wire of an end.
     #[tactic(auto, using(crate::proofs::ForwardingLemmas::row_read))]
-    fn service_at(&self, slot: usize) -> ServiceId
+    pub(super) fn service_at(&self, slot: usize) -> ServiceId
         requires { slot < length self.now.ends.places }
         ensures row { (row : WirePlan) → wire_row self.now.plan (place_of self.now.ends slot).wire ≡ Some row → result ≡ row.service }
         ensures within { result.0 < length self.now.plan.services }

@@ -99,7 +99,7 @@ impl Control {
         &mut self,
         alloc: Global,
         peer: EdgeId,
-        message: &PwMessage,
+        message: &PwMessage<'_>,
         link: &mut L,
         out: &mut List<Effect>,
     ) -> Result<bool, NoMemory>

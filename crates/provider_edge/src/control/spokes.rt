@@ -1,14 +1,17 @@
 //! A spoke edge chooses among its spokes (RFC 6870, RFC 4762 section 10.2.1).
-ghost use Rattle.std.specs.Prelude.{◌≡◌, ◌<◌, ◌≤◌, ℕ, Some, length, option_map, slice_get, IfOk, OnOk};
+ghost use Rattle.std.specs.Prelude.{◌≡◌, ◌<◌, ◌≤◌, ℕ, Some, None, true, length, option_map, slice_get, IfOk, OnOk};
 ghost use Rattle.net_base.specs.plan.Places.{wire_row};
 ghost use Rattle.edge_model.specs.EndPlaces.{end_places};
-ghost use Rattle.edge_model.specs.Spokes.{choice, choosing, is_usable, priority_in, spoke_at, spoke_places, spokes_of};
-ghost use Rattle.edge_model.specs.State.{put_at, with_chosen};
+ghost use Rattle.edge_model.specs.Spokes.{choice, choosing, is_usable, spoke_at, spoke_places, spokes_of};
+ghost use Rattle.edge_model.specs.State.{put_at, with_chosen, with_priority};
+ghost use Rattle.edge_model.specs.Wire.{is_own_spoke};
 ghost use Rattle.pw_ends.specs.Ends.{place_of};
 ghost use Rattle.provider_edge.specs.Control.{KeepsPlan, Rest, controlled};
 ghost use Rattle.provider_edge.specs.Spokes.{slots_for};
+ghost use Rattle.provider_edge.specs.Views.{view};
 
 use super::Control;
+use crate::spokes::is_own_spoke;
 use net_base::{NoMemory, WireId};
 use pw_signalling::EndRole;
 use spoke_redundancy::{Spoke, choose};
@@ -92,7 +95,7 @@ impl Control {
     // The spoke of an end as the choice sees it.
     fn spoke_at(&self, slot: usize) -> Spoke
         requires { slot < length self.now.ends.places }
-        ensures { (rest : Rest) → result ≡ spoke_at self.now.plan (controlled self.now rest) (place_of self.now.ends slot) }
+        ensures { (rest : Rest) → result ≡ spoke_at (controlled self.now rest) (place_of self.now.ends slot) }
     {
         Spoke {
             priority: self.priority_of(self.place_at(slot).wire),
@@ -100,14 +103,41 @@ impl Control {
         }
     }
 
-    // The priority number of a wire.
-    fn priority_of(&self, wire: WireId) -> u8
-        ensures { result ≡ priority_in (wire_row self.now.plan wire) }
+    /// The priority number of the spoke on a wire.
+    #[tactic(auto, unfolding(crate::specs::Control::controlled))]
+    pub fn priority_of(&self, wire: WireId) -> u8
+        requires { wire.0 < length self.now.plan.wires }
+        ensures { (rest : Rest) → result ≡ (controlled self.now rest).priority wire.0 }
+    {
+        self.priorities[wire.0 as usize]
+    }
+
+    /// Sets the priority number of the spoke on a wire.
+    pub fn set_priority(&mut self, wire: WireId, priority: u8)
+        requires { wire.0 < length self.old.plan.wires }
+        ensures keeps { KeepsPlan self.old self.new }
+        ensures step { (rest : Rest) → controlled self.new rest ≡ with_priority wire priority (controlled self.old rest) }
+    {
+        self.priorities[wire.0 as usize] = priority;
+    }
+
+    /// Whether the wire is a spoke that starts at the edge.
+    pub fn is_own_spoke(&self, wire: WireId) -> bool
+        ensures own { result ≡ is_own_spoke self.now.me (wire_row self.now.plan wire) }
+        ensures within { result ≡ true → wire.0 < length self.now.plan.wires }
     {
         match self.plan.wires.get(wire.0 as usize) {
-            Some(row) => row.priority,
-            None => 0,
+            Some(row) => is_own_spoke(row, self.me),
+            None => false,
         }
+    }
+
+    // The wires of the spokes that are chosen, by services.
+    #[tactic(auto, unfolding(crate::specs::Control::controlled))]
+    pub(super) fn all_chosen(&self, alloc: Global) -> Result<Vec<Option<WireId>>, NoMemory>
+        ensures { IfOk result (λ chosen. (rest : Rest) → view None chosen.items ≡ (controlled self.now rest).chosen) }
+    {
+        self.spokes.all_chosen(alloc)
     }
 
     // Whether an end would forward if its spoke were the chosen one.

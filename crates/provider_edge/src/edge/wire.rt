@@ -1,7 +1,7 @@
-//! A wire is put on or off, and the failure bits of the edge's end of it are set.
+//! A wire is put on or off, and the failure bits of the edge's end of it and the priority of a spoke are set.
 ghost use Rattle.std.specs.Prelude.{◌≡◌, ◌<◌, ◌≤◌, true, length, IfOk};
-ghost use Rattle.edge_model.specs.State.{with_bits};
-ghost use Rattle.edge_model.specs.Wire.{status_input, turned_wire, wire_input};
+ghost use Rattle.edge_model.specs.State.{with_bits, with_priority};
+ghost use Rattle.edge_model.specs.Wire.{priority_input, status_input, turned_wire, wire_input};
 ghost use Rattle.edge_model.specs.Work.{Agrees, Answers, GoesOn, beginning};
 ghost use Rattle.provider_edge.specs.Lists.{Keeps, seen, worked};
 
@@ -78,5 +78,38 @@ impl Edge {
         ensures step { seen self.new ≡ with_bits wire bits (seen self.old) }
     {
         self.control.set_bits(wire, bits);
+    }
+
+    // The priority of a spoke that starts at the edge is set, where it is another one.
+    pub(crate) fn priority<L: Link>(
+        &mut self,
+        alloc: Global,
+        wire: WireId,
+        priority: u8,
+        link: &mut L,
+    ) -> Result<Effects, NoMemory>
+        requires working { self.old.stopped ≡ true }
+        ensures keeps { Keeps self.old self.new }
+        ensures calls { GoesOn (L.calls link.old) (L.calls link.new) }
+        ensures step { IfOk result (λ effects. (told : Answers) → Agrees told (L.calls link.new)
+            → worked self.new (L.calls link.new) effects ≡ priority_input self.old.plan told wire priority (beginning (seen self.old) (L.calls link.old))) }
+    {
+        if !self.control.is_own_spoke(wire) || self.control.priority_of(wire) == priority {
+            return Ok(idle(alloc));
+        }
+        self.set_priority(wire, priority);
+        let mut list = List::new(alloc);
+        self.mend(alloc, link, &mut list)?;
+        Ok(Effects { idle: false, list })
+    }
+
+    // Sets the priority of a spoke.
+    fn set_priority(&mut self, wire: WireId, priority: u8)
+        requires working { self.old.stopped ≡ true }
+        requires within { wire.0 < length self.old.plan.wires }
+        ensures keeps { Keeps self.old self.new }
+        ensures step { seen self.new ≡ with_priority wire priority (seen self.old) }
+    {
+        self.control.set_priority(wire, priority);
     }
 }

@@ -25,7 +25,8 @@ pub(crate) fn mark_after(index: &mut DeliveryIndex, parts: &Parts, event: &Event
         Event::Lose { edge, .. }
         | Event::Restart { edge }
         | Event::Wire { edge, .. }
-        | Event::Status { edge, .. } => mark(index, parts, *edge),
+        | Event::Status { edge, .. }
+        | Event::Priority { edge, .. } => mark(index, parts, *edge),
         Event::Tick => mark_all(index, parts),
         Event::Frame { circuit, .. } | Event::Circuit { circuit, .. } => {
             mark(index, parts, parts.edge_of(*circuit));

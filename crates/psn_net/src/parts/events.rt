@@ -5,7 +5,7 @@ ghost use Rattle.network_model.specs.Circuit.{circuit_event};
 ghost use Rattle.network_model.specs.Frame.{frame_event};
 ghost use Rattle.network_model.specs.State.{with_frame};
 ghost use Rattle.network_model.specs.Tick.{tick_at, tick_event};
-ghost use Rattle.network_model.specs.Wire.{status_event, wire_event};
+ghost use Rattle.network_model.specs.Wire.{priority_event, status_event, wire_event};
 ghost use Rattle.psn_net.specs.Lists.{HasEntered, HasRoom, HasStepped, Keeps, edge_of, seen};
 
 use crate::parts::Parts;
@@ -100,6 +100,28 @@ impl Parts {
         ensures step { OnOk result (HasStepped self.old self.new (status_event self.old.plan me wire bits (seen self.old))) }
     {
         let effects = self.drive(alloc, me, Input::Status { wire, bits })?;
+        if effects.idle {
+            self.tell(Entry::Idle)?;
+            return Ok(());
+        }
+        self.absorb(alloc, me, 0, 0, effects.list.into_items())
+    }
+
+    // The priority of a spoke is set at its spoke edge.
+    #[tactic(auto, using(crate::proofs::AnswerLemmas::priority_stepped))]
+    pub(crate) fn priority(
+        &mut self,
+        alloc: Global,
+        me: EdgeId,
+        wire: WireId,
+        priority: u8,
+    ) -> Result<(), NoMemory>
+        requires me { me.0 < length self.old.plan.edges }
+        requires room { HasRoom self.old }
+        ensures keeps { Keeps self.old self.new }
+        ensures step { OnOk result (HasStepped self.old self.new (priority_event self.old.plan me wire priority (seen self.old))) }
+    {
+        let effects = self.drive(alloc, me, Input::Priority { wire, priority })?;
         if effects.idle {
             self.tell(Entry::Idle)?;
             return Ok(());

@@ -3,6 +3,7 @@ use Rattle.edge_model.specs.Hear.{acts_on, advice_of, advises}
 use Rattle.edge_model.specs.Work.{Answers, Work}
 use Rattle.provider_edge.specs.Control.{at_control, controlled}
 use Rattle.provider_edge.proofs.ActLemmas.{is_advised, mapping_acts, release_acts, split}
+use Rattle.provider_edge.proofs.ClearLemmas.{withdraw_acts}
 use Rattle.provider_edge.proofs.SettleLemmas.{map_on}
 use Rattle.provider_edge.proofs.control.Control.act_on.Goals as goal
 
@@ -18,6 +19,13 @@ returns-in-LabelRelease-clause-step g c = λ told rest agrees.
     release_acts c.args.self.now.plan told c.args.peer c.args.message.now c.in-LabelRelease.id c.in-LabelRelease.fec c.in-LabelRelease.label (controlled c.args.self.now rest) (controlled c.hear_release.new.self rest) (g.L.Link.calls c.args.link.now) c.args.out.now
     c.in-LabelRelease.is (c.hear_release.ensures.step rest)
 
+pub returns-in-AddressWithdraw-clause-step : goal.returns-in-AddressWithdraw-clause-step
+returns-in-AddressWithdraw-clause-step g c = map_on _ _ c.hear_mac_withdraw.result
+    (λ puts told rest agrees.
+    withdraw_acts c.args.self.now.plan told c.args.peer c.args.message.now c.in-AddressWithdraw.id c.in-AddressWithdraw.addresses c.in-AddressWithdraw.fec c.in-AddressWithdraw.macs (at_control c.args.self.now rest (g.L.Link.calls c.args.link.now) c.args.out.now) _
+    c.in-AddressWithdraw.is (puts told rest agrees))
+    c.hear_mac_withdraw.ensures.step
+
 pub returns-in-Hello-clause-step : goal.returns-in-Hello-clause-step
 returns-in-Hello-clause-step g c = map_on _ _ c.tell_advice.result
     (λ puts told rest agrees. puts told rest agrees ∙ advised told (at_control c.args.self.now rest (g.L.Link.calls c.args.link.now) c.args.out.now))
@@ -29,8 +37,7 @@ returns-in-Hello-clause-step g c = map_on _ _ c.tell_advice.result
         (λ q. split q (λ p. is_advised c.args.self.now.plan told c.args.peer work c.args.message.now _ p.2 refl)
         (λ q. split q (λ p. is_advised c.args.self.now.plan told c.args.peer work c.args.message.now _ p.1 refl)
         (λ q. split q (λ p. is_advised c.args.self.now.plan told c.args.peer work c.args.message.now _ p.3 refl)
-        (λ q. split q (λ p. is_advised c.args.self.now.plan told c.args.peer work c.args.message.now _ p.4 refl)
         (λ q. split q (λ p. is_advised c.args.self.now.plan told c.args.peer work c.args.message.now _ p.2 refl)
         (λ q. split q (λ p. is_advised c.args.self.now.plan told c.args.peer work c.args.message.now _ p.3 refl)
         (λ q. split q (λ p. is_advised c.args.self.now.plan told c.args.peer work c.args.message.now _ p.3 refl)
-        (λ p. is_advised c.args.self.now.plan told c.args.peer work c.args.message.now _ p.3 refl))))))))
+        (λ p. is_advised c.args.self.now.plan told c.args.peer work c.args.message.now _ p.3 refl)))))))

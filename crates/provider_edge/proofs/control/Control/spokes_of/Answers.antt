@@ -13,16 +13,16 @@ spoke_at-requires c =
 
 pub loop-slot-preserved : goal.loop-slot-preserved
 loop-slot-preserved c = λ rest.
-    spokes_more (λ slot. spoke_at c.args.self.now.plan (controlled c.args.self.now rest) (place_of c.args.self.now.ends slot)) c.slots_of-slots.result.now c.loop-slot.slot-index 0 c.loop-slot.spokes.items c.push.new.self.items c.spoke_at.result
+    spokes_more (λ slot. spoke_at (controlled c.args.self.now rest) (place_of c.args.self.now.ends slot)) c.slots_of-slots.result.now c.loop-slot.slot-index 0 c.loop-slot.spokes.items c.push.new.self.items c.spoke_at.result
     c.loop-slot-test.true (c.loop-slot.invariant rest) (c.spoke_at.ensures rest) c.in_ok-push.ensures.items
 
 pub returns-clause-count : goal.returns-clause-count
 returns-clause-count c =
     ap (λ (l : List Spoke). length l)
-    (spokes_end (λ slot. spoke_at c.args.self.now.plan (controlled c.args.self.now no_rest) (place_of c.args.self.now.ends slot)) c.slots_of-slots.result.now c.loop-slot.slot-index c.loop-slot.spokes.items c.loop-slot-test.false (c.loop-slot.invariant no_rest))
-    ∙ (length-map c.slots_of-slots.result.now (λ slot. spoke_at c.args.self.now.plan (controlled c.args.self.now no_rest) (place_of c.args.self.now.ends slot)) ∙ ap (λ (l : List ℕ). length l) c.slots_of-slots.ensures.slots)
+    (spokes_end (λ slot. spoke_at (controlled c.args.self.now no_rest) (place_of c.args.self.now.ends slot)) c.slots_of-slots.result.now c.loop-slot.slot-index c.loop-slot.spokes.items c.loop-slot-test.false (c.loop-slot.invariant no_rest))
+    ∙ (length-map c.slots_of-slots.result.now (λ slot. spoke_at (controlled c.args.self.now no_rest) (place_of c.args.self.now.ends slot)) ∙ ap (λ (l : List ℕ). length l) c.slots_of-slots.ensures.slots)
 
 pub returns-clause-spokes : goal.returns-clause-spokes
 returns-clause-spokes c = λ rest.
     spokes_read c.args.self.now rest c.args.service c.slots_of-slots.result.now c.loop-slot.spokes.items c.slots_of-slots.ensures.places c.slots_of-slots.ensures.slots
-    (spokes_end (λ slot. spoke_at c.args.self.now.plan (controlled c.args.self.now rest) (place_of c.args.self.now.ends slot)) c.slots_of-slots.result.now c.loop-slot.slot-index c.loop-slot.spokes.items c.loop-slot-test.false (c.loop-slot.invariant rest))
+    (spokes_end (λ slot. spoke_at (controlled c.args.self.now rest) (place_of c.args.self.now.ends slot)) c.slots_of-slots.result.now c.loop-slot.slot-index c.loop-slot.spokes.items c.loop-slot-test.false (c.loop-slot.invariant rest))

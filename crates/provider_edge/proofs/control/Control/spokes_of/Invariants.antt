@@ -7,5 +7,5 @@ use Rattle.provider_edge.proofs.control.Control.spokes_of.Given as goal
 -- the spokes so far and those of the slots that are left are those of all slots
 abbrev pub invariant-loop-slot : goal.invariant-loop-slot
 invariant-loop-slot l = (rest : Rest)
-    → l.spokes.items ++ map (λ slot. spoke_at l.self.plan (controlled l.self rest) (place_of l.self.ends slot)) (drop l.slot-index l.slots)
-    ≡ map (λ slot. spoke_at l.self.plan (controlled l.self rest) (place_of l.self.ends slot)) l.slots
+    → l.spokes.items ++ map (λ slot. spoke_at (controlled l.self rest) (place_of l.self.ends slot)) (drop l.slot-index l.slots)
+    ≡ map (λ slot. spoke_at (controlled l.self rest) (place_of l.self.ends slot)) l.slots

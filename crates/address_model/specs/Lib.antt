@@ -1,0 +1,5 @@
+pub mod Sites
+pub mod Points
+pub mod Stretch
+pub mod Known
+pub mod Laws

@@ -1,0 +1,4 @@
+pub mod Moves
+pub mod Clearing
+pub mod Healing
+pub mod Laws

@@ -1,0 +1,15 @@
+use Rattle.std.proofs.Common.{None}
+use Rattle.edge_model.specs.Role.{is_wire}
+use Rattle.provider_edge.specs.Control.{controlled}
+use Rattle.provider_edge.specs.Views.{view}
+use Rattle.provider_edge.proofs.SlotLemmas.{new_away, new_there}
+use Rattle.provider_edge.proofs.control.Control.is_new.Goals as goal
+
+pub returns-then-is_chosen : goal.returns-then-is_chosen
+returns-then-is_chosen c = λ rest.
+    new_there (is_wire c.args.wire ((controlled c.args.self.now rest).chosen c.args.service.0)) (is_wire c.args.wire (view None c.args.chosen.now c.args.service.0)) c.is_chosen.result c.is_wire_of.result
+    (c.is_chosen.ensures rest) c.if-is_chosen.true c.is_wire_of.ensures
+
+pub returns-else-is_chosen : goal.returns-else-is_chosen
+returns-else-is_chosen c = λ rest.
+    new_away (is_wire c.args.wire ((controlled c.args.self.now rest).chosen c.args.service.0)) (is_wire c.args.wire (view None c.args.chosen.now c.args.service.0)) c.is_chosen.result (c.is_chosen.ensures rest) c.if-is_chosen.false

@@ -1,0 +1,25 @@
+use Rattle.std.proofs.Common.{None, ◌<◌, length, arith}
+use Rattle.edge_model.specs.Mend.{mends_choice}
+use Rattle.provider_edge.specs.Views.{view}
+use Rattle.provider_edge.proofs.ControlLemmas.{plan_both}
+use Rattle.provider_edge.proofs.MendLemmas.{ends_next, ends_past, within_kept}
+use Rattle.provider_edge.proofs.SpeakerLemmas.{agrees_before, goes_both}
+use Rattle.provider_edge.proofs.control.Control.mend_choices.Goals as goal
+
+pub and_mend_choice-requires : goal.and_mend_choice-requires
+and_mend_choice-requires g c = within_kept c.args.self.now c.loop-slot.self c.loop-slot.slot c.loop-slot.invariant.keeps (omega (arith, c.loop-slot-test.true, c.count_ends-slot-end.ensures.count))
+
+pub loop-slot-preserved : goal.loop-slot-preserved
+loop-slot-preserved g c = record {
+  keeps = plan_both _ _ _ c.loop-slot.invariant.keeps c.in_ok-failed.ensures.keeps;
+  places = c.loop-slot.invariant.places;
+  calls = goes_both _ _ _ c.loop-slot.invariant.calls c.in_ok-failed.ensures.calls;
+  step = λ told rest agrees.
+      let below : c.loop-slot.slot < length c.loop-slot.self.ends.places = within_kept c.args.self.now c.loop-slot.self c.loop-slot.slot c.loop-slot.invariant.keeps (omega (arith, c.loop-slot-test.true, c.count_ends-slot-end.ensures.count)) in
+      ends_next (λ plan. mends_choice plan told (view None c.args.chosen.now)) c.args.self.now c.loop-slot.self c.loop-slot.slot _ _ _ c.loop-slot.invariant.keeps c.loop-slot.invariant.places below
+      (c.loop-slot.invariant.step told rest (agrees_before told _ _ c.in_ok-failed.ensures.calls agrees)) (c.in_ok-failed.ensures.step told rest agrees);
+}
+
+pub returns-clause-step : goal.returns-clause-step
+returns-clause-step g c = λ told rest agrees.
+    ends_past (λ plan. mends_choice plan told (view None c.args.chosen.now)) c.args.self.now c.loop-slot.slot _ _ c.loop-slot.invariant.places (omega (arith, c.loop-slot-test.false, c.count_ends-slot-end.ensures.count)) (c.loop-slot.invariant.step told rest agrees)
