@@ -1,48 +1,73 @@
 //! One link in memory through its calls.
 
-use net_base::{EdgeId, Link, LinkStop, List, MemLink};
+use net_base::{EdgeId, Link, LinkCall, LinkStop, List, MemLink};
+use std::alloc::Global;
 use std::process::Abort;
-use std::test::Fail;
 
-// Octets on a connection, and a packet; what the link answers.
-fn put(link: &mut MemLink, peer: u16, bytes: &[u8]) -> Option<LinkStop> {
-    link.put(EdgeId(peer), bytes).err()
+// A call: its peer and its octets; whether they are a packet, and whether the link takes them.
+type Call = (u16, &'static [u8], bool, bool);
+
+const CALLS: [Call; 3] = [
+    (1, &[1, 2], false, true),
+    (2, &[3], true, false),
+    (2, &[4], true, true),
+];
+
+// Puts octets on a connection, or sends a packet; what the link answers.
+fn answer(link: &mut MemLink, peer: EdgeId, bytes: &[u8], packet: bool) -> Option<LinkStop> {
+    if packet {
+        link.send(peer, bytes).err()
+    } else {
+        link.put(peer, bytes).err()
+    }
 }
 
-fn send(link: &mut MemLink, peer: u16, packet: &[u8]) -> Option<LinkStop> {
-    link.send(EdgeId(peer), packet).err()
+// Makes a call, and tests what the link answers.
+fn makes(rt: &impl Abort, link: &mut MemLink, call: &Call) {
+    let (peer, bytes, packet, taken) = *call;
+    let stop = answer(link, EdgeId(peer), bytes, packet);
+    if taken {
+        assert!(rt; stop.is_none());
+    } else {
+        assert!(rt; stop == Some(LinkStop::Failed));
+    }
 }
 
-// The call at this place had this peer and these octets; whether they were a packet, and whether they were taken.
-fn tells(
-    rt: &impl Abort,
-    link: &MemLink,
-    place: usize,
-    peer: u16,
-    bytes: &[u8],
-    told: (bool, bool),
-) -> Result<(), Fail> {
-    let (packet, taken) = told;
-    let call = link.calls().get(place).ok_or("a call")?;
-    assert!(rt; call.peer == EdgeId(peer));
-    assert!(rt; call.bytes.as_slice() == bytes);
-    assert_eq!(rt; call.packet, packet);
-    assert_eq!(rt; call.taken, taken);
-    Ok(())
+// Whether the link was called so.
+fn is_call(call: Option<&LinkCall>, want: &Call) -> bool {
+    let (peer, bytes, packet, taken) = *want;
+    match call {
+        Some(call) => {
+            call.peer == EdgeId(peer)
+                && call.bytes.as_slice() == bytes
+                && call.packet == packet
+                && call.taken == taken
+        }
+        None => false,
+    }
+}
+
+// The link had these calls.
+fn had(rt: &impl Abort, link: &MemLink, calls: &[Call]) {
+    assert_eq!(rt; link.calls().len(), calls.len());
+    for (place, want) in calls.iter().enumerate() {
+        assert!(rt; is_call(link.calls().get(place), want), "call {place}");
+    }
+}
+
+// A link whose second call fails.
+fn link(rt: &impl Abort, alloc: Global) -> MemLink {
+    let mut fails = List::new(alloc);
+    fails.push(2).expect(rt, "memory");
+    MemLink::new(alloc, fails).expect(rt, "memory")
 }
 
 #[test]
-fn keeps_what_it_is_given_and_what_failed(rt: HostRuntime) -> Result<(), Fail> {
-    let alloc = rt.alloc();
-    let mut fails = List::new(alloc);
-    fails.push(2)?;
-    let mut link = MemLink::new(alloc, fails)?;
-    assert!(rt; put(&mut link, 1, &[1, 2]).is_none());
-    assert!(rt; send(&mut link, 2, &[3]) == Some(LinkStop::Failed));
-    assert!(rt; send(&mut link, 2, &[4]).is_none());
+fn keeps_what_it_is_given_and_what_failed(rt: HostRuntime) {
+    let mut link = link(&rt, rt.alloc());
+    for call in CALLS.as_slice() {
+        makes(&rt, &mut link, call);
+    }
     assert_eq!(rt; link.faults(), 1);
-    assert_eq!(rt; link.calls().len(), 3);
-    tells(&rt, &link, 0, 1, &[1, 2], (false, true))?;
-    tells(&rt, &link, 1, 2, &[3], (true, false))?;
-    tells(&rt, &link, 2, 2, &[4], (true, true))
+    had(&rt, &link, CALLS.as_slice());
 }

@@ -1,7 +1,12 @@
 //! One table through its calls, with values that were worked out by hand.
+ghost use Rattle.std.specs.Prelude.{◌≡◌, false};
+ghost use Rattle.mac_table.specs.Addresses.{NoneAfter};
+ghost use Rattle.net_base.specs.values.Mac.{is_group_address};
 
 use mac_table::{Learned, MacEntry, MacTable};
 use net_base::{List, Mac};
+use std::alloc::Global;
+use std::process::Abort;
 
 const FIRST: Mac = Mac([2, 0, 0, 0, 0, 1]);
 
@@ -9,22 +14,41 @@ const SECOND: Mac = Mac([2, 0, 0, 0, 0, 2]);
 
 const THIRD: Mac = Mac([2, 0, 0, 0, 1, 1]);
 
-#[test]
-fn learns_up_to_its_capacity(rt: HostRuntime) {
-    let mut table = MacTable::open(rt.alloc(), 2).expect(&rt, "memory");
-    assert!(rt; table.learn(FIRST, 1, 10) == Learned::New);
-    assert!(rt; table.learn(SECOND, 1, 10) == Learned::New);
-    assert!(rt; table.learn(FIRST, 3, 10) == Learned::Kept);
-    assert!(rt; table.learn(THIRD, 1, 10) == Learned::NotLearned);
-    assert_eq!(rt; table.len(), 2);
+// A frame from a station came by a port at tick 10.
+fn learns(rt: &impl Abort, table: &mut MacTable, address: Mac, port: u16, want: Learned)
+    requires station { is_group_address address.0 ≡ false }
+    requires ticks { NoneAfter 10 table.old.entries }
+    ensures ticks { NoneAfter 10 table.new.entries }
+{
+    assert!(rt; table.learn(address, port, 10) == want);
+}
+
+// The port of an address.
+fn finds(rt: &impl Abort, table: &MacTable, address: Mac, port: Option<u16>) {
+    assert!(rt; table.find(address) == port);
+}
+
+// The first address is at port 3 since tick 10.
+fn holds_first(rt: &impl Abort, table: &MacTable) {
     let first = MacEntry {
         address: FIRST,
         port: 3,
         tick: 10,
     };
     assert!(rt; table.entry(0) == Some(first));
-    assert!(rt; table.find(SECOND) == Some(1));
-    assert!(rt; table.find(THIRD).is_none());
+}
+
+#[test]
+fn learns_up_to_its_capacity(rt: HostRuntime) {
+    let mut table = MacTable::open(rt.alloc(), 2).expect(&rt, "memory");
+    learns(&rt, &mut table, FIRST, 1, Learned::New);
+    learns(&rt, &mut table, SECOND, 1, Learned::New);
+    learns(&rt, &mut table, FIRST, 3, Learned::Kept);
+    learns(&rt, &mut table, THIRD, 1, Learned::NotLearned);
+    assert_eq!(rt; table.len(), 2);
+    holds_first(&rt, &table);
+    finds(&rt, &table, SECOND, Some(1));
+    finds(&rt, &table, THIRD, None);
 }
 
 #[test]
@@ -40,20 +64,35 @@ fn forgets_old_addresses(rt: HostRuntime) {
     assert!(rt; table.is_empty());
 }
 
+// A table with the three addresses, the second of them at port 2.
+fn three(rt: &impl Abort, alloc: Global) -> MacTable {
+    let mut table = MacTable::open(alloc, 4).expect(rt, "memory");
+    learns(rt, &mut table, FIRST, 1, Learned::New);
+    learns(rt, &mut table, SECOND, 2, Learned::New);
+    learns(rt, &mut table, THIRD, 1, Learned::New);
+    table
+}
+
+fn first_and_second(rt: &impl Abort, alloc: Global) -> List<Mac> {
+    let mut list = List::new(alloc);
+    list.push(FIRST).expect(rt, "memory");
+    list.push(SECOND).expect(rt, "memory");
+    list
+}
+
+// Withdraws addresses at port 1.
+fn withdraw(table: &mut MacTable, list: &List<Mac>) {
+    table.withdraw(1, list);
+}
+
 #[test]
 fn withdraws_addresses(rt: HostRuntime) {
-    let mut table = MacTable::open(rt.alloc(), 4).expect(&rt, "memory");
-    table.learn(FIRST, 1, 10);
-    table.learn(SECOND, 2, 10);
-    table.learn(THIRD, 1, 10);
-    let mut list = List::new(rt.alloc());
-    list.push(FIRST).expect(&rt, "memory");
-    list.push(SECOND).expect(&rt, "memory");
-    table.withdraw(1, &list);
-    assert!(rt; table.find(FIRST).is_none());
-    assert!(rt; table.find(SECOND) == Some(2));
-    assert!(rt; table.find(THIRD) == Some(1));
-    table.withdraw(1, &List::new(rt.alloc()));
-    assert!(rt; table.find(SECOND).is_none());
-    assert!(rt; table.find(THIRD) == Some(1));
+    let mut table = three(&rt, rt.alloc());
+    withdraw(&mut table, &first_and_second(&rt, rt.alloc()));
+    finds(&rt, &table, FIRST, None);
+    finds(&rt, &table, SECOND, Some(2));
+    finds(&rt, &table, THIRD, Some(1));
+    withdraw(&mut table, &List::new(rt.alloc()));
+    finds(&rt, &table, SECOND, None);
+    finds(&rt, &table, THIRD, Some(1));
 }

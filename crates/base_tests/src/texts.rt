@@ -1,20 +1,30 @@
 //! Pieces against texts that were written by hand.
 
-use std::test::Fail;
+use std::process::Abort;
 use text_pieces::{put_hex_word, put_number_word, put_text, put_word};
 
+fn put_words(rt: &impl Abort, text: &mut Vec<u8>) {
+    put_text(text, b"left").expect(rt, "memory");
+    put_word(text, b"paris").expect(rt, "memory");
+}
+
+fn put_numbers(rt: &impl Abort, text: &mut Vec<u8>) {
+    put_number_word(text, 0).expect(rt, "memory");
+    put_number_word(text, u64::MAX).expect(rt, "memory");
+}
+
+fn put_octets(rt: &impl Abort, text: &mut Vec<u8>) {
+    put_hex_word(text, &[]).expect(rt, "memory");
+    put_hex_word(text, &[0, 9, 10, 159, 255]).expect(rt, "memory");
+}
+
+const LINE: &str = "left paris 0 18446744073709551615  00090a9fff";
+
 #[test]
-fn adds_each_piece_at_the_end(rt: HostRuntime) -> Result<(), Fail> {
+fn adds_each_piece_at_the_end(rt: HostRuntime) {
     let mut text = Vec::new(rt.alloc());
-    put_text(&mut text, b"left")?;
-    put_word(&mut text, b"paris")?;
-    put_number_word(&mut text, 0)?;
-    put_number_word(&mut text, u64::MAX)?;
-    put_hex_word(&mut text, &[])?;
-    put_hex_word(&mut text, &[0, 9, 10, 159, 255])?;
-    assert_eq!(rt;
-        text.as_slice(),
-        b"left paris 0 18446744073709551615  00090a9fff".as_slice()
-    );
-    Ok(())
+    put_words(&rt, &mut text);
+    put_numbers(&rt, &mut text);
+    put_octets(&rt, &mut text);
+    assert!(rt; text.as_slice() == LINE.as_bytes());
 }

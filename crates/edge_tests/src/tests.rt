@@ -1,11 +1,14 @@
 //! Edges take inputs over links in memory.
 
-mod around;
 mod bridges;
 mod dialogue;
 mod edge_ends;
-mod frames;
+mod octets;
 mod packets;
+mod plans;
+mod proposals;
 mod pseudowires;
 mod sessions;
+mod side;
+mod steps;
 mod withdraws;

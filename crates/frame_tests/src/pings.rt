@@ -1,10 +1,8 @@
 //! The packets of one ping in each control channel, and a packet for each fault. Their octets were worked out by hand.
+ghost use Rattle.vccv_channel.specs.Reading.{IsRequest};
 
-use crate::hex::octets_of;
 use net_base::{Addr, Label};
-use std::alloc::Global;
 use std::process::Abort;
-use std::test::Fail;
 use vccv_channel::{Cc, Echo, Ping, VccvFault, answer, pick, read_echo, request};
 
 const NEAR: Addr = Addr([10, 0, 0, 1]);
@@ -40,131 +38,232 @@ const ODD_REQUEST: [u8; 29] = [
     2, 0x08, 0x00, 0x96, 0x9b, 0x00, 0x64, 0xff, 0xff, 0x61,
 ];
 
-const ODD_ANSWER: [u8; 33] = [
-    0x00, 0x01, 0x11, 0x04, 0x45, 0xb8, 0x00, 0x1d, 0x12, 0x34, 0x40, 0x00, 0xff, 0x01, 0x54, 0xf1,
-    10, 0, 0, 2, 10, 0, 0, 1, 0x00, 0x00, 0x9e, 0x9b, 0x00, 0x64, 0xff, 0xff, 0x61,
+const ODD_STACK: [u8; 4] = [0x00, 0x01, 0x11, 0x04];
+
+const ODD_ANSWER: [u8; 29] = [
+    0x45, 0xb8, 0x00, 0x1d, 0x12, 0x34, 0x40, 0x00, 0xff, 0x01, 0x54, 0xf1, 10, 0, 0, 2, 10, 0, 0,
+    1, 0x00, 0x00, 0x9e, 0x9b, 0x00, 0x64, 0xff, 0xff, 0x61,
 ];
+
+// What an end told of its control channels, and of its control channels and its tests: the channel that is picked, where the
+// control word is used or not, behind so many switching points.
+type Pick = (Option<u8>, Option<(u8, u8)>, bool, usize, Option<Cc>);
+
+const PICKS: [Pick; 9] = [
+    (Some(7), Some((7, 1)), true, 0, Some(Cc::Header)),
+    (Some(6), Some((7, 1)), true, 0, None),
+    (Some(7), Some((7, 1)), false, 0, Some(Cc::Alert)),
+    (Some(7), Some((7, 1)), false, 1, Some(Cc::Expiry)),
+    (Some(7), Some((5, 1)), false, 0, Some(Cc::Expiry)),
+    (Some(7), Some((2, 1)), false, 1, None),
+    (Some(7), Some((7, 2)), true, 0, None),
+    (None, Some((7, 1)), true, 0, None),
+    (Some(7), None, true, 0, None),
+];
+
+// Each channel is picked.
+fn are_picked(rt: &impl Abort, rows: &[Pick]) {
+    for (place, row) in rows.iter().enumerate() {
+        let (local, remote, word, points, want) = *row;
+        assert!(rt; pick(local, remote, word, points) == want, "row {place}");
+    }
+}
 
 #[test]
 fn picks_what_both_offer(rt: HostRuntime) {
-    let ping = |types| Some((types, 0x01));
-    assert_eq!(rt; pick(Some(7), ping(7), true, 0), Some(Cc::Header));
-    assert_eq!(rt; pick(Some(6), ping(7), true, 0), None);
-    assert_eq!(rt; pick(Some(7), ping(7), false, 0), Some(Cc::Alert));
-    assert_eq!(rt; pick(Some(7), ping(7), false, 1), Some(Cc::Expiry));
-    assert_eq!(rt; pick(Some(7), ping(5), false, 0), Some(Cc::Expiry));
-    assert_eq!(rt; pick(Some(7), ping(2), false, 1), None);
-    assert_eq!(rt; pick(Some(7), Some((7, 0x02)), true, 0), None);
-    assert_eq!(rt; pick(None, ping(7), true, 0), None);
-    assert_eq!(rt; pick(Some(7), None, true, 0), None);
+    are_picked(&rt, PICKS.as_slice());
+}
+
+// Whether these octets stand at a place.
+fn stands(out: &[u8], place: usize, octets: &[u8]) -> bool {
+    match out.get(place..) {
+        Some(rest) => rest.starts_with(octets),
+        None => false,
+    }
+}
+
+// What was written is a label stack and a packet behind it, and no octet more.
+fn is_written(rt: &impl Abort, out: &[u8], length: usize, stack: &[u8], packet: &[u8]) {
+    assert!(rt; stands(out, 0, stack));
+    assert!(rt; stands(out, stack.len(), packet));
+    assert!(rt; stands(out, length, &[0xee]));
+}
+
+// The ping in a channel has this stack and so many octets.
+fn asks(rt: &impl Abort, channel: Cc, stack: &[u8], length: usize) {
+    let label = Label::new(16).expect(rt, "a label");
+    let mut out = [0xeeu8; 64];
+    assert_eq!(rt; request(channel, label, 0, PING, &mut out), length);
+    is_written(rt, &out, length, stack, &REQUEST);
 }
 
 #[test]
 fn a_ping_in_each_channel(rt: HostRuntime) {
-    let label = Label::new(16).unwrap();
-    let mut out = [0xeeu8; 64];
-    assert_eq!(rt; request(Cc::Header, label, 0, PING, &mut out), 36);
-    assert!(rt; out[..8] == HEADER_STACK[..] && out[8..36] == REQUEST[..] && out[36] == 0xee);
-    assert_eq!(rt; request(Cc::Alert, label, 0, PING, &mut out), 36);
-    assert!(rt; out[..8] == ALERT_STACK[..] && out[8..36] == REQUEST[..]);
-    assert_eq!(rt; request(Cc::Expiry, label, 0, PING, &mut out), 32);
-    assert!(rt; out[..4] == EXPIRY_STACK[..] && out[4..32] == REQUEST[..]);
+    asks(&rt, Cc::Header, &HEADER_STACK, 36);
+    asks(&rt, Cc::Alert, &ALERT_STACK, 36);
+    asks(&rt, Cc::Expiry, &EXPIRY_STACK, 32);
 }
 
-#[test]
-fn the_answer_in_each_channel(rt: HostRuntime) {
-    let label = Label::new(16).unwrap();
-    let mut out = [0xeeu8; 64];
+// A packet is the request with this sequence number.
+fn is_request(rt: &impl Abort, packet: &[u8], sequence: u16)
+    ensures { IsRequest packet.now }
+{
+    assert!(rt; packet.len() <= 1500);
     let asked = Echo::Request {
         from: NEAR,
         to: FAR,
-        sequence: 1,
-        length: 28,
+        sequence,
+        length: packet.len() as u16,
     };
-    assert_eq!(rt; read_echo(&REQUEST, false, 100), Ok(asked));
-    assert_eq!(rt; answer(Cc::Header, label, 0, &REQUEST, &mut out), 36);
-    assert!(rt; out[..8] == HEADER_STACK[..] && out[8..36] == ANSWER[..] && out[36] == 0xee);
-    assert_eq!(rt;
-        read_echo(&out[4..], true, 100),
-        Ok(Echo::Answer { sequence: 1 })
+    assert!(rt; read_echo(packet, false, 100) == Ok(asked));
+}
+
+// A request and its sequence number; its answer in a channel on a label, with service class bits, which has so many octets.
+#[derive(Clone, Copy)]
+struct Answered {
+    request: &'static [u8],
+    sequence: u16,
+    channel: Cc,
+    label: u32,
+    points: u8,
+    stack: &'static [u8],
+    packet: &'static [u8],
+    length: usize,
+}
+
+// A request has its answer.
+fn is_answered(rt: &impl Abort, answered: &Answered) {
+    let label = Label::new(answered.label).expect(rt, "a label");
+    let mut out = [0xeeu8; 64];
+    is_request(rt, answered.request, answered.sequence);
+    assert!(rt; answered.request.len() <= 52);
+    assert!(rt; answered.points <= 3);
+    let length = answer(
+        answered.channel,
+        label,
+        answered.points,
+        answered.request,
+        &mut out,
     );
-    assert_eq!(rt; answer(Cc::Alert, label, 0, &REQUEST, &mut out), 36);
-    assert!(rt; out[..8] == ALERT_STACK[..] && out[8..36] == ANSWER[..]);
-    assert_eq!(rt; answer(Cc::Expiry, label, 0, &REQUEST, &mut out), 32);
-    assert!(rt; out[..4] == EXPIRY_STACK[..] && out[4..32] == ANSWER[..]);
+    assert_eq!(rt; length, answered.length);
+    is_written(rt, &out, length, answered.stack, answered.packet);
+}
+
+const IN_EACH_CHANNEL: [Answered; 3] = [
+    Answered {
+        request: &REQUEST,
+        sequence: 1,
+        channel: Cc::Header,
+        label: 16,
+        points: 0,
+        stack: &HEADER_STACK,
+        packet: &ANSWER,
+        length: 36,
+    },
+    Answered {
+        request: &REQUEST,
+        sequence: 1,
+        channel: Cc::Alert,
+        label: 16,
+        points: 0,
+        stack: &ALERT_STACK,
+        packet: &ANSWER,
+        length: 36,
+    },
+    Answered {
+        request: &REQUEST,
+        sequence: 1,
+        channel: Cc::Expiry,
+        label: 16,
+        points: 0,
+        stack: &EXPIRY_STACK,
+        packet: &ANSWER,
+        length: 32,
+    },
+];
+
+const OF_ANOTHER_STACK: Answered = Answered {
+    request: &ODD_REQUEST,
+    sequence: 0xffff,
+    channel: Cc::Expiry,
+    label: 17,
+    points: 3,
+    stack: &ODD_STACK,
+    packet: &ODD_ANSWER,
+    length: 33,
+};
+
+#[test]
+fn the_answer_in_each_channel(rt: HostRuntime) {
+    for answered in IN_EACH_CHANNEL.as_slice() {
+        is_answered(&rt, answered);
+    }
 }
 
 #[test]
 fn answers_a_request_of_another_stack(rt: HostRuntime) {
-    let label = Label::new(17).unwrap();
-    let mut out = [0u8; 64];
-    let asked = Echo::Request {
-        from: NEAR,
-        to: FAR,
-        sequence: 0xffff,
-        length: 29,
-    };
-    assert_eq!(rt; read_echo(&ODD_REQUEST, false, 100), Ok(asked));
-    assert_eq!(rt; answer(Cc::Expiry, label, 3, &ODD_REQUEST, &mut out), 33);
-    assert!(rt; out[..33] == ODD_ANSWER[..]);
+    is_answered(&rt, &OF_ANOTHER_STACK);
 }
 
-// Places behind the label and the octets that stand there in place of its own, and behind `= ` the first fault.
-const FAULTS: &str = "
-    00 11 03 57 = Version
-    03 57 04 46 = Channel
-    04 46 0e a8 = Ip
-    0a 20 0e 87 = Ip
-    0b 01 0f dd = Ip
-    0d 11 0f ce = Ip
-    07 1b 0f df = Ip
-    07 1d 0f dd = Ip
-    0e a8 18 0d = Checksum
-    1a f8 18 08 = Checksum
-    0c fe 1a f7 = Checksum
-    18 0d 1a f2 = Icmp
-    19 01 1b 99 = Icmp
-";
-
-// The octets of a ping behind its label, with other octets at these places.
-fn changed(changes: &[u8]) -> [u8; 32] {
-    let mut payload = [0u8; 32];
-    payload[..4].copy_from_slice(&HEADER_STACK[4..]);
-    payload[4..].copy_from_slice(&REQUEST);
-    let mut place = None;
-    for octet in changes {
-        match place {
-            None => place = Some(*octet),
-            Some(at) => {
-                payload[(at % 32) as usize] = *octet;
-                place = None;
-            }
-        }
-    }
-    payload
-}
-
-// The ping with these changes has this fault.
-fn has_fault(rt: &impl Abort, alloc: Global, changes: &str, fault: &str) -> Result<(), Fail> {
-    let changes = octets_of(alloc, changes)?;
-    let payload = changed(changes.as_slice());
-    let told = read_echo(&payload, true, 100).err().ok_or("a fault")?;
-    let told = format!(in alloc; "{told:?}")?;
-    assert_eq!(rt; told.as_str(), fault);
-    Ok(())
+// The answer behind its label is read again.
+fn is_read(rt: &impl Abort, packet: &[u8], sequence: u16) {
+    let label = Label::new(16).expect(rt, "a label");
+    let mut out = [0xeeu8; 64];
+    is_request(rt, packet, sequence);
+    assert!(rt; packet.len() <= 52);
+    answer(Cc::Header, label, 0, packet, &mut out);
+    assert!(rt; read_echo(&out[4..], true, 100) == Ok(Echo::Answer { sequence }));
 }
 
 #[test]
-fn refuses_by_the_first_fault(rt: HostRuntime) -> Result<(), Fail> {
-    let mut rows: usize = 0;
-    for line in FAULTS.lines() {
-        if let Some((changes, fault)) = line.split_once("= ") {
-            has_fault(&rt, rt.alloc(), changes, fault)?;
-            rows = rows.saturating_add(1);
-        }
+fn reads_the_answer(rt: HostRuntime) {
+    is_read(&rt, &REQUEST, 1);
+}
+
+// Two places behind the label, each with the octet that stands there in place of its own, and the first fault.
+type Change = (usize, u8, usize, u8, VccvFault);
+
+const CHANGES: [Change; 13] = [
+    (0x00, 0x11, 0x03, 0x57, VccvFault::Version),
+    (0x03, 0x57, 0x04, 0x46, VccvFault::Channel),
+    (0x04, 0x46, 0x0e, 0xa8, VccvFault::Ip),
+    (0x0a, 0x20, 0x0e, 0x87, VccvFault::Ip),
+    (0x0b, 0x01, 0x0f, 0xdd, VccvFault::Ip),
+    (0x0d, 0x11, 0x0f, 0xce, VccvFault::Ip),
+    (0x07, 0x1b, 0x0f, 0xdf, VccvFault::Ip),
+    (0x07, 0x1d, 0x0f, 0xdd, VccvFault::Ip),
+    (0x0e, 0xa8, 0x18, 0x0d, VccvFault::Checksum),
+    (0x1a, 0xf8, 0x18, 0x08, VccvFault::Checksum),
+    (0x0c, 0xfe, 0x1a, 0xf7, VccvFault::Checksum),
+    (0x18, 0x0d, 0x1a, 0xf2, VccvFault::Icmp),
+    (0x19, 0x01, 0x1b, 0x99, VccvFault::Icmp),
+];
+
+// Puts an octet to a place.
+fn put(rt: &impl Abort, octets: &mut [u8], place: usize, octet: u8) {
+    assert!(rt; place < octets.len());
+    octets[place] = octet;
+}
+
+// The ping with these changes has this fault.
+fn has_fault(rt: &impl Abort, change: &Change) {
+    let (first, one, second, two, fault) = *change;
+    let mut payload = [0u8; 32];
+    payload[..4].copy_from_slice(&HEADER_STACK[4..]);
+    payload[4..].copy_from_slice(&REQUEST);
+    put(rt, &mut payload, first, one);
+    put(rt, &mut payload, second, two);
+    assert!(rt;
+        read_echo(&payload, true, 100) == Err(fault),
+        "{first} {second}"
+    );
+}
+
+#[test]
+fn refuses_by_the_first_fault(rt: HostRuntime) {
+    for change in CHANGES.as_slice() {
+        has_fault(&rt, change);
     }
-    assert_eq!(rt; rows, 13);
-    Ok(())
 }
 
 // A request of this total length, with a header checksum of these octets.

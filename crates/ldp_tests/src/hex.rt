@@ -1,31 +1,31 @@
-//! Octets from their hexadecimal digits.
+//! Octets as pairs of hexadecimal digits.
 
-use net_base::NoMemory;
 use std::alloc::Global;
+use std::process::Abort;
 
-// The value of a hexadecimal digit.
-fn nibble(digit: u8) -> u8 {
+// The value of a hexadecimal digit; none for a blank or the end of a line.
+fn nibble(digit: u8) -> Option<u8> {
     match digit {
-        b'0'..=b'9' => digit - b'0',
-        b'a'..=b'f' => digit - b'a' + 10,
-        _ => 0,
+        b'0'..=b'9' => Some(digit - b'0'),
+        b'a'..=b'f' => Some(digit - b'a' + 10),
+        _ => None,
     }
 }
 
-/// The octets of pairs of hexadecimal digits; blanks are passed over.
-pub fn octets_of(alloc: Global, text: &str) -> Result<Vec<u8>, NoMemory> {
+/// The octets of pairs of hexadecimal digits; what is no digit is passed over.
+pub fn octets_of(rt: &impl Abort, alloc: Global, text: &str) -> Vec<u8> {
     let mut octets = Vec::new(alloc);
     let mut high = None;
     for digit in text.as_bytes() {
-        if *digit != b' ' {
+        if let Some(value) = nibble(*digit) {
             match high {
-                None => high = Some(nibble(*digit)),
+                None => high = Some(value),
                 Some(front) => {
-                    octets.push((front << 4) | nibble(*digit))?;
+                    octets.push((front << 4) | value).expect(rt, "memory");
                     high = None;
                 }
             }
         }
     }
-    Ok(octets)
+    octets
 }

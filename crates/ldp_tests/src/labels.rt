@@ -1,42 +1,66 @@
 //! One label space through its calls.
+ghost use Rattle.std.specs.Prelude.{◌≡◌, ◌<◌, length};
+ghost use Rattle.label_space.specs.Labels.{issued};
 
 use label_space::{LabelSpace, NoLabel};
 use net_base::{Label, SegKey, WireId};
 use std::process::Abort;
 
-// The segment of a wire between its first two edges.
-fn first_segment(wire: u16) -> SegKey {
-    SegKey {
-        wire: WireId(wire),
-        segment: 0,
-    }
-}
+// The segments of two wires between their first two edges.
+const ONE: SegKey = SegKey {
+    wire: WireId(1),
+    segment: 0,
+};
+
+const TWO: SegKey = SegKey {
+    wire: WireId(2),
+    segment: 0,
+};
 
 // The label with this number.
 fn label(rt: &impl Abort, number: u32) -> Label {
     Label::new(number).expect(rt, "a label")
 }
 
+// The end of this segment and side gets the label with this number.
+fn issues(rt: &impl Abort, space: &mut LabelSpace, key: SegKey, side: u8, number: u32)
+    requires { length space.old.owners < space.old.room }
+    ensures { space.new ≡ issued key side space.old }
+{
+    assert!(rt; space.issue(key, side) == Ok(label(rt, number)));
+}
+
+// The label with this number is owned so.
+fn is_owned(rt: &impl Abort, space: &LabelSpace, number: u32, owner: Option<(SegKey, u8)>) {
+    assert!(rt; space.owner(label(rt, number)) == owner);
+}
+
 #[test]
 fn gives_each_number_once(rt: HostRuntime) {
     let mut space = LabelSpace::open(rt.alloc(), 16, 4).expect(&rt, "memory");
-    let (one, two) = (first_segment(1), first_segment(2));
-    assert!(rt; space.issue(one, 0) == Ok(label(&rt, 16)));
-    assert!(rt; space.issue(two, 1) == Ok(label(&rt, 17)));
-    assert!(rt; space.owner(label(&rt, 17)) == Some((two, 1)));
+    issues(&rt, &mut space, ONE, 0, 16);
+    issues(&rt, &mut space, TWO, 1, 17);
+    is_owned(&rt, &space, 17, Some((TWO, 1)));
     space.free(label(&rt, 16));
-    assert!(rt; space.owner(label(&rt, 16)).is_none());
-    assert!(rt; space.issue(one, 0) == Ok(label(&rt, 18)));
+    is_owned(&rt, &space, 16, None);
+    issues(&rt, &mut space, ONE, 0, 18);
     space.restarted();
-    assert!(rt; space.owner(label(&rt, 18)).is_none());
-    assert!(rt; space.issue(one, 0) == Ok(label(&rt, 19)));
+    is_owned(&rt, &space, 18, None);
+    issues(&rt, &mut space, ONE, 0, 19);
     assert_eq!(rt; space.next_number(), 20);
+}
+
+// There is no label for this end.
+fn has_none(rt: &impl Abort, space: &mut LabelSpace, key: SegKey)
+    requires { length space.old.owners < space.old.room }
+{
+    assert!(rt; space.issue(key, 0) == Err(NoLabel));
 }
 
 #[test]
 fn has_no_label_after_the_largest(rt: HostRuntime) {
     let mut space = LabelSpace::open(rt.alloc(), 1_048_575, 2).expect(&rt, "memory");
-    assert!(rt; space.issue(first_segment(1), 0) == Ok(label(&rt, 1_048_575)));
-    assert!(rt; space.issue(first_segment(2), 0) == Err(NoLabel));
+    issues(&rt, &mut space, ONE, 0, 1_048_575);
+    has_none(&rt, &mut space, TWO);
     assert_eq!(rt; space.next_number(), 1_048_576);
 }

@@ -19,4 +19,6 @@ mod statuses;
 #[cfg(test)]
 mod streams;
 #[cfg(test)]
+mod tables;
+#[cfg(test)]
 mod values;

@@ -2,7 +2,6 @@
 
 mod faults;
 mod messages;
-mod pseudowires;
 mod reading;
-mod rows;
+pub mod rows;
 mod writing;

@@ -5,18 +5,61 @@ use pw_signalling::{Binding, EndRole, PwEnd, PwIdle, Told};
 use pw_tlvs::{Points, PwStatus};
 use std::process::Abort;
 
-// The label with this number.
-fn label(rt: &impl Abort, number: u32) -> Label {
-    Label::new(number).expect(rt, "a label")
+// What comes from the peer. The label 0 stands for none.
+#[derive(Clone, Copy)]
+enum Came {
+    // A mapping to label 17, with the C bit or not, of this PW type and with this MTU.
+    Mapping(bool, u16, Option<u16>),
+    // A status, and one of a group.
+    Status(u32),
+    GroupStatus(u32, u32),
+    // A withdrawal of a label, and one of a group.
+    Withdraw(u32),
+    GroupWithdraw(u32),
+    // A release of a label.
+    Release(u32),
+    // The session is lost.
+    Lost,
 }
 
-// What both ends tell: raw Ethernet with a control word, of group 7, and status 0.
-fn told(rt: &impl Abort) -> Told {
+// A call of the end's own state.
+#[derive(Clone, Copy)]
+enum Own {
+    // It advertises label 16.
+    Advertise,
+    Tell(u32),
+    Withdraw,
+    Renew,
+}
+
+// What an end has to be.
+#[derive(Clone, Copy)]
+enum Is {
+    // It forwards, or is down for this cause, as an end of this role with these failure bits.
+    Down(EndRole, u8, Option<Down>),
+    // It is bound, or not.
+    Bound(bool),
+    // It advertises a label with this status, has withdrawn a label, or is idle and declined or not.
+    Advertised(u32, u32),
+    Withdrawing(u32),
+    Idle(bool),
+}
+
+// A step of a test.
+#[derive(Clone, Copy)]
+enum Step {
+    Came(Came),
+    Own(Own),
+    Is(Is),
+}
+
+// What an end tells: Ethernet of group 7, and status 0.
+fn told(rt: &impl Abort, c: bool, kind: u16, mtu: Option<u16>) -> Told {
     Told {
-        c: true,
-        kind: 5,
+        c,
+        kind,
         group: 7,
-        mtu: Some(1500),
+        mtu,
         vlan: None,
         vccv: None,
         description: Text::read(b"").expect(rt, "a text"),
@@ -25,102 +68,192 @@ fn told(rt: &impl Abort) -> Told {
     }
 }
 
-// An end that advertises label 16 and is bound to label 17, and its peer tells this.
-fn up(rt: &impl Abort, far: &Told) -> PwEnd {
-    let end = PwEnd::Advertised(PwIdle::new().advertise(label(rt, 16), told(rt)));
-    end.on_mapping(Binding {
+// The label with this number.
+fn label(rt: &impl Abort, number: u32) -> Label {
+    Label::new(number).expect(rt, "a label")
+}
+
+// What the peer told is bound to label 17.
+fn binding(rt: &impl Abort, told: Told) -> Binding {
+    Binding {
         label: label(rt, 17),
-        told: *far,
-    })
+        told,
+    }
 }
 
-// An end that is up, whose peer tells this, is down for this cause.
-fn is_down(rt: &impl Abort, far: &Told, role: EndRole, bits: u8, down: Option<Down>) {
-    assert!(rt; up(rt, far).why_down(role, bits) == down);
+// Takes what came.
+fn comes(rt: &impl Abort, end: PwEnd, came: Came) -> PwEnd {
+    match came {
+        Came::Mapping(c, kind, mtu) => end.on_mapping(binding(rt, told(rt, c, kind, mtu))),
+        Came::Status(bits) => end.on_status(PwStatus(bits)),
+        Came::GroupStatus(group, bits) => end.on_group_status(group, PwStatus(bits)),
+        Came::Withdraw(number) => end.on_withdraw(Label::new(number)),
+        Came::GroupWithdraw(group) => end.on_group_withdraw(group),
+        Came::Release(number) => end.on_release(Label::new(number)),
+        Came::Lost => end.lost(),
+    }
 }
+
+// Makes a call of the end's own state, where it is in that state.
+fn calls(rt: &impl Abort, end: PwEnd, own: Own) -> PwEnd {
+    match (end, own) {
+        (PwEnd::Idle(end), Own::Advertise) => {
+            let told = told(rt, true, 5, Some(1500));
+            PwEnd::Advertised(end.advertise(label(rt, 16), told))
+        }
+        (PwEnd::Idle(end), Own::Renew) => PwEnd::Idle(end.renew()),
+        (PwEnd::Advertised(end), Own::Tell(bits)) => PwEnd::Advertised(end.tell(PwStatus(bits))),
+        (PwEnd::Advertised(end), Own::Withdraw) => PwEnd::Withdrawing(end.withdraw()),
+        (end, _) => end,
+    }
+}
+
+// Whether the end advertises a label with this status.
+fn advertises(end: &PwEnd, number: u32, bits: u32) -> bool {
+    match end {
+        PwEnd::Advertised(end) => {
+            end.label().number() == number && end.told().status == Some(PwStatus(bits))
+        }
+        _ => false,
+    }
+}
+
+// Whether the end has withdrawn a label.
+fn is_withdrawing(end: &PwEnd, number: u32) -> bool {
+    match end {
+        PwEnd::Withdrawing(end) => end.label().number() == number,
+        _ => false,
+    }
+}
+
+// Whether the end is idle, and declined or not.
+fn is_idle(end: &PwEnd, declined: bool) -> bool {
+    match end {
+        PwEnd::Idle(end) => end.is_declined() == declined,
+        _ => false,
+    }
+}
+
+// Whether the end is so.
+fn agrees(end: &PwEnd, is: Is) -> bool {
+    match is {
+        Is::Down(role, bits, down) => end.why_down(role, bits) == down,
+        Is::Bound(bound) => end.remote().is_some() == bound,
+        Is::Advertised(number, bits) => advertises(end, number, bits),
+        Is::Withdrawing(number) => is_withdrawing(end, number),
+        Is::Idle(declined) => is_idle(end, declined),
+    }
+}
+
+// The end is so.
+fn finds(rt: &impl Abort, end: PwEnd, is: Is) -> PwEnd {
+    assert!(rt; agrees(&end, is));
+    end
+}
+
+// Takes a step.
+fn take(rt: &impl Abort, end: PwEnd, step: Step) -> PwEnd {
+    match step {
+        Step::Came(came) => comes(rt, end, came),
+        Step::Own(own) => calls(rt, end, own),
+        Step::Is(is) => finds(rt, end, is),
+    }
+}
+
+// A new end takes steps.
+fn plays(rt: &impl Abort, steps: &[Step]) {
+    let mut end = PwEnd::Idle(PwIdle::new());
+    for step in steps {
+        end = take(rt, end, *step);
+    }
+}
+
+// Both ends tell raw Ethernet with a control word, and the MTU 1500.
+const UP: Step = Step::Came(Came::Mapping(true, 5, Some(1500)));
+
+const FIRST_CAUSE: [Step; 7] = [
+    Step::Is(Is::Down(EndRole::Mesh, 1, Some(Down::NoLocal))),
+    Step::Own(Own::Advertise),
+    Step::Is(Is::Down(EndRole::Mesh, 1, Some(Down::NoRemote))),
+    UP,
+    Step::Is(Is::Down(EndRole::NotChosen, 1, Some(Down::LocalFault))),
+    Step::Is(Is::Down(EndRole::NotChosen, 0, Some(Down::Standby))),
+    Step::Is(Is::Down(EndRole::Mesh, 0, None)),
+];
+
+const BOTH_AGREE: [Step; 9] = [
+    Step::Own(Own::Advertise),
+    Step::Came(Came::Mapping(true, 5, None)),
+    Step::Is(Is::Down(EndRole::Mesh, 0, None)),
+    Step::Came(Came::Mapping(true, 5, Some(1400))),
+    Step::Is(Is::Down(EndRole::Mesh, 1, Some(Down::Mtu))),
+    Step::Came(Came::Mapping(true, 4, Some(1400))),
+    Step::Is(Is::Down(EndRole::Mesh, 1, Some(Down::Kind))),
+    Step::Came(Came::Mapping(false, 4, Some(1400))),
+    Step::Is(Is::Down(EndRole::Mesh, 1, Some(Down::CBit))),
+];
+
+const STATUSES: [Step; 12] = [
+    Step::Own(Own::Advertise),
+    UP,
+    Step::Came(Came::Status(0x30)),
+    Step::Is(Is::Down(EndRole::Core, 0, Some(Down::RemoteFault))),
+    Step::Came(Came::GroupStatus(7, 0x20)),
+    Step::Is(Is::Down(EndRole::Core, 0, Some(Down::Standby))),
+    Step::Is(Is::Down(EndRole::Chosen, 0, None)),
+    Step::Came(Came::GroupStatus(8, 1)),
+    Step::Came(Came::GroupWithdraw(8)),
+    Step::Is(Is::Down(EndRole::Mesh, 0, None)),
+    Step::Came(Came::GroupWithdraw(7)),
+    Step::Is(Is::Bound(false)),
+];
+
+const WITHDRAWS: [Step; 14] = [
+    Step::Own(Own::Advertise),
+    UP,
+    Step::Is(Is::Advertised(16, 0)),
+    Step::Own(Own::Tell(2)),
+    Step::Is(Is::Advertised(16, 2)),
+    Step::Is(Is::Bound(true)),
+    Step::Own(Own::Withdraw),
+    Step::Is(Is::Withdrawing(16)),
+    Step::Is(Is::Bound(true)),
+    Step::Came(Came::Release(17)),
+    Step::Is(Is::Withdrawing(16)),
+    Step::Came(Came::Release(16)),
+    Step::Is(Is::Idle(false)),
+    Step::Is(Is::Bound(true)),
+];
+
+const DECLINED: [Step; 10] = [
+    Step::Own(Own::Advertise),
+    UP,
+    Step::Came(Came::Withdraw(16)),
+    Step::Is(Is::Bound(true)),
+    Step::Came(Came::Withdraw(17)),
+    Step::Is(Is::Bound(false)),
+    Step::Came(Came::Release(0)),
+    Step::Is(Is::Idle(true)),
+    Step::Own(Own::Renew),
+    Step::Is(Is::Idle(false)),
+];
+
+const LOST: [Step; 7] = [
+    Step::Own(Own::Advertise),
+    UP,
+    Step::Came(Came::Release(0)),
+    Step::Is(Is::Idle(true)),
+    Step::Came(Came::Lost),
+    Step::Is(Is::Idle(false)),
+    Step::Is(Is::Bound(false)),
+];
 
 #[test]
-fn tells_the_first_cause(rt: HostRuntime) {
-    let idle = PwEnd::Idle(PwIdle::new());
-    assert!(rt; idle.why_down(EndRole::Mesh, 1) == Some(Down::NoLocal));
-    let alone = PwEnd::Advertised(PwIdle::new().advertise(label(&rt, 16), told(&rt)));
-    assert!(rt; alone.why_down(EndRole::Mesh, 1) == Some(Down::NoRemote));
-    is_down(
-        &rt,
-        &told(&rt),
-        EndRole::NotChosen,
-        1,
-        Some(Down::LocalFault),
-    );
-    is_down(&rt, &told(&rt), EndRole::NotChosen, 0, Some(Down::Standby));
-    is_down(&rt, &told(&rt), EndRole::Mesh, 0, None);
-}
-
-#[test]
-fn forwards_where_both_agree(rt: HostRuntime) {
-    let mut far = told(&rt);
-    far.mtu = None;
-    is_down(&rt, &far, EndRole::Mesh, 0, None);
-    far.mtu = Some(1400);
-    is_down(&rt, &far, EndRole::Mesh, 1, Some(Down::Mtu));
-    far.kind = 4;
-    is_down(&rt, &far, EndRole::Mesh, 1, Some(Down::Kind));
-    far.c = false;
-    is_down(&rt, &far, EndRole::Mesh, 1, Some(Down::CBit));
-}
-
-#[test]
-fn heeds_the_status_of_its_peer(rt: HostRuntime) {
-    let failed = up(&rt, &told(&rt)).on_status(PwStatus(0x30));
-    assert!(rt; failed.why_down(EndRole::Core, 0) == Some(Down::RemoteFault));
-    let waiting = failed.on_group_status(7, PwStatus(0x20));
-    assert!(rt; waiting.why_down(EndRole::Core, 0) == Some(Down::Standby));
-    assert!(rt; waiting.why_down(EndRole::Chosen, 0).is_none());
-    let same = waiting.on_group_status(8, PwStatus(1)).on_group_withdraw(8);
-    assert!(rt; same.why_down(EndRole::Mesh, 0).is_none());
-    assert!(rt; same.on_group_withdraw(7).remote().is_none());
-}
-
-#[test]
-fn withdraws_its_label(rt: HostRuntime) {
-    let PwEnd::Advertised(end) = up(&rt, &told(&rt)) else {
-        return assert!(rt; false);
-    };
-    let end = end.tell(PwStatus(2));
-    assert!(rt; end.told().status == Some(PwStatus(2)));
-    assert!(rt; end.label() == label(&rt, 16));
-    assert!(rt; end.remote().is_some());
-    let end = end.withdraw();
-    assert!(rt; end.label() == label(&rt, 16));
-    assert!(rt; end.remote().is_some());
-    let end = PwEnd::Withdrawing(end).on_release(Some(label(&rt, 17)));
-    assert!(rt; matches!(end, PwEnd::Withdrawing(_)));
-    let PwEnd::Idle(end) = end.on_release(Some(label(&rt, 16))) else {
-        return assert!(rt; false);
-    };
-    assert!(rt; !end.is_declined());
-    assert!(rt; end.remote().is_some());
-}
-
-#[test]
-fn is_declined(rt: HostRuntime) {
-    let end = up(&rt, &told(&rt)).on_withdraw(Some(label(&rt, 16)));
-    assert!(rt; end.remote().is_some());
-    let end = end.on_withdraw(Some(label(&rt, 17)));
-    assert!(rt; end.remote().is_none());
-    let PwEnd::Idle(end) = end.on_release(None) else {
-        return assert!(rt; false);
-    };
-    assert!(rt; end.is_declined());
-    assert!(rt; !end.renew().is_declined());
-}
-
-#[test]
-fn forgets_a_lost_session(rt: HostRuntime) {
-    let declined = up(&rt, &told(&rt)).on_release(None);
-    let PwEnd::Idle(end) = declined.lost() else {
-        return assert!(rt; false);
-    };
-    assert!(rt; !end.is_declined());
-    assert!(rt; end.remote().is_none());
+fn goes_through_its_calls(rt: HostRuntime) {
+    plays(&rt, FIRST_CAUSE.as_slice());
+    plays(&rt, BOTH_AGREE.as_slice());
+    plays(&rt, STATUSES.as_slice());
+    plays(&rt, WITHDRAWS.as_slice());
+    plays(&rt, DECLINED.as_slice());
+    plays(&rt, LOST.as_slice());
 }

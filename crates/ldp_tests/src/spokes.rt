@@ -1,8 +1,10 @@
 //! Choices among spokes that were worked out by hand, and the statuses that follow from them.
+ghost use Rattle.std.specs.Prelude.{◌≤◌};
 
 use pw_signalling::EndRole;
 use pw_tlvs::PwStatus;
 use spoke_redundancy::{Spoke, choose, status_to_tell};
+use std::process::Abort;
 
 // A spoke that would forward.
 fn usable(priority: u8) -> Spoke {
@@ -20,26 +22,42 @@ fn unusable(priority: u8) -> Spoke {
     }
 }
 
+// Of these spokes, the one at this place is chosen.
+fn chooses(rt: &impl Abort, spokes: &[Spoke], place: Option<usize>) {
+    assert!(rt; choose(spokes) == place);
+}
+
 #[test]
 fn chooses_the_first_with_the_least_priority(rt: HostRuntime) {
-    assert!(rt; choose(&[]).is_none());
-    assert!(rt; choose(&[usable(255)]) == Some(0));
-    assert!(rt; choose(&[usable(2), usable(1), usable(1)]) == Some(1));
-    assert!(rt; choose(&[usable(0), usable(1), usable(0)]) == Some(0));
+    chooses(&rt, &[], None);
+    chooses(&rt, &[usable(255)], Some(0));
+    chooses(&rt, &[usable(2), usable(1), usable(1)], Some(1));
+    chooses(&rt, &[usable(0), usable(1), usable(0)], Some(0));
 }
 
 #[test]
 fn chooses_among_usable_spokes(rt: HostRuntime) {
-    assert!(rt; choose(&[unusable(0)]).is_none());
-    assert!(rt; choose(&[unusable(0), usable(7), unusable(1), usable(5)]) == Some(3));
-    assert!(rt; choose(&[unusable(3), usable(3)]) == Some(1));
+    chooses(&rt, &[unusable(0)], None);
+    chooses(
+        &rt,
+        &[unusable(0), usable(7), unusable(1), usable(5)],
+        Some(3),
+    );
+    chooses(&rt, &[unusable(3), usable(3)], Some(1));
+}
+
+// An end of this role with these failure bits tells this status.
+fn tells(rt: &impl Abort, role: EndRole, bits: u8, status: u32)
+    requires { bits ≤ 31 }
+{
+    assert!(rt; status_to_tell(role, bits) == PwStatus(status));
 }
 
 #[test]
 fn stands_by_where_it_is_not_chosen(rt: HostRuntime) {
-    assert!(rt; status_to_tell(EndRole::NotChosen, 0) == PwStatus(0x20));
-    assert!(rt; status_to_tell(EndRole::NotChosen, 6) == PwStatus(0x26));
-    assert!(rt; status_to_tell(EndRole::Chosen, 6) == PwStatus(0x06));
-    assert!(rt; status_to_tell(EndRole::Core, 0) == PwStatus(0));
-    assert!(rt; status_to_tell(EndRole::Mesh, 31) == PwStatus(0x1f));
+    tells(&rt, EndRole::NotChosen, 0, 0x20);
+    tells(&rt, EndRole::NotChosen, 6, 0x26);
+    tells(&rt, EndRole::Chosen, 6, 0x06);
+    tells(&rt, EndRole::Core, 0, 0);
+    tells(&rt, EndRole::Mesh, 31, 0x1f);
 }

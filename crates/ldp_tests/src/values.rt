@@ -1,6 +1,6 @@
 //! Values with octets that were worked out by hand.
 
-mod faults;
+pub mod faults;
 mod fecs;
 mod lists;
 mod points;

@@ -2,6 +2,4 @@
 #![tactic(auto)]
 
 #[cfg(test)]
-mod hierarchy;
-#[cfg(test)]
 mod tests;

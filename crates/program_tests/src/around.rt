@@ -1,4 +1,4 @@
-//! What lies around the calls of the tests: a shelf, a sink and words, and how a call ended.
+//! What lies around the calls of the tests: a shelf, a sink and words, and how a call has to end.
 
 use net_base::{List, MemShelf, MemSink, NoMemory, Sink};
 use std::alloc::Global;
@@ -7,32 +7,79 @@ use vplsnet::finish_line::finish_line;
 use vplsnet::run::run;
 use vplsnet::{Finish, Outcome};
 
-/// Which calls of the shelf and the sink fail, by their numbers (none for 0), and how much the sink takes.
+/// A call over a shelf and a sink, and how it has to end.
 #[derive(Clone, Copy)]
-pub struct Around {
+pub struct Case {
+    /// The words of the call, parted by blanks.
+    pub words: &'static str,
+    /// What the shelf holds under `f`: these texts one behind the other, the piece so many times.
+    pub opening: &'static str,
+    pub front: &'static str,
+    pub piece: &'static str,
+    pub times: u32,
+    pub back: &'static str,
+    pub closing: &'static str,
+    pub tables: &'static str,
+    pub wires: &'static str,
+    pub more: &'static str,
+    /// Whether the texts are pairs of hexadecimal digits, with blanks between them.
+    pub is_hexadecimal: bool,
+    /// Which calls of the shelf and the sink fail, by their numbers (none for 0), and how much the sink takes.
     pub shelf_fails: u64,
     pub sink_fails: u64,
     pub room: usize,
+    /// The status, how many entries the run has where that is told, what the sink takes, and the line on standard error,
+    /// empty where the call is done.
+    pub status: u8,
+    pub entries: Option<usize>,
+    pub taken: Taken,
+    pub told: &'static str,
 }
 
-/// Nothing fails, and the sink has room.
-pub const SOUND: Around = Around {
+/// What a sink has to take.
+#[derive(Clone, Copy)]
+pub enum Taken {
+    /// This text.
+    Whole(&'static str),
+    /// So many octets of this text, from its front.
+    Front(&'static str, usize),
+    /// What ends with these two texts.
+    Ends(&'static str, &'static str),
+    /// So many octets, and what ends with this text.
+    Long(usize, &'static str),
+}
+
+/// A replay of no events, in a sound surrounding, that is done.
+pub const REPLAY: Case = Case {
+    words: "replay f",
+    opening: "version = 1\nevents = [",
+    front: "",
+    piece: "",
+    times: 0,
+    back: "",
+    closing: "]\n",
+    tables: "",
+    wires: "",
+    more: "",
+    is_hexadecimal: false,
     shelf_fails: 0,
     sink_fails: 0,
     room: 20_000,
+    status: 0,
+    entries: None,
+    taken: Taken::Whole(""),
+    told: "",
 };
 
-/// How a call ended: its outcome and status, how many entries its run has, what the sink took and how many faults it
-/// counts, and the line on standard error, empty where there is none.
-#[derive(Drop)]
-pub struct Ended {
-    pub outcome: Outcome,
-    pub status: u8,
-    pub entries: usize,
-    pub taken: Vec<u8>,
-    pub faults: u64,
-    pub told: Vec<u8>,
-}
+/// A decoding of no octets, in a sound surrounding, that is done.
+pub const DECODE: Case = Case {
+    words: "decode f",
+    opening: "",
+    closing: "",
+    is_hexadecimal: true,
+    entries: Some(0),
+    ..REPLAY
+};
 
 // The numbers of the calls that fail.
 fn failing(rt: &impl Abort, alloc: Global, number: u64) -> List<u64> {
@@ -65,39 +112,6 @@ fn words_of(rt: &impl Abort, alloc: Global, words: &str) -> Vec<String> {
     given
 }
 
-// The line on standard error; empty where there is none.
-fn line_of(alloc: Global, outcome: &Outcome) -> Result<Vec<u8>, NoMemory> {
-    if matches!(outcome, Outcome::Done) {
-        Ok(Vec::new(alloc))
-    } else {
-        finish_line(alloc, outcome)
-    }
-}
-
-// What there is to tell of a call.
-fn end_of(rt: &impl Abort, alloc: Global, finish: Finish, sink: &MemSink) -> Ended {
-    let told = line_of(alloc, &finish.outcome).expect(rt, "memory");
-    let taken = Vec::from_slice(alloc, sink.taken()).expect(rt, "memory");
-    let entries = finish.trace().len();
-    Ended {
-        outcome: finish.outcome,
-        status: finish.status,
-        entries,
-        taken,
-        faults: sink.faults(),
-        told,
-    }
-}
-
-/// Runs words, parted by blanks, over a shelf that holds these octets under `f`.
-pub fn call(rt: &impl Abort, alloc: Global, words: &str, octets: &[u8], around: Around) -> Ended {
-    let given = words_of(rt, alloc, words);
-    let mut shelf = shelf_of(rt, alloc, octets, around.shelf_fails);
-    let mut sink = sink_of(rt, alloc, around.room, around.sink_fails);
-    let finish = run(alloc, given.as_slice(), &mut shelf, &mut sink);
-    end_of(rt, alloc, finish, &sink)
-}
-
 // The value of a hexadecimal digit.
 fn nibble(digit: u8) -> u8 {
     match digit {
@@ -107,9 +121,8 @@ fn nibble(digit: u8) -> u8 {
     }
 }
 
-/// The octets of pairs of hexadecimal digits; blanks are passed over.
-pub fn octets_of(rt: &impl Abort, alloc: Global, text: &str) -> Vec<u8> {
-    let mut octets = Vec::new(alloc);
+// Puts the octets of pairs of hexadecimal digits; blanks are passed over.
+fn put_octets(rt: &impl Abort, octets: &mut Vec<u8>, text: &str) {
     let mut high = None;
     for digit in text.as_bytes() {
         if *digit != b' ' {
@@ -124,5 +137,125 @@ pub fn octets_of(rt: &impl Abort, alloc: Global, text: &str) -> Vec<u8> {
             }
         }
     }
+}
+
+// Puts a text into the octets of a file.
+fn put(rt: &impl Abort, octets: &mut Vec<u8>, case: &Case, text: &str) {
+    if case.is_hexadecimal {
+        put_octets(rt, octets, text);
+    } else {
+        octets
+            .extend_from_slice(text.as_bytes())
+            .expect(rt, "memory");
+    }
+}
+
+// Puts the piece of a file, as often as it stands there.
+fn put_pieces(rt: &impl Abort, octets: &mut Vec<u8>, case: &Case) {
+    for _time in 0..case.times {
+        put(rt, octets, case, case.piece);
+    }
+}
+
+// The octets of the file.
+fn file_of(rt: &impl Abort, alloc: Global, case: &Case) -> Vec<u8> {
+    let mut octets = Vec::new(alloc);
+    put(rt, &mut octets, case, case.opening);
+    put(rt, &mut octets, case, case.front);
+    put_pieces(rt, &mut octets, case);
+    put(rt, &mut octets, case, case.back);
+    put(rt, &mut octets, case, case.closing);
+    put(rt, &mut octets, case, case.tables);
+    put(rt, &mut octets, case, case.wires);
+    put(rt, &mut octets, case, case.more);
     octets
+}
+
+// The shelf that holds the file.
+fn case_shelf(rt: &impl Abort, alloc: Global, case: &Case) -> MemShelf {
+    let octets = file_of(rt, alloc, case);
+    shelf_of(rt, alloc, octets.as_slice(), case.shelf_fails)
+}
+
+// Runs the words over the shelf and this sink.
+fn finish_of(rt: &impl Abort, alloc: Global, case: &Case, sink: &mut MemSink) -> Finish {
+    let mut shelf = case_shelf(rt, alloc, case);
+    let words = words_of(rt, alloc, case.words);
+    run(alloc, words.as_slice(), &mut shelf, sink)
+}
+
+// Whether octets end with two texts.
+fn ends_with(octets: &[u8], front: &str, back: &str) -> bool {
+    let count = octets.len().saturating_sub(back.len());
+    octets.ends_with(back.as_bytes()) && octets[..count].ends_with(front.as_bytes())
+}
+
+// Whether the sink took what it has to take.
+fn is_taken(octets: &[u8], taken: Taken) -> bool {
+    match taken {
+        Taken::Whole(text) => octets == text.as_bytes(),
+        Taken::Front(text, count) => octets.len() == count && text.as_bytes().starts_with(octets),
+        Taken::Ends(front, back) => ends_with(octets, front, back),
+        Taken::Long(count, back) => octets.len() == count && octets.ends_with(back.as_bytes()),
+    }
+}
+
+// The line on standard error; empty where there is none.
+fn line_of(alloc: Global, outcome: &Outcome) -> Result<Vec<u8>, NoMemory> {
+    if matches!(outcome, Outcome::Done) {
+        Ok(Vec::new(alloc))
+    } else {
+        finish_line(alloc, outcome)
+    }
+}
+
+// Whether this line tells an outcome.
+fn is_told(rt: &impl Abort, alloc: Global, outcome: &Outcome, told: &str) -> bool {
+    let line = line_of(alloc, outcome).expect(rt, "memory");
+    line.as_slice() == told.as_bytes()
+}
+
+// Whether an outcome is that of a call without a line, or of what is not built, exactly where this line says so.
+fn is_kind(outcome: &Outcome, told: &str) -> bool {
+    matches!(outcome, Outcome::Done) == told.is_empty()
+        && matches!(outcome, Outcome::NotBuilt) == (told == "vplsnet: not built")
+}
+
+// Whether the run has so many entries, where that is told.
+fn has_entries(finish: &Finish, entries: Option<usize>) -> bool {
+    match entries {
+        Some(count) => finish.trace().len() == count,
+        None => true,
+    }
+}
+
+// The call ended as it has to.
+fn compare(rt: &impl Abort, alloc: Global, case: &Case, finish: &Finish, sink: &MemSink) {
+    let front = case.front;
+    assert!(rt; finish.status == case.status, "{front}");
+    assert!(rt; has_entries(finish, case.entries), "{front}");
+    assert!(rt; is_taken(sink.taken(), case.taken), "{front}");
+    assert!(rt; is_told(rt, alloc, &finish.outcome, case.told), "{front}");
+    assert!(rt; is_kind(&finish.outcome, case.told), "{front}");
+    // The sink counts a fault exactly where the writing failed.
+    assert!(rt; sink.faults() == u64::from(case.status == 4), "{front}");
+}
+
+// The call ends as it has to, with this sink.
+fn plays_into(rt: &impl Abort, alloc: Global, case: &Case, sink: &mut MemSink) {
+    let finish = finish_of(rt, alloc, case, sink);
+    compare(rt, alloc, case, &finish, sink);
+}
+
+/// The call ends as it has to.
+pub fn plays(rt: &impl Abort, alloc: Global, case: &Case) {
+    let mut sink = sink_of(rt, alloc, case.room, case.sink_fails);
+    plays_into(rt, alloc, case, &mut sink);
+}
+
+/// Each of these calls ends as it has to.
+pub fn all_play(rt: &impl Abort, alloc: Global, cases: &[Case]) {
+    for case in cases {
+        plays(rt, alloc, case);
+    }
 }

@@ -1,9 +1,6 @@
 //! Whole replays of bridges that learn, age, and handle tags.
 
-use crate::around::{Ended, SOUND, call};
-use std::alloc::Global;
-use std::process::Abort;
-use vplsnet::Outcome;
+use crate::around::{Case, REPLAY, Taken, all_play, plays};
 
 // One edge and one service, whose addresses age after two ticks.
 const EDGE: &str = "
@@ -42,33 +39,26 @@ edge = \"e\"
 service = \"s\"
 ";
 
-// Replays these events to the end.
-fn replay(rt: &impl Abort, alloc: Global, circuits: &str, events: &str) -> Ended {
-    let text = format!(in alloc; "version = 1\nevents = [{events}]\n{EDGE}{circuits}").expect(
-        rt, "memory",
-    );
-    let ended = call(rt, alloc, "replay f", text.as_bytes(), SOUND);
-    assert!(rt; matches!(ended.outcome, Outcome::Done));
-    ended
-}
+// Replays with three circuits, and with a tagged one and one for untagged frames.
+const THREE: Case = Case {
+    tables: EDGE,
+    more: THREE_CIRCUITS,
+    ..REPLAY
+};
 
-// Events have this report.
-fn reports(rt: &impl Abort, alloc: Global, circuits: &str, events: &str, report: &str) {
-    let ended = replay(rt, alloc, circuits, events);
-    assert!(rt; ended.taken.as_slice() == report.as_bytes(), "{report}");
-}
+const TWO: Case = Case {
+    tables: EDGE,
+    more: TAGGED_AND_UNTAGGED,
+    ..REPLAY
+};
 
-#[test]
-fn learns_and_forgets_a_station(rt: HostRuntime) {
-    reports(
-        &rt,
-        rt.alloc(),
-        THREE_CIRCUITS,
-        "\"frame c1 ffffffffffff0200000000010800\",
+static LEARNS: Case = Case {
+    front: "\"frame c1 ffffffffffff0200000000010800\",
          \"frame c2 0200000000010200000000020800\",
          \"tick 2\",
          \"frame c2 0200000000010200000000020800\",
          \"frame c3 0200000000030200000000030800\"",
+    taken: Taken::Whole(
         "vplsnet 1
 > frame c1 ffffffffffff0200000000010800
 in c1 1 ffffffffffff0200000000010800
@@ -87,17 +77,19 @@ left c3 3 0 0200000000010200000000020800
 in c3 4 0200000000030200000000030800
 end events=6 in=4 left=5 sent=0 dropped=0
 ",
-    );
-}
+    ),
+    ..THREE
+};
 
 #[test]
-fn takes_tags_off_and_puts_them_back(rt: HostRuntime) {
-    reports(
-        &rt,
-        rt.alloc(),
-        TAGGED_AND_UNTAGGED,
-        "\"frame t7 ffffffffffff020000000001810060070800\",
+fn learns_and_forgets_a_station(rt: HostRuntime) {
+    plays(&rt, rt.alloc(), &LEARNS);
+}
+
+static RETAGS: Case = Case {
+    front: "\"frame t7 ffffffffffff020000000001810060070800\",
          \"frame u ffffffffffff0200000000010800\"",
+    taken: Taken::Whole(
         "vplsnet 1
 > frame t7 ffffffffffff020000000001810060070800
 in t7 1 ffffffffffff020000000001810060070800
@@ -107,19 +99,21 @@ in u 2 ffffffffffff0200000000010800
 left t7 2 0 ffffffffffff020000000001810000070800
 end events=2 in=2 left=2 sent=0 dropped=0
 ",
-    );
-}
+    ),
+    ..TWO
+};
 
 #[test]
-fn drops_what_is_no_frame_of_the_circuit(rt: HostRuntime) {
-    reports(
-        &rt,
-        rt.alloc(),
-        TAGGED_AND_UNTAGGED,
-        "\"frame u ffffffffffff02000000000108\",
+fn takes_tags_off_and_puts_them_back(rt: HostRuntime) {
+    plays(&rt, rt.alloc(), &RETAGS);
+}
+
+static DROPS: Case = Case {
+    front: "\"frame u ffffffffffff02000000000108\",
          \"frame t7 ffffffffffff0200000000010800\",
          \"frame t7 ffffffffffff02000000000181000007\",
          \"frame t7 ffffffffffff020000000001810000080800\"",
+    taken: Taken::Whole(
         "vplsnet 1
 > frame u ffffffffffff02000000000108
 in u 1 ffffffffffff02000000000108
@@ -135,56 +129,47 @@ in t7 4 ffffffffffff020000000001810000080800
 dropped e 4 WrongTag
 end events=4 in=4 left=0 sent=0 dropped=4
 ",
-    );
+    ),
+    ..TWO
+};
+
+#[test]
+fn drops_what_is_no_frame_of_the_circuit(rt: HostRuntime) {
+    plays(&rt, rt.alloc(), &DROPS);
 }
 
-// A frame of so many octets ends so.
-fn ends(rt: &impl Abort, alloc: Global, octets: usize, end: &str) {
-    let mut event = String::from_str(alloc, "\"frame c1 ffffffffffff020000000001").expect(
-        rt, "memory",
-    );
-    for _ in 12..octets {
-        event.push_str("08").expect(rt, "memory");
-    }
-    event.push_str("\"").expect(rt, "memory");
-    let ended = replay(rt, alloc, THREE_CIRCUITS, event.as_str());
-    assert!(rt;
-        ended.taken.as_slice().ends_with(end.as_bytes()),
-        "{octets} octets"
-    );
-}
+// A frame with the MTU 1500: one of 1,518 octets is taken, and one of 1,519 is dropped.
+const LARGEST: Case = Case {
+    front: "\"frame c1 ffffffffffff020000000001",
+    piece: "08",
+    times: 1_506,
+    back: "\"",
+    taken: Taken::Ends("", "end events=1 in=1 left=2 sent=0 dropped=0\n"),
+    ..THREE
+};
+
+const TOO_LARGE: Case = Case {
+    times: 1_507,
+    taken: Taken::Ends("", "end events=1 in=1 left=0 sent=0 dropped=1\n"),
+    ..LARGEST
+};
+
+static SIZES: [Case; 2] = [LARGEST, TOO_LARGE];
 
 #[test]
 fn leaves_room_for_a_tag_of_the_customers_own(rt: HostRuntime) {
-    // With the MTU 1500 a frame of 1,518 octets is taken, and one of 1,519 is dropped.
-    let alloc = rt.alloc();
-    ends(
-        &rt,
-        alloc,
-        1518,
-        "end events=1 in=1 left=2 sent=0 dropped=0\n",
-    );
-    ends(
-        &rt,
-        alloc,
-        1519,
-        "end events=1 in=1 left=0 sent=0 dropped=1\n",
-    );
+    all_play(&rt, rt.alloc(), SIZES.as_slice());
 }
 
-#[test]
-fn forgets_the_stations_of_a_circuit_that_goes_off(rt: HostRuntime) {
-    reports(
-        &rt,
-        rt.alloc(),
-        THREE_CIRCUITS,
-        "\"frame c1 ffffffffffff0200000000010800\",
+static FORGETS: Case = Case {
+    front: "\"frame c1 ffffffffffff0200000000010800\",
          \"circuit c1 off\",
          \"circuit c1 off\",
          \"frame c1 ffffffffffff0200000000010800\",
          \"frame c2 0200000000010200000000020800\",
          \"circuit c1 on\",
          \"frame c2 0200000000010200000000020800\"",
+    taken: Taken::Whole(
         "vplsnet 1
 > frame c1 ffffffffffff0200000000010800
 in c1 1 ffffffffffff0200000000010800
@@ -205,5 +190,11 @@ left c1 3 0 0200000000010200000000020800
 left c3 3 0 0200000000010200000000020800
 end events=7 in=3 left=5 sent=0 dropped=0
 ",
-    );
+    ),
+    ..THREE
+};
+
+#[test]
+fn forgets_the_stations_of_a_circuit_that_goes_off(rt: HostRuntime) {
+    plays(&rt, rt.alloc(), &FORGETS);
 }

@@ -7,11 +7,21 @@ use std::process::Abort;
 use vplsnet::Outcome;
 use vplsnet::finish_line::finish_line;
 
+// The text of a fault, and these words behind it.
+fn text_of(rt: &impl Abort, alloc: Global, fault: &ScenarioFault, rest: &str) -> String {
+    format!(in alloc; "vplsnet: scenario: {fault}{rest}").expect(rt, "memory")
+}
+
+// Whether the program tells the fault by this line.
+fn is_line(rt: &impl Abort, alloc: Global, fault: &ScenarioFault, text: &str) -> bool {
+    let line = finish_line(alloc, &Outcome::ScenarioRefused(*fault)).expect(rt, "memory");
+    line.as_slice() == text.as_bytes()
+}
+
 // The program tells the fault by the fault's own text, and these words behind it.
-fn is_told(rt: &impl Abort, alloc: Global, fault: ScenarioFault, rest: &str) {
-    let text = format!(in alloc; "vplsnet: scenario: {fault}{rest}").expect(rt, "memory");
-    let line = finish_line(alloc, &Outcome::ScenarioRefused(fault)).expect(rt, "memory");
-    assert!(rt; line.as_slice() == text.as_bytes(), "{text}");
+fn is_told(rt: &impl Abort, alloc: Global, fault: &ScenarioFault, rest: &str) {
+    let text = text_of(rt, alloc, fault, rest);
+    assert!(rt; is_line(rt, alloc, fault, text.as_str()));
 }
 
 // The key `name` of the second edge.
@@ -26,19 +36,24 @@ fn place(rt: &impl Abort) -> Place {
 #[test]
 fn tells_faults_of_the_document(rt: HostRuntime) {
     let alloc = rt.alloc();
-    is_told(&rt, alloc, ScenarioFault::NotToml, "");
-    is_told(&rt, alloc, ScenarioFault::Version, "");
-    is_told(&rt, alloc, ScenarioFault::NoMemory, "");
-    is_told(&rt, alloc, ScenarioFault::BadWord { event: 7, word: 3 }, "");
+    is_told(&rt, alloc, &ScenarioFault::NotToml, "");
+    is_told(&rt, alloc, &ScenarioFault::Version, "");
+    is_told(&rt, alloc, &ScenarioFault::NoMemory, "");
+    is_told(
+        &rt,
+        alloc,
+        &ScenarioFault::BadWord { event: 7, word: 3 },
+        "",
+    );
 }
 
 #[test]
 fn tells_faults_of_rows(rt: HostRuntime) {
     let alloc = rt.alloc();
     let name = " edge 2 name";
-    is_told(&rt, alloc, ScenarioFault::Missing(place(&rt)), name);
-    is_told(&rt, alloc, ScenarioFault::WrongKind(place(&rt)), name);
-    is_told(&rt, alloc, ScenarioFault::UnknownKey(place(&rt)), name);
+    is_told(&rt, alloc, &ScenarioFault::Missing(place(&rt)), name);
+    is_told(&rt, alloc, &ScenarioFault::WrongKind(place(&rt)), name);
+    is_told(&rt, alloc, &ScenarioFault::UnknownKey(place(&rt)), name);
 }
 
 #[test]
@@ -48,7 +63,7 @@ fn tells_faults_of_a_plan(rt: HostRuntime) {
         table: Table::Edge,
         limit: 64,
     };
-    is_told(&rt, alloc, many, " edge 64");
+    is_told(&rt, alloc, &many, " edge 64");
     let repeated = ScenarioFault::Plan(PlanFault::RepeatedName(place(&rt)));
-    is_told(&rt, alloc, repeated, " RepeatedName edge 2 name");
+    is_told(&rt, alloc, &repeated, " RepeatedName edge 2 name");
 }

@@ -1,61 +1,131 @@
 //! Whole files and whole texts over a shelf and a sink in memory.
 
 use crate::around::{shelf_of, sink_of};
-use net_base::{Failed, Shelf, Sink};
+use net_base::{Failed, MemShelf, MemSink, Shelf, Sink};
 use std::alloc::Global;
 use std::process::Abort;
 use vplsnet::{ReadStop, read_file, write_text};
 
-// A file of so many octets, of which a call may fail, is read up to a limit so.
-fn reads(
-    rt: &impl Abort,
-    alloc: Global,
+// A file `f` of so many octets, of which a call may fail, the name and the limit with which one is read, and how many octets
+// come of it.
+#[derive(Clone, Copy)]
+struct Read {
     count: usize,
-    limit: u32,
     fails: u64,
+    name: &'static str,
+    limit: u32,
     want: Result<usize, ReadStop>,
-) {
-    let octets = Vec::from_elem(alloc, 7u8, count).expect(rt, "memory");
-    let mut shelf = shelf_of(rt, alloc, octets.as_slice(), fails);
-    let length = read_file(alloc, &mut shelf, "f", limit as usize).map(|octets| octets.len());
-    assert!(rt; length == want, "{count} octets at the limit {limit}");
-    let faults = if fails > 0 { 1 } else { 0 };
-    assert!(rt; shelf.faults("f") == faults, "{count} octets");
+}
+
+// An empty file is read up to a limit of 0.
+const EMPTY: Read = Read {
+    count: 0,
+    fails: 0,
+    name: "f",
+    limit: 0,
+    want: Ok(0),
+};
+
+static READS: [Read; 8] = [
+    Read {
+        count: 5,
+        limit: 5,
+        want: Ok(5),
+        ..EMPTY
+    },
+    Read {
+        count: 6,
+        limit: 5,
+        want: Err(ReadStop::TooLong),
+        ..EMPTY
+    },
+    EMPTY,
+    Read {
+        count: 1,
+        want: Err(ReadStop::TooLong),
+        ..EMPTY
+    },
+    Read {
+        count: 9000,
+        limit: 9000,
+        want: Ok(9000),
+        ..EMPTY
+    },
+    Read {
+        count: 9001,
+        limit: 9000,
+        want: Err(ReadStop::TooLong),
+        ..EMPTY
+    },
+    Read {
+        count: 9000,
+        fails: 2,
+        limit: 9000,
+        want: Err(ReadStop::Fault),
+        ..EMPTY
+    },
+    // A file that is not held.
+    Read {
+        count: 5,
+        name: "g",
+        limit: 5,
+        want: Err(ReadStop::Fault),
+        ..EMPTY
+    },
+];
+
+// How many octets are read.
+fn length_of(alloc: Global, shelf: &mut MemShelf, read: &Read) -> Result<usize, ReadStop> {
+    match read_file(alloc, shelf, read.name, read.limit as usize) {
+        Ok(octets) => Ok(octets.len()),
+        Err(stop) => Err(stop),
+    }
+}
+
+// The shelf that holds the file.
+fn shelf_for(rt: &impl Abort, alloc: Global, read: &Read) -> MemShelf {
+    let octets = Vec::from_elem(alloc, 7u8, read.count).expect(rt, "memory");
+    shelf_of(rt, alloc, octets.as_slice(), read.fails)
+}
+
+// Whether a fault is counted where the reading is to fail, and for its name alone.
+fn counts(shelf: &MemShelf, read: &Read) -> bool {
+    let faults = u64::from(read.want == Err(ReadStop::Fault));
+    shelf.faults(read.name) == faults && (read.name == "f" || shelf.faults("f") == 0)
+}
+
+// The file is read so.
+fn reads(rt: &impl Abort, alloc: Global, read: &Read) {
+    let mut shelf = shelf_for(rt, alloc, read);
+    let length = length_of(alloc, &mut shelf, read);
+    assert!(rt; length == read.want);
+    assert!(rt; counts(&shelf, read));
 }
 
 #[test]
 fn reads_up_to_the_limit(rt: HostRuntime) {
-    let alloc = rt.alloc();
-    reads(&rt, alloc, 5, 5, 0, Ok(5));
-    reads(&rt, alloc, 6, 5, 0, Err(ReadStop::TooLong));
-    reads(&rt, alloc, 0, 0, 0, Ok(0));
-    reads(&rt, alloc, 1, 0, 0, Err(ReadStop::TooLong));
-    reads(&rt, alloc, 9000, 9000, 0, Ok(9000));
-    reads(&rt, alloc, 9001, 9000, 0, Err(ReadStop::TooLong));
-    reads(&rt, alloc, 9000, 9000, 2, Err(ReadStop::Fault));
+    for read in READS.as_slice() {
+        reads(&rt, rt.alloc(), read);
+    }
 }
 
-#[test]
-fn reads_no_file_that_is_not_held(rt: HostRuntime) {
-    let alloc = rt.alloc();
-    let mut shelf = shelf_of(&rt, alloc, b"abcde", 0);
-    let length = read_file(alloc, &mut shelf, "g", 5).map(|octets| octets.len());
-    assert!(rt; length == Err(ReadStop::Fault));
-    assert!(rt; shelf.faults("g") == 1);
-    assert!(rt; shelf.faults("f") == 0);
-}
+// The room of a sink, the answer where it is to take `abcdef`, and what it takes.
+static WRITES: [(usize, Result<(), Failed>, &str); 2] = [
+    (6, Ok(()), "abcdef"),
+    (3, Err(Failed), "abc"),
+];
 
-// A sink with this room takes so much of a text.
-fn writes(rt: &impl Abort, alloc: Global, room: usize, want: Result<(), Failed>, taken: &str) {
-    let mut sink = sink_of(rt, alloc, room, 0);
-    assert!(rt; write_text(&mut sink, b"abcdef") == want, "{taken}");
-    assert!(rt; sink.taken() == taken.as_bytes(), "{taken}");
-    assert!(rt; sink.faults() == u64::from(want.is_err()), "{taken}");
+// The sink answers so, takes so much, and counts a fault where it fails.
+fn takes(rt: &impl Abort, sink: &mut MemSink, want: Result<(), Failed>, taken: &str) {
+    assert!(rt; write_text(sink, b"abcdef") == want);
+    assert!(rt; sink.taken() == taken.as_bytes());
+    assert!(rt; sink.faults() == u64::from(want.is_err()));
 }
 
 #[test]
 fn writes_as_much_as_is_taken(rt: HostRuntime) {
-    let alloc = rt.alloc();
-    writes(&rt, alloc, 6, Ok(()), "abcdef");
-    writes(&rt, alloc, 3, Err(Failed), "abc");
+    for (room, want, taken) in WRITES.as_slice() {
+        let mut sink = sink_of(&rt, rt.alloc(), *room, 0);
+        takes(&rt, &mut sink, *want, taken);
+    }
 }

@@ -1,9 +1,6 @@
 //! Whole replays over a hierarchy: core edges in full mesh, and spoke edges that hang on them (RFC 4762 section 10).
 
-use crate::around::{Around, Ended, SOUND, call};
-use std::alloc::Global;
-use std::process::Abort;
-use vplsnet::Outcome;
+use crate::around::{Case, REPLAY, Taken, all_play, plays};
 
 // Six edges with a circuit each.
 const EDGES: &str = "
@@ -181,6 +178,7 @@ said x b 000100340a00000500000001002a000000040300000a00000028000000000000896a000
 said x b 000100220a000005000003010018000000050100000c8080050400000000000000ca84040000
 wire x xa Standby
 wire x xb up
+end events=71 in=2 left=6 sent=8 dropped=0
 ";
 
 // Each edge has forgotten the station: a frame for it comes to each other edge, and to x by the second spoke.
@@ -204,77 +202,66 @@ left cy 3 2 0200000000010200000000040800
 end events=85 in=3 left=11 sent=13 dropped=0
 ";
 
-// Replays events over the hierarchy, with more tables behind it.
-fn replay(rt: &impl Abort, alloc: Global, events: &str, more: &str, around: Around) -> Ended {
-    let text = format!(in alloc; "version = 1\nevents = [{events}]\n{EDGES}{WIRES}{more}").expect(
-        rt, "memory",
-    );
-    call(rt, alloc, "replay f", text.as_bytes(), around)
-}
+// Over the hierarchy, a broadcast and the answer to it.
+const FLOODS: Case = Case {
+    front: SET_UP,
+    back: ", \"frame cx ffffffffffff0200000000010800\", \"flow 100\", \"frame cy 0200000000010200000000020800\", \"flow 100\"",
+    tables: EDGES,
+    wires: WIRES,
+    taken: Taken::Ends(CROSSES, "end events=59 in=2 left=6 sent=8 dropped=0\n"),
+    ..REPLAY
+};
+
+// The same, where each spoke edge has two spokes.
+const FLOODS_TWICE: Case = Case {
+    front: SET_UP_TWICE,
+    more: SECOND_SPOKES,
+    taken: Taken::Ends(CROSSES, "end events=70 in=2 left=6 sent=8 dropped=0\n"),
+    ..FLOODS
+};
+
+static FLOODED: [Case; 2] = [FLOODS, FLOODS_TWICE];
 
 #[test]
-fn floods_over_a_hierarchy(rt: HostRuntime) {
-    let alloc = rt.alloc();
-    let events = format!(in alloc;
-        "{SET_UP}, \"frame cx ffffffffffff0200000000010800\", \"flow 100\", \"frame cy 0200000000010200000000020800\", \"flow 100\""
-    ).expect(&rt, "memory");
-    let ended = replay(&rt, alloc, events.as_str(), "", SOUND);
-    let tail = format!(in alloc; "{CROSSES}end events=59 in=2 left=6 sent=8 dropped=0\n").expect(
-        &rt, "memory",
-    );
-    assert!(rt; ended.status == 0);
-    assert!(rt; ended.taken.as_slice().ends_with(tail.as_bytes()));
+fn floods_over_a_hierarchy_with_one_spoke_or_two_of_each_spoke_edge(rt: HostRuntime) {
+    all_play(&rt, rt.alloc(), FLOODED.as_slice());
 }
 
-#[test]
-fn floods_where_each_spoke_edge_has_two_spokes(rt: HostRuntime) {
-    let alloc = rt.alloc();
-    let events = format!(in alloc;
-        "{SET_UP_TWICE}, \"frame cx ffffffffffff0200000000010800\", \"flow 100\", \"frame cy 0200000000010200000000020800\", \"flow 100\""
-    ).expect(&rt, "memory");
-    let ended = replay(&rt, alloc, events.as_str(), SECOND_SPOKES, SOUND);
-    let tail = format!(in alloc; "{CROSSES}end events=70 in=2 left=6 sent=8 dropped=0\n").expect(
-        &rt, "memory",
-    );
-    assert!(rt; ended.status == 0);
-    assert!(rt; ended.taken.as_slice().ends_with(tail.as_bytes()));
-}
-
-// Replays the same, and then the move of the edge x to its second spoke, with more events behind it.
-fn replay_move(rt: &impl Abort, alloc: Global, more: &str) -> Ended {
-    let events = format!(in alloc;
-        "{SET_UP_TWICE}, \"frame cx ffffffffffff0200000000010800\", \"flow 100\", \"frame cy 0200000000010200000000020800\", \"flow 100\", \"priority x xb 5\"{more}"
-    ).expect(rt, "memory");
-    replay(rt, alloc, events.as_str(), SECOND_SPOKES, SOUND)
-}
+// The same, and then the move of the edge x to its second spoke.
+static MOVED: Case = Case {
+    back: ", \"frame cx ffffffffffff0200000000010800\", \"flow 100\", \"frame cy 0200000000010200000000020800\", \"flow 100\", \"priority x xb 5\"",
+    taken: Taken::Ends(CROSSES, MOVES),
+    ..FLOODS_TWICE
+};
 
 #[test]
 fn moves_to_the_second_spoke(rt: HostRuntime) {
-    let alloc = rt.alloc();
-    let ended = replay_move(&rt, alloc, "");
-    let tail = format!(in alloc;
-        "{CROSSES}{MOVES}end events=71 in=2 left=6 sent=8 dropped=0\n"
-    ).expect(&rt, "memory");
-    assert!(rt; ended.status == 0);
-    assert!(rt; ended.taken.as_slice().ends_with(tail.as_bytes()));
+    plays(&rt, rt.alloc(), &MOVED);
 }
+
+// After the move a frame for the station.
+static FOUND: Case = Case {
+    back: ", \"frame cx ffffffffffff0200000000010800\", \"flow 100\", \"frame cy 0200000000010200000000020800\", \"flow 100\", \"priority x xb 5\", \"settle 100\", \"frame cd 0200000000010200000000040800\", \"flow 100\"",
+    taken: Taken::Ends("", COMES_ANEW),
+    ..FLOODS_TWICE
+};
 
 #[test]
 fn finds_a_station_by_the_second_spoke(rt: HostRuntime) {
-    let alloc = rt.alloc();
-    let ended = replay_move(
-        &rt,
-        alloc,
-        ", \"settle 100\", \"frame cd 0200000000010200000000040800\", \"flow 100\"",
-    );
-    assert!(rt; ended.status == 0);
-    assert!(rt; ended.taken.as_slice().ends_with(COMES_ANEW.as_bytes()));
+    plays(&rt, rt.alloc(), &FOUND);
 }
+
+// A path of three edges.
+static SWITCHED: Case = Case {
+    back: "",
+    more: LONG_SPOKE,
+    status: 5,
+    taken: Taken::Whole(""),
+    told: "vplsnet: not built",
+    ..FLOODS
+};
 
 #[test]
 fn is_not_built_with_a_path_of_three_edges(rt: HostRuntime) {
-    let ended = replay(&rt, rt.alloc(), SET_UP, LONG_SPOKE, SOUND);
-    assert!(rt; ended.status == 5);
-    assert!(rt; matches!(ended.outcome, Outcome::NotBuilt));
-    assert!(rt; ended.taken.is_empty());
+    plays(&rt, rt.alloc(), &SWITCHED);
 }

@@ -1,15 +1,20 @@
 //! Whole replays of pseudowires: two edges set one up, do not agree, lose their connection, and run out of labels.
 
-use crate::around::{Ended, SOUND, call};
-use std::alloc::Global;
-use std::process::Abort;
-use vplsnet::Outcome;
+use crate::around::{Case, REPLAY, Taken, plays};
 
 // The first edge of two.
 const FIRST: &str = "
 [[edge]]
 name = \"a\"
 address = \"10.0.0.1\"
+";
+
+// The same, with one label left.
+const FIRST_AT_ITS_LAST_LABEL: &str = "
+[[edge]]
+name = \"a\"
+address = \"10.0.0.1\"
+first_label = 1048575
 ";
 
 // The second edge, two services, and a mesh wire of the first one between the edges.
@@ -225,56 +230,65 @@ idle
 end events=14 in=0 left=0 sent=0 dropped=0
 ";
 
-// Replays events of the two edges, with more keys of the first edge and of the wire.
-fn replay(rt: &impl Abort, alloc: Global, events: &str, first: &str, wire: &str) -> Ended {
-    let text = format!(in alloc;
-        "version = 1\nevents = [{events}]\n{FIRST}{first}{JOINED}{wire}"
-    ).expect(rt, "memory");
-    call(rt, alloc, "replay f", text.as_bytes(), SOUND)
-}
+// The two edges connect, and what is said is delivered.
+const CONNECTS: Case = Case {
+    front: "\"connect a b\", \"settle 20\"",
+    tables: FIRST,
+    wires: JOINED,
+    ..REPLAY
+};
 
-// The replay writes this report.
-fn reports(rt: &impl Abort, alloc: Global, events: &str, first: &str, wire: &str, report: &str) {
-    let ended = replay(rt, alloc, events, first, wire);
-    assert!(rt; matches!(ended.outcome, Outcome::Done), "{events}");
-    assert!(rt; ended.taken.as_slice() == report.as_bytes(), "{events}");
-}
+static SETS_UP: Case = Case {
+    taken: Taken::Whole(COMES_UP),
+    ..CONNECTS
+};
 
 #[test]
 fn sets_a_pseudowire_up(rt: HostRuntime) {
-    let events = "\"connect a b\", \"settle 20\"";
-    reports(&rt, rt.alloc(), events, "", "", COMES_UP);
+    plays(&rt, rt.alloc(), &SETS_UP);
 }
+
+static TWO_MTUS: Case = Case {
+    more: "far_mtu = 1400\n",
+    taken: Taken::Whole(DIFFERS),
+    ..CONNECTS
+};
 
 #[test]
 fn tells_that_two_mtus_differ(rt: HostRuntime) {
-    let events = "\"connect a b\", \"settle 20\"";
-    reports(&rt, rt.alloc(), events, "", "far_mtu = 1400\n", DIFFERS);
+    plays(&rt, rt.alloc(), &TWO_MTUS);
 }
+
+static LOSES: Case = Case {
+    front: "\"connect a b\", \"deliver b a 36\", \"deliver a b 54\", \"deliver b a 18\", \"deliver b a 44\", \"lose a b\", \"settle 20\", \"connect a b\", \"settle 20\"",
+    taken: Taken::Whole(IS_CUT),
+    ..CONNECTS
+};
 
 #[test]
 fn loses_a_connection_within_a_mapping(rt: HostRuntime) {
-    let events =
-        "\"connect a b\", \"deliver b a 36\", \"deliver a b 54\", \"deliver b a 18\", \"deliver b a 44\", \"lose a b\", \"settle 20\", \"connect a b\", \"settle 20\"";
-    reports(&rt, rt.alloc(), events, "", "", IS_CUT);
+    plays(&rt, rt.alloc(), &LOSES);
 }
+
+static LAST_LABEL: Case = Case {
+    tables: FIRST_AT_ITS_LAST_LABEL,
+    more: SECOND,
+    taken: Taken::Whole(RUNS_OUT),
+    ..CONNECTS
+};
 
 #[test]
 fn runs_out_of_labels(rt: HostRuntime) {
-    let events = "\"connect a b\", \"settle 20\"";
-    reports(
-        &rt,
-        rt.alloc(),
-        events,
-        "first_label = 1048575\n",
-        SECOND,
-        RUNS_OUT,
-    );
+    plays(&rt, rt.alloc(), &LAST_LABEL);
 }
+
+static WITHDRAWS: Case = Case {
+    back: ", \"wire b w off\", \"settle 20\", \"wire b w off\", \"wire b w on\", \"settle 20\", \"status a w 6\", \"settle 20\", \"status a w 6\"",
+    taken: Taken::Whole(IS_WITHDRAWN),
+    ..CONNECTS
+};
 
 #[test]
 fn withdraws_and_tells_a_failure(rt: HostRuntime) {
-    let events =
-        "\"connect a b\", \"settle 20\", \"wire b w off\", \"settle 20\", \"wire b w off\", \"wire b w on\", \"settle 20\", \"status a w 6\", \"settle 20\", \"status a w 6\"";
-    reports(&rt, rt.alloc(), events, "", "", IS_WITHDRAWN);
+    plays(&rt, rt.alloc(), &WITHDRAWS);
 }

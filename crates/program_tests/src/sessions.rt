@@ -1,9 +1,6 @@
 //! Whole replays of sessions between edges.
 
-use crate::around::{Ended, SOUND, call};
-use std::alloc::Global;
-use std::process::Abort;
-use vplsnet::Outcome;
+use crate::around::{Case, REPLAY, Taken, all_play, plays};
 
 // Two edges, joined by a mesh wire of one service.
 const JOINED: &str = "
@@ -48,40 +45,45 @@ session a b Operational
 end events=6 in=0 left=0 sent=0 dropped=0
 ";
 
-// Replays events of two joined edges, with more keys of the wire between them.
-fn replay(rt: &impl Abort, alloc: Global, events: &str, wire: &str) -> Ended {
-    let text = format!(in alloc; "version = 1\nevents = [{events}]\n{JOINED}{wire}").expect(
-        rt, "memory",
-    );
-    call(rt, alloc, "replay f", text.as_bytes(), SOUND)
-}
+// The wire is off at both edges, and they connect.
+static CONNECTS: Case = Case {
+    front: "\"wire a w off\", \"wire b w off\", \"connect a b\", \"settle 20\"",
+    tables: JOINED,
+    more: "class = \"mesh\"",
+    taken: Taken::Whole(COMES_UP),
+    ..REPLAY
+};
 
 #[test]
 fn brings_a_session_up(rt: HostRuntime) {
-    let ended = replay(
-        &rt,
-        rt.alloc(),
-        "\"wire a w off\", \"wire b w off\", \"connect a b\", \"settle 20\"",
-        "class = \"mesh\"",
-    );
-    assert!(rt; matches!(ended.outcome, Outcome::Done));
-    assert!(rt; ended.taken.as_slice() == COMES_UP.as_bytes());
+    plays(&rt, rt.alloc(), &CONNECTS);
 }
 
-// Events and such a wire are not built.
-fn is_not_built(rt: &impl Abort, alloc: Global, events: &str, wire: &str) {
-    let ended = replay(rt, alloc, events, wire);
-    assert!(rt;
-        matches!(ended.outcome, Outcome::NotBuilt),
-        "{events} {wire}"
-    );
-    assert!(rt; ended.taken.is_empty(), "{events} {wire}");
-}
+// A replay with something that is not built.
+const NOT_BUILT: Case = Case {
+    tables: JOINED,
+    status: 5,
+    told: "vplsnet: not built",
+    ..REPLAY
+};
+
+static UNBUILT: [Case; 3] = [
+    Case {
+        more: "class = \"mesh\"\nvccv = 1",
+        ..NOT_BUILT
+    },
+    Case {
+        more: "class = \"mesh\"\nfar_vccv = 1",
+        ..NOT_BUILT
+    },
+    Case {
+        front: "\"ping a w\"",
+        more: "class = \"mesh\"",
+        ..NOT_BUILT
+    },
+];
 
 #[test]
 fn answers_what_is_not_built_of_wires(rt: HostRuntime) {
-    let alloc = rt.alloc();
-    is_not_built(&rt, alloc, "", "class = \"mesh\"\nvccv = 1");
-    is_not_built(&rt, alloc, "", "class = \"mesh\"\nfar_vccv = 1");
-    is_not_built(&rt, alloc, "\"ping a w\"", "class = \"mesh\"");
+    all_play(&rt, rt.alloc(), UNBUILT.as_slice());
 }

@@ -1,15 +1,15 @@
 //! The system's files: which octets are read where.
 
 use net_base::{Failed, Shelf};
-use std::test::Fail;
+use std::process::Abort;
 use std::{env, fs, process};
 use vplsnet::FileShelf;
 
 // The path of a file of this process, by a name of its own.
-fn path_of(rt: &HostRuntime, name: &str) -> Result<String, Fail> {
-    let folder = env::temp_dir(rt)?;
+fn path_of(rt: &HostRuntime, test: &impl Abort, name: &str) -> String {
+    let folder = env::temp_dir(rt).expect(test, "a folder");
     let number = process::id(rt.process());
-    Ok(format!(in rt.alloc(); "{}/vplsnet-{number}-{name}", folder.as_str())?)
+    format!(in rt.alloc(); "{}/vplsnet-{number}-{name}", folder.as_str()).expect(test, "memory")
 }
 
 // Whether these are the octets that a shelf reads next from a place of a file.
@@ -19,48 +19,75 @@ fn reads(shelf: &mut impl Shelf, name: &str, from: u64, octets: &str) -> bool {
     read == Ok(octets.len()) && buf.starts_with(octets.as_bytes())
 }
 
-#[test]
-fn reads_in_order_and_at_any_place(rt: HostRuntime) -> Result<(), Fail> {
-    let path = path_of(&rt, "places")?;
-    let name = path.as_str();
-    fs::write(&rt, name, b"abcde")?;
-    let mut shelf = FileShelf::new(rt.alloc(), &rt);
-    assert!(rt; reads(&mut shelf, name, 0, "abc"));
-    assert!(rt; reads(&mut shelf, name, 3, "de"));
-    assert!(rt; reads(&mut shelf, name, 5, ""));
-    assert!(rt; reads(&mut shelf, name, 1, "bcd"));
-    assert!(rt; reads(&mut shelf, name, 4, "e"));
-    assert!(rt; reads(&mut shelf, name, 9, ""));
-    assert!(rt; reads(&mut shelf, name, 0, "abc"));
-    assert!(rt; shelf.faults(name) == 0);
-    fs::remove_file(&rt, name)?;
-    Ok(())
+// The places from which `abcde` is read in turn, and what is read there.
+static READS: [(u64, &str); 7] = [
+    (0, "abc"),
+    (3, "de"),
+    (5, ""),
+    (1, "bcd"),
+    (4, "e"),
+    (9, ""),
+    (0, "abc"),
+];
+
+// A shelf reads so from a file, with no fault.
+fn reads_all(test: &impl Abort, shelf: &mut impl Shelf, name: &str, rows: &[(u64, &str)]) {
+    for (from, octets) in rows {
+        assert!(test; reads(shelf, name, *from, octets), "{octets}");
+    }
+    assert!(test; shelf.faults(name) == 0);
+}
+
+// Stores a file.
+fn store(rt: &HostRuntime, test: &impl Abort, name: &str, octets: &[u8]) {
+    fs::write(rt, name, octets).expect(test, "a file");
 }
 
 #[test]
-fn reads_the_file_that_it_opened(rt: HostRuntime) -> Result<(), Fail> {
-    let path = path_of(&rt, "first")?;
-    let other = path_of(&rt, "second")?;
-    fs::write(&rt, path.as_str(), b"abcd")?;
-    fs::write(&rt, other.as_str(), b"ABCD")?;
+fn reads_in_order_and_at_any_place(rt: HostRuntime) {
+    let path = path_of(&rt, &rt, "places");
+    store(&rt, &rt, path.as_str(), b"abcde");
     let mut shelf = FileShelf::new(rt.alloc(), &rt);
+    reads_all(&rt, &mut shelf, path.as_str(), READS.as_slice());
+    fs::remove_file(&rt, path.as_str()).expect(&rt, "a file");
+}
+
+// Whether two octets are read from a place of a file, and they are these.
+fn reads_two(shelf: &mut impl Shelf, name: &str, from: u64, octets: &[u8]) -> bool {
     let mut buf = [0u8; 2];
-    assert!(rt; shelf.read_at(path.as_str(), 0, &mut buf) == Ok(2));
-    fs::rename(&rt, other.as_str(), path.as_str())?;
-    assert!(rt; shelf.read_at(path.as_str(), 2, &mut buf) == Ok(2));
-    assert!(rt; &buf == b"cd");
-    fs::remove_file(&rt, path.as_str())?;
-    Ok(())
+    shelf.read_at(name, from, &mut buf) == Ok(2) && buf.as_slice() == octets
+}
+
+// Stores two files.
+fn store_both(rt: &HostRuntime, test: &impl Abort, name: &str, other: &str) {
+    store(rt, test, name, b"abcd");
+    store(rt, test, other, b"ABCD");
 }
 
 #[test]
-fn counts_what_cannot_be_read(rt: HostRuntime) -> Result<(), Fail> {
-    let path = path_of(&rt, "missing")?;
+fn reads_the_file_that_it_opened(rt: HostRuntime) {
+    let path = path_of(&rt, &rt, "first");
+    let other = path_of(&rt, &rt, "second");
+    store_both(&rt, &rt, path.as_str(), other.as_str());
     let mut shelf = FileShelf::new(rt.alloc(), &rt);
+    assert!(rt; reads_two(&mut shelf, path.as_str(), 0, b"ab"));
+    fs::rename(&rt, other.as_str(), path.as_str()).expect(&rt, "a file");
+    assert!(rt; reads_two(&mut shelf, path.as_str(), 2, b"cd"));
+    fs::remove_file(&rt, path.as_str()).expect(&rt, "a file");
+}
+
+// Whether a shelf cannot read a file.
+fn fails(shelf: &mut impl Shelf, name: &str) -> bool {
     let mut buf = [0u8; 3];
-    assert!(rt; shelf.read_at(path.as_str(), 0, &mut buf) == Err(Failed));
-    assert!(rt; shelf.read_at("", 0, &mut buf) == Err(Failed));
-    assert!(rt; shelf.read_at("/", 0, &mut buf) == Err(Failed));
+    shelf.read_at(name, 0, &mut buf) == Err(Failed)
+}
+
+#[test]
+fn counts_what_cannot_be_read(rt: HostRuntime) {
+    let path = path_of(&rt, &rt, "missing");
+    let mut shelf = FileShelf::new(rt.alloc(), &rt);
+    assert!(rt; fails(&mut shelf, path.as_str()));
+    assert!(rt; fails(&mut shelf, ""));
+    assert!(rt; fails(&mut shelf, "/"));
     assert!(rt; shelf.faults(path.as_str()) == 3);
-    Ok(())
 }

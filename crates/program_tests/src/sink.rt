@@ -3,7 +3,7 @@
 use net_base::{Failed, Sink};
 use std::io;
 use std::io::{ErrorKind, Write};
-use std::test::Fail;
+use std::process::Abort;
 use vplsnet::{StdSink, write_text};
 
 // Takes two octets a call, and none past its room; each second call is interrupted and takes none.
@@ -31,23 +31,50 @@ impl<'a> Write for Narrow<'a> {
     }
 }
 
-#[test]
-fn takes_pieces_until_there_is_no_room(rt: HostRuntime) -> Result<(), Fail> {
-    let mut taken = Vec::new(rt.alloc());
+// One call of the sink, what it answers, and how many faults are counted after it.
+#[derive(Clone, Copy)]
+enum Step {
+    Write(&'static str, Result<usize, Failed>, u64),
+    Text(&'static str, Result<(), Failed>, u64),
+}
+
+static STEPS: [Step; 5] = [
+    Step::Write("abc", Ok(2), 0),
+    Step::Write("", Ok(0), 0),
+    Step::Text("cde", Ok(()), 0),
+    Step::Text("fghij", Err(Failed), 1),
+    Step::Write("i", Err(Failed), 2),
+];
+
+// The sink answers a step so.
+fn takes(rt: &impl Abort, sink: &mut StdSink<Narrow<'_>>, step: Step) {
+    match step {
+        Step::Write(piece, want, faults) => {
+            assert!(rt; sink.write(piece.as_bytes()) == want, "{piece}");
+            assert!(rt; sink.faults() == faults, "{piece}");
+        }
+        Step::Text(text, want, faults) => {
+            assert!(rt; write_text(sink, text.as_bytes()) == want, "{text}");
+            assert!(rt; sink.faults() == faults, "{text}");
+        }
+    }
+}
+
+// A sink over a writer with room for eight octets takes these steps.
+fn takes_all(rt: &impl Abort, taken: &mut Vec<u8>, steps: &[Step]) {
     let mut sink = StdSink::new(Narrow {
-        taken: &mut taken,
+        taken,
         room: 8,
         interrupts: false,
     });
-    assert!(rt; sink.write(b"abc") == Ok(2));
-    assert!(rt; sink.write(b"") == Ok(0));
-    assert!(rt; write_text(&mut sink, b"cde") == Ok(()));
-    assert!(rt; sink.faults() == 0);
-    assert!(rt; write_text(&mut sink, b"fghij") == Err(Failed));
-    assert!(rt; sink.faults() == 1);
-    assert!(rt; sink.write(b"i") == Err(Failed));
-    assert!(rt; sink.faults() == 2);
-    drop(sink);
+    for step in steps {
+        takes(rt, &mut sink, *step);
+    }
+}
+
+#[test]
+fn takes_pieces_until_there_is_no_room(rt: HostRuntime) {
+    let mut taken = Vec::new(rt.alloc());
+    takes_all(&rt, &mut taken, STEPS.as_slice());
     assert!(rt; taken.as_slice() == b"abcdefgh".as_slice());
-    Ok(())
 }

@@ -6,7 +6,7 @@ use std::alloc::Global;
 use std::process::Abort;
 
 /// The kinds of faults that have a place.
-#[derive(Clone, Copy, Debug, PartialEq, Eq)]
+#[derive(Clone, Copy)]
 pub enum Kind {
     Missing,
     WrongKind,
@@ -90,6 +90,11 @@ pub fn read(rt: &impl Abort, alloc: Global, text: &str) -> Scenario {
     read_scenario(alloc, text.as_bytes()).expect(rt, "a scenario")
 }
 
+/// How many commands the scenario of a text has.
+pub fn command_count(rt: &impl Abort, alloc: Global, text: &str) -> usize {
+    read(rt, alloc, text).commands.len()
+}
+
 /// A text is no scenario, for this reason.
 pub fn fails(rt: &impl Abort, alloc: Global, text: &str, fault: Option<ScenarioFault>) {
     assert!(rt;
@@ -112,7 +117,7 @@ pub fn refuses(
 }
 
 /// The rows of a table have this fault.
-pub fn refuses_rows(
+fn refuses_rows(
     rt: &impl Abort,
     alloc: Global,
     rows: &str,
@@ -123,4 +128,21 @@ pub fn refuses_rows(
 ) {
     let text = with_rows(rt, alloc, table, rows);
     refuses(rt, alloc, text.as_str(), kind, table, index, key);
+}
+
+/// A text, and its fault: the kind, and the table, the row and the key.
+pub type Refused = (&'static str, Kind, TableKind, u32, &'static str);
+
+/// Each text has its fault.
+pub fn refuse(rt: &impl Abort, alloc: Global, rows: &[Refused]) {
+    for (text, kind, table, index, key) in rows {
+        refuses(rt, alloc, text, *kind, *table, *index, key);
+    }
+}
+
+/// The rows of each table have their fault.
+pub fn refuse_rows(rt: &impl Abort, alloc: Global, rows: &[Refused]) {
+    for (text, kind, table, index, key) in rows {
+        refuses_rows(rt, alloc, text, *kind, *table, *index, key);
+    }
 }

@@ -60,126 +60,97 @@ fn is_path(path: &[EdgeId]) -> bool {
     path == [EdgeId(0), EdgeId(1)].as_slice()
 }
 
-fn wire(rt: &impl Abort, wire: &WirePlan, plain: &Offer) {
+fn wire(rt: &impl Abort, wire: &WirePlan) {
     assert!(rt; wire.class == Class::Mesh && wire.pw_id == 1 && wire.priority == 100);
     assert!(rt; is_path(wire.path.as_slice()));
-    assert!(rt; wire.near == *plain);
-    assert!(rt; wire.far == *plain);
 }
 
-// The far end of a wire that has this key too.
-fn far_end(rt: &impl Abort, alloc: Global, key: &str, near: &Offer, far: Offer) {
-    let text = format!(in alloc; "{WIRE},{key}}}]").expect(rt, "memory");
-    let scenario = read(rt, alloc, text.as_str());
-    for wire in scenario.plan.wires.as_slice() {
-        assert!(rt; wire.near == *near, "at {key}");
-        assert!(rt; wire.far == far, "at {key}");
+// The one wire of a plan has these ends.
+fn has_ends(rt: &impl Abort, plan: &Plan, near: &Offer, far: &Offer) {
+    for wire in plan.wires.as_slice() {
+        assert!(rt; wire.near == *near);
+        assert!(rt; wire.far == *far);
     }
-    assert!(rt; scenario.plan.wires.len() == 1, "at {key}");
+    assert!(rt; plan.wires.len() == 1);
+}
+
+// The one wire of a text has these ends.
+fn reads_ends(rt: &impl Abort, alloc: Global, text: &str, near: &Offer, far: &Offer) {
+    let scenario = read(rt, alloc, text);
+    has_ends(rt, &scenario.plan, near, far);
+}
+
+// The plan has an edge, a service, a circuit and a wire with what rows have by default.
+fn has_defaults(rt: &impl Abort, plan: &Plan) {
+    let plain = plain(rt);
+    last_edge(rt, plan);
+    one_service(rt, plan);
+    one_circuit(rt, plan);
+    for row in plan.wires.as_slice() {
+        wire(rt, row);
+    }
+    has_ends(rt, plan, &plain, &plain);
 }
 
 #[test]
 fn reads_defaults_and_the_far_end(rt: HostRuntime) {
-    let alloc = rt.alloc();
-    let plain = plain(&rt);
-    let scenario = read(&rt, alloc, PLAN);
-    last_edge(&rt, &scenario.plan);
-    one_service(&rt, &scenario.plan);
-    one_circuit(&rt, &scenario.plan);
-    for row in scenario.plan.wires.as_slice() {
-        wire(&rt, row, &plain);
-    }
-    assert!(rt; scenario.plan.wires.len() == 1);
+    let scenario = read(&rt, rt.alloc(), PLAN);
+    has_defaults(&rt, &scenario.plan);
     assert!(rt; scenario.commands.is_empty());
+}
+
+// What a key says of the far end.
+#[derive(Clone, Copy)]
+enum Change {
+    Tagged,
+    NoWord,
+    Mtu(Option<u16>),
+    Vlan(u16),
+    Vccv(u8),
+    NoStatus,
+    Group(u32),
+    Description(&'static str),
+}
+
+// What the far end offers then.
+fn changed(rt: &impl Abort, change: Change) -> Offer {
+    let mut far = plain(rt);
+    match change {
+        Change::Tagged => far.tagged = true,
+        Change::NoWord => far.cword = false,
+        Change::Mtu(mtu) => far.mtu = mtu,
+        Change::Vlan(vlan) => far.vlan = Some(vlan),
+        Change::Vccv(channels) => far.vccv = Some(channels),
+        Change::NoStatus => far.status = false,
+        Change::Group(group) => far.group = group,
+        Change::Description(text) => {
+            far.description = Text::read(text.as_bytes()).expect(rt, "a text");
+        }
+    }
+    far
+}
+
+const KEYS: [(&'static str, Change); 9] = [
+    ("far_mode='tagged'", Change::Tagged),
+    ("far_control_word=false", Change::NoWord),
+    ("far_mtu=9000", Change::Mtu(Some(9000))),
+    ("far_mtu=0", Change::Mtu(None)),
+    ("far_vlan=0", Change::Vlan(0)),
+    ("far_vccv=5", Change::Vccv(5)),
+    ("far_status=false", Change::NoStatus),
+    ("far_group=9", Change::Group(9)),
+    ("far_description='far'", Change::Description("far")),
+];
+
+// A wire that has this key too has this far end.
+fn far_end(rt: &impl Abort, alloc: Global, key: &str, change: Change) {
+    let text = format!(in alloc; "{WIRE},{key}}}]").expect(rt, "memory");
+    reads_ends(rt, alloc, text.as_str(), &plain(rt), &changed(rt, change));
 }
 
 #[test]
 fn reads_each_key_of_the_far_end(rt: HostRuntime) {
-    let alloc = rt.alloc();
-    let plain = plain(&rt);
-    let description = Text::read(b"far").expect(&rt, "a text");
-    far_end(
-        &rt,
-        alloc,
-        "far_mode='tagged'",
-        &plain,
-        Offer {
-            tagged: true,
-            ..plain
-        },
-    );
-    far_end(
-        &rt,
-        alloc,
-        "far_control_word=false",
-        &plain,
-        Offer {
-            cword: false,
-            ..plain
-        },
-    );
-    far_end(
-        &rt,
-        alloc,
-        "far_mtu=9000",
-        &plain,
-        Offer {
-            mtu: Some(9000),
-            ..plain
-        },
-    );
-    far_end(
-        &rt,
-        alloc,
-        "far_mtu=0",
-        &plain,
-        Offer { mtu: None, ..plain },
-    );
-    far_end(
-        &rt,
-        alloc,
-        "far_vlan=0",
-        &plain,
-        Offer {
-            vlan: Some(0),
-            ..plain
-        },
-    );
-    far_end(
-        &rt,
-        alloc,
-        "far_vccv=5",
-        &plain,
-        Offer {
-            vccv: Some(5),
-            ..plain
-        },
-    );
-    far_end(
-        &rt,
-        alloc,
-        "far_status=false",
-        &plain,
-        Offer {
-            status: false,
-            ..plain
-        },
-    );
-    far_end(
-        &rt,
-        alloc,
-        "far_group=9",
-        &plain,
-        Offer { group: 9, ..plain },
-    );
-    far_end(
-        &rt,
-        alloc,
-        "far_description='far'",
-        &plain,
-        Offer {
-            description,
-            ..plain
-        },
-    );
+    for (key, change) in KEYS.as_slice() {
+        far_end(&rt, rt.alloc(), key, *change);
+    }
 }

@@ -1,33 +1,27 @@
-//! Two edges, each over a link of its own, of which each hears what the other one's link took, and nothing else.
+//! Two edges, each over a link of its own, of which each takes what the other one's link took, and nothing else.
 
-use crate::tests::around::{
-    A, B, KEEP_ALIVE_OF_A, KEEP_ALIVE_OF_B, PROPOSAL_OF_A, PROPOSAL_OF_B, link, put, silent, take,
-};
+use crate::tests::plans::{A, B, PAIR};
+use crate::tests::proposals::{KEEP_ALIVE_OF_A, KEEP_ALIVE_OF_B, PROPOSAL_OF_A, PROPOSAL_OF_B};
+use crate::tests::side::{Side, side_of, take};
+use crate::tests::steps::{Step, play};
 use edge_model::Input;
-use net_base::{EdgeId, MemLink, StateName};
-use provider_edge::Edge;
+use net_base::{DropCause, EdgeId, LinkCall, StateName};
 use std::alloc::Global;
 use std::process::Abort;
 
-/// Hands what a link took, behind so many calls, to the edge at the other end, in pieces of at most so many octets; answers
-/// how many calls there are.
-pub fn hand_over(
-    rt: &impl Abort,
-    alloc: Global,
-    from: &MemLink,
-    done: usize,
-    size: usize,
-    edge: &mut Edge,
-    peer: EdgeId,
-    link: &mut MemLink,
-) -> usize {
-    let count = from.calls().len();
-    for place in done..count {
-        if let Some(call) = from.calls().get(place) {
-            hand_pieces(rt, alloc, call.bytes.as_slice(), size, edge, peer, link);
-        }
+// Edges A and B.
+#[derive(Drop)]
+struct Pair {
+    one: Side,
+    other: Side,
+}
+
+// The call of A's link with this number fails, and none for 0.
+fn pair_of(rt: &impl Abort, alloc: Global, fails: u64) -> Pair {
+    Pair {
+        one: side_of(rt, alloc, PAIR, A, fails),
+        other: side_of(rt, alloc, PAIR, B, 0),
     }
-    count
 }
 
 // Hands octets to an edge in pieces.
@@ -36,9 +30,8 @@ fn hand_pieces(
     alloc: Global,
     octets: &[u8],
     size: usize,
-    edge: &mut Edge,
+    to: &mut Side,
     peer: EdgeId,
-    link: &mut MemLink,
 ) {
     let mut rest = octets;
     for _piece in 0..octets.len() {
@@ -46,78 +39,162 @@ fn hand_pieces(
             return;
         }
         let (bytes, behind) = rest.split_at(rest.len().min(size));
-        take(rt, alloc, edge, Input::Octets { peer, bytes }, link);
+        take(rt, alloc, to, Input::Octets { peer, bytes });
         rest = behind;
     }
 }
 
-// A link took these octets, one PDU after another, and nothing else.
-fn takes_two(rt: &impl Abort, alloc: Global, link: &MemLink, first: &str, second: &str) {
-    assert!(rt; link.calls().len() == 2);
-    assert!(rt; put(rt, alloc, link, 0, first));
-    assert!(rt; put(rt, alloc, link, 1, second));
+// Hands what a link took to the edge at the other end: a packet whole, and octets of the session in pieces.
+fn hand(rt: &impl Abort, alloc: Global, call: &LinkCall, size: usize, to: &mut Side, peer: EdgeId) {
+    let bytes = call.bytes.as_slice();
+    if call.packet {
+        take(rt, alloc, to, Input::Packet { bytes });
+    } else {
+        hand_pieces(rt, alloc, bytes, size, to, peer);
+    }
 }
 
-// A session comes up where octets are handed over in pieces of this size.
-fn comes_up(rt: &impl Abort, alloc: Global, size: usize) {
-    let mut one = silent(rt, alloc, A);
-    let mut other = silent(rt, alloc, B);
-    let mut from_one = link(rt, alloc);
-    let mut from_other = link(rt, alloc);
-    take(
-        rt,
-        alloc,
-        &mut one,
-        Input::Connected { peer: B },
-        &mut from_one,
-    );
-    take(
-        rt,
-        alloc,
-        &mut other,
-        Input::Connected { peer: A },
-        &mut from_other,
-    );
-    let mut heard_of_one = 0;
-    let mut heard_of_other = 0;
-    for _turn in 0..4 {
-        heard_of_other = hand_over(
-            rt,
-            alloc,
-            &from_other,
-            heard_of_other,
-            size,
-            &mut one,
-            B,
-            &mut from_one,
-        );
-        heard_of_one = hand_over(
-            rt,
-            alloc,
-            &from_one,
-            heard_of_one,
-            size,
-            &mut other,
-            A,
-            &mut from_other,
-        );
+// Hands what the link of one side took since the last time to the other side, whose neighbour it is.
+fn hand_over(
+    rt: &impl Abort,
+    alloc: Global,
+    from: &mut Side,
+    to: &mut Side,
+    peer: EdgeId,
+    size: usize,
+) {
+    let count = from.link.calls().len();
+    for place in from.handed..count {
+        if let Some(call) = from.link.calls().get(place)
+            && call.taken
+        {
+            hand(rt, alloc, call, size, to, peer);
+        }
     }
-    assert!(rt;
-        one.session(B) == StateName::Operational,
-        "pieces of {size} octets"
-    );
-    assert!(rt;
-        other.session(A) == StateName::Operational,
-        "pieces of {size} octets"
-    );
-    takes_two(rt, alloc, &from_one, PROPOSAL_OF_A, KEEP_ALIVE_OF_A);
-    takes_two(rt, alloc, &from_other, PROPOSAL_OF_B, KEEP_ALIVE_OF_B);
+    from.handed = count;
 }
+
+// The edges connect, and hand each other what they put, in pieces of at most so many octets.
+fn talk(rt: &impl Abort, alloc: Global, pair: &mut Pair, size: usize) {
+    take(rt, alloc, &mut pair.one, Input::Connected { peer: B });
+    take(rt, alloc, &mut pair.other, Input::Connected { peer: A });
+    for _turn in 0..4 {
+        hand_over(rt, alloc, &mut pair.other, &mut pair.one, B, size);
+        hand_over(rt, alloc, &mut pair.one, &mut pair.other, A, size);
+    }
+}
+
+// Both edges do steps.
+fn play_both(rt: &impl Abort, alloc: Global, pair: &mut Pair, steps: &[Step]) {
+    play(rt, alloc, &mut pair.one, steps);
+    play(rt, alloc, &mut pair.other, steps);
+}
+
+// One edge does steps, what its link took is handed over, and then the other one does steps.
+fn play_across(rt: &impl Abort, alloc: Global, pair: &mut Pair, one: &[Step], other: &[Step]) {
+    play(rt, alloc, &mut pair.one, one);
+    hand_over(rt, alloc, &mut pair.one, &mut pair.other, A, 4096);
+    play(rt, alloc, &mut pair.other, other);
+}
+
+// What happens between two edges: which call of A's link fails, what both do before they connect, how large the pieces are in
+// which they hear each other, what A does then, and what B finds after it.
+#[derive(Clone, Copy)]
+struct Story<'a> {
+    fails: u64,
+    before: &'a [Step],
+    size: usize,
+    one: &'a [Step],
+    other: &'a [Step],
+}
+
+fn goes_on(rt: &impl Abort, alloc: Global, pair: &mut Pair, story: &Story<'_>) {
+    play_both(rt, alloc, pair, story.before);
+    talk(rt, alloc, pair, story.size);
+    play_across(rt, alloc, pair, story.one, story.other);
+}
+
+fn happens(rt: &impl Abort, alloc: Global, story: &Story<'_>) {
+    let mut pair = pair_of(rt, alloc, story.fails);
+    goes_on(rt, alloc, &mut pair, story);
+}
+
+const OFF: [Step; 1] = [Step::Wire(0, false)];
+
+const UP_AT_A: [Step; 4] = [
+    Step::Session(B, StateName::Operational),
+    Step::Calls(2),
+    Step::Put(0, B, PROPOSAL_OF_A),
+    Step::Put(1, B, KEEP_ALIVE_OF_A),
+];
+
+const UP_AT_B: [Step; 4] = [
+    Step::Session(A, StateName::Operational),
+    Step::Calls(2),
+    Step::Put(0, A, PROPOSAL_OF_B),
+    Step::Put(1, A, KEEP_ALIVE_OF_B),
+];
 
 #[test]
 fn comes_up_over_pieces_of_all_sizes(rt: HostRuntime) {
-    let alloc = rt.alloc();
     for size in 1..37 {
-        comes_up(&rt, alloc, size);
+        let story = Story {
+            fails: 0,
+            before: OFF.as_slice(),
+            size,
+            one: UP_AT_A.as_slice(),
+            other: UP_AT_B.as_slice(),
+        };
+        happens(&rt, rt.alloc(), &story);
     }
+}
+
+/// A frame from station 1 to all, and the packet that carries it under label 16 (RFC 3032 section 2.1, RFC 4448 section 4).
+const BROADCAST: &str = "ffffffffffff 020000000001 0800";
+
+const PACKET: &str = "000101ff 00000000 ffffffffffff 020000000001 0800";
+
+// The first edge puts its Initialization, KeepAlive and Label Mapping; its fourth call is the packet.
+const ENTERS: [Step; 5] = [
+    Step::Frame(0, BROADCAST),
+    Step::Gives(1),
+    Step::SentOn(0, B, 0),
+    Step::Calls(4),
+    Step::Sent(3, B, PACKET),
+];
+
+const LEAVES: [Step; 2] = [Step::Gives(1), Step::Left(0, 1, BROADCAST)];
+
+#[test]
+fn crosses_between_two_links(rt: HostRuntime) {
+    let story = Story {
+        fails: 0,
+        before: &[],
+        size: 4096,
+        one: ENTERS.as_slice(),
+        other: LEAVES.as_slice(),
+    };
+    happens(&rt, rt.alloc(), &story);
+}
+
+// The call for the first copy fails, and the next copy goes out again.
+const DROPS_ONE: [Step; 6] = [
+    Step::Frame(0, BROADCAST),
+    Step::Dropped(DropCause::LinkFault),
+    Step::Frame(0, BROADCAST),
+    Step::Gives(1),
+    Step::SentOn(0, B, 0),
+    Step::Calls(5),
+];
+
+#[test]
+fn drops_a_copy_that_its_link_does_not_take(rt: HostRuntime) {
+    let story = Story {
+        fails: 4,
+        before: &[],
+        size: 4096,
+        one: DROPS_ONE.as_slice(),
+        other: LEAVES.as_slice(),
+    };
+    happens(&rt, rt.alloc(), &story);
 }

@@ -1,191 +1,121 @@
-//! Edges take what comes of connections, each over a link in memory.
+//! Edges take what comes of connections. Their wire is off, so that nothing but sessions is told.
 
-use crate::tests::around::{
-    A, B, KEEP_ALIVE_OF_A, KEEP_ALIVE_OF_B, PROPOSAL_OF_A, PROPOSAL_OF_B, heard, hears, link,
-    octets_of, put, silent, take, took,
-};
-use edge_model::{Effect, Effects, Input};
-use net_base::{EdgeId, List, MemLink, Reason, StateName};
-use provider_edge::Edge;
-use std::alloc::Global;
-use std::process::Abort;
+use crate::tests::plans::{A, B, PAIR};
+use crate::tests::proposals::{KEEP_ALIVE_OF_A, KEEP_ALIVE_OF_B, PROPOSAL_OF_A, PROPOSAL_OF_B};
+use crate::tests::steps::{Step, plays};
+use net_base::{Reason, StateName};
 
-// What was told at a place is that the session is in this state.
-fn is_told(effects: &Effects, place: usize, named: StateName) -> bool {
-    match effects.list.get(place) {
-        Some(Effect::Session { state, .. }) => *state == named,
-        _ => false,
-    }
-}
+const OFF: [Step; 2] = [Step::Wire(0, false), Step::Gives(0)];
 
-// After these octets of its peer an edge tells this state at a place.
-fn tells(
-    rt: &impl Abort,
-    alloc: Global,
-    edge: &mut Edge,
-    peer: EdgeId,
-    text: &str,
-    link: &mut MemLink,
-    place: usize,
-    state: StateName,
-) {
-    let effects = heard(rt, alloc, edge, peer, text, link);
-    assert!(rt; is_told(&effects, place, state));
-}
-
-// A connection with the peer stands, and so many effects come of it.
-fn connects(
-    rt: &impl Abort,
-    alloc: Global,
-    edge: &mut Edge,
-    peer: EdgeId,
-    link: &mut MemLink,
-    count: usize,
-) {
-    let effects = took(rt, alloc, edge, Input::Connected { peer }, link);
-    assert!(rt; effects.list.len() == count);
-}
-
-// The connection with the peer is lost, which ends the session.
-fn loses(rt: &impl Abort, alloc: Global, edge: &mut Edge, peer: EdgeId, link: &mut MemLink) {
-    let effects = took(rt, alloc, edge, Input::Lost { peer }, link);
-    assert!(rt; is_told(&effects, 0, StateName::Ended(Reason::Closed)));
-    assert!(rt; !edge.has_end(peer));
-    assert!(rt; edge.session(peer) == StateName::NonExistent);
-}
+const COMES_UP_AND_IS_LOST: [Step; 20] = [
+    Step::Connected(A),
+    Step::Gives(3),
+    Step::Put(0, A, PROPOSAL_OF_B),
+    Step::Session(A, StateName::OpenSent),
+    Step::Connected(A),
+    Step::Idle,
+    Step::Hears(A, PROPOSAL_OF_A),
+    Step::Told(1, StateName::OpenRec),
+    Step::Put(1, A, KEEP_ALIVE_OF_B),
+    // The KeepAlive in two pieces.
+    Step::Hears(A, "0001000e0a000001"),
+    Step::Gives(0),
+    Step::Held(A, 8),
+    Step::Hears(A, "00000201000400000002"),
+    Step::Told(0, StateName::Operational),
+    Step::Held(A, 0),
+    Step::Lost(A),
+    Step::Told(0, StateName::Ended(Reason::Closed)),
+    Step::Gone(A),
+    Step::Session(A, StateName::NonExistent),
+    Step::Calls(2),
+];
 
 #[test]
 fn comes_up_and_is_lost(rt: HostRuntime) {
-    let alloc = rt.alloc();
-    let mut edge = silent(&rt, alloc, B);
-    let mut link = link(&rt, alloc);
-    connects(&rt, alloc, &mut edge, A, &mut link, 3);
-    assert!(rt; put(&rt, alloc, &link, 0, PROPOSAL_OF_B));
-    assert!(rt; edge.session(A) == StateName::OpenSent);
-    let again = took(
+    plays(
         &rt,
-        alloc,
-        &mut edge,
-        Input::Connected { peer: A },
-        &mut link,
-    );
-    assert!(rt; again.idle);
-    tells(
-        &rt,
-        alloc,
-        &mut edge,
-        A,
-        PROPOSAL_OF_A,
-        &mut link,
-        1,
-        StateName::OpenRec,
-    );
-    assert!(rt; put(&rt, alloc, &link, 1, KEEP_ALIVE_OF_B));
-    let front = heard(&rt, alloc, &mut edge, A, "0001000e0a000001", &mut link);
-    assert!(rt; front.list.is_empty());
-    assert!(rt; edge.held(A) == 8);
-    tells(
-        &rt,
-        alloc,
-        &mut edge,
-        A,
-        "00000201000400000002",
-        &mut link,
+        rt.alloc(),
+        PAIR,
+        B,
         0,
-        StateName::Operational,
+        OFF.as_slice(),
+        COMES_UP_AND_IS_LOST.as_slice(),
     );
-    assert!(rt; edge.held(A) == 0);
-    loses(&rt, alloc, &mut edge, A, &mut link);
 }
 
-// The edge restarts, and its end of the connection with the peer is gone.
-fn restarts(rt: &impl Abort, alloc: Global, edge: &mut Edge, peer: EdgeId, link: &mut MemLink) {
-    let effects = took(rt, alloc, edge, Input::Restart, link);
-    assert!(rt; !effects.idle);
-    assert!(rt; !edge.has_end(peer));
-}
+/// A proposal of B for 10.0.0.9, and the Notification that refuses it (RFC 5036 section 3.5.1.2.2).
+const FOR_ANOTHER: &str =
+    "000100200a000002000002000016000000010500000e000100b4000010000a0000090000";
+
+const REFUSAL: &str = "0001001c0a000001000000010012000000010300000a80000010000000010200";
+
+const REFUSES_ANOTHER_RECEIVER: [Step; 12] = [
+    Step::Connected(B),
+    Step::Calls(0),
+    Step::Hears(B, PROPOSAL_OF_B),
+    Step::Put(0, B, PROPOSAL_OF_A),
+    Step::Put(1, B, KEEP_ALIVE_OF_A),
+    Step::Session(B, StateName::OpenRec),
+    Step::Restart,
+    Step::Gone(B),
+    Step::Connected(B),
+    Step::Hears(B, FOR_ANOTHER),
+    Step::Told(1, StateName::Ended(Reason::BadReceiver)),
+    Step::Put(2, B, REFUSAL),
+];
 
 #[test]
 fn answers_a_proposal_and_refuses_another_receiver(rt: HostRuntime) {
-    let alloc = rt.alloc();
-    let mut edge = silent(&rt, alloc, A);
-    let mut link = link(&rt, alloc);
-    take(
+    plays(
         &rt,
-        alloc,
-        &mut edge,
-        Input::Connected { peer: B },
-        &mut link,
+        rt.alloc(),
+        PAIR,
+        A,
+        0,
+        OFF.as_slice(),
+        REFUSES_ANOTHER_RECEIVER.as_slice(),
     );
-    assert!(rt; link.calls().len() == 0);
-    hears(&rt, alloc, &mut edge, B, PROPOSAL_OF_B, &mut link);
-    assert!(rt; put(&rt, alloc, &link, 0, PROPOSAL_OF_A));
-    assert!(rt; put(&rt, alloc, &link, 1, KEEP_ALIVE_OF_A));
-    assert!(rt; edge.session(B) == StateName::OpenRec);
-    restarts(&rt, alloc, &mut edge, B, &mut link);
-    take(
-        &rt,
-        alloc,
-        &mut edge,
-        Input::Connected { peer: B },
-        &mut link,
-    );
-    let other = "000100200a000002000002000016000000010500000e000100b4000010000a0000090000";
-    tells(
-        &rt,
-        alloc,
-        &mut edge,
-        B,
-        other,
-        &mut link,
-        1,
-        StateName::Ended(Reason::BadReceiver),
-    );
-    let refusal = "0001001c0a000001000000010012000000010300000a80000010000000010200";
-    assert!(rt; put(&rt, alloc, &link, 2, refusal));
 }
 
-// A link whose first call fails.
-fn failing(rt: &impl Abort, alloc: Global) -> MemLink {
-    let mut fails = List::new(alloc);
-    fails.push(1).expect(rt, "memory");
-    MemLink::new(alloc, fails).expect(rt, "memory")
-}
+const ENDS_WHERE_A_PUT_FAILS: [Step; 5] = [
+    Step::Connected(B),
+    Step::Hears(B, PROPOSAL_OF_B),
+    Step::Calls(1),
+    Step::Gives(2),
+    Step::Told(0, StateName::Ended(Reason::LinkFault)),
+];
 
 #[test]
 fn ends_where_a_put_fails(rt: HostRuntime) {
-    let alloc = rt.alloc();
-    let mut edge = silent(&rt, alloc, A);
-    let mut link = failing(&rt, alloc);
-    take(
+    plays(
         &rt,
-        alloc,
-        &mut edge,
-        Input::Connected { peer: B },
-        &mut link,
+        rt.alloc(),
+        PAIR,
+        A,
+        1,
+        OFF.as_slice(),
+        ENDS_WHERE_A_PUT_FAILS.as_slice(),
     );
-    let ended = heard(&rt, alloc, &mut edge, B, PROPOSAL_OF_B, &mut link);
-    assert!(rt; link.calls().len() == 1);
-    assert!(rt; ended.list.len() == 2);
-    assert!(rt; is_told(&ended, 0, StateName::Ended(Reason::LinkFault)));
 }
+
+const EXPIRES: [Step; 5] = [
+    Step::Connected(B),
+    Step::Ticks(179),
+    Step::Session(B, StateName::Initialized),
+    Step::Ticks(1),
+    Step::Gone(B),
+];
 
 #[test]
 fn expires_where_nothing_is_heard(rt: HostRuntime) {
-    let alloc = rt.alloc();
-    let mut edge = silent(&rt, alloc, A);
-    let mut link = link(&rt, alloc);
-    take(
+    plays(
         &rt,
-        alloc,
-        &mut edge,
-        Input::Connected { peer: B },
-        &mut link,
+        rt.alloc(),
+        PAIR,
+        A,
+        0,
+        OFF.as_slice(),
+        EXPIRES.as_slice(),
     );
-    for _ in 0..179 {
-        take(&rt, alloc, &mut edge, Input::Tick, &mut link);
-    }
-    assert!(rt; edge.session(B) == StateName::Initialized);
-    take(&rt, alloc, &mut edge, Input::Tick, &mut link);
-    assert!(rt; !edge.has_end(B));
 }

@@ -1,9 +1,10 @@
 //! One PDU for each fault, with its place and its field.
 
-use crate::pdus::rows::reads_as;
+use crate::tables::{About, reads_as};
 use ldp_codec::{DecodeFault, decode_pdu};
 use net_base::Field;
-use std::test::Fail;
+use std::alloc::Global;
+use std::process::Abort;
 
 // Faults of headers, messages and TLVs.
 const FAULTS: &str = "
@@ -65,11 +66,6 @@ const FAULTS: &str = "
     0001001a0a0000010000 0201000400000001 0201000800000002 3f000001 = TlvLength { at: 28 }
 ";
 
-#[test]
-fn names_the_first_fault(rt: HostRuntime) -> Result<(), Fail> {
-    reads_as(&rt, rt.alloc(), FAULTS, 28)
-}
-
 // Faults of a FEC.
 const FEC_FAULTS: &str = "
     A FEC without octets.
@@ -105,11 +101,6 @@ const FEC_FAULTS: &str = "
     A second time VCCV types.
     000100260a0000010000 0402001c00000004 01000014 8000050c 00000000 00000064 0c0401020c040102 = Repeated { at: 38, field: Vccv }
 ";
-
-#[test]
-fn names_faults_of_a_fec(rt: HostRuntime) -> Result<(), Fail> {
-    reads_as(&rt, rt.alloc(), FEC_FAULTS, 16)
-}
 
 // Faults of the other TLVs of pseudowires.
 const PSEUDOWIRE_FAULTS: &str = "
@@ -156,24 +147,30 @@ const PSEUDOWIRE_FAULTS: &str = "
 ";
 
 #[test]
-fn names_faults_of_pseudowire_tlvs(rt: HostRuntime) -> Result<(), Fail> {
-    reads_as(&rt, rt.alloc(), PSEUDOWIRE_FAULTS, 20)
-}
-
-#[test]
 fn keeps_to_the_maximum(rt: HostRuntime) {
     let octets = [0u8, 1, 1, 1];
     let fault = decode_pdu(rt.alloc(), &octets, 256).err();
     assert!(rt; fault == Some(DecodeFault::PduLength { at: 2 }));
 }
 
+// The words of a fault.
+fn says(rt: &impl Abort, alloc: Global, fault: DecodeFault, words: &str) {
+    let told = format!(in alloc; "{fault}").expect(rt, "memory");
+    assert_eq!(rt; told.as_str(), words);
+}
+
 #[test]
-fn tells_a_fault_in_words(rt: HostRuntime) -> Result<(), Fail> {
+fn tells_a_fault_in_words(rt: HostRuntime) {
     let fault = DecodeFault::Repeated {
         at: 32,
         field: Field::Status,
     };
-    let text = format!(in rt.alloc(); "{fault}")?;
-    assert_eq!(rt; text.as_str(), "a repeated TLV or part at 32");
-    Ok(())
+    says(&rt, rt.alloc(), fault, "a repeated TLV or part at 32");
+}
+
+#[test]
+fn names_the_first_fault(rt: HostRuntime) {
+    reads_as(&rt, rt.alloc(), About::Pdus, FAULTS, 28);
+    reads_as(&rt, rt.alloc(), About::Pdus, FEC_FAULTS, 16);
+    reads_as(&rt, rt.alloc(), About::Pdus, PSEUDOWIRE_FAULTS, 20);
 }

@@ -1,127 +1,131 @@
-//! Which messages can be written.
+//! Which messages can be written, of those that are not read.
 
-use crate::pdus::pseudowires::element;
-use ldp_grammar::{Message, StatusCode, Why, is_writable};
+use ldp_grammar::{Message, StatusCode, is_writable};
 use net_base::{Label, List, Text};
-use pw_tlvs::{IfParams, Points, PwFec};
-use std::test::Fail;
+use pw_tlvs::{IfParams, Points, PwFec, is_writable_fec};
+use std::alloc::Global;
+use std::process::Abort;
 
-// Whether a Label Request of this FEC can be written.
-fn can_request(fec: Option<PwFec>) -> bool {
-    match fec {
-        Some(fec) => is_writable(&Message::LabelRequest { id: 1, fec }),
-        None => false,
+// A PWid element of this PW type, with a PW ID, an MTU and a VLAN ID where they are told, and whether it can be written.
+#[derive(Clone, Copy)]
+struct Row(u16, Option<u32>, Option<u16>, Option<u16>, bool);
+
+const ROWS: [Row; 9] = [
+    // A PW type of 15 bits and of 16.
+    Row(0x7fff, None, None, None, true),
+    Row(0x7fff, Some(100), None, Some(4095), true),
+    Row(0x8000, None, None, None, false),
+    Row(0x8000, Some(100), None, None, false),
+    // A VLAN ID of 12 bits and of 13.
+    Row(4, Some(100), None, Some(4095), true),
+    Row(4, Some(100), None, Some(4096), false),
+    // An MTU with a PW ID and without, and a group alone.
+    Row(5, Some(100), Some(1500), None, true),
+    Row(5, None, Some(1500), None, false),
+    Row(5, None, None, None, true),
+];
+
+// The element of a row.
+fn element(rt: &impl Abort, row: Row, c: bool, group: u32) -> PwFec {
+    PwFec {
+        c,
+        kind: row.0,
+        group,
+        pw_id: row.1,
+        params: IfParams {
+            mtu: row.2,
+            description: Text::read(&[]).expect(rt, "a text"),
+            vlan: row.3,
+            vccv: None,
+        },
     }
 }
 
-// A PWid element of this PW type, of PW ID 100, with this VLAN ID where it is told.
-fn typed(kind: u16, vlan: Option<u16>) -> Option<PwFec> {
-    let description = Text::read(&[])?;
-    Some(PwFec {
-        c: false,
-        kind,
-        group: 0,
-        pw_id: Some(100),
-        params: IfParams {
-            mtu: None,
-            description,
-            vlan,
-            vccv: None,
-        },
-    })
+// A Label Mapping of an element.
+fn mapping(rt: &impl Abort, fec: PwFec) -> Message {
+    Message::LabelMapping {
+        id: 1,
+        fec,
+        label: Label::new(16).expect(rt, "a label"),
+        pw_status: None,
+        points: Points::empty(),
+    }
+}
+
+// The element can be written or not, and so can a Label Request. A Label Mapping needs a PW ID too.
+fn agrees(rt: &impl Abort, fec: PwFec, can: bool) {
+    let can_map = can && fec.pw_id.is_some();
+    assert!(rt; is_writable_fec(&fec) == can);
+    assert!(rt; is_writable(&Message::LabelRequest { id: 1, fec }) == can);
+    assert!(rt; is_writable(&mapping(rt, fec)) == can_map);
 }
 
 #[test]
 fn tells_which_fecs_can_be_written(rt: HostRuntime) {
-    assert!(rt; can_request(typed(0x7fff, Some(4095))));
-    // A PW type of 16 bits.
-    assert!(rt; !can_request(typed(0x8000, None)));
-    // The VLAN ID 4096.
-    assert!(rt; !can_request(typed(4, Some(4096))));
-    // A group with and without a parameter.
-    assert!(rt; can_request(element(7, None, None)));
-    assert!(rt; !can_request(element(7, None, Some(1500))));
+    for row in ROWS.as_slice() {
+        agrees(&rt, element(&rt, *row, false, 0), row.4);
+        agrees(&rt, element(&rt, *row, true, 7), row.4);
+    }
 }
 
-#[test]
-fn writes_no_mapping_without_pw_id(rt: HostRuntime) -> Result<(), Fail> {
-    let mapping = Message::LabelMapping {
-        id: 1,
-        fec: element(7, None, None).ok_or("a FEC")?,
-        label: Label::new(16).ok_or("a label")?,
-        pw_status: None,
-        points: Points::empty(),
-    };
-    assert!(rt; !is_writable(&mapping));
-    Ok(())
-}
-
-#[test]
-fn writes_no_part_of_an_address(rt: HostRuntime) -> Result<(), Fail> {
-    let octets = List::from_bytes(rt.alloc(), &[10, 0, 0])?;
-    let address = Message::Address {
-        id: 1,
-        family: 1,
-        octets,
-    };
-    assert!(rt; !is_writable(&address));
-    Ok(())
-}
-
-#[test]
-fn withdraws_no_fec_alone(rt: HostRuntime) {
-    let withdraw = Message::AddressWithdraw {
+// No MAC list is withdrawn with the element, which is one of a group.
+fn withdraws(fec: PwFec) -> Message {
+    Message::AddressWithdraw {
         id: 1,
         addresses: None,
-        fec: element(7, None, None),
+        fec: Some(fec),
         macs: None,
-    };
-    assert!(rt; !is_writable(&withdraw));
+    }
 }
 
-#[test]
-fn writes_no_data_of_31_bits(rt: HostRuntime) {
-    let status = StatusCode {
-        fatal: false,
-        forward: false,
-        code: 0x4000_0000,
-        message: 0,
-        kind: 0,
-    };
-    let notification = Message::Notification {
+// A part of an address.
+fn part_of_address(rt: &impl Abort, alloc: Global) -> Message {
+    Message::Address {
+        id: 1,
+        family: 1,
+        octets: List::from_bytes(alloc, &[10, 0, 0]).expect(rt, "memory"),
+    }
+}
+
+// Status data of 31 bits.
+const LONG_DATA: StatusCode = StatusCode {
+    fatal: false,
+    forward: false,
+    code: 0x4000_0000,
+    message: 0,
+    kind: 0,
+};
+
+// A Notification of a status.
+fn notification(status: StatusCode) -> Message {
+    Message::Notification {
         id: 1,
         status,
         pw_status: None,
         fec: None,
-    };
-    assert!(rt; !is_writable(&notification));
+    }
+}
+
+// The message cannot be written.
+fn is_unwritable(rt: &impl Abort, message: Message) {
+    assert!(rt; !is_writable(&message));
 }
 
 #[test]
-fn writes_nothing_that_is_not_processed(rt: HostRuntime) {
-    let unprocessed = Message::Unprocessed {
-        id: 1,
-        kind: 513,
-        why: Why::UnknownTlv(0x3f00),
-    };
-    assert!(rt; !is_writable(&unprocessed));
+fn writes_no_half_messages(rt: HostRuntime) {
+    is_unwritable(&rt, withdraws(element(&rt, ROWS[8], true, 7)));
+    is_unwritable(&rt, part_of_address(&rt, rt.alloc()));
+    is_unwritable(&rt, notification(LONG_DATA));
+}
+
+// A message has this Message ID and this type.
+fn is_named(rt: &impl Abort, message: Message, id: u32, kind: u16) {
+    assert_eq!(rt; message.id(), id);
+    assert_eq!(rt; message.message_type(), kind);
 }
 
 #[test]
-fn writes_no_other_type(rt: HostRuntime) {
-    let other = Message::Other {
-        id: 8,
-        u: true,
-        kind: 0x3e01,
-    };
-    assert!(rt; !is_writable(&other));
-}
-
-#[test]
-fn tells_the_id_and_the_type(rt: HostRuntime) -> Result<(), Fail> {
-    let fec = element(7, None, None).ok_or("a FEC")?;
-    let request = Message::LabelRequest { id: 8, fec };
-    assert_eq!(rt; request.id(), 8);
-    assert_eq!(rt; request.message_type(), 0x0401);
-    Ok(())
+fn tells_the_id_and_the_type(rt: HostRuntime) {
+    let fec = element(&rt, ROWS[8], true, 7);
+    is_named(&rt, Message::LabelRequest { id: 8, fec }, 8, 0x0401);
 }

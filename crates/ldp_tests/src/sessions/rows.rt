@@ -1,7 +1,30 @@
 //! What comes to a session in octets that were worked out by hand, and what it puts: the table of states, row by row.
 
-use crate::sessions::common::reads_as;
-use std::test::Fail;
+use crate::sessions::common::{ACTIVE, accepted, comes, opened, started, up};
+use crate::tables::{About, reads_as};
+use session_core::{In, Session};
+use std::alloc::Global;
+use std::process::Abort;
+
+// The session of this name; `early` is the active end before it sent anything.
+fn session_of(rt: &impl Abort, name: &str) -> Session {
+    match name {
+        "opened" => opened(),
+        "started" => started(),
+        "accepted" => accepted(60),
+        "up" => up(),
+        _ => {
+            assert_eq!(rt; name, "early");
+            Session::Initialized(In::new(ACTIVE))
+        }
+    }
+}
+
+/// A row has the name of a state and octets, and what they bring about.
+pub fn agrees(rt: &impl Abort, alloc: Global, row: &str, words: &str) {
+    let (name, text) = row.split_once(' ').expect(rt, "a state");
+    comes(rt, alloc, session_of(rt, name), text, words);
+}
 
 // What an Initialization proposes, to the passive end that proposes 180 ticks and 4096 octets, and to the active one that
 // proposes 60 ticks and 1500 octets.
@@ -91,26 +114,10 @@ const FAULTS: &str = "
 ";
 
 #[test]
-fn judges_proposals(rt: HostRuntime) -> Result<(), Fail> {
-    reads_as(&rt, rt.alloc(), PROPOSALS, 15)
-}
-
-#[test]
-fn refuses_the_unexpected(rt: HostRuntime) -> Result<(), Fail> {
-    reads_as(&rt, rt.alloc(), MESSAGES, 13)
-}
-
-#[test]
-fn is_ended_by_the_peer(rt: HostRuntime) -> Result<(), Fail> {
-    reads_as(&rt, rt.alloc(), NOTIFICATIONS, 13)
-}
-
-#[test]
-fn hears_its_peer_alone(rt: HostRuntime) -> Result<(), Fail> {
-    reads_as(&rt, rt.alloc(), SENDERS, 5)
-}
-
-#[test]
-fn tells_what_is_no_pdu(rt: HostRuntime) -> Result<(), Fail> {
-    reads_as(&rt, rt.alloc(), FAULTS, 6)
+fn follows_the_table_of_states(rt: HostRuntime) {
+    reads_as(&rt, rt.alloc(), About::Sessions, PROPOSALS, 15);
+    reads_as(&rt, rt.alloc(), About::Sessions, MESSAGES, 13);
+    reads_as(&rt, rt.alloc(), About::Sessions, NOTIFICATIONS, 13);
+    reads_as(&rt, rt.alloc(), About::Sessions, SENDERS, 5);
+    reads_as(&rt, rt.alloc(), About::Sessions, FAULTS, 6);
 }

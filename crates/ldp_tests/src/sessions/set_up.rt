@@ -1,131 +1,81 @@
 //! A session that comes up at both ends, in octets that were worked out by hand.
 
-use crate::sessions::common::{ACTIVE, PASSIVE, opened, receive, started, words_of};
+use crate::hex::octets_of;
+use crate::sessions::common::{ACTIVE, Event, PASSIVE, Step, opened, plays, started};
 use ldp_codec::decode_pdu;
-use ldp_grammar::Message;
-use net_base::{Reason, StateName};
+use ldp_grammar::{Message, Pdu, SessionParams};
 use session_core::{In, Peers, Session};
 use std::alloc::Global;
 use std::process::Abort;
-use std::test::Fail;
 
 // The Initialization of the active end: KeepAlive Time 60, Max PDU Length 1500, to 10.0.0.1:0.
-const ACTIVE_INIT: [u8; 36] = [
-    0x00, 0x01, 0x00, 0x20, 0x0a, 0x00, 0x00, 0x02, 0x00, 0x00, 0x02, 0x00, 0x00, 0x16, 0x00, 0x00,
-    0x00, 0x01, 0x05, 0x00, 0x00, 0x0e, 0x00, 0x01, 0x00, 0x3c, 0x00, 0x00, 0x05, 0xdc, 0x0a, 0x00,
-    0x00, 0x01, 0x00, 0x00,
-];
+const ACTIVE_INIT: &str =
+    "000100200a0000020000 0200001600000001 0500000e 0001003c000005dc0a0000010000";
 
 // The Initialization of the passive end: KeepAlive Time 180, Max PDU Length 4096, to 10.0.0.2:0.
-const PASSIVE_INIT: [u8; 36] = [
-    0x00, 0x01, 0x00, 0x20, 0x0a, 0x00, 0x00, 0x01, 0x00, 0x00, 0x02, 0x00, 0x00, 0x16, 0x00, 0x00,
-    0x00, 0x01, 0x05, 0x00, 0x00, 0x0e, 0x00, 0x01, 0x00, 0xb4, 0x00, 0x00, 0x10, 0x00, 0x0a, 0x00,
-    0x00, 0x02, 0x00, 0x00,
-];
+const PASSIVE_INIT: &str =
+    "000100200a0000010000 0200001600000001 0500000e 000100b4000010000a0000020000";
 
 // The KeepAlive of the active end with Message ID 2, and that of the passive end.
-const ACTIVE_KEEP_ALIVE: [u8; 18] = [
-    0x00, 0x01, 0x00, 0x0e, 0x0a, 0x00, 0x00, 0x02, 0x00, 0x00, 0x02, 0x01, 0x00, 0x04, 0x00, 0x00,
-    0x00, 0x02,
-];
+const ACTIVE_KEEP_ALIVE: &str = "0001000e0a0000020000 0201000400000002";
 
-const PASSIVE_KEEP_ALIVE: [u8; 18] = [
-    0x00, 0x01, 0x00, 0x0e, 0x0a, 0x00, 0x00, 0x01, 0x00, 0x00, 0x02, 0x01, 0x00, 0x04, 0x00, 0x00,
-    0x00, 0x02,
-];
+const PASSIVE_KEEP_ALIVE: &str = "0001000e0a0000010000 0201000400000002";
 
-// The octets are what this end proposes.
-fn proposes(rt: &impl Abort, alloc: Global, octets: &[u8], peers: &Peers) -> Result<(), Fail> {
-    let pdu = decode_pdu(alloc, octets, 4096)?;
+// What a PDU proposes, where it is an Initialization.
+fn proposal_of(pdu: &Pdu) -> Option<SessionParams> {
     match pdu.messages.get(0) {
-        Some(Message::Initialization { params, .. }) => {
-            assert!(rt; *params == peers.proposal());
-            Ok(())
-        }
-        _ => Err(Fail::new("an Initialization")),
+        Some(Message::Initialization { params, .. }) => Some(*params),
+        _ => None,
     }
 }
 
-#[test]
-fn proposes_its_own(rt: HostRuntime) -> Result<(), Fail> {
-    proposes(&rt, rt.alloc(), &ACTIVE_INIT, &ACTIVE)?;
-    proposes(&rt, rt.alloc(), &PASSIVE_INIT, &PASSIVE)
+// The octets are what this end proposes, which is the active one or not.
+fn proposes(rt: &impl Abort, alloc: Global, text: &str, peers: &Peers, active: bool) {
+    let octets = octets_of(rt, alloc, text);
+    let pdu = decode_pdu(alloc, octets.as_slice(), 4096).expect(rt, "a PDU");
+    assert!(rt; proposal_of(&pdu) == Some(peers.proposal()));
+    assert!(rt; peers.is_active() == active);
 }
 
 #[test]
-fn has_one_active_end(rt: HostRuntime) {
-    assert!(rt; ACTIVE.is_active());
-    assert!(rt; !PASSIVE.is_active());
+fn proposes_its_own(rt: HostRuntime) {
+    proposes(&rt, rt.alloc(), ACTIVE_INIT, &ACTIVE, true);
+    proposes(&rt, rt.alloc(), PASSIVE_INIT, &PASSIVE, false);
 }
 
-// The two pieces of octets come to the session in turn, and what the last of them brings about is told.
-fn receive_both(
-    alloc: Global,
-    session: Session,
-    first: &[u8],
-    second: &[u8],
-) -> Result<String, Fail> {
-    let (session, _) = receive(alloc, session, first)?;
-    let (session, replies) = receive(alloc, session, second)?;
-    Ok(words_of(alloc, &session, &replies)?)
+const ACTIVE_COMES_UP: [Step; 4] = [
+    Step(Event::Start, "OpenSent 60/4096 Init"),
+    Step(Event::Start, "OpenSent 60/4096"),
+    Step(Event::Comes(PASSIVE_INIT), "OpenRec 60/1500 KeepAlive"),
+    Step(Event::Comes(PASSIVE_KEEP_ALIVE), "Operational 60/1500"),
+];
+
+const PASSIVE_COMES_UP: [Step; 3] = [
+    Step(Event::Start, "Initialized 180/4096"),
+    Step(Event::Comes(ACTIVE_INIT), "OpenRec 60/1500 Init KeepAlive"),
+    Step(Event::Comes(ACTIVE_KEEP_ALIVE), "Operational 60/1500"),
+];
+
+// The connection is lost. The session ended, stays so, and puts nothing.
+const CLOSES: [Step; 4] = [
+    Step(Event::Closed, "Ended(Closed)"),
+    Step(Event::Failed, "Ended(Closed)"),
+    Step(Event::Comes(ACTIVE_KEEP_ALIVE), "Ended(Closed)"),
+    Step(Event::Ticks(1), "Ended(Closed)"),
+];
+
+const FAILS: [Step; 1] = [Step(Event::Failed, "Ended(LinkFault)")];
+
+#[test]
+fn comes_up_at_both_ends(rt: HostRuntime) {
+    let session = Session::Initialized(In::new(ACTIVE));
+    plays(&rt, rt.alloc(), session, ACTIVE_COMES_UP.as_slice());
+    plays(&rt, rt.alloc(), opened(), PASSIVE_COMES_UP.as_slice());
 }
 
 #[test]
-fn both_ends_come_up(rt: HostRuntime) -> Result<(), Fail> {
-    let active = receive_both(rt.alloc(), started(), &PASSIVE_INIT, &PASSIVE_KEEP_ALIVE)?;
-    assert_eq!(rt; active.as_str(), "Operational 60/1500");
-    let passive = receive_both(rt.alloc(), opened(), &ACTIVE_INIT, &ACTIVE_KEEP_ALIVE)?;
-    assert_eq!(rt; passive.as_str(), "Operational 60/1500");
-    Ok(())
-}
-
-#[test]
-fn starts_where_active(rt: HostRuntime) -> Result<(), Fail> {
-    let (session, replies) = Session::Initialized(In::new(ACTIVE)).start();
-    let words = words_of(rt.alloc(), &session, &replies)?;
-    assert_eq!(rt; words.as_str(), "OpenSent 60/4096 Init");
-    let (session, replies) = session.start();
-    let words = words_of(rt.alloc(), &session, &replies)?;
-    assert_eq!(rt; words.as_str(), "OpenSent 60/4096");
-    Ok(())
-}
-
-#[test]
-fn waits_where_passive(rt: HostRuntime) -> Result<(), Fail> {
-    let (session, replies) = opened().start();
-    let words = words_of(rt.alloc(), &session, &replies)?;
-    assert_eq!(rt; words.as_str(), "Initialized 180/4096");
-    Ok(())
-}
-
-// The connection of a session closes for this reason.
-fn closes(rt: &impl Abort, session: Session) {
-    let closed = session.closed(Reason::Closed);
-    assert!(rt; closed.state() == StateName::Ended(Reason::Closed));
-    // It ended, and stays so.
-    let closed = closed.closed(Reason::LinkFault);
-    assert!(rt; closed.state() == StateName::Ended(Reason::Closed));
-}
-
-#[test]
-fn closes_without_a_word(rt: HostRuntime) {
-    closes(&rt, opened());
-    closes(&rt, started());
-}
-
-#[test]
-fn fails_without_a_word(rt: HostRuntime) {
-    let failed = started().closed(Reason::LinkFault);
-    assert!(rt; failed.state() == StateName::Ended(Reason::LinkFault));
-}
-
-#[test]
-fn puts_nothing_once_it_ended(rt: HostRuntime) {
-    let ended = opened().closed(Reason::Closed);
-    let (ended, replies) = ended.on_message(&Message::KeepAlive { id: 1 });
-    assert!(rt; replies.is_empty());
-    let (ended, replies) = ended.tick();
-    assert!(rt; replies.is_empty());
-    assert!(rt; ended.hold().is_none());
-    assert!(rt; ended.max_pdu().is_none());
+fn ends_without_a_word(rt: HostRuntime) {
+    plays(&rt, rt.alloc(), opened(), CLOSES.as_slice());
+    plays(&rt, rt.alloc(), started(), CLOSES.as_slice());
+    plays(&rt, rt.alloc(), started(), FAILS.as_slice());
 }

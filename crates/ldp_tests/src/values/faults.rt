@@ -1,11 +1,11 @@
 //! Octets that are no value, each row with its first fault.
 
 use crate::hex::octets_of;
+use crate::tables::{About, reads_as};
 use net_base::Field;
 use pw_tlvs::{FieldFault, read_fec, read_point};
 use std::alloc::Global;
 use std::process::Abort;
-use std::test::Fail;
 
 // Elements. An information length of 1 to 3 is too short for a PW ID, and one of 20 counts past the end.
 const ELEMENTS: &str = "
@@ -57,73 +57,24 @@ const POINTS: &str = "
 ";
 
 // The fault is the one of this text.
-fn is_told(rt: &impl Abort, alloc: Global, fault: FieldFault, text: &str) -> Result<(), Fail> {
-    let told = format!(in alloc; "{fault:?}")?;
+fn is_told(rt: &impl Abort, alloc: Global, fault: Option<FieldFault>, text: &str) {
+    let fault = fault.expect(rt, "a fault");
+    let told = format!(in alloc; "{fault:?}").expect(rt, "memory");
     assert_eq!(rt; told.as_str(), text);
-    Ok(())
 }
 
-// The octets are no value of a FEC, and have this first fault; they are few.
-fn refuses_fec(rt: &impl Abort, alloc: Global, octets: &str, fault: &str) -> Result<(), Fail> {
-    let octets = octets_of(alloc, octets)?;
-    let value = octets.as_slice();
-    if value.len() > 200 {
-        return Err(Fail::new("a long row"));
-    }
-    let told = read_fec(value).err().ok_or("a fault")?;
-    is_told(rt, alloc, told, fault)
+/// The octets are no value of a FEC, and have this first fault; they are few.
+pub fn refuses_fec(rt: &impl Abort, alloc: Global, digits: &str, text: &str) {
+    let octets = octets_of(rt, alloc, digits);
+    assert!(rt; octets.len() <= 200);
+    is_told(rt, alloc, read_fec(octets.as_slice()).err(), text);
 }
 
-// The octets are no switching point, and have this first fault; they are few.
-fn refuses_point(rt: &impl Abort, alloc: Global, octets: &str, fault: &str) -> Result<(), Fail> {
-    let octets = octets_of(alloc, octets)?;
-    let value = octets.as_slice();
-    if value.len() > 200 {
-        return Err(Fail::new("a long row"));
-    }
-    let told = read_point(value).err().ok_or("a fault")?;
-    is_told(rt, alloc, told, fault)
-}
-
-// Each of so many rows of FECs has its fault.
-fn refuses_fecs(rt: &impl Abort, alloc: Global, table: &str, count: usize) -> Result<(), Fail> {
-    let mut rows: usize = 0;
-    for line in table.lines() {
-        if let Some((octets, fault)) = line.split_once("= ") {
-            refuses_fec(rt, alloc, octets, fault)?;
-            rows = rows.saturating_add(1);
-        }
-    }
-    assert_eq!(rt; rows, count);
-    Ok(())
-}
-
-// Each of so many rows of switching points has its fault.
-fn refuses_points(rt: &impl Abort, alloc: Global, table: &str, count: usize) -> Result<(), Fail> {
-    let mut rows: usize = 0;
-    for line in table.lines() {
-        if let Some((octets, fault)) = line.split_once("= ") {
-            refuses_point(rt, alloc, octets, fault)?;
-            rows = rows.saturating_add(1);
-        }
-    }
-    assert_eq!(rt; rows, count);
-    Ok(())
-}
-
-#[test]
-fn names_the_first_fault_of_an_element(rt: HostRuntime) -> Result<(), Fail> {
-    refuses_fecs(&rt, rt.alloc(), ELEMENTS, 6)
-}
-
-#[test]
-fn names_the_first_fault_of_a_parameter(rt: HostRuntime) -> Result<(), Fail> {
-    refuses_fecs(&rt, rt.alloc(), PARAMETERS, 15)
-}
-
-#[test]
-fn names_the_first_fault_of_a_switching_point(rt: HostRuntime) -> Result<(), Fail> {
-    refuses_points(&rt, rt.alloc(), POINTS, 10)
+/// The octets are no switching point, and have this first fault; they are few.
+pub fn refuses_point(rt: &impl Abort, alloc: Global, digits: &str, text: &str) {
+    let octets = octets_of(rt, alloc, digits);
+    assert!(rt; octets.len() <= 200);
+    is_told(rt, alloc, read_point(octets.as_slice()).err(), text);
 }
 
 #[test]
@@ -138,4 +89,11 @@ fn names_a_description_that_is_too_long(rt: HostRuntime) {
         field: Field::Description,
     };
     assert!(rt; read_fec(&octets) == Err(fault));
+}
+
+#[test]
+fn names_the_first_fault(rt: HostRuntime) {
+    reads_as(&rt, rt.alloc(), About::Fecs, ELEMENTS, 6);
+    reads_as(&rt, rt.alloc(), About::Fecs, PARAMETERS, 15);
+    reads_as(&rt, rt.alloc(), About::Points, POINTS, 10);
 }

@@ -1,10 +1,22 @@
 //! FECs with octets that were worked out by hand.
+ghost use Rattle.std.specs.Prelude.{◌≤◌, length};
 
 use net_base::Text;
 use pw_tlvs::{FecValue, IfParams, PwFec, fec_size, is_writable_fec, read_fec, write_fec};
+use std::process::Abort;
 
 // C bit, raw, PW ID 100, MTU 1500.
 const RAW: [u8; 16] = [0x80, 0x80, 5, 8, 0, 0, 0, 0, 0, 0, 0, 100, 1, 4, 5, 0xdc];
+
+// The same with an unknown parameter.
+const WITH_UNKNOWN: [u8; 18] = [
+    0x80, 0x80, 5, 10, 0, 0, 0, 0, 0, 0, 0, 100, 1, 4, 5, 0xdc, 0x7f, 2,
+];
+
+// A second element follows, and the octets of the first are not looked at.
+const SECOND: [u8; 17] = [
+    0x80, 0x80, 5, 8, 0, 0, 0, 0, 0, 0, 0, 100, 1, 9, 5, 0xdc, 0x80,
+];
 
 // All parameters: MTU 1500, description "ab", VLAN ID 7, VCCV.
 const FULL: [u8; 28] = [
@@ -12,9 +24,20 @@ const FULL: [u8; 28] = [
     1, 2,
 ];
 
-fn fec(c: bool, kind: u16, group: u32, pw_id: Option<u32>, params: IfParams) -> PwFec {
+// Neither a description nor VCCV.
+fn params(rt: &impl Abort, mtu: Option<u16>, vlan: Option<u16>) -> IfParams {
+    IfParams {
+        mtu,
+        description: Text::read(&[]).expect(rt, "short"),
+        vlan,
+        vccv: None,
+    }
+}
+
+// A PWid element with the C bit.
+fn fec(kind: u16, group: u32, pw_id: Option<u32>, params: IfParams) -> PwFec {
     PwFec {
-        c,
+        c: true,
         kind,
         group,
         pw_id,
@@ -22,86 +45,75 @@ fn fec(c: bool, kind: u16, group: u32, pw_id: Option<u32>, params: IfParams) -> 
     }
 }
 
+// The octets are this value.
+fn reads(rt: &impl Abort, octets: &[u8], value: FecValue)
+    requires { length octets.now ≤ 200 }
+{
+    assert!(rt; read_fec(octets) == Ok(value));
+}
+
 #[test]
 fn reads_a_pseudowire(rt: HostRuntime) {
-    let raw = FecValue::Pw(fec(true, 5, 0, Some(100), params(Some(1500), None)));
-    assert!(rt; params(None, None).description.is_empty());
-    assert!(rt; read_fec(&RAW) == Ok(raw));
+    let params = params(&rt, Some(1500), None);
+    assert!(rt; params.description.is_empty());
+    reads(&rt, &RAW, FecValue::Pw(fec(5, 0, Some(100), params)));
 }
 
 #[test]
 fn ignores_an_unknown_parameter(rt: HostRuntime) {
-    let with_unknown = [
-        0x80, 0x80, 5, 10, 0, 0, 0, 0, 0, 0, 0, 100, 1, 4, 5, 0xdc, 0x7f, 2,
-    ];
-    assert!(rt; read_fec(&with_unknown) == read_fec(&RAW));
-}
-
-#[test]
-fn writes_and_reads_a_pseudowire(rt: HostRuntime) {
-    let description = Text::read(b"ab").expect(&rt, "short");
-    let params = IfParams {
-        mtu: Some(1500),
-        description,
-        vlan: Some(7),
-        vccv: Some((1, 2)),
-    };
-    let full = PwFec {
-        c: false,
-        kind: 4,
-        group: 258,
-        pw_id: Some(100),
-        params,
-    };
-    let mut out = [0u8; 28];
-    assert!(rt; is_writable_fec(&full));
-    assert_eq!(rt; fec_size(&full), 28);
-    assert_eq!(rt; write_fec(&full, &mut out), 28);
-    assert!(rt; out == FULL);
-    assert!(rt; read_fec(&FULL) == Ok(FecValue::Pw(full)));
-}
-
-// No description and no VCCV.
-fn params(mtu: Option<u16>, vlan: Option<u16>) -> IfParams {
-    IfParams {
-        mtu,
-        description: Text::read(&[]).unwrap(),
-        vlan,
-        vccv: None,
-    }
+    let params = params(&rt, Some(1500), None);
+    reads(
+        &rt,
+        &WITH_UNKNOWN,
+        FecValue::Pw(fec(5, 0, Some(100), params)),
+    );
 }
 
 #[test]
 fn reads_a_group(rt: HostRuntime) {
-    let group = FecValue::Pw(fec(true, 5, 7, None, params(None, None)));
-    assert!(rt; read_fec(&[0x80, 0x80, 5, 0, 0, 0, 0, 7]) == Ok(group));
+    let group = fec(5, 7, None, params(&rt, None, None));
+    reads(&rt, &[0x80, 0x80, 5, 0, 0, 0, 0, 7], FecValue::Pw(group));
 }
 
 #[test]
 fn looks_into_no_other_element(rt: HostRuntime) {
-    assert!(rt; read_fec(&[2, 0, 1, 0x20, 10, 0, 3]) == Ok(FecValue::Foreign(2)));
-    // A second element follows, and the octets of the first are not looked at.
-    let second = [
-        0x80, 0x80, 5, 8, 0, 0, 0, 0, 0, 0, 0, 100, 1, 9, 5, 0xdc, 0x80,
-    ];
-    assert!(rt; read_fec(&second) == Ok(FecValue::Foreign(0x80)));
-    assert!(rt; read_fec(&[0x80, 0x80, 5, 0, 0, 0, 0, 7, 0]) == Ok(FecValue::Foreign(0x80)));
+    reads(&rt, &[2, 0, 1, 0x20, 10, 0, 3], FecValue::Foreign(2));
+    reads(&rt, &SECOND, FecValue::Foreign(0x80));
+    let with_octet = [0x80, 0x80, 5, 0, 0, 0, 0, 7, 0];
+    reads(&rt, &with_octet, FecValue::Foreign(0x80));
 }
 
-// A PWid element of this PW type, of PW ID 100 or of a group, with an MTU and a VLAN ID where they are told.
-fn can_write(kind: u16, pw_id: Option<u32>, mtu: Option<u16>, vlan: Option<u16>) -> bool {
-    is_writable_fec(&fec(true, kind, 7, pw_id, params(mtu, vlan)))
+// All parameters.
+fn full(rt: &impl Abort) -> PwFec {
+    PwFec {
+        c: false,
+        kind: 4,
+        group: 258,
+        pw_id: Some(100),
+        params: IfParams {
+            mtu: Some(1500),
+            description: Text::read(b"ab").expect(rt, "short"),
+            vlan: Some(7),
+            vccv: Some((1, 2)),
+        },
+    }
+}
+
+// The element is written as these octets, at most 28.
+fn writes(rt: &impl Abort, fec: &PwFec, octets: &[u8])
+    requires { length octets.now ≤ 28 }
+{
+    let mut out = [0u8; 28];
+    assert!(rt; is_writable_fec(fec));
+    assert_eq!(rt; fec_size(fec), octets.len());
+    let count = write_fec(fec, &mut out);
+    let (front, _) = out.split_at(count);
+    assert!(rt; front == octets);
 }
 
 #[test]
-fn writes_no_other_elements(rt: HostRuntime) {
-    // A PW type of 15 bits and of 16.
-    assert!(rt; can_write(0x7fff, None, None, None));
-    assert!(rt; !can_write(0x8000, None, None, None));
-    // A VLAN ID of 12 bits and of 13.
-    assert!(rt; can_write(4, Some(100), None, Some(4095)));
-    assert!(rt; !can_write(4, Some(100), None, Some(4096)));
-    // An MTU with a PW ID and without.
-    assert!(rt; can_write(5, Some(100), Some(1500), None));
-    assert!(rt; !can_write(5, None, Some(1500), None));
+fn writes_and_reads_a_pseudowire(rt: HostRuntime) {
+    let full = full(&rt);
+    writes(&rt, &full, &FULL);
+    reads(&rt, &FULL, FecValue::Pw(full));
 }

@@ -1,0 +1,91 @@
+//! The scenarios of these tests, as a planner writes them, and the networks of their plans.
+
+use psn_net::Network;
+use scenario_text::read_scenario;
+use std::alloc::Global;
+use std::process::Abort;
+
+/// Two edges, and three circuits at the first of them.
+pub const BRIDGE: [&str; 1] = [
+    r#"
+version = 1
+edge = [{ name = "e0", address = "10.0.0.1" }, { name = "e1", address = "10.0.0.2" }]
+service = [{ name = "s", mtu = 9198, age = 2 }]
+circuit = [
+  { name = "c0", edge = "e0", service = "s" },
+  { name = "c1", edge = "e0", service = "s" },
+  { name = "c2", edge = "e0", service = "s" },
+]
+"#,
+];
+
+/// Two edges, and a wire between them.
+pub const PAIR: [&str; 1] = [
+    r#"
+version = 1
+edge = [{ name = "e0", address = "10.0.0.1" }, { name = "e1", address = "10.0.0.2" }]
+service = [{ name = "s" }]
+wire = [{ name = "w0", service = "s", class = "mesh", path = ["e0", "e1"], pw_id = 100 }]
+"#,
+];
+
+// Six edges with a circuit each.
+const SITES: &str = r#"
+version = 1
+edge = [
+  { name = "e0", address = "10.0.0.1" },
+  { name = "e1", address = "10.0.0.2" },
+  { name = "e2", address = "10.0.0.3" },
+  { name = "e3", address = "10.0.0.4" },
+  { name = "e4", address = "10.0.0.5" },
+  { name = "e5", address = "10.0.0.6" },
+]
+service = [{ name = "s" }]
+circuit = [
+  { name = "c0", edge = "e0", service = "s" },
+  { name = "c1", edge = "e1", service = "s" },
+  { name = "c2", edge = "e2", service = "s" },
+  { name = "c3", edge = "e3", service = "s" },
+  { name = "c4", edge = "e4", service = "s" },
+  { name = "c5", edge = "e5", service = "s" },
+]
+"#;
+
+// A full mesh of the first four, and a spoke from each of the others.
+const WIRES: &str = r#"
+wire = [
+  { name = "w0", service = "s", class = "mesh", path = ["e0", "e1"], pw_id = 100 },
+  { name = "w1", service = "s", class = "mesh", path = ["e0", "e2"], pw_id = 101 },
+  { name = "w2", service = "s", class = "mesh", path = ["e0", "e3"], pw_id = 102 },
+  { name = "w3", service = "s", class = "mesh", path = ["e1", "e2"], pw_id = 103 },
+  { name = "w4", service = "s", class = "mesh", path = ["e1", "e3"], pw_id = 104 },
+  { name = "w5", service = "s", class = "mesh", path = ["e3", "e2"], pw_id = 105 },
+  { name = "w6", service = "s", class = "spoke", path = ["e4", "e0"], pw_id = 201, priority = 10 },
+  { name = "w7", service = "s", class = "spoke", path = ["e5", "e2"], pw_id = 203, priority = 10 },
+"#;
+
+// A second spoke of the fifth edge.
+const SECOND_SPOKE: &str = r#"
+  { name = "w8", service = "s", class = "spoke", path = ["e4", "e1"], pw_id = 202, priority = 10 },
+"#;
+
+/// A hierarchy of four core edges and two spoke edges, with a spoke each; and where the first of these has two.
+pub const HIERARCHY: [&str; 3] = [SITES, WIRES, "]"];
+
+pub const TWO_SPOKES: [&str; 4] = [SITES, WIRES, SECOND_SPOKE, "]"];
+
+// The pieces of a scenario as one text.
+fn joined(rt: &impl Abort, alloc: Global, pieces: &[&str]) -> String {
+    let mut text = String::new(alloc);
+    for piece in pieces {
+        text.push_str(piece).expect(rt, "memory");
+    }
+    text
+}
+
+/// The network of a scenario, given in pieces, before its first event.
+pub fn network_of(rt: &impl Abort, alloc: Global, pieces: &[&str]) -> Network {
+    let text = joined(rt, alloc, pieces);
+    let scenario = read_scenario(alloc, text.as_str().as_bytes()).expect(rt, "a scenario");
+    Network::open(alloc, &scenario.plan).expect(rt, "memory")
+}

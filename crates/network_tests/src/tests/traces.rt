@@ -1,0 +1,126 @@
+//! What tests read of a network and its trace.
+
+use net_base::{EdgeId, Entry, Reason, SegKey, StateName, WireId};
+use psn_net::Network;
+use std::alloc::Global;
+use std::process::Abort;
+
+// A letter for a state of a session.
+fn letter_of(state: StateName) -> char {
+    match state {
+        StateName::Initialized => '0',
+        StateName::OpenSent => '1',
+        StateName::OpenRec => '2',
+        StateName::Operational => '3',
+        StateName::Ended(Reason::Closed) => 'c',
+        _ => '?',
+    }
+}
+
+// A letter for the kind of an entry.
+fn kind_of(entry: &Entry) -> char {
+    match entry {
+        Entry::Did { .. } => '>',
+        Entry::Idle => 'i',
+        Entry::Said { .. } => 's',
+        Entry::Session { state, .. } => letter_of(*state),
+        Entry::In { .. } => 'n',
+        Entry::Left { .. } => 'l',
+        Entry::Dropped { .. } => 'd',
+        Entry::Wire { down: None, .. } => 'u',
+        Entry::Wire { down: Some(_), .. } => 'w',
+        _ => '?',
+    }
+}
+
+/// The kinds of the entries, a letter each.
+pub fn kinds_of(rt: &impl Abort, alloc: Global, network: &Network) -> String {
+    let mut text = String::new(alloc);
+    for entry in network.trace().as_slice() {
+        text.push(kind_of(entry)).expect(rt, "memory");
+    }
+    text
+}
+
+/// Whether the entry at a place says these octets, from this edge.
+pub fn says(network: &Network, place: usize, edge: u16, octets: &[u8]) -> bool {
+    match network.trace().get(place) {
+        Some(Entry::Said { from, bytes, .. }) => from.0 == edge && bytes.as_slice() == octets,
+        _ => false,
+    }
+}
+
+/// Whether the last event did not apply.
+pub fn is_idle(network: &Network) -> bool {
+    let trace = network.trace();
+    matches!(trace.get(trace.len().saturating_sub(1)), Some(Entry::Idle))
+}
+
+// A digit for a number of segments; more than three are a question.
+fn digit_of(hops: u64) -> char {
+    match hops {
+        0 => '0',
+        1 => '1',
+        2 => '2',
+        3 => '3',
+        _ => '?',
+    }
+}
+
+// After how many segments a frame left at a circuit, one digit a time.
+fn push_hops(rt: &impl Abort, text: &mut String, network: &Network, frame: u64, at: u16) {
+    for entry in network.trace().as_slice() {
+        if let Entry::Left {
+            circuit,
+            origin,
+            hops,
+            ..
+        } = entry
+            && circuit.0 == at
+            && *origin == frame
+        {
+            text.push(digit_of(*hops)).expect(rt, "memory");
+        }
+    }
+}
+
+/// After how many segments a frame left at each of the first six circuits, one digit a time, each behind a stroke.
+pub fn hops_of(rt: &impl Abort, alloc: Global, network: &Network, frame: u64) -> String {
+    let mut text = String::new(alloc);
+    for circuit in 0..6 {
+        text.push('/').expect(rt, "memory");
+        push_hops(rt, &mut text, network, frame, circuit);
+    }
+    text
+}
+
+/// The first label that an edge has not given, or 0 where there is no such edge.
+pub fn next_label(network: &Network, place: u16) -> u32 {
+    match network.edge(EdgeId(place)) {
+        Some(edge) => edge.next_label(),
+        None => 0,
+    }
+}
+
+/// The label that an edge's end of the first wire is bound to, or 0.
+pub fn bound_label(network: &Network, place: u16) -> u32 {
+    let key = SegKey {
+        wire: WireId(0),
+        segment: 0,
+    };
+    match network.edge(EdgeId(place)) {
+        Some(edge) => match edge.end(key) {
+            Some(end) => end.remote().map_or(0, |binding| binding.label.number()),
+            None => 0,
+        },
+        None => 0,
+    }
+}
+
+/// How many ticks have passed at an edge, or none where there is no such edge.
+pub fn ticks_of(network: &Network, place: u16) -> Option<u64> {
+    match network.edge(EdgeId(place)) {
+        Some(edge) => Some(edge.ticks()),
+        None => None,
+    }
+}
