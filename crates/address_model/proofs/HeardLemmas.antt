@@ -3,9 +3,9 @@ use Rattle.std.proofs.Common.{◌≡◌, ◌++◌, ℕ, Bool, true, false, List,
 use Rattle.std.proofs.lemmas.Bool.{cases_Bool, eq-eqb, eqb-true}
 use Rattle.std.specs.List.{AllByRecursion}
 use Rattle.net_base.specs.declared.plan.places.ServiceId.{ServiceId}
-use Rattle.net_base.specs.declared.values.mac.Mac.{Mac}
-use Rattle.net_base.specs.values.Frame.{source_of}
-use Rattle.net_base.specs.values.Mac.{is_group_address}
+use Rattle.net_values.specs.declared.mac.Mac.{Mac}
+use Rattle.net_base.specs.trace.Frame.{source_of}
+use Rattle.net_values.specs.Mac.{is_group_address}
 use Rattle.mac_table.specs.Addresses.{AddressTable, has_address, has_room, is_of, learned, replaced}
 use Rattle.mac_table.specs.declared.mac_entry.MacEntry.{MacEntry}
 use Rattle.vsi_bridge.specs.BridgeState.{table_of}

@@ -13,7 +13,7 @@ use Rattle.net_base.specs.declared.trace.entry.Entry.{Entry}
 use Rattle.net_base.specs.plan.Accepted.{IsChecked}
 use Rattle.net_base.specs.plan.Places.{mtu_of}
 use Rattle.net_base.specs.plan.Roles.{are_joined_by, ends_at, has_port}
-use Rattle.net_base.specs.values.Frame.{destination_of}
+use Rattle.net_base.specs.trace.Frame.{destination_of}
 use Rattle.hvpls_spokes.specs.Port.{is_wire_port, ports_of}
 use Rattle.vsi_bridge.specs.Targets.{known_port}
 use Rattle.edge_model.specs.declared.effect.Effect.{Effect}

@@ -8,7 +8,7 @@ use Rattle.net_base.specs.plan.Accepted.{IsChecked}
 use Rattle.net_base.specs.plan.Places.{circuit_row, mtu_of}
 use Rattle.net_base.specs.plan.Roles.{are_joined_by}
 use Rattle.net_base.specs.trace.Isolated.{inner_at}
-use Rattle.net_base.specs.values.Frame.{destination_of}
+use Rattle.net_base.specs.trace.Frame.{destination_of}
 use Rattle.network_model.specs.Absorb.{Stepped}
 use Rattle.network_model.specs.Calm.{is_calm}
 use Rattle.network_model.specs.Frame.{frame_event, frame_work, next_origin}

@@ -9,7 +9,7 @@ use Rattle.net_base.specs.declared.plan.places.EdgeId.{EdgeId}
 use Rattle.net_base.specs.declared.plan.places.ServiceId.{ServiceId}
 use Rattle.net_base.specs.declared.trace.arrival.Arrival.{Arrival}
 use Rattle.net_base.specs.declared.trace.arrival.Arrival.TheVariants as arrival
-use Rattle.net_base.specs.values.Frame.{destination_of}
+use Rattle.net_base.specs.trace.Frame.{destination_of}
 use Rattle.vsi_bridge.specs.Targets.{known_port}
 use Rattle.edge_model.specs.Frame.{destination, forwarded, hearing}
 use Rattle.edge_model.specs.State.{EdgeState, addresses_of}

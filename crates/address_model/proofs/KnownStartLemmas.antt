@@ -13,7 +13,7 @@ use Rattle.net_base.specs.plan.Accepted.{IsChecked}
 use Rattle.net_base.specs.plan.Places.{circuit_row, mtu_of}
 use Rattle.net_base.specs.plan.Roles.{are_joined_by}
 use Rattle.net_base.specs.trace.Isolated.{inner_at}
-use Rattle.net_base.specs.values.Frame.{destination_of}
+use Rattle.net_base.specs.trace.Frame.{destination_of}
 use Rattle.vsi_bridge.specs.Targets.{known_port}
 use Rattle.edge_model.specs.declared.effect.Effect.{Effect}
 use Rattle.edge_model.specs.Frame.{destination, forwarded, hearing, is_own, port_at, received}

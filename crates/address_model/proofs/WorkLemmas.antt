@@ -16,8 +16,8 @@ use Rattle.net_base.specs.declared.trace.entry.Entry.TheVariants.{In}
 use Rattle.net_base.specs.plan.Accepted.{IsChecked}
 use Rattle.net_base.specs.plan.Places.{circuit_row, mtu_of, service_of}
 use Rattle.net_base.specs.trace.Isolated.{Among, inner_at}
-use Rattle.net_base.specs.values.Frame.{source_of}
-use Rattle.net_base.specs.values.Mac.{is_group_address}
+use Rattle.net_base.specs.trace.Frame.{source_of}
+use Rattle.net_values.specs.Mac.{is_group_address}
 use Rattle.hvpls_spokes.specs.declared.port.Port.TheVariants as port
 use Rattle.hvpls_spokes.specs.Port.{is_circuit_port, is_wire_port, ports_of, wire_port}
 use Rattle.hvpls_spokes.proofs.PortsLemmas.{LeadsTo, found_port}

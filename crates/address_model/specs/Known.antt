@@ -8,8 +8,8 @@ use Rattle.net_base.specs.declared.trace.event.Event.{Event}
 use Rattle.net_base.specs.declared.trace.event.Event.TheVariants.{Frame}
 use Rattle.net_base.specs.plan.Places.{service_of}
 use Rattle.net_base.specs.trace.Isolated.{inner_at}
-use Rattle.net_base.specs.values.Frame.{destination_of}
-use Rattle.net_base.specs.values.Mac.{is_group_address}
+use Rattle.net_base.specs.trace.Frame.{destination_of}
+use Rattle.net_values.specs.Mac.{is_group_address}
 use Rattle.network_model.specs.Frame.{next_origin}
 use Rattle.network_model.specs.OnceEach.{LeftWithin, times_left}
 use Rattle.network_model.specs.Reach.{is_circuit_on, is_site}

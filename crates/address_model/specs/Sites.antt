@@ -7,8 +7,8 @@ use Rattle.net_base.specs.declared.trace.entry.Entry.{Entry}
 use Rattle.net_base.specs.declared.trace.entry.Entry.TheVariants.{In}
 use Rattle.net_base.specs.plan.Places.{service_of}
 use Rattle.net_base.specs.trace.Isolated.{inner_at}
-use Rattle.net_base.specs.values.Frame.{source_of}
-use Rattle.net_base.specs.values.Mac.{is_group_address}
+use Rattle.net_base.specs.trace.Frame.{source_of}
+use Rattle.net_values.specs.Mac.{is_group_address}
 
 -- the circuit of each station by its address
 abbrev pub Sites : Type 0

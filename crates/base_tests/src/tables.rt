@@ -1,7 +1,7 @@
 //! One table through its calls, with values that were worked out by hand.
 ghost use Rattle.std.specs.Prelude.{◌≡◌, false};
 ghost use Rattle.mac_table.specs.Addresses.{NoneAfter};
-ghost use Rattle.net_base.specs.values.Mac.{is_group_address};
+ghost use Rattle.net_values.specs.Mac.{is_group_address};
 
 use mac_table::{Learned, MacEntry, MacTable};
 use net_base::{List, Mac};

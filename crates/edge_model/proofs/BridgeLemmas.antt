@@ -12,7 +12,7 @@ use Rattle.net_base.specs.declared.trace.arrival.Arrival.TheVariants as arrival
 use Rattle.net_base.specs.declared.trace.down.Down.{Down}
 use Rattle.net_base.specs.declared.trace.drop_cause.DropCause.{DropCause}
 use Rattle.net_base.specs.declared.trace.drop_cause.DropCause.TheVariants as cause
-use Rattle.net_base.specs.declared.values.mac.Mac.{Mac}
+use Rattle.net_values.specs.declared.mac.Mac.{Mac}
 use Rattle.net_base.specs.plan.Paths.{offer_of}
 use Rattle.net_base.specs.plan.Places.{wire_row}
 use Rattle.net_base.specs.trace.Isolated.{inner_at}

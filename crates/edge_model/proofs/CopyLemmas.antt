@@ -17,7 +17,7 @@ use Rattle.net_base.specs.declared.trace.drop_cause.DropCause.TheVariants as cau
 use Rattle.net_base.specs.plan.Paths.{is_first, is_last, offer_of}
 use Rattle.net_base.specs.plan.Places.{circuit_row, is_mesh_class, service_of, wire_row}
 use Rattle.net_base.specs.plan.Roles.{ends_at, is_circuit_at, is_wire_of}
-use Rattle.net_base.specs.values.Frame.{dress}
+use Rattle.net_base.specs.trace.Frame.{dress}
 use Rattle.hvpls_spokes.specs.declared.port.Port.{Port}
 use Rattle.hvpls_spokes.specs.declared.port.Port.TheVariants as port
 use Rattle.hvpls_spokes.specs.Port.{is_mesh, is_mesh_port, ports_of, wire_port}

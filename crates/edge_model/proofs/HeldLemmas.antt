@@ -10,7 +10,7 @@ use Rattle.net_base.specs.declared.trace.down.Down.{Down}
 use Rattle.net_base.specs.declared.trace.state_name.Reason.{Reason}
 use Rattle.net_base.specs.declared.trace.state_name.Reason.TheVariants as reason
 use Rattle.net_base.specs.declared.trace.state_name.StateName.TheVariants as name
-use Rattle.net_base.specs.declared.values.mac.Mac.{Mac}
+use Rattle.net_values.specs.declared.mac.Mac.{Mac}
 use Rattle.net_base.specs.plan.Paths.{offer_of}
 use Rattle.net_base.specs.plan.Places.{wire_row}
 use Rattle.hvpls_spokes.specs.declared.edge_role.Role.{Role}

@@ -20,7 +20,7 @@ use Rattle.edge_model.specs.Work.{Work, Answers, beginning, changes, gives, idle
 use Rattle.ldp_grammar.specs.declared.message.Message.{Message}
 use Rattle.ldp_grammar.specs.declared.message.Message.TheVariants.{Initialization, KeepAlive}
 use Rattle.ldp_grammar.specs.declared.pdu.Pdu.{Pdu}
-use Rattle.net_base.specs.declared.values.addr.Addr.{Addr}
+use Rattle.net_values.specs.declared.addr.Addr.{Addr}
 use Rattle.pw_signalling.specs.Down.{down}
 use Rattle.session_core.specs.Parameters.{proposal}
 

@@ -12,7 +12,7 @@ use Rattle.net_base.specs.declared.plan.wire_plan.Class.TheVariants.{Mesh, Spoke
 use Rattle.net_base.specs.declared.trace.down.Down.TheVariants.{NoLocal, NoRemote, Mtu, LocalFault, RemoteFault}
 use Rattle.net_base.specs.declared.trace.state_name.Reason.TheVariants as reason
 use Rattle.net_base.specs.declared.trace.state_name.StateName.TheVariants as name
-use Rattle.net_base.specs.declared.values.addr.Addr.{Addr}
+use Rattle.net_values.specs.declared.addr.Addr.{Addr}
 use Rattle.ldp_grammar.specs.declared.message.Message.{Message}
 use Rattle.ldp_grammar.specs.declared.message.Message.TheVariants.{AddressWithdraw, Initialization, KeepAlive, LabelMapping, LabelWithdraw, LabelRelease, Notification}
 use Rattle.ldp_grammar.specs.Written.{written}

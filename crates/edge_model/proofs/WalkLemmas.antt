@@ -16,7 +16,7 @@ use Rattle.net_base.specs.declared.trace.drop_cause.DropCause.{DropCause}
 use Rattle.net_base.specs.declared.trace.drop_cause.DropCause.TheVariants as cause
 use Rattle.net_base.specs.declared.trace.state_name.Reason.TheVariants as reason
 use Rattle.net_base.specs.declared.trace.state_name.StateName.TheVariants as name
-use Rattle.net_base.specs.declared.values.mac.Mac.{Mac}
+use Rattle.net_values.specs.declared.mac.Mac.{Mac}
 use Rattle.net_base.specs.plan.Paths.{are_joined, offer_of}
 use Rattle.net_base.specs.plan.Places.{circuit_row, wire_row}
 use Rattle.net_base.specs.trace.Isolated.{inner_at}

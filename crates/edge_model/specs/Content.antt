@@ -1,7 +1,7 @@
 -- What is told of a pseudowire, and how messages carry it (RFC 8077 section 6).
 use Rattle.std.specs.Prelude.{ℕ, Bool, List, [], Option, Some, None, option_map, if◌then◌else◌}
 use Rattle.net_base.specs.declared.plan.offer.Offer.{Offer}
-use Rattle.net_base.specs.declared.values.mac.Mac.{Mac}
+use Rattle.net_values.specs.declared.mac.Mac.{Mac}
 use Rattle.pw_tlvs.specs.declared.if_params.IfParams.{IfParams}
 use Rattle.pw_tlvs.specs.declared.point.Point.{Point}
 use Rattle.pw_tlvs.specs.declared.pw_fec.PwFec.{PwFec}

@@ -1,7 +1,7 @@
 -- An edge puts messages to a peer, one after another, as long as its link takes them (RFC 5036 section 2.5).
 use Rattle.std.specs.Prelude.{◌+◌, ◌^◌, ◌-◌, ◌==◌, ℕ, Bool, true, false, List, [], ◌∷◌, Option, Some, None, option_map, if◌then◌else◌}
 use Rattle.net_base.specs.declared.plan.places.EdgeId.{EdgeId}
-use Rattle.net_base.specs.declared.values.addr.Addr.{Addr}
+use Rattle.net_values.specs.declared.addr.Addr.{Addr}
 use Rattle.ldp_grammar.specs.declared.ldp_id.LdpId.{LdpId}
 use Rattle.ldp_grammar.specs.declared.message.Message.{Message}
 use Rattle.ldp_grammar.specs.Written.{written}

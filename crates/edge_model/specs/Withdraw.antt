@@ -1,6 +1,6 @@
 -- An edge tells a neighbour that addresses are to be forgotten: a MAC withdraw on an end, in pieces (RFC 4762 section 6.2).
 use Rattle.std.specs.Prelude.{List, [], ◌∷◌}
-use Rattle.net_base.specs.declared.values.mac.Mac.{Mac}
+use Rattle.net_values.specs.declared.mac.Mac.{Mac}
 use Rattle.pw_signalling.specs.End.{LocalPart, Advertised}
 use Rattle.edge_model.specs.declared.end_place.EndPlace.{EndPlace}
 use Rattle.edge_model.specs.Content.{mac_withdrawal}

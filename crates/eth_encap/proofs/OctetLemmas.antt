@@ -4,7 +4,7 @@ use Rattle.std.proofs.lemmas.List.{get_or-drop}
 use Rattle.std.proofs.lemmas.Slice.{drop-append-drop}
 use Rattle.std.proofs.Math.Seq.{take-append_seam}
 use Rattle.byteorder.specs.Endian.{big_number}
-use Rattle.net_base.specs.values.Frame.{pair_at}
+use Rattle.net_base.specs.trace.Frame.{pair_at}
 
 -- the number of two octets is the one that stands first in the rest
 pub number_at : (octets : List ℕ) (at : ℕ) → big_number 2 (drop at octets) ≡ pair_at octets at

@@ -6,9 +6,9 @@ use Rattle.byteorder.specs.Endian.{big_number}
 use Rattle.byteorder.specs.Numbers.{big_number-reads_back}
 use Rattle.net_base.specs.declared.trace.drop_cause.DropCause.{DropCause}
 use Rattle.net_base.specs.declared.trace.drop_cause.DropCause.TheVariants.{Short, NoTag, WrongTag}
-use Rattle.net_base.specs.values.Frame.{dress, of_size, pair_at, tag_protocol, vlan_id_of}
+use Rattle.net_base.specs.trace.Frame.{dress, of_size, pair_at, tag_protocol, vlan_id_of}
 use Rattle.net_base.proofs.FrameLemmas.{inner-dress}
-use Rattle.net_base.specs.values.Label.{IsLabel}
+use Rattle.net_values.specs.Label.{IsLabel}
 use Rattle.eth_encap.specs.declared.stack_entry.StackEntry.{StackEntry}
 use Rattle.eth_encap.specs.Packet.{IsInner, IsVlan, PackedIsUnpacked, behind_control, entry_in, entry_number, entry_octets, entry_of, frame_behind, frame_in, live_entry, payload_of, unpacked}
 use Rattle.std.proofs.lemmas.List.{drop-drop}

@@ -4,8 +4,8 @@ use Rattle.std.specs.Prelude.{◌≡◌, ◌≤◌, ◌<◌, ◌==◌, ◌+◌, 
 use Rattle.byteorder.specs.Endian.{big_bytes, big_number}
 use Rattle.net_base.specs.declared.trace.drop_cause.DropCause.{DropCause}
 use Rattle.net_base.specs.declared.trace.drop_cause.DropCause.TheVariants.{Short, NoTag, BadNibble, Ttl}
-use Rattle.net_base.specs.values.Frame.{dress, of_size, pair_at, tag_protocol}
-use Rattle.net_base.specs.values.Label.{IsLabel}
+use Rattle.net_base.specs.trace.Frame.{dress, of_size, pair_at, tag_protocol}
+use Rattle.net_values.specs.Label.{IsLabel}
 use Rattle.eth_encap.specs.declared.stack_entry.StackEntry.{StackEntry}
 
 -- ---- what is written

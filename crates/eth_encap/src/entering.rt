@@ -1,6 +1,6 @@
 //! What enters at a circuit.
 ghost use Rattle.std.specs.Prelude.{◌≡◌, ◌≤◌, ◌+◌, ◌++◌, length, take, drop, Ok, Err, None, Some, IfOk, IfErr, OnErr};
-ghost use Rattle.net_base.specs.values.Frame.{inner as inner_of, untagged};
+ghost use Rattle.net_base.specs.trace.Frame.{inner as inner_of, untagged};
 ghost use Rattle.eth_encap.specs.Fault.{cause_of};
 
 use crate::FrameFault;

@@ -1,6 +1,6 @@
 //! What leaves at a circuit.
 ghost use Rattle.std.specs.Prelude.{◌≡◌, ◌≤◌, ◌+◌, ◌++◌, length, drop, Some};
-ghost use Rattle.net_base.specs.values.Frame.{dress as dressed, tag_octets};
+ghost use Rattle.net_base.specs.trace.Frame.{dress as dressed, tag_octets};
 
 use crate::octets::join;
 use crate::tag::TAG_PROTOCOL;

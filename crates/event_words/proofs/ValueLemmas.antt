@@ -10,7 +10,7 @@ use Rattle.std.proofs.lemmas.Bool.Decides.{nat_tests}
 use Rattle.std.proofs.lemmas.Fmt.{digits_value-decimal, digits_decimal, decimal_nonempty, decimal_digit, first_decimal}
 use Rattle.std.proofs.lemmas.Str.Parse.{IsNumeralModel, IsDigitsTest, numerals_by_fold}
 use Rattle.hex.specs.Hex.{encode_with, lower_digits}
-use Rattle.net_base.specs.values.Name.{IsName, is_name_octet_of}
+use Rattle.net_values.specs.Name.{IsName, is_name_octet_of}
 use Rattle.report_text.specs.Words.{name_or_empty, switch_name}
 use Rattle.scenario_text.specs.Words.{is_space, is_digit_of, value_from, is_decimal, decimal_from, switch_of}
 use Rattle.scenario_text.specs.Names.{place_in}

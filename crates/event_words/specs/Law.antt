@@ -6,7 +6,7 @@ use Rattle.net_base.specs.declared.trace.event.Event.TheVariants.{Connect, Deliv
 use Rattle.net_base.specs.plan.Accepted.{NonePair}
 use Rattle.net_base.specs.plan.NameFaults.{edge_names, circuit_names, wire_names}
 use Rattle.net_base.specs.plan.Planned.{IsEventOf}
-use Rattle.net_base.specs.values.Name.{IsName}
+use Rattle.net_values.specs.Name.{IsName}
 use Rattle.std.specs.List.{All}
 use Rattle.std.specs.Str.{bytes_eq}
 use Rattle.report_text.specs.Words.{event_words}

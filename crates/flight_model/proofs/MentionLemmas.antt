@@ -3,7 +3,7 @@ use Rattle.std.proofs.Common.{◌≡◌, ◌++◌, ℕ, List, [], ◌∷◌, Opt
 use Rattle.std.specs.Option.{option_and_then}
 use Rattle.net_base.specs.declared.plan.Plan.{Plan}
 use Rattle.net_base.specs.declared.plan.places.EdgeId.{EdgeId}
-use Rattle.net_base.specs.declared.values.mac.Mac.{Mac}
+use Rattle.net_values.specs.declared.mac.Mac.{Mac}
 use Rattle.pw_tlvs.specs.declared.point.Point.{Point}
 use Rattle.pw_tlvs.specs.declared.pw_fec.PwFec.{PwFec}
 use Rattle.pw_tlvs.specs.declared.pw_status.PwStatus.{PwStatus}

@@ -4,10 +4,10 @@ use Rattle.std.specs.Prelude.{IfSome, option_map}
 use Rattle.std.specs.List.{AllByRecursion}
 use Rattle.std.proofs.lemmas.Bool.Decides.{nat_tests}
 use Rattle.net_base.specs.declared.plan.offer.Offer.{Offer}
-use Rattle.net_base.specs.declared.values.mac.Mac.{Mac}
+use Rattle.net_values.specs.declared.mac.Mac.{Mac}
 use Rattle.net_base.specs.plan.Accepted.{IsOffer}
 use Rattle.net_base.specs.plan.Faults.{is_told_within}
-use Rattle.net_base.specs.values.Label.{IsLabel}
+use Rattle.net_values.specs.Label.{IsLabel}
 use Rattle.pw_tlvs.specs.declared.if_params.IfParams.{IfParams}
 use Rattle.pw_tlvs.specs.declared.pw_fec.PwFec.{PwFec}
 use Rattle.pw_tlvs.specs.declared.pw_status.PwStatus.{PwStatus}

@@ -1,7 +1,7 @@
 -- The MAC addresses of an Address Withdraw, the pieces in which they are passed on, and the size of what is written.
 use Rattle.std.proofs.Common.{◌≡◌, ◌≤◌, ◌+◌, ◌*◌, ◌++◌, ℕ, zero, suc, List, [], ◌∷◌, length, flat_map, take, drop, Option, Some, None, length-append, arith}
 use Rattle.std.specs.List.{AllByRecursion}
-use Rattle.net_base.specs.declared.values.mac.Mac.{Mac}
+use Rattle.net_values.specs.declared.mac.Mac.{Mac}
 use Rattle.pw_tlvs.specs.declared.pw_fec.PwFec.{PwFec}
 use Rattle.pw_tlvs.specs.Macs.{mac_octets}
 use Rattle.pw_tlvs.specs.Written.{information, written_fec}

@@ -8,11 +8,11 @@ use Rattle.net_base.specs.declared.plan.places.EdgeId.{EdgeId}
 use Rattle.net_base.specs.declared.plan.places.WireId.{WireId}
 use Rattle.net_base.specs.declared.plan.wire_plan.WirePlan.{WirePlan}
 use Rattle.net_base.specs.declared.trace.down.Down.{Down}
-use Rattle.net_base.specs.declared.values.mac.Mac.{Mac}
+use Rattle.net_values.specs.declared.mac.Mac.{Mac}
 use Rattle.net_base.specs.plan.Accepted.{IsChecked, IsOffer, IsWireOf}
 use Rattle.net_base.specs.plan.Paths.{expected, follows, is_first, joins, offer_of}
 use Rattle.net_base.specs.plan.Places.{wire_row}
-use Rattle.net_base.specs.values.Label.{IsLabel}
+use Rattle.net_values.specs.Label.{IsLabel}
 use Rattle.label_space.specs.Labels.{numbers_end}
 use Rattle.pw_tlvs.specs.declared.pw_status.PwStatus.{PwStatus}
 use Rattle.pw_status.specs.Status.{combined, method_by}

@@ -2,8 +2,8 @@
 use Rattle.std.proofs.Common.{◌≡◌, ◌≤◌, ◌<◌, ◌+◌, ◌++◌, ◌∙◌, ℕ, true, false, List, [], ◌∷◌, length, Some, None, refl, sym, ap, subst, append_assoc, arith, ⊎_elim}
 use Rattle.std.specs.List.{AllByRecursion}
 use Rattle.net_base.specs.declared.trace.state_name.Reason.TheVariants as reason
-use Rattle.net_base.specs.declared.values.addr.Addr.{Addr}
-use Rattle.net_base.specs.declared.values.mac.Mac.{Mac}
+use Rattle.net_values.specs.declared.addr.Addr.{Addr}
+use Rattle.net_values.specs.declared.mac.Mac.{Mac}
 use Rattle.pw_tlvs.specs.declared.pw_fec.PwFec.{PwFec}
 use Rattle.mac_withdraw.specs.Pieces.{most_in_piece}
 use Rattle.ldp_grammar.specs.declared.message.Message.{Message}

@@ -9,7 +9,7 @@ use Rattle.net_base.specs.plan.Accepted.{IsChecked}
 use Rattle.net_base.specs.plan.Paths.{joins}
 use Rattle.net_base.specs.plan.Places.{wire_row}
 use Rattle.net_base.specs.plan.Planned.{IsEventOf}
-use Rattle.net_base.specs.values.Label.{IsLabel}
+use Rattle.net_values.specs.Label.{IsLabel}
 use Rattle.net_base.proofs.PathLemmas.{joins_turned}
 use Rattle.label_space.specs.Labels.{numbers_end}
 use Rattle.pw_signalling.specs.declared.binding.Binding.{Binding}

@@ -1,8 +1,8 @@
 -- The messages that an edge says on a connection, and their octets.
 use Rattle.std.specs.Prelude.{◌≡◌, ◌≤◌, ◌<◌, ◌^◌, ◌++◌, ◌⊎◌, ℕ, true, false, List, [], ◌∷◌, length, Option, Some, None, is_some}
 use Rattle.std.specs.List.{AllByRecursion}
-use Rattle.net_base.specs.declared.values.addr.Addr.{Addr}
-use Rattle.net_base.specs.declared.values.mac.Mac.{Mac}
+use Rattle.net_values.specs.declared.addr.Addr.{Addr}
+use Rattle.net_values.specs.declared.mac.Mac.{Mac}
 use Rattle.ldp_grammar.specs.declared.address_list.AddressList.{AddressList}
 use Rattle.ldp_grammar.specs.declared.message.Message.{Message}
 use Rattle.ldp_grammar.specs.declared.message.Message.TheVariants.{Notification, Initialization, KeepAlive, AddressWithdraw, LabelMapping, LabelWithdraw, LabelRelease}

@@ -1,7 +1,7 @@
 -- What an edge has told of its pseudowires, so that whatever it tells of them next can be written.
 use Rattle.std.specs.Prelude.{◌≡◌, ◌≤◌, ◌<◌, ◌^◌, ℕ, Bool, true, false, None}
 use Rattle.label_space.specs.Labels.{numbers_end}
-use Rattle.net_base.specs.values.Label.{IsLabel}
+use Rattle.net_values.specs.Label.{IsLabel}
 use Rattle.pw_signalling.specs.declared.told.Told.{Told}
 use Rattle.pw_signalling.specs.End.{EndState, LocalPart, Idle, Advertised, Withdrawing}
 use Rattle.edge_model.specs.Mend.{is_up_with}

@@ -12,7 +12,7 @@ use Rattle.net_base.specs.declared.trace.arrival.Arrival.{Arrival}
 use Rattle.net_base.specs.plan.Accepted.{IsChecked}
 use Rattle.net_base.specs.plan.Places.{circuit_row, is_mesh_class, is_mesh_row, is_mesh_wire, wire_row}
 use Rattle.net_base.specs.plan.Roles.{ends_at, is_circuit_at}
-use Rattle.net_base.specs.values.Frame.{dress}
+use Rattle.net_base.specs.trace.Frame.{dress}
 use Rattle.hvpls_spokes.specs.declared.port.Port.{Port}
 use Rattle.hvpls_spokes.specs.declared.port.Port.TheVariants as port
 use Rattle.hvpls_spokes.specs.Port.{circuit_ports, is_mesh, is_wire_port, ports_of, wire_port, wire_ports}

@@ -10,7 +10,7 @@ use Rattle.net_base.specs.declared.trace.arrival.Arrival.{Arrival}
 use Rattle.net_base.specs.plan.Accepted.{IsChecked, IsWireOf}
 use Rattle.net_base.specs.plan.Paths.{expected, joins, offer_of}
 use Rattle.net_base.specs.plan.Places.{mtu_of, wire_row}
-use Rattle.net_base.specs.values.Label.{IsLabel}
+use Rattle.net_values.specs.Label.{IsLabel}
 use Rattle.eth_encap.specs.Packet.{entry_of, payload_of}
 use Rattle.eth_encap.proofs.PacketLemmas.{packed_is_unpacked}
 use Rattle.edge_model.specs.Copies.{SentCopy}

@@ -18,7 +18,7 @@ use Rattle.net_base.specs.plan.Paths.{joins}
 use Rattle.net_base.specs.plan.Places.{circuit_row, service_of}
 use Rattle.net_base.specs.plan.RowFaults.{is_edge_of}
 use Rattle.net_base.specs.trace.Isolated.{inner_at}
-use Rattle.net_base.specs.values.Frame.{destination_of, goes_to_group, source_of}
+use Rattle.net_base.specs.trace.Frame.{destination_of, goes_to_group, source_of}
 use Rattle.mac_table.specs.Addresses.{has_address}
 use Rattle.vsi_bridge.specs.Targets.{known_port}
 use Rattle.edge_model.specs.Frame.{destination, hearing}

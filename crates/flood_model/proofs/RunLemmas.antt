@@ -17,7 +17,7 @@ use Rattle.net_base.specs.plan.Places.{circuit_row, mtu_of}
 use Rattle.net_base.specs.plan.Planned.{IsEventOf}
 use Rattle.net_base.specs.plan.Roles.{are_joined_by}
 use Rattle.net_base.specs.trace.Isolated.{inner_at}
-use Rattle.net_base.specs.values.Frame.{destination_of}
+use Rattle.net_base.specs.trace.Frame.{destination_of}
 use Rattle.edge_model.proofs.LocalLemmas.{and_left}
 use Rattle.network_model.specs.Absorb.{Stepped}
 use Rattle.network_model.specs.Calm.{has_live_spokes, is_calm, is_full, is_quiet}

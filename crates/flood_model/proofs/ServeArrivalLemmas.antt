@@ -17,7 +17,7 @@ use Rattle.net_base.specs.plan.Accepted.{IsChecked}
 use Rattle.net_base.specs.plan.Paths.{joins}
 use Rattle.net_base.specs.plan.Places.{is_mesh_class, mtu_of, wire_row}
 use Rattle.net_base.specs.plan.Roles.{are_joined_by, ends_at}
-use Rattle.net_base.specs.values.Frame.{destination_of, goes_to_group, source_of}
+use Rattle.net_base.specs.trace.Frame.{destination_of, goes_to_group, source_of}
 use Rattle.hvpls_spokes.specs.Port.{is_mesh_port, is_wire_port, ports_of}
 use Rattle.hvpls_spokes.proofs.RowPortLemmas.{wire_behind, wire_leads}
 use Rattle.hvpls_spokes.proofs.WirePortLemmas.{LeadsToWire, found_wire_port, same_wire_port, wire_port_is}

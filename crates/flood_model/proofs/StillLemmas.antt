@@ -18,12 +18,12 @@ use Rattle.net_base.specs.declared.trace.entry.Entry.{Entry}
 use Rattle.net_base.specs.declared.trace.entry.Entry.TheVariants.{In}
 use Rattle.net_base.specs.declared.trace.event.Event.{Event}
 use Rattle.net_base.specs.declared.trace.event.Event.TheVariants.{Frame, Arrive, Discard, Again}
-use Rattle.net_base.specs.declared.values.mac.Mac.{Mac}
+use Rattle.net_values.specs.declared.mac.Mac.{Mac}
 use Rattle.net_base.specs.plan.Accepted.{IsChecked}
 use Rattle.net_base.specs.plan.Places.{circuit_row, mtu_of, wire_row}
 use Rattle.net_base.specs.trace.Isolated.{inner_at}
-use Rattle.net_base.specs.values.Frame.{source_of}
-use Rattle.net_base.specs.values.Mac.{is_group_address}
+use Rattle.net_base.specs.trace.Frame.{source_of}
+use Rattle.net_values.specs.Mac.{is_group_address}
 use Rattle.mac_table.specs.Addresses.{AddressTable, has_address, is_of, learned}
 use Rattle.mac_table.specs.declared.mac_entry.MacEntry.{MacEntry}
 use Rattle.mac_table.proofs.AddressLemmas.{entry_of-absent, entry_of-held, entry_of-learned_other}

@@ -13,7 +13,7 @@ use Rattle.net_base.specs.plan.Accepted.{IsChecked}
 use Rattle.net_base.specs.plan.Places.{mtu_of}
 use Rattle.net_base.specs.plan.Planned.{IsEventOf}
 use Rattle.net_base.specs.plan.Roles.{are_joined_by}
-use Rattle.net_base.specs.values.Frame.{destination_of, goes_to_group}
+use Rattle.net_base.specs.trace.Frame.{destination_of, goes_to_group}
 use Rattle.edge_model.proofs.LocalLemmas.{and_left, and_right, is_not}
 use Rattle.network_model.specs.declared.packet.Packet.{Packet}
 use Rattle.network_model.specs.Absorb.{Stepped}

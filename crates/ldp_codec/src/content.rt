@@ -12,7 +12,7 @@ ghost use Rattle.ldp_codec.specs.Walk.{HasContents, HasLength, IsFirstContent, I
 use crate::numbers::four;
 use crate::tlv_search::find_value;
 use ldp_grammar::{Cause, FEC, Fault, MessageKind, TLV_HEADER};
-use net_base::{Field, Label};
+use net_values::{Field, Label};
 use pw_tlvs::{FecValue, FieldFault, read_fec, read_point};
 
 // Whether the value of a FEC TLV is no single PWid element.

@@ -20,7 +20,7 @@ use ldp_grammar::{
     ADDRESS_LIST, AddressList, FEC, HELLO_PARAMETERS, LABEL, MAC_LIST, Message, MessageKind,
     PW_STATUS, REQUEST_ID, SESSION_PARAMETERS, STATUS, TRANSPORT_ADDRESS, Why, field_of_type,
 };
-use net_base::{Addr, Field, Label, List as Items, Mac, NoMemory};
+use net_values::{Addr, Field, Label, List as Items, Mac, NoMemory};
 use pw_tlvs::{FecValue, MacsFault, PwFec, PwStatus, read_fec, read_macs, read_status};
 use std::alloc::Global;
 

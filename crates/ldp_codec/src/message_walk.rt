@@ -11,7 +11,7 @@ use crate::message_head::split_message;
 use crate::stop::Stop;
 use crate::tlv_walk::walk_tlvs;
 use ldp_grammar::{Fault, MESSAGE_HEADER, Message, MessageKind, U_BIT};
-use net_base::{List, NoMemory};
+use net_values::{List, NoMemory};
 use std::alloc::Global;
 
 // The type of the first unknown TLV of a message of a known kind, or its first fault.

@@ -7,7 +7,7 @@ ghost use Rattle.ldp_codec.specs.Walk.{IsCounted};
 
 use crate::numbers::two;
 use ldp_grammar::{Cause, Fault, LEAST_LENGTH, LENGTH_HEADER, LdpId, VERSION};
-use net_base::Addr;
+use net_values::Addr;
 
 // The identifier of the sender.
 fn sender(bytes: &[u8]) -> LdpId

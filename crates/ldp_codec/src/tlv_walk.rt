@@ -1,6 +1,6 @@
 //! The walk over the TLVs of a message.
 ghost use Rattle.std.specs.Prelude.{◌≡◌, ◌≤◌, ◌<◌, ◌+◌, ℕ, List, Some, None, false, length, IfOk, IfErr, IfSome};
-ghost use Rattle.net_base.specs.declared.values.field.Field.{Field};
+ghost use Rattle.net_values.specs.declared.field.Field.{Field};
 ghost use Rattle.ldp_grammar.specs.Layouts.{fits, listed, most};
 ghost use Rattle.ldp_grammar.specs.FirstFault.{IsFirst, IsFirstTlvFault, NamesTlvs};
 ghost use Rattle.ldp_grammar.specs.Rows.{row_of};
@@ -12,7 +12,7 @@ use crate::numbers::two;
 use crate::tlv::{TYPE_LIMIT, split_tlv};
 use crate::tlv_search::count_tlvs;
 use ldp_grammar::{Cause, Fault, MessageKind, TLV_HEADER, TlvPart, U_BIT, is_fitting, most_of};
-use net_base::Field;
+use net_values::Field;
 
 // The TLV of this type, where the message lists it and has as many before as it may.
 fn repeated(kind: MessageKind, tlv: u16, before: &[u8]) -> Option<Field>

@@ -1,6 +1,6 @@
 -- The definitions at work on octets: each fact below is found by evaluation alone, or by witnesses that are written out.
 use Rattle.std.proofs.Common.{◌≡◌, ◌++◌, ℕ, true, false, List, [], ◌∷◌, Option, Some, None, inl, inr, refl, arith}
-use Rattle.net_base.specs.declared.values.field.Field.TheVariants as field
+use Rattle.net_values.specs.declared.field.Field.TheVariants as field
 use Rattle.pw_tlvs.specs.declared.fec_value.FecValue.TheVariants.{Pw, Foreign}
 use Rattle.pw_tlvs.specs.declared.field_fault.FieldFault.TheVariants.{Value}
 use Rattle.pw_tlvs.specs.declared.pw_fec.PwFec.{PwFec}

@@ -2,8 +2,8 @@
 use Rattle.std.proofs.Common.{◌≡◌, ◌+◌, ◌++◌, inl, inr, ℕ, true, false, List, [], ◌∷◌, Option, Some, None, length, flat_map, nat_eq, eq-eqb, eqb-true, refl, sym, ap, subst, ◌∙◌, append_assoc, arith}
 use Rattle.std.proofs.lemmas.Bool.{cases_Bool}
 use Rattle.std.specs.List.{AllByRecursion}
-use Rattle.net_base.specs.declared.values.field.Field.{Field}
-use Rattle.net_base.specs.declared.values.field.Field.TheVariants as field
+use Rattle.net_values.specs.declared.field.Field.{Field}
+use Rattle.net_values.specs.declared.field.Field.TheVariants as field
 use Rattle.pw_tlvs.specs.declared.fec_value.FecValue.{FecValue}
 use Rattle.pw_tlvs.specs.declared.fec_value.FecValue.TheVariants.{Foreign}
 use Rattle.pw_tlvs.specs.Fec.{IsFecValue}

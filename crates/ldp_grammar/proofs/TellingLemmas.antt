@@ -4,8 +4,8 @@ use Rattle.std.specs.Prelude.{◌^◌, slice_index}
 use Rattle.std.proofs.lemmas.Bool.{cases_Bool}
 use Rattle.std.specs.List.{AllByRecursion}
 use Rattle.byteorder.specs.Endian.{big_number}
-use Rattle.net_base.specs.declared.values.field.Field.{Field}
-use Rattle.net_base.specs.declared.values.field.Field.TheVariants as field
+use Rattle.net_values.specs.declared.field.Field.{Field}
+use Rattle.net_values.specs.declared.field.Field.TheVariants as field
 use Rattle.pw_tlvs.specs.declared.fec_value.FecValue.{FecValue}
 use Rattle.pw_tlvs.specs.declared.fec_value.FecValue.TheVariants.{Pw, Foreign}
 use Rattle.pw_tlvs.specs.declared.point.Point.{Point}

@@ -3,8 +3,8 @@ use Rattle.std.proofs.Common.{◌≡◌, ◌≤◌, ◌<◌, ◌+◌, ◌++◌, 
 use Rattle.std.proofs.lemmas.Bool.{cases_Bool}
 use Rattle.std.proofs.lemmas.Grind.{flat_map-append}
 use Rattle.std.specs.List.{AllByRecursion}
-use Rattle.net_base.specs.declared.values.field.Field.{Field}
-use Rattle.net_base.specs.declared.values.field.Field.TheVariants as field
+use Rattle.net_values.specs.declared.field.Field.{Field}
+use Rattle.net_values.specs.declared.field.Field.TheVariants as field
 use Rattle.pw_tlvs.specs.declared.field_fault.FieldFault.{FieldFault}
 use Rattle.pw_tlvs.specs.declared.field_fault.FieldFault.TheVariants.{Size, Value, Repeated}
 use Rattle.pw_tlvs.specs.Faults.{IsFirst as IsFirstIn, IsInside, Precedes as PrecedesIn, place_of}

@@ -2,9 +2,9 @@
 -- the one of least rank.
 use Rattle.std.specs.Prelude.{◌≡◌, ◌≢◌, ◌<◌, ◌≤◌, ◌+◌, ◌^◌, ◌%◌, ◌++◌, ◌⊎◌, ℕ, false, List, length, flat_map, Some}
 use Rattle.std.specs.List.{AllByRecursion}
-use Rattle.net_base.specs.declared.values.field.Field.{Field}
-use Rattle.net_base.specs.declared.values.field.Field.TheVariants as field
-use Rattle.net_base.specs.values.Label.{IsLabel}
+use Rattle.net_values.specs.declared.field.Field.{Field}
+use Rattle.net_values.specs.declared.field.Field.TheVariants as field
+use Rattle.net_values.specs.Label.{IsLabel}
 use Rattle.pw_tlvs.specs.declared.field_fault.FieldFault.{FieldFault}
 use Rattle.pw_tlvs.specs.declared.field_fault.FieldFault.TheVariants.{Size, Value, Repeated}
 use Rattle.pw_tlvs.specs.Faults.{field_rank}

@@ -1,8 +1,8 @@
 -- The TLVs that are read: their fields, and the Length of each (RFC 5036 sections 3.4 and 3.5, RFC 8077 section 6.3.2,
 -- RFC 4762 section 6.2).
 use Rattle.std.specs.Prelude.{◌==◌, ◌&&◌, ◌-◌, ◌%◌, ℕ, Bool, true, not, nat_le, List, length, Option, Some, None, if◌then◌else◌}
-use Rattle.net_base.specs.declared.values.field.Field.{Field}
-use Rattle.net_base.specs.declared.values.field.Field.TheVariants as field
+use Rattle.net_values.specs.declared.field.Field.{Field}
+use Rattle.net_values.specs.declared.field.Field.TheVariants as field
 use Rattle.ldp_grammar.specs.Octets.{two_at}
 use Rattle.ldp_grammar.specs.Rows.{Row, fec, address_list, label, status, hello_parameters, transport_address, mac_list, session_parameters, request_id, pw_status, switching_point, is_in}
 

@@ -2,9 +2,9 @@
 use Rattle.std.specs.Prelude.{◌≡◌, ◌<◌, ◌≤◌, ◌+◌, ◌==◌, ◌&&◌, ◌^◌, ◌%◌, ◌++◌, ◌⊎◌, not, ℕ, Bool, true, false, List, [], ◌∷◌, length, flat_map, Option, Some, None, if◌then◌else◌}
 use Rattle.std.specs.List.{AllByRecursion}
 use Rattle.std.specs.Option.{option_or}
-use Rattle.net_base.specs.values.Label.{IsLabel}
-use Rattle.net_base.specs.declared.values.field.Field.{Field}
-use Rattle.net_base.specs.declared.values.field.Field.TheVariants as field
+use Rattle.net_values.specs.Label.{IsLabel}
+use Rattle.net_values.specs.declared.field.Field.{Field}
+use Rattle.net_values.specs.declared.field.Field.TheVariants as field
 use Rattle.pw_tlvs.specs.declared.fec_value.FecValue.{FecValue}
 use Rattle.pw_tlvs.specs.declared.fec_value.FecValue.TheVariants.{Pw, Foreign}
 use Rattle.pw_tlvs.specs.declared.point.Point.{Point}

@@ -1,7 +1,7 @@
 -- What the values of TLVs stand for (RFC 5036 sections 3.4 and 3.5), beside those of pseudowire TLVs, which
 -- `pw_tlvs` has. Each bit or octet that is not named is ignored.
 use Rattle.std.specs.Prelude.{◌≡◌, ◌%◌, ◌^◌, ℕ, Bool, List, [], ◌∷◌, drop, take, slice_index}
-use Rattle.net_base.specs.declared.values.addr.Addr.{Addr}
+use Rattle.net_values.specs.declared.addr.Addr.{Addr}
 use Rattle.pw_tlvs.specs.declared.point.Point.{Point}
 use Rattle.pw_tlvs.specs.Point.{IsPoint}
 use Rattle.ldp_grammar.specs.declared.status_code.StatusCode.{StatusCode}

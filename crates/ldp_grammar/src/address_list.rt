@@ -1,6 +1,6 @@
 //! Lists of addresses.
 
-use net_base::Octets;
+use net_values::Octets;
 
 /// The addresses of an Address List TLV (RFC 5036 section 3.4.3).
 #[derive(Debug, Drop)]

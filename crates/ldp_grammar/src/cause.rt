@@ -1,6 +1,6 @@
 //! What can be wrong with the octets of a PDU.
 
-use net_base::Field;
+use net_values::Field;
 
 /// What is wrong with octets that spell no PDU (RFC 5036 sections 3.5.1.2.1 and 3.5.1.2.2).
 #[derive(Clone, Copy, Debug, PartialEq, Eq)]

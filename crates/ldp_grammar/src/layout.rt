@@ -7,7 +7,7 @@ use crate::tlv_type::{
     SESSION_PARAMETERS, STATUS, SWITCHING_POINT, TRANSPORT_ADDRESS,
 };
 use byteorder::{BigEndian, ByteOrder};
-use net_base::Field;
+use net_values::Field;
 
 /// The TLV of a type, without U and F bit; `None` exactly where the type is of none that is read.
 pub fn field_of_type(tlv: u16) -> Option<Field>

@@ -1,6 +1,6 @@
 //! LDP Identifiers.
 
-use net_base::Addr;
+use net_values::Addr;
 
 /// An LDP Identifier: whose label space a PDU speaks of (RFC 5036 section 2.2.2).
 #[derive(Clone, Copy, Debug, PartialEq, Eq)]

@@ -3,7 +3,7 @@ ghost use Rattle.std.specs.Prelude.{◌≡◌};
 ghost use Rattle.ldp_grammar.specs.Written.{id_of, written_type};
 
 use crate::{AddressList, MessageKind, SessionParams, StatusCode, Why};
-use net_base::{Addr, Label, List, Mac, Octets};
+use net_values::{Addr, Label, List, Mac, Octets};
 use pw_tlvs::{Points, PwFec, PwStatus};
 
 /// One LDP message (RFC 5036 section 3.5). `id` is its Message ID.

@@ -13,7 +13,7 @@ use crate::tlv_type::{
     SESSION_PARAMETERS, STATUS, SWITCHING_POINT, TRANSPORT_ADDRESS,
 };
 use crate::{TlvPart, field_of_type};
-use net_base::Field;
+use net_values::Field;
 
 /// A message type that is known (RFC 5036 section 3.5, RFC 8077).
 #[derive(Clone, Copy, Debug, PartialEq, Eq)]

@@ -1,7 +1,7 @@
 //! PDUs.
 
 use crate::{LdpId, Message};
-use net_base::List;
+use net_values::List;
 
 /// One protocol data unit: a sender and its messages (RFC 5036 section 3.1).
 #[derive(Debug, Drop)]

@@ -1,6 +1,6 @@
 //! Why a message is not processed.
 
-use net_base::Field;
+use net_values::Field;
 
 /// Why a message without a fault is not processed; the first reason that holds.
 #[derive(Clone, Copy, Debug, PartialEq, Eq)]

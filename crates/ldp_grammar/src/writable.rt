@@ -5,7 +5,7 @@ ghost use Rattle.ldp_grammar.specs.Written.{address_octets, are_whole, fec_tlvs,
 
 use crate::headers::{MESSAGE_HEADER, TLV_HEADER};
 use crate::{AddressList, Message, SessionParams};
-use net_base::{Addr, Label, List, Mac, Octets};
+use net_values::{Addr, Label, List, Mac, Octets};
 use pw_tlvs::{Points, PwFec, PwStatus, fec_size, is_writable_fec, macs_size, point_size};
 
 // Status data has 30 bits.

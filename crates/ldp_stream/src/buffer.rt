@@ -1,7 +1,7 @@
 //! A flat buffer of octets that are taken at its end and passed at its front.
 ghost use Rattle.std.specs.Prelude.{◌≡◌, ◌≤◌, ◌-◌, ◌++◌, [], IfOk, drop, length, min, take, vec_capacity, vec_len};
 
-use net_base::NoMemory;
+use net_values::NoMemory;
 use std::alloc::Global;
 use std::marker::Model;
 

@@ -12,7 +12,7 @@ use crate::buffer::Buffer;
 use crate::front::decode_front;
 use ldp_codec::{DecodeFault, Stop};
 use ldp_grammar::{Fault, Pdu};
-use net_base::NoMemory;
+use net_values::NoMemory;
 use std::alloc::Global;
 use std::marker::Model;
 

@@ -6,7 +6,7 @@ use Rattle.std.proofs.lemmas.Map.Entries.{option_filter}
 use Rattle.std.proofs.lemmas.Bool.Decides.{nat_tests}
 use Rattle.std.proofs.lemmas.Slice.Eq.{bytes_eq-Decides}
 use Rattle.std.proofs.lemmas.List.Elements.{All-cons, All-head, All-tail, All-push, All-weaker, All-same, All-filter, All-contains_itself}
-use Rattle.net_base.specs.declared.values.mac.Mac.{Mac}
+use Rattle.net_values.specs.declared.mac.Mac.{Mac}
 use Rattle.mac_table.specs.declared.mac_entry.MacEntry.{MacEntry}
 use Rattle.mac_table.specs.Addresses.{AddressTable, is_of, has_address, has_room, port_of, entry_of, place_in, replaced, learned, AreDistinct, NoneAfter, IsHeld}
 

@@ -4,7 +4,7 @@ ghost use Rattle.mac_table.specs.Addresses.{IsHeld, NoneAfter, has_address, is_y
 
 use crate::search::{is_in, place_of};
 use crate::{Learned, MacEntry};
-use net_base::Mac;
+use net_values::Mac;
 
 // Puts the entry where the one of its address stands; false exactly where there is none.
 #[tactic(auto, using(crate::proofs::AddressLemmas::held_at, crate::proofs::AddressLemmas::absent_past, crate::proofs::AddressLemmas::written_at, crate::proofs::AddressLemmas::replaced_absent))]

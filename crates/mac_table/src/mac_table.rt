@@ -1,12 +1,12 @@
 //! The table of learned addresses.
 ghost use Rattle.std.specs.Prelude.{◌≡◌, ◌≤◌, ◌↔◌, ◌⊎◌, ℕ, [], filter, length, not, false, slice_get, All, Contains, IfOk, ◌==◌};
-ghost use Rattle.net_base.specs.values.Mac.{is_group_address};
+ghost use Rattle.net_values.specs.Mac.{is_group_address};
 ghost use Rattle.mac_table.specs.Addresses.{AreDistinct, NoneAfter, has_address, is_young, learned, learning_of, port_of, stays};
 
 use crate::edits::{keep_off_port, keep_staying, keep_young, learn_in};
 use crate::search::find_port;
 use crate::{Learned, MacEntry};
-use net_base::{List, Mac, NoMemory};
+use net_values::{List, Mac, NoMemory};
 use std::alloc::Global;
 use std::marker::Model;
 

@@ -3,7 +3,7 @@ ghost use Rattle.std.specs.Prelude.{◌≡◌, ◌≤◌, length};
 ghost use Rattle.mac_table.specs.Addresses.{is_of, place_in, port_of, is_listed};
 
 use crate::MacEntry;
-use net_base::Mac;
+use net_values::Mac;
 
 // Whether the entry is of the address.
 fn is_entry_of(address: Mac, entry: &MacEntry) -> bool

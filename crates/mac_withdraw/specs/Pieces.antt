@@ -1,6 +1,6 @@
 -- In how many pieces the addresses of a MAC withdraw are told, and which they are.
 use Rattle.std.specs.Prelude.{◌==◌, ◌+◌, ◌/◌, ℕ, zero, suc, List, [], ◌∷◌, length, take, drop, if◌then◌else◌}
-use Rattle.net_base.specs.declared.values.mac.Mac.{Mac}
+use Rattle.net_values.specs.declared.mac.Mac.{Mac}
 
 -- the most addresses of one message
 abbrev pub most_in_piece : ℕ

@@ -2,10 +2,10 @@
 -- section 6, RFC 4762 section 6.2, RFC 6073 section 7.4).
 use Rattle.std.specs.Prelude.{◌++◌, codes, length, map, ℕ, Bool, List, [], ◌∷◌, Option, Some, None}
 use Rattle.std.specs.Fmt.{decimal}
-use Rattle.net_base.specs.declared.values.addr.Addr.{Addr}
-use Rattle.net_base.specs.declared.values.field.Field.{Field}
-use Rattle.net_base.specs.declared.values.field.Field.TheVariants as field
-use Rattle.net_base.specs.declared.values.mac.Mac.{Mac}
+use Rattle.net_values.specs.declared.addr.Addr.{Addr}
+use Rattle.net_values.specs.declared.field.Field.{Field}
+use Rattle.net_values.specs.declared.field.Field.TheVariants as field
+use Rattle.net_values.specs.declared.mac.Mac.{Mac}
 use Rattle.pw_tlvs.specs.declared.if_params.IfParams.{IfParams}
 use Rattle.pw_tlvs.specs.declared.point.Point.{Point}
 use Rattle.pw_tlvs.specs.declared.pw_fec.PwFec.{PwFec}

@@ -8,7 +8,7 @@ ghost use Rattle.message_text.specs.Words.{message_name};
 use crate::names::message_text;
 use crate::parts::put_parts;
 use ldp_grammar::Message;
-use net_base::NoMemory;
+use net_values::NoMemory;
 use text_pieces::{put_number, put_text, put_word};
 
 // Adds the place of a message's PDU, its name and its Message ID.

@@ -3,7 +3,7 @@ ghost use Rattle.std.specs.Prelude.{◌≡◌};
 ghost use Rattle.message_text.specs.Words.{field_name, message_name};
 
 use ldp_grammar::Message;
-use net_base::Field;
+use net_values::Field;
 
 /// The name of a message's kind.
 pub fn message_text(message: &Message) -> &'static str

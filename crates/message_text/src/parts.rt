@@ -11,7 +11,7 @@ use crate::pseudowire::{
     put_told_label,
 };
 use ldp_grammar::{AddressList, Message, SessionParams, StatusCode, Why};
-use net_base::{Addr, Label, List, Mac, NoMemory, Octets};
+use net_values::{Addr, Label, List, Mac, NoMemory, Octets};
 use pw_tlvs::{Points, PwFec, PwStatus};
 use text_pieces::{put_digits, put_number, put_text, put_word};
 

@@ -6,7 +6,7 @@ ghost use Rattle.text_pieces.specs.Pieces.{spaced};
 ghost use Rattle.message_text.specs.Words.{dotted, flag, id_word, parted};
 
 use ldp_grammar::LdpId;
-use net_base::{Addr, NoMemory};
+use net_values::{Addr, NoMemory};
 use text_pieces::{put_number, put_text, put_word};
 
 // A bit as a digit.

@@ -5,7 +5,7 @@ ghost use Rattle.text_pieces.specs.Pieces.{spaced};
 ghost use Rattle.message_text.specs.Words.{description_words, element_word, end_word, fec_words, flag, label_word, label_words, mac_digits, macs_words, marked, mtu_words, params_words, point_word, point_words, pw_id_word, pw_status_words, request_word, segment_word, told_fec_words, vccv_words, vlan_words};
 
 use crate::pieces::{put_dotted, put_flag, put_slash_number, put_told};
-use net_base::{Addr, Label, List, Mac, NoMemory, Text};
+use net_values::{Addr, Label, List, Mac, NoMemory, Text};
 use pw_tlvs::{IfParams, Point, Points, PwFec, PwStatus};
 use text_pieces::{put_digits, put_number, put_text, put_word};
 

@@ -8,12 +8,12 @@ use Rattle.net_base.specs.declared.plan.Plan.{Plan}
 use Rattle.net_base.specs.declared.plan.circuit_plan.CircuitPlan.{CircuitPlan}
 use Rattle.net_base.specs.declared.trace.event.Event.{Event}
 use Rattle.net_base.specs.declared.trace.event.Event.TheVariants.{Frame}
-use Rattle.net_base.specs.declared.values.mac.Mac.{Mac}
+use Rattle.net_values.specs.declared.mac.Mac.{Mac}
 use Rattle.net_base.specs.declared.plan.places.CircuitId.{CircuitId}
 use Rattle.net_base.specs.declared.plan.places.ServiceId.{ServiceId}
-use Rattle.net_base.specs.values.Frame.{destination_of, source_of, goes_to_group}
+use Rattle.net_base.specs.trace.Frame.{destination_of, source_of, goes_to_group}
 use Rattle.net_base.specs.trace.Isolated.{inner_at}
-use Rattle.net_base.specs.values.Mac.{is_group_address}
+use Rattle.net_values.specs.Mac.{is_group_address}
 use Rattle.net_base.specs.plan.Accepted.{IsChecked}
 use Rattle.net_base.specs.plan.Places.{circuit_row}
 use Rattle.mac_table.specs.Addresses.{has_address}

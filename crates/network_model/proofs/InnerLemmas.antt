@@ -9,7 +9,7 @@ use Rattle.net_base.specs.declared.plan.places.ServiceId.{ServiceId}
 use Rattle.net_base.specs.plan.Accepted.{IsChecked}
 use Rattle.net_base.specs.plan.Places.{circuit_row, service_of}
 use Rattle.net_base.specs.trace.Isolated.{Among, CameIn, inner_at, inner_by, mtu_by}
-use Rattle.net_base.specs.values.Frame.{dress}
+use Rattle.net_base.specs.trace.Frame.{dress}
 use Rattle.net_base.proofs.FrameLemmas.{IsVlanId, inner_size, inner-dress}
 use Rattle.edge_model.specs.Frame.{tag_of}
 use Rattle.edge_model.specs.Local.{LeavesBeside}

@@ -10,7 +10,7 @@ use Rattle.net_base.specs.declared.trace.event.Event.{Event}
 use Rattle.net_base.specs.declared.trace.event.Event.TheVariants.{Frame, Arrive, Discard, Again}
 use Rattle.net_base.specs.declared.plan.places.CircuitId.{CircuitId}
 use Rattle.net_base.specs.declared.plan.places.ServiceId.{ServiceId}
-use Rattle.net_base.specs.values.Frame.{destination_of, source_of, goes_to_group}
+use Rattle.net_base.specs.trace.Frame.{destination_of, source_of, goes_to_group}
 use Rattle.net_base.specs.trace.Isolated.{inner_at}
 use Rattle.net_base.specs.plan.Places.{service_of, wire_row}
 use Rattle.mac_table.specs.Addresses.{has_address}

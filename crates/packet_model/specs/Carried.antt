@@ -10,7 +10,7 @@ use Rattle.net_base.specs.declared.trace.entry.Entry.TheVariants.{In}
 use Rattle.net_base.specs.plan.Paths.{expected, joins}
 use Rattle.net_base.specs.plan.Places.{service_of, wire_row}
 use Rattle.net_base.specs.trace.Isolated.{Among, inner_at}
-use Rattle.net_base.specs.values.Label.{IsLabel}
+use Rattle.net_values.specs.Label.{IsLabel}
 use Rattle.eth_encap.specs.Packet.{IsVlan, packed}
 use Rattle.edge_model.specs.Send.{pushed_vlan}
 use Rattle.flight_model.specs.Rules.{MayName}

@@ -1,7 +1,7 @@
 //! Why octets are no capture.
 
 use crate::CaptureField;
-use net_base::NoMemory;
+use net_values::NoMemory;
 use thiserror::Error;
 
 /// Why octets are no capture: their first fault, fields in order, where `at` counts octets from the first of the file;

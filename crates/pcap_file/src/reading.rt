@@ -10,7 +10,7 @@ use crate::endianness::Endianness;
 use crate::fields::{test_header, test_record};
 use crate::{CaptureFault, CaptureField};
 use byteorder::{BigEndian, ByteOrder};
-use net_base::{List as Items, Octets};
+use net_values::{List as Items, Octets};
 use std::alloc::Global;
 
 // The octets of a header.

@@ -15,7 +15,7 @@ use Rattle.net_base.specs.declared.plan.places.ServiceId.{ServiceId}
 use Rattle.net_base.specs.declared.plan.places.WireId.{WireId}
 use Rattle.net_base.specs.declared.trace.down.Down.{Down}
 use Rattle.net_base.specs.declared.trace.down.Down.TheVariants.{NoLocal}
-use Rattle.net_base.specs.declared.values.mac.Mac.{Mac}
+use Rattle.net_values.specs.declared.mac.Mac.{Mac}
 use Rattle.net_base.specs.plan.Accepted.{IsChecked, IsCircuitOf, IsWireOf}
 use Rattle.net_base.specs.plan.Places.{circuit_row, service_row, wire_row}
 use Rattle.hvpls_spokes.specs.declared.port.Port.{Port}

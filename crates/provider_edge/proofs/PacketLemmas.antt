@@ -20,7 +20,7 @@ use Rattle.eth_encap.specs.declared.frame_fault.FrameFault.{FrameFault}
 use Rattle.eth_encap.specs.Fault.{cause_of}
 use Rattle.eth_encap.specs.declared.stack_entry.StackEntry.{StackEntry}
 use Rattle.eth_encap.specs.Packet.{behind_control, entry_in, entry_of, frame_behind, frame_in, live_entry, unpacked, without_tag}
-use Rattle.net_base.specs.values.Frame.{of_size, pair_at, tag_protocol}
+use Rattle.net_base.specs.trace.Frame.{of_size, pair_at, tag_protocol}
 use Rattle.byteorder.specs.Endian.{big_number}
 use Rattle.hvpls_spokes.specs.Port.{is_wire_port, ports_of}
 use Rattle.pw_signalling.specs.declared.binding.Binding.{Binding}

@@ -3,7 +3,7 @@ ghost use Rattle.std.specs.Prelude.{◌≡◌, ◌<◌, ◌≤◌, ℕ, List, So
 ghost use Rattle.net_base.specs.plan.Accepted.{IsCircuitOf};
 ghost use Rattle.net_base.specs.plan.Places.{circuit_row};
 ghost use Rattle.net_base.specs.trace.Isolated.{inner_at};
-ghost use Rattle.net_base.specs.values.Frame.{inner as inner_of};
+ghost use Rattle.net_base.specs.trace.Frame.{inner as inner_of};
 ghost use Rattle.eth_encap.specs.Fault.{cause_of};
 
 use eth_encap::{FrameFault, inner};

@@ -1,6 +1,6 @@
 //! Frames as they leave at circuits.
 ghost use Rattle.std.specs.Prelude.{◌≡◌, ◌≤◌, length, IfOk, IfSome};
-ghost use Rattle.net_base.specs.values.Frame.{dress as dressed_frame};
+ghost use Rattle.net_base.specs.trace.Frame.{dress as dressed_frame};
 
 use eth_encap::dress;
 use net_base::{List, NoMemory, Octets};

@@ -1,6 +1,6 @@
 -- The definitions at work on small values: each equation below is found by evaluation alone.
 use Rattle.std.proofs.Common.{◌≡◌, ℕ, true, List, [], ◌∷◌, Some, None, inl, inr, refl, arith}
-use Rattle.net_base.specs.declared.values.field.Field.TheVariants as field
+use Rattle.net_values.specs.declared.field.Field.TheVariants as field
 use Rattle.pw_tlvs.specs.declared.field_fault.FieldFault.TheVariants.{Value, Repeated}
 use Rattle.pw_tlvs.specs.declared.fec_value.FecValue.TheVariants.{Pw, Foreign}
 use Rattle.pw_tlvs.specs.declared.registry.Registry.TheVariants.{InterfaceParameter}

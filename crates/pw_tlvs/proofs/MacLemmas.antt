@@ -5,7 +5,7 @@ use Rattle.std.proofs.lemmas.Grind.{flat_map-append}
 use Rattle.std.proofs.lemmas.List.{append-nil}
 use Rattle.std.proofs.lemmas.Slice.{drop-append-drop}
 use Rattle.std.proofs.Math.Seq.{take-add, take-append_seam}
-use Rattle.net_base.specs.declared.values.mac.Mac.{Mac}
+use Rattle.net_values.specs.declared.mac.Mac.{Mac}
 use Rattle.pw_tlvs.specs.declared.field_fault.FieldFault.{FieldFault}
 use Rattle.pw_tlvs.specs.Macs.{mac_octets, AreMacs, IsMacsFault}
 use Rattle.pw_tlvs.proofs.SubTlvLemmas.{same_front}

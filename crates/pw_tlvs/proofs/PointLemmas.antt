@@ -4,7 +4,7 @@ use Rattle.std.specs.Prelude.{slice_index, option_map}
 use Rattle.std.specs.List.{flat_map}
 use Rattle.std.proofs.lemmas.Grind.{flat_map-append}
 use Rattle.byteorder.specs.Endian.{big_number, big_bytes}
-use Rattle.net_base.specs.declared.values.addr.Addr.{Addr}
+use Rattle.net_values.specs.declared.addr.Addr.{Addr}
 use Rattle.pw_tlvs.specs.declared.field_fault.FieldFault.{FieldFault}
 use Rattle.pw_tlvs.specs.declared.registry.Registry.TheVariants.{SwitchingPointPart}
 use Rattle.pw_tlvs.specs.declared.point.Point.{Point}

@@ -7,8 +7,8 @@ use Rattle.std.proofs.lemmas.Bool.Decides.{eqb_tells}
 use Rattle.std.proofs.lemmas.Grind.{flat_map-append}
 use Rattle.std.proofs.lemmas.List.{append-nil, take-append-drop, length-take-le, drop-drop}
 use Rattle.byteorder.specs.Endian.{big_number}
-use Rattle.net_base.specs.declared.values.field.Field.TheVariants as field
-use Rattle.net_base.specs.declared.values.mac.Mac.{Mac}
+use Rattle.net_values.specs.declared.field.Field.TheVariants as field
+use Rattle.net_values.specs.declared.mac.Mac.{Mac}
 use Rattle.pw_tlvs.specs.declared.field_fault.FieldFault.{FieldFault}
 use Rattle.pw_tlvs.specs.declared.field_fault.FieldFault.TheVariants.{Size, Value, Repeated}
 use Rattle.pw_tlvs.specs.declared.registry.Registry.{Registry}

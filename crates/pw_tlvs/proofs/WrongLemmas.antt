@@ -4,7 +4,7 @@ use Rattle.std.specs.Prelude.{IsSome, slice_index, nat_le, ◌==◌, ◌||◌, n
 use Rattle.std.proofs.lemmas.Bool.Decides.{eqb_tells, nat_tests}
 use Rattle.std.specs.List.{flat_map}
 use Rattle.byteorder.specs.Endian.{big_number}
-use Rattle.net_base.specs.declared.values.field.Field.TheVariants as field
+use Rattle.net_values.specs.declared.field.Field.TheVariants as field
 use Rattle.pw_tlvs.specs.declared.field_fault.FieldFault.{FieldFault}
 use Rattle.pw_tlvs.specs.declared.field_fault.FieldFault.TheVariants.{Value, Repeated}
 use Rattle.pw_tlvs.specs.declared.registry.Registry.{Registry}

@@ -1,7 +1,7 @@
 -- The value of a FEC TLV (RFC 5036 section 3.4.1) with a PWid FEC element (RFC 8077 section 6.1).
 use Rattle.std.specs.Prelude.{◌≡◌, ◌<◌, ◌≤◌, ◌+◌, ◌%◌, ◌⊎◌, ◌≢◌, nat_le, ℕ, List, [], length, drop, slice_index, Option, Some, None, option_map}
 use Rattle.byteorder.specs.Endian.{big_number}
-use Rattle.net_base.specs.declared.values.field.Field.TheVariants as field
+use Rattle.net_values.specs.declared.field.Field.TheVariants as field
 use Rattle.pw_tlvs.specs.declared.field_fault.FieldFault.{FieldFault}
 use Rattle.pw_tlvs.specs.declared.field_fault.FieldFault.TheVariants.{Size, Value}
 use Rattle.pw_tlvs.specs.declared.fec_value.FecValue.{FecValue}

@@ -1,7 +1,7 @@
 -- The value of a MAC List TLV (RFC 4762 section 6.2).
 use Rattle.std.specs.Prelude.{◌≡◌, ◌≢◌, ◌%◌, ℕ, List, length}
 use Rattle.std.specs.List.{AllByRecursion, flat_map}
-use Rattle.net_base.specs.declared.values.mac.Mac.{Mac}
+use Rattle.net_values.specs.declared.mac.Mac.{Mac}
 use Rattle.pw_tlvs.specs.declared.field_fault.FieldFault.{FieldFault}
 use Rattle.pw_tlvs.specs.declared.field_fault.FieldFault.TheVariants.{Size}
 

@@ -11,7 +11,7 @@ use crate::found_params::no_text;
 use crate::parameters::read_parameters;
 use crate::{FecValue, FieldFault, IfParams, PwFec};
 use byteorder::{BigEndian, ByteOrder};
-use net_base::Field;
+use net_values::Field;
 
 /// The type of a PWid FEC element (RFC 8077 section 6.1).
 pub const PWID: u8 = 0x80;

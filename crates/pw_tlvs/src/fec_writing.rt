@@ -9,7 +9,7 @@ ghost use Rattle.pw_tlvs.specs.Written.{writable_fec, written_fec, written_param
 use crate::fec_reading::PWID;
 use crate::told::{four, put_description, put_pair, put_vccv, two};
 use crate::{IfParams, PwFec};
-use net_base::{Text, put};
+use net_values::{Text, put};
 
 // The octets of the parameter of a number, where it is told.
 fn pair_size(number: Option<u16>) -> usize

@@ -1,6 +1,6 @@
 //! Why the value of a TLV is refused.
 
-use net_base::Field;
+use net_values::Field;
 use thiserror::Error;
 
 /// Why octets are no value of a TLV. A place counts from the first octet of the value, and is below its length.

@@ -7,7 +7,7 @@ ghost use Rattle.pw_tlvs.specs.Found.{FoundSays};
 
 use crate::IfParams;
 use byteorder::{BigEndian, ByteOrder};
-use net_base::Text;
+use net_values::Text;
 
 /// What the known interface parameters before a place say. An empty description that was told is told.
 #[derive(Clone, Copy, Debug, PartialEq, Eq)]

@@ -1,6 +1,6 @@
 //! Interface parameters of a pseudowire.
 
-use net_base::Text;
+use net_values::Text;
 
 /// The interface parameters of a PWid FEC element (RFC 8077 section 6.4, types of RFC 4446 section 3.3).
 #[derive(Clone, Copy, Debug, PartialEq, Eq)]

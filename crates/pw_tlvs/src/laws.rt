@@ -1,7 +1,7 @@
 //! Laws of the layouts.
 ghost use Rattle.std.specs.Prelude.{◌≡◌, ◌<◌, ◌^◌, ℕ, List, true, length, take};
 ghost use Rattle.std.specs.List.{AllByRecursion};
-ghost use Rattle.net_base.specs.declared.values.mac.Mac.{Mac};
+ghost use Rattle.net_values.specs.declared.mac.Mac.{Mac};
 ghost use Rattle.pw_tlvs.specs.declared.fec_value.FecValue.{FecValue};
 ghost use Rattle.pw_tlvs.specs.declared.fec_value.FecValue.TheVariants.{Pw, Foreign};
 ghost use Rattle.pw_tlvs.specs.declared.field_fault.FieldFault.{FieldFault};

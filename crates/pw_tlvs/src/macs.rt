@@ -1,13 +1,13 @@
 //! Lists of addresses.
 ghost use Rattle.std.specs.Prelude.{◌≡◌, ◌≤◌, ◌*◌, ◌%◌, ◌+◌, ◌++◌, ◌↔◌, ◌⊎◌, length, take, drop, List, Ok, Err, IfOk, IfErr};
-ghost use Rattle.net_base.specs.declared.values.mac.Mac.{Mac};
+ghost use Rattle.net_values.specs.declared.mac.Mac.{Mac};
 ghost use Rattle.pw_tlvs.specs.declared.field_fault.FieldFault.{FieldFault};
 ghost use Rattle.pw_tlvs.specs.declared.macs_fault.MacsFault.TheVariants.{Field as FieldOf, NoMemory as OutOfMemory};
 ghost use Rattle.pw_tlvs.specs.Faults.{IsFirst};
 ghost use Rattle.pw_tlvs.specs.Macs.{AreMacs, IsMacsFault, mac_octets};
 
 use crate::{FieldFault, MacsFault};
-use net_base::{List as Items, Mac, NoMemory, put};
+use net_values::{List as Items, Mac, NoMemory, put};
 use std::alloc::Global;
 
 // The address at a place.

@@ -1,7 +1,7 @@
 //! Why a list of addresses is not read.
 
 use crate::FieldFault;
-use net_base::NoMemory;
+use net_values::NoMemory;
 use thiserror::Error;
 
 /// Why the value of a MAC List TLV is not read.

@@ -4,7 +4,7 @@ ghost use Rattle.pw_tlvs.specs.SubTlvs.{counted as counted_in, spell};
 
 use crate::registry::Registry;
 use crate::sub_tlv::counted;
-use net_base::put;
+use net_values::put;
 
 /// Writes a sub-TLV at the place, and answers the place behind it.
 #[tactic(auto, using(crate::proofs::WrittenLemmas::added_at))]

@@ -1,6 +1,6 @@
 //! Switching points.
 
-use net_base::Addr;
+use net_values::Addr;
 
 /// What a Switching Point PE TLV tells (RFC 6073 section 7.4).
 #[derive(Clone, Copy, Debug, PartialEq, Eq)]

@@ -12,7 +12,7 @@ use crate::registry::Registry;
 use crate::sub_tlv::first_sub_tlv;
 use crate::{FieldFault, Point};
 use byteorder::{BigEndian, ByteOrder};
-use net_base::Addr;
+use net_values::Addr;
 
 // The address of four octets.
 #[tactic(auto, using(crate::proofs::PointLemmas::four_octets))]

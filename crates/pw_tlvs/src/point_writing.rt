@@ -8,7 +8,7 @@ ghost use Rattle.pw_tlvs.specs.Written.{written_point, told};
 
 use crate::Point;
 use crate::told::{put_address, put_number};
-use net_base::Addr;
+use net_values::Addr;
 
 // The octets of the part of a number, where it is told.
 fn number_size(number: Option<u32>) -> usize

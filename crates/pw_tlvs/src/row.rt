@@ -3,7 +3,7 @@ ghost use Rattle.std.specs.Prelude.{◌≡◌};
 ghost use Rattle.pw_tlvs.specs.SubTlvs.{fits as row_fits, parameter_row, part_row, row_of as the_row};
 
 use crate::registry::Registry;
-use net_base::Field;
+use net_values::Field;
 
 /// What a sub-TLV of a known type has to be: the field that its faults name, and the least and the most that
 /// its length may be.

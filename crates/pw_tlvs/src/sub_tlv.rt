@@ -7,7 +7,7 @@ use crate::FieldFault;
 use crate::registry::Registry;
 use crate::row::{Row, row_of};
 use byteorder::{BigEndian, ByteOrder};
-use net_base::Field;
+use net_values::Field;
 
 /// How many octets a length counts beside the value.
 pub fn counted(registry: Registry) -> usize

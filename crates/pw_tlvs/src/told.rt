@@ -9,7 +9,7 @@ ghost use Rattle.pw_tlvs.specs.Written.{told, description_value, pair_octets};
 use crate::octets::put_sub_tlv;
 use crate::registry::Registry;
 use byteorder::{BigEndian, ByteOrder};
-use net_base::{Addr, Text};
+use net_values::{Addr, Text};
 
 /// The two octets of a number.
 pub fn two(number: u16) -> [u8; 2]

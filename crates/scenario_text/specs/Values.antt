@@ -3,8 +3,8 @@ use Rattle.std.specs.Prelude.{◌&&◌, nat_le, not, codes, length, ℕ, ℤ, po
 use Rattle.std.specs.Str.{bytes_eq}
 use Rattle.std.specs.Net.Reader.{read_ipv4}
 use Rattle.toml.specs.Data.{Data, Items, no_items, item, Members, as_str, as_integer, as_bool, as_array, get_member}
-use Rattle.net_base.specs.values.Name.{is_name_text}
-use Rattle.net_base.specs.declared.values.addr.Addr.{Addr}
+use Rattle.net_values.specs.Name.{is_name_text}
+use Rattle.net_values.specs.declared.addr.Addr.{Addr}
 use Rattle.net_base.specs.declared.plan.place.Place.{Place}
 use Rattle.net_base.specs.declared.plan.plan_fault.PlanFault.TheVariants.{OutOfRange}
 use Rattle.net_base.specs.declared.plan.wire_plan.Class.{Class}

@@ -1,7 +1,7 @@
 -- What holds of the table, and of every run of events.
 use Rattle.std.specs.Prelude.{◌≡◌, ◌≤◌, ◌<◌, ◌⊎◌, ℕ, Bool, true, false, not, min, List, [], ◌∷◌, length, None}
 use Rattle.std.specs.List.{AllByRecursion}
-use Rattle.net_base.specs.declared.values.addr.Addr.{Addr}
+use Rattle.net_values.specs.declared.addr.Addr.{Addr}
 use Rattle.ldp_grammar.specs.declared.message.Message.TheVariants.{Initialization, KeepAlive}
 use Rattle.ldp_grammar.specs.declared.session_params.SessionParams.{SessionParams}
 use Rattle.net_base.specs.declared.trace.state_name.Reason.{Reason}

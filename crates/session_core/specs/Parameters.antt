@@ -1,7 +1,7 @@
 -- The parameters of a session: what an end proposes, why a proposal is refused, and what two proposals agree on (RFC 5036
 -- section 3.5.3).
 use Rattle.std.specs.Prelude.{◌==◌, ◌&&◌, ℕ, Bool, false, not, min, nat_le, bytes_eq, Option, Some, None, if◌then◌else◌}
-use Rattle.net_base.specs.declared.values.addr.Addr.{Addr}
+use Rattle.net_values.specs.declared.addr.Addr.{Addr}
 use Rattle.net_base.specs.declared.trace.state_name.Reason.{Reason}
 use Rattle.net_base.specs.declared.trace.state_name.Reason.TheVariants as reason
 use Rattle.ldp_grammar.specs.declared.ldp_id.LdpId.{LdpId}

@@ -1,7 +1,7 @@
 -- What contracts see of a session (RFC 5036 sections 2.5.3, 2.5.4 and 2.5.6).
 use Rattle.std.specs.Prelude.{◌≡◌, ◌≤◌, ◌<◌, ℕ, Bool, true, false, nat_lt, bytes_eq}
 use Rattle.byteorder.specs.Endian.{big_number}
-use Rattle.net_base.specs.declared.values.addr.Addr.{Addr}
+use Rattle.net_values.specs.declared.addr.Addr.{Addr}
 use Rattle.net_base.specs.declared.trace.state_name.Reason.{Reason}
 use Rattle.session_core.specs.declared.peers.Peers.{Peers}
 use Rattle.session_core.specs.Phase.{Phase, is_agreed}

@@ -3,7 +3,7 @@ ghost use Rattle.std.specs.Prelude.{◌≡◌, ◌≤◌, ◌++◌, ◌*◌, cod
 ghost use Rattle.text_pieces.specs.Pieces.{hex};
 
 use crate::pieces::put_text;
-use net_base::NoMemory;
+use net_values::NoMemory;
 
 /// The most octets that are turned at once: what one entry's frame mostly has.
 const PIECE: usize = 64;

@@ -3,7 +3,7 @@ ghost use Rattle.std.specs.Prelude.{◌≡◌, ◌++◌, codes, OnOk};
 ghost use Rattle.std.specs.Fmt.{decimal};
 
 use itoa::Buffer;
-use net_base::NoMemory;
+use net_values::NoMemory;
 
 /// Adds octets.
 pub fn put_text(text: &mut Vec<u8>, octets: &[u8]) -> Result<(), NoMemory>

@@ -2,8 +2,8 @@
 use Rattle.std.proofs.Common.{◌≡◌, ◌≤◌, ◌<◌, ◌/◌, ◌%◌, ◌++◌, ◌∙◌, ◌==◌, ◌&&◌, ◌||◌, ℕ, Bool, true, false, Ok, List, [], ◌∷◌, length, get_or, take, drop, refl, ap, sym, subst, arith}
 use Rattle.std.proofs.lemmas.List.{length-take-le, length-append, take_all, take_at, drop_at}
 use Rattle.std.proofs.lemmas.Bool.{eq-eqb}
-use Rattle.net_base.specs.declared.values.addr.Addr.{Addr}
-use Rattle.net_base.specs.values.Frame.{pair_at}
+use Rattle.net_values.specs.declared.addr.Addr.{Addr}
+use Rattle.net_base.specs.trace.Frame.{pair_at}
 use Rattle.byteorder.specs.Endian.{big_bytes}
 use Rattle.vccv_channel.specs.declared.cc.Cc.{Cc}
 use Rattle.vccv_channel.specs.declared.echo.Echo.{Echo}

@@ -4,7 +4,7 @@ use Rattle.std.proofs.lemmas.List.{get_or-drop, get_or-take, length-take-le}
 use Rattle.std.proofs.lemmas.Slice.{drop-append-drop}
 use Rattle.std.proofs.Math.Seq.{take-append_seam}
 use Rattle.byteorder.specs.Endian.{big_number}
-use Rattle.net_base.specs.values.Frame.{pair_at}
+use Rattle.net_base.specs.trace.Frame.{pair_at}
 use Rattle.vccv_channel.specs.Checksum.{AreOctets}
 
 -- the number of two octets is the one that stands first in the rest

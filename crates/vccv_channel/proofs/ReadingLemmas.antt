@@ -2,8 +2,8 @@
 use Rattle.std.proofs.Common.{◌≡◌, ◌≤◌, ◌∙◌, ◌==◌, ◌&&◌, nat_le, not, cond, ℕ, Bool, true, false, Some, None, Ok, Err, List, ◌∷◌, length, get_or, take, refl, ap, sym, arith}
 use Rattle.std.proofs.lemmas.List.{get_or-take, length-take-le}
 use Rattle.std.proofs.lemmas.Bool.Decides.{nat_tests}
-use Rattle.net_base.specs.declared.values.addr.Addr.{Addr}
-use Rattle.net_base.specs.values.Frame.{pair_at}
+use Rattle.net_values.specs.declared.addr.Addr.{Addr}
+use Rattle.net_base.specs.trace.Frame.{pair_at}
 use Rattle.vccv_channel.specs.declared.cc.Cc.{Cc}
 use Rattle.vccv_channel.specs.declared.cc.Cc.TheVariants.{Header, Alert, Expiry}
 use Rattle.vccv_channel.specs.declared.echo.Echo.{Echo}

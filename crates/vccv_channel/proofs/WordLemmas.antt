@@ -1,7 +1,7 @@
 -- Words of sixteen bits in rows of octets.
 use Rattle.std.proofs.Common.{◌≡◌, ◌≤◌, ◌+◌, ◌*◌, ◌-◌, ◌%◌, ◌∙◌, ℕ, List, [], ◌∷◌, length, drop, get_or, refl, ap, sym, arith}
 use Rattle.std.proofs.lemmas.List.{drop_more, drop_all}
-use Rattle.net_base.specs.values.Frame.{pair_at}
+use Rattle.net_base.specs.trace.Frame.{pair_at}
 use Rattle.vccv_channel.specs.Checksum.{words, ones_plus, ones_total, ones_sum}
 
 -- at a place with an octet behind it a word of both begins

@@ -1,8 +1,8 @@
 -- What an echo packet is, and what can be wrong with it (RFC 5085 section 5, RFC 791 section 3.1, RFC 792).
 use Rattle.std.specs.Prelude.{◌≡◌, ◌==◌, ◌&&◌, ◌||◌, ◌%◌, not, nat_le, ℕ, Bool, false, List, [], ◌∷◌, length, take, drop, slice_index, Option, Some, None, Result, Ok, Err, if◌then◌else◌}
 use Rattle.std.specs.List.{find}
-use Rattle.net_base.specs.declared.values.addr.Addr.{Addr}
-use Rattle.net_base.specs.values.Frame.{pair_at}
+use Rattle.net_values.specs.declared.addr.Addr.{Addr}
+use Rattle.net_base.specs.trace.Frame.{pair_at}
 use Rattle.vccv_channel.specs.Checksum.{ones_sum}
 use Rattle.vccv_channel.specs.Echo.{source, destination}
 use Rattle.vccv_channel.specs.declared.echo.Echo.{Echo}

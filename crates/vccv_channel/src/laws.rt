@@ -1,6 +1,6 @@
 //! Laws of echo packets.
 ghost use Rattle.std.specs.Prelude.{◌≡◌, ℕ, List, length, false, Ok};
-ghost use Rattle.net_base.specs.declared.values.addr.Addr.{Addr};
+ghost use Rattle.net_values.specs.declared.addr.Addr.{Addr};
 ghost use Rattle.vccv_channel.specs.declared.cc.Cc.{Cc};
 ghost use Rattle.vccv_channel.specs.declared.ping.Ping.{Ping};
 ghost use Rattle.vccv_channel.specs.declared.echo.Echo.TheVariants.{Request, Answer};

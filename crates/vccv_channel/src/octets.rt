@@ -1,6 +1,6 @@
 //! Numbers and pieces in rows of octets.
 ghost use Rattle.std.specs.Prelude.{◌≡◌, ◌≤◌, ◌+◌, ◌++◌, length, take, drop};
-ghost use Rattle.net_base.specs.values.Frame.{pair_at};
+ghost use Rattle.net_base.specs.trace.Frame.{pair_at};
 
 use byteorder::{BigEndian, ByteOrder};
 

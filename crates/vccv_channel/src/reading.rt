@@ -1,6 +1,6 @@
 //! What an echo packet says.
 ghost use Rattle.std.specs.Prelude.{◌≡◌, ◌≤◌, ℕ, true, false, length, take, Ok};
-ghost use Rattle.net_base.specs.declared.values.addr.Addr.{Addr as Address};
+ghost use Rattle.net_values.specs.declared.addr.Addr.{Addr as Address};
 ghost use Rattle.vccv_channel.specs.declared.echo.Echo.TheVariants.{Request};
 ghost use Rattle.vccv_channel.specs.declared.vccv_fault.VccvFault.TheVariants.{Version, Channel};
 ghost use Rattle.vccv_channel.specs.Reading.{has_fault, is_whole_icmp as whole_icmp_in, is_ip_packet as ip_packet_in, has_sums as sums_in, is_echo as echo_message_in, echo_in as echo_of, behind_header, total_length, reading, IsRequest};

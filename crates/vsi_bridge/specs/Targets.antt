@@ -1,7 +1,7 @@
 -- What a bridge learns of a frame, and where it sends the frame (RFC 4762 sections 4.1 and 4.2).
 use Rattle.std.specs.Prelude.{◌==◌, ◌&&◌, ℕ, Bool, List, Option, Some, None, if◌then◌else◌}
-use Rattle.net_base.specs.declared.values.mac.Mac.{Mac}
-use Rattle.net_base.specs.values.Mac.{is_group_address}
+use Rattle.net_values.specs.declared.mac.Mac.{Mac}
+use Rattle.net_values.specs.Mac.{is_group_address}
 use Rattle.hvpls_spokes.specs.declared.port.Port.{Port}
 use Rattle.hvpls_spokes.specs.Flood.{is_in_flood}
 use Rattle.mac_table.specs.Addresses.{learned, port_of}

@@ -1,6 +1,6 @@
 //! Virtual switch instances.
 ghost use Rattle.std.specs.Prelude.{◌≡◌, ◌==◌, ◌<◌, ◌≤◌, ◌&&◌, ℕ, [], filter, not, true, length, IfOk};
-ghost use Rattle.net_base.specs.values.Mac.{is_group_address};
+ghost use Rattle.net_values.specs.Mac.{is_group_address};
 ghost use Rattle.hvpls_spokes.specs.Flood.{is_in_flood};
 ghost use Rattle.hvpls_spokes.specs.PortSet.{has};
 ghost use Rattle.mac_table.specs.Addresses.{AreDistinct, NoneAfter, is_young, stays};

@@ -2,7 +2,7 @@
 ghost use Rattle.std.specs.Prelude.{◌≡◌, ◌≤◌, ◌<◌, ◌++◌, ◌∷◌, [], ℕ, List, Result, None, Ok, Err, true, length, slice_get, if◌then◌else◌, IfOk, IfSome, OnOk, MatchResult};
 ghost use Rattle.net_base.specs.declared.trace.drop_cause.DropCause.{DropCause as Cause};
 ghost use Rattle.net_base.specs.plan.Places.{wire_row};
-ghost use Rattle.net_base.specs.values.Frame.{dress};
+ghost use Rattle.net_base.specs.trace.Frame.{dress};
 ghost use Rattle.eth_encap.specs.Fault.{cause_of};
 ghost use Rattle.hvpls_spokes.specs.Port.{ports_of};
 ghost use Rattle.hvpls_spokes.specs.PortSet.{has};

@@ -1,7 +1,7 @@
 -- What is at fault in a FEC and in a label.
 use Rattle.std.proofs.Common.{sym, subst}
 use Rattle.std.specs.Prelude.{IfSome}
-use Rattle.net_base.specs.declared.values.field.Field.{Field}
+use Rattle.net_values.specs.declared.field.Field.{Field}
 use Rattle.pw_tlvs.specs.Faults.{IsFirst}
 use Rattle.ldp_grammar.specs.FirstFault.{ContentFault}
 use Rattle.ldp_codec.proofs.content.content_fault.Goals as goal

@@ -1,7 +1,7 @@
 -- One more address is written.
 use Rattle.std.proofs.Common.{◌≡◌, ◌<◌, ◌+◌, ◌++◌, ◌∷◌, ◌∙◌, [], List, length, take, get_or, sym, ap, subst}
 use Rattle.std.proofs.lemmas.List.{take_more}
-use Rattle.net_base.specs.declared.values.mac.Mac.{Mac}
+use Rattle.net_values.specs.declared.mac.Mac.{Mac}
 use Rattle.pw_tlvs.proofs.MacLemmas.{AreWritten, written_more}
 use Rattle.pw_tlvs.proofs.macs.write_macs.Goals as goal
 
