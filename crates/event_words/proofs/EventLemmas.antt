@@ -14,7 +14,7 @@ use Rattle.scenario_text.specs.declared.command.Command.{Command}
 use Rattle.scenario_text.specs.declared.command.Command.TheVariants.{One}
 use Rattle.scenario_text.specs.declared.plan_names.PlanNames.{PlanNames}
 use Rattle.scenario_text.specs.Document.{names_of}
-use Rattle.scenario_text.specs.Events.{connect_in, deliver_in, lose_in, restart_in, frame_in, packet_in, wire_switch_in, circuit_switch_in, status_in, priority_in, ping_in, command_of, command_in}
+use Rattle.scenario_text.specs.Events.{connect_in, deliver_in, lose_in, restart_in, frame_in, packet_in, wire_switch_in, circuit_switch_in, status_in, priority_in, ping_in, many_of, part_of, packet_of, command_of, command_in}
 use Rattle.scenario_text.specs.Hex.{frame_of}
 use Rattle.scenario_text.specs.Names.{place_in}
 use Rattle.scenario_text.specs.Words.{is_space, decimal_from, switch_of}
@@ -57,7 +57,7 @@ by_word names number plays word words command whole reads =
 
 -- the words that a report writes for an event are read as the event
 pub reads : ReadsWhatIsWritten
-unfolding command_of connect_in deliver_in lose_in restart_in frame_in packet_in wire_switch_in circuit_switch_in status_in priority_in ping_in
+unfolding command_of packet_of part_of many_of connect_in deliver_in lose_in restart_in frame_in packet_in wire_switch_in circuit_switch_in status_in priority_in ping_in
 reads plan (Connect from to) number plays names planned ranged =
     let word : List ℕ = codes "connect" in
     let rest : List (List ℕ) = edge_name plan from ∷ edge_name plan to ∷ [] in

@@ -5,7 +5,7 @@ ghost use Rattle.hvpls_spokes.specs.PortSet.{has};
 use std::marker::Model;
 
 /// A set of ports 0 to 511. Contracts ask of it by `has` whether a port is in it.
-#[derive(Clone, Copy, Debug, PartialEq, Eq)]
+#[derive(Clone, Copy, PartialEq, Eq)]
 pub struct PortSet {
     words: [u64; 8],
 }

@@ -14,7 +14,7 @@ use std::marker::Model;
 
 /// The ports of a service at an edge, at most 512, numbered from 0. A port is found by halves, since they stand in the order of
 /// the plan. Contracts see the list of them.
-#[derive(Debug, Drop)]
+#[derive(Drop)]
 pub struct Ports {
     ports: Vec<Port>,
 }

@@ -11,7 +11,7 @@ use std::marker::Model;
 /// The labels of an edge: which number is next, and which pseudowire end owns which label. A label is given by downstream
 /// unsolicited advertisement (RFC 5036 section 2.6.3), and its end owns it until the label is freed. Contracts see the next
 /// number, the most labels that are owned at once, and the owners in the order in which they came.
-#[derive(Debug, Drop)]
+#[derive(Drop)]
 pub struct LabelSpace {
     next: u32,
     room: u32,

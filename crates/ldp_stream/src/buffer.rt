@@ -18,7 +18,7 @@ pub const ROOM: usize = 4100;
 /// ```
 ///
 /// Where a piece needs more than what is free, the held octets are first moved to 0.
-#[derive(Debug, Drop)]
+#[derive(Drop)]
 pub struct Buffer {
     octets: Vec<u8>,
     front: usize,

@@ -18,7 +18,7 @@ use std::marker::Model;
 
 /// The octets of one direction of a connection, as they come in, and the PDUs that they spell. Contracts see the octets
 /// held, the maximum, the place in the stream of the first octet held, and the fault that was answered.
-#[derive(Debug, Drop)]
+#[derive(Drop)]
 pub struct Stream {
     buffer: Buffer,
     max: u16,

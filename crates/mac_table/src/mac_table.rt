@@ -12,7 +12,7 @@ use std::marker::Model;
 
 /// The addresses that a bridge has learned, in the order in which they came, and no address twice. Contracts
 /// see the list of the entries and the capacity.
-#[derive(Debug, Drop)]
+#[derive(Drop)]
 pub struct MacTable {
     entries: Vec<MacEntry>,
     capacity: u32,

@@ -17,7 +17,7 @@ use Rattle.edge_model.specs.Signal.{end_of_fec, with_end_changed}
 use Rattle.edge_model.specs.State.{EdgeState, has_end}
 use Rattle.edge_model.specs.Work.{Answers, Work}
 use Rattle.provider_edge.specs.Control.{binds_to}
-use Rattle.provider_edge.specs.Peering.{at_edge}
+use Rattle.peer_dialogue.specs.Peering.{at_edge}
 use Rattle.provider_edge.proofs.RowLemmas.{mapping_heard, release_heard}
 
 pub acts_not : (plan : Plan) (told : Answers) (peer : EdgeId) (message : Message) (edge : EdgeState) (calls : List LinkCall) (out : List Effect) → has_end edge peer ≡ false

@@ -32,12 +32,12 @@ use Rattle.edge_model.specs.Synced.{InSync}
 use Rattle.edge_model.specs.Work.{Agrees, Answers, Work, changes, gives, posts}
 use Rattle.pw_ends.specs.Ends.{end_in, place_of}
 use Rattle.provider_edge.specs.Control.{ControlLists, IsControl, KeepsPlan, Rest, at_control, controlled}
-use Rattle.provider_edge.specs.Forwarding.{ForwardingLists, KeepsForwarding, domain_of, entries_of, open_ports, with_forwarding}
-use Rattle.provider_edge.specs.Peering.{at_edge}
+use Rattle.edge_forwarding.specs.Forwarding.{ForwardingLists, KeepsForwarding, domain_of, entries_of, open_ports, with_forwarding}
+use Rattle.peer_dialogue.specs.Peering.{at_edge}
 use Rattle.provider_edge.specs.Taking.{copied_by}
 use Rattle.provider_edge.proofs.ForwardLemmas.{controlled_forwarding, learned_read}
-use Rattle.provider_edge.proofs.OpenLemmas.{same_tests}
-use Rattle.provider_edge.proofs.SpeakerLemmas.{told_last}
+use Rattle.edge_forwarding.proofs.OpenLemmas.{same_tests}
+use Rattle.peer_dialogue.proofs.SpeakerLemmas.{told_last}
 use Rattle.provider_edge.proofs.SyncLemmas.{forwards_hearing, open_forwards}
 
 -- ---- a packet is sent

@@ -33,10 +33,10 @@ use Rattle.edge_model.specs.State.{EdgeState}
 use Rattle.edge_model.specs.Withdraw.{tells_pieces}
 use Rattle.edge_model.specs.Work.{Answers, Work, changes}
 use Rattle.provider_edge.specs.Control.{ControlLists, KeepsPlan, Rest, at_control, controlled}
-use Rattle.provider_edge.specs.Peering.{at_edge}
+use Rattle.peer_dialogue.specs.Peering.{at_edge}
 use Rattle.provider_edge.specs.Taking.{copied_by}
 use Rattle.provider_edge.proofs.MendLemmas.{me_at}
-use Rattle.provider_edge.proofs.OpenLemmas.{same_tests}
+use Rattle.edge_forwarding.proofs.OpenLemmas.{same_tests}
 use Rattle.provider_edge.proofs.RowLemmas.{changed_edge}
 
 -- ---- the message names a wire, or nothing

@@ -28,21 +28,13 @@ use Rattle.edge_model.specs.Work.{changes}
 use Rattle.pw_ends.specs.Ends.{EndLists, changed_at, changed_beside, end_in, no_place, place_of, renewed_of, seen_ends}
 use Rattle.net_base.specs.plan.Accepted.{IsChecked}
 use Rattle.provider_edge.specs.Control.{ControlLists, IsControl, IsNewControl, KeepsPlan, Rest, controlled}
-use Rattle.provider_edge.specs.Forwarding.{ForwardingLists, IsNewForwarding, KeepsForwarding, opened_forwarding, with_forwarding, without_told}
+use Rattle.edge_forwarding.specs.Forwarding.{ForwardingLists, IsNewForwarding, KeepsForwarding, opened_forwarding, with_forwarding, without_told}
 use Rattle.provider_edge.specs.Spokes.{AreSpokesOf, IsNewSpokes, SpokeLists, unchosen}
-use Rattle.provider_edge.specs.Peering.{Dialogue, at_edge, gone, kept_with}
-use Rattle.provider_edge.specs.Views.{view}
+use Rattle.peer_dialogue.specs.Peering.{Dialogue, at_edge, gone, kept_with}
+use Rattle.edge_forwarding.specs.Views.{view}
 use Rattle.provider_edge.proofs.ForwardLemmas.{control_forwarding, controlled_forwarding}
-use Rattle.provider_edge.proofs.SpeakerLemmas.{put_same}
-use Rattle.provider_edge.proofs.Views.{past_end, same_read, view_at, view_set}
-
--- ---- a list of so many equal items
-
-pub one_more : {X : Type 0} (items now : List X) (n : ℕ) (x : X) → items ≡ replicate n x → now ≡ items ++ x ∷ [] → now ≡ replicate (n + 1) x
-one_more items now n x so_far pushed = pushed ∙ (ap (λ l. l ++ x ∷ []) so_far ∙ more n) where
-  more : (n : ℕ) → replicate n x ++ x ∷ [] ≡ replicate (n + 1) x
-  more zero = refl
-  more (suc n) = let next : suc n + 1 ≡ suc (n + 1) = omega arith in rw next (ap (λ l. x ∷ l) (more n))
+use Rattle.peer_dialogue.proofs.SpeakerLemmas.{put_same}
+use Rattle.edge_forwarding.proofs.Views.{past_end, same_read, view_at, view_set}
 
 -- ---- what always holds
 

@@ -42,9 +42,9 @@ use Rattle.provider_edge.specs.Control.{ControlLists, KeepsPlan, Rest, at_contro
 use Rattle.provider_edge.specs.EndOf.{is_of_segment}
 use Rattle.provider_edge.specs.Invariant.{IsEdge}
 use Rattle.provider_edge.specs.Lists.{EdgeLists, Keeps, rest_of, seen, worked}
-use Rattle.provider_edge.specs.Peering.{Dialogue, at_edge, connection_with, kept_with, peers_between}
-use Rattle.provider_edge.specs.Views.{view}
-use Rattle.provider_edge.proofs.Views.{same_read, view_at, view_set}
+use Rattle.peer_dialogue.specs.Peering.{Dialogue, at_edge, connection_with, kept_with, peers_between}
+use Rattle.edge_forwarding.specs.Views.{view}
+use Rattle.edge_forwarding.proofs.Views.{same_read, view_at, view_set}
 use Rattle.provider_edge.proofs.WorkLemmas.{other_before, same_already}
 
 -- ---- an edge whose control has worked

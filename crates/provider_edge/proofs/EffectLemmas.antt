@@ -93,10 +93,10 @@ use Rattle.edge_model.proofs.SyncLemmas.{step_synced}
 use Rattle.edge_model.proofs.PlaceLemmas.{IsEndOf, all-map, places_are}
 use Rattle.provider_edge.specs.Invariant.{IsEdge}
 use Rattle.provider_edge.specs.Lists.{EdgeLists, seen, worked}
-use Rattle.provider_edge.specs.Peering.{Dialogue, kept_with}
-use Rattle.provider_edge.specs.Views.{view}
+use Rattle.peer_dialogue.specs.Peering.{Dialogue, kept_with}
+use Rattle.edge_forwarding.specs.Views.{view}
 use Rattle.provider_edge.specs.Said.{AllFit, Fits, TellsTaken, calls_told}
-use Rattle.provider_edge.proofs.Views.{same_read}
+use Rattle.edge_forwarding.proofs.Views.{same_read}
 
 -- Of an edge at work this holds of its work, whatever it does for its neighbours and its circuits.
 pub record AreKept (plan : Plan) (Holds : Work → Type 0) : Type 0 where

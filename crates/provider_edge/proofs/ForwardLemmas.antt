@@ -17,7 +17,7 @@ use Rattle.edge_model.specs.Mend.{forgetting_wire}
 use Rattle.edge_model.specs.State.{EdgeState, addresses_of, is_on, later, with_addresses, with_ticks, without_port}
 use Rattle.edge_model.specs.Tick.{forgetting}
 use Rattle.provider_edge.specs.Control.{ControlLists, IsControl, KeepsPlan, Rest, controlled}
-use Rattle.provider_edge.specs.Forwarding.{ForwardingLists, KeepsForwarding, circuits_in, domain_of, entries_of, told_in, with_forwarding}
+use Rattle.edge_forwarding.specs.Forwarding.{ForwardingLists, KeepsForwarding, circuits_in, domain_of, entries_of, told_in, with_forwarding}
 
 pub control_forwarding : (c : ControlLists) (f : ForwardingLists) → KeepsForwarding c.forwarding f → IsControl c → IsControl (record c { forwarding = f })
 control_forwarding c f keeps is = record {

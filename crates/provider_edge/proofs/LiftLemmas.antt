@@ -14,8 +14,8 @@ use Rattle.edge_model.specs.Put.{Spoken, put_reply}
 use Rattle.edge_model.specs.Session.{clears_ends, had_put, happens, happens_to, happens_with_ends, says, says_to}
 use Rattle.edge_model.specs.State.{EdgeState, Peering, has_end, is_there, with_peering}
 use Rattle.edge_model.specs.Work.{Answers, Work, changes, gives}
-use Rattle.provider_edge.specs.Peering.{Dialogue, at_edge, at_peer, had_spoken, is_over, put_message, put_message_to}
-use Rattle.provider_edge.proofs.SpeakerLemmas.{put_same, put_twice}
+use Rattle.peer_dialogue.specs.Peering.{Dialogue, at_edge, at_peer, had_spoken, is_over, put_message, put_message_to}
+use Rattle.peer_dialogue.proofs.SpeakerLemmas.{put_same, put_twice}
 
 pub peer_edge : (peer : EdgeId) (kept : Option Peering) (edge : EdgeState) (calls : List LinkCall) (out : List Effect) → edge.peering peer.0 ≡ kept → at_peer peer kept edge calls out ≡ at_edge edge calls out
 unfolding at_peer at_edge

@@ -22,7 +22,7 @@ use Rattle.pw_signalling.specs.declared.pw_end.PwEnd.{PwEnd}
 use Rattle.pw_signalling.specs.declared.told.Told.{Told}
 use Rattle.pw_tlvs.specs.declared.pw_status.PwStatus.{PwStatus}
 use Rattle.pw_ends.specs.Ends.{end_in, no_place, place_of}
-use Rattle.pw_ends.specs.Wish.{wish_by}
+use Rattle.peer_dialogue.specs.Wish.{wish_by}
 use Rattle.edge_model.specs.declared.effect.Effect.{Effect}
 use Rattle.edge_model.specs.declared.end_place.EndPlace.{EndPlace}
 use Rattle.edge_model.specs.EndPlaces.{end_places}
@@ -35,7 +35,7 @@ use Rattle.edge_model.specs.Withdraw.{tells_piece}
 use Rattle.edge_model.specs.Work.{Answers, Work, changes}
 use Rattle.provider_edge.specs.Control.{ControlLists, KeepsPlan, Rest, at_control, controlled}
 use Rattle.provider_edge.specs.Mending.{forgotten_down, mended_down}
-use Rattle.provider_edge.specs.Peering.{at_edge}
+use Rattle.peer_dialogue.specs.Peering.{at_edge}
 
 -- ---- rounds
 

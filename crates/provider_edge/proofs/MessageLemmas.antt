@@ -10,7 +10,6 @@ use Rattle.ldp_codec.specs.declared.decode_fault.DecodeFault.{DecodeFault}
 use Rattle.ldp_grammar.specs.declared.message.Message.{Message}
 use Rattle.ldp_grammar.specs.declared.pdu.Pdu.{Pdu}
 use Rattle.ldp_grammar.specs.Reading.{AreOctets}
-use Rattle.ldp_stream.specs.State.{StreamState, empty}
 use Rattle.session_core.specs.Table.{Heard, Received, Refused, Ticked}
 use Rattle.edge_model.specs.declared.effect.Effect.{Effect}
 use Rattle.edge_model.specs.Hear.{acts, acts_on, hears, hears_message, hears_messages, hears_one, hears_pdu, was_up}
@@ -21,12 +20,12 @@ use Rattle.edge_model.specs.Tick.{ticks_sessions}
 use Rattle.edge_model.specs.Work.{Answers, Work, changes}
 use Rattle.pw_signalling.specs.Rows.{lost}
 use Rattle.provider_edge.specs.Control.{ControlLists, Rest, at_control, controlled, holding}
-use Rattle.provider_edge.specs.Heard.{CanBeHeard}
-use Rattle.provider_edge.specs.Hearing.{HearsOn, IsAtFault, IsAtPdu, IsReady, IsWaiting, IsWaitingFor}
-use Rattle.provider_edge.specs.Peering.{Dialogue, at_edge, kept_with}
-use Rattle.provider_edge.specs.Views.{view}
-use Rattle.provider_edge.proofs.HearLemmas.{ended_all, heard_fault, heard_pdu, held_all, messages_more}
-use Rattle.provider_edge.proofs.SpeakerLemmas.{put_same, read_peer}
+use Rattle.peer_dialogue.specs.Heard.{CanBeHeard}
+use Rattle.peer_dialogue.specs.Hearing.{HearsOn, IsAtFault, IsAtPdu, IsWaiting, IsWaitingFor}
+use Rattle.peer_dialogue.specs.Peering.{Dialogue, at_edge, kept_with}
+use Rattle.edge_forwarding.specs.Views.{view}
+use Rattle.peer_dialogue.proofs.HearLemmas.{ended_all, heard_fault, heard_pdu, held_all, messages_more}
+use Rattle.peer_dialogue.proofs.SpeakerLemmas.{put_same, read_peer}
 
 -- ---- no session is left
 
@@ -108,9 +107,6 @@ pdu_heard plan now told peer pdu start mid work same is heard =
     heard ∙ (ap (λ (p : Plan). hears_messages p told peer pdu.messages mid) same ∙ ap (hears_messages plan told peer pdu.messages) is)
 
 -- ---- octets
-
-pub empty_ready : (s : StreamState) → s ≡ empty → IsReady s
-empty_ready s is = subst IsReady (sym is) (record { octets = λ at. grind (arith); going = refl })
 
 pub waits_none : (x : Option Peering) (held : List ℕ) → x ≡ None → IsWaitingFor x held
 waits_none x held none = subst (λ (o : Option Peering). IsWaitingFor o held) (sym none) tt

@@ -37,7 +37,7 @@ use Rattle.edge_model.specs.State.{EdgeState, end_at}
 use Rattle.edge_model.specs.Work.{Answers, Work, gives}
 use Rattle.pw_ends.specs.Ends.{end_in, end_there, place_of}
 use Rattle.provider_edge.specs.Control.{ControlLists, Rest, at_control, controlled}
-use Rattle.provider_edge.specs.Peering.{at_edge}
+use Rattle.peer_dialogue.specs.Peering.{at_edge}
 use Rattle.provider_edge.proofs.BridgeLemmas.{dropped_at}
 
 not_false : (b : Bool) → not b ≡ false → b ≡ true

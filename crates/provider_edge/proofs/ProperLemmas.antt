@@ -15,7 +15,7 @@ use Rattle.net_base.proofs.PathLemmas.{joins_apart}
 use Rattle.session_core.specs.declared.peers.Peers.{Peers}
 use Rattle.session_core.specs.State.{IsProper}
 use Rattle.edge_model.specs.Connection.{peers_of}
-use Rattle.provider_edge.specs.Peering.{peers_between}
+use Rattle.peer_dialogue.specs.Peering.{peers_between}
 
 joined_apart : (plan : Plan) (rows : List WirePlan) (a b : ℕ) → All (IsWireOf plan) rows → list_any (λ (row : WirePlan). joins a b row.path) rows ≡ true → nat_eq a b ≡ false
 joined_apart plan [] a b all joined = absurd (cc (joined))

@@ -28,7 +28,7 @@ use Rattle.edge_model.specs.Signal.{end_of_fec, hears_mapping, hears_release, he
 use Rattle.edge_model.specs.State.{EdgeState, with_ends_beside, with_told_down}
 use Rattle.edge_model.specs.Work.{Answers, Work, changes, gives}
 use Rattle.provider_edge.specs.Control.{ControlLists, Rest, binds_to, controlled}
-use Rattle.provider_edge.specs.Peering.{at_edge}
+use Rattle.peer_dialogue.specs.Peering.{at_edge}
 
 pub changed_edge : (change : EdgeState → EdgeState) (edge now : EdgeState) (calls : List LinkCall) (out : List Effect) → now ≡ change edge → at_edge now calls out ≡ changes change (at_edge edge calls out)
 unfolding at_edge changes

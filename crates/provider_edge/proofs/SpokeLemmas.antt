@@ -27,8 +27,8 @@ use Rattle.spoke_redundancy.specs.Choice.{chosen}
 use Rattle.pw_ends.specs.Ends.{EndLists, end_in, no_place, place_of}
 use Rattle.provider_edge.specs.Control.{ControlLists, IsControl, Rest, controlled}
 use Rattle.provider_edge.specs.Spokes.{AreSlots, slots_for, slots_where, starts_spoke, unchosen}
-use Rattle.provider_edge.proofs.EachLemmas.{before_push, each_next, long_push, past_push}
-use Rattle.provider_edge.proofs.Views.{past_end, same_read}
+use Rattle.edge_forwarding.proofs.EachLemmas.{before_push, each_next, long_push, past_push}
+use Rattle.edge_forwarding.proofs.Views.{past_end, same_read}
 
 -- ---- slots by services
 

@@ -28,10 +28,10 @@ use Rattle.edge_model.specs.Synced.{InSync, IsSynced}
 use Rattle.edge_model.proofs.SyncLemmas.{cause_same, forwards_as_told}
 use Rattle.pw_ends.specs.Ends.{no_place, place_of}
 use Rattle.provider_edge.specs.Control.{ControlLists, IsControl, Rest, controlled}
-use Rattle.provider_edge.specs.Domain.{opens, port_opens}
-use Rattle.provider_edge.specs.Forwarding.{circuits_in, open_ports, told_in}
-use Rattle.provider_edge.proofs.ForwardingLemmas.{row_holds}
-use Rattle.provider_edge.proofs.OpenLemmas.{found_opens, same_tests}
+use Rattle.edge_forwarding.specs.Domain.{opens, port_opens}
+use Rattle.edge_forwarding.specs.Forwarding.{circuits_in, open_ports, told_in}
+use Rattle.edge_forwarding.proofs.ForwardingLemmas.{row_holds}
+use Rattle.edge_forwarding.proofs.OpenLemmas.{found_opens, same_tests}
 
 -- ---- an edge has an end of each wire that ends there
 

@@ -17,9 +17,9 @@ use Rattle.edge_model.specs.Frame.{frame_input, is_own, received}
 use Rattle.edge_model.specs.Mend.{mends}
 use Rattle.edge_model.specs.State.{EdgeState, addresses_of, is_on, with_addresses, with_circuit, without_port}
 use Rattle.edge_model.specs.Work.{Answers, Work, beginning, changes, idles}
-use Rattle.provider_edge.specs.Forwarding.{own_service}
+use Rattle.edge_forwarding.specs.Forwarding.{own_service}
 use Rattle.provider_edge.specs.Lists.{EdgeLists, Keeps, seen, worked}
-use Rattle.provider_edge.proofs.ForwardingLemmas.{OwnRow, own_row, other_row}
+use Rattle.edge_forwarding.proofs.ForwardingLemmas.{OwnRow, own_row, other_row}
 
 abbrev pub no_effects : Bool → Effects
 no_effects idle = record { idle = idle; list = [] }

@@ -8,18 +8,19 @@ use Rattle.net_base.specs.declared.trace.down.Down.TheVariants.{NoLocal}
 use Rattle.net_base.specs.plan.Accepted.{IsChecked}
 use Rattle.edge_model.specs.declared.effect.Effect.{Effect}
 use Rattle.edge_model.specs.EndPlaces.{end_places}
-use Rattle.edge_model.specs.State.{EdgeState, empty_edge, priority_in, put_at}
+use Rattle.edge_model.specs.State.{EdgeState, empty_edge, first_label, priority_in, put_at}
 use Rattle.edge_model.specs.Work.{Answers, Work, changes}
 use Rattle.edge_model.specs.Signal.{releases_label, with_end_changed}
 use Rattle.edge_model.specs.declared.end_place.EndPlace.{EndPlace}
 use Rattle.pw_signalling.specs.declared.binding.Binding.{Binding}
 use Rattle.pw_signalling.specs.Rows.{bound}
+use Rattle.pw_signalling.specs.End.{fresh}
 use Rattle.pw_tlvs.specs.declared.pw_fec.PwFec.{PwFec}
 use Rattle.pw_ends.specs.Ends.{EndLists, seen_ends}
-use Rattle.provider_edge.specs.Forwarding.{ForwardingLists, domain_of, entries_of}
-use Rattle.provider_edge.specs.Peering.{Dialogue, at_edge, kept_with}
-use Rattle.provider_edge.specs.Spokes.{AreSpokesOf, SpokeLists}
-use Rattle.provider_edge.specs.Views.{view}
+use Rattle.edge_forwarding.specs.Forwarding.{ForwardingLists, IsNewForwarding, domain_of, entries_of}
+use Rattle.peer_dialogue.specs.Peering.{Dialogue, at_edge, kept_with}
+use Rattle.provider_edge.specs.Spokes.{AreSpokesOf, IsNewSpokes, SpokeLists}
+use Rattle.edge_forwarding.specs.Views.{view}
 
 pub record ControlLists : Type 0 where
   -- the network's plan, and the edge's place in it
@@ -88,6 +89,14 @@ pub record IsControl (c : ControlLists) : Type 0 where
   pub priorities : length c.priorities ≡ length c.plan.wires
 
 -- before the first input
+-- ends, spokes and bridges of an edge of the plan that have taken no input
+pub record AreNewParts (plan : Plan) (me : EdgeId) (ends : EndLists) (spokes : SpokeLists) (forwarding : ForwardingLists) : Type 0 where
+  pub places : ends.places ≡ end_places plan me
+  pub idle : seen_ends ends ≡ (λ wire peer. fresh)
+  pub next : ends.labels.next ≡ first_label plan me
+  pub unchosen : IsNewSpokes plan me spokes
+  pub unheard : IsNewForwarding plan me forwarding
+
 pub record IsNewControl (plan : Plan) (me : EdgeId) (c : ControlLists) : Type 0 where
   pub keeps : c.plan ≡ plan
   pub here : c.me ≡ me

@@ -1,16 +1,8 @@
 pub mod Control
-pub mod Domain
 pub mod EndOf
-pub mod Event
-pub mod Forwarding
-pub mod Heard
-pub mod Hearing
 pub mod Invariant
 pub mod Lists
 pub mod Mending
-pub mod Peering
-pub mod PwMessage
 pub mod Said
 pub mod Spokes
 pub mod Taking
-pub mod Views

@@ -9,9 +9,9 @@ use Rattle.edge_model.specs.Work.{Work}
 use Rattle.net_base.specs.declared.trace.down.Down.TheVariants.{NoLocal}
 use Rattle.pw_ends.specs.Ends.{seen_ends}
 use Rattle.provider_edge.specs.Control.{ControlLists, Rest}
-use Rattle.provider_edge.specs.Forwarding.{domain_of, entries_of}
-use Rattle.provider_edge.specs.Peering.{kept_with}
-use Rattle.provider_edge.specs.Views.{view}
+use Rattle.edge_forwarding.specs.Forwarding.{domain_of, entries_of}
+use Rattle.peer_dialogue.specs.Peering.{kept_with}
+use Rattle.edge_forwarding.specs.Views.{view}
 
 pub record EdgeLists : Type 0 where
   -- the network's plan, and the edge's place in it

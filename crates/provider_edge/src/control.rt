@@ -1,5 +1,5 @@
 //! What signalling works on at an edge.
-ghost use Rattle.std.specs.Prelude.{◌≡◌, ◌<◌, List, None, length, map, replicate, option_copied, IfOk, IfSome};
+ghost use Rattle.std.specs.Prelude.{◌≡◌, ◌<◌, List, None, true, length, map, replicate, option_copied, IfOk, IfSome};
 ghost use Rattle.net_base.specs.declared.outside.link_call.LinkCall.{LinkCall};
 ghost use Rattle.net_base.specs.plan.Accepted.{IsChecked};
 ghost use Rattle.pw_signalling.specs.Rows.{lost};
@@ -7,8 +7,8 @@ ghost use Rattle.edge_model.specs.declared.effect.Effect.{Effect};
 ghost use Rattle.edge_model.specs.Hear.{was_up};
 ghost use Rattle.edge_model.specs.Session.{clears_ends};
 ghost use Rattle.edge_model.specs.State.{has_end, with_ends_beside, with_peering, without_ends, without_peerings};
-ghost use Rattle.provider_edge.specs.Control.{IsNewControl, KeepsPlan, Rest, at_control, controlled};
-ghost use Rattle.provider_edge.specs.Peering.{gone, kept_with, session_name};
+ghost use Rattle.provider_edge.specs.Control.{AreNewParts, IsNewControl, KeepsPlan, Rest, at_control, controlled};
+ghost use Rattle.peer_dialogue.specs.Peering.{gone, kept_with, session_name};
 
 mod bridge;
 mod clear;
@@ -24,10 +24,10 @@ mod spokes;
 mod wire;
 mod withdraw;
 
-use crate::dialogue::Dialogue;
-use crate::forwarding::Forwarding;
 use crate::spokes::{Spokes, priorities};
+use edge_forwarding::Forwarding;
 use net_base::{EdgeId, NoMemory, Plan, StateName};
+use peer_dialogue::Dialogue;
 use pw_ends::PwEnds;
 use std::alloc::Global;
 use std::marker::Model;
@@ -36,7 +36,7 @@ use std::rc::Rc;
 /// What an edge works on: its sessions, the ends of its pseudowires, what was set of its wires, the spokes that it
 /// has chosen, and what it forwards frames by. Contracts see it as lists by the plan's places, and by `controlled` as the state of the whole edge, for any rest of it: so each call
 /// says what it makes of the edge, and that all else stays.
-#[derive(Debug, Drop)]
+#[derive(Drop)]
 pub struct Control {
     plan: Rc<Plan>,
     me: EdgeId,
@@ -67,25 +67,39 @@ impl Control {
         requires me { me.0 < length plan.value.edges }
         ensures { IfOk result (λ control. IsNewControl plan.value me control) }
     {
-        let dialogues = no_dialogues(alloc, plan.edges.len())?;
         let ends = PwEnds::open(alloc, &plan, me)?;
-        let count = plan.wires.len();
-        let wires_on = vec![in alloc; true; count]?;
-        let bits = vec![in alloc; 0u8; count]?;
-        let priorities = priorities(alloc, &plan)?;
         let spokes = Spokes::open(alloc, &plan, me, ends.places())?;
         let forwarding = Forwarding::open(alloc, plan.clone()?, me)?;
-        Ok(Control {
-            plan,
-            me,
-            dialogues,
-            ends,
-            wires_on,
-            bits,
-            priorities,
-            spokes,
-            forwarding,
-        })
+        Control::over(alloc, plan, me, ends, spokes, forwarding)
+    }
+
+    // The control of an edge over these ends, spokes and bridges, which have taken no input.
+    fn over(
+        alloc: Global,
+        plan: Rc<Plan>,
+        me: EdgeId,
+        ends: PwEnds,
+        spokes: Spokes,
+        forwarding: Forwarding,
+    ) -> Result<Control, NoMemory>
+        requires checked { IsChecked plan.value }
+        requires new { AreNewParts plan.value me ends spokes forwarding }
+        ensures { IfOk result (λ control. IsNewControl plan.value me control) }
+    {
+        match first_lists(alloc, &plan) {
+            Ok(lists) => Ok(Control {
+                plan,
+                me,
+                dialogues: lists.dialogues,
+                ends,
+                wires_on: lists.wires_on,
+                bits: lists.bits,
+                priorities: lists.priorities,
+                spokes,
+                forwarding,
+            }),
+            Err(fault) => Err(fault),
+        }
     }
 
     /// The session with a neighbour, where it stands.
@@ -195,8 +209,37 @@ impl Control {
     }
 }
 
+// The lists of a control before its first input.
+#[derive(Drop)]
+struct FirstLists {
+    dialogues: Vec<Option<Dialogue>>,
+    wires_on: Vec<bool>,
+    bits: Vec<u8>,
+    priorities: Vec<u8>,
+}
+
+// No session stands, every wire is on without a failure, and spokes have the priorities of the plan.
+fn first_lists(alloc: Global, plan: &Plan) -> Result<FirstLists, NoMemory>
+    ensures dialogues { IfOk result (λ lists. lists.dialogues.items ≡ replicate (length plan.now.edges) None) }
+    ensures wires { IfOk result (λ lists. lists.wires_on.items ≡ replicate (length plan.now.wires) true) }
+    ensures zeros { IfOk result (λ lists. lists.bits.items ≡ replicate (length plan.now.wires) 0) }
+    ensures priorities { IfOk result (λ lists. lists.priorities.items ≡ map (λ row. row.priority) plan.now.wires) }
+{
+    let count = plan.wires.len();
+    let wires_on = vec![in alloc; true; count]?;
+    let bits = vec![in alloc; 0u8; count]?;
+    let priorities = priorities(alloc, plan)?;
+    let dialogues = no_dialogues(alloc, plan.edges.len())?;
+    Ok(FirstLists {
+        dialogues,
+        wires_on,
+        bits,
+        priorities,
+    })
+}
+
 // No session with any of so many neighbours.
-#[tactic(auto, using(crate::proofs::ControlLemmas::one_more))]
+#[tactic(auto, using(edge_forwarding::proofs::EachLemmas::one_more))]
 fn no_dialogues(alloc: Global, count: usize) -> Result<Vec<Option<Dialogue>>, NoMemory>
     ensures { IfOk result (λ kept. kept.items ≡ replicate count None) }
 {
@@ -208,7 +251,7 @@ fn no_dialogues(alloc: Global, count: usize) -> Result<Vec<Option<Dialogue>>, No
 }
 
 // No session stands any more.
-#[tactic(auto, using(crate::proofs::EachLemmas::each_next))]
+#[tactic(auto, using(edge_forwarding::proofs::EachLemmas::each_next))]
 fn drop_all(dialogues: &mut Vec<Option<Dialogue>>)
     ensures { dialogues.new.items ≡ map gone dialogues.old.items }
 {

@@ -14,7 +14,7 @@ ghost use Rattle.edge_model.specs.Synced.{InSync};
 ghost use Rattle.edge_model.specs.Work.{Agrees, Answers, GoesOn, beginning};
 ghost use Rattle.provider_edge.specs.EndOf.{is_of_segment};
 ghost use Rattle.provider_edge.specs.Lists.{Keeps, seen, worked};
-ghost use Rattle.provider_edge.specs.Peering.{held_of, session_name};
+ghost use Rattle.peer_dialogue.specs.Peering.{held_of, session_name};
 ghost use Rattle.provider_edge.specs.Said.{AllFit, TellsTaken};
 ghost use Rattle.provider_edge.specs.Taking.{IsInRange, StaysLocal};
 
@@ -28,12 +28,12 @@ mod wire;
 
 use crate::EdgeStop;
 use crate::control::Control;
-use crate::held::Held;
 use crate::quiet::idle;
 use edge_model::{Effects, Input};
 use net_base::{
     CircuitId, Down, EdgeId, Link, NoMemory, Plan, SegKey, ServiceId, StateName, WireId,
 };
+use peer_dialogue::Held;
 use pw_signalling::PwEnd;
 use std::alloc::Global;
 use std::marker::Model;
@@ -42,7 +42,7 @@ use vsi_bridge::Bridge;
 
 /// A provider edge of a plan (RFC 4762 section 4). Contracts see it as lists by the plan's places, and by `seen` as the
 /// state of one edge.
-#[derive(Debug, Drop)]
+#[derive(Drop)]
 pub struct Edge {
     plan: Rc<Plan>,
     me: EdgeId,
@@ -87,8 +87,8 @@ impl Edge {
         ensures empty { IfOk result (λ edge. seen edge ≡ empty_edge edge.plan me) }
         ensures stopped { IfOk result (λ edge. edge.stopped ≡ false) }
     {
-        let control = Control::open(alloc, plan.clone()?, me)?;
         let held = none_held(alloc, plan.edges.len())?;
+        let control = Control::open(alloc, plan.clone()?, me)?;
         Ok(Edge {
             plan,
             me,
@@ -285,7 +285,7 @@ impl Edge {
 }
 
 // Nothing is held of any of so many neighbours.
-#[tactic(auto, using(crate::proofs::ControlLemmas::one_more))]
+#[tactic(auto, using(edge_forwarding::proofs::EachLemmas::one_more))]
 fn none_held(alloc: Global, count: usize) -> Result<Vec<Held>, NoMemory>
     ensures { IfOk result (λ held. held.items ≡ replicate count []) }
 {

@@ -8,7 +8,7 @@ ghost use Rattle.edge_model.specs.EndPlaces.{end_places};
 ghost use Rattle.edge_model.specs.Spokes.{is_spoke_row};
 ghost use Rattle.edge_model.specs.Wire.{is_own_spoke};
 ghost use Rattle.provider_edge.specs.Spokes.{AreSlots, IsNewSpokes, slots_for, slots_in, unchosen};
-ghost use Rattle.provider_edge.specs.Views.{view};
+ghost use Rattle.edge_forwarding.specs.Views.{view};
 
 use edge_model::EndPlace;
 use net_base::{Class, EdgeId, List, NoMemory, Plan, ServiceId, WireId, WirePlan};
@@ -17,7 +17,7 @@ use std::marker::Model;
 
 /// For each service the slots of an edge's ends of the spokes that start at it, in the order of the wires, and the wire of the one
 /// that is chosen (RFC 4762 section 10.1, RFC 6870). Contracts see lists by the plan's services.
-#[derive(Debug, Drop)]
+#[derive(Drop)]
 pub struct Spokes {
     slots: Vec<List<usize>>,
     chosen: Vec<Option<WireId>>,
@@ -113,7 +113,7 @@ fn clear_all(chosen: &mut Vec<Option<WireId>>)
 }
 
 // No spoke is chosen for so many services.
-#[tactic(auto, using(crate::proofs::ControlLemmas::one_more))]
+#[tactic(auto, using(edge_forwarding::proofs::EachLemmas::one_more))]
 fn none_chosen(alloc: Global, count: usize) -> Result<Vec<Option<WireId>>, NoMemory>
     ensures { IfOk result (λ chosen. chosen.items ≡ replicate count None) }
 {

@@ -7,7 +7,7 @@ use Rattle.net_base.specs.declared.plan.wire_plan.WirePlan.{WirePlan}
 use Rattle.net_base.specs.plan.Roles.{all_below, any_wire, count_wires}
 use Rattle.edge_model.specs.State.{Peering}
 use Rattle.network_model.specs.State.{held_by}
-use Rattle.provider_edge.specs.Peering.{held_of}
+use Rattle.peer_dialogue.specs.Peering.{held_of}
 
 -- ---- edges
 

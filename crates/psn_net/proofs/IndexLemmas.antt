@@ -1,6 +1,7 @@
 -- An index of what may be delivered: it begins without a mark, and is made anew for the edges that were set to work.
-use Rattle.std.proofs.Common.{◌≡◌, ◌==◌, ◌<◌, ◌≤◌, ◌+◌, ◌++◌, ◌∷◌, ◌&&◌, ◌||◌, ◌∙◌, subst, [], ℕ, zero, suc, Bool, true, false, not, List, Option, Some, None, cond, refl, ap, sym, arith, nat_eq, nat_lt, length, slice_index_or}
+use Rattle.std.proofs.Common.{◌≡◌, ◌==◌, ◌<◌, ◌≤◌, ◌+◌, ◌∷◌, ◌&&◌, ◌||◌, ◌∙◌, subst, [], ℕ, zero, suc, Bool, true, false, not, List, Option, Some, None, cond, refl, ap, sym, arith, nat_eq, nat_lt, length, replicate, slice_index_or}
 use Rattle.std.proofs.lemmas.Bool.Decides.{nat_tests}
+use Rattle.std.proofs.lemmas.List.{length-replicate}
 use Rattle.net_base.specs.declared.plan.circuit_plan.CircuitPlan.{CircuitPlan}
 use Rattle.net_base.specs.declared.plan.places.CircuitId.{CircuitId}
 use Rattle.net_base.specs.declared.plan.places.EdgeId.{EdgeId}
@@ -19,28 +20,19 @@ use Rattle.psn_net.proofs.WordLemmas.{none_in_zero}
 
 -- ---- no mark yet
 
-zeros : (xs : List ℕ) (k : ℕ) → ((i : ℕ) → slice_index_or xs i 0 ≡ 0) → slice_index_or (xs ++ 0 ∷ []) k 0 ≡ 0
-zeros [] zero h = refl
-zeros [] (suc k) h = refl
-zeros (x ∷ xs) zero h = h 0
-zeros (x ∷ xs) (suc k) h = zeros xs k (λ i. h (suc i))
+zero_at : (n i : ℕ) → slice_index_or (replicate n zero) i zero ≡ zero
+zero_at zero zero = refl
+zero_at zero (suc i) = refl
+zero_at (suc n) zero = refl
+zero_at (suc n) (suc i) = zero_at n i
 
-pub record AreZeros (xs : List ℕ) : Type 0 where
-  pub each : (i : ℕ) → slice_index_or xs i 0 ≡ 0
+pub cleared : (words : List ℕ) (n : ℕ) → words ≡ replicate n zero → IsClear words
+cleared words n is = record { each = λ from to. ap (λ (xs : List ℕ). in_word (slice_index_or xs from 0) to) is ∙ (ap (λ word. in_word word to) (zero_at n from) ∙ none_in_zero to) }
 
-pub zeros_none : AreZeros []
-zeros_none = record { each = λ i. refl }
-
-pub zeros_more : (xs : List ℕ) → AreZeros xs → AreZeros (xs ++ 0 ∷ [])
-zeros_more xs z = record { each = λ k. zeros xs k z.each }
-
-pub clear : (xs : List ℕ) → AreZeros xs → IsClear xs
-clear xs z = record { each = λ from to. ap (λ word. in_word word to) (z.each from) ∙ none_in_zero to }
-
-pub within : (xs : List ℕ) → length xs ≤ 64 → AreZeros xs → IsWithin xs
-within xs h z = record { few = h; each = λ from to l. (clear xs z).each from to }
-
-pub ruleset clear_steps = (zeros_none, zeros_more, clear, within)
+pub cleared_within : (words : List ℕ) (n : ℕ) → n ≤ 64 → words ≡ replicate n zero → IsWithin words
+cleared_within words n few is =
+    let long : length words ≡ n = ap length is ∙ length-replicate n zero in
+    record { few = omega (arith, long, few); each = λ from to l. (cleared words n is).each from to }
 
 -- ---- the marks of one edge are made anew
 

@@ -9,7 +9,7 @@ use std::marker::Model;
 
 /// A mark for each ordered pair of edges that has something to deliver: a word for each first edge, of which bit k stands
 /// for the second edge k. The first pair is found by at most 64 words, whatever is on its way.
-#[derive(Debug, Drop)]
+#[derive(Drop)]
 pub struct DeliveryIndex {
     rows: Vec<u64>,
 }
@@ -26,16 +26,12 @@ impl Model for DeliveryIndex {
 
 impl DeliveryIndex {
     /// An index of so many edges without a mark.
-    #[tactic(auto, using(crate::proofs::IndexLemmas::clear_steps))]
     pub fn open(alloc: Global, size: usize) -> Result<DeliveryIndex, NoMemory>
         requires { size ≤ 64 }
         ensures size { IfOk result (λ index. length index.rows ≡ size) }
         ensures none { IfOk result (λ index. IsClear index.rows) }
     {
-        let mut rows = Vec::new(alloc);
-        for _place in 0..size {
-            rows.push(0)?;
-        }
+        let rows = vec![in alloc; 0u64; size]?;
         Ok(DeliveryIndex { rows })
     }
 

@@ -7,7 +7,7 @@ use std::alloc::Global;
 use std::marker::Model;
 
 /// The entries of a run in order, with their weight and the number of events among them. Contracts see the entries.
-#[derive(Debug, Drop)]
+#[derive(Drop)]
 pub struct Ledger {
     trace: Trace,
     weight: u64,

@@ -31,7 +31,7 @@ const MOST_OCTETS: u16 = 65535;
 /// The edges of a plan, what is on its way between them, and the trace of what has happened. Contracts see it as lists by
 /// the plan's places, and by `seen` as the state of the network. The index says what may be delivered, until memory is
 /// refused.
-#[derive(Debug, Drop)]
+#[derive(Drop)]
 pub struct Network {
     parts: Parts,
     index: DeliveryIndex,

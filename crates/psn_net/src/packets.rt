@@ -12,7 +12,7 @@ use std::marker::Model;
 
 /// The packets under way, and the number of the last one that was sent. One is found, taken out and added in logarithmic
 /// time. Contracts see the packets by rising number.
-#[derive(Debug, Drop)]
+#[derive(Drop)]
 pub struct Packets {
     by_number: BTreeMap<u64, Packet>,
     last: u64,

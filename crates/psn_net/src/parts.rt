@@ -45,7 +45,7 @@ const MOST_PACKETS: u32 = 65_536;
 
 /// The edges of a plan, what is on its way between them, and the trace of what has happened. Contracts see it as lists by
 /// the plan's places, and by `seen` as the state of the network.
-#[derive(Debug, Drop)]
+#[derive(Drop)]
 pub struct Parts {
     plan: Rc<Plan>,
     edges: Vec<Edge>,

@@ -8,7 +8,7 @@ use std::marker::Model;
 /// The octets that an edge put towards another one and that are not delivered yet, in order. Contracts see the list of
 /// them. The octets before `start` are delivered; they go when they are more than half of what lies there, so that
 /// deliveries move at most as many octets as they deliver.
-#[derive(Debug, Drop)]
+#[derive(Drop)]
 pub struct Pipe {
     octets: Vec<u8>,
     start: usize,

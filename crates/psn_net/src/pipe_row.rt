@@ -7,7 +7,7 @@ use std::alloc::Global;
 use std::marker::Model;
 
 /// The pipes from one edge, one to each edge of the plan by its place.
-#[derive(Debug, Drop)]
+#[derive(Drop)]
 pub struct PipeRow {
     pub(crate) pipes: Vec<Pipe>,
 }

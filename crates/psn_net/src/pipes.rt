@@ -9,7 +9,7 @@ use std::alloc::Global;
 use std::marker::Model;
 
 /// The pipe from each edge of the plan to each other one. Contracts see a row for each edge, and in it a pipe for each.
-#[derive(Debug, Drop)]
+#[derive(Drop)]
 pub struct Pipes {
     size: usize,
     rows: Vec<PipeRow>,

@@ -7,7 +7,7 @@ use std::alloc::Global;
 use std::marker::Model;
 
 /// Takes every call. It is made empty for each input of an edge.
-#[derive(Debug, Drop)]
+#[derive(Drop)]
 pub struct PsnLink {
     calls: List<LinkCall>,
     alloc: Global,

@@ -7,4 +7,3 @@ pub mod OwnedLemmas
 pub mod OwnerLemmas
 pub mod PlaceLemmas
 pub mod SlotLemmas
-pub mod TellLemmas

@@ -4,4 +4,3 @@ pub mod Kept
 pub mod Names
 pub mod Order
 pub mod Owned
-pub mod Wish

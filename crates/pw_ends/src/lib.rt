@@ -5,10 +5,8 @@
 //! map. What an end tells, and the messages that carry it, are pure functions.
 #![tactic(auto)]
 
-mod content;
 mod end_change;
 mod end_slots;
-mod messages;
 mod owned_labels;
 mod path_ends;
 mod place_list;
@@ -16,10 +14,6 @@ mod plan_places;
 mod pw_ends;
 mod role;
 mod which_ends;
-mod wish;
 
-pub use content::{bare, bare_fec_of, binding_in, content_of, fec_of};
-pub use messages::{mac_withdrawal, mapping, release, status_notification, withdrawal};
 pub use pw_ends::PwEnds;
 pub use role::role_of;
-pub use wish::terminal_wish;

@@ -9,7 +9,7 @@ use std::alloc::Global;
 use std::marker::Model;
 
 /// A label, and the slot of the end that owns it.
-#[derive(Clone, Copy, Debug, PartialEq, Eq)]
+#[derive(Clone, Copy, PartialEq, Eq)]
 pub struct OwnedLabel {
     label: Label,
     slot: usize,
@@ -17,7 +17,7 @@ pub struct OwnedLabel {
 
 /// The labels that are owned, in rising order, each with the slot of its end. An end is found by its label without a walk over
 /// them. All memory is taken where it is opened. Contracts see the most labels that are owned at once, and those that are.
-#[derive(Debug, Drop)]
+#[derive(Drop)]
 pub struct OwnedLabels {
     room: usize,
     labels: Vec<OwnedLabel>,

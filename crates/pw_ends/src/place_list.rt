@@ -18,7 +18,7 @@ use std::marker::Model;
 
 /// The places of an edge's ends in order, in which the end of a peer and a PW ID, and the ends of a wire, are found without a
 /// walk over them. Contracts see the list of the places.
-#[derive(Debug, Drop)]
+#[derive(Drop)]
 pub struct PlaceList {
     list: List<EndPlace>,
     index: IndexMap<(u16, u32), usize>,

@@ -31,7 +31,7 @@ use std::marker::Model;
 /// The pseudowire ends of one edge by slots, in the order of the plan's wires and of the segments of each, and the labels
 /// that they own (RFC 8077 section 6, RFC 5036 section 2.6.3). A slot is a place in that order, counted from 0. All memory
 /// is taken where they are opened. Contracts see lists, and by `seen_ends` a map from wires and neighbours.
-#[derive(Debug, Drop)]
+#[derive(Drop)]
 pub struct PwEnds {
     places: PlaceList,
     ends: Vec<PwEnd>,

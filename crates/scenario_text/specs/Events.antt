@@ -129,7 +129,34 @@ play_in names event plays text = do
 abbrev pub one : Result Event ScenarioFault → Result Command ScenarioFault
 one read = read >>= (λ event. Ok (One event))
 
--- the command of this first word
+-- the command of this first word: one that stands for many events
+unfoldable pub many_of : PlanNames → ℕ → ℕ → List ℕ → List ℕ → Result Command ScenarioFault
+many_of names event plays word text =
+    if bytes_eq word (codes "settle") then repeats_in event text >>= (λ count. Ok (Settle count))
+    else if bytes_eq word (codes "flow") then repeats_in event text >>= (λ count. Ok (Flow count))
+    else if bytes_eq word (codes "play") then play_in names event plays text
+    else Err (BadWord event 1)
+
+-- or one that names a part of the plan
+unfoldable pub part_of : PlanNames → ℕ → ℕ → List ℕ → List ℕ → Result Command ScenarioFault
+part_of names event plays word text =
+    if bytes_eq word (codes "wire") then one (wire_switch_in names event text)
+    else if bytes_eq word (codes "circuit") then one (circuit_switch_in names event text)
+    else if bytes_eq word (codes "status") then one (status_in names event text)
+    else if bytes_eq word (codes "priority") then one (priority_in names event text)
+    else if bytes_eq word (codes "ping") then one (ping_in names event text)
+    else many_of names event plays word text
+
+-- or one that speaks of a frame or a packet
+unfoldable pub packet_of : PlanNames → ℕ → ℕ → List ℕ → List ℕ → Result Command ScenarioFault
+packet_of names event plays word text =
+    if bytes_eq word (codes "frame") then one (frame_in names event text)
+    else if bytes_eq word (codes "arrive") then packet_in event text >>= (λ packet. Ok (One (Arrive packet)))
+    else if bytes_eq word (codes "drop") then packet_in event text >>= (λ packet. Ok (One (Discard packet)))
+    else if bytes_eq word (codes "again") then packet_in event text >>= (λ packet. Ok (One (Again packet)))
+    else part_of names event plays word text
+
+-- or one that speaks of connections or of time
 unfoldable pub command_of : PlanNames → ℕ → ℕ → List ℕ → List ℕ → Result Command ScenarioFault
 command_of names event plays word text =
     if bytes_eq word (codes "connect") then one (connect_in names event text)
@@ -137,19 +164,7 @@ command_of names event plays word text =
     else if bytes_eq word (codes "lose") then one (lose_in names event text)
     else if bytes_eq word (codes "restart") then one (restart_in names event text)
     else if bytes_eq word (codes "tick") then tick_in event text
-    else if bytes_eq word (codes "frame") then one (frame_in names event text)
-    else if bytes_eq word (codes "arrive") then packet_in event text >>= (λ packet. Ok (One (Arrive packet)))
-    else if bytes_eq word (codes "drop") then packet_in event text >>= (λ packet. Ok (One (Discard packet)))
-    else if bytes_eq word (codes "again") then packet_in event text >>= (λ packet. Ok (One (Again packet)))
-    else if bytes_eq word (codes "wire") then one (wire_switch_in names event text)
-    else if bytes_eq word (codes "circuit") then one (circuit_switch_in names event text)
-    else if bytes_eq word (codes "status") then one (status_in names event text)
-    else if bytes_eq word (codes "priority") then one (priority_in names event text)
-    else if bytes_eq word (codes "ping") then one (ping_in names event text)
-    else if bytes_eq word (codes "settle") then repeats_in event text >>= (λ count. Ok (Settle count))
-    else if bytes_eq word (codes "flow") then repeats_in event text >>= (λ count. Ok (Flow count))
-    else if bytes_eq word (codes "play") then play_in names event plays text
-    else Err (BadWord event 1)
+    else packet_of names event plays word text
 
 -- the command that a text is, after so many commands `play`
 abbrev pub command_in : PlanNames → ℕ → ℕ → List ℕ → Result Command ScenarioFault

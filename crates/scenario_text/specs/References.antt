@@ -12,6 +12,7 @@ use Rattle.net_base.specs.declared.plan.plan_fault.PlanFault.TheVariants.{Unknow
 use Rattle.net_base.specs.declared.plan.table.Table.TheVariants.{Circuit, Wire}
 use Rattle.net_base.specs.plan.NameFaults.{edge_names, service_names}
 use Rattle.net_base.specs.plan.PlanFault.{plan_fault}
+use Rattle.scenario_text.specs.declared.plan.PlacedRows.{PlacedRows}
 use Rattle.scenario_text.specs.declared.row_place.RowPlace.{RowPlace}
 use Rattle.scenario_text.specs.declared.scenario_fault.ScenarioFault.{ScenarioFault}
 use Rattle.scenario_text.specs.declared.scenario_fault.ScenarioFault.TheVariants as fault
@@ -101,9 +102,15 @@ without_fault plan (Some found) = Err (fault.Plan found)
 abbrev pub sound : Plan → Result Plan ScenarioFault
 sound plan = without_fault plan (plan_fault plan)
 
+-- the circuits and the wires of these rows, which name edges and services
+unfoldable pub placed_rows : List (List ℕ) → List ServicePlan → List CircuitRow → List WireRow → Result PlacedRows ScenarioFault
+placed_rows edges services circuit_rows wire_rows = do
+  circuits ← circuits_in edges (service_names services) 1 circuit_rows
+  wires ← wires_in edges services 1 wire_rows
+  Ok (record { circuits = circuits; wires = wires })
+
 -- the plan of these rows: first the references, then the plan as a whole
 unfoldable pub plan_of : List EdgePlan → List ServicePlan → List CircuitRow → List WireRow → Result Plan ScenarioFault
 plan_of edges services circuit_rows wire_rows = do
-  circuits ← circuits_in (edge_names edges) (service_names services) 1 circuit_rows
-  wires ← wires_in (edge_names edges) services 1 wire_rows
-  sound (record { edges = edges; services = services; circuits = circuits; wires = wires })
+  rows ← placed_rows (edge_names edges) services circuit_rows wire_rows
+  sound (record { edges = edges; services = services; circuits = rows.circuits; wires = rows.wires })

@@ -3,7 +3,7 @@
 use net_base::Name;
 
 /// A row of `circuit`, whose edge and service are not looked up yet.
-#[derive(Clone, Copy, Debug)]
+#[derive(Clone, Copy)]
 pub struct CircuitRow {
     pub name: Name,
     pub edge: Name,

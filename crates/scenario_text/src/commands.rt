@@ -2,7 +2,7 @@
 ghost use Rattle.std.specs.Prelude.{◌≡◌, ◌≤◌, ◌+◌, length, IfOk};
 ghost use Rattle.std.specs.List.{All};
 ghost use Rattle.toml.specs.View.{view, items_view};
-ghost use Rattle.scenario_text.specs.Events.{repeats_in, tick_in, play_in, one, command_of, command_in, event_in, plays_after, commands_in};
+ghost use Rattle.scenario_text.specs.Events.{repeats_in, tick_in, play_in, one, many_of, part_of, packet_of, command_of, command_in, event_in, plays_after, commands_in};
 ghost use Rattle.scenario_text.specs.Reading.{Gives};
 ghost use Rattle.scenario_text.specs.Planned.{IsCount, IsAmong, IsNamed};
 
@@ -81,7 +81,80 @@ fn one_event(
     }
 }
 
-// The command of a first word.
+// The command of a first word that stands for many events. `BadWord` comes exactly where no command begins so.
+#[tactic(auto, unfolding(crate::specs::Events::many_of))]
+fn many_of_word(
+    alloc: Global,
+    names: &PlanNames<'_>,
+    event: u32,
+    plays: u32,
+    word: &str,
+    text: &str,
+) -> Result<Command, ScenarioFault>
+    ensures exact { Gives result (many_of names.now event plays word.now text.now) }
+    ensures named { IfOk result (IsNamed names.now) }
+{
+    match word {
+        "settle" => Ok(Command::Settle(repeats(event, text)?)),
+        "flow" => Ok(Command::Flow(repeats(event, text)?)),
+        "play" => play(alloc, names, event, plays, text),
+        _ => Err(bad_word(event, 1)),
+    }
+}
+
+// The command of a first word that names a part of the plan, or of a later group.
+#[tactic(auto, unfolding(crate::specs::Events::part_of))]
+fn part_of_word(
+    alloc: Global,
+    names: &PlanNames<'_>,
+    event: u32,
+    plays: u32,
+    word: &str,
+    text: &str,
+) -> Result<Command, ScenarioFault>
+    ensures exact { Gives result (part_of names.now event plays word.now text.now) }
+    ensures named { IfOk result (IsNamed names.now) }
+{
+    match word {
+        "wire" => one_event(names, wire_switch(names, event, text)),
+        "circuit" => one_event(names, circuit_switch(names, event, text)),
+        "status" => one_event(names, status(names, event, text)),
+        "priority" => one_event(names, priority(names, event, text)),
+        "ping" => one_event(names, ping(names, event, text)),
+        _ => many_of_word(alloc, names, event, plays, word, text),
+    }
+}
+
+// The command of a first word that speaks of a frame or a packet, or of a later group.
+#[tactic(auto, unfolding(crate::specs::Events::packet_of))]
+fn packet_of_word(
+    alloc: Global,
+    names: &PlanNames<'_>,
+    event: u32,
+    plays: u32,
+    word: &str,
+    text: &str,
+) -> Result<Command, ScenarioFault>
+    ensures exact { Gives result (packet_of names.now event plays word.now text.now) }
+    ensures named { IfOk result (IsNamed names.now) }
+{
+    match word {
+        "frame" => Ok(Command::One(frame(alloc, names, event, text)?)),
+        "arrive" => Ok(Command::One(Event::Arrive {
+            packet: packet(event, text)?,
+        })),
+        "drop" => Ok(Command::One(Event::Discard {
+            packet: packet(event, text)?,
+        })),
+        "again" => Ok(Command::One(Event::Again {
+            packet: packet(event, text)?,
+        })),
+        _ => part_of_word(alloc, names, event, plays, word, text),
+    }
+}
+
+// The command of a first word. The words are tried in four groups, since each that a match has passed by weighs on what is to be
+// proved of those behind it.
 #[tactic(auto, unfolding(crate::specs::Events::command_of))]
 fn command_of_word(
     alloc: Global,
@@ -100,25 +173,7 @@ fn command_of_word(
         "lose" => one_event(names, lose(names, event, text)),
         "restart" => one_event(names, restart(names, event, text)),
         "tick" => tick(names, event, text),
-        "frame" => Ok(Command::One(frame(alloc, names, event, text)?)),
-        "arrive" => Ok(Command::One(Event::Arrive {
-            packet: packet(event, text)?,
-        })),
-        "drop" => Ok(Command::One(Event::Discard {
-            packet: packet(event, text)?,
-        })),
-        "again" => Ok(Command::One(Event::Again {
-            packet: packet(event, text)?,
-        })),
-        "wire" => one_event(names, wire_switch(names, event, text)),
-        "circuit" => one_event(names, circuit_switch(names, event, text)),
-        "status" => one_event(names, status(names, event, text)),
-        "priority" => one_event(names, priority(names, event, text)),
-        "ping" => one_event(names, ping(names, event, text)),
-        "settle" => Ok(Command::Settle(repeats(event, text)?)),
-        "flow" => Ok(Command::Flow(repeats(event, text)?)),
-        "play" => play(alloc, names, event, plays, text),
-        _ => Err(bad_word(event, 1)),
+        _ => packet_of_word(alloc, names, event, plays, word, text),
     }
 }
 

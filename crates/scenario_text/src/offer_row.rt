@@ -3,7 +3,7 @@
 use net_base::Text;
 
 /// What one end of a wire offers, before the service is looked up.
-#[derive(Clone, Copy, Debug)]
+#[derive(Clone, Copy)]
 pub struct OfferRow {
     /// Tagged mode in place of raw mode.
     pub tagged: bool,

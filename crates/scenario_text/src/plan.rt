@@ -1,9 +1,10 @@
 //! The plan of a document.
 ghost use Rattle.std.specs.Prelude.{◌≡◌, ◌≤◌, length, IfOk};
 ghost use Rattle.net_base.specs.plan.Accepted.{IsWithinLimits, IsChecked, plan_names};
+ghost use Rattle.net_base.specs.plan.NameFaults.{edge_names, service_names};
 ghost use Rattle.scenario_text.specs.Names.{are_distinct};
 ghost use Rattle.scenario_text.specs.Reading.{Gives};
-ghost use Rattle.scenario_text.specs.References.{sound, plan_of};
+ghost use Rattle.scenario_text.specs.References.{sound, placed_rows, plan_of};
 
 use crate::ScenarioFault;
 use crate::circuit_row::CircuitRow;
@@ -13,7 +14,7 @@ use crate::name_index::NameIndex;
 use crate::names::{names_of_edges, names_of_plan, names_of_services};
 use crate::wire_row::WireRow;
 use crate::wires::wires;
-use net_base::{EdgePlan, List, NoMemory, Plan, ServicePlan};
+use net_base::{CircuitPlan, EdgePlan, List, NoMemory, Plan, ServicePlan, WirePlan};
 use std::alloc::Global;
 
 // Whether the names of a plan differ, over all its lists.
@@ -43,6 +44,67 @@ fn sound_plan(alloc: Global, plan: Plan) -> Result<Plan, ScenarioFault>
     }
 }
 
+// The circuits and the wires of rows, each at the places that its row names.
+#[derive(Drop)]
+struct PlacedRows {
+    circuits: List<CircuitPlan>,
+    wires: List<WirePlan>,
+}
+
+// The circuits and the wires of these rows, where edges and services are found by these indices.
+#[tactic(auto, unfolding(crate::specs::References::placed_rows))]
+fn placed_rows(
+    alloc: Global,
+    edges: &NameIndex<'_>,
+    service_index: &NameIndex<'_>,
+    services: &[ServicePlan],
+    circuit_rows: &[CircuitRow],
+    wire_rows: &[WireRow],
+) -> Result<PlacedRows, ScenarioFault>
+    requires few_circuits { length circuit_rows.now ≤ MOST_CIRCUITS }
+    requires few_wires { length wire_rows.now ≤ MOST_WIRES }
+    requires same { service_index.now ≡ service_names services.now }
+    ensures exact { Gives result (placed_rows edges.now services.now circuit_rows.now wire_rows.now) }
+    ensures circuits { IfOk result (λ rows. length rows.circuits ≡ length circuit_rows.now) }
+    ensures wires { IfOk result (λ rows. length rows.wires ≡ length wire_rows.now) }
+{
+    let circuits = circuits(alloc, edges, service_index, circuit_rows)?;
+    match wires(alloc, edges, service_index, services, wire_rows) {
+        Ok(wires) => Ok(PlacedRows { circuits, wires }),
+        Err(fault) => Err(fault),
+    }
+}
+
+// The circuits and the wires of these rows, over these edges and services.
+fn rows_over(
+    alloc: Global,
+    edges: &[EdgePlan],
+    services: &[ServicePlan],
+    circuit_rows: &[CircuitRow],
+    wire_rows: &[WireRow],
+) -> Result<PlacedRows, ScenarioFault>
+    requires few_edges { length edges.now ≤ MOST_EDGES }
+    requires few_services { length services.now ≤ MOST_SERVICES }
+    requires few_circuits { length circuit_rows.now ≤ MOST_CIRCUITS }
+    requires few_wires { length wire_rows.now ≤ MOST_WIRES }
+    ensures exact { Gives result (placed_rows (edge_names edges.now) services.now circuit_rows.now wire_rows.now) }
+    ensures circuits { IfOk result (λ rows. length rows.circuits ≡ length circuit_rows.now) }
+    ensures wires { IfOk result (λ rows. length rows.wires ≡ length wire_rows.now) }
+{
+    let edge_names = names_of_edges(alloc, edges)?;
+    let service_names = names_of_services(alloc, services)?;
+    let edge_index = NameIndex::of(alloc, edge_names.as_slice())?;
+    let service_index = NameIndex::of(alloc, service_names.as_slice())?;
+    placed_rows(
+        alloc,
+        &edge_index,
+        &service_index,
+        services,
+        circuit_rows,
+        wire_rows,
+    )
+}
+
 /// The plan of these rows.
 #[tactic(auto, unfolding(crate::specs::References::plan_of))]
 pub fn plan(
@@ -59,23 +121,23 @@ pub fn plan(
     ensures exact { Gives result (plan_of edges services circuit_rows.now wire_rows.now) }
     ensures checked { IfOk result IsChecked }
 {
-    let edge_names = names_of_edges(alloc, edges.as_slice())?;
-    let service_names = names_of_services(alloc, services.as_slice())?;
-    let edge_index = NameIndex::of(alloc, edge_names.as_slice())?;
-    let service_index = NameIndex::of(alloc, service_names.as_slice())?;
-    let circuits = circuits(alloc, &edge_index, &service_index, circuit_rows)?;
-    let wires = wires(
+    let rows = rows_over(
         alloc,
-        &edge_index,
-        &service_index,
+        edges.as_slice(),
         services.as_slice(),
+        circuit_rows,
         wire_rows,
-    )?;
-    let plan = Plan {
-        edges,
-        services,
-        circuits,
-        wires,
-    };
-    sound_plan(alloc, plan)
+    );
+    match rows {
+        Ok(rows) => sound_plan(
+            alloc,
+            Plan {
+                edges,
+                services,
+                circuits: rows.circuits,
+                wires: rows.wires,
+            },
+        ),
+        Err(fault) => Err(fault),
+    }
 }

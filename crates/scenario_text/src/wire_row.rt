@@ -4,7 +4,7 @@ use crate::offer_row::OfferRow;
 use net_base::{Class, List, Name};
 
 /// A row of `wire`, whose service and edges are not looked up yet.
-#[derive(Debug, Drop)]
+#[derive(Drop)]
 pub struct WireRow {
     pub name: Name,
     pub service: Name,

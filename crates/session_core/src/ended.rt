@@ -5,7 +5,7 @@ use net_base::Reason;
 use std::marker::Model;
 
 /// A session that ended (RFC 5036 section 2.5.4). Nothing more is put to the peer. Contracts see why it ended.
-#[derive(Debug, Drop)]
+#[derive(Drop)]
 pub struct Ended {
     reason: Reason,
 }

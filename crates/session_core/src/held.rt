@@ -3,7 +3,7 @@
 use crate::Reply;
 
 /// At most two replies, held inline.
-#[derive(Clone, Copy, Debug, PartialEq, Eq)]
+#[derive(Clone, Copy, PartialEq, Eq)]
 pub enum Held {
     None,
     One(Reply),

@@ -20,7 +20,7 @@ use std::marker::Model;
 
 /// A session that stands, in the state `S` (RFC 5036 section 2.5.4). Contracts see it as what the session has, a `Standing`.
 /// The calls here are those that every state has.
-#[derive(Debug, Drop)]
+#[derive(Drop)]
 pub struct In<S: Stage> {
     standing: Standing,
     stage: S,

@@ -20,7 +20,7 @@ use ldp_grammar::{Message, SessionParams, StatusCode};
 use net_base::Reason;
 
 /// There is a connection, and no Initialization was sent or accepted (RFC 5036 section 2.5.4).
-#[derive(Clone, Copy, Debug, PartialEq, Eq)]
+#[derive(Clone, Copy, PartialEq, Eq)]
 pub struct Initialized;
 
 impl Stage for Initialized {

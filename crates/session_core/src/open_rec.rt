@@ -16,7 +16,7 @@ use ldp_grammar::{Message, StatusCode};
 use net_base::Reason;
 
 /// The peer's Initialization was accepted, and a KeepAlive is awaited (RFC 5036 section 2.5.4).
-#[derive(Clone, Copy, Debug, PartialEq, Eq)]
+#[derive(Clone, Copy, PartialEq, Eq)]
 pub struct OpenRec;
 
 impl Stage for OpenRec {

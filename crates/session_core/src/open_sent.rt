@@ -19,7 +19,7 @@ use ldp_grammar::{Message, SessionParams, StatusCode};
 use net_base::Reason;
 
 /// The active end sent its Initialization (RFC 5036 section 2.5.4).
-#[derive(Clone, Copy, Debug, PartialEq, Eq)]
+#[derive(Clone, Copy, PartialEq, Eq)]
 pub struct OpenSent;
 
 impl Stage for OpenSent {

@@ -16,7 +16,7 @@ use ldp_grammar::{Message, StatusCode};
 use net_base::Reason;
 
 /// The session is up (RFC 5036 section 2.5.4).
-#[derive(Clone, Copy, Debug, PartialEq, Eq)]
+#[derive(Clone, Copy, PartialEq, Eq)]
 pub struct Operational;
 
 impl Stage for Operational {

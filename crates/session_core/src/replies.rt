@@ -7,7 +7,7 @@ use std::marker::Model;
 
 /// What is to be put to the peer, in this order: at most two replies. They are held inline. Contracts see them as the list
 /// of the replies.
-#[derive(Clone, Copy, Debug, PartialEq, Eq)]
+#[derive(Clone, Copy, PartialEq, Eq)]
 pub struct Replies {
     held: Held,
 }

@@ -10,7 +10,7 @@ use net_base::{Reason, StateName};
 
 /// An LDP session (RFC 5036 section 2.5.4), in the state that its type tells. The calls here are those of each state; a
 /// session that ended stays as it is, and puts nothing.
-#[derive(Debug, Drop)]
+#[derive(Drop)]
 pub enum Session {
     /// There is a connection, and no Initialization was sent or accepted.
     Initialized(In<Initialized>),

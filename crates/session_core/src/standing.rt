@@ -11,7 +11,7 @@ use crate::{Peers, Replies, Reply};
 use ldp_grammar::{LdpId, SessionParams};
 
 /// What a session that stands has, in each of its states.
-#[derive(Clone, Copy, Debug, PartialEq, Eq)]
+#[derive(Clone, Copy, PartialEq, Eq)]
 pub struct Standing {
     /// The two ends, and what this one proposes.
     pub peers: Peers,

@@ -6,7 +6,7 @@ use psn_net::Network;
 use std::alloc::Global;
 
 /// What a command makes of the octets of its file.
-#[derive(Debug, Drop)]
+#[derive(Drop)]
 pub struct Answer {
     /// What is written to the sink.
     pub text: Vec<u8>,

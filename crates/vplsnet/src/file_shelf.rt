@@ -46,6 +46,20 @@ fn read_again<F: Read>(file: &mut F, buf: &mut [u8]) -> io::Result<usize>
     Err(io::Error::from(ErrorKind::Interrupted))
 }
 
+// The place of a file among those that are open.
+fn place_of<F: Read + Seek + Drop>(opened: &[Opened<F>], name: &str) -> Option<usize>
+    ensures { IfSome result (λ place. place < length opened.now) }
+{
+    opened.iter().position(|file| file.name.as_str() == name)
+}
+
+// Opens a file, at its first octet.
+fn open_file<R: Files>(alloc: Global, files: &R, name: &str) -> io::Result<Opened<R::File>> {
+    let file = fs::open(files, name)?;
+    let name = String::from_str(alloc, name)?;
+    Ok(Opened { name, file, at: 0 })
+}
+
 /// The files of the system, by their paths. Each is opened once and stays open, so that a file that is replaced meanwhile
 /// is still read as the one that it was. Contracts see it as its one count of faults, which is that of every name: it tells
 /// no octet of a file.
@@ -83,18 +97,10 @@ impl<R: Files> FileShelf<R> {
         ensures bound { IfOk result (λ count. count ≤ length buf.new) }
         ensures same { self.new ≡ self.old }
     {
-        let known = self
-            .opened
-            .iter()
-            .position(|file| file.name.as_str() == name);
-        if let Some(index) = known {
-            return self.opened[index].read_from(from, buf);
+        if let Some(place) = place_of(self.opened.as_slice(), name) {
+            return self.opened[place].read_from(from, buf);
         }
-        let mut file = Opened {
-            name: String::from_str(self.alloc, name)?,
-            file: fs::open(&self.files, name)?,
-            at: 0,
-        };
+        let mut file = open_file(self.alloc, &self.files, name)?;
         let count = file.read_from(from, buf)?;
         self.opened.push(file)?;
         Ok(count)

@@ -10,7 +10,7 @@ use std::alloc::Global;
 const PIECE: usize = 4096;
 
 /// Why a file was not read.
-#[derive(Clone, Copy, Debug, PartialEq, Eq)]
+#[derive(Clone, Copy, PartialEq, Eq)]
 pub enum ReadStop {
     /// A call of the shelf failed, and was counted there.
     Fault,

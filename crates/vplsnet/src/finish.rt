@@ -8,7 +8,7 @@ use net_base::Entry;
 use psn_net::Network;
 
 /// How a call of the program ended, and the network of its run.
-#[derive(Debug, Drop)]
+#[derive(Drop)]
 pub struct Finish {
     /// The status with which the program ends.
     pub status: u8,

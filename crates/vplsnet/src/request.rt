@@ -10,7 +10,7 @@ const SCENARIO_LIMIT: usize = 8_388_608;
 const STREAM_LIMIT: usize = 67_108_864;
 
 /// A command with what its words name.
-#[derive(Clone, Copy, Debug)]
+#[derive(Clone, Copy)]
 pub enum Request<'a> {
     /// `replay FILE`: the report of the run of the scenario in FILE.
     Replay { file: &'a str },

@@ -18,7 +18,7 @@ const MOST_ADDRESSES: u32 = 4096;
 
 /// The bridge of a service at an edge, its virtual switch instance (RFC 4762 section 4). Contracts see its
 /// ports, its age limit and the addresses that it has learned.
-#[derive(Debug, Drop)]
+#[derive(Drop)]
 pub struct Bridge {
     ports: Ports,
     age: u32,

@@ -3,7 +3,8 @@ ghost use Rattle.std.specs.Prelude.{◌≤◌};
 
 use crate::tests::plans::{A, B, C, TWO_WIRES, plan_of};
 use net_base::{Label, Offer, Text, WireId};
-use pw_ends::{PwEnds, binding_in, content_of, fec_of};
+use peer_dialogue::{binding_in, content_of, fec_of};
+use pw_ends::PwEnds;
 use pw_signalling::{PwEnd, Told};
 use pw_tlvs::{Points, PwStatus};
 use std::alloc::Global;

@@ -8,7 +8,7 @@ use std::alloc::Global;
 use std::marker::Model;
 
 /// A file in memory.
-#[derive(Debug, Drop)]
+#[derive(Drop)]
 pub struct MemFile {
     pub(crate) name: Word,
     pub(crate) octets: Octets,
@@ -16,7 +16,7 @@ pub struct MemFile {
 
 /// Files in memory. The calls whose numbers are listed fail, and those with a name that is not held. Calls of
 /// `read_at` are numbered from 1; once the number is 2^64 - 1 it stays there.
-#[derive(Debug, Drop)]
+#[derive(Drop)]
 pub struct MemShelf {
     files: Vec<MemFile>,
     counts: Vec<u64>,

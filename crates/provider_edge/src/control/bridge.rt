@@ -14,13 +14,12 @@ ghost use Rattle.edge_model.specs.Synced.{InSync};
 ghost use Rattle.edge_model.specs.Work.{Agrees, Answers, GoesOn};
 ghost use Rattle.pw_ends.specs.Ends.{end_in, place_of};
 ghost use Rattle.provider_edge.specs.Control.{KeepsPlan, Rest, at_control, controlled};
-ghost use Rattle.provider_edge.specs.Forwarding.{open_ports};
+ghost use Rattle.edge_forwarding.specs.Forwarding.{open_ports};
 ghost use Rattle.provider_edge.specs.Taking.{copied_by};
 
 use super::Control;
-use crate::packet::packet_of;
 use crate::quiet::drop_for;
-use crate::tagged::dressed;
+use edge_forwarding::{dressed, packet_of};
 use edge_model::Effect;
 use eth_encap::FrameFault;
 use hvpls_spokes::{Port, PortSet, Ports};
@@ -325,7 +324,7 @@ impl Control {
 }
 
 // Sends a packet, and answers whether the link took it.
-#[tactic(auto, using(crate::proofs::SpeakerLemmas::goes_by))]
+#[tactic(auto, using(peer_dialogue::proofs::SpeakerLemmas::goes_by))]
 fn send_bytes<L: Link>(peer: EdgeId, packet: &[u8], link: &mut L) -> Result<bool, NoMemory>
     ensures called { IfOk result (λ taken. L.calls link.new ≡ L.calls link.old ++ record { peer = peer; packet = true; bytes = packet.now; taken = taken } ∷ []) }
     ensures calls { GoesOn (L.calls link.old) (L.calls link.new) }

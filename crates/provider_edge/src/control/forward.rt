@@ -5,7 +5,7 @@ ghost use Rattle.hvpls_spokes.specs.Port.{is_circuit_port, ports_of};
 ghost use Rattle.edge_model.specs.State.{addresses_of, is_on, later, with_addresses, with_circuit, with_learned, with_ticks, without_port};
 ghost use Rattle.edge_model.specs.Tick.{forgetting};
 ghost use Rattle.provider_edge.specs.Control.{KeepsPlan, Rest, controlled};
-ghost use Rattle.provider_edge.specs.Forwarding.{open_ports, own_service};
+ghost use Rattle.edge_forwarding.specs.Forwarding.{open_ports, own_service};
 
 use super::Control;
 use net_base::{CircuitId, ServiceId};

@@ -6,18 +6,14 @@ ghost use Rattle.edge_model.specs.Hear.{acts, acts_on, advice_of, advises, hears
 ghost use Rattle.edge_model.specs.State.{has_end};
 ghost use Rattle.edge_model.specs.Work.{Agrees, Answers, GoesOn};
 ghost use Rattle.provider_edge.specs.Control.{KeepsPlan, Rest, at_control, controlled, holding};
-ghost use Rattle.provider_edge.specs.Heard.{CanBeHeard};
-ghost use Rattle.provider_edge.specs.Hearing.{HearsOn, IsWaitingFor};
+ghost use Rattle.peer_dialogue.specs.Heard.{CanBeHeard};
+ghost use Rattle.peer_dialogue.specs.Hearing.{HearsOn, IsWaitingFor};
 
 use super::Control;
-use crate::advice::advice_of;
-use crate::event::Event;
-use crate::held::Held;
-use crate::next::Next;
 use edge_model::Effect;
 use ldp_grammar::{Message, Pdu};
 use net_base::{EdgeId, Link, List, NoMemory};
-use pw_ends::binding_in;
+use peer_dialogue::{Event, Held, Next, advice_of, binding_in};
 use std::alloc::Global;
 
 impl Control {

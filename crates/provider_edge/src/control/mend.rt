@@ -5,8 +5,8 @@ ghost use Rattle.pw_ends.specs.Ends.{place_of};
 ghost use Rattle.edge_model.specs.EndPlaces.{end_places};
 ghost use Rattle.edge_model.specs.Mend.{and_says, each_end, forgets_downs, mends, mends_choice, mends_end, mends_once, mends_status, tells_downs};
 ghost use Rattle.edge_model.specs.Work.{Agrees, Answers, GoesOn};
-ghost use Rattle.provider_edge.specs.Control.{KeepsPlan, Rest, at_control};
-ghost use Rattle.provider_edge.specs.Views.{view};
+ghost use Rattle.provider_edge.specs.Control.{KeepsPlan, Rest, at_control, controlled};
+ghost use Rattle.edge_forwarding.specs.Views.{view};
 
 use super::Control;
 use edge_model::Effect;
@@ -56,10 +56,27 @@ impl Control {
             → record { work = at_control self.new rest (L.calls link.new) out.new; failed = failed } ≡ mends_once self.old.plan told (at_control self.old rest (L.calls link.old) out.old)) }
     {
         let before = self.all_chosen(alloc)?;
+        self.mend_from(before.as_slice(), alloc, link, out)
+    }
+
+    // The same, where these spokes are chosen.
+    fn mend_from<L: Link>(
+        &mut self,
+        before: &[Option<WireId>],
+        alloc: Global,
+        link: &mut L,
+        out: &mut List<Effect>,
+    ) -> Result<bool, NoMemory>
+        requires { (rest : Rest) → view None before.now ≡ (controlled self.old rest).chosen }
+        ensures keeps { KeepsPlan self.old self.new }
+        ensures calls { GoesOn (L.calls link.old) (L.calls link.new) }
+        ensures step { IfOk result (λ failed. (told : Answers) (rest : Rest) → Agrees told (L.calls link.new)
+            → record { work = at_control self.new rest (L.calls link.new) out.new; failed = failed } ≡ mends_once self.old.plan told (at_control self.old rest (L.calls link.old) out.old)) }
+    {
         let refused = self.mend_ends(alloc, link, out)?;
         self.choose_spokes(alloc)?;
         let untold = self.mend_statuses(refused, alloc, link, out)?;
-        let failed = self.mend_choices(before.as_slice(), untold, alloc, link, out)?;
+        let failed = self.mend_choices(before, untold, alloc, link, out)?;
         self.forget_downs();
         self.tell_downs(out)?;
         Ok(failed)

@@ -12,13 +12,13 @@ ghost use Rattle.edge_model.specs.State.{with_told_down};
 ghost use Rattle.edge_model.specs.Work.{Agrees, Answers, GoesOn};
 ghost use Rattle.provider_edge.specs.Control.{KeepsPlan, Rest, at_control, controlled};
 ghost use Rattle.provider_edge.specs.Mending.{forgotten_down, may_tell, mended_down};
-ghost use Rattle.provider_edge.specs.Views.{view};
+ghost use Rattle.edge_forwarding.specs.Views.{view};
 
 use super::Control;
-use crate::pw_message::PwMessage;
 use edge_model::{Effect, EndPlace};
 use net_base::{Down, Label, Link, List, NoMemory, ServiceId, WireId, WirePlan};
-use pw_ends::{role_of, terminal_wish};
+use peer_dialogue::{PwMessage, terminal_wish};
+use pw_ends::role_of;
 use pw_signalling::{EndRole, PwEnd, Told};
 use pw_tlvs::PwStatus;
 use spoke_redundancy::status_to_tell;

@@ -17,11 +17,11 @@ ghost use Rattle.edge_model.specs.Synced.{InSync};
 ghost use Rattle.edge_model.specs.Work.{Agrees, Answers, GoesOn, Work};
 ghost use Rattle.pw_ends.specs.Ends.{end_in, place_of};
 ghost use Rattle.provider_edge.specs.Control.{KeepsPlan, Rest, at_control, controlled};
-ghost use Rattle.provider_edge.specs.Forwarding.{open_ports};
+ghost use Rattle.edge_forwarding.specs.Forwarding.{open_ports};
 
 use super::Control;
-use crate::packet::{read_payload, without_entry};
 use crate::quiet::drop_for;
+use edge_forwarding::{read_payload, without_entry};
 use edge_model::Effect;
 use eth_encap::{FrameFault, StackEntry, read_entry};
 use net_base::{Arrival, DropCause, Link, List, NoMemory, Offer, ServiceId};
@@ -247,7 +247,7 @@ impl Control {
     }
 
     // What the edge offers at the end of a slot.
-    #[tactic(auto, using(crate::proofs::ForwardingLemmas::row_read))]
+    #[tactic(auto, using(edge_forwarding::proofs::ForwardingLemmas::row_read))]
     fn offer_at(&self, slot: usize) -> Offer
         requires { slot < length self.now.ends.places }
         ensures row { (row : WirePlan) → wire_row self.now.plan (place_of self.now.ends slot).wire ≡ Some row → result ≡ offer_of row self.now.me.0 }
@@ -333,7 +333,7 @@ impl Control {
     }
 
     // The service of the wire of an end.
-    #[tactic(auto, using(crate::proofs::ForwardingLemmas::row_read))]
+    #[tactic(auto, using(edge_forwarding::proofs::ForwardingLemmas::row_read))]
     pub(super) fn service_at(&self, slot: usize) -> ServiceId
         requires { slot < length self.now.ends.places }
         ensures row { (row : WirePlan) → wire_row self.now.plan (place_of self.now.ends slot).wire ≡ Some row → result ≡ row.service }

@@ -11,15 +11,13 @@ ghost use Rattle.edge_model.specs.Session.{had_put, happens, happens_with_ends, 
 ghost use Rattle.edge_model.specs.State.{has_end, with_peering};
 ghost use Rattle.edge_model.specs.Work.{Agrees, Answers, GoesOn};
 ghost use Rattle.provider_edge.specs.Control.{KeepsPlan, Rest, at_control, controlled};
-ghost use Rattle.provider_edge.specs.Event.{MayHappen, event_of};
-ghost use Rattle.provider_edge.specs.PwMessage.{CanBeSaid, numbered};
+ghost use Rattle.peer_dialogue.specs.Event.{MayHappen, event_of};
+ghost use Rattle.peer_dialogue.specs.PwMessage.{CanBeSaid, numbered};
 
 use super::Control;
-use crate::dialogue::Dialogue;
-use crate::event::Event;
-use crate::pw_message::PwMessage;
 use edge_model::Effect;
 use net_base::{EdgeId, Link, List, NoMemory};
+use peer_dialogue::{Dialogue, Event, PwMessage};
 use session_core::Reply;
 use std::alloc::Global;
 

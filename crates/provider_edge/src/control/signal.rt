@@ -10,11 +10,10 @@ ghost use Rattle.edge_model.specs.Work.{Agrees, Answers, GoesOn};
 ghost use Rattle.provider_edge.specs.Control.{KeepsPlan, Rest, at_control, binds_to, controlled};
 
 use super::Control;
-use crate::pw_message::PwMessage;
 use edge_model::Effect;
 use ldp_grammar::StatusCode;
 use net_base::{EdgeId, Label, Link, List, NoMemory};
-use pw_ends::binding_in;
+use peer_dialogue::{PwMessage, binding_in};
 use pw_signalling::Binding;
 use pw_tlvs::{PwFec, PwStatus};
 use std::alloc::Global;

@@ -8,7 +8,7 @@ ghost use Rattle.edge_model.specs.Wire.{is_own_spoke};
 ghost use Rattle.pw_ends.specs.Ends.{place_of};
 ghost use Rattle.provider_edge.specs.Control.{KeepsPlan, Rest, controlled};
 ghost use Rattle.provider_edge.specs.Spokes.{slots_for};
-ghost use Rattle.provider_edge.specs.Views.{view};
+ghost use Rattle.edge_forwarding.specs.Views.{view};
 
 use super::Control;
 use crate::spokes::is_own_spoke;

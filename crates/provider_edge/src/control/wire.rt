@@ -16,10 +16,9 @@ ghost use Rattle.provider_edge.specs.Control.{KeepsPlan, Rest, at_control, contr
 ghost use Rattle.provider_edge.specs.EndOf.{is_of_segment};
 
 use super::Control;
-use crate::dialogue::Dialogue;
-use crate::event::Event;
 use edge_model::{Effect, EndPlace};
 use net_base::{Down, EdgeId, Link, List, NoMemory, SegKey, StateName, WireId};
+use peer_dialogue::{Dialogue, Event};
 use pw_signalling::PwEnd;
 use session_core::Peers;
 use std::alloc::Global;

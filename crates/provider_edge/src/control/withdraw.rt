@@ -9,10 +9,10 @@ ghost use Rattle.edge_model.specs.Work.{Agrees, Answers, GoesOn};
 ghost use Rattle.provider_edge.specs.Control.{KeepsPlan, Rest, at_control};
 
 use super::Control;
-use crate::pw_message::PwMessage;
 use edge_model::Effect;
 use mac_withdraw::pieces;
 use net_base::{Link, List, Mac, NoMemory};
+use peer_dialogue::PwMessage;
 use pw_signalling::{PwEnd, Told};
 use std::alloc::Global;
 

@@ -6,7 +6,7 @@ ghost use Rattle.hvpls_spokes.specs.Port.{is_circuit_port, ports_of};
 ghost use Rattle.edge_model.specs.Circuit.{circuit_input, turned};
 ghost use Rattle.edge_model.specs.State.{addresses_of, with_addresses, with_circuit, without_port};
 ghost use Rattle.edge_model.specs.Work.{Agrees, Answers, GoesOn, beginning};
-ghost use Rattle.provider_edge.specs.Forwarding.{own_service};
+ghost use Rattle.edge_forwarding.specs.Forwarding.{own_service};
 ghost use Rattle.provider_edge.specs.Lists.{Keeps, seen, worked};
 
 use crate::Edge;

@@ -10,7 +10,7 @@ ghost use Rattle.edge_model.specs.State.{with_learned, without_ends, without_pee
 ghost use Rattle.edge_model.specs.Work.{Agrees, Answers, GoesOn, beginning};
 ghost use Rattle.net_base.specs.declared.outside.link_call.LinkCall.{LinkCall};
 ghost use Rattle.provider_edge.specs.Lists.{Keeps, seen, worked};
-ghost use Rattle.provider_edge.specs.Peering.{at_edge, connection_with, peers_between};
+ghost use Rattle.peer_dialogue.specs.Peering.{at_edge, connection_with, peers_between};
 
 use crate::Edge;
 use crate::quiet::{idle, nothing};
@@ -21,7 +21,7 @@ use std::alloc::Global;
 
 impl Edge {
     // The edge's end of a connection with a peer stands, and its session begins.
-    #[tactic(auto, using(crate::proofs::SpeakerLemmas::goes_both))]
+    #[tactic(auto, using(peer_dialogue::proofs::SpeakerLemmas::goes_both))]
     pub(crate) fn connected<L: Link>(
         &mut self,
         alloc: Global,

@@ -10,13 +10,13 @@ ghost use Rattle.edge_model.specs.Frame.{frame_input, received};
 ghost use Rattle.edge_model.specs.State.{is_on};
 ghost use Rattle.edge_model.specs.Synced.{InSync};
 ghost use Rattle.edge_model.specs.Work.{Agrees, Answers, GoesOn, beginning};
-ghost use Rattle.provider_edge.specs.Forwarding.{own_service};
+ghost use Rattle.edge_forwarding.specs.Forwarding.{own_service};
 ghost use Rattle.provider_edge.specs.Lists.{Keeps, seen, worked};
-ghost use Rattle.provider_edge.specs.Peering.{at_edge};
+ghost use Rattle.peer_dialogue.specs.Peering.{at_edge};
 
 use crate::Edge;
-use crate::inner_frame::read_inner;
 use crate::quiet::idle;
+use edge_forwarding::read_inner;
 use edge_model::{Effect, Effects};
 use eth_encap::FrameFault;
 use net_base::{Arrival, CircuitId, CircuitPlan, EdgeId, Link, List, NoMemory, ServiceId};

@@ -4,7 +4,7 @@ ghost use Rattle.edge_model.specs.Hear.{hears_on, octets_input};
 ghost use Rattle.edge_model.specs.State.{has_end};
 ghost use Rattle.edge_model.specs.Work.{Agrees, Answers, GoesOn, beginning};
 ghost use Rattle.provider_edge.specs.Lists.{Keeps, seen, worked};
-ghost use Rattle.provider_edge.specs.Peering.{at_edge};
+ghost use Rattle.peer_dialogue.specs.Peering.{at_edge};
 
 use crate::Edge;
 use crate::quiet::idle;
@@ -14,7 +14,7 @@ use std::alloc::Global;
 
 impl Edge {
     // Octets of LDP come from a peer.
-    #[tactic(auto, using(crate::proofs::SpeakerLemmas::goes_both))]
+    #[tactic(auto, using(peer_dialogue::proofs::SpeakerLemmas::goes_both))]
     pub(crate) fn octets<L: Link>(
         &mut self,
         alloc: Global,

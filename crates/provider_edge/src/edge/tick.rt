@@ -4,7 +4,7 @@ ghost use Rattle.edge_model.specs.State.{later, with_ticks};
 ghost use Rattle.edge_model.specs.Tick.{forgetting, tick_input, ticks_sessions};
 ghost use Rattle.edge_model.specs.Work.{Agrees, Answers, GoesOn, beginning};
 ghost use Rattle.provider_edge.specs.Lists.{Keeps, seen, worked};
-ghost use Rattle.provider_edge.specs.Peering.{at_edge};
+ghost use Rattle.peer_dialogue.specs.Peering.{at_edge};
 
 use crate::Edge;
 use edge_model::{Effect, Effects};
@@ -13,7 +13,7 @@ use std::alloc::Global;
 
 impl Edge {
     // The edge counts the tick, its sessions have it, its bridges forget, and then it mends its ends.
-    #[tactic(auto, using(crate::proofs::SpeakerLemmas::goes_both))]
+    #[tactic(auto, using(peer_dialogue::proofs::SpeakerLemmas::goes_both))]
     pub(crate) fn tick<L: Link>(&mut self, alloc: Global, link: &mut L) -> Result<Effects, NoMemory>
         requires working { self.old.stopped ≡ true }
         ensures keeps { Keeps self.old self.new }

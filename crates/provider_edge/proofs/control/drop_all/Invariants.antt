@@ -1,5 +1,5 @@
 use Rattle.std.proofs.Common.{◌≡◌, ◌++◌, map, take, drop}
-use Rattle.provider_edge.specs.Peering.{gone}
+use Rattle.peer_dialogue.specs.Peering.{gone}
 use Rattle.provider_edge.proofs.control.drop_all.Given as goal
 
 abbrev pub invariant-loop-kept : goal.invariant-loop-kept

@@ -1,7 +1,7 @@
 use Rattle.std.proofs.Common.{◌∙◌, sym}
 use Rattle.provider_edge.specs.Control.{controlled}
 use Rattle.provider_edge.proofs.ActLemmas.{acts_not, acts_there}
-use Rattle.provider_edge.proofs.SettleLemmas.{map_on}
+use Rattle.peer_dialogue.proofs.SettleLemmas.{map_on}
 use Rattle.provider_edge.proofs.control.Control.act.Goals as goal
 
 pub returns-then-not-has_session-clause-step : goal.returns-then-not-has_session-clause-step

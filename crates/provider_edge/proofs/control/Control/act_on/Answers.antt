@@ -4,7 +4,7 @@ use Rattle.edge_model.specs.Work.{Answers, Work}
 use Rattle.provider_edge.specs.Control.{at_control, controlled}
 use Rattle.provider_edge.proofs.ActLemmas.{is_advised, mapping_acts, release_acts, split}
 use Rattle.provider_edge.proofs.ClearLemmas.{withdraw_acts}
-use Rattle.provider_edge.proofs.SettleLemmas.{map_on}
+use Rattle.peer_dialogue.proofs.SettleLemmas.{map_on}
 use Rattle.provider_edge.proofs.control.Control.act_on.Goals as goal
 
 pub returns-in-LabelMapping-clause-step : goal.returns-in-LabelMapping-clause-step

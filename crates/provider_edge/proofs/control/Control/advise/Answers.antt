@@ -3,7 +3,7 @@ use Rattle.edge_model.specs.Put.{put_reply}
 use Rattle.edge_model.specs.Session.{had_put}
 use Rattle.edge_model.specs.Work.{Work}
 use Rattle.provider_edge.specs.Control.{at_control, controlled}
-use Rattle.provider_edge.specs.Peering.{kept_with}
+use Rattle.peer_dialogue.specs.Peering.{kept_with}
 use Rattle.provider_edge.proofs.LiftLemmas.{advised, done_edge, none_there}
 use Rattle.provider_edge.proofs.control.Control.advise.Goals as goal
 

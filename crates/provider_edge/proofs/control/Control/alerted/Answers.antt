@@ -1,7 +1,7 @@
 use Rattle.std.proofs.Common.{◌≡◌, ◌∙◌, Ok, Err, ap, sym}
 use Rattle.eth_encap.specs.Packet.{entry_of}
 use Rattle.provider_edge.proofs.PacketLemmas.{alerted_err, alerted_ok}
-use Rattle.provider_edge.proofs.SettleLemmas.{map_on}
+use Rattle.peer_dialogue.proofs.SettleLemmas.{map_on}
 use Rattle.provider_edge.proofs.control.Control.alerted.Goals as goal
 
 pub returns-in-Ok : goal.returns-in-Ok

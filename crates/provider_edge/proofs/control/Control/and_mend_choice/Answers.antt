@@ -2,7 +2,7 @@ use Rattle.std.proofs.Common.{None}
 use Rattle.edge_model.specs.Mend.{mends_choice}
 use Rattle.pw_ends.specs.Ends.{place_of}
 use Rattle.provider_edge.specs.Control.{at_control}
-use Rattle.provider_edge.specs.Views.{view}
+use Rattle.edge_forwarding.specs.Views.{view}
 use Rattle.provider_edge.proofs.MendLemmas.{said_failed, said_taken}
 use Rattle.provider_edge.proofs.control.Control.and_mend_choice.Goals as goal
 

@@ -1,7 +1,7 @@
 use Rattle.hvpls_spokes.specs.PortSet.{has}
 use Rattle.provider_edge.specs.Control.{at_control}
 use Rattle.provider_edge.proofs.BridgeLemmas.{forwarded_none, forwarded_some}
-use Rattle.provider_edge.proofs.SettleLemmas.{map_on}
+use Rattle.peer_dialogue.proofs.SettleLemmas.{map_on}
 use Rattle.provider_edge.proofs.control.Control.bridge_frame.Goals as goal
 
 pub returns-in_default-clause-step : goal.returns-in_default-clause-step

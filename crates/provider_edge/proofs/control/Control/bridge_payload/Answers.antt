@@ -1,6 +1,6 @@
 use Rattle.edge_model.specs.Packet.{unpacked_at}
 use Rattle.provider_edge.proofs.PacketLemmas.{bridged_payload}
-use Rattle.provider_edge.proofs.SettleLemmas.{map_on}
+use Rattle.peer_dialogue.proofs.SettleLemmas.{map_on}
 use Rattle.provider_edge.proofs.control.Control.bridge_payload.Goals as goal
 
 pub returns-clause-step : goal.returns-clause-step

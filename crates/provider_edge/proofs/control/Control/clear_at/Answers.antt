@@ -6,7 +6,7 @@ use Rattle.hvpls_spokes.specs.Port.{ports_of}
 use Rattle.mac_withdraw.specs.Passing.{is_wire_at}
 use Rattle.provider_edge.specs.Control.{at_control}
 use Rattle.provider_edge.proofs.ClearLemmas.{cleared_on, no_port_clears}
-use Rattle.provider_edge.proofs.SettleLemmas.{map_on}
+use Rattle.peer_dialogue.proofs.SettleLemmas.{map_on}
 use Rattle.provider_edge.proofs.control.Control.clear_at.Goals as goal
 
 pub returns-in_default-clause-step : goal.returns-in_default-clause-step

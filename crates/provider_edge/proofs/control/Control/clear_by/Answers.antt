@@ -2,7 +2,7 @@ use Rattle.std.proofs.Common.{sym}
 use Rattle.pw_ends.specs.Ends.{place_of}
 use Rattle.provider_edge.specs.Control.{at_control}
 use Rattle.provider_edge.proofs.ClearLemmas.{found_is_wire, not_terminal, terminal_clears}
-use Rattle.provider_edge.proofs.SettleLemmas.{map_on}
+use Rattle.peer_dialogue.proofs.SettleLemmas.{map_on}
 use Rattle.provider_edge.proofs.control.Control.clear_by.Goals as goal
 
 pub clear_at-requires : goal.clear_at-requires

@@ -3,9 +3,9 @@ use Rattle.net_base.specs.declared.trace.state_name.Reason.TheVariants as reason
 use Rattle.session_core.specs.Table.{Closed}
 use Rattle.edge_model.specs.Session.{happens}
 use Rattle.provider_edge.specs.Control.{controlled}
-use Rattle.provider_edge.specs.Peering.{kept_with}
+use Rattle.peer_dialogue.specs.Peering.{kept_with}
 use Rattle.provider_edge.proofs.LiftLemmas.{happened_none, left_none}
-use Rattle.provider_edge.proofs.SettleLemmas.{map_on}
+use Rattle.peer_dialogue.proofs.SettleLemmas.{map_on}
 use Rattle.provider_edge.proofs.control.Control.closes.Goals as goal
 
 pub returns-in_default-clause-step : goal.returns-in_default-clause-step

@@ -2,9 +2,9 @@ use Rattle.std.proofs.Common.{◌∙◌, Some, ap}
 use Rattle.session_core.specs.State.{opened}
 use Rattle.edge_model.specs.State.{with_peering}
 use Rattle.provider_edge.specs.Control.{at_control, controlled}
-use Rattle.provider_edge.specs.Peering.{Dialogue, kept_with}
+use Rattle.peer_dialogue.specs.Peering.{Dialogue, kept_with}
 use Rattle.provider_edge.proofs.LiftLemmas.{connected_at}
-use Rattle.provider_edge.proofs.SettleLemmas.{map_on}
+use Rattle.peer_dialogue.proofs.SettleLemmas.{map_on}
 use Rattle.provider_edge.proofs.control.Control.connect.Goals as goal
 
 pub returns-clause-step : goal.returns-clause-step

@@ -2,7 +2,7 @@ use Rattle.std.proofs.Common.{◌≡◌, ◌∙◌, ap, sym, subst}
 use Rattle.edge_model.specs.State.{without_peerings}
 use Rattle.provider_edge.specs.Control.{ControlLists, IsControl, controlled}
 use Rattle.provider_edge.specs.contracts.control.Control.{the_view}
-use Rattle.provider_edge.specs.Peering.{gone}
+use Rattle.peer_dialogue.specs.Peering.{gone}
 use Rattle.std.proofs.Common.{map}
 use Rattle.std.proofs.lemmas.List.{length-map}
 use Rattle.provider_edge.proofs.ControlLemmas.{control_dialogues, controlled_gone}

@@ -3,7 +3,7 @@ use Rattle.edge_model.specs.Ends.{is_up}
 use Rattle.pw_ends.specs.Ends.{place_of}
 use Rattle.provider_edge.specs.Control.{controlled}
 use Rattle.provider_edge.proofs.PacketLemmas.{enters_here, enters_not, up_at}
-use Rattle.provider_edge.proofs.SettleLemmas.{map_on}
+use Rattle.peer_dialogue.proofs.SettleLemmas.{map_on}
 use Rattle.provider_edge.proofs.control.Control.enter.Goals as goal
 
 pub returns-then-is_some-clause-step : goal.returns-then-is_some-clause-step

@@ -5,7 +5,7 @@ use Rattle.std.proofs.Common.{Some, sym}
 use Rattle.net_base.specs.declared.plan.Plan.{Plan}
 use Rattle.net_base.specs.declared.plan.places.EdgeId.{EdgeId}
 use Rattle.net_base.specs.plan.Places.{circuit_row}
-use Rattle.provider_edge.specs.Forwarding.{own_service}
+use Rattle.edge_forwarding.specs.Forwarding.{own_service}
 use Rattle.provider_edge.specs.Control.{ControlLists, controlled}
 use Rattle.provider_edge.specs.contracts.control.Control.{the_view}
 use Rattle.provider_edge.proofs.ForwardLemmas.{control_forwarding, controlled_forgot}

@@ -1,5 +1,5 @@
 use Rattle.std.proofs.Common.{[]}
-use Rattle.provider_edge.specs.Event.{event_of}
+use Rattle.peer_dialogue.specs.Event.{event_of}
 use Rattle.provider_edge.specs.Control.{at_control, controlled}
 use Rattle.provider_edge.proofs.LiftLemmas.{happened}
 use Rattle.provider_edge.proofs.MessageLemmas.{cleared_none}

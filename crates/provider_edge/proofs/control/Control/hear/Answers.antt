@@ -3,9 +3,9 @@ use Rattle.ldp_grammar.specs.Reading.{AreOctets}
 use Rattle.ldp_grammar.proofs.OctetLemmas.{octets_drop}
 use Rattle.provider_edge.specs.Control.{at_control}
 use Rattle.provider_edge.proofs.ControlLemmas.{plan_both}
-use Rattle.provider_edge.proofs.HearLemmas.{drop_end, fed_on, on_both, on_same}
+use Rattle.peer_dialogue.proofs.HearLemmas.{drop_end, fed_on, on_both, on_same}
 use Rattle.provider_edge.proofs.MessageLemmas.{all_ended, all_held, on_plan, room_for}
-use Rattle.provider_edge.proofs.SpeakerLemmas.{agrees_before, goes_both}
+use Rattle.peer_dialogue.proofs.SpeakerLemmas.{agrees_before, goes_both}
 use Rattle.provider_edge.proofs.control.Control.hear.Goals as goal
 
 pub returns-then-not-has_session-clause-step : goal.returns-then-not-has_session-clause-step

@@ -1,5 +1,5 @@
 use Rattle.std.proofs.Common.{◌++◌, ◌≤◌, ◌-◌, drop, length}
-use Rattle.provider_edge.specs.Hearing.{HearsOn}
+use Rattle.peer_dialogue.specs.Hearing.{HearsOn}
 use Rattle.edge_model.specs.Work.{Agrees, Answers, GoesOn}
 use Rattle.provider_edge.specs.Control.{KeepsPlan, Rest, at_control}
 use Rattle.provider_edge.proofs.control.Control.hear.Given as goal

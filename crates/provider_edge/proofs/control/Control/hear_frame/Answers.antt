@@ -5,7 +5,7 @@ use Rattle.hvpls_spokes.specs.PortSet.{has}
 use Rattle.edge_model.specs.Frame.{hearing, targets_of}
 use Rattle.edge_model.specs.Synced.{InSync}
 use Rattle.provider_edge.specs.Control.{ControlLists, controlled}
-use Rattle.provider_edge.specs.Forwarding.{open_ports}
+use Rattle.edge_forwarding.specs.Forwarding.{open_ports}
 use Rattle.provider_edge.specs.contracts.control.Control.{the_view}
 use Rattle.provider_edge.proofs.BridgeLemmas.{heard_control, heard_targets}
 use Rattle.provider_edge.proofs.ForwardLemmas.{control_forwarding}

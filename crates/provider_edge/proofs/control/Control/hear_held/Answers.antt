@@ -1,12 +1,12 @@
 use Rattle.std.proofs.Common.{◌∙◌, ◌++◌, ap, option_copied, refl, sym, subst}
-use Rattle.provider_edge.specs.Hearing.{IsAtFault, IsAtPdu, StandsNext}
+use Rattle.peer_dialogue.specs.Hearing.{IsAtFault, IsAtPdu, StandsNext}
 use Rattle.provider_edge.specs.Control.{at_control, controlled}
-use Rattle.provider_edge.specs.Peering.{kept_with}
+use Rattle.peer_dialogue.specs.Peering.{kept_with}
 use Rattle.provider_edge.proofs.ControlLemmas.{plan_both}
-use Rattle.provider_edge.proofs.HearLemmas.{on_both}
+use Rattle.peer_dialogue.proofs.HearLemmas.{on_both}
 use Rattle.provider_edge.proofs.MessageLemmas.{fault_on, on_two, pdu_on, waits_none}
-use Rattle.provider_edge.proofs.SettleLemmas.{map_on}
-use Rattle.provider_edge.proofs.SpeakerLemmas.{agrees_before, goes_both}
+use Rattle.peer_dialogue.proofs.SettleLemmas.{map_on}
+use Rattle.peer_dialogue.proofs.SpeakerLemmas.{agrees_before, goes_both}
 use Rattle.provider_edge.proofs.control.Control.hear_held.Goals as goal
 
 pub pdus-preserved : goal.pdus-preserved

@@ -1,6 +1,6 @@
 use Rattle.std.proofs.Common.{◌++◌, ℕ, List, length}
 use Rattle.ldp_grammar.specs.Reading.{AreOctets}
-use Rattle.provider_edge.specs.Hearing.{HearsOn}
+use Rattle.peer_dialogue.specs.Hearing.{HearsOn}
 use Rattle.edge_model.specs.Work.{Agrees, Answers, GoesOn}
 use Rattle.provider_edge.specs.Control.{KeepsPlan, Rest, at_control}
 use Rattle.provider_edge.proofs.control.Control.hear_held.Given as goal

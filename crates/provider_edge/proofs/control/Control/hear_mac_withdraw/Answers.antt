@@ -2,7 +2,7 @@ use Rattle.pw_ends.specs.Ends.{place_of}
 use Rattle.provider_edge.specs.Control.{at_control, controlled}
 use Rattle.provider_edge.proofs.ClearLemmas.{end_heard, no_end_heard, no_fec_heard}
 use Rattle.provider_edge.proofs.RowLemmas.{named_none, named_some}
-use Rattle.provider_edge.proofs.SettleLemmas.{map_on}
+use Rattle.peer_dialogue.proofs.SettleLemmas.{map_on}
 use Rattle.provider_edge.proofs.control.Control.hear_mac_withdraw.Goals as goal
 
 pub returns-in_default-clause-step : goal.returns-in_default-clause-step

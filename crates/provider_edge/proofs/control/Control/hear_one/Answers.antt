@@ -1,8 +1,8 @@
 use Rattle.std.proofs.Common.{◌∙◌, true, false, refl, sym}
 use Rattle.provider_edge.specs.Control.{at_control, controlled}
 use Rattle.provider_edge.proofs.MessageLemmas.{one_heard}
-use Rattle.provider_edge.proofs.SettleLemmas.{map_on}
-use Rattle.provider_edge.proofs.SpeakerLemmas.{agrees_before}
+use Rattle.peer_dialogue.proofs.SettleLemmas.{map_on}
+use Rattle.peer_dialogue.proofs.SpeakerLemmas.{agrees_before}
 use Rattle.provider_edge.proofs.control.Control.hear_one.Goals as goal
 
 pub returns-then-was_up-clause-step : goal.returns-then-was_up-clause-step

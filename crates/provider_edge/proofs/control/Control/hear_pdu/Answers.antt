@@ -2,8 +2,8 @@ use Rattle.std.proofs.Common.{◌∙◌, ap}
 use Rattle.edge_model.specs.Hear.{hears_messages}
 use Rattle.provider_edge.specs.Control.{at_control}
 use Rattle.provider_edge.proofs.MessageLemmas.{pdu_heard}
-use Rattle.provider_edge.proofs.SettleLemmas.{map_on}
-use Rattle.provider_edge.proofs.SpeakerLemmas.{agrees_before}
+use Rattle.peer_dialogue.proofs.SettleLemmas.{map_on}
+use Rattle.peer_dialogue.proofs.SpeakerLemmas.{agrees_before}
 use Rattle.provider_edge.proofs.control.Control.hear_pdu.Goals as goal
 
 pub returns-clause-step : goal.returns-clause-step

@@ -1,6 +1,6 @@
 use Rattle.provider_edge.specs.Control.{controlled}
 use Rattle.provider_edge.proofs.RowLemmas.{withdraw_heard}
-use Rattle.provider_edge.proofs.SettleLemmas.{map_on}
+use Rattle.peer_dialogue.proofs.SettleLemmas.{map_on}
 use Rattle.provider_edge.proofs.control.Control.hear_withdraw.Goals as goal
 
 pub returns-clause-step : goal.returns-clause-step

@@ -1,7 +1,7 @@
 use Rattle.std.proofs.Common.{None}
 use Rattle.edge_model.specs.Role.{is_wire}
 use Rattle.provider_edge.specs.Control.{controlled}
-use Rattle.provider_edge.specs.Views.{view}
+use Rattle.edge_forwarding.specs.Views.{view}
 use Rattle.provider_edge.proofs.SlotLemmas.{new_away, new_there}
 use Rattle.provider_edge.proofs.control.Control.is_new.Goals as goal
 

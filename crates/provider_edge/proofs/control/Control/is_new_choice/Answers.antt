@@ -1,6 +1,6 @@
 use Rattle.std.proofs.Common.{◌∙◌, None, ap, slice_get, sym}
 use Rattle.net_base.specs.declared.plan.Plan.{Plan}
-use Rattle.provider_edge.specs.Views.{view}
+use Rattle.edge_forwarding.specs.Views.{view}
 use Rattle.provider_edge.specs.contracts.control.Control.{the_view}
 use Rattle.provider_edge.proofs.SlotLemmas.{new_read}
 use Rattle.provider_edge.proofs.control.Control.is_new_choice.Goals as goal

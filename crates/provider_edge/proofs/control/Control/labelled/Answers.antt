@@ -1,6 +1,6 @@
 use Rattle.provider_edge.specs.Control.{controlled}
 use Rattle.provider_edge.proofs.PacketLemmas.{above_bottom, labelled_here, reserved}
-use Rattle.provider_edge.proofs.SettleLemmas.{map_on}
+use Rattle.peer_dialogue.proofs.SettleLemmas.{map_on}
 use Rattle.provider_edge.proofs.control.Control.labelled.Goals as goal
 
 pub returns-then-entry-lt-LEAST_LABEL-clause-step : goal.returns-then-entry-lt-LEAST_LABEL-clause-step

@@ -1,9 +1,9 @@
 use Rattle.std.proofs.Common.{◌∙◌, None}
 use Rattle.pw_ends.specs.Ends.{place_of}
 use Rattle.provider_edge.specs.Control.{at_control, controlled}
-use Rattle.provider_edge.specs.Views.{view}
+use Rattle.edge_forwarding.specs.Views.{view}
 use Rattle.provider_edge.proofs.MendLemmas.{choice_stays, choice_tells}
-use Rattle.provider_edge.proofs.SettleLemmas.{map_ok}
+use Rattle.peer_dialogue.proofs.SettleLemmas.{map_ok}
 use Rattle.provider_edge.proofs.control.Control.mend_choice.Goals as goal
 
 pub returns-then-not-is_new_choice-clause-step : goal.returns-then-not-is_new_choice-clause-step

@@ -1,9 +1,9 @@
 use Rattle.std.proofs.Common.{None, ◌<◌, length, arith}
 use Rattle.edge_model.specs.Mend.{mends_choice}
-use Rattle.provider_edge.specs.Views.{view}
+use Rattle.edge_forwarding.specs.Views.{view}
 use Rattle.provider_edge.proofs.ControlLemmas.{plan_both}
 use Rattle.provider_edge.proofs.MendLemmas.{ends_next, ends_past, within_kept}
-use Rattle.provider_edge.proofs.SpeakerLemmas.{agrees_before, goes_both}
+use Rattle.peer_dialogue.proofs.SpeakerLemmas.{agrees_before, goes_both}
 use Rattle.provider_edge.proofs.control.Control.mend_choices.Goals as goal
 
 pub and_mend_choice-requires : goal.and_mend_choice-requires

@@ -3,7 +3,7 @@ use Rattle.edge_model.specs.EndPlaces.{end_places}
 use Rattle.edge_model.specs.Mend.{each_end, mends_choice}
 use Rattle.edge_model.specs.Work.{Agrees, Answers, GoesOn}
 use Rattle.provider_edge.specs.Control.{KeepsPlan, Rest, at_control}
-use Rattle.provider_edge.specs.Views.{view}
+use Rattle.edge_forwarding.specs.Views.{view}
 use Rattle.provider_edge.proofs.control.Control.mend_choices.Given as goal
 
 abbrev pub invariant-loop-slot : goal.invariant-loop-slot

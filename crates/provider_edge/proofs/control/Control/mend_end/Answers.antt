@@ -3,9 +3,9 @@ use Rattle.pw_ends.specs.Ends.{place_of}
 use Rattle.pw_signalling.specs.End.{Advertised}
 use Rattle.pw_signalling.specs.declared.told.Told.{Told}
 use Rattle.provider_edge.specs.Control.{at_control}
-use Rattle.provider_edge.specs.Peering.{at_edge}
+use Rattle.peer_dialogue.specs.Peering.{at_edge}
 use Rattle.provider_edge.proofs.MendLemmas.{advertised_ends, idle_declined, idle_wishes, local_is, withdrawing_stays}
-use Rattle.provider_edge.proofs.SettleLemmas.{map_ok}
+use Rattle.peer_dialogue.proofs.SettleLemmas.{map_ok}
 use Rattle.provider_edge.proofs.control.Control.mend_end.Goals as goal
 
 pub returns-then-is_declined-clause-step : goal.returns-then-is_declined-clause-step

@@ -1,8 +1,8 @@
 use Rattle.std.proofs.Common.{None, Some, ap, refl}
 use Rattle.edge_model.specs.Session.{happens}
-use Rattle.provider_edge.specs.Event.{event_of}
+use Rattle.peer_dialogue.specs.Event.{event_of}
 use Rattle.provider_edge.specs.Control.{controlled}
-use Rattle.provider_edge.specs.Peering.{kept_with}
+use Rattle.peer_dialogue.specs.Peering.{kept_with}
 use Rattle.provider_edge.proofs.LiftLemmas.{done_edge, happened_none}
 use Rattle.provider_edge.proofs.MessageLemmas.{left_none_read}
 use Rattle.provider_edge.proofs.control.Control.moves.Goals as goal

@@ -2,7 +2,7 @@ use Rattle.edge_model.specs.Packet.{advertiser}
 use Rattle.pw_ends.specs.Ends.{place_of}
 use Rattle.provider_edge.specs.Control.{at_control, controlled}
 use Rattle.provider_edge.proofs.PacketLemmas.{named_none, named_some, owned_none, owned_some}
-use Rattle.provider_edge.proofs.SettleLemmas.{map_on}
+use Rattle.peer_dialogue.proofs.SettleLemmas.{map_on}
 use Rattle.provider_edge.proofs.control.Control.named.Goals as goal
 
 pub returns-in-Some-clause-step : goal.returns-in-Some-clause-step

@@ -1,7 +1,7 @@
 use Rattle.std.proofs.Common.{◌∙◌, sym}
 use Rattle.provider_edge.specs.Control.{at_control}
 use Rattle.provider_edge.proofs.PacketLemmas.{entry_long, opened_alert, opened_label}
-use Rattle.provider_edge.proofs.SettleLemmas.{map_on}
+use Rattle.peer_dialogue.proofs.SettleLemmas.{map_on}
 use Rattle.provider_edge.proofs.control.Control.opened.Goals as goal
 
 pub without_entry-behind-requires : goal.without_entry-behind-requires

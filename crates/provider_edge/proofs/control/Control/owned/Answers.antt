@@ -1,7 +1,7 @@
 use Rattle.pw_ends.specs.Ends.{place_of}
 use Rattle.provider_edge.specs.Control.{at_control}
 use Rattle.provider_edge.proofs.PacketLemmas.{owned_between, owned_terminal, terminal_at}
-use Rattle.provider_edge.proofs.SettleLemmas.{map_on}
+use Rattle.peer_dialogue.proofs.SettleLemmas.{map_on}
 use Rattle.provider_edge.proofs.control.Control.owned.Goals as goal
 
 pub returns-then-not-place-clause-step : goal.returns-then-not-place-clause-step

@@ -4,7 +4,7 @@ use Rattle.hvpls_spokes.specs.PortSet.{has}
 use Rattle.hvpls_spokes.specs.Role.{role_of}
 use Rattle.provider_edge.specs.Control.{ControlLists}
 use Rattle.provider_edge.proofs.ClearLemmas.{passed_to}
-use Rattle.provider_edge.proofs.SettleLemmas.{map_on}
+use Rattle.peer_dialogue.proofs.SettleLemmas.{map_on}
 use Rattle.provider_edge.proofs.control.Control.pass_on.Goals as goal
 
 pub returns-clause-step : goal.returns-clause-step

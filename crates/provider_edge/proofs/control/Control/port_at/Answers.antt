@@ -8,7 +8,7 @@ use Rattle.edge_model.specs.Role.{down_at}
 use Rattle.edge_model.specs.Synced.{InSync}
 use Rattle.pw_ends.specs.Ends.{place_of}
 use Rattle.provider_edge.specs.Control.{ControlLists, Rest, controlled}
-use Rattle.provider_edge.specs.Forwarding.{open_ports}
+use Rattle.edge_forwarding.specs.Forwarding.{open_ports}
 use Rattle.provider_edge.specs.contracts.control.Control.{the_view}
 use Rattle.provider_edge.proofs.ForwardLemmas.{ports_in}
 use Rattle.provider_edge.proofs.SyncLemmas.{if_found, wire_port_opens}

@@ -4,7 +4,7 @@ use Rattle.net_base.specs.declared.plan.Plan.{Plan}
 use Rattle.hvpls_spokes.specs.Port.{is_circuit_port, ports_of}
 use Rattle.edge_model.specs.State.{is_on}
 use Rattle.provider_edge.specs.Control.{ControlLists, controlled}
-use Rattle.provider_edge.specs.Forwarding.{open_ports}
+use Rattle.edge_forwarding.specs.Forwarding.{open_ports}
 use Rattle.provider_edge.specs.contracts.control.Control.{the_view}
 use Rattle.provider_edge.proofs.ForwardLemmas.{ports_in}
 use Rattle.provider_edge.proofs.SyncLemmas.{circuit_port_opens, if_found}

@@ -3,7 +3,7 @@ use Rattle.hvpls_spokes.specs.declared.port.Port.{Port}
 use Rattle.hvpls_spokes.specs.PortSet.{has}
 use Rattle.edge_model.specs.Frame.{copies, copy_by}
 use Rattle.provider_edge.specs.Control.{at_control}
-use Rattle.provider_edge.proofs.SettleLemmas.{map_on}
+use Rattle.peer_dialogue.proofs.SettleLemmas.{map_on}
 use Rattle.provider_edge.proofs.control.Control.put_copies.Goals as goal
 
 pub returns-in-Some-clause-step : goal.returns-in-Some-clause-step

@@ -1,6 +1,6 @@
 use Rattle.provider_edge.specs.Control.{at_control}
 use Rattle.provider_edge.proofs.BridgeLemmas.{copied_none, copied_some}
-use Rattle.provider_edge.proofs.SettleLemmas.{map_on}
+use Rattle.peer_dialogue.proofs.SettleLemmas.{map_on}
 use Rattle.provider_edge.proofs.control.Control.put_copy.Goals as goal
 
 pub returns-in-Some-clause-step : goal.returns-in-Some-clause-step

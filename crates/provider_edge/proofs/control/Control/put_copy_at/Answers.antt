@@ -5,7 +5,7 @@ use Rattle.edge_model.specs.Frame.{copy_by}
 use Rattle.provider_edge.specs.Control.{at_control}
 use Rattle.provider_edge.specs.Taking.{copied_by}
 use Rattle.provider_edge.proofs.BridgeLemmas.{copied_else, copied_if}
-use Rattle.provider_edge.proofs.SettleLemmas.{map_on}
+use Rattle.peer_dialogue.proofs.SettleLemmas.{map_on}
 use Rattle.provider_edge.proofs.control.Control.put_copy_at.Goals as goal
 
 pub returns-then-not-contains-clause-step : goal.returns-then-not-contains-clause-step

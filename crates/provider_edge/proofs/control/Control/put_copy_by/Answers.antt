@@ -1,6 +1,6 @@
 use Rattle.provider_edge.specs.Control.{controlled}
 use Rattle.provider_edge.proofs.BridgeLemmas.{copied_circuit, copied_mesh, copied_spoke}
-use Rattle.provider_edge.proofs.SettleLemmas.{map_on}
+use Rattle.peer_dialogue.proofs.SettleLemmas.{map_on}
 use Rattle.provider_edge.proofs.control.Control.put_copy_by.Goals as goal
 
 pub returns-in-Circuit-clause-step : goal.returns-in-Circuit-clause-step

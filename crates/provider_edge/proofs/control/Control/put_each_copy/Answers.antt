@@ -2,7 +2,7 @@ use Rattle.std.proofs.Common.{◌<◌, ◌≤◌, ◌∙◌, length, sym, arith}
 use Rattle.hvpls_spokes.specs.PortSet.{has}
 use Rattle.edge_model.specs.Frame.{copy_by}
 use Rattle.provider_edge.proofs.CopyLemmas.{copied_next, copies_end}
-use Rattle.provider_edge.proofs.SpeakerLemmas.{agrees_before, goes_both}
+use Rattle.peer_dialogue.proofs.SpeakerLemmas.{agrees_before, goes_both}
 use Rattle.provider_edge.proofs.control.Control.put_each_copy.Goals as goal
 
 pub loop-port-preserved : goal.loop-port-preserved

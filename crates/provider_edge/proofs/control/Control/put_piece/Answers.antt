@@ -3,7 +3,7 @@ use Rattle.edge_model.specs.declared.end_place.EndPlace.{EndPlace}
 use Rattle.edge_model.specs.Content.{mac_withdrawal}
 use Rattle.edge_model.specs.Session.{says}
 use Rattle.provider_edge.specs.Control.{at_control}
-use Rattle.provider_edge.proofs.SettleLemmas.{map_ok}
+use Rattle.peer_dialogue.proofs.SettleLemmas.{map_ok}
 use Rattle.provider_edge.proofs.control.Control.put_piece.Goals as goal
 
 pub returns-clause-step : goal.returns-clause-step

@@ -4,7 +4,7 @@ use Rattle.edge_model.specs.Content.{withdrawal}
 use Rattle.edge_model.specs.Session.{says}
 use Rattle.provider_edge.specs.Control.{at_control, controlled}
 use Rattle.provider_edge.proofs.RowLemmas.{withdraws_at}
-use Rattle.provider_edge.proofs.SettleLemmas.{map_ok}
+use Rattle.peer_dialogue.proofs.SettleLemmas.{map_ok}
 use Rattle.pw_ends.specs.Ends.{place_of}
 use Rattle.provider_edge.proofs.control.Control.put_withdrawal.Goals as goal
 

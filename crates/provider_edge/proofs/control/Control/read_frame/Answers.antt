@@ -3,7 +3,7 @@ use Rattle.std.specs.Prelude.{MatchResult}
 use Rattle.net_base.specs.declared.trace.drop_cause.DropCause.{DropCause}
 use Rattle.eth_encap.specs.Fault.{cause_of}
 use Rattle.provider_edge.proofs.PacketLemmas.{header_of, read_by}
-use Rattle.provider_edge.proofs.SettleLemmas.{map_ok}
+use Rattle.peer_dialogue.proofs.SettleLemmas.{map_ok}
 use Rattle.provider_edge.proofs.control.Control.read_frame.Goals as goal
 
 pub returns-clause-read : goal.returns-clause-read

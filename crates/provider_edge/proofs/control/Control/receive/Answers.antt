@@ -3,7 +3,7 @@ use Rattle.std.specs.Prelude.{MatchResult}
 use Rattle.eth_encap.specs.Fault.{cause_of}
 use Rattle.provider_edge.specs.Control.{at_control, controlled}
 use Rattle.provider_edge.proofs.BridgeLemmas.{received_err, received_ok}
-use Rattle.provider_edge.proofs.SettleLemmas.{map_on}
+use Rattle.peer_dialogue.proofs.SettleLemmas.{map_on}
 use Rattle.provider_edge.proofs.control.Control.receive.Goals as goal
 
 pub returns-in-Ok-clause-step : goal.returns-in-Ok-clause-step

@@ -1,8 +1,8 @@
 use Rattle.std.proofs.Common.{◌∙◌, Bool, Some, ap}
 use Rattle.edge_model.specs.Work.{Work}
 use Rattle.provider_edge.specs.Control.{at_control, controlled}
-use Rattle.provider_edge.specs.Peering.{had_spoken, is_over, kept_with, put_message}
-use Rattle.provider_edge.specs.PwMessage.{numbered}
+use Rattle.peer_dialogue.specs.Peering.{had_spoken, is_over, kept_with, put_message}
+use Rattle.peer_dialogue.specs.PwMessage.{numbered}
 use Rattle.provider_edge.proofs.LiftLemmas.{over_is, said_none, said_some, spoken_edge}
 use Rattle.provider_edge.proofs.control.Control.say.Goals as goal
 

@@ -1,7 +1,7 @@
 use Rattle.pw_ends.specs.Ends.{place_of}
 use Rattle.provider_edge.specs.Control.{controlled}
 use Rattle.provider_edge.proofs.BridgeLemmas.{sent_is, sent_not}
-use Rattle.provider_edge.proofs.SettleLemmas.{map_on}
+use Rattle.peer_dialogue.proofs.SettleLemmas.{map_on}
 use Rattle.provider_edge.proofs.control.Control.send.Goals as goal
 
 pub returns-then-not-branch-clause-step : goal.returns-then-not-branch-clause-step

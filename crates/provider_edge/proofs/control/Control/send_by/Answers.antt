@@ -7,7 +7,7 @@ use Rattle.pw_ends.specs.Ends.{end_in, place_of}
 use Rattle.edge_model.specs.declared.end_place.EndPlace.{EndPlace}
 use Rattle.provider_edge.specs.Control.{ControlLists, at_control}
 use Rattle.provider_edge.proofs.BridgeLemmas.{under_no_wire, under_none, under_some}
-use Rattle.provider_edge.proofs.SettleLemmas.{map_on}
+use Rattle.peer_dialogue.proofs.SettleLemmas.{map_on}
 use Rattle.provider_edge.proofs.control.Control.send_by.Goals as goal
 
 pub returns-in_default-clause-step : goal.returns-in_default-clause-step

@@ -3,7 +3,7 @@ use Rattle.edge_model.specs.EndPlaces.{is_end_of_wire}
 use Rattle.edge_model.specs.Ends.{wire_end}
 use Rattle.provider_edge.specs.Control.{ControlLists, IsControl, at_control}
 use Rattle.provider_edge.proofs.BridgeLemmas.{copy_none, copy_some}
-use Rattle.provider_edge.proofs.SettleLemmas.{map_on}
+use Rattle.peer_dialogue.proofs.SettleLemmas.{map_on}
 use Rattle.provider_edge.proofs.SlotLemmas.{none_found, slot_found}
 use Rattle.provider_edge.proofs.control.Control.send_copy.Goals as goal
 

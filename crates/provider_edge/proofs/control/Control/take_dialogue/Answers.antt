@@ -1,6 +1,6 @@
 use Rattle.std.proofs.Common.{◌≡◌, ◌∙◌, None, slice_set, ap, sym, subst, arith}
 use Rattle.edge_model.specs.State.{with_peering}
-use Rattle.provider_edge.specs.Peering.{kept_with}
+use Rattle.peer_dialogue.specs.Peering.{kept_with}
 use Rattle.provider_edge.specs.Control.{ControlLists, controlled}
 use Rattle.provider_edge.specs.contracts.control.Control.{the_view}
 use Rattle.provider_edge.proofs.ControlLemmas.{controlled_past, controlled_put, dialogue_past, dialogue_read}

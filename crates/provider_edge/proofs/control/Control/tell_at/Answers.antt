@@ -2,7 +2,7 @@ use Rattle.std.proofs.Common.{refl}
 use Rattle.hvpls_spokes.specs.declared.port.Port.TheVariants as port
 use Rattle.provider_edge.specs.Control.{at_control}
 use Rattle.provider_edge.proofs.ClearLemmas.{told_circuit, told_mesh, told_spoke}
-use Rattle.provider_edge.proofs.SettleLemmas.{map_on}
+use Rattle.peer_dialogue.proofs.SettleLemmas.{map_on}
 use Rattle.provider_edge.proofs.control.Control.tell_at.Goals as goal
 
 pub returns-in-Circuit-clause-step : goal.returns-in-Circuit-clause-step

@@ -3,7 +3,7 @@ use Rattle.edge_model.specs.declared.end_place.EndPlace.{EndPlace}
 use Rattle.pw_ends.specs.Ends.{place_of}
 use Rattle.provider_edge.specs.Control.{at_control, controlled}
 use Rattle.provider_edge.proofs.MendLemmas.{down_edge, told_down}
-use Rattle.provider_edge.proofs.SettleLemmas.{map_on}
+use Rattle.peer_dialogue.proofs.SettleLemmas.{map_on}
 use Rattle.provider_edge.proofs.control.Control.tell_down.Goals as goal
 
 pub returns-clause-step : goal.returns-clause-step

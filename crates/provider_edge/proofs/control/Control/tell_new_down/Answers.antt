@@ -4,7 +4,7 @@ use Rattle.net_base.specs.declared.trace.down.Down.{Down}
 use Rattle.edge_model.specs.Mend.{cause_number}
 use Rattle.provider_edge.specs.Control.{controlled}
 use Rattle.provider_edge.proofs.RowLemmas.{down_new, down_same}
-use Rattle.provider_edge.proofs.SettleLemmas.{map_on}
+use Rattle.peer_dialogue.proofs.SettleLemmas.{map_on}
 use Rattle.provider_edge.proofs.control.Control.tell_new_down.Goals as goal
 
 pub returns-then-is_same-clause-step : goal.returns-then-is_same-clause-step

@@ -6,7 +6,7 @@ use Rattle.edge_model.specs.Clear.{tells_at}
 use Rattle.provider_edge.proofs.ClearLemmas.{where_kept}
 use Rattle.provider_edge.proofs.ControlLemmas.{plan_both}
 use Rattle.provider_edge.proofs.CopyLemmas.{copied_next, copies_end}
-use Rattle.provider_edge.proofs.SpeakerLemmas.{agrees_before, goes_both}
+use Rattle.peer_dialogue.proofs.SpeakerLemmas.{agrees_before, goes_both}
 use Rattle.provider_edge.proofs.control.Control.tell_passed.Goals as goal
 
 pub tell_where-requires : goal.tell_where-requires

@@ -3,9 +3,9 @@ use Rattle.pw_ends.specs.Ends.{place_of}
 use Rattle.pw_signalling.specs.End.{Advertised}
 use Rattle.pw_signalling.specs.declared.told.Told.{Told}
 use Rattle.provider_edge.specs.Control.{at_control}
-use Rattle.provider_edge.specs.Peering.{at_edge}
+use Rattle.peer_dialogue.specs.Peering.{at_edge}
 use Rattle.provider_edge.proofs.MendLemmas.{local_is}
-use Rattle.provider_edge.proofs.SettleLemmas.{map_ok}
+use Rattle.peer_dialogue.proofs.SettleLemmas.{map_ok}
 use Rattle.provider_edge.proofs.WithdrawLemmas.{piece_idle, piece_put, piece_withdrawing}
 use Rattle.provider_edge.proofs.control.Control.tell_piece.Goals as goal
 

@@ -4,7 +4,7 @@ use Rattle.mac_withdraw.specs.Pieces.{piece_count}
 use Rattle.pw_ends.specs.Ends.{no_place, place_of}
 use Rattle.provider_edge.proofs.ControlLemmas.{plan_both}
 use Rattle.provider_edge.proofs.MendLemmas.{within_kept}
-use Rattle.provider_edge.proofs.SpeakerLemmas.{agrees_before, goes_both}
+use Rattle.peer_dialogue.proofs.SpeakerLemmas.{agrees_before, goes_both}
 use Rattle.provider_edge.proofs.WithdrawLemmas.{piece_within, pieces_end, pieces_next}
 use Rattle.provider_edge.proofs.control.Control.tell_pieces.Goals as goal
 

@@ -3,7 +3,7 @@ use Rattle.edge_model.specs.Role.{status_to_tell}
 use Rattle.pw_ends.specs.Ends.{place_of}
 use Rattle.provider_edge.specs.Control.{at_control, controlled}
 use Rattle.provider_edge.proofs.MendLemmas.{over_new, over_same}
-use Rattle.provider_edge.proofs.SettleLemmas.{map_ok}
+use Rattle.peer_dialogue.proofs.SettleLemmas.{map_ok}
 use Rattle.provider_edge.proofs.control.Control.tell_unless.Goals as goal
 
 pub returns-then-last-status-clause-step : goal.returns-then-last-status-clause-step

@@ -5,7 +5,7 @@ use Rattle.edge_model.specs.Clear.{tells_at}
 use Rattle.provider_edge.specs.Control.{at_control}
 use Rattle.provider_edge.proofs.BridgeLemmas.{copied_else, copied_if}
 use Rattle.provider_edge.proofs.ClearLemmas.{told_by_none, told_by_some}
-use Rattle.provider_edge.proofs.SettleLemmas.{map_on}
+use Rattle.peer_dialogue.proofs.SettleLemmas.{map_on}
 use Rattle.provider_edge.proofs.control.Control.tell_where.Goals as goal
 
 pub returns-then-not-contains-clause-step : goal.returns-then-not-contains-clause-step

@@ -4,7 +4,7 @@ use Rattle.edge_model.specs.Ends.{wire_end}
 use Rattle.pw_ends.specs.Ends.{place_of}
 use Rattle.provider_edge.specs.Control.{ControlLists, IsControl, at_control}
 use Rattle.provider_edge.proofs.ClearLemmas.{end_told, no_end_told}
-use Rattle.provider_edge.proofs.SettleLemmas.{map_on}
+use Rattle.peer_dialogue.proofs.SettleLemmas.{map_on}
 use Rattle.provider_edge.proofs.SlotLemmas.{none_found, slot_found}
 use Rattle.provider_edge.proofs.control.Control.tell_wire.Goals as goal
 

@@ -2,7 +2,7 @@ use Rattle.net_base.specs.plan.Places.{wire_row}
 use Rattle.pw_ends.specs.Ends.{end_in, place_of}
 use Rattle.provider_edge.specs.Control.{at_control, controlled}
 use Rattle.provider_edge.proofs.PacketLemmas.{by_row, unbound_end, with_word, without_word}
-use Rattle.provider_edge.proofs.SettleLemmas.{map_on}
+use Rattle.peer_dialogue.proofs.SettleLemmas.{map_on}
 use Rattle.provider_edge.proofs.control.Control.terminated.Goals as goal
 
 pub returns-then-not-is_bound-clause-step : goal.returns-then-not-is_bound-clause-step

@@ -3,7 +3,7 @@ use Rattle.net_base.specs.declared.plan.Plan.{Plan}
 use Rattle.provider_edge.specs.Control.{ControlLists}
 use Rattle.provider_edge.proofs.ControlLemmas.{plan_both}
 use Rattle.provider_edge.proofs.MessageLemmas.{tick_next}
-use Rattle.provider_edge.proofs.SpeakerLemmas.{agrees_before, goes_both}
+use Rattle.peer_dialogue.proofs.SpeakerLemmas.{agrees_before, goes_both}
 use Rattle.provider_edge.proofs.control.Control.tick.Goals as goal
 
 pub loop-place-preserved : goal.loop-place-preserved

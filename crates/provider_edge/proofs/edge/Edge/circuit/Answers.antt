@@ -6,9 +6,9 @@ use Rattle.edge_model.specs.Circuit.{circuit_input, turned}
 use Rattle.edge_model.specs.Work.{beginning, changes}
 use Rattle.std.proofs.lemmas.Option.{slice_get_within}
 use Rattle.provider_edge.specs.Lists.{seen, worked}
-use Rattle.provider_edge.specs.Peering.{at_edge}
+use Rattle.peer_dialogue.specs.Peering.{at_edge}
 use Rattle.provider_edge.proofs.EdgeLemmas.{circuit_at, mended}
-use Rattle.provider_edge.proofs.ForwardingLemmas.{own_row}
+use Rattle.edge_forwarding.proofs.ForwardingLemmas.{own_row}
 use Rattle.provider_edge.proofs.WorkLemmas.{circuit_already, circuit_done, circuit_other}
 use Rattle.provider_edge.proofs.edge.Edge.circuit.Goals as goal
 

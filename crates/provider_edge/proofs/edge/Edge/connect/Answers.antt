@@ -5,9 +5,9 @@ use Rattle.edge_model.specs.Connection.{connects}
 use Rattle.provider_edge.specs.Control.{at_control}
 use Rattle.provider_edge.specs.Lists.{EdgeLists, rest_of, seen}
 use Rattle.provider_edge.specs.contracts.edge.Edge.{the_view}
-use Rattle.provider_edge.specs.Peering.{at_edge, connection_with}
+use Rattle.peer_dialogue.specs.Peering.{at_edge, connection_with}
 use Rattle.provider_edge.proofs.EdgeLemmas.{edge_control, worked_edge}
-use Rattle.provider_edge.proofs.SettleLemmas.{map_on}
+use Rattle.peer_dialogue.proofs.SettleLemmas.{map_on}
 use Rattle.provider_edge.proofs.edge.Edge.connect.Goals as goal
 
 pub connect-requires-clause-within : goal.connect-requires-clause-within

@@ -7,10 +7,10 @@ use Rattle.edge_model.specs.Connection.{connected_input, connects}
 use Rattle.edge_model.specs.State.{EdgeState, has_end}
 use Rattle.edge_model.specs.Work.{beginning}
 use Rattle.provider_edge.specs.Lists.{EdgeLists, seen, worked}
-use Rattle.provider_edge.specs.Peering.{at_edge, connection_with}
+use Rattle.peer_dialogue.specs.Peering.{at_edge, connection_with}
 use Rattle.provider_edge.proofs.EdgeLemmas.{apart_test, begun, connected_done, connected_idle, connected_none, joined_test, mended, none_by, peer_within, stands_test}
 use Rattle.provider_edge.proofs.ProperLemmas.{proper_between}
-use Rattle.provider_edge.proofs.SpeakerLemmas.{agrees_before}
+use Rattle.peer_dialogue.proofs.SpeakerLemmas.{agrees_before}
 use Rattle.provider_edge.proofs.WorkLemmas.{keeps_both}
 use Rattle.provider_edge.proofs.edge.Edge.connected.Goals.{then-not-joined-via-then-not-joined, then-not-joined-via-else-not-joined+then-has_end}
 use Rattle.provider_edge.proofs.edge.Edge.connected.Goals as goal

@@ -4,7 +4,7 @@ use Rattle.net_base.specs.declared.plan.places.EdgeId.{EdgeId}
 use Rattle.net_base.specs.plan.Places.{circuit_row}
 use Rattle.hvpls_spokes.specs.Port.{is_circuit_port, ports_of}
 use Rattle.edge_model.specs.State.{addresses_of, with_addresses, without_port}
-use Rattle.provider_edge.specs.Forwarding.{own_service}
+use Rattle.edge_forwarding.specs.Forwarding.{own_service}
 use Rattle.provider_edge.specs.Lists.{EdgeLists, seen}
 use Rattle.provider_edge.specs.contracts.edge.Edge.{the_view}
 use Rattle.provider_edge.proofs.EdgeLemmas.{edge_control, worked_state}

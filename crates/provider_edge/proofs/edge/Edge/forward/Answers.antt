@@ -8,13 +8,13 @@ use Rattle.edge_model.specs.Frame.{received}
 use Rattle.edge_model.specs.State.{EdgeState, is_on}
 use Rattle.edge_model.specs.Synced.{InSync}
 use Rattle.provider_edge.specs.Control.{at_control}
-use Rattle.provider_edge.specs.Forwarding.{own_service}
+use Rattle.edge_forwarding.specs.Forwarding.{own_service}
 use Rattle.provider_edge.specs.Lists.{EdgeLists, rest_of, seen}
 use Rattle.provider_edge.specs.contracts.edge.Edge.{the_view}
-use Rattle.provider_edge.specs.Peering.{at_edge}
+use Rattle.peer_dialogue.specs.Peering.{at_edge}
 use Rattle.provider_edge.proofs.EdgeLemmas.{edge_control, seen_is, synced_control, worked_edge}
-use Rattle.provider_edge.proofs.ForwardingLemmas.{own_within}
-use Rattle.provider_edge.proofs.SettleLemmas.{map_on}
+use Rattle.edge_forwarding.proofs.ForwardingLemmas.{own_within}
+use Rattle.peer_dialogue.proofs.SettleLemmas.{map_on}
 use Rattle.provider_edge.proofs.edge.Edge.forward.Goals as goal
 
 pub port_of-port-requires : goal.port_of-port-requires

@@ -7,9 +7,9 @@ use Rattle.edge_model.specs.declared.effects.Effects.{Effects}
 use Rattle.edge_model.specs.Frame.{frame_input, received}
 use Rattle.edge_model.specs.Work.{beginning}
 use Rattle.provider_edge.specs.Lists.{seen, worked}
-use Rattle.provider_edge.specs.Peering.{at_edge}
+use Rattle.peer_dialogue.specs.Peering.{at_edge}
 use Rattle.provider_edge.proofs.EdgeLemmas.{begun, given_out}
-use Rattle.provider_edge.proofs.ForwardingLemmas.{own_circuit}
+use Rattle.edge_forwarding.proofs.ForwardingLemmas.{own_circuit}
 use Rattle.provider_edge.proofs.WorkLemmas.{frame_off, frame_on, frame_other}
 use Rattle.provider_edge.proofs.edge.Edge.frame.Goals as goal
 

@@ -3,9 +3,9 @@ use Rattle.edge_model.specs.Hear.{hears_on}
 use Rattle.edge_model.specs.State.{has_end}
 use Rattle.provider_edge.specs.Lists.{EdgeLists, rest_of, seen}
 use Rattle.provider_edge.specs.contracts.edge.Edge.{the_view}
-use Rattle.provider_edge.specs.Peering.{at_edge}
+use Rattle.peer_dialogue.specs.Peering.{at_edge}
 use Rattle.provider_edge.proofs.EdgeLemmas.{edge_worked, end_within, heard_edge}
-use Rattle.provider_edge.proofs.SettleLemmas.{map_on}
+use Rattle.peer_dialogue.proofs.SettleLemmas.{map_on}
 use Rattle.provider_edge.proofs.edge.Edge.hear_octets.Goals as goal
 
 pub invariant_of-self : goal.invariant_of-self

@@ -4,9 +4,9 @@ use Rattle.session_core.specs.Table.{Closed}
 use Rattle.edge_model.specs.Session.{happens_with_ends}
 use Rattle.provider_edge.specs.Lists.{EdgeLists, rest_of, seen}
 use Rattle.provider_edge.specs.contracts.edge.Edge.{the_view}
-use Rattle.provider_edge.specs.Peering.{at_edge}
+use Rattle.peer_dialogue.specs.Peering.{at_edge}
 use Rattle.provider_edge.proofs.EdgeLemmas.{edge_control, worked_edge}
-use Rattle.provider_edge.proofs.SettleLemmas.{map_on}
+use Rattle.peer_dialogue.proofs.SettleLemmas.{map_on}
 use Rattle.provider_edge.proofs.edge.Edge.lose.Goals as goal
 
 pub invariant_of-self : goal.invariant_of-self

@@ -6,7 +6,7 @@ use Rattle.edge_model.specs.Connection.{lost_input}
 use Rattle.edge_model.specs.Session.{happens_with_ends}
 use Rattle.edge_model.specs.Work.{beginning}
 use Rattle.provider_edge.specs.Lists.{seen, worked}
-use Rattle.provider_edge.specs.Peering.{at_edge}
+use Rattle.peer_dialogue.specs.Peering.{at_edge}
 use Rattle.provider_edge.proofs.EdgeLemmas.{begun, lost_done, lost_idle, mended}
 use Rattle.provider_edge.proofs.edge.Edge.lost.Goals as goal
 

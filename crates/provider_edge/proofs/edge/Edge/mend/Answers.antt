@@ -4,9 +4,9 @@ use Rattle.edge_model.specs.Mend.{mends}
 use Rattle.provider_edge.specs.Control.{at_control}
 use Rattle.provider_edge.specs.Lists.{EdgeLists, rest_of, seen}
 use Rattle.provider_edge.specs.contracts.edge.Edge.{the_view}
-use Rattle.provider_edge.specs.Peering.{at_edge}
+use Rattle.peer_dialogue.specs.Peering.{at_edge}
 use Rattle.provider_edge.proofs.EdgeLemmas.{edge_control, worked_edge}
-use Rattle.provider_edge.proofs.SettleLemmas.{map_on}
+use Rattle.peer_dialogue.proofs.SettleLemmas.{map_on}
 use Rattle.provider_edge.proofs.edge.Edge.mend.Goals as goal
 
 pub invariant_of-self : goal.invariant_of-self

@@ -3,9 +3,9 @@ use Rattle.edge_model.specs.declared.effects.Effects.{Effects}
 use Rattle.edge_model.specs.Hear.{hears_on, octets_input}
 use Rattle.edge_model.specs.Work.{beginning}
 use Rattle.provider_edge.specs.Lists.{seen, worked}
-use Rattle.provider_edge.specs.Peering.{at_edge}
+use Rattle.peer_dialogue.specs.Peering.{at_edge}
 use Rattle.provider_edge.proofs.EdgeLemmas.{begun, mended, octets_done, octets_idle}
-use Rattle.provider_edge.proofs.SpeakerLemmas.{agrees_before}
+use Rattle.peer_dialogue.proofs.SpeakerLemmas.{agrees_before}
 use Rattle.provider_edge.proofs.edge.Edge.octets.Goals as goal
 
 pub returns-then-not-has_end-clause-step : goal.returns-then-not-has_end-clause-step

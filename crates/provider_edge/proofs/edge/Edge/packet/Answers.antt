@@ -5,7 +5,7 @@ use Rattle.edge_model.specs.Synced.{InSync}
 use Rattle.provider_edge.specs.Control.{at_control}
 use Rattle.provider_edge.specs.Lists.{EdgeLists, rest_of, seen, worked}
 use Rattle.provider_edge.specs.contracts.edge.Edge.{the_view}
-use Rattle.provider_edge.specs.Peering.{at_edge}
+use Rattle.peer_dialogue.specs.Peering.{at_edge}
 use Rattle.edge_model.specs.Work.{beginning}
 use Rattle.provider_edge.proofs.EdgeLemmas.{begun, edge_control, given_out, synced_control, worked_edge}
 use Rattle.provider_edge.proofs.edge.Edge.packet.Goals as goal

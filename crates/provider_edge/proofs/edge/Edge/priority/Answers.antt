@@ -7,7 +7,7 @@ use Rattle.edge_model.specs.Wire.{is_own_spoke, priority_input}
 use Rattle.edge_model.specs.Work.{beginning, changes}
 use Rattle.provider_edge.specs.Lists.{EdgeLists, rest_of, seen, worked}
 use Rattle.provider_edge.specs.contracts.edge.Edge.{the_view}
-use Rattle.provider_edge.specs.Peering.{at_edge}
+use Rattle.peer_dialogue.specs.Peering.{at_edge}
 use Rattle.provider_edge.proofs.EdgeLemmas.{apart_eqb, priority_at, priority_seen, own_edge, mended, priority_already, priority_apart, priority_set}
 use Rattle.provider_edge.proofs.edge.Edge.priority.Goals.{then-not-is_own_spoke-via-then-not-is_own_spoke, then-not-is_own_spoke-via-else-not-is_own_spoke+then-priority_of-priority}
 use Rattle.provider_edge.proofs.edge.Edge.priority.Goals as goal

@@ -4,7 +4,7 @@ use Rattle.net_base.specs.declared.plan.Plan.{Plan}
 use Rattle.net_base.specs.trace.Isolated.{inner_at}
 use Rattle.eth_encap.specs.Fault.{cause_of}
 use Rattle.provider_edge.specs.Lists.{EdgeLists}
-use Rattle.provider_edge.proofs.SettleLemmas.{map_on}
+use Rattle.peer_dialogue.proofs.SettleLemmas.{map_on}
 use Rattle.provider_edge.proofs.edge.Edge.receive.Goals as goal
 
 pub returns-clause-step : goal.returns-clause-step

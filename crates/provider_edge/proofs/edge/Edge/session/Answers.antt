@@ -2,7 +2,7 @@ use Rattle.std.proofs.Common.{◌∙◌, ap, sym}
 use Rattle.edge_model.specs.State.{EdgeState}
 use Rattle.provider_edge.specs.Lists.{EdgeLists, rest_of, seen}
 use Rattle.provider_edge.specs.contracts.edge.Edge.{the_view}
-use Rattle.provider_edge.specs.Peering.{session_name}
+use Rattle.peer_dialogue.specs.Peering.{session_name}
 use Rattle.provider_edge.proofs.EdgeLemmas.{seen_is}
 use Rattle.provider_edge.proofs.edge.Edge.session.Goals as goal
 

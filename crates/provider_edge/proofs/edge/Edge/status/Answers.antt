@@ -7,7 +7,7 @@ use Rattle.edge_model.specs.Wire.{status_input}
 use Rattle.edge_model.specs.Work.{beginning, changes}
 use Rattle.provider_edge.specs.Lists.{EdgeLists, rest_of, seen, worked}
 use Rattle.provider_edge.specs.contracts.edge.Edge.{the_view}
-use Rattle.provider_edge.specs.Peering.{at_edge}
+use Rattle.peer_dialogue.specs.Peering.{at_edge}
 use Rattle.provider_edge.proofs.EdgeLemmas.{apart_eqb, bits_at, bits_seen, ends_edge, mended, status_already, status_apart, status_set}
 use Rattle.provider_edge.proofs.edge.Edge.status.Goals.{then-not-ends_here-via-then-not-ends_here, then-not-ends_here-via-else-not-ends_here+then-bits_of-bits}
 use Rattle.provider_edge.proofs.edge.Edge.status.Goals as goal

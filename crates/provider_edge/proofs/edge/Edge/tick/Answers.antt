@@ -2,9 +2,9 @@ use Rattle.std.proofs.Common.{◌≡◌, length, subst}
 use Rattle.edge_model.specs.Tick.{counted, forgetting, ticks_sessions}
 use Rattle.edge_model.specs.Work.{beginning, changes}
 use Rattle.provider_edge.specs.Lists.{seen}
-use Rattle.provider_edge.specs.Peering.{at_edge}
+use Rattle.peer_dialogue.specs.Peering.{at_edge}
 use Rattle.provider_edge.proofs.EdgeLemmas.{mended, ticked}
-use Rattle.provider_edge.proofs.SpeakerLemmas.{agrees_before}
+use Rattle.peer_dialogue.proofs.SpeakerLemmas.{agrees_before}
 use Rattle.provider_edge.proofs.WorkLemmas.{keeps_both}
 use Rattle.provider_edge.proofs.edge.Edge.tick.Goals as goal
 

@@ -6,7 +6,7 @@ use Rattle.edge_model.specs.Wire.{turned_wire, wire_input}
 use Rattle.edge_model.specs.Work.{beginning, changes}
 use Rattle.provider_edge.specs.Lists.{EdgeLists, rest_of, seen, worked}
 use Rattle.provider_edge.specs.contracts.edge.Edge.{the_view}
-use Rattle.provider_edge.specs.Peering.{at_edge}
+use Rattle.peer_dialogue.specs.Peering.{at_edge}
 use Rattle.provider_edge.proofs.EdgeLemmas.{mended, passes_edge, turned_at, wire_already, wire_apart, wire_seen, wire_turned}
 use Rattle.provider_edge.proofs.edge.Edge.wire.Goals.{then-not-passes-via-then-not-passes, then-not-passes-via-else-not-passes+then-is_on-on}
 use Rattle.provider_edge.proofs.edge.Edge.wire.Goals as goal

@@ -1,0 +1,153 @@
+-- The domains of an edge, one more at a time.
+use Rattle.std.proofs.Common.{◌≡◌, ◌<◌, ◌≤◌, ◌+◌, ◌++◌, ◌∙◌, ◌⊎◌, ◌&&◌, ℕ, zero, suc, Bool, true, false, not, nat_eq, nat_lt, List, [], ◌∷◌, Option, Some, None, length, slice_get, slice_index_or, slice_set, position, get_or, cond, length-set, ap, sym, subst, inl, inr, arith, refl}
+use Rattle.std.proofs.lemmas.Bool.{cases_order, eqb-true}
+use Rattle.std.proofs.lemmas.Bool.Decides.{nat_tests}
+use Rattle.std.proofs.lemmas.Option.{slice_get_read}
+use Rattle.net_base.specs.declared.plan.Plan.{Plan}
+use Rattle.net_base.specs.declared.plan.places.EdgeId.{EdgeId}
+use Rattle.net_base.specs.declared.plan.service_plan.ServicePlan.{ServicePlan}
+use Rattle.edge_forwarding.specs.declared.domain.Domain.{Domain}
+use Rattle.hvpls_spokes.specs.declared.port.Port.{Port}
+use Rattle.mac_table.specs.declared.mac_entry.MacEntry.{MacEntry}
+use Rattle.edge_model.specs.State.{without_port}
+use Rattle.edge_forwarding.specs.Domain.{AreClosed, AreNew, IsKeptClosed, IsNew, forgot_domain, is_wire}
+use Rattle.edge_forwarding.proofs.EachLemmas.{before_push, long_push, past_push}
+use Rattle.edge_forwarding.proofs.Views.{past_end, same_read, view_at}
+
+next_new : (plan : Plan) (me : EdgeId) (place : ℕ) (domains : List (Option Domain)) (kept : Option Domain) (service : ServicePlan)
+    → AreNew plan me place domains → slice_get plan.services place ≡ Some service → IsNew plan me (record { 0 = place }) service.age kept
+    → AreNew plan me (place + 1) (domains ++ kept ∷ [])
+next_new plan me place domains kept service are at is = record {
+  len = long_push domains kept ∙ ap (λ (n : ℕ). n + 1) are.len;
+  each = λ k row below found. elim (cases_order k place) [
+    | inl same ↦ of k row found (inr same)
+    | inr rest ↦ elim rest [
+      | inl less ↦ of k row found (inl less)
+      | inr more ↦ absurd (omega arith)
+    ]
+  ];
+}
+  where
+    of : (k : ℕ) (row : ServicePlan) → slice_get plan.services k ≡ Some row → (k < place) ⊎ (k ≡ place) → IsNew plan me (record { 0 = k }) row.age (slice_index_or (domains ++ kept ∷ []) k None)
+    of k row found (inl earlier) =
+        subst (IsNew plan me (record { 0 = k }) row.age) (sym (before_push domains kept None k (omega (arith, are.len)))) (are.each k row earlier found)
+    of k row found (inr here) =
+        let one : service ≡ row = cc (at, found, here) in
+        let placed : slice_index_or (domains ++ kept ∷ []) k None ≡ kept = ap (λ (n : ℕ). slice_index_or (domains ++ kept ∷ []) n None) (here ∙ sym are.len) ∙ past_push domains kept None in
+        subst (IsNew plan me (record { 0 = k }) row.age) (sym placed)
+        (subst (λ (n : ℕ). IsNew plan me (record { 0 = n }) row.age kept) (sym here) (subst (λ (r : ServicePlan). IsNew plan me (record { 0 = place }) r.age kept) one is))
+
+pub new_next : (plan : Plan) (me : EdgeId) (place : ℕ) (domains now : List (Option Domain)) (kept : Option Domain) (services : List ServicePlan) (service : ServicePlan)
+    → AreNew plan me place domains → services ≡ plan.services → place < length services → service ≡ get_or services place service
+    → IsNew plan me (record { 0 = place }) service.age kept → now ≡ domains ++ kept ∷ []
+    → AreNew plan me (place + 1) now
+new_next plan me place domains now kept services service are same within read is pushed =
+    let at : slice_get plan.services place ≡ Some service = subst (λ (l : List ServicePlan). slice_get l place ≡ Some service) same (slice_get_read services (length services) place service refl within read) in
+    subst (AreNew plan me (place + 1)) (sym pushed) (next_new plan me place domains kept service are at is)
+
+-- ---- the ports of wires are closed one by one
+
+lt_next : (p k : ℕ) → nat_eq p k ≡ false → nat_lt p (k + 1) ≡ nat_lt p k
+lt_next p k apart = grind (arith, nat_tests, apart)
+
+lt_here : (p k : ℕ) → nat_eq p k ≡ true → nat_lt p (k + 1) ≡ true
+lt_here p k same = grind (arith, nat_tests, same)
+
+lt_not : (p k : ℕ) → nat_eq p k ≡ true → nat_lt p k ≡ false
+lt_not p k same = grind (arith, nat_tests, same)
+
+-- one port more
+pub closed_next : (ports : List Port) (old now next : ℕ → Bool) (k : ℕ)
+    → ((p : ℕ) → now p ≡ (old p && not (nat_lt p k && is_wire (slice_get ports p))))
+    → ((p : ℕ) → next p ≡ (now p && not (nat_eq p k && is_wire (slice_get ports k))))
+    → (p : ℕ) → next p ≡ (old p && not (nat_lt p (k + 1) && is_wire (slice_get ports p)))
+closed_next ports old now next k so_far one p = one p ∙ (ap (λ (b : Bool). b && not (nat_eq p k && is_wire (slice_get ports k))) (so_far p) ∙ by (nat_eq p k) refl) where
+  and_true : (b : Bool) → b && true ≡ b
+  and_true true = refl
+  and_true false = refl
+
+  by : (same : Bool) → nat_eq p k ≡ same → (old p && not (nat_lt p k && is_wire (slice_get ports p))) && not (same && is_wire (slice_get ports k)) ≡ (old p && not (nat_lt p (k + 1) && is_wire (slice_get ports p)))
+  by false is = and_true (old p && not (nat_lt p k && is_wire (slice_get ports p))) ∙ ap (λ (b : Bool). old p && not (b && is_wire (slice_get ports p))) (sym (lt_next p k is))
+  by true is =
+      let at : p ≡ k = eqb-true p k is in
+      ap (λ (b : Bool). (old p && not (b && is_wire (slice_get ports p))) && not (is_wire (slice_get ports k))) (lt_not p k is)
+      ∙ (ap (λ (b : Bool). b && not (is_wire (slice_get ports k))) (and_true (old p))
+      ∙ (ap (λ (n : ℕ). old p && not (is_wire (slice_get ports n))) (sym at)
+      ∙ ap (λ (b : Bool). old p && not (b && is_wire (slice_get ports p))) (sym (lt_here p k is))))
+
+lt_zero : (n : ℕ) → nat_lt 0 (suc n) ≡ true
+lt_zero n = grind (arith, nat_tests)
+
+lt_suc : (p n : ℕ) → nat_lt (suc p) (suc n) ≡ nat_lt p n
+lt_suc p n = grind (arith, nat_tests)
+
+wire_within : (ports : List Port) (p : ℕ) → nat_lt p (length ports) && is_wire (slice_get ports p) ≡ is_wire (slice_get ports p)
+wire_within [] p = by (nat_lt p 0) where
+  by : (b : Bool) → b && false ≡ false
+  by true = refl
+  by false = refl
+wire_within (x ∷ ports) zero = ap (λ (b : Bool). b && is_wire (Some x)) (lt_zero (length ports))
+wire_within (x ∷ ports) (suc p) = ap (λ (b : Bool). b && is_wire (slice_get ports p)) (lt_suc p (length ports)) ∙ wire_within ports p
+
+-- all ports
+pub closed_end : (ports : List Port) (old now : ℕ → Bool) (k : ℕ) → k ≡ length ports → ((p : ℕ) → now p ≡ (old p && not (nat_lt p k && is_wire (slice_get ports p))))
+    → (p : ℕ) → now p ≡ (old p && not (is_wire (slice_get ports p)))
+closed_end ports old now k all so_far p =
+    so_far p ∙ (ap (λ (n : ℕ). old p && not (nat_lt p n && is_wire (slice_get ports p))) all ∙ ap (λ (b : Bool). old p && not b) (wire_within ports p))
+
+-- ---- domain after domain is closed
+
+-- the domains before a place are closed, and the others are as they were
+pub record AreClosedTo (old now : List (Option Domain)) (place : ℕ) : Type 0 where
+  pub len : length now ≡ length old
+  pub before : (k : ℕ) → k < place → IsKeptClosed (slice_index_or old k None) (slice_index_or now k None)
+  pub after : (k : ℕ) → place ≤ k → slice_index_or now k None ≡ slice_index_or old k None
+
+pub closed_first : (old : List (Option Domain)) → AreClosedTo old old 0
+closed_first old = record { len = refl; before = λ k below. absurd (omega arith); after = λ k above. refl }
+
+pub closed_more : (old now : List (Option Domain)) (place : ℕ) (x y : Option Domain) → AreClosedTo old now place → place < length now → x ≡ get_or now place x → IsKeptClosed x y → AreClosedTo old (slice_set now place y) (place + 1)
+closed_more old now place x y are within read one = record {
+  len = length-set now place y ∙ are.len;
+  before = λ k below. subst (IsKeptClosed (slice_index_or old k None)) (sym (view_at None now place y k within)) (of k (nat_eq k place) refl below);
+  after = λ k above. view_at None now place y k within ∙ (ap (λ (b : Bool). cond b y (slice_index_or now k None)) (apart k above) ∙ are.after k (omega (arith, above)));
+}
+  where
+    apart : (k : ℕ) → place + 1 ≤ k → nat_eq k place ≡ false
+    apart k above = grind (arith, nat_tests, above)
+
+    less : (k : ℕ) → nat_eq k place ≡ false → k < place + 1 → k < place
+    less k other below = grind (arith, nat_tests, other, below)
+
+    was : x ≡ slice_index_or old place None
+    was = read ∙ (same_read now place x None within ∙ are.after place (omega arith))
+
+    of : (k : ℕ) (b : Bool) → nat_eq k place ≡ b → k < place + 1 → IsKeptClosed (slice_index_or old k None) (cond b y (slice_index_or now k None))
+    of k false other below = are.before k (less k other below)
+    of k true same below = subst (λ (n : ℕ). IsKeptClosed (slice_index_or old n None) y) (sym (eqb-true k place same)) (subst (λ (d : Option Domain). IsKeptClosed d y) was one)
+
+pub closed_all : (old now : List (Option Domain)) (place : ℕ) → AreClosedTo old now place → length now ≤ place → AreClosed old now
+closed_all old now place are past = record {
+  len = are.len;
+  each = λ k. elim (cases_order k place) [
+    | inl same ↦ beyond k (omega (arith, are.len, past, same))
+    | inr rest ↦ elim rest [
+      | inl less ↦ are.before k less
+      | inr more ↦ beyond k (omega (arith, are.len, past, more))
+    ]
+  ];
+}
+  where
+    beyond : (k : ℕ) → length old ≤ k → IsKeptClosed (slice_index_or old k None) (slice_index_or now k None)
+    beyond k above =
+        subst (λ (d : Option Domain). IsKeptClosed d (slice_index_or now k None)) (sym (past_end None old k above))
+        (subst (IsKeptClosed None) (sym (past_end None now k (omega (arith, are.len, above)))) tt)
+
+-- ---- a bridge that has learned nothing has nothing to forget
+
+pub forgot_nothing : (test : Port → Bool) (domain : Domain) → length domain.bridge.entries ≡ 0 → domain ≡ forgot_domain test domain
+forgot_nothing test domain none = ap (λ (entries : List MacEntry). record domain { bridge = record domain.bridge { entries = entries } }) (by domain.bridge.entries (position test domain.bridge.ports) none) where
+  by : (entries : List MacEntry) (found : Option ℕ) → length entries ≡ 0 → entries ≡ without_port found entries
+  by [] None none = refl
+  by [] (Some p) none = refl
+  by (e ∷ entries) found none = absurd (cc (none))

@@ -1,0 +1,5 @@
+pub mod DomainLemmas
+pub mod ForwardingLemmas
+pub mod EachLemmas
+pub mod OpenLemmas
+pub mod Views

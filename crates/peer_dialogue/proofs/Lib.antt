@@ -1,0 +1,5 @@
+pub mod HearLemmas
+pub mod HeardLemmas
+pub mod SettleLemmas
+pub mod SpeakerLemmas
+pub mod TellLemmas

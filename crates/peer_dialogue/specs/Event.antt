@@ -1,0 +1,19 @@
+-- What happens to a session, as the table of a session has it.
+use Rattle.ldp_codec.specs.declared.decode_fault.DecodeFault.TheVariants as fault
+use Rattle.session_core.specs.Table.{SessionEvent}
+use Rattle.session_core.specs.Table as table
+use Rattle.std.specs.Prelude.{◌≡◌}
+use Rattle.peer_dialogue.specs.declared.event.Event.{Event}
+use Rattle.peer_dialogue.specs.declared.event.Event.TheVariants as event
+
+abbrev pub event_of : Event → SessionEvent
+event_of event.Start = table.Start
+event_of (event.Heard sender) = table.Heard sender
+event_of (event.Received message) = table.Received message.now
+event_of (event.Refused wrong) = table.Refused wrong
+event_of event.Ticked = table.Ticked
+
+-- what is refused is octets, and not for want of memory
+abbrev pub MayHappen : Event → Type 0
+MayHappen (event.Refused wrong) = wrong ≡ fault.NoMemory → ⊥
+MayHappen other = Unit {0}

@@ -1,0 +1,205 @@
+//! Who puts messages to a neighbour.
+ghost use Rattle.std.specs.Prelude.{◌≡◌, ◌≤◌, ◌+◌, ◌++◌, ◌∷◌, [], ℕ, List, Some, length, true, false, not, IfOk};
+ghost use Rattle.std.specs.List.{AllByRecursion};
+ghost use Rattle.net_base.specs.declared.outside.link_call.LinkCall.{LinkCall};
+ghost use Rattle.net_base.specs.outside.Link.{Answers as IsAnswer};
+ghost use Rattle.ldp_grammar.specs.Written.{message_octets, writable, written};
+ghost use Rattle.session_core.specs.Messages.{HasData, message_of};
+ghost use Rattle.session_core.specs.State.{SessionState};
+ghost use Rattle.edge_model.specs.Put.{following, platform_of, put_octets, put_replies, put_reply};
+ghost use Rattle.edge_model.specs.State.{EdgeState};
+ghost use Rattle.edge_model.specs.Work.{Agrees, Answers, GoesOn};
+ghost use Rattle.peer_dialogue.specs.Peering.{at_peer, having_put, kept_with, put_message};
+ghost use Rattle.peer_dialogue.specs.PwMessage.{CanBeSaid, numbered};
+
+use crate::pw_message::PwMessage;
+use edge_model::Effect;
+use ldp_codec::encode_into;
+use ldp_grammar::{LdpId, Message};
+use net_base::{Addr, EdgeId, Link, LinkStop, List, NoMemory, Octets};
+use session_core::{Peers, Replies, Reply};
+use std::alloc::Global;
+
+/// The most octets of a PDU that a session puts: 4 before the PDU Length counts, and then at most 256.
+const LONGEST: usize = 260;
+
+/// One who puts messages to a neighbour: the two ends of the session, and the number of the next message.
+#[derive(Clone, Copy)]
+pub struct Speaker {
+    pub(crate) peers: Peers,
+    pub(crate) next_id: u32,
+}
+
+/// What became of replies that were put.
+#[derive(Clone, Copy)]
+pub struct Put {
+    /// The link took one of them.
+    pub(crate) spoke: bool,
+    /// The link did not take one of them, and none behind it was put.
+    pub(crate) failed: bool,
+}
+
+impl Speaker {
+    /// Puts replies in order, until the link does not take one.
+    #[tactic(auto, using(crate::proofs::SpeakerLemmas::goes_both, crate::proofs::SpeakerLemmas::data_at))]
+    pub fn put_replies<L: Link>(
+        &mut self,
+        alloc: Global,
+        peer: EdgeId,
+        replies: &Replies,
+        link: &mut L,
+        out: &mut List<Effect>,
+    ) -> Result<Put, NoMemory>
+        requires { AllByRecursion HasData replies.now }
+        ensures peers { self.new.peers ≡ self.old.peers }
+        ensures calls { GoesOn (L.calls link.old) (L.calls link.new) }
+        ensures step { IfOk result (λ put. (told : Answers) (s : SessionState) (held : List ℕ) (edge : EdgeState) → Agrees told (L.calls link.new) → s.peers ≡ self.old.peers
+            → put_replies told peer replies.now (at_peer peer (kept_with held (Some (record { session = s; next_id = self.old.next_id }))) edge (L.calls link.old) out.old)
+            ≡ record { work = at_peer peer (kept_with held (Some (record { session = having_put put.spoke s; next_id = self.new.next_id }))) edge (L.calls link.new) out.new; failed = put.failed }) }
+    {
+        let mut spoke = false;
+        for place in 0..replies.len() {
+            let Some(reply) = replies.get(place) else {
+                return Ok(Put {
+                    spoke,
+                    failed: false,
+                });
+            };
+            if !self.put_reply(alloc, peer, reply, link, out)? {
+                return Ok(Put {
+                    spoke,
+                    failed: true,
+                });
+            }
+            spoke = true;
+        }
+        Ok(Put {
+            spoke,
+            failed: false,
+        })
+    }
+
+    /// Puts a reply, and answers whether the link took it; what it takes is said.
+    pub fn put_reply<L: Link>(
+        &mut self,
+        alloc: Global,
+        peer: EdgeId,
+        reply: Reply,
+        link: &mut L,
+        out: &mut List<Effect>,
+    ) -> Result<bool, NoMemory>
+        requires { HasData reply }
+        ensures peers { self.new.peers ≡ self.old.peers }
+        ensures calls { GoesOn (L.calls link.old) (L.calls link.new) }
+        ensures step { IfOk result (λ taken. (told : Answers) (s : SessionState) (held : List ℕ) (edge : EdgeState) → Agrees told (L.calls link.new) → s.peers ≡ self.old.peers
+            → put_reply told peer reply (at_peer peer (kept_with held (Some (record { session = s; next_id = self.old.next_id }))) edge (L.calls link.old) out.old)
+            ≡ record { work = at_peer peer (kept_with held (Some (record { session = having_put taken s; next_id = self.new.next_id }))) edge (L.calls link.new) out.new; failed = not taken }) }
+    {
+        let octets = self.octets_of(alloc, reply)?;
+        self.put_octets(peer, octets, link, out)
+    }
+
+    /// Puts a message about a pseudowire, and answers whether the link took it; what it takes is said.
+    pub fn say<L: Link>(
+        &mut self,
+        alloc: Global,
+        peer: EdgeId,
+        message: &PwMessage<'_>,
+        link: &mut L,
+        out: &mut List<Effect>,
+    ) -> Result<bool, NoMemory>
+        requires { CanBeSaid message.now }
+        ensures peers { self.new.peers ≡ self.old.peers }
+        ensures calls { GoesOn (L.calls link.old) (L.calls link.new) }
+        ensures step { IfOk result (λ taken. (told : Answers) (s : SessionState) (held : List ℕ) (edge : EdgeState) → Agrees told (L.calls link.new) → s.peers ≡ self.old.peers
+            → put_message told peer (numbered message.now) (at_peer peer (kept_with held (Some (record { session = s; next_id = self.old.next_id }))) edge (L.calls link.old) out.old)
+            ≡ record { work = at_peer peer (kept_with held (Some (record { session = having_put taken s; next_id = self.new.next_id }))) edge (L.calls link.new) out.new; failed = not taken }) }
+    {
+        let octets = self.message_octets_of(alloc, message)?;
+        self.put_octets(peer, octets, link, out)
+    }
+
+    // Puts octets, and answers whether the link took them; what it takes is said.
+    fn put_octets<L: Link>(
+        &mut self,
+        peer: EdgeId,
+        octets: Octets,
+        link: &mut L,
+        out: &mut List<Effect>,
+    ) -> Result<bool, NoMemory>
+        ensures peers { self.new.peers ≡ self.old.peers }
+        ensures calls { GoesOn (L.calls link.old) (L.calls link.new) }
+        ensures step { IfOk result (λ taken. (told : Answers) (s : SessionState) (held : List ℕ) (edge : EdgeState) → Agrees told (L.calls link.new)
+            → put_octets peer octets (told (length (L.calls link.old))) (at_peer peer (kept_with held (Some (record { session = s; next_id = self.old.next_id }))) edge (L.calls link.old) out.old)
+            ≡ record { work = at_peer peer (kept_with held (Some (record { session = having_put taken s; next_id = self.new.next_id }))) edge (L.calls link.new) out.new; failed = not taken }) }
+    {
+        if !put_bytes(peer, octets.as_slice(), link)? {
+            return Ok(false);
+        }
+        out.push(Effect::Said {
+            peer,
+            bytes: octets,
+        })?;
+        self.next_id = following(self.next_id);
+        Ok(true)
+    }
+
+    // The octets of a reply, in a PDU of its own.
+    fn octets_of(&self, alloc: Global, reply: Reply) -> Result<Octets, NoMemory>
+        requires { HasData reply }
+        ensures { IfOk result (λ octets. octets ≡ written (message_of reply self.now.next_id self.now.peers) (platform_of self.now.peers.me)) }
+    {
+        let message = reply.message(self.next_id, &self.peers);
+        let mut out = [0u8; LONGEST];
+        encoded(alloc, &message, platform_of(self.peers.me), &mut out)
+    }
+
+    // The octets of a message about a pseudowire, in a PDU of its own.
+    fn message_octets_of(&self, alloc: Global, message: &PwMessage<'_>) -> Result<Octets, NoMemory>
+        requires { CanBeSaid message.now }
+        ensures { IfOk result (λ octets. octets ≡ written (numbered message.now self.now.next_id) (platform_of self.now.peers.me)) }
+    {
+        let message = message.with_id(alloc, self.next_id)?;
+        let mut out = [0u8; LONGEST];
+        encoded(alloc, &message, platform_of(self.peers.me), &mut out)
+    }
+}
+
+// The octets of a message, in a PDU of its own; `out` has room for them.
+#[tactic(auto, using(crate::proofs::SpeakerLemmas::front_is))]
+fn encoded(alloc: Global, message: &Message, id: LdpId, out: &mut [u8]) -> Result<Octets, NoMemory>
+    requires writable { writable message.now ≡ true }
+    requires short { 6 + length (message_octets message.now) ≤ 256 }
+    requires room { 260 ≤ length out.old }
+    ensures { IfOk result (λ octets. octets ≡ written message.now id) }
+{
+    let count = encode_into(message, id, out);
+    let (octets, _) = out.split_at(count);
+    List::from_bytes(alloc, octets)
+}
+
+// Puts octets, and answers whether the link took them.
+fn put_bytes<L: Link>(peer: EdgeId, bytes: &[u8], link: &mut L) -> Result<bool, NoMemory>
+    ensures called { IfOk result (λ taken. L.calls link.new ≡ L.calls link.old ++ record { peer = peer; packet = false; bytes = bytes.now; taken = taken } ∷ []) }
+    ensures calls { GoesOn (L.calls link.old) (L.calls link.new) }
+{
+    match link.put(peer, bytes) {
+        Ok(()) => Ok(true),
+        Err(LinkStop::Failed) => Ok(false),
+        Err(LinkStop::NoMemory) => Err(NoMemory),
+    }
+}
+
+// The platform's label space of a router (RFC 5036 section 2.2.2).
+fn platform_of(router: Addr) -> LdpId
+    ensures { result ≡ platform_of router }
+{
+    LdpId { router, space: 0 }
+}
+
+// The number behind a message's number (RFC 5036 section 3.5).
+fn following(id: u32) -> u32
+    ensures { result ≡ following id }
+{
+    if id == u32::MAX { 0 } else { id + 1 }
+}

@@ -1,0 +1,57 @@
+//! What an end should tell.
+ghost use Rattle.std.specs.Prelude.{◌≡◌, ◌≤◌, true, Some, None, option_copied, IfSome, if◌then◌else◌};
+ghost use Rattle.net_base.specs.plan.Accepted.{IsOffer};
+ghost use Rattle.pw_tlvs.specs.Written.{has_vlan};
+ghost use Rattle.pw_status.specs.Status.{method_by};
+ghost use Rattle.edge_model.specs.Mend.{status_held, tells_status};
+ghost use Rattle.peer_dialogue.specs.Wish.{wish_by};
+
+use crate::content::content_of;
+use net_base::Offer;
+use pw_signalling::{Binding, Told};
+use pw_status::{Method, method_of};
+use pw_tlvs::PwStatus;
+
+/// What a terminal end with this offer and these failure bits should tell, where its wire is on and its session is up: the
+/// offer, with this status where the offer tells one; nothing where the end has failure bits and tells them by a withdrawal,
+/// since one of the two ends tells no status (RFC 8077 section 6.3.3). `remote` is the binding that the end holds.
+pub fn terminal_wish(
+    offer: &Offer,
+    remote: Option<&Binding>,
+    bits: u8,
+    status: PwStatus,
+) -> Option<Told>
+    ensures wish { result ≡ wish_by offer.now (option_copied remote.entry) bits status }
+    ensures kind { IfSome result (λ told. told.kind ≤ 0x7FFF) }
+    ensures vlan { IsOffer offer.now → IfSome result (λ told. has_vlan told.vlan ≡ true) }
+{
+    if tells_status(offer, remote) || bits == 0 {
+        Some(content_of(offer, status_offered(offer, status)))
+    } else {
+        None
+    }
+}
+
+// Whether the end tells its peer of failures by a status.
+fn tells_status(offer: &Offer, remote: Option<&Binding>) -> bool
+    ensures { result ≡ tells_status (method_by offer.now.status (status_held (option_copied remote.entry))) }
+{
+    matches!(method_of(offer.status, status_held(remote)), Method::Told)
+}
+
+// The status of a binding, where one is held.
+fn status_held(remote: Option<&Binding>) -> Option<Option<PwStatus>>
+    ensures { result ≡ status_held (option_copied remote.entry) }
+{
+    match remote {
+        Some(binding) => Some(binding.told.status),
+        None => None,
+    }
+}
+
+// The status, where the offer tells one.
+fn status_offered(offer: &Offer, status: PwStatus) -> Option<PwStatus>
+    ensures { result ≡ (if offer.now.status then Some status else None) }
+{
+    if offer.status { Some(status) } else { None }
+}

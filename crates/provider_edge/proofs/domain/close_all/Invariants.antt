@@ -1,5 +1,0 @@
-use Rattle.provider_edge.proofs.DomainLemmas.{AreClosedTo}
-use Rattle.provider_edge.proofs.domain.close_all.Given as goal
-
-abbrev pub invariant-loop-kept : goal.invariant-loop-kept
-invariant-loop-kept l = AreClosedTo l.fn.domains.items l.kept-items l.kept-index

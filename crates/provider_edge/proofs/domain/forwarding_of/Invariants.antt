@@ -1,7 +1,0 @@
-use Rattle.std.proofs.Common.{◌≡◌, ◌&&◌, nat_lt, ℕ}
-use Rattle.hvpls_spokes.specs.PortSet.{has}
-use Rattle.provider_edge.specs.Domain.{all_on, nothing_told, port_opens}
-use Rattle.provider_edge.proofs.domain.forwarding_of.Given as goal
-
-abbrev pub invariant-loop-port : goal.invariant-loop-port
-invariant-loop-port l = (p : ℕ) → has l.forwarding p ≡ (nat_lt p l.port && port_opens all_on nothing_told l.ports p)
