@@ -11,6 +11,8 @@ mod pdus;
 #[cfg(test)]
 mod pw_ends;
 #[cfg(test)]
+mod scripts;
+#[cfg(test)]
 mod sessions;
 #[cfg(test)]
 mod spokes;
@@ -22,3 +24,5 @@ mod streams;
 mod tables;
 #[cfg(test)]
 mod values;
+#[cfg(test)]
+mod words;

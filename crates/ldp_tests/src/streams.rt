@@ -1,235 +1,227 @@
 //! Streams of octets that were worked out by hand, in pieces and whole.
+ghost use Rattle.std.specs.Prelude.{◌≤◌};
 
 use crate::hex::octets_of;
-use ldp_codec::DecodeFault;
-use ldp_grammar::{Message, Pdu};
+use crate::scripts::{event_of, number};
+use crate::words::is_told;
 use ldp_stream::{Stream, StreamFault};
 use net_base::NoMemory;
 use std::alloc::Global;
 use std::process::Abort;
 
-// KeepAlive, Message ID 1, of 10.0.0.1:0, and its first 10 octets and the others.
-const KEEP_ALIVE: &str = "0001000e0a0000010000 0201000400000001";
+// What the stream answers next has these words.
+fn is_next(rt: &impl Abort, alloc: Global, stream: &mut Stream, words: &str) {
+    let next = stream.next(alloc);
+    is_told(rt, alloc, &next, words);
+}
 
-const FRONT: &str = "0001000e0a0000010000";
+// Octets come; how many are taken.
+fn feed(rt: &impl Abort, alloc: Global, stream: &mut Stream, digits: &str) -> usize {
+    let octets = octets_of(rt, alloc, digits);
+    stream.feed(octets.as_slice())
+}
 
-const BACK: &str = "0201000400000001";
+// Zeros come, at most 4095; how many are taken.
+fn feed_zeros(stream: &mut Stream, count: usize) -> usize {
+    let zeros = [0u8; 4095];
+    let (zeros, _) = zeros.split_at(count.min(4095));
+    stream.feed(zeros)
+}
+
+// A PDU Length may be no more than this.
+fn limit(rt: &impl Abort, stream: &mut Stream, max: usize) -> usize {
+    assert!(rt; 256 <= max && max <= 4096);
+    stream.set_max(max as u16);
+    max
+}
+
+// The number that comes of a step: of octets (`feed`) or of so many `zeros`, those that are taken; the `max` of a PDU Length; and else
+// how many octets are held.
+fn count_of(rt: &impl Abort, alloc: Global, stream: &mut Stream, letter: u8, more: &str) -> usize {
+    match letter {
+        b'f' => feed(rt, alloc, stream, more),
+        b'z' => feed_zeros(stream, number(rt, more)),
+        b'm' => limit(rt, stream, number(rt, more)),
+        _ => stream.held(),
+    }
+}
+
+// Octets come one by one, and each is taken. Before it the next PDU has these words.
+fn feed_singly(rt: &impl Abort, alloc: Global, stream: &mut Stream, octets: &[u8], words: &str) {
+    for octet in octets {
+        is_next(rt, alloc, stream, words);
+        assert_eq!(rt; stream.feed(&[*octet]), 1);
+    }
+}
+
+fn comes_singly(rt: &impl Abort, alloc: Global, stream: &mut Stream, digits: &str, words: &str) {
+    let octets = octets_of(rt, alloc, digits);
+    feed_singly(rt, alloc, stream, octets.as_slice(), words);
+}
+
+// A number comes of a step.
+fn counts(rt: &impl Abort, alloc: Global, stream: &mut Stream, step: &str, want: &str) {
+    let (letter, more) = event_of(rt, step);
+    let count = count_of(rt, alloc, stream, letter, more);
+    assert!(rt; count == number(rt, want), "{step} = {want}");
+}
+
+// A step comes to what stands behind it: the words of the `next` PDU, those of the next PDU while octets come `singly`, or a
+// number.
+fn take(rt: &impl Abort, alloc: Global, stream: &mut Stream, step: &str, want: &str) {
+    let (letter, more) = event_of(rt, step);
+    match letter {
+        b'n' => is_next(rt, alloc, stream, want),
+        b's' => comes_singly(rt, alloc, stream, more, want),
+        _ => counts(rt, alloc, stream, step, want),
+    }
+}
+
+// A stream takes the step of a line, where it is a row; how many rows it is.
+fn read_line(rt: &impl Abort, alloc: Global, stream: &mut Stream, line: &str) -> usize {
+    match line.split_once("= ") {
+        Some((step, want)) => {
+            take(rt, alloc, stream, step.trim(), want);
+            1
+        }
+        None => 0,
+    }
+}
+
+// A stream takes the steps of a script; how many they are.
+fn play(rt: &impl Abort, alloc: Global, stream: &mut Stream, script: &str) -> usize {
+    let mut rows: usize = 0;
+    for line in script.lines() {
+        rows = rows.saturating_add(read_line(rt, alloc, stream, line));
+    }
+    rows
+}
+
+// A new stream takes the steps of a script; how many they are.
+fn play_anew(rt: &impl Abort, alloc: Global, script: &str) -> usize {
+    let mut stream = Stream::new(alloc).expect(rt, "memory");
+    play(rt, alloc, &mut stream, script)
+}
+
+// A new stream takes the steps of each part of a script; they are so many.
+fn plays(rt: &impl Abort, alloc: Global, script: &str, count: usize) {
+    let mut rows: usize = 0;
+    for part in script.split("\n\n") {
+        rows = rows.saturating_add(play_anew(rt, alloc, part));
+    }
+    assert_eq!(rt; rows, count);
+}
+
+// Octets are refused with the fault at the place 0 as soon as the last of them is held, and from then on.
+const PIECES: &str = "
+    One PDU, octet by octet.
+    singly 0001000e0a0000010000 0201000400000001 = Ok(None)
+    held = 18
+    next = Ok(Some(Pdu { id: LdpId { router: Addr([10, 0, 0, 1]), space: 0 }, messages: List { items: [KeepAlive { id: 1 }] } }))
+    held = 0
+    next = Ok(None)
+
+    The maximum falls below the PDU Length.
+    feed 00010101 = 4
+    next = Ok(None)
+    max 257 = 257
+    next = Ok(None)
+    max 256 = 256
+    next = Err(Refused { base: 0, fault: PduLength { at: 2 } })
+
+    The longest PDU, whose first message has the length 0.
+    feed 00011000 = 4
+    zeros 4095 = 4095
+    held = 4099
+    next = Ok(None)
+    zeros 3 = 1
+    zeros 3 = 0
+    held = 4100
+    next = Err(Refused { base: 0, fault: MessageLength { at: 12 } })
+
+    Another version.
+    singly 0002 = Ok(None)
+    next = Err(Refused { base: 0, fault: Version { at: 0 } })
+    feed 0001000e0a0000010000 0201000400000001 = 0
+    held = 2
+    next = Err(Refused { base: 0, fault: Version { at: 0 } })
+
+    A PDU Length below 14.
+    singly 0001000d = Ok(None)
+    next = Err(Refused { base: 0, fault: PduLength { at: 2 } })
+    feed 0001000e0a0000010000 0201000400000001 = 0
+    held = 4
+    next = Err(Refused { base: 0, fault: PduLength { at: 2 } })
+
+    A PDU Length of 4097.
+    singly 00011001 = Ok(None)
+    next = Err(Refused { base: 0, fault: PduLength { at: 2 } })
+    feed 0001000e0a0000010000 0201000400000001 = 0
+    held = 4
+    next = Err(Refused { base: 0, fault: PduLength { at: 2 } })
+
+    Message Length 3.
+    singly 0001000e0a0000010000 0201000300000001 = Ok(None)
+    next = Err(Refused { base: 0, fault: MessageLength { at: 12 } })
+    feed 0001000e0a0000010000 0201000400000001 = 0
+    held = 18
+    next = Err(Refused { base: 0, fault: MessageLength { at: 12 } })
+";
+
+#[test]
+fn answers_and_refuses_pieces(rt: HostRuntime) {
+    plays(&rt, rt.alloc(), PIECES, 39);
+}
 
 // KeepAlive with the Message ID 1, and one with an unknown TLV and the Message ID 2.
 const TWO: &str =
     "0001000e0a0000010000 0201000400000001 000100120a0000010000 0201000800000002 bf000000";
 
-// What is done with a stream, or found of it.
-#[derive(Clone, Copy)]
-enum Step {
-    // Octets come, of which so many are taken; zeros come, of which so many are taken.
-    Feed(&'static str, usize),
-    Zeros(usize, usize),
-    // Octets come one by one; before each there is no PDU.
-    Singly(&'static str),
-    // A PDU Length may be no more than this.
-    Max(u16),
-    // So many octets are held.
-    Held(usize),
-    // The next PDU is a KeepAlive with this Message ID; there is none; it is refused at a place of the stream.
-    KeepAlive(u32),
-    Nothing,
-    Refused(u64, DecodeFault),
-}
-
-// The Message ID of a PDU that is one KeepAlive; 0 of another one.
-fn keep_alive_of(pdu: &Pdu) -> u32 {
-    match (pdu.messages.get(0), pdu.messages.len()) {
-        (Some(Message::KeepAlive { id }), 1) => *id,
-        _ => 0,
-    }
-}
-
-// The next PDU, by its Message ID.
-fn next_of(alloc: Global, stream: &mut Stream) -> Result<Option<u32>, StreamFault> {
-    match stream.next(alloc) {
-        Ok(Some(pdu)) => Ok(Some(keep_alive_of(&pdu))),
-        Ok(None) => Ok(None),
-        Err(fault) => Err(fault),
-    }
-}
-
-// The next PDU is a KeepAlive with this Message ID, or there is none.
-fn gives(rt: &impl Abort, alloc: Global, stream: &mut Stream, id: Option<u32>) {
-    assert!(rt; next_of(alloc, stream) == Ok(id));
-}
-
-// The next PDU is refused at a place of the stream.
-fn refuses(rt: &impl Abort, alloc: Global, stream: &mut Stream, base: u64, fault: DecodeFault) {
-    let refused = StreamFault::Refused { base, fault };
-    assert!(rt; next_of(alloc, stream) == Err(refused));
-}
-
-// Octets come, of which so many are taken.
-fn feeds(rt: &impl Abort, alloc: Global, stream: &mut Stream, text: &str, taken: usize) {
-    let octets = octets_of(rt, alloc, text);
-    assert_eq!(rt; stream.feed(octets.as_slice()), taken);
-}
-
-// Zeros come, at most 4095, of which so many are taken.
-fn feeds_zeros(rt: &impl Abort, stream: &mut Stream, count: usize, taken: usize) {
-    let zeros = [0u8; 4095];
-    let (zeros, _) = zeros.split_at(count.min(4095));
-    assert_eq!(rt; stream.feed(zeros), taken);
-}
-
-// Octets come one by one; before each there is no PDU.
-fn feeds_singly(rt: &impl Abort, alloc: Global, stream: &mut Stream, text: &str) {
-    let octets = octets_of(rt, alloc, text);
-    for octet in octets.as_slice() {
-        gives(rt, alloc, stream, None);
-        assert_eq!(rt; stream.feed(&[*octet]), 1);
-    }
-}
-
-// A PDU Length may be no more than this.
-fn limits(rt: &impl Abort, stream: &mut Stream, max: u16) {
-    assert!(rt; 256 <= max && max <= 4096);
-    stream.set_max(max);
-}
-
-// Octets come, or the maximum is set; answers whether the step is such.
-fn took(rt: &impl Abort, alloc: Global, stream: &mut Stream, step: Step) -> bool {
-    match step {
-        Step::Feed(text, taken) => feeds(rt, alloc, stream, text, taken),
-        Step::Zeros(count, taken) => feeds_zeros(rt, stream, count, taken),
-        Step::Singly(text) => feeds_singly(rt, alloc, stream, text),
-        Step::Max(max) => limits(rt, stream, max),
-        _ => return false,
-    }
-    true
-}
-
-// The stream answers what the step says; whether the step says what it answers.
-fn answers(rt: &impl Abort, alloc: Global, stream: &mut Stream, step: Step) -> bool {
-    match step {
-        Step::Held(count) => assert_eq!(rt; stream.held(), count),
-        Step::KeepAlive(id) => gives(rt, alloc, stream, Some(id)),
-        Step::Nothing => gives(rt, alloc, stream, None),
-        Step::Refused(base, fault) => refuses(rt, alloc, stream, base, fault),
-        _ => return false,
-    }
-    true
-}
-
-// A stream takes steps.
-fn play(rt: &impl Abort, alloc: Global, stream: &mut Stream, steps: &[Step]) {
-    for step in steps {
-        assert!(rt; took(rt, alloc, stream, *step) || answers(rt, alloc, stream, *step));
-    }
-}
-
-// A new stream takes steps.
-fn plays(rt: &impl Abort, alloc: Global, steps: &[Step]) {
-    let mut stream = Stream::new(alloc).expect(rt, "memory");
-    play(rt, alloc, &mut stream, steps);
-}
-
-const ANSWERS: [Step; 5] = [
-    Step::Singly(KEEP_ALIVE),
-    Step::Held(18),
-    Step::KeepAlive(1),
-    Step::Held(0),
-    Step::Nothing,
+// The words of these two.
+const PDUS: [&str; 2] = [
+    "Ok(Some(Pdu { id: LdpId { router: Addr([10, 0, 0, 1]), space: 0 }, messages: List { items: [KeepAlive { id: 1 }] } }))",
+    "Ok(Some(Pdu { id: LdpId { router: Addr([10, 0, 0, 1]), space: 0 }, messages: List { items: [KeepAlive { id: 2 }] } }))",
 ];
 
-const AT_VERSION: DecodeFault = DecodeFault::Version { at: 0 };
-
-const AT_LENGTH: DecodeFault = DecodeFault::PduLength { at: 2 };
-
-// The first message has a wrong length.
-const AT_MESSAGE: DecodeFault = DecodeFault::MessageLength { at: 12 };
-
-// So many octets are refused with the fault at the place 0 as soon as the last of them is held, and from then on.
-fn refuses_with_the_last(
-    rt: &impl Abort,
-    alloc: Global,
-    text: &'static str,
-    len: usize,
-    fault: DecodeFault,
-) {
-    let steps = [
-        Step::Singly(text),
-        Step::Refused(0, fault),
-        Step::Feed(KEEP_ALIVE, 0),
-        Step::Held(len),
-        Step::Refused(0, fault),
-    ];
-    plays(rt, alloc, steps.as_slice());
-}
-
-#[test]
-fn refuses_at_once_and_for_good(rt: HostRuntime) {
-    let alloc = rt.alloc();
-    // Another version.
-    refuses_with_the_last(&rt, alloc, "0002", 2, AT_VERSION);
-    // A PDU Length below 14.
-    refuses_with_the_last(&rt, alloc, "0001000d", 4, AT_LENGTH);
-    // A PDU Length of 4097.
-    refuses_with_the_last(&rt, alloc, "00011001", 4, AT_LENGTH);
-    // Message Length 3.
-    let message = "0001000e0a0000010000 0201000300000001";
-    refuses_with_the_last(&rt, alloc, message, 18, AT_MESSAGE);
-}
-
-const KEEPS_TO_ITS_MAXIMUM: [Step; 6] = [
-    Step::Feed("00010101", 4),
-    Step::Nothing,
-    Step::Max(257),
-    Step::Nothing,
-    Step::Max(256),
-    Step::Refused(0, AT_LENGTH),
-];
-
-// The next PDUs are the KeepAlives with these Message IDs, and then there is none.
-fn gives_all(rt: &impl Abort, alloc: Global, stream: &mut Stream, first: u32, end: u32) {
-    for id in first..end {
-        gives(rt, alloc, stream, Some(id));
-    }
-    gives(rt, alloc, stream, None);
-}
-
-// Octets come, and all are taken; the next PDUs are then these.
-fn goes_on(
-    rt: &impl Abort,
-    alloc: Global,
-    stream: &mut Stream,
-    octets: &[u8],
-    first: u32,
-    end: u32,
-) {
-    assert_eq!(rt; stream.feed(octets), octets.len());
-    gives_all(rt, alloc, stream, first, end);
-}
-
-// The number of the PDU that does not end within so many octets of the two.
-fn end_within(count: usize) -> u32 {
+// How many of the two PDUs end within so many octets.
+fn ended_within(count: usize) -> usize
+    ensures { result ≤ 2 }
+{
     match count {
-        0..18 => 1,
-        18..40 => 2,
-        _ => 3,
+        0..18 => 0,
+        18..40 => 1,
+        _ => 2,
     }
+}
+
+// Octets come, and all are taken; the next PDUs have then these words, and then there is none.
+fn goes_on(rt: &impl Abort, alloc: Global, stream: &mut Stream, octets: &[u8], pdus: &[&str]) {
+    assert_eq!(rt; stream.feed(octets), octets.len());
+    for words in pdus {
+        is_next(rt, alloc, stream, words);
+    }
+    is_next(rt, alloc, stream, "Ok(None)");
 }
 
 // Two PDUs that come in these two pieces.
-fn is_cut(rt: &impl Abort, alloc: Global, front: &[u8], back: &[u8]) {
-    let end = end_within(front.len());
-    let mut stream = Stream::new(alloc).expect(rt, "memory");
-    goes_on(rt, alloc, &mut stream, front, 1, end);
-    goes_on(rt, alloc, &mut stream, back, end, 3);
+fn takes(rt: &impl Abort, alloc: Global, stream: &mut Stream, front: &[u8], back: &[u8]) {
+    let (first, second) = PDUS.split_at(ended_within(front.len()));
+    goes_on(rt, alloc, stream, front, first);
+    goes_on(rt, alloc, stream, back, second);
     assert_eq!(rt; stream.held(), 0);
+}
+
+// Octets that are cut at a place.
+fn is_cut(rt: &impl Abort, alloc: Global, octets: &[u8], at: usize) {
+    let (front, back) = octets.split_at(at.min(octets.len()));
+    let mut stream = Stream::new(alloc).expect(rt, "memory");
+    takes(rt, alloc, &mut stream, front, back);
 }
 
 // Octets that are cut at each place.
 fn is_cut_at_each(rt: &impl Abort, alloc: Global, octets: &[u8]) {
     for at in 0..41 {
-        let (front, back) = octets.split_at(at.min(octets.len()));
-        is_cut(rt, alloc, front, back);
+        is_cut(rt, alloc, octets, at);
     }
 }
 
@@ -240,52 +232,47 @@ fn answers_the_same_of_each_cut(rt: HostRuntime) {
     is_cut_at_each(&rt, rt.alloc(), octets.as_slice());
 }
 
-const LONGEST: [Step; 8] = [
-    Step::Feed("00011000", 4),
-    Step::Zeros(4095, 4095),
-    Step::Held(4099),
-    Step::Nothing,
-    Step::Zeros(3, 1),
-    Step::Zeros(3, 0),
-    Step::Held(4100),
-    // The first message has the length 0.
-    Step::Refused(0, AT_MESSAGE),
-];
+// The first octets of a PDU.
+const FRONT: &str = "    feed 0001000e0a0000010000 = 10";
 
-const EACH_PDU: [Step; 4] = [
-    Step::Feed(BACK, 8),
-    Step::Feed(FRONT, 10),
-    Step::KeepAlive(1),
-    Step::Nothing,
-];
+// The others, and the first octets of the next.
+const EACH_PDU: &str = "
+    feed 0201000400000001 = 8
+    feed 0001000e0a0000010000 = 10
+    next = Ok(Some(Pdu { id: LdpId { router: Addr([10, 0, 0, 1]), space: 0 }, messages: List { items: [KeepAlive { id: 1 }] } }))
+    next = Ok(None)
+";
 
 // 501 PDUs of 18 octets stood before.
-const LAST_PDU: [Step; 4] = [
-    Step::Feed(BACK, 8),
-    Step::KeepAlive(1),
-    Step::Feed("0002", 2),
-    Step::Refused(9018, AT_VERSION),
-];
+const LAST_PDU: &str = "
+    feed 0201000400000001 = 8
+    next = Ok(Some(Pdu { id: LdpId { router: Addr([10, 0, 0, 1]), space: 0 }, messages: List { items: [KeepAlive { id: 1 }] } }))
+    feed 0002 = 2
+    next = Err(Refused { base: 9018, fault: Version { at: 0 } })
+";
+
+// All steps of a script, which are so many, are taken.
+fn goes_through(rt: &impl Abort, alloc: Global, stream: &mut Stream, script: &str, count: usize) {
+    let rows = play(rt, alloc, stream, script);
+    assert!(rt; rows == count);
+}
+
+// The front of a PDU, 500 times the rest of one and the front of the next, and a PDU that is refused.
+fn goes_past_its_room(rt: &impl Abort, alloc: Global, stream: &mut Stream) {
+    goes_through(rt, alloc, stream, FRONT, 1);
+    for _pdu in 0..500 {
+        goes_through(rt, alloc, stream, EACH_PDU, 4);
+    }
+    goes_through(rt, alloc, stream, LAST_PDU, 4);
+}
 
 #[test]
 fn goes_on_past_its_room(rt: HostRuntime) {
-    let alloc = rt.alloc();
-    let mut stream = Stream::new(alloc).expect(&rt, "memory");
-    feeds(&rt, alloc, &mut stream, FRONT, 10);
-    for _pdu in 0..500 {
-        play(&rt, alloc, &mut stream, EACH_PDU.as_slice());
-    }
-    play(&rt, alloc, &mut stream, LAST_PDU.as_slice());
+    let mut stream = Stream::new(rt.alloc()).expect(&rt, "memory");
+    goes_past_its_room(&rt, rt.alloc(), &mut stream);
 }
 
 #[test]
 fn tells_want_of_memory_by_itself(rt: HostRuntime) {
     assert!(rt; StreamFault::from(NoMemory) == StreamFault::NoMemory);
-}
-
-#[test]
-fn answers_pieces(rt: HostRuntime) {
-    plays(&rt, rt.alloc(), ANSWERS.as_slice());
-    plays(&rt, rt.alloc(), KEEPS_TO_ITS_MAXIMUM.as_slice());
-    plays(&rt, rt.alloc(), LONGEST.as_slice());
 }

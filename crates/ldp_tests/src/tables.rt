@@ -1,8 +1,8 @@
 //! Tables of rows: each has octets, and behind `= ` what they come to. Other lines are words for a reader.
 
+use crate::hex::octets_of;
 use crate::pdus::rows as pdus;
-use crate::sessions::rows as sessions;
-use crate::values::faults as values;
+use crate::values;
 use std::alloc::Global;
 use std::process::Abort;
 
@@ -14,36 +14,36 @@ pub enum About {
     Pdus,
     BothWays,
     OneWay,
-    /// Sessions in their states: what octets bring about.
-    Sessions,
-    /// FECs and switching points: their faults.
+    /// FECs; the written ones are also written as these octets.
     Fecs,
+    WrittenFecs,
+    /// Switching points, statuses and lists of MAC addresses, which are also written as these octets.
     Points,
+    Statuses,
+    Macs,
 }
 
-// The row agrees.
-fn agrees(rt: &impl Abort, alloc: Global, about: About, row: &str, text: &str) {
+// The octets of a row agree.
+fn agrees(rt: &impl Abort, alloc: Global, about: About, octets: &[u8], words: &str) {
     match about {
-        About::Pdus => pdus::agrees(rt, alloc, row, text),
-        About::BothWays => {
-            pdus::agrees(rt, alloc, row, text);
-            pdus::goes_back(rt, alloc, row);
+        About::Pdus | About::BothWays | About::OneWay => {
+            pdus::agrees(rt, alloc, about, octets, words)
         }
-        About::OneWay => {
-            pdus::agrees(rt, alloc, row, text);
-            pdus::cannot_go_back(rt, alloc, row);
-        }
-        About::Sessions => sessions::agrees(rt, alloc, row, text),
-        About::Fecs => values::refuses_fec(rt, alloc, row, text),
-        About::Points => values::refuses_point(rt, alloc, row, text),
+        _ => values::agrees(rt, alloc, about, octets, words),
     }
+}
+
+// The digits of a row are octets that agree.
+fn reads_row(rt: &impl Abort, alloc: Global, about: About, digits: &str, words: &str) {
+    let octets = octets_of(rt, alloc, digits);
+    agrees(rt, alloc, about, octets.as_slice(), words);
 }
 
 // A line agrees where it is a row; how many rows it is.
 fn reads_line(rt: &impl Abort, alloc: Global, about: About, line: &str) -> usize {
     match line.split_once("= ") {
-        Some((row, text)) => {
-            agrees(rt, alloc, about, row.trim(), text);
+        Some((digits, words)) => {
+            reads_row(rt, alloc, about, digits, words);
             1
         }
         None => 0,

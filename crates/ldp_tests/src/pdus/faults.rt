@@ -1,12 +1,11 @@
 //! One PDU for each fault, with its place and its field.
 
 use crate::tables::{About, reads_as};
+use crate::words::says;
 use ldp_codec::{DecodeFault, decode_pdu};
 use net_base::Field;
-use std::alloc::Global;
-use std::process::Abort;
 
-// Faults of headers, messages and TLVs.
+// Faults of headers, messages and TLVs, and then of pseudowires.
 const FAULTS: &str = "
     No octets.
     = PduLength { at: 2 }
@@ -64,10 +63,7 @@ const FAULTS: &str = "
     000100200a0000010000 0001001600000001 0300000a 00000000000000000000 0300000a = Repeated { at: 32, field: Status }
     A fault in the second message.
     0001001a0a0000010000 0201000400000001 0201000800000002 3f000001 = TlvLength { at: 28 }
-";
-
-// Faults of a FEC.
-const FEC_FAULTS: &str = "
+    Faults of a FEC.
     A FEC without octets.
     000100120a0000010000 0402000800000004 01000000 = TlvValue { at: 20, field: Fec }
     A PWid element of 7 octets.
@@ -100,10 +96,7 @@ const FEC_FAULTS: &str = "
     000100260a0000010000 0402001c00000004 01000014 8000050c 00000000 00000064 0604000106040001 = Repeated { at: 38, field: Vlan }
     A second time VCCV types.
     000100260a0000010000 0402001c00000004 01000014 8000050c 00000000 00000064 0c0401020c040102 = Repeated { at: 38, field: Vccv }
-";
-
-// Faults of the other TLVs of pseudowires.
-const PSEUDOWIRE_FAULTS: &str = "
+    Faults of the other TLVs of pseudowires.
     A label of 3 octets.
     000100210a0000010000 0402001700000004 01000008 8080050000000007 02000003 000010 = TlvValue { at: 32, field: Label }
     The label 15.
@@ -153,24 +146,16 @@ fn keeps_to_the_maximum(rt: HostRuntime) {
     assert!(rt; fault == Some(DecodeFault::PduLength { at: 2 }));
 }
 
-// The words of a fault.
-fn says(rt: &impl Abort, alloc: Global, fault: DecodeFault, words: &str) {
-    let told = format!(in alloc; "{fault}").expect(rt, "memory");
-    assert_eq!(rt; told.as_str(), words);
-}
-
 #[test]
 fn tells_a_fault_in_words(rt: HostRuntime) {
     let fault = DecodeFault::Repeated {
         at: 32,
         field: Field::Status,
     };
-    says(&rt, rt.alloc(), fault, "a repeated TLV or part at 32");
+    says(&rt, rt.alloc(), &fault, "a repeated TLV or part at 32");
 }
 
 #[test]
 fn names_the_first_fault(rt: HostRuntime) {
-    reads_as(&rt, rt.alloc(), About::Pdus, FAULTS, 28);
-    reads_as(&rt, rt.alloc(), About::Pdus, FEC_FAULTS, 16);
-    reads_as(&rt, rt.alloc(), About::Pdus, PSEUDOWIRE_FAULTS, 20);
+    reads_as(&rt, rt.alloc(), About::Pdus, FAULTS, 64);
 }

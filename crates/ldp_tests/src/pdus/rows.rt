@@ -2,10 +2,11 @@
 ghost use Rattle.std.specs.Prelude.{◌≡◌, ◌≤◌, ◌<◌, length, true};
 ghost use Rattle.ldp_grammar.specs.Written.{address_octets, list_length, mac_count, macs_length, message_octets, writable};
 
-use crate::hex::octets_of;
+use crate::tables::About;
+use crate::words::{is_front, is_told};
 use ldp_codec::{decode_pdu, encode_into};
 use ldp_grammar::{AddressList, LdpId, Message, Pdu, is_writable, message_size};
-use net_base::{Addr, List, Mac, Text};
+use net_base::{Addr, List, Mac};
 use std::alloc::Global;
 use std::process::Abort;
 
@@ -16,45 +17,10 @@ const SENDER: LdpId = LdpId {
 };
 
 // The message that stands alone in a PDU.
-fn only_message<'a>(rt: &impl Abort, pdu: &'a Pdu) -> &'a Message {
-    assert_eq!(rt; pdu.messages.len(), 1);
-    pdu.messages.get(0).expect(rt, "a message")
-}
-
-// The message that stands alone in a PDU, behind its sender where that is not 10.0.0.1:0, in the words of its type.
-fn words_of(rt: &impl Abort, alloc: Global, pdu: &Pdu) -> String {
-    let message = only_message(rt, pdu);
-    let sender = pdu.id;
-    let words = if sender == SENDER {
-        format!(in alloc; "{message:?}")
-    } else {
-        format!(in alloc; "{sender:?} {message:?}")
-    };
-    words.expect(rt, "memory")
-}
-
-// The message that the octets spell alone, or the first fault, in the words of its type.
-fn told(rt: &impl Abort, alloc: Global, octets: &[u8]) -> String {
-    match decode_pdu(alloc, octets, 4096) {
-        Ok(pdu) => words_of(rt, alloc, &pdu),
-        Err(fault) => format!(in alloc; "{fault:?}").expect(rt, "memory"),
-    }
-}
-
-// The words of an empty description.
-fn empty_text(rt: &impl Abort, alloc: Global) -> String {
-    let empty: Text<80> = Text::read(&[]).expect(rt, "a text");
-    format!(in alloc; "{empty:?}").expect(rt, "memory")
-}
-
-// These are the words of a row, where `no text` stands for the words of an empty description.
-fn are_words(rt: &impl Abort, alloc: Global, told: &str, words: &str) {
-    match words.split_once("no text") {
-        Some((front, back)) => {
-            let empty = empty_text(rt, alloc);
-            assert!(rt; told.split_once(empty.as_str()) == Some((front, back)));
-        }
-        None => assert_eq!(rt; told, words),
+fn only_message(pdu: &Pdu) -> Option<&Message> {
+    match pdu.messages.as_slice() {
+        [message] => Some(message),
+        _ => None,
     }
 }
 
@@ -106,38 +72,39 @@ fn size_of(rt: &impl Abort, message: &Message) -> usize
     size
 }
 
-// These octets stand in front, and the octet behind them is 0xee.
-fn is_front(out: &[u8], octets: &[u8]) -> bool {
-    let (front, rest) = out.split_at(octets.len().min(out.len()));
-    front == octets && rest.first() == Some(&0xee)
-}
-
-// The message is written as these octets, and the octet behind them stays.
+// The message is written as these octets, and those behind them stay.
 fn is_written(rt: &impl Abort, message: &Message, octets: &[u8]) {
     let mut out = [0xeeu8; 96];
     let size = size_of(rt, message);
-    assert_eq!(rt; encode_into(message, SENDER, &mut out), 10 + size);
-    assert_eq!(rt; octets.len(), 10 + size);
+    let count = encode_into(message, SENDER, &mut out);
+    assert!(rt; count == 10 + size && octets.len() == count);
     assert!(rt; is_front(&out, octets));
 }
 
-/// A row has octets, and the message or the fault that they come to, in the words of its type.
-pub fn agrees(rt: &impl Abort, alloc: Global, digits: &str, words: &str) {
-    let octets = octets_of(rt, alloc, digits);
-    let told = told(rt, alloc, octets.as_slice());
-    are_words(rt, alloc, told.as_str(), words);
+// The message is written as these octets again, or cannot be written.
+fn goes_back(rt: &impl Abort, about: About, message: &Message, octets: &[u8]) {
+    match about {
+        About::BothWays => is_written(rt, message, octets),
+        About::OneWay => assert!(rt; !is_writable(message)),
+        _ => {}
+    }
 }
 
-/// The message that the octets of a row spell is written as these octets again.
-pub fn goes_back(rt: &impl Abort, alloc: Global, digits: &str) {
-    let octets = octets_of(rt, alloc, digits);
-    let pdu = decode_pdu(alloc, octets.as_slice(), 4096).expect(rt, "a PDU");
-    is_written(rt, only_message(rt, &pdu), octets.as_slice());
+// The message of a PDU has these words; where its sender is not 10.0.0.1:0, the whole PDU has them.
+fn is_pdu(rt: &impl Abort, alloc: Global, about: About, pdu: &Pdu, octets: &[u8], words: &str) {
+    let message = only_message(pdu).expect(rt, "one message");
+    if pdu.id == SENDER {
+        is_told(rt, alloc, message, words);
+    } else {
+        is_told(rt, alloc, pdu, words);
+    }
+    goes_back(rt, about, message, octets);
 }
 
-/// The message that the octets of a row spell cannot be written.
-pub fn cannot_go_back(rt: &impl Abort, alloc: Global, digits: &str) {
-    let octets = octets_of(rt, alloc, digits);
-    let pdu = decode_pdu(alloc, octets.as_slice(), 4096).expect(rt, "a PDU");
-    assert!(rt; !is_writable(only_message(rt, &pdu)));
+/// The octets of a row are the message or have the fault of its words.
+pub fn agrees(rt: &impl Abort, alloc: Global, about: About, octets: &[u8], words: &str) {
+    match decode_pdu(alloc, octets, 4096) {
+        Ok(pdu) => is_pdu(rt, alloc, about, &pdu, octets, words),
+        Err(fault) => is_told(rt, alloc, &fault, words),
+    }
 }

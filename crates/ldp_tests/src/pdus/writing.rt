@@ -41,6 +41,11 @@ fn element(rt: &impl Abort, row: Row, c: bool, group: u32) -> PwFec {
     }
 }
 
+// A Label Request of an element.
+fn request(fec: PwFec) -> Message {
+    Message::LabelRequest { id: 8, fec }
+}
+
 // A Label Mapping of an element.
 fn mapping(rt: &impl Abort, fec: PwFec) -> Message {
     Message::LabelMapping {
@@ -52,12 +57,16 @@ fn mapping(rt: &impl Abort, fec: PwFec) -> Message {
     }
 }
 
+// The message can be written or not.
+fn is_writable_as(rt: &impl Abort, message: Message, can: bool) {
+    assert!(rt; is_writable(&message) == can);
+}
+
 // The element can be written or not, and so can a Label Request. A Label Mapping needs a PW ID too.
 fn agrees(rt: &impl Abort, fec: PwFec, can: bool) {
-    let can_map = can && fec.pw_id.is_some();
     assert!(rt; is_writable_fec(&fec) == can);
-    assert!(rt; is_writable(&Message::LabelRequest { id: 1, fec }) == can);
-    assert!(rt; is_writable(&mapping(rt, fec)) == can_map);
+    is_writable_as(rt, request(fec), can);
+    is_writable_as(rt, mapping(rt, fec), can && fec.pw_id.is_some());
 }
 
 #[test]
@@ -106,26 +115,21 @@ fn notification(status: StatusCode) -> Message {
     }
 }
 
-// The message cannot be written.
-fn is_unwritable(rt: &impl Abort, message: Message) {
-    assert!(rt; !is_writable(&message));
-}
-
 #[test]
 fn writes_no_half_messages(rt: HostRuntime) {
-    is_unwritable(&rt, withdraws(element(&rt, ROWS[8], true, 7)));
-    is_unwritable(&rt, part_of_address(&rt, rt.alloc()));
-    is_unwritable(&rt, notification(LONG_DATA));
+    is_writable_as(&rt, withdraws(element(&rt, ROWS[8], true, 7)), false);
+    is_writable_as(&rt, part_of_address(&rt, rt.alloc()), false);
+    is_writable_as(&rt, notification(LONG_DATA), false);
 }
 
 // A message has this Message ID and this type.
 fn is_named(rt: &impl Abort, message: Message, id: u32, kind: u16) {
-    assert_eq!(rt; message.id(), id);
-    assert_eq!(rt; message.message_type(), kind);
+    let name = (message.id(), message.message_type());
+    assert!(rt; name == (id, kind));
 }
 
 #[test]
 fn tells_the_id_and_the_type(rt: HostRuntime) {
     let fec = element(&rt, ROWS[8], true, 7);
-    is_named(&rt, Message::LabelRequest { id: 8, fec }, 8, 0x0401);
+    is_named(&rt, request(fec), 8, 0x0401);
 }

@@ -1,0 +1,22 @@
+//! Words of scripts.
+
+use std::process::Abort;
+
+/// The first letter of an event, and what stands behind its first word.
+pub fn event_of<'a>(rt: &impl Abort, event: &'a str) -> (u8, &'a str) {
+    let letter = event.as_bytes().first().expect(rt, "an event");
+    match event.split_once(' ') {
+        Some((_, more)) => (*letter, more),
+        None => (*letter, ""),
+    }
+}
+
+/// The number of these digits.
+pub fn number(rt: &impl Abort, digits: &str) -> usize {
+    digits.parse::<usize>().ok().expect(rt, "a number")
+}
+
+/// How many rows a line is: one where it has words behind `= `.
+pub fn rows_in(line: &str) -> usize {
+    if line.contains("= ") { 1 } else { 0 }
+}
