@@ -84,8 +84,7 @@ fn stands(out: &[u8], place: usize, octets: &[u8]) -> bool {
 
 // What was written is a label stack and a packet behind it, and no octet more.
 fn is_written(rt: &impl Abort, out: &[u8], length: usize, stack: &[u8], packet: &[u8]) {
-    assert!(rt; stands(out, 0, stack));
-    assert!(rt; stands(out, stack.len(), packet));
+    assert!(rt; stands(out, 0, stack) && stands(out, stack.len(), packet));
     assert!(rt; stands(out, length, &[0xee]));
 }
 
@@ -119,7 +118,6 @@ fn is_request(rt: &impl Abort, packet: &[u8], sequence: u16)
 }
 
 // A request and its sequence number; its answer in a channel on a label, with service class bits, which has so many octets.
-#[derive(Clone, Copy)]
 struct Answered {
     request: &'static [u8],
     sequence: u16,
@@ -136,8 +134,7 @@ fn is_answered(rt: &impl Abort, answered: &Answered) {
     let label = Label::new(answered.label).expect(rt, "a label");
     let mut out = [0xeeu8; 64];
     is_request(rt, answered.request, answered.sequence);
-    assert!(rt; answered.request.len() <= 52);
-    assert!(rt; answered.points <= 3);
+    assert!(rt; answered.request.len() <= 52 && answered.points <= 3);
     let length = answer(
         answered.channel,
         label,
@@ -149,7 +146,8 @@ fn is_answered(rt: &impl Abort, answered: &Answered) {
     is_written(rt, &out, length, answered.stack, answered.packet);
 }
 
-const IN_EACH_CHANNEL: [Answered; 3] = [
+// A request in each channel, and that of another stack.
+const ANSWERED: [Answered; 4] = [
     Answered {
         request: &REQUEST,
         sequence: 1,
@@ -180,29 +178,23 @@ const IN_EACH_CHANNEL: [Answered; 3] = [
         packet: &ANSWER,
         length: 32,
     },
+    Answered {
+        request: &ODD_REQUEST,
+        sequence: 0xffff,
+        channel: Cc::Expiry,
+        label: 17,
+        points: 3,
+        stack: &ODD_STACK,
+        packet: &ODD_ANSWER,
+        length: 33,
+    },
 ];
-
-const OF_ANOTHER_STACK: Answered = Answered {
-    request: &ODD_REQUEST,
-    sequence: 0xffff,
-    channel: Cc::Expiry,
-    label: 17,
-    points: 3,
-    stack: &ODD_STACK,
-    packet: &ODD_ANSWER,
-    length: 33,
-};
 
 #[test]
 fn the_answer_in_each_channel(rt: HostRuntime) {
-    for answered in IN_EACH_CHANNEL.as_slice() {
+    for answered in ANSWERED.as_slice() {
         is_answered(&rt, answered);
     }
-}
-
-#[test]
-fn answers_a_request_of_another_stack(rt: HostRuntime) {
-    is_answered(&rt, &OF_ANOTHER_STACK);
 }
 
 // The answer behind its label is read again.
@@ -280,7 +272,7 @@ fn read_long(total: u16, low: u8) -> Result<Echo, VccvFault> {
 #[test]
 fn reads_packets_of_1500_octets(rt: HostRuntime) {
     assert!(rt; read_long(1500, 0x1e).is_ok());
-    assert_eq!(rt; read_long(1501, 0x1d), Err(VccvFault::Ip));
+    assert!(rt; read_long(1501, 0x1d) == Err(VccvFault::Ip));
 }
 
 // The answer of identifier and sequence number 0, with these octets as its checksum.
@@ -295,8 +287,8 @@ fn read_zeros(octet: u8) -> Result<Echo, VccvFault> {
 
 #[test]
 fn a_sum_of_no_bits_is_not_all_ones(rt: HostRuntime) {
-    assert_eq!(rt; read_zeros(0xff), Ok(Echo::Answer { sequence: 0 }));
-    assert_eq!(rt; read_zeros(0x00), Err(VccvFault::Checksum));
+    assert!(rt; read_zeros(0xff) == Ok(Echo::Answer { sequence: 0 }));
+    assert!(rt; read_zeros(0x00) == Err(VccvFault::Checksum));
 }
 
 #[test]
