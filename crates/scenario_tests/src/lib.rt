@@ -3,12 +3,10 @@
 #![tactic(auto)]
 
 #[cfg(test)]
-mod common;
+mod documents;
 #[cfg(test)]
 mod events;
 #[cfg(test)]
-mod faults;
-#[cfg(test)]
-mod plans;
-#[cfg(test)]
 mod rows;
+#[cfg(test)]
+mod tables;

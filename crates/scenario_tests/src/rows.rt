@@ -1,156 +1,168 @@
-//! What the rows of a plan are.
+//! Rows of plans: what they are, and their faults. The faults that are expected were read off the same documents by an independent
+//! reader.
 
-use crate::common::{PLAN, WIRE, read};
-use net_base::{
-    Addr, CircuitPlan, Class, EdgeId, EdgePlan, Name, Offer, Plan, ServiceId, ServicePlan, Text,
-    WirePlan,
-};
-use std::alloc::Global;
-use std::process::Abort;
+use crate::tables::{LINES, WHOLE, read_as};
 
-fn name(rt: &impl Abort, text: &str) -> Name {
-    Name::read(text).expect(rt, "a name")
-}
+// A document with edges, their faults, and values at the ends of their ranges.
+const WITH_EDGES: &str = "version = 1
+edge = [@]
+service = [{name='s'}]
+circuit = []
+wire = []
+events = []
+";
 
-// What an end offers by default.
-fn plain(rt: &impl Abort) -> Offer {
-    Offer {
-        tagged: false,
-        cword: true,
-        mtu: Some(1500),
-        vlan: None,
-        vccv: None,
-        status: true,
-        group: 0,
-        description: Text::read(&[]).expect(rt, "a text"),
-    }
-}
+const EDGES: &str = "
+{address='10.0.0.1'} => Missing(Place { table: Edge, index: 1, key: 'name' })
+{name=1,address='10.0.0.1'} => WrongKind(Place { table: Edge, index: 1, key: 'name' })
+{name='A',address='10.0.0.1'} => Plan(OutOfRange(Place { table: Edge, index: 1, key: 'name' }))
+{name='a'} => Missing(Place { table: Edge, index: 1, key: 'address' })
+{name='a',address='010.0.0.1'} => Plan(OutOfRange(Place { table: Edge, index: 1, key: 'address' }))
+{name='a',address='0.0.0.0'} => Plan(OutOfRange(Place { table: Edge, index: 1, key: 'address' }))
+{name='a',address='10.0.0.1',first_label=15} => Plan(OutOfRange(Place { table: Edge, index: 1, key: 'first_label' }))
+{name='a',address='10.0.0.1',keepalive=65536} => Plan(OutOfRange(Place { table: Edge, index: 1, key: 'keepalive' }))
+{name='a',address='10.0.0.1'},{name='b',address='10.0.0.2',max_pdu=4097} => Plan(OutOfRange(Place { table: Edge, index: 2, key: 'max_pdu' }))
+{name='a',address='10.0.0.1',mtu=1} => UnknownKey(Place { table: Edge, index: 1, key: 'mtu' })
+{name='a',address='10.0.0.1'},{name='a',address='10.0.0.2'} => Plan(RepeatedName(Place { table: Edge, index: 2, key: 'name' }))
+{name='a',address='10.0.0.1'},{name='b',address='10.0.0.1'} => Plan(RepeatedName(Place { table: Edge, index: 2, key: 'address' }))
 
-fn last_edge(rt: &impl Abort, plan: &Plan) {
-    let edge = EdgePlan {
-        name: name(rt, "b"),
-        address: Addr([10, 0, 0, 2]),
-        first_label: 16,
-        keepalive: 180,
-        max_pdu: 4096,
-    };
-    assert!(rt; plan.edges.as_slice().last() == Some(&edge));
-}
+{name='a',address='10.0.0.1',first_label=16,keepalive=3,max_pdu=256} => 0 commands
+{name='zzzzzzzzzzzzzzzzzzzzzzzzzzzzzzzz',address='255.255.255.255',first_label=1048575,keepalive=65535,max_pdu=4096} => 0 commands
+";
 
-fn one_service(rt: &impl Abort, plan: &Plan) {
-    let service = ServicePlan {
-        name: name(rt, "s"),
-        mtu: 1500,
-        age: 300,
-    };
-    assert!(rt; plan.services.as_slice() == [service].as_slice());
-}
+// A document with services, their faults, and values at the ends of their ranges.
+const WITH_SERVICES: &str = "version = 1
+edge = [{name='a',address='10.0.0.1'}]
+service = [@]
+circuit = []
+wire = []
+events = []
+";
 
-fn one_circuit(rt: &impl Abort, plan: &Plan) {
-    let circuit = CircuitPlan {
-        name: name(rt, "c"),
-        edge: EdgeId(0),
-        service: ServiceId(0),
-        tag: None,
-    };
-    assert!(rt; plan.circuits.as_slice() == [circuit].as_slice());
-}
+const SERVICES: &str = "
+{} => Missing(Place { table: Service, index: 1, key: 'name' })
+{name='s',mtu=63} => Plan(OutOfRange(Place { table: Service, index: 1, key: 'mtu' }))
+{name='s',age=1000001} => Plan(OutOfRange(Place { table: Service, index: 1, key: 'age' }))
+{name='s',edge='a'} => UnknownKey(Place { table: Service, index: 1, key: 'edge' })
+{name='s'},{name='a'} => Plan(RepeatedName(Place { table: Service, index: 2, key: 'name' }))
 
-fn is_path(path: &[EdgeId]) -> bool {
-    path == [EdgeId(0), EdgeId(1)].as_slice()
-}
+{name='s',mtu=64,age=1} => 0 commands
+{name='s',mtu=9198,age=1000000} => 0 commands
+";
 
-fn wire(rt: &impl Abort, wire: &WirePlan) {
-    assert!(rt; wire.class == Class::Mesh && wire.pw_id == 1 && wire.priority == 100);
-    assert!(rt; is_path(wire.path.as_slice()));
-}
+// A document with circuits, their faults, and values at the ends of their ranges.
+const WITH_CIRCUITS: &str = "version = 1
+edge = [{name='a',address='10.0.0.1'}]
+service = [{name='s'}]
+circuit = [@]
+wire = []
+events = []
+";
 
-// The one wire of a plan has these ends.
-fn has_ends(rt: &impl Abort, plan: &Plan, near: &Offer, far: &Offer) {
-    for wire in plan.wires.as_slice() {
-        assert!(rt; wire.near == *near);
-        assert!(rt; wire.far == *far);
-    }
-    assert!(rt; plan.wires.len() == 1);
-}
+const CIRCUITS: &str = "
+{edge='a'} => Missing(Place { table: Circuit, index: 1, key: 'name' })
+{name='c',edge='a'} => Missing(Place { table: Circuit, index: 1, key: 'service' })
+{name='c',edge='a',service='s',tag=4095} => Plan(OutOfRange(Place { table: Circuit, index: 1, key: 'tag' }))
+{name='c',edge='a',service='s',tag='1'} => WrongKind(Place { table: Circuit, index: 1, key: 'tag' })
+{name='c',edge='a',service='s',tagg=1} => UnknownKey(Place { table: Circuit, index: 1, key: 'tagg' })
+{name='c',edge='b',service='s'} => Plan(UnknownName(Place { table: Circuit, index: 1, key: 'edge' }))
+{name='c',edge='a',service='t'} => Plan(UnknownName(Place { table: Circuit, index: 1, key: 'service' }))
+{name='c',edge='a',service='s'},{name='c',edge='a',service='s'} => Plan(RepeatedName(Place { table: Circuit, index: 2, key: 'name' }))
 
-// The one wire of a text has these ends.
-fn reads_ends(rt: &impl Abort, alloc: Global, text: &str, near: &Offer, far: &Offer) {
-    let scenario = read(rt, alloc, text);
-    has_ends(rt, &scenario.plan, near, far);
-}
+{name='c',edge='a',service='s',tag=1} => 0 commands
+{name='c',edge='a',service='s',tag=4094} => 0 commands
+";
 
-// The plan has an edge, a service, a circuit and a wire with what rows have by default.
-fn has_defaults(rt: &impl Abort, plan: &Plan) {
-    let plain = plain(rt);
-    last_edge(rt, plan);
-    one_service(rt, plan);
-    one_circuit(rt, plan);
-    for row in plan.wires.as_slice() {
-        wire(rt, row);
-    }
-    has_ends(rt, plan, &plain, &plain);
-}
+// A document with wires, their faults, and values at the ends of their ranges.
+const WITH_WIRES: &str = "version = 1
+edge = [{name='a',address='10.0.0.1'},{name='b',address='10.0.0.2'}]
+service = [{name='s'}]
+circuit = []
+wire = [@]
+events = []
+";
+
+const WIRES: &str = "
+{service='s'} => Missing(Place { table: Wire, index: 1, key: 'name' })
+{name='w',service='s',class='hub'} => Plan(OutOfRange(Place { table: Wire, index: 1, key: 'class' }))
+{name='w',service='s',class='mesh',path='a'} => WrongKind(Place { table: Wire, index: 1, key: 'path' })
+{name='w',service='s',class='mesh',path=['A',1]} => WrongKind(Place { table: Wire, index: 1, key: 'path' })
+{name='w',service='s',class='mesh',path=['A','b']} => Plan(OutOfRange(Place { table: Wire, index: 1, key: 'path' }))
+{name='w',service='s',class='mesh',path=['a','b']} => Missing(Place { table: Wire, index: 1, key: 'pw_id' })
+{name='w',service='s',class='mesh',path=['a','b'],pw_id=0} => Plan(OutOfRange(Place { table: Wire, index: 1, key: 'pw_id' }))
+{name='w',service='t',class='mesh',path=['a','b'],pw_id=1} => Plan(UnknownName(Place { table: Wire, index: 1, key: 'service' }))
+{name='w',service='s',class='mesh',path=['a','d'],pw_id=1} => Plan(UnknownName(Place { table: Wire, index: 1, key: 'path' }))
+{name='s',service='s',class='mesh',path=['a','b'],pw_id=1} => Plan(RepeatedName(Place { table: Wire, index: 1, key: 'name' }))
+{name='b',service='s',class='mesh',path=['a','b'],pw_id=1} => Plan(RepeatedName(Place { table: Wire, index: 1, key: 'name' }))
+{name='w',service='s',class='mesh',path=['a','b'],pw_id=1},{name='w',service='s',class='mesh',path=['a','b'],pw_id=1} => Plan(RepeatedName(Place { table: Wire, index: 2, key: 'name' }))
+{name='w',service='s',class='mesh',path=['a'],pw_id=1} => Plan(PathTooLong(Place { table: Wire, index: 1, key: 'path' }))
+{name='w',service='s',class='mesh',path=['a','a'],pw_id=1} => Plan(PathRepeats(Place { table: Wire, index: 1, key: 'path' }))
+{name='w',service='s',class='mesh',path=['a','b'],pw_id=1},{name='x',service='s',class='mesh',path=['a','b'],pw_id=2} => Plan(TwoMeshWires(Place { table: Wire, index: 2, key: 'path' }))
+
+{name='w',service='s',class='mesh',path=['a','b'],pw_id=1,priority=0,mode='tagged',control_word=false,mtu=0,vlan=0,vccv=0,status=false,group=0,description=''} => 0 commands
+{name='w',service='s',class='mesh',path=['a','b'],pw_id=1,priority=255,mode='raw',mtu=65535,vlan=4095,vccv=7,group=4294967295,description='xxxxxxxxxxxxxxxxxxxxxxxxxxxxxxxxxxxxxxxxxxxxxxxxxxxxxxxxxxxxxxxxxxxxxxxxxxxxxxxx'} => 0 commands
+{name='w',service='s',class='mesh',path=['a','b'],pw_id=1,far_mode='tagged',far_control_word=false,far_mtu=9,far_vlan=4095,far_vccv=7,far_status=false,far_group=4294967295,far_description='f'} => 0 commands
+{name='w',service='s',class='mesh',path=['a','b'],pw_id=4294967295} => 0 commands
+";
+
+// A wire that has more keys, and its faults.
+const WITH_KEYS: &str = "version = 1
+edge = [{name='a',address='10.0.0.1'},{name='b',address='10.0.0.2'}]
+service = [{name='s'}]
+circuit = []
+wire = [{name='w',service='s',class='mesh',path=['a','b'],pw_id=1@}]";
+
+const KEYS: &str = "
+,priority=256 => Plan(OutOfRange(Place { table: Wire, index: 1, key: 'priority' }))
+,mode='q' => Plan(OutOfRange(Place { table: Wire, index: 1, key: 'mode' }))
+,control_word=1 => WrongKind(Place { table: Wire, index: 1, key: 'control_word' })
+,mtu=65536 => Plan(OutOfRange(Place { table: Wire, index: 1, key: 'mtu' }))
+,vlan=4096 => Plan(OutOfRange(Place { table: Wire, index: 1, key: 'vlan' }))
+,vccv=8 => Plan(OutOfRange(Place { table: Wire, index: 1, key: 'vccv' }))
+,status='on' => WrongKind(Place { table: Wire, index: 1, key: 'status' })
+,group=-1 => Plan(OutOfRange(Place { table: Wire, index: 1, key: 'group' }))
+,description='xxxxxxxxxxxxxxxxxxxxxxxxxxxxxxxxxxxxxxxxxxxxxxxxxxxxxxxxxxxxxxxxxxxxxxxxxxxxxxxxx' => Plan(OutOfRange(Place { table: Wire, index: 1, key: 'description' }))
+,far_mode=1 => WrongKind(Place { table: Wire, index: 1, key: 'far_mode' })
+,far_vlan=4096 => Plan(OutOfRange(Place { table: Wire, index: 1, key: 'far_vlan' }))
+,far_description=1 => WrongKind(Place { table: Wire, index: 1, key: 'far_description' })
+,far_priority=1 => UnknownKey(Place { table: Wire, index: 1, key: 'far_priority' })
+,far_mode=1,description=1 => WrongKind(Place { table: Wire, index: 1, key: 'description' })
+,zeta=1,far_vccv=8 => Plan(OutOfRange(Place { table: Wire, index: 1, key: 'far_vccv' }))
+";
 
 #[test]
-fn reads_defaults_and_the_far_end(rt: HostRuntime) {
-    let scenario = read(&rt, rt.alloc(), PLAN);
-    has_defaults(&rt, &scenario.plan);
-    assert!(rt; scenario.commands.is_empty());
+fn tells_faults_and_ends_of_ranges(rt: HostRuntime) {
+    let alloc = rt.alloc();
+    read_as(&rt, alloc, WITH_EDGES, WHOLE, (LINES, EDGES, 14));
+    read_as(&rt, alloc, WITH_SERVICES, WHOLE, (LINES, SERVICES, 7));
+    read_as(&rt, alloc, WITH_CIRCUITS, WHOLE, (LINES, CIRCUITS, 10));
+    read_as(&rt, alloc, WITH_WIRES, WHOLE, (LINES, WIRES, 19));
+    read_as(&rt, alloc, WITH_KEYS, WHOLE, (LINES, KEYS, 15));
 }
 
-// What a key says of the far end.
-#[derive(Clone, Copy)]
-enum Change {
-    Tagged,
-    NoWord,
-    Mtu(Option<u16>),
-    Vlan(u16),
-    Vccv(u8),
-    NoStatus,
-    Group(u32),
-    Description(&'static str),
-}
+// A wire that has a key of its far end, the words of its plan, and those of its far end.
+const WITH_KEY: &str = "version = 1
+edge = [{name='a',address='10.0.0.1'},{name='b',address='10.0.0.2'}]
+service = [{name='s'}]
+circuit = []
+wire = [{name='w',service='s',class='mesh',path=['a','b'],pw_id=1,@}]";
 
-// What the far end offers then.
-fn changed(rt: &impl Abort, change: Change) -> Offer {
-    let mut far = plain(rt);
-    match change {
-        Change::Tagged => far.tagged = true,
-        Change::NoWord => far.cword = false,
-        Change::Mtu(mtu) => far.mtu = mtu,
-        Change::Vlan(vlan) => far.vlan = Some(vlan),
-        Change::Vccv(channels) => far.vccv = Some(channels),
-        Change::NoStatus => far.status = false,
-        Change::Group(group) => far.group = group,
-        Change::Description(text) => {
-            far.description = Text::read(text.as_bytes()).expect(rt, "a text");
-        }
-    }
-    far
-}
+const PLAN: &str =
+    "Plan { edges: List { items: [EdgePlan { name: Name { text: 'a' }, address: Addr([10, 0, 0, 1]), first_label: 16, keepalive: 180, max_pdu: 4096 }, EdgePlan { name: Name { text: 'b' }, address: Addr([10, 0, 0, 2]), first_label: 16, keepalive: 180, max_pdu: 4096 }] }, services: List { items: [ServicePlan { name: Name { text: 's' }, mtu: 1500, age: 300 }] }, circuits: List { items: [] }, wires: List { items: [WirePlan { name: Name { text: 'w' }, service: ServiceId(0), class: Mesh, path: List { items: [EdgeId(0), EdgeId(1)] }, pw_id: 1, near: Offer { tagged: false, cword: true, mtu: Some(1500), vlan: None, vccv: None, status: true, group: 0, description: '' }, far: @, priority: 100 }] } }";
 
-const KEYS: [(&'static str, Change); 9] = [
-    ("far_mode='tagged'", Change::Tagged),
-    ("far_control_word=false", Change::NoWord),
-    ("far_mtu=9000", Change::Mtu(Some(9000))),
-    ("far_mtu=0", Change::Mtu(None)),
-    ("far_vlan=0", Change::Vlan(0)),
-    ("far_vccv=5", Change::Vccv(5)),
-    ("far_status=false", Change::NoStatus),
-    ("far_group=9", Change::Group(9)),
-    ("far_description='far'", Change::Description("far")),
-];
-
-// A wire that has this key too has this far end.
-fn far_end(rt: &impl Abort, alloc: Global, key: &str, change: Change) {
-    let text = format!(in alloc; "{WIRE},{key}}}]").expect(rt, "memory");
-    reads_ends(rt, alloc, text.as_str(), &plain(rt), &changed(rt, change));
-}
+const FAR_KEYS: &str = "
+far_mode='tagged' => Offer { tagged: true, cword: true, mtu: Some(1500), vlan: None, vccv: None, status: true, group: 0, description: '' }
+far_control_word=false => Offer { tagged: false, cword: false, mtu: Some(1500), vlan: None, vccv: None, status: true, group: 0, description: '' }
+far_mtu=9000 => Offer { tagged: false, cword: true, mtu: Some(9000), vlan: None, vccv: None, status: true, group: 0, description: '' }
+far_mtu=0 => Offer { tagged: false, cword: true, mtu: None, vlan: None, vccv: None, status: true, group: 0, description: '' }
+far_vlan=0 => Offer { tagged: false, cword: true, mtu: Some(1500), vlan: Some(0), vccv: None, status: true, group: 0, description: '' }
+far_vccv=5 => Offer { tagged: false, cword: true, mtu: Some(1500), vlan: None, vccv: Some(5), status: true, group: 0, description: '' }
+far_status=false => Offer { tagged: false, cword: true, mtu: Some(1500), vlan: None, vccv: None, status: false, group: 0, description: '' }
+far_group=9 => Offer { tagged: false, cword: true, mtu: Some(1500), vlan: None, vccv: None, status: true, group: 9, description: '' }
+far_description='far' => Offer { tagged: false, cword: true, mtu: Some(1500), vlan: None, vccv: None, status: true, group: 0, description: Text { octets: [102, 97, 114, 0, 0, 0, 0, 0, 0, 0, 0, 0, 0, 0, 0, 0, 0, 0, 0, 0, 0, 0, 0, 0, 0, 0, 0, 0, 0, 0, 0, 0, 0, 0, 0, 0, 0, 0, 0, 0, 0, 0, 0, 0, 0, 0, 0, 0, 0, 0, 0, 0, 0, 0, 0, 0, 0, 0, 0, 0, 0, 0, 0, 0, 0, 0, 0, 0, 0, 0, 0, 0, 0, 0, 0, 0, 0, 0, 0, 0], len: 3 } }
+";
 
 #[test]
 fn reads_each_key_of_the_far_end(rt: HostRuntime) {
-    for (key, change) in KEYS.as_slice() {
-        far_end(&rt, rt.alloc(), key, *change);
-    }
+    read_as(&rt, rt.alloc(), WITH_KEY, PLAN, (LINES, FAR_KEYS, 9));
 }

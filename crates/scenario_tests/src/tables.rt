@@ -1,0 +1,128 @@
+//! Tables of documents and of what they are read as.
+
+use net_base::Text;
+use scenario_text::{Scenario, read_scenario};
+use std::alloc::Global;
+use std::fmt::Debug;
+use std::process::Abort;
+
+// The words of an empty description.
+const NO_TEXT: &str =
+    "Text { octets: [0, 0, 0, 0, 0, 0, 0, 0, 0, 0, 0, 0, 0, 0, 0, 0, 0, 0, 0, 0, 0, 0, 0, 0, 0, 0, 0, 0, 0, 0, 0, 0, 0, 0, 0, 0, 0, 0, 0, 0, 0, 0, 0, 0, 0, 0, 0, 0, 0, 0, 0, 0, 0, 0, 0, 0, 0, 0, 0, 0, 0, 0, 0, 0, 0, 0, 0, 0, 0, 0, 0, 0, 0, 0, 0, 0, 0, 0, 0, 0], len: 0 }";
+
+// What stands behind a name or a key.
+fn behind_key<'a>(rt: &impl Abort, alloc: Global, told: &'a str, key: &str) -> Option<&'a str> {
+    let key: Text<32> = Text::read(key.as_bytes()).expect(rt, "a key");
+    let words = format!(in alloc; "{key:?}").expect(rt, "memory");
+    told.strip_prefix(words.as_str())
+}
+
+// What stands behind a name, a key or an empty description.
+fn behind_text<'a>(rt: &impl Abort, alloc: Global, told: &'a str, text: &str) -> Option<&'a str> {
+    if text.is_empty() {
+        told.strip_prefix(NO_TEXT)
+    } else {
+        behind_key(rt, alloc, told, text)
+    }
+}
+
+// What stands behind these words, which are a text or not.
+fn behind<'a>(
+    rt: &impl Abort,
+    alloc: Global,
+    told: Option<&'a str>,
+    words: &str,
+    quoted: bool,
+) -> Option<&'a str> {
+    let told = told?;
+    if quoted {
+        behind_text(rt, alloc, told, words)
+    } else {
+        told.strip_prefix(words)
+    }
+}
+
+// These are the words that are told, where a name, a key or an empty description stands in quotes.
+fn are_words(rt: &impl Abort, alloc: Global, told: &str, words: &str) -> bool {
+    let mut rest = Some(told);
+    let mut quoted = false;
+    for piece in words.split('\'') {
+        rest = behind(rt, alloc, rest, piece, quoted);
+        quoted = !quoted;
+    }
+    rest == Some("")
+}
+
+// A value is told in these words of its type, where such a text stands in quotes.
+fn is_told<T: Debug>(rt: &impl Abort, alloc: Global, value: &T, words: &str) {
+    let told = format!(in alloc; "{value:?}").expect(rt, "memory");
+    assert!(rt; are_words(rt, alloc, told.as_str(), words), "{words}");
+}
+
+// A scenario has so many commands, or commands or a plan of these words, which has no commands then.
+fn is_scenario(rt: &impl Abort, alloc: Global, scenario: &Scenario, words: &str) {
+    if let Some(count) = words.strip_suffix(" commands") {
+        is_told(rt, alloc, &scenario.commands.len(), count);
+    } else if words.starts_with("List") {
+        is_told(rt, alloc, &scenario.commands, words);
+    } else {
+        assert!(rt; scenario.commands.is_empty());
+        is_told(rt, alloc, &scenario.plan, words);
+    }
+}
+
+/// Octets are a scenario with these words, or have the fault of these words.
+pub fn reads_octets(rt: &impl Abort, alloc: Global, octets: &[u8], words: &str) {
+    match read_scenario(alloc, octets) {
+        Ok(scenario) => is_scenario(rt, alloc, &scenario, words),
+        Err(fault) => is_told(rt, alloc, &fault, words),
+    }
+}
+
+// A form with a text in place of its `@`.
+fn filled(rt: &impl Abort, alloc: Global, form: &str, text: &str) -> String {
+    let (front, back) = form.split_once('@').expect(rt, "a form");
+    format!(in alloc; "{front}{text}{back}").expect(rt, "memory")
+}
+
+// A text in the form of a document has these words in their form.
+fn agrees(rt: &impl Abort, alloc: Global, document: &str, words: &str, row: (&str, &str)) {
+    let document = filled(rt, alloc, document, row.0);
+    let words = filled(rt, alloc, words, row.1);
+    reads_octets(rt, alloc, document.as_bytes(), words.as_str());
+}
+
+// A row agrees where it has words behind a text; how many rows it is.
+fn reads_row(rt: &impl Abort, alloc: Global, document: &str, words: &str, row: &str) -> usize {
+    match row.split_once(" => ") {
+        Some((text, told)) => {
+            agrees(rt, alloc, document, words, (text, told));
+            1
+        }
+        None => 0,
+    }
+}
+
+/// What stands between the rows of a table, each of which is one line or more.
+pub const LINES: &str = "\n";
+
+pub const BLOCKS: &str = "\n\n";
+
+/// The form of a whole document, and that of whole words.
+pub const WHOLE: &str = "@";
+
+/// So many rows of a table: a text in the form of a document, and behind ` => ` words in a form of words.
+pub fn read_as(
+    rt: &impl Abort,
+    alloc: Global,
+    document: &str,
+    words: &str,
+    table: (&str, &str, usize),
+) {
+    let (between, text, count) = table;
+    let mut rows: usize = 0;
+    for row in text.split(between) {
+        rows = rows.saturating_add(reads_row(rt, alloc, document, words, row));
+    }
+    assert_eq!(rt; rows, count);
+}
