@@ -38,5 +38,5 @@ fn refuses_another_tag(rt: HostRuntime) {
 fn puts_the_tag_back(rt: HostRuntime) {
     let mut out = [0u8; 18];
     assert!(rt; dress(Some(7), &INNER, &mut out) == 18);
-    assert!(rt; out == LEFT);
+    assert!(rt; out.as_slice() == LEFT.as_slice());
 }

@@ -14,3 +14,5 @@ mod tables;
 mod texts;
 #[cfg(test)]
 mod withdrawals;
+#[cfg(test)]
+mod words;

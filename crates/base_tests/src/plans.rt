@@ -1,21 +1,13 @@
 //! Small plans, with faults that were found by hand.
 
-use hvpls_spokes::{Role, role};
+use crate::words::is_told;
+use hvpls_spokes::role;
 use net_base::{
-    Addr, CircuitPlan, Class, EdgeId, EdgePlan, List, Name, Offer, Place, Plan, PlanFault,
-    ServiceId, ServicePlan, Table, Text, WirePlan,
+    Addr, CircuitPlan, Class, EdgeId, EdgePlan, List, Name, Offer, Plan, ServiceId, ServicePlan,
+    Text, WirePlan,
 };
 use std::alloc::Global;
 use std::process::Abort;
-
-// A wire of a row: its class, its name, the edges of its path, a digit each, and its PW ID.
-#[derive(Clone, Copy)]
-struct Drawn<'a> {
-    class: Class,
-    name: &'a str,
-    path: &'a str,
-    pw_id: u32,
-}
 
 // The words before and behind the first blank.
 fn cut<'a>(rt: &impl Abort, words: &'a str) -> (&'a str, &'a str) {
@@ -31,19 +23,6 @@ fn class_of(word: &str) -> Class {
         Class::Mesh
     } else {
         Class::Spoke
-    }
-}
-
-// The wire of these words, as `mesh v 12 7`.
-fn drawn_of<'a>(rt: &impl Abort, words: &'a str) -> Drawn<'a> {
-    let (class, words) = cut(rt, words);
-    let (name, words) = cut(rt, words);
-    let (path, pw_id) = cut(rt, words);
-    Drawn {
-        class: class_of(class),
-        name,
-        path,
-        pw_id: number(rt, pw_id),
     }
 }
 
@@ -92,169 +71,137 @@ fn path_of(rt: &impl Abort, alloc: Global, digits: &str) -> List<EdgeId> {
     path
 }
 
+// The wire of these words, as `mesh v 12 7`: its class, its name, the edges of its path, a digit each, and its PW ID.
 fn wire(rt: &impl Abort, alloc: Global, words: &str) -> WirePlan {
-    let drawn = drawn_of(rt, words);
+    let (class, words) = cut(rt, words);
+    let (text, words) = cut(rt, words);
+    let (path, pw_id) = cut(rt, words);
     WirePlan {
-        name: name(rt, drawn.name),
+        name: name(rt, text),
         service: ServiceId(0),
-        class: drawn.class,
-        path: path_of(rt, alloc, drawn.path),
-        pw_id: drawn.pw_id,
+        class: class_of(class),
+        pw_id: number(rt, pw_id),
         near: offer(rt),
         far: offer(rt),
         priority: 100,
+        path: path_of(rt, alloc, path),
     }
 }
 
-const NAMES: [&str; 6] = ["x", "a", "b", "c", "d", "e"];
+const NAMES: [(u8, &'static str); 6] = [(1, "x"), (2, "a"), (3, "b"), (4, "c"), (5, "d"), (6, "e")];
 
-fn edges(rt: &impl Abort, alloc: Global, names: &[&str]) -> List<EdgePlan> {
-    let mut edges = List::new(alloc);
-    let mut number: u8 = 0;
-    for name in names {
-        number = number.saturating_add(1);
-        edges.push(edge(rt, name, number)).expect(rt, "memory");
-    }
-    edges
+// Adds an edge of this address.
+fn add_edge(rt: &impl Abort, plan: &mut Plan, text: &str, number: u8) {
+    plan.edges.push(edge(rt, text, number)).expect(rt, "memory");
 }
 
-fn services(rt: &impl Abort, alloc: Global) -> List<ServicePlan> {
-    let mut services = List::new(alloc);
-    services
-        .push(ServicePlan {
-            name: name(rt, "red"),
-            mtu: 1500,
-            age: 300,
-        })
-        .expect(rt, "memory");
-    services
-}
-
-fn circuits(rt: &impl Abort, alloc: Global) -> List<CircuitPlan> {
-    let mut circuits = List::new(alloc);
-    circuits.push(circuit(rt, "site")).expect(rt, "memory");
-    circuits
-}
-
-fn wires(rt: &impl Abort, alloc: Global, rows: &str) -> List<WirePlan> {
-    let mut wires = List::new(alloc);
-    for words in rows.split(", ") {
-        if !words.is_empty() {
-            wires.push(wire(rt, alloc, words)).expect(rt, "memory");
-        }
-    }
-    wires
-}
-
-/// Six edges, one service, one circuit at edge 1, and these wires.
-pub fn plan(rt: &impl Abort, alloc: Global, rows: &str) -> Plan {
-    Plan {
-        edges: edges(rt, alloc, NAMES.as_slice()),
-        services: services(rt, alloc),
-        circuits: circuits(rt, alloc),
-        wires: wires(rt, alloc, rows),
-    }
-}
-
-fn at(rt: &impl Abort, table: Table, index: u32, key: &str) -> Place {
-    Place {
-        table,
-        index,
-        key: Text::read(key.as_bytes()).expect(rt, "a key"),
-    }
-}
-
-fn fault(rt: &impl Abort, plan: &Plan) -> Option<PlanFault> {
-    assert!(rt; plan.edges.len() <= 64);
-    assert!(rt; plan.services.len() <= 64);
-    assert!(rt; plan.circuits.len() <= 512);
-    assert!(rt; plan.wires.len() <= 1024);
-    plan.check().err()
-}
-
-// Two wires, and behind `= ` the first fault of their plan, with the row and the key of the table of wires.
-const ROWS: [&str; 13] = [
-    "mesh v 12 7, spoke w 01 7 = none",
-    "mesh v 12 7, mesh w 12345 8 = none",
-    "mesh v 16 7, mesh w 13 7 = UnknownName 1 path",
-    "mesh v 12 0, mesh w 13 7 = OutOfRange 1 pw_id",
-    "mesh v 12 7, mesh v 13 7 = RepeatedName 2 name",
-    "mesh red 12 7, mesh w 13 7 = RepeatedName 1 name",
-    "mesh v 1 7, mesh w 12 7 = PathTooLong 1 path",
-    "mesh v 12 7, mesh w 012345 8 = PathTooLong 2 path",
-    "mesh v 12 7, mesh w 131 8 = PathRepeats 2 path",
-    "mesh v 12 7, mesh w 321 7 = RepeatedPwId 2 pw_id",
-    "mesh v 12 7, mesh w 231 8 = TwoMeshWires 2 path",
-    "spoke v 01 7, mesh w 03 7 = SpokeInMesh 2 path",
-    "spoke v 01 7, spoke w 12 7 = SpokeInMesh 2 path",
-];
-
-// The fault of this name at this place.
-fn fault_at(name: &str, place: Place) -> Option<PlanFault> {
-    match name {
-        "UnknownName" => Some(PlanFault::UnknownName(place)),
-        "RepeatedName" => Some(PlanFault::RepeatedName(place)),
-        "RepeatedPwId" => Some(PlanFault::RepeatedPwId(place)),
-        "TwoMeshWires" => Some(PlanFault::TwoMeshWires(place)),
-        "SpokeInMesh" => Some(PlanFault::SpokeInMesh(place)),
-        "PathTooLong" => Some(PlanFault::PathTooLong(place)),
-        "PathRepeats" => Some(PlanFault::PathRepeats(place)),
-        "OutOfRange" => Some(PlanFault::OutOfRange(place)),
-        _ => None,
-    }
-}
-
-// The fault of these words.
-fn fault_of(rt: &impl Abort, words: &str) -> PlanFault {
-    let (name, words) = cut(rt, words);
-    let (row, key) = cut(rt, words);
-    let place = at(rt, Table::Wire, number(rt, row), key);
-    fault_at(name, place).expect(rt, "a fault")
-}
-
-// The plan has no fault.
-fn accepts(rt: &impl Abort, plan: &Plan) {
-    assert!(rt; fault(rt, plan).is_none());
-}
-
-// The plan has this fault.
-fn refuses(rt: &impl Abort, plan: &Plan, want: PlanFault) {
-    assert!(rt; fault(rt, plan) == Some(want));
-}
-
-// The plan has the fault of these words.
-fn has_fault(rt: &impl Abort, plan: &Plan, words: &str) {
-    if words == "none" {
-        accepts(rt, plan);
-    } else {
-        refuses(rt, plan, fault_of(rt, words));
-    }
-}
-
-// The plan of a row has its fault.
-fn is_told(rt: &impl Abort, alloc: Global, row: &str) {
-    let (wires, words) = row.split_once(" = ").expect(rt, "a row");
-    has_fault(rt, &plan(rt, alloc, wires), words);
-}
-
-#[test]
-fn finds_the_fault_of_a_wire(rt: HostRuntime) {
-    for row in ROWS.as_slice() {
-        is_told(&rt, rt.alloc(), row);
-    }
-}
-
-#[test]
-fn finds_a_repeated_address(rt: HostRuntime) {
-    let mut plan = plan(&rt, rt.alloc(), "");
-    plan.edges.push(edge(&rt, "f", 3)).expect(&rt, "memory");
-    let want = PlanFault::RepeatedName(at(&rt, Table::Edge, 7, "address"));
-    refuses(&rt, &plan, want);
+fn add_service(rt: &impl Abort, plan: &mut Plan) {
+    let service = ServicePlan {
+        name: name(rt, "red"),
+        mtu: 1500,
+        age: 300,
+    };
+    plan.services.push(service).expect(rt, "memory");
 }
 
 // Adds a circuit at edge 1.
 fn add_circuit(rt: &impl Abort, plan: &mut Plan, name: &str) {
     plan.circuits.push(circuit(rt, name)).expect(rt, "memory");
+}
+
+fn add_wire(rt: &impl Abort, alloc: Global, plan: &mut Plan, words: &str) {
+    plan.wires.push(wire(rt, alloc, words)).expect(rt, "memory");
+}
+
+// Adds these wires.
+fn add_wires(rt: &impl Abort, alloc: Global, plan: &mut Plan, rows: &str) {
+    if rows.is_empty() {
+        return;
+    }
+    for words in rows.split(", ") {
+        add_wire(rt, alloc, plan, words);
+    }
+}
+
+fn fill(rt: &impl Abort, alloc: Global, plan: &mut Plan, rows: &str) {
+    for (number, name) in NAMES.as_slice() {
+        add_edge(rt, plan, name, *number);
+    }
+    add_service(rt, plan);
+    add_circuit(rt, plan, "site");
+    add_wires(rt, alloc, plan, rows);
+}
+
+/// Six edges, one service, one circuit at edge 1, and these wires.
+pub fn plan(rt: &impl Abort, alloc: Global, rows: &str) -> Plan {
+    let mut plan = Plan {
+        edges: List::new(alloc),
+        services: List::new(alloc),
+        circuits: List::new(alloc),
+        wires: List::new(alloc),
+    };
+    fill(rt, alloc, &mut plan, rows);
+    plan
+}
+
+// The plan has the fault of these words.
+fn has_fault(rt: &impl Abort, alloc: Global, plan: &Plan, words: &str) {
+    assert!(rt; plan.edges.len() <= 64 && plan.services.len() <= 64);
+    assert!(rt; plan.circuits.len() <= 512 && plan.wires.len() <= 1024);
+    is_told(rt, alloc, &plan.check().err(), words);
+}
+
+// Two wires, and behind `= ` the first fault of their plan.
+const ROWS: &str = "
+    mesh v 12 7, spoke w 01 7 = None
+    mesh v 12 7, mesh w 12345 8 = None
+    mesh v 16 7, mesh w 13 7 = Some(UnknownName(Place { table: Wire, index: 1, key: 'path' }))
+    mesh v 12 0, mesh w 13 7 = Some(OutOfRange(Place { table: Wire, index: 1, key: 'pw_id' }))
+    mesh v 12 7, mesh v 13 7 = Some(RepeatedName(Place { table: Wire, index: 2, key: 'name' }))
+    mesh red 12 7, mesh w 13 7 = Some(RepeatedName(Place { table: Wire, index: 1, key: 'name' }))
+    mesh v 1 7, mesh w 12 7 = Some(PathTooLong(Place { table: Wire, index: 1, key: 'path' }))
+    mesh v 12 7, mesh w 012345 8 = Some(PathTooLong(Place { table: Wire, index: 2, key: 'path' }))
+    mesh v 12 7, mesh w 131 8 = Some(PathRepeats(Place { table: Wire, index: 2, key: 'path' }))
+    mesh v 12 7, mesh w 321 7 = Some(RepeatedPwId(Place { table: Wire, index: 2, key: 'pw_id' }))
+    mesh v 12 7, mesh w 231 8 = Some(TwoMeshWires(Place { table: Wire, index: 2, key: 'path' }))
+    spoke v 01 7, mesh w 03 7 = Some(SpokeInMesh(Place { table: Wire, index: 2, key: 'path' }))
+    spoke v 01 7, spoke w 12 7 = Some(SpokeInMesh(Place { table: Wire, index: 2, key: 'path' }))
+";
+
+// The plan of these wires has the fault of these words.
+fn agrees(rt: &impl Abort, alloc: Global, wires: &str, words: &str) {
+    let plan = plan(rt, alloc, wires);
+    has_fault(rt, alloc, &plan, words);
+}
+
+// A line agrees where it is a row; how many rows it is.
+fn reads_line(rt: &impl Abort, alloc: Global, line: &str) -> usize {
+    match line.split_once(" = ") {
+        Some((wires, words)) => {
+            agrees(rt, alloc, wires.trim(), words);
+            1
+        }
+        None => 0,
+    }
+}
+
+#[test]
+fn finds_the_fault_of_a_wire(rt: HostRuntime) {
+    let mut rows: usize = 0;
+    for line in ROWS.lines() {
+        rows = rows.saturating_add(reads_line(&rt, rt.alloc(), line));
+    }
+    assert_eq!(rt; rows, 13);
+}
+
+const REPEATED_ADDRESS: &str =
+    "Some(RepeatedName(Place { table: Edge, index: 7, key: 'address' }))";
+
+#[test]
+fn finds_a_repeated_address(rt: HostRuntime) {
+    let mut plan = plan(&rt, rt.alloc(), "");
+    add_edge(&rt, &mut plan, "f", 3);
+    has_fault(&rt, rt.alloc(), &plan, REPEATED_ADDRESS);
 }
 
 // Adds 510 circuits at edge 1.
@@ -265,14 +212,15 @@ fn add_circuits(rt: &impl Abort, alloc: Global, plan: &mut Plan) {
     }
 }
 
+const TOO_MANY_PORTS: &str = "Some(OutOfRange(Place { table: Service, index: 1, key: 'name' }))";
+
 #[test]
 fn counts_512_ports(rt: HostRuntime) {
     let mut plan = plan(&rt, rt.alloc(), "spoke w 01 7");
     add_circuits(&rt, rt.alloc(), &mut plan);
-    accepts(&rt, &plan);
+    has_fault(&rt, rt.alloc(), &plan, "None");
     add_circuit(&rt, &mut plan, "last");
-    let want = PlanFault::OutOfRange(at(&rt, Table::Service, 1, "name"));
-    refuses(&rt, &plan, want);
+    has_fault(&rt, rt.alloc(), &plan, TOO_MANY_PORTS);
 }
 
 const THREE_EDGES: [EdgeId; 3] = [EdgeId(1), EdgeId(2), EdgeId(3)];
@@ -280,8 +228,7 @@ const THREE_EDGES: [EdgeId; 3] = [EdgeId(1), EdgeId(2), EdgeId(3)];
 // Each wire passes edges 1, 2 and 3 and has PW ID 7.
 fn pass_three_edges(rt: &impl Abort, wires: &[WirePlan]) {
     for wire in wires {
-        assert!(rt; wire.path.as_slice() == THREE_EDGES.as_slice());
-        assert!(rt; wire.pw_id == 7);
+        assert!(rt; wire.path.as_slice() == THREE_EDGES.as_slice() && wire.pw_id == 7);
     }
 }
 
@@ -293,59 +240,75 @@ fn is_copied(rt: &impl Abort, plan: &Plan, copy: &Plan) {
     pass_three_edges(rt, copy.wires.as_slice());
 }
 
+// A plan with a wire over edges 1, 2 and 3 is copied.
+fn copies(rt: &impl Abort, alloc: Global, plan: &Plan) {
+    let copy = plan.copy(alloc).expect(rt, "memory");
+    is_copied(rt, plan, &copy);
+}
+
 #[test]
 fn copies_a_plan(rt: HostRuntime) {
-    let plan = plan(&rt, rt.alloc(), "mesh v 123 7");
-    let copy = plan.copy(rt.alloc()).expect(&rt, "memory");
-    is_copied(&rt, &plan, &copy);
+    copies(&rt, rt.alloc(), &plan(&rt, rt.alloc(), "mesh v 123 7"));
 }
 
-// Whether two edges are neighbours on a wire, and the mate of the first of them.
-fn tells(
-    rt: &impl Abort,
-    wire: &WirePlan,
-    me: u16,
-    from: u16,
-    neighbours: bool,
-    mate: Option<EdgeId>,
-) {
-    let are = wire.are_neighbours(EdgeId(me), EdgeId(from));
-    let told = wire.mate(EdgeId(me), EdgeId(from));
-    assert!(rt; are == neighbours && told == mate, "at {me} from {from}");
+// Two edges; and whether the first of them has the other as a neighbour on a wire over the edges 1, 4, 3 and 2, and its mate there.
+const NEIGHBOURS: [(u16, u16, &'static str); 8] = [
+    (1, 4, "(true, None)"),
+    (4, 1, "(true, Some(EdgeId(3)))"),
+    (4, 3, "(true, Some(EdgeId(1)))"),
+    (3, 4, "(true, Some(EdgeId(2)))"),
+    (3, 2, "(true, Some(EdgeId(4)))"),
+    (2, 3, "(true, None)"),
+    (4, 2, "(false, None)"),
+    (5, 1, "(false, None)"),
+];
+
+// What a wire tells of two edges.
+fn tells(rt: &impl Abort, alloc: Global, wire: &WirePlan, me: EdgeId, from: EdgeId, words: &str) {
+    let told = (wire.are_neighbours(me, from), wire.mate(me, from));
+    is_told(rt, alloc, &told, words);
 }
 
-// What a wire over the edges 1, 4, 3 and 2 tells of each two edges.
-fn tells_each(rt: &impl Abort, wire: &WirePlan) {
-    tells(rt, wire, 1, 4, true, None);
-    tells(rt, wire, 4, 1, true, Some(EdgeId(3)));
-    tells(rt, wire, 4, 3, true, Some(EdgeId(1)));
-    tells(rt, wire, 3, 4, true, Some(EdgeId(2)));
-    tells(rt, wire, 3, 2, true, Some(EdgeId(4)));
-    tells(rt, wire, 2, 3, true, None);
-    tells(rt, wire, 4, 2, false, None);
-    tells(rt, wire, 5, 1, false, None);
+// What a wire tells of each two edges.
+fn tells_each(rt: &impl Abort, alloc: Global, wire: &WirePlan) {
+    for (me, from, words) in NEIGHBOURS.as_slice() {
+        tells(rt, alloc, wire, EdgeId(*me), EdgeId(*from), words);
+    }
+}
+
+// The ends of a wire from edge 1 to edge 2 offer these groups.
+fn offers(rt: &impl Abort, wire: &WirePlan, near: u32, far: u32) {
+    assert!(rt; wire.offer_of(EdgeId(1)).group == near);
+    assert!(rt; wire.offer_of(EdgeId(2)).group == far);
 }
 
 #[test]
 fn tells_the_ends_of_segments(rt: HostRuntime) {
     let mut wire = wire(&rt, rt.alloc(), "mesh v 1432 7");
     wire.far.group = 9;
-    tells_each(&rt, &wire);
-    assert!(rt; wire.offer_of(EdgeId(1)).group == 0);
-    assert!(rt; wire.offer_of(EdgeId(2)).group == 9);
+    tells_each(&rt, rt.alloc(), &wire);
+    offers(&rt, &wire, 0, 9);
 }
 
-// What an edge is to a service.
-fn has_role(rt: &impl Abort, plan: &Plan, service: u16, edge: u16, want: Option<Role>) {
-    assert!(rt; role(plan, ServiceId(service), EdgeId(edge)) == want);
+// A service and an edge, and what the edge is to it.
+const ROLES: [(u16, u16, &'static str); 5] = [
+    (0, 0, "Some(SpokeEdge)"),
+    (0, 1, "Some(Core)"),
+    (0, 3, "Some(Core)"),
+    (0, 2, "None"),
+    (1, 0, "None"),
+];
+
+// What each edge is to a service of the plan.
+fn has_roles(rt: &impl Abort, alloc: Global, plan: &Plan) {
+    for (service, edge, words) in ROLES.as_slice() {
+        let role = role(plan, ServiceId(*service), EdgeId(*edge));
+        is_told(rt, alloc, &role, words);
+    }
 }
 
 #[test]
 fn tells_what_edges_are_to_a_service(rt: HostRuntime) {
     let plan = plan(&rt, rt.alloc(), "spoke v 01 7, mesh w 123 8");
-    has_role(&rt, &plan, 0, 0, Some(Role::SpokeEdge));
-    has_role(&rt, &plan, 0, 1, Some(Role::Core));
-    has_role(&rt, &plan, 0, 3, Some(Role::Core));
-    has_role(&rt, &plan, 0, 2, None);
-    has_role(&rt, &plan, 1, 0, None);
+    has_roles(&rt, rt.alloc(), &plan);
 }

@@ -3,17 +3,12 @@
 use std::process::Abort;
 use text_pieces::{put_hex_word, put_number_word, put_text, put_word};
 
-fn put_words(rt: &impl Abort, text: &mut Vec<u8>) {
+// Adds each kind of piece.
+fn put_pieces(rt: &impl Abort, text: &mut Vec<u8>) {
     put_text(text, b"left").expect(rt, "memory");
     put_word(text, b"paris").expect(rt, "memory");
-}
-
-fn put_numbers(rt: &impl Abort, text: &mut Vec<u8>) {
     put_number_word(text, 0).expect(rt, "memory");
     put_number_word(text, u64::MAX).expect(rt, "memory");
-}
-
-fn put_octets(rt: &impl Abort, text: &mut Vec<u8>) {
     put_hex_word(text, &[]).expect(rt, "memory");
     put_hex_word(text, &[0, 9, 10, 159, 255]).expect(rt, "memory");
 }
@@ -23,8 +18,6 @@ const LINE: &str = "left paris 0 18446744073709551615  00090a9fff";
 #[test]
 fn adds_each_piece_at_the_end(rt: HostRuntime) {
     let mut text = Vec::new(rt.alloc());
-    put_words(&rt, &mut text);
-    put_numbers(&rt, &mut text);
-    put_octets(&rt, &mut text);
+    put_pieces(&rt, &mut text);
     assert!(rt; text.as_slice() == LINE.as_bytes());
 }

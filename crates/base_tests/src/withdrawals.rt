@@ -15,17 +15,9 @@ const HIERARCHY: &str =
 // The ports of the service of a plan at an edge.
 fn ports_of(rt: &impl Abort, alloc: Global, plan: &Plan, edge: u16) -> Ports {
     assert!(rt; plan.edges.len() <= 64 && usize::from(edge) < plan.edges.len());
-    assert!(rt; plan.services.len() == 1);
-    assert!(rt; plan.circuits.len() <= 512);
-    assert!(rt; plan.wires.len() <= 1024);
+    assert!(rt; plan.services.len() == 1 && plan.circuits.len() <= 512 && plan.wires.len() <= 1024);
     plan.check().expect(rt, "a plan without a fault");
     Ports::open(alloc, plan, ServiceId(0), EdgeId(edge)).expect(rt, "memory")
-}
-
-// The ports of the service at an edge.
-fn ports(rt: &impl Abort, alloc: Global, edge: u16) -> Ports {
-    let plan = plan(rt, alloc, HIERARCHY);
-    ports_of(rt, alloc, &plan, edge)
 }
 
 // What came by the wire port `from` is passed on by these ports alone.
@@ -39,45 +31,44 @@ fn passes(rt: &impl Abort, ports: &Ports, role: Role, from: u16, to: &[u16]) {
     }
 }
 
-// A wire port, and the ports by which is passed on what came by it.
-type Passed = (u16, &'static [u16]);
+// An edge with its role and so many ports; and a wire port there, and the ports by which is passed on what came by it.
+type Row = (u16, Role, u16, u16, &'static [u16]);
 
-const AT_CORE: [Passed; 4] = [(1, &[3, 4]), (2, &[3, 4]), (3, &[1, 2, 4]), (4, &[1, 2, 3])];
+const ROWS: [Row; 6] = [
+    (1, Role::Core, 5, 1, &[3, 4]),
+    (1, Role::Core, 5, 2, &[3, 4]),
+    (1, Role::Core, 5, 3, &[1, 2, 4]),
+    (1, Role::Core, 5, 4, &[1, 2, 3]),
+    (0, Role::SpokeEdge, 2, 0, &[]),
+    (0, Role::SpokeEdge, 2, 1, &[]),
+];
 
-const AT_SPOKE_EDGE: [Passed; 2] = [(0, &[]), (1, &[])];
+// What came by the wire port of a row is passed on by its ports alone.
+fn pass(rt: &impl Abort, alloc: Global, plan: &Plan, row: &Row) {
+    let (edge, role, count, from, to) = *row;
+    let ports = ports_of(rt, alloc, plan, edge);
+    assert!(rt; ports.len() == count);
+    passes(rt, &ports, role, from, to);
+}
 
-// What came by each wire port is passed on by its ports alone.
-fn pass(rt: &impl Abort, ports: &Ports, role: Role, rows: &[Passed]) {
-    for (from, to) in rows {
-        passes(rt, ports, role, *from, to);
+fn pass_each(rt: &impl Abort, alloc: Global, plan: &Plan) {
+    for row in ROWS.as_slice() {
+        pass(rt, alloc, plan, row);
     }
 }
 
 #[test]
-fn passes_on_at_a_core_edge(rt: HostRuntime) {
-    let ports = ports(&rt, rt.alloc(), 1);
-    assert_eq!(rt; ports.len(), 5);
-    pass(&rt, &ports, Role::Core, AT_CORE.as_slice());
+fn passes_on(rt: HostRuntime) {
+    let plan = plan(&rt, rt.alloc(), HIERARCHY);
+    pass_each(&rt, rt.alloc(), &plan);
 }
 
-#[test]
-fn passes_on_nothing_at_a_spoke_edge(rt: HostRuntime) {
-    let ports = ports(&rt, rt.alloc(), 0);
-    assert_eq!(rt; ports.len(), 2);
-    pass(&rt, &ports, Role::SpokeEdge, AT_SPOKE_EDGE.as_slice());
-}
-
-// How many pieces so many addresses take.
-fn takes(rt: &impl Abort, count: usize, want: usize) {
-    assert_eq!(rt; pieces(count), want);
-}
+// Numbers of addresses, and how many pieces they take.
+const PIECES: [(usize, usize); 6] = [(0, 1), (1, 1), (30, 1), (31, 2), (60, 2), (61, 3)];
 
 #[test]
 fn tells_at_most_30_addresses_in_a_piece(rt: HostRuntime) {
-    takes(&rt, 0, 1);
-    takes(&rt, 1, 1);
-    takes(&rt, 30, 1);
-    takes(&rt, 31, 2);
-    takes(&rt, 60, 2);
-    takes(&rt, 61, 3);
+    for (count, want) in PIECES.as_slice() {
+        assert!(rt; pieces(*count) == *want, "of {count}");
+    }
 }
