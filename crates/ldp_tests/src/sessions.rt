@@ -150,8 +150,9 @@ fn plays(rt: &impl Abort, alloc: Global, script: &str, count: usize) {
     assert_eq!(rt; rows, count);
 }
 
-// What comes to a session in each state: the table of states, row by row.
-const STATES: &str = "
+// What comes to a session in each state: the table of states, row by row. Then a session that comes up at both ends, and ends without
+// a word; and ticks: KeepAlives and the end of the hold time.
+const EVENTS: &str = "
     What an Initialization proposes, to the passive end that proposes 180 ticks and 4096 octets, and to the active one that
     proposes 60 ticks and 1500 octets. Version, receiver and KeepAlive Time are wrong.
     opened 000100200a0000020000 0200001600000007 0500000e 00020000000010000a0000020000 = (Ended(BadVersion), None, None, Some(Notice(StatusCode { fatal: true, forward: false, code: 2, message: 7, kind: 512 })), None)
@@ -220,10 +221,6 @@ const STATES: &str = "
     up 000100130a0000020000 0201000900000001 3f000002 00 = (Ended(Decode), None, None, Some(Notice(StatusCode { fatal: true, forward: false, code: 7, message: 0, kind: 0 })), None)
     opened 000100150a0000020000 0100000b00000001 04000003 000000 = (Ended(Decode), None, None, Some(Notice(StatusCode { fatal: true, forward: false, code: 8, message: 0, kind: 0 })), None)
     up 0001001e0a0000020000 0100001400000001 04000004 000f8000 04000004 000f8000 = (Ended(Decode), None, None, Some(Notice(StatusCode { fatal: true, forward: false, code: 8, message: 0, kind: 0 })), None)
-";
-
-// A session that comes up at both ends, and ends without a word.
-const ENDS: &str = "
     The active end comes up.
     early = (OpenSent, Some(60), Some(4096), Some(Init), None)
     begins = (OpenSent, Some(60), Some(4096), None, None)
@@ -248,10 +245,6 @@ const ENDS: &str = "
     The link fails.
     started = (OpenSent, Some(60), Some(4096), None, None)
     fails = (Ended(LinkFault), None, None, None, None)
-";
-
-// Ticks: KeepAlives and the end of the hold time.
-const TICKS: &str = "
     The hold time is 9, so a third of it is 3. What is put is put at the first chance only.
     opened 000100200a0000020000 0200001600000007 0500000e 00010009000005dc0a0000010000 = (OpenRec, Some(9), Some(1500), Some(Init), Some(KeepAlive))
     ticks 2 = (OpenRec, Some(9), Some(1500), None, None)
@@ -303,17 +296,7 @@ const TICKS: &str = "
 
 #[test]
 fn follows_the_table_of_states(rt: HostRuntime) {
-    plays(&rt, rt.alloc(), STATES, 52);
-}
-
-#[test]
-fn comes_up_and_ends(rt: HostRuntime) {
-    plays(&rt, rt.alloc(), ENDS, 20);
-}
-
-#[test]
-fn keeps_alive_and_expires(rt: HostRuntime) {
-    plays(&rt, rt.alloc(), TICKS, 41);
+    plays(&rt, rt.alloc(), EVENTS, 113);
 }
 
 // The Initializations of both ends, as a table of PDUs.

@@ -35,13 +35,20 @@ fn limit(rt: &impl Abort, stream: &mut Stream, max: usize) -> usize {
     max
 }
 
+// A new stream takes the place of this one; how many octets it holds.
+fn begin_anew(rt: &impl Abort, alloc: Global, stream: &mut Stream) -> usize {
+    *stream = Stream::new(alloc).expect(rt, "memory");
+    stream.held()
+}
+
 // The number that comes of a step: of octets (`feed`) or of so many `zeros`, those that are taken; the `max` of a PDU Length; and else
-// how many octets are held.
+// how many octets are held, also of a stream that is made `anew`.
 fn count_of(rt: &impl Abort, alloc: Global, stream: &mut Stream, letter: u8, more: &str) -> usize {
     match letter {
         b'f' => feed(rt, alloc, stream, more),
         b'z' => feed_zeros(stream, number(rt, more)),
         b'm' => limit(rt, stream, number(rt, more)),
+        b'a' => begin_anew(rt, alloc, stream),
         _ => stream.held(),
     }
 }
@@ -60,10 +67,9 @@ fn comes_singly(rt: &impl Abort, alloc: Global, stream: &mut Stream, digits: &st
 }
 
 // A number comes of a step.
-fn counts(rt: &impl Abort, alloc: Global, stream: &mut Stream, step: &str, want: &str) {
-    let (letter, more) = event_of(rt, step);
-    let count = count_of(rt, alloc, stream, letter, more);
-    assert!(rt; count == number(rt, want), "{step} = {want}");
+fn counts(rt: &impl Abort, alloc: Global, stream: &mut Stream, step: (u8, &str), want: &str) {
+    let count = count_of(rt, alloc, stream, step.0, step.1);
+    assert!(rt; count == number(rt, want), "{want}");
 }
 
 // A step comes to what stands behind it: the words of the `next` PDU, those of the next PDU while octets come `singly`, or a
@@ -73,7 +79,7 @@ fn take(rt: &impl Abort, alloc: Global, stream: &mut Stream, step: &str, want: &
     match letter {
         b'n' => is_next(rt, alloc, stream, want),
         b's' => comes_singly(rt, alloc, stream, more, want),
-        _ => counts(rt, alloc, stream, step, want),
+        _ => counts(rt, alloc, stream, (letter, more), want),
     }
 }
 
@@ -97,19 +103,10 @@ fn play(rt: &impl Abort, alloc: Global, stream: &mut Stream, script: &str) -> us
     rows
 }
 
-// A new stream takes the steps of a script; how many they are.
-fn play_anew(rt: &impl Abort, alloc: Global, script: &str) -> usize {
-    let mut stream = Stream::new(alloc).expect(rt, "memory");
-    play(rt, alloc, &mut stream, script)
-}
-
-// A new stream takes the steps of each part of a script; they are so many.
-fn plays(rt: &impl Abort, alloc: Global, script: &str, count: usize) {
-    let mut rows: usize = 0;
-    for part in script.split("\n\n") {
-        rows = rows.saturating_add(play_anew(rt, alloc, part));
-    }
-    assert_eq!(rt; rows, count);
+// All steps of a script, which are so many, are taken.
+fn goes_through(rt: &impl Abort, alloc: Global, stream: &mut Stream, script: &str, count: usize) {
+    let rows = play(rt, alloc, stream, script);
+    assert!(rt; rows == count);
 }
 
 // Octets are refused with the fault at the place 0 as soon as the last of them is held, and from then on.
@@ -120,16 +117,16 @@ const PIECES: &str = "
     next = Ok(Some(Pdu { id: LdpId { router: Addr([10, 0, 0, 1]), space: 0 }, messages: List { items: [KeepAlive { id: 1 }] } }))
     held = 0
     next = Ok(None)
-
     The maximum falls below the PDU Length.
+    anew = 0
     feed 00010101 = 4
     next = Ok(None)
     max 257 = 257
     next = Ok(None)
     max 256 = 256
     next = Err(Refused { base: 0, fault: PduLength { at: 2 } })
-
     The longest PDU, whose first message has the length 0.
+    anew = 0
     feed 00011000 = 4
     zeros 4095 = 4095
     held = 4099
@@ -138,29 +135,29 @@ const PIECES: &str = "
     zeros 3 = 0
     held = 4100
     next = Err(Refused { base: 0, fault: MessageLength { at: 12 } })
-
     Another version.
+    anew = 0
     singly 0002 = Ok(None)
     next = Err(Refused { base: 0, fault: Version { at: 0 } })
     feed 0001000e0a0000010000 0201000400000001 = 0
     held = 2
     next = Err(Refused { base: 0, fault: Version { at: 0 } })
-
     A PDU Length below 14.
+    anew = 0
     singly 0001000d = Ok(None)
     next = Err(Refused { base: 0, fault: PduLength { at: 2 } })
     feed 0001000e0a0000010000 0201000400000001 = 0
     held = 4
     next = Err(Refused { base: 0, fault: PduLength { at: 2 } })
-
     A PDU Length of 4097.
+    anew = 0
     singly 00011001 = Ok(None)
     next = Err(Refused { base: 0, fault: PduLength { at: 2 } })
     feed 0001000e0a0000010000 0201000400000001 = 0
     held = 4
     next = Err(Refused { base: 0, fault: PduLength { at: 2 } })
-
     Message Length 3.
+    anew = 0
     singly 0001000e0a0000010000 0201000300000001 = Ok(None)
     next = Err(Refused { base: 0, fault: MessageLength { at: 12 } })
     feed 0001000e0a0000010000 0201000400000001 = 0
@@ -170,7 +167,8 @@ const PIECES: &str = "
 
 #[test]
 fn answers_and_refuses_pieces(rt: HostRuntime) {
-    plays(&rt, rt.alloc(), PIECES, 39);
+    let mut stream = Stream::new(rt.alloc()).expect(&rt, "memory");
+    goes_through(&rt, rt.alloc(), &mut stream, PIECES, 45);
 }
 
 // KeepAlive with the Message ID 1, and one with an unknown TLV and the Message ID 2.
@@ -250,12 +248,6 @@ const LAST_PDU: &str = "
     feed 0002 = 2
     next = Err(Refused { base: 9018, fault: Version { at: 0 } })
 ";
-
-// All steps of a script, which are so many, are taken.
-fn goes_through(rt: &impl Abort, alloc: Global, stream: &mut Stream, script: &str, count: usize) {
-    let rows = play(rt, alloc, stream, script);
-    assert!(rt; rows == count);
-}
 
 // The front of a PDU, 500 times the rest of one and the front of the next, and a PDU that is refused.
 fn goes_past_its_room(rt: &impl Abort, alloc: Global, stream: &mut Stream) {

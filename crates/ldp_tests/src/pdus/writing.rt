@@ -128,8 +128,10 @@ fn is_named(rt: &impl Abort, message: Message, id: u32, kind: u16) {
     assert!(rt; name == (id, kind));
 }
 
+// Of a message whose description is empty.
 #[test]
 fn tells_the_id_and_the_type(rt: HostRuntime) {
     let fec = element(&rt, ROWS[8], true, 7);
+    assert!(rt; fec.params.description.is_empty());
     is_named(&rt, request(fec), 8, 0x0401);
 }
