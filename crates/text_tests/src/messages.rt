@@ -4,6 +4,18 @@
 use ldp_grammar::{Message, Why};
 use message_text::put_messages;
 use net_base::Addr;
+use std::alloc::Global;
+use std::process::Abort;
+
+const LINES: &str =
+    "0 KeepAlive id=1\n18 Hello id=7 hold=45/1/0 transport=10.0.0.2\n18 KeepAlive id=4294967295\n18 Other id=9 type=16128\n18 Unprocessed id=2 type=513 why=UnknownTlv:16128\n";
+
+// Behind a line stand the lines of these messages.
+fn adds(rt: &impl Abort, alloc: Global, messages: &[Message]) {
+    let mut text = Vec::from_slice(alloc, b"0 KeepAlive id=1\n").expect(rt, "memory");
+    put_messages(&mut text, 18, messages).expect(rt, "memory");
+    assert!(rt; text.as_slice() == LINES.as_bytes());
+}
 
 #[test]
 fn adds_a_line_for_each_message(rt: HostRuntime) {
@@ -27,9 +39,5 @@ fn adds_a_line_for_each_message(rt: HostRuntime) {
             why: Why::UnknownTlv(16128),
         },
     ];
-    let mut text = Vec::from_slice(rt.alloc(), b"0 KeepAlive id=1\n").expect(&rt, "memory");
-    put_messages(&mut text, 18, &messages).expect(&rt, "memory");
-    let lines =
-        "0 KeepAlive id=1\n18 Hello id=7 hold=45/1/0 transport=10.0.0.2\n18 KeepAlive id=4294967295\n18 Other id=9 type=16128\n18 Unprocessed id=2 type=513 why=UnknownTlv:16128\n";
-    assert!(rt; text.as_slice() == lines.as_bytes());
+    adds(&rt, rt.alloc(), &messages);
 }

@@ -65,32 +65,30 @@ fn wire(rt: &impl Abort, alloc: Global) -> WirePlan {
     }
 }
 
-fn edges(rt: &impl Abort, alloc: Global) -> List<EdgePlan> {
-    let mut edges = List::new(alloc);
-    edges.push(edge(rt, "a")).expect(rt, "memory");
-    edges.push(edge(rt, "b_2")).expect(rt, "memory");
-    edges
+fn add_edge(rt: &impl Abort, plan: &mut Plan, text: &str) {
+    plan.edges.push(edge(rt, text)).expect(rt, "memory");
 }
 
-fn circuits(rt: &impl Abort, alloc: Global) -> List<CircuitPlan> {
-    let mut circuits = List::new(alloc);
-    circuits.push(circuit(rt)).expect(rt, "memory");
-    circuits
+fn add_wire(rt: &impl Abort, alloc: Global, plan: &mut Plan) {
+    plan.wires.push(wire(rt, alloc)).expect(rt, "memory");
 }
 
-fn wires(rt: &impl Abort, alloc: Global) -> List<WirePlan> {
-    let mut wires = List::new(alloc);
-    wires.push(wire(rt, alloc)).expect(rt, "memory");
-    wires
+fn fill(rt: &impl Abort, alloc: Global, plan: &mut Plan) {
+    add_edge(rt, plan, "a");
+    add_edge(rt, plan, "b_2");
+    plan.circuits.push(circuit(rt)).expect(rt, "memory");
+    add_wire(rt, alloc, plan);
 }
 
 fn plan(rt: &impl Abort, alloc: Global) -> Plan {
-    Plan {
-        edges: edges(rt, alloc),
+    let mut plan = Plan {
+        edges: List::new(alloc),
         services: List::new(alloc),
-        circuits: circuits(rt, alloc),
-        wires: wires(rt, alloc),
-    }
+        circuits: List::new(alloc),
+        wires: List::new(alloc),
+    };
+    fill(rt, alloc, &mut plan);
+    plan
 }
 
 fn add(rt: &impl Abort, trace: &mut Trace, entry: Entry) {
@@ -105,34 +103,31 @@ fn octets(rt: &impl Abort, alloc: Global, octets: &[u8]) -> Octets {
     List::from_bytes(alloc, octets).expect(rt, "memory")
 }
 
-fn events(rt: &impl Abort, alloc: Global) -> Trace {
-    let mut trace = List::new(alloc);
+fn events(rt: &impl Abort, alloc: Global, trace: &mut Trace) {
     let bytes = octets(rt, alloc, &[0, 9, 10, 159, 255]);
-    tell(rt, &mut trace, Event::Connect { from: A, to: B });
+    tell(rt, trace, Event::Connect { from: A, to: B });
     tell(
         rt,
-        &mut trace,
+        trace,
         Event::Deliver {
             from: B,
             to: A,
             count: 65535,
         },
     );
-    tell(rt, &mut trace, Event::Lose { edge: A, peer: B });
-    tell(rt, &mut trace, Event::Restart { edge: B });
-    tell(rt, &mut trace, Event::Tick);
-    tell(rt, &mut trace, Event::Frame { circuit: CA, bytes });
-    tell(rt, &mut trace, Event::Arrive { packet: 7 });
-    tell(rt, &mut trace, Event::Discard { packet: u64::MAX });
-    tell(rt, &mut trace, Event::Again { packet: 10 });
-    trace
+    tell(rt, trace, Event::Lose { edge: A, peer: B });
+    tell(rt, trace, Event::Restart { edge: B });
+    tell(rt, trace, Event::Tick);
+    tell(rt, trace, Event::Frame { circuit: CA, bytes });
+    tell(rt, trace, Event::Arrive { packet: 7 });
+    tell(rt, trace, Event::Discard { packet: u64::MAX });
+    tell(rt, trace, Event::Again { packet: 10 });
 }
 
-fn events_of_wires(rt: &impl Abort, alloc: Global) -> Trace {
-    let mut trace = List::new(alloc);
+fn events_of_wires(rt: &impl Abort, trace: &mut Trace) {
     tell(
         rt,
-        &mut trace,
+        trace,
         Event::Wire {
             edge: A,
             wire: W,
@@ -141,7 +136,7 @@ fn events_of_wires(rt: &impl Abort, alloc: Global) -> Trace {
     );
     tell(
         rt,
-        &mut trace,
+        trace,
         Event::Circuit {
             circuit: CA,
             on: false,
@@ -149,7 +144,7 @@ fn events_of_wires(rt: &impl Abort, alloc: Global) -> Trace {
     );
     tell(
         rt,
-        &mut trace,
+        trace,
         Event::Status {
             edge: B,
             wire: W,
@@ -158,22 +153,20 @@ fn events_of_wires(rt: &impl Abort, alloc: Global) -> Trace {
     );
     tell(
         rt,
-        &mut trace,
+        trace,
         Event::Priority {
             edge: A,
             wire: W,
             priority: 255,
         },
     );
-    tell(rt, &mut trace, Event::Ping { edge: A, wire: W });
-    trace
+    tell(rt, trace, Event::Ping { edge: A, wire: W });
 }
 
-fn entries_of_frames(rt: &impl Abort, alloc: Global) -> Trace {
-    let mut trace = List::new(alloc);
+fn entries_of_frames(rt: &impl Abort, alloc: Global, trace: &mut Trace) {
     add(
         rt,
-        &mut trace,
+        trace,
         Entry::In {
             circuit: CA,
             number: 1,
@@ -182,7 +175,7 @@ fn entries_of_frames(rt: &impl Abort, alloc: Global) -> Trace {
     );
     add(
         rt,
-        &mut trace,
+        trace,
         Entry::Sent {
             packet: 2,
             from: A,
@@ -196,7 +189,7 @@ fn entries_of_frames(rt: &impl Abort, alloc: Global) -> Trace {
     );
     add(
         rt,
-        &mut trace,
+        trace,
         Entry::Sent {
             packet: 5,
             from: B,
@@ -208,10 +201,10 @@ fn entries_of_frames(rt: &impl Abort, alloc: Global) -> Trace {
             bytes: octets(rt, alloc, &[0xc0]),
         },
     );
-    add(rt, &mut trace, Entry::Copied { packet: 6, of: 2 });
+    add(rt, trace, Entry::Copied { packet: 6, of: 2 });
     add(
         rt,
-        &mut trace,
+        trace,
         Entry::Left {
             circuit: CircuitId(9),
             origin: 7,
@@ -221,22 +214,20 @@ fn entries_of_frames(rt: &impl Abort, alloc: Global) -> Trace {
     );
     add(
         rt,
-        &mut trace,
+        trace,
         Entry::Dropped {
             edge: B,
             origin: 1,
             cause: DropCause::NoLabel,
         },
     );
-    trace
 }
 
-fn entries_of_sessions(rt: &impl Abort, alloc: Global) -> Trace {
-    let mut trace = List::new(alloc);
-    add(rt, &mut trace, Entry::Idle);
+fn entries_of_sessions(rt: &impl Abort, alloc: Global, trace: &mut Trace) {
+    add(rt, trace, Entry::Idle);
     add(
         rt,
-        &mut trace,
+        trace,
         Entry::Said {
             from: A,
             to: B,
@@ -245,7 +236,7 @@ fn entries_of_sessions(rt: &impl Abort, alloc: Global) -> Trace {
     );
     add(
         rt,
-        &mut trace,
+        trace,
         Entry::Session {
             edge: A,
             peer: B,
@@ -254,7 +245,7 @@ fn entries_of_sessions(rt: &impl Abort, alloc: Global) -> Trace {
     );
     add(
         rt,
-        &mut trace,
+        trace,
         Entry::Session {
             edge: B,
             peer: A,
@@ -263,7 +254,7 @@ fn entries_of_sessions(rt: &impl Abort, alloc: Global) -> Trace {
     );
     add(
         rt,
-        &mut trace,
+        trace,
         Entry::Wire {
             edge: A,
             wire: W,
@@ -272,7 +263,7 @@ fn entries_of_sessions(rt: &impl Abort, alloc: Global) -> Trace {
     );
     add(
         rt,
-        &mut trace,
+        trace,
         Entry::Wire {
             edge: B,
             wire: W,
@@ -281,59 +272,59 @@ fn entries_of_sessions(rt: &impl Abort, alloc: Global) -> Trace {
     );
     add(
         rt,
-        &mut trace,
+        trace,
         Entry::Pong {
             edge: A,
             wire: W,
             sequence: 513,
         },
     );
-    trace
 }
 
 // The report of a trace that ended so is this text.
-fn reports(rt: &impl Abort, alloc: Global, trace: &Trace, ending: Ending, text: &str) {
-    let plan = plan(rt, alloc);
-    let report = report_of(alloc, &plan, trace.as_slice(), ending).expect(rt, "memory");
+fn tells(rt: &impl Abort, alloc: Global, plan: &Plan, trace: &Trace, ending: Ending, text: &str) {
+    let report = report_of(alloc, plan, trace.as_slice(), ending).expect(rt, "memory");
     assert!(rt; report.as_slice() == text.as_bytes(), "{text}");
 }
 
+// The same in the plan.
+fn reports(rt: &impl Abort, alloc: Global, trace: &Trace, ending: Ending, text: &str) {
+    let plan = plan(rt, alloc);
+    tells(rt, alloc, &plan, trace, ending, text);
+}
+
+const EVENTS: &str =
+    "vplsnet 1\n> connect a b_2\n> deliver b_2 a 65535\n> lose a b_2\n> restart b_2\n> tick\n> frame ca 00090a9fff\n> arrive 7\n> drop 18446744073709551615\n> again 10\nend events=9 in=0 left=0 sent=0 dropped=0\n";
+
+const EVENTS_OF_WIRES: &str =
+    "vplsnet 1\n> wire a w on\n> circuit ca off\n> status b_2 w 31\n> priority a w 255\n> ping a w\nstop Crowded 1000001\n";
+
 #[test]
 fn events_as_the_format_writes_them(rt: HostRuntime) {
-    let alloc = rt.alloc();
-    reports(
-        &rt,
-        alloc,
-        &events(&rt, alloc),
-        Ending::End,
-        "vplsnet 1\n> connect a b_2\n> deliver b_2 a 65535\n> lose a b_2\n> restart b_2\n> tick\n> frame ca 00090a9fff\n> arrive 7\n> drop 18446744073709551615\n> again 10\nend events=9 in=0 left=0 sent=0 dropped=0\n",
-    );
-    reports(
-        &rt,
-        alloc,
-        &events_of_wires(&rt, alloc),
-        Ending::Crowded { count: 1_000_001 },
-        "vplsnet 1\n> wire a w on\n> circuit ca off\n> status b_2 w 31\n> priority a w 255\n> ping a w\nstop Crowded 1000001\n",
-    );
+    let mut trace = List::new(rt.alloc());
+    events(&rt, rt.alloc(), &mut trace);
+    reports(&rt, rt.alloc(), &trace, Ending::End, EVENTS);
+    let mut trace = List::new(rt.alloc());
+    events_of_wires(&rt, &mut trace);
+    let crowded = Ending::Crowded { count: 1_000_001 };
+    reports(&rt, rt.alloc(), &trace, crowded, EVENTS_OF_WIRES);
 }
+
+const ENTRIES_OF_FRAMES: &str =
+    "vplsnet 1\nin ca 1 \nsent 2 a b_2 w ca 3 4 1b\nsent 5 b_2 a w - 0 1 c0\ncopied 6 2\nleft  7 8 fe\ndropped b_2 1 NoLabel\nend events=0 in=1 left=1 sent=2 dropped=1\n";
+
+const ENTRIES_OF_SESSIONS: &str =
+    "vplsnet 1\nidle\nsaid a b_2 0001\nsession a b_2 OpenSent\nsession b_2 a Ended:PeerFatal\nwire a w up\nwire b_2 w NoRemote\npong a w 513\nstop TooMuch 268435457\n";
 
 #[test]
 fn entries_as_the_format_writes_them(rt: HostRuntime) {
-    let alloc = rt.alloc();
-    reports(
-        &rt,
-        alloc,
-        &entries_of_frames(&rt, alloc),
-        Ending::End,
-        "vplsnet 1\nin ca 1 \nsent 2 a b_2 w ca 3 4 1b\nsent 5 b_2 a w - 0 1 c0\ncopied 6 2\nleft  7 8 fe\ndropped b_2 1 NoLabel\nend events=0 in=1 left=1 sent=2 dropped=1\n",
-    );
-    reports(
-        &rt,
-        alloc,
-        &entries_of_sessions(&rt, alloc),
-        Ending::TooMuch {
-            weight: 268_435_457,
-        },
-        "vplsnet 1\nidle\nsaid a b_2 0001\nsession a b_2 OpenSent\nsession b_2 a Ended:PeerFatal\nwire a w up\nwire b_2 w NoRemote\npong a w 513\nstop TooMuch 268435457\n",
-    );
+    let mut trace = List::new(rt.alloc());
+    entries_of_frames(&rt, rt.alloc(), &mut trace);
+    reports(&rt, rt.alloc(), &trace, Ending::End, ENTRIES_OF_FRAMES);
+    let mut trace = List::new(rt.alloc());
+    entries_of_sessions(&rt, rt.alloc(), &mut trace);
+    let much = Ending::TooMuch {
+        weight: 268_435_457,
+    };
+    reports(&rt, rt.alloc(), &trace, much, ENTRIES_OF_SESSIONS);
 }
