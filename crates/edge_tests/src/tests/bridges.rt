@@ -3,6 +3,8 @@
 use crate::tests::plans::BRIDGE;
 use crate::tests::steps::{Step, plays};
 use net_base::{DropCause, EdgeId, StateName};
+use std::alloc::Global;
+use std::process::Abort;
 
 /// The edge, and its neighbour.
 const E: EdgeId = EdgeId(0);
@@ -32,19 +34,6 @@ const FLOODS_AND_LEARNS: [Step; 11] = [
     Step::Dropped(DropCause::NoTag),
 ];
 
-#[test]
-fn floods_learns_and_serves_a_known_station(rt: HostRuntime) {
-    plays(
-        &rt,
-        rt.alloc(),
-        BRIDGE,
-        E,
-        0,
-        &[],
-        FLOODS_AND_LEARNS.as_slice(),
-    );
-}
-
 const TURNS_OFF: [Step; 16] = [
     Step::Frame(0, BROADCAST),
     Step::Gives(2),
@@ -64,11 +53,6 @@ const TURNS_OFF: [Step; 16] = [
     Step::Gives(2),
 ];
 
-#[test]
-fn turns_a_circuit_off_with_its_addresses(rt: HostRuntime) {
-    plays(&rt, rt.alloc(), BRIDGE, E, 0, &[], TURNS_OFF.as_slice());
-}
-
 const FORGETS: [Step; 9] = [
     Step::Frame(0, BROADCAST),
     Step::Gives(2),
@@ -80,11 +64,6 @@ const FORGETS: [Step; 9] = [
     Step::Learned(0),
     Step::Passed(2),
 ];
-
-#[test]
-fn forgets_by_ticks(rt: HostRuntime) {
-    plays(&rt, rt.alloc(), BRIDGE, E, 0, &[], FORGETS.as_slice());
-}
 
 // Labels 1, 15 and 16, the bottom bit, and a TTL (RFC 3032 section 2.1).
 const DROPS: [Step; 16] = [
@@ -105,11 +84,6 @@ const DROPS: [Step; 16] = [
     Step::Packet("00001001 00010101"),
     Step::Dropped(DropCause::NoLabel),
 ];
-
-#[test]
-fn drops_packets_by_the_first_cause(rt: HostRuntime) {
-    plays(&rt, rt.alloc(), BRIDGE, E, 0, &[], DROPS.as_slice());
-}
 
 // Circuits of the neighbour, a circuit of no plan, and wires and connections where no wire is.
 const LEAVES: [Step; 20] = [
@@ -135,11 +109,6 @@ const LEAVES: [Step; 20] = [
     Step::Held(F, 0),
 ];
 
-#[test]
-fn leaves_what_does_not_apply(rt: HostRuntime) {
-    plays(&rt, rt.alloc(), BRIDGE, E, 0, &[], LEAVES.as_slice());
-}
-
 const BRIDGES_ITS_SERVICES: [Step; 4] = [
     Step::Bridged(0, true),
     Step::Bridged(1, false),
@@ -147,15 +116,21 @@ const BRIDGES_ITS_SERVICES: [Step; 4] = [
     Step::Stopped(false),
 ];
 
+// The edge does steps.
+fn bridges(rt: &impl Abort, alloc: Global, steps: &[Step]) {
+    plays(rt, alloc, BRIDGE, E, 0, &[], steps);
+}
+
 #[test]
-fn bridges_the_services_of_its_circuits(rt: HostRuntime) {
-    plays(
-        &rt,
-        rt.alloc(),
-        BRIDGE,
-        E,
-        0,
-        &[],
-        BRIDGES_ITS_SERVICES.as_slice(),
-    );
+fn bridges_frames(rt: HostRuntime) {
+    bridges(&rt, rt.alloc(), &FLOODS_AND_LEARNS);
+    bridges(&rt, rt.alloc(), &TURNS_OFF);
+    bridges(&rt, rt.alloc(), &FORGETS);
+    bridges(&rt, rt.alloc(), &BRIDGES_ITS_SERVICES);
+}
+
+#[test]
+fn takes_nothing_else(rt: HostRuntime) {
+    bridges(&rt, rt.alloc(), &DROPS);
+    bridges(&rt, rt.alloc(), &LEAVES);
 }

@@ -59,54 +59,41 @@ fn owner(rt: &impl Abort, ends: &PwEnds, number: u32) -> Option<usize> {
     ends.owner(label)
 }
 
-#[test]
-fn opens_with_memory(rt: HostRuntime) {
-    let ends = opened(&rt, rt.alloc());
+// Both ends are idle and are found by peer and PW ID, and the edge knows its wires.
+fn stand(rt: &impl Abort, ends: &PwEnds) {
     assert!(rt; ends.len() == 2);
-    assert!(rt; is_fresh(&ends, 0) && is_fresh(&ends, 1));
-}
-
-#[test]
-fn finds_by_peer_and_pw_id(rt: HostRuntime) {
-    let ends = opened(&rt, rt.alloc());
+    assert!(rt; is_fresh(ends, 0) && is_fresh(ends, 1));
     assert!(rt; ends.find(B, 100) == Some(0));
     assert!(rt; ends.find(C, 100) == Some(1));
     assert!(rt; ends.find(B, 101) == None);
     assert!(rt; ends.find(A, 100) == None);
-}
-
-#[test]
-fn knows_its_wires(rt: HostRuntime) {
-    let ends = opened(&rt, rt.alloc());
     assert!(rt; ends.passes(WireId(1)));
     assert!(rt; ends.ends_here(WireId(0)));
     assert!(rt; !ends.passes(WireId(2)));
 }
 
 // Both ends advertise, with the first two of the edge's four labels.
-fn advertising(rt: &impl Abort, alloc: Global) -> PwEnds {
-    let mut ends = opened(rt, alloc);
+fn advertise(rt: &impl Abort, ends: &mut PwEnds) {
     let told = told(rt, Some(PwStatus(0)));
-    assert!(rt; advertised(rt, &mut ends, 0, &told) == 1_048_572);
-    assert!(rt; advertised(rt, &mut ends, 1, &told) == 1_048_573);
-    ends
+    assert!(rt; advertised(rt, ends, 0, &told) == 1_048_572);
+    assert!(rt; advertised(rt, ends, 1, &told) == 1_048_573);
 }
 
-#[test]
-fn owns_labels(rt: HostRuntime) {
-    let mut ends = advertising(&rt, rt.alloc());
+// Both ends own their labels, until the connection is lost and the edge restarts.
+fn own_labels(rt: &impl Abort, ends: &mut PwEnds) {
+    advertise(rt, ends);
     ends.lose(B);
-    assert!(rt; is_fresh(&ends, 0));
-    assert!(rt; owner(&rt, &ends, 1_048_572) == None);
-    assert!(rt; owner(&rt, &ends, 1_048_573) == Some(1));
+    assert!(rt; is_fresh(ends, 0));
+    assert!(rt; owner(rt, ends, 1_048_572) == None);
+    assert!(rt; owner(rt, ends, 1_048_573) == Some(1));
     ends.restarted();
-    assert!(rt; owner(&rt, &ends, 1_048_573) == None);
+    assert!(rt; owner(rt, ends, 1_048_573) == None);
     assert!(rt; ends.next_label() == 1_048_574);
 }
 
-#[test]
-fn advertises_until_it_withdraws(rt: HostRuntime) {
-    let mut ends = advertising(&rt, rt.alloc());
+// Both ends advertise, until one withdraws.
+fn advertise_until_one_withdraws(rt: &impl Abort, ends: &mut PwEnds) {
+    advertise(rt, ends);
     assert!(rt; ends.advertiser(1_048_573) == Some(1));
     assert!(rt; ends.len() == 2);
     ends.withdraw(1);
@@ -114,16 +101,15 @@ fn advertises_until_it_withdraws(rt: HostRuntime) {
     assert!(rt; ends.advertiser(1_048_572) == Some(0));
 }
 
-#[test]
-fn ends_with_the_labels(rt: HostRuntime) {
-    let mut ends = opened(&rt, rt.alloc());
-    let told = told(&rt, None);
+// The first end has no label to advertise once the edge has given its four.
+fn end_with_the_labels(rt: &impl Abort, ends: &mut PwEnds) {
+    let told = told(rt, None);
     for number in 1_048_572..1_048_576 {
-        assert!(rt; advertised(&rt, &mut ends, 0, &told) == number);
+        assert!(rt; advertised(rt, ends, 0, &told) == number);
         ends.lose(B);
     }
-    assert!(rt; advertised(&rt, &mut ends, 0, &told) == 0);
-    assert!(rt; is_fresh(&ends, 0));
+    assert!(rt; advertised(rt, ends, 0, &told) == 0);
+    assert!(rt; is_fresh(ends, 0));
 }
 
 // The end of a slot hears a mapping of label 17.
@@ -139,12 +125,43 @@ fn is_bound(ends: &PwEnds, slot: usize) -> bool {
     slot < ends.len() && ends.end(slot).remote().is_some()
 }
 
-#[test]
-fn holds_a_binding(rt: HostRuntime) {
-    let mut ends = opened(&rt, rt.alloc());
-    binds(&rt, &mut ends, 0);
-    binds(&rt, &mut ends, 1);
+// The first end holds its binding where the second one's peer withdraws their group.
+fn hold_a_binding(rt: &impl Abort, ends: &mut PwEnds) {
+    binds(rt, ends, 0);
+    binds(rt, ends, 1);
     ends.on_group_withdraw(C, 7);
-    assert!(rt; is_bound(&ends, 0));
-    assert!(rt; !is_bound(&ends, 1));
+    assert!(rt; is_bound(ends, 0));
+    assert!(rt; !is_bound(ends, 1));
+}
+
+// What the ends of the first edge have to do, each once they are opened.
+#[derive(Clone, Copy)]
+enum Deed {
+    Stand,
+    OwnLabels,
+    AdvertiseUntilOneWithdraws,
+    EndWithTheLabels,
+    HoldABinding,
+}
+
+// The ends of the first edge are opened, and do a deed.
+fn opened_do(rt: &impl Abort, alloc: Global, deed: Deed) {
+    let mut ends = opened(rt, alloc);
+    match deed {
+        Deed::Stand => stand(rt, &ends),
+        Deed::OwnLabels => own_labels(rt, &mut ends),
+        Deed::AdvertiseUntilOneWithdraws => advertise_until_one_withdraws(rt, &mut ends),
+        Deed::EndWithTheLabels => end_with_the_labels(rt, &mut ends),
+        Deed::HoldABinding => hold_a_binding(rt, &mut ends),
+    }
+    drop(ends);
+}
+
+#[test]
+fn ends_stand_advertise_and_bind(rt: HostRuntime) {
+    opened_do(&rt, rt.alloc(), Deed::Stand);
+    opened_do(&rt, rt.alloc(), Deed::OwnLabels);
+    opened_do(&rt, rt.alloc(), Deed::AdvertiseUntilOneWithdraws);
+    opened_do(&rt, rt.alloc(), Deed::EndWithTheLabels);
+    opened_do(&rt, rt.alloc(), Deed::HoldABinding);
 }

@@ -85,35 +85,14 @@ const LOSES_ITS_ENDS: [Step; 3] = [Step::Gives(3), Step::Gone(A), Step::NextLabe
 
 // The edge with the larger address, whose session is up, does steps; the call of its link with this number fails.
 fn plays_up(rt: &impl Abort, alloc: Global, fails: u64, steps: &[Step]) {
-    plays(rt, alloc, PAIR, B, fails, UP.as_slice(), steps);
+    plays(rt, alloc, PAIR, B, fails, &UP, steps);
 }
 
 #[test]
-fn releases_a_whole_group(rt: HostRuntime) {
-    plays_up(&rt, rt.alloc(), 0, RELEASES_A_GROUP.as_slice());
-}
-
-#[test]
-fn keeps_the_bindings_of_other_groups(rt: HostRuntime) {
-    plays_up(&rt, rt.alloc(), 0, KEEPS_OTHER_GROUPS.as_slice());
-}
-
-#[test]
-fn releases_what_it_does_not_know(rt: HostRuntime) {
-    plays_up(
-        &rt,
-        rt.alloc(),
-        0,
-        RELEASES_WHAT_IT_DOES_NOT_KNOW.as_slice(),
-    );
-}
-
-#[test]
-fn advertises_again_only_once_it_is_renewed(rt: HostRuntime) {
-    plays_up(&rt, rt.alloc(), 0, ADVERTISES_AGAIN_ONCE_RENEWED.as_slice());
-}
-
-#[test]
-fn loses_its_ends_where_a_mapping_fails(rt: HostRuntime) {
-    plays_up(&rt, rt.alloc(), 3, LOSES_ITS_ENDS.as_slice());
+fn hears_of_a_pseudowire(rt: HostRuntime) {
+    plays_up(&rt, rt.alloc(), 0, &RELEASES_A_GROUP);
+    plays_up(&rt, rt.alloc(), 0, &KEEPS_OTHER_GROUPS);
+    plays_up(&rt, rt.alloc(), 0, &RELEASES_WHAT_IT_DOES_NOT_KNOW);
+    plays_up(&rt, rt.alloc(), 0, &ADVERTISES_AGAIN_ONCE_RENEWED);
+    plays_up(&rt, rt.alloc(), 3, &LOSES_ITS_ENDS);
 }

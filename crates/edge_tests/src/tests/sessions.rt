@@ -3,7 +3,9 @@
 use crate::tests::plans::{A, B, PAIR};
 use crate::tests::proposals::{KEEP_ALIVE_OF_A, KEEP_ALIVE_OF_B, PROPOSAL_OF_A, PROPOSAL_OF_B};
 use crate::tests::steps::{Step, plays};
-use net_base::{Reason, StateName};
+use net_base::{EdgeId, Reason, StateName};
+use std::alloc::Global;
+use std::process::Abort;
 
 const OFF: [Step; 2] = [Step::Wire(0, false), Step::Gives(0)];
 
@@ -31,19 +33,6 @@ const COMES_UP_AND_IS_LOST: [Step; 20] = [
     Step::Calls(2),
 ];
 
-#[test]
-fn comes_up_and_is_lost(rt: HostRuntime) {
-    plays(
-        &rt,
-        rt.alloc(),
-        PAIR,
-        B,
-        0,
-        OFF.as_slice(),
-        COMES_UP_AND_IS_LOST.as_slice(),
-    );
-}
-
 /// A proposal of B for 10.0.0.9, and the Notification that refuses it (RFC 5036 section 3.5.1.2.2).
 const FOR_ANOTHER: &str =
     "000100200a000002000002000016000000010500000e000100b4000010000a0000090000";
@@ -65,19 +54,6 @@ const REFUSES_ANOTHER_RECEIVER: [Step; 12] = [
     Step::Put(2, B, REFUSAL),
 ];
 
-#[test]
-fn answers_a_proposal_and_refuses_another_receiver(rt: HostRuntime) {
-    plays(
-        &rt,
-        rt.alloc(),
-        PAIR,
-        A,
-        0,
-        OFF.as_slice(),
-        REFUSES_ANOTHER_RECEIVER.as_slice(),
-    );
-}
-
 const ENDS_WHERE_A_PUT_FAILS: [Step; 5] = [
     Step::Connected(B),
     Step::Hears(B, PROPOSAL_OF_B),
@@ -85,19 +61,6 @@ const ENDS_WHERE_A_PUT_FAILS: [Step; 5] = [
     Step::Gives(2),
     Step::Told(0, StateName::Ended(Reason::LinkFault)),
 ];
-
-#[test]
-fn ends_where_a_put_fails(rt: HostRuntime) {
-    plays(
-        &rt,
-        rt.alloc(),
-        PAIR,
-        A,
-        1,
-        OFF.as_slice(),
-        ENDS_WHERE_A_PUT_FAILS.as_slice(),
-    );
-}
 
 const EXPIRES: [Step; 5] = [
     Step::Connected(B),
@@ -107,15 +70,15 @@ const EXPIRES: [Step; 5] = [
     Step::Gone(B),
 ];
 
+// The edge with this place, whose wire is off, does steps; the call of its link with this number fails, and none for 0.
+fn plays_off(rt: &impl Abort, alloc: Global, me: EdgeId, fails: u64, steps: &[Step]) {
+    plays(rt, alloc, PAIR, me, fails, &OFF, steps);
+}
+
 #[test]
-fn expires_where_nothing_is_heard(rt: HostRuntime) {
-    plays(
-        &rt,
-        rt.alloc(),
-        PAIR,
-        A,
-        0,
-        OFF.as_slice(),
-        EXPIRES.as_slice(),
-    );
+fn comes_up_and_ends(rt: HostRuntime) {
+    plays_off(&rt, rt.alloc(), B, 0, &COMES_UP_AND_IS_LOST);
+    plays_off(&rt, rt.alloc(), A, 0, &REFUSES_ANOTHER_RECEIVER);
+    plays_off(&rt, rt.alloc(), A, 1, &ENDS_WHERE_A_PUT_FAILS);
+    plays_off(&rt, rt.alloc(), A, 0, &EXPIRES);
 }

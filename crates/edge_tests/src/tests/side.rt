@@ -1,10 +1,9 @@
 //! An edge over a link in memory.
 ghost use Rattle.provider_edge.specs.Taking.{IsInRange};
 
-use crate::tests::octets::octets_of;
 use crate::tests::plans::opened;
 use edge_model::{Effects, Input};
-use net_base::{EdgeId, List, MemLink, ServiceId};
+use net_base::{EdgeId, List, MemLink};
 use provider_edge::Edge;
 use std::alloc::Global;
 use std::process::Abort;
@@ -50,17 +49,11 @@ pub fn take(rt: &impl Abort, alloc: Global, side: &mut Side, input: Input<'_>)
         .expect(rt, "taken");
 }
 
-/// Octets of LDP come from a neighbour.
-pub fn hears(rt: &impl Abort, alloc: Global, side: &mut Side, peer: EdgeId, text: &str) {
-    let octets = octets_of(rt, alloc, text);
-    let bytes = octets.as_slice();
-    take(rt, alloc, side, Input::Octets { peer, bytes });
-}
-
-/// How many addresses the bridge of service 0 has learned.
-pub fn learned(side: &Side) -> usize {
-    match side.edge.bridge(ServiceId(0)) {
-        Some(bridge) => bridge.table().len(),
-        None => 0,
+/// Takes an input so many times.
+pub fn take_often(rt: &impl Abort, alloc: Global, side: &mut Side, input: Input<'_>, times: u16)
+    requires { IsInRange input }
+{
+    for _time in 0..times {
+        take(rt, alloc, side, input);
     }
 }

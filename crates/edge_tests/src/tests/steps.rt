@@ -3,10 +3,10 @@ ghost use Rattle.std.specs.Prelude.{IfSome};
 ghost use Rattle.provider_edge.specs.Taking.{IsInRange};
 
 use crate::tests::octets::octets_of;
-use crate::tests::side::{Side, hears, learned, side_of, take};
+use crate::tests::side::{Side, side_of, take_often};
 use edge_model::{Effect, Effects, Input};
 use net_base::{
-    Arrival, CircuitId, DropCause, EdgeId, LinkCall, SegKey, ServiceId, StateName, WireId,
+    Arrival, CircuitId, DropCause, EdgeId, LinkCall, MemLink, SegKey, ServiceId, StateName, WireId,
 };
 use provider_edge::Edge;
 use std::alloc::Global;
@@ -58,58 +58,34 @@ pub enum Step {
     Stopped(bool),
 }
 
-// Takes a step of a session; answers whether it is one.
-fn took_of_session(rt: &impl Abort, alloc: Global, side: &mut Side, step: Step) -> bool {
+// The octets that a step names, as text; empty where it names none.
+fn text_of(step: Step) -> &'static str {
     match step {
-        Step::Connected(peer) => take(rt, alloc, side, Input::Connected { peer }),
-        Step::Hears(peer, text) => hears(rt, alloc, side, peer, text),
-        Step::Lost(peer) => take(rt, alloc, side, Input::Lost { peer }),
-        Step::Restart => take(rt, alloc, side, Input::Restart),
-        _ => return false,
-    }
-    true
-}
-
-// So many ticks pass.
-fn passes(rt: &impl Abort, alloc: Global, side: &mut Side, ticks: u16) {
-    for _tick in 0..ticks {
-        take(rt, alloc, side, Input::Tick);
+        Step::Hears(_, text) => text,
+        Step::Frame(_, text) => text,
+        Step::Packet(text) => text,
+        Step::Left(_, _, text) => text,
+        Step::Put(_, _, text) => text,
+        Step::Sent(_, _, text) => text,
+        _ => "",
     }
 }
 
-// A frame comes by a circuit.
-fn enters(rt: &impl Abort, alloc: Global, side: &mut Side, circuit: u16, text: &str) {
-    let octets = octets_of(rt, alloc, text);
-    let frame = Input::Frame {
-        circuit: CircuitId(circuit),
-        bytes: octets.as_slice(),
-    };
-    take(rt, alloc, side, frame);
-}
-
-// A packet comes from a neighbour.
-fn arrives(rt: &impl Abort, alloc: Global, side: &mut Side, text: &str) {
-    let octets = octets_of(rt, alloc, text);
-    let bytes = octets.as_slice();
-    take(rt, alloc, side, Input::Packet { bytes });
-}
-
-// Takes a step of time, or of a frame or a packet; answers whether it is one.
-fn took_of_frames(rt: &impl Abort, alloc: Global, side: &mut Side, step: Step) -> bool {
-    match step {
-        Step::Ticks(ticks) => passes(rt, alloc, side, ticks),
-        Step::Frame(circuit, text) => enters(rt, alloc, side, circuit, text),
-        Step::Packet(text) => arrives(rt, alloc, side, text),
-        _ => return false,
-    }
-    true
-}
-
-// The input of a step of a circuit or a wire; none where it is another one.
-fn input_of(step: Step) -> Option<Input<'static>>
+// The input of a step that names these octets; none where it says what stands.
+fn input_of<'a>(step: Step, bytes: &'a [u8]) -> Option<Input<'a>>
     ensures { IfSome result IsInRange }
 {
     match step {
+        Step::Connected(peer) => Some(Input::Connected { peer }),
+        Step::Hears(peer, _) => Some(Input::Octets { peer, bytes }),
+        Step::Lost(peer) => Some(Input::Lost { peer }),
+        Step::Restart => Some(Input::Restart),
+        Step::Ticks(_) => Some(Input::Tick),
+        Step::Frame(circuit, _) => Some(Input::Frame {
+            circuit: CircuitId(circuit),
+            bytes,
+        }),
+        Step::Packet(_) => Some(Input::Packet { bytes }),
         Step::Circuit(circuit, on) => Some(Input::Circuit {
             circuit: CircuitId(circuit),
             on,
@@ -127,14 +103,11 @@ fn input_of(step: Step) -> Option<Input<'static>>
     }
 }
 
-// Takes a step that is an input; answers whether it is one.
-fn took(rt: &impl Abort, alloc: Global, side: &mut Side, step: Step) -> bool {
-    match input_of(step) {
-        Some(input) => {
-            take(rt, alloc, side, input);
-            true
-        }
-        None => { took_of_session(rt, alloc, side, step) || took_of_frames(rt, alloc, side, step) }
+// How often the input of a step comes.
+fn times_of(step: Step) -> u16 {
+    match step {
+        Step::Ticks(ticks) => ticks,
+        _ => 1,
     }
 }
 
@@ -177,17 +150,13 @@ fn is_dropped(effects: &Effects, cause: DropCause) -> bool {
     }
 }
 
-// Whether the effects are what a step says; none where it says nothing of them.
-fn agrees_in_effects(rt: &impl Abort, alloc: Global, side: &Side, step: Step) -> Option<bool> {
-    let effects = &side.effects;
+// Whether the effects are what a step says, which names these octets; none where it says nothing of them.
+fn agrees_in_effects(effects: &Effects, step: Step, octets: &[u8]) -> Option<bool> {
     match step {
         Step::Idle => Some(effects.idle),
         Step::Gives(count) => Some(!effects.idle && effects.list.len() == count),
         Step::Told(place, state) => Some(is_told(effects, place, state)),
-        Step::Left(place, circuit, text) => {
-            let octets = octets_of(rt, alloc, text);
-            Some(is_left(effects, place, circuit, octets.as_slice()))
-        }
+        Step::Left(place, circuit, _) => Some(is_left(effects, place, circuit, octets)),
         Step::SentOn(place, peer, wire) => Some(is_sent(effects, place, peer, wire)),
         Step::Dropped(cause) => Some(is_dropped(effects, cause)),
         _ => None,
@@ -204,27 +173,13 @@ fn is_call(call: Option<&LinkCall>, peer: EdgeId, packet: bool, octets: &[u8]) -
     }
 }
 
-// Whether the call at a place brought these octets to a neighbour.
-fn called(
-    rt: &impl Abort,
-    alloc: Global,
-    side: &Side,
-    place: usize,
-    peer: EdgeId,
-    packet: bool,
-    text: &str,
-) -> bool {
-    let octets = octets_of(rt, alloc, text);
-    let call = side.link.calls().get(place);
-    is_call(call, peer, packet, octets.as_slice())
-}
-
-// Whether the calls of the link are what a step says; none where it says nothing of them.
-fn agrees_in_calls(rt: &impl Abort, alloc: Global, side: &Side, step: Step) -> Option<bool> {
+// Whether the calls of the link are what a step says, which names these octets; none where it says nothing of them.
+fn agrees_in_calls(link: &MemLink, step: Step, octets: &[u8]) -> Option<bool> {
+    let calls = link.calls();
     match step {
-        Step::Calls(count) => Some(side.link.calls().len() == count),
-        Step::Put(place, peer, text) => Some(called(rt, alloc, side, place, peer, false, text)),
-        Step::Sent(place, peer, text) => Some(called(rt, alloc, side, place, peer, true, text)),
+        Step::Calls(count) => Some(calls.len() == count),
+        Step::Put(place, peer, _) => Some(is_call(calls.get(place), peer, false, octets)),
+        Step::Sent(place, peer, _) => Some(is_call(calls.get(place), peer, true, octets)),
         _ => None,
     }
 }
@@ -236,67 +191,71 @@ fn bound_label(edge: &Edge) -> u32 {
         segment: 0,
     };
     match edge.end(segment) {
-        Some(end) => end.remote().map_or(0, |binding| binding.label.number()),
+        Some(end) => match end.remote() {
+            Some(binding) => binding.label.number(),
+            None => 0,
+        },
         None => 0,
     }
 }
 
-// Whether the edge has a bridge of a service.
-fn has_bridge(edge: &Edge, service: u16) -> bool {
-    edge.bridge(ServiceId(service)).is_some()
-}
-
-// Whether the sessions are as a step says; none where it says nothing of them.
-fn agrees_in_sessions(edge: &Edge, step: Step) -> Option<bool> {
-    match step {
-        Step::Session(peer, state) => Some(edge.session(peer) == state),
-        Step::Held(peer, count) => Some(edge.held(peer) == count),
-        Step::Gone(peer) => Some(!edge.has_end(peer)),
-        _ => None,
+// How many addresses the bridge of service 0 has learned.
+fn learned(edge: &Edge) -> usize {
+    match edge.bridge(ServiceId(0)) {
+        Some(bridge) => bridge.table().len(),
+        None => 0,
     }
 }
 
-// Whether the rest of the edge is as a step says; none where it says nothing of it.
-fn agrees_in_edge(side: &Side, step: Step) -> Option<bool> {
-    let edge = &side.edge;
+// Whether the edge is as a step says.
+fn agrees_in_edge(edge: &Edge, step: Step) -> bool {
     match step {
-        Step::Learned(count) => Some(learned(side) == count),
-        Step::Bound(label) => Some(bound_label(edge) == label),
-        Step::NextLabel(label) => Some(edge.next_label() == label),
-        Step::Passed(ticks) => Some(edge.ticks() == ticks),
-        Step::Bridged(service, has) => Some(has_bridge(edge, service) == has),
-        Step::Stopped(stopped) => Some(edge.is_stopped() == stopped),
-        _ => None,
+        Step::Session(peer, state) => edge.session(peer) == state,
+        Step::Held(peer, count) => edge.held(peer) == count,
+        Step::Gone(peer) => !edge.has_end(peer),
+        Step::Learned(count) => learned(edge) == count,
+        Step::Bound(label) => bound_label(edge) == label,
+        Step::NextLabel(label) => edge.next_label() == label,
+        Step::Passed(ticks) => edge.ticks() == ticks,
+        Step::Bridged(service, has) => edge.bridge(ServiceId(service)).is_some() == has,
+        Step::Stopped(stopped) => edge.is_stopped() == stopped,
+        _ => false,
     }
 }
 
-// Whether what stands is what a step says.
-fn agrees(rt: &impl Abort, alloc: Global, side: &Side, step: Step) -> bool {
-    if let Some(agrees) = agrees_in_effects(rt, alloc, side, step) {
+// Whether what stands is what a step says, which names these octets.
+fn agrees(side: &Side, step: Step, octets: &[u8]) -> bool {
+    if let Some(agrees) = agrees_in_effects(&side.effects, step, octets) {
         return agrees;
     }
-    if let Some(agrees) = agrees_in_calls(rt, alloc, side, step) {
-        return agrees;
-    }
-    match agrees_in_sessions(&side.edge, step) {
+    match agrees_in_calls(&side.link, step, octets) {
         Some(agrees) => agrees,
-        None => agrees_in_edge(side, step) == Some(true),
+        None => agrees_in_edge(&side.edge, step),
     }
+}
+
+// Takes a step that names these octets, where it is an input; answers whether else what stands is what it says.
+fn does(rt: &impl Abort, alloc: Global, side: &mut Side, step: Step, octets: &[u8]) -> bool {
+    match input_of(step, octets) {
+        Some(input) => {
+            take_often(rt, alloc, side, input, times_of(step));
+            true
+        }
+        None => agrees(side, step, octets),
+    }
+}
+
+// Takes a step that is an input; answers whether else what stands is what it says.
+fn holds(rt: &impl Abort, alloc: Global, side: &mut Side, step: Step) -> bool {
+    let octets = octets_of(rt, alloc, text_of(step));
+    does(rt, alloc, side, step, octets.as_slice())
 }
 
 /// Does steps.
 pub fn play(rt: &impl Abort, alloc: Global, side: &mut Side, steps: &[Step]) {
     for (place, step) in steps.iter().enumerate() {
-        if !took(rt, alloc, side, *step) {
-            assert!(rt; agrees(rt, alloc, side, *step), "step {place}");
-        }
+        assert!(rt; holds(rt, alloc, side, *step), "step {place}");
     }
-}
-
-// Does steps, and then others.
-fn play_twice(rt: &impl Abort, alloc: Global, side: &mut Side, begin: &[Step], steps: &[Step]) {
-    play(rt, alloc, side, begin);
-    play(rt, alloc, side, steps);
 }
 
 /// The edge of a scenario with this place does steps; the call of its link with this number fails, and none for 0.
@@ -310,5 +269,7 @@ pub fn plays(
     steps: &[Step],
 ) {
     let mut side = side_of(rt, alloc, text, me, fails);
-    play_twice(rt, alloc, &mut side, begin, steps);
+    play(rt, alloc, &mut side, begin);
+    play(rt, alloc, &mut side, steps);
+    drop(side);
 }

@@ -98,15 +98,11 @@ const FORGETS: [Step; 9] = [
 
 // The core edge, whose sessions are up, does steps.
 fn plays_up(rt: &impl Abort, alloc: Global, steps: &[Step]) {
-    plays(rt, alloc, HIERARCHY, A, 0, UP.as_slice(), steps);
+    plays(rt, alloc, HIERARCHY, A, 0, &UP, steps);
 }
 
 #[test]
-fn passes_addresses_on_in_pieces(rt: HostRuntime) {
-    plays_up(&rt, rt.alloc(), PASSES_ON.as_slice());
-}
-
-#[test]
-fn forgets_what_a_withdraw_names(rt: HostRuntime) {
-    plays_up(&rt, rt.alloc(), FORGETS.as_slice());
+fn hears_a_withdraw_and_passes_it_on(rt: HostRuntime) {
+    plays_up(&rt, rt.alloc(), &PASSES_ON);
+    plays_up(&rt, rt.alloc(), &FORGETS);
 }
