@@ -102,12 +102,17 @@ pub fn sink_of(rt: &impl Abort, alloc: Global, room: usize, fails: u64) -> MemSi
     MemSink::new(alloc, room, failing(rt, alloc, fails)).expect(rt, "memory")
 }
 
+// Puts a word behind those that are given.
+fn put_word(rt: &impl Abort, alloc: Global, given: &mut Vec<String>, word: &str) {
+    let word = String::from_str(alloc, word).expect(rt, "memory");
+    given.push(word).expect(rt, "memory");
+}
+
 // Words that are parted by blanks.
 fn words_of(rt: &impl Abort, alloc: Global, words: &str) -> Vec<String> {
     let mut given = Vec::new(alloc);
     for word in words.split_whitespace() {
-        let word = String::from_str(alloc, word).expect(rt, "memory");
-        given.push(word).expect(rt, "memory");
+        put_word(rt, alloc, &mut given, word);
     }
     given
 }
@@ -177,11 +182,22 @@ fn case_shelf(rt: &impl Abort, alloc: Global, case: &Case) -> MemShelf {
     shelf_of(rt, alloc, octets.as_slice(), case.shelf_fails)
 }
 
+// Runs the words over this shelf and this sink.
+fn finish_over(
+    rt: &impl Abort,
+    alloc: Global,
+    case: &Case,
+    shelf: &mut MemShelf,
+    sink: &mut MemSink,
+) -> Finish {
+    let words = words_of(rt, alloc, case.words);
+    run(alloc, words.as_slice(), shelf, sink)
+}
+
 // Runs the words over the shelf and this sink.
 fn finish_of(rt: &impl Abort, alloc: Global, case: &Case, sink: &mut MemSink) -> Finish {
     let mut shelf = case_shelf(rt, alloc, case);
-    let words = words_of(rt, alloc, case.words);
-    run(alloc, words.as_slice(), &mut shelf, sink)
+    finish_over(rt, alloc, case, &mut shelf, sink)
 }
 
 // Whether octets end with two texts.
@@ -229,28 +245,60 @@ fn has_entries(finish: &Finish, entries: Option<usize>) -> bool {
     }
 }
 
-// The call ended as it has to.
-fn compare(rt: &impl Abort, alloc: Global, case: &Case, finish: &Finish, sink: &MemSink) {
-    let front = case.front;
-    assert!(rt; finish.status == case.status, "{front}");
-    assert!(rt; has_entries(finish, case.entries), "{front}");
-    assert!(rt; is_taken(sink.taken(), case.taken), "{front}");
-    assert!(rt; is_told(rt, alloc, &finish.outcome, case.told), "{front}");
-    assert!(rt; is_kind(&finish.outcome, case.told), "{front}");
-    // The sink counts a fault exactly where the writing failed.
-    assert!(rt; sink.faults() == u64::from(case.status == 4), "{front}");
+// Whether the outcome is the one that the case tells.
+fn is_ended(rt: &impl Abort, alloc: Global, outcome: &Outcome, told: &str) -> bool {
+    is_kind(outcome, told) && is_told(rt, alloc, outcome, told)
 }
 
-// The call ends as it has to, with this sink.
-fn plays_into(rt: &impl Abort, alloc: Global, case: &Case, sink: &mut MemSink) {
+// What is not as the case has it; empty where all is. The sink counts a fault exactly where the writing failed.
+fn difference(
+    rt: &impl Abort,
+    alloc: Global,
+    case: &Case,
+    taken: Taken,
+    finish: &Finish,
+    sink: &MemSink,
+) -> &'static str {
+    if finish.status != case.status {
+        "status"
+    } else if !has_entries(finish, case.entries) {
+        "entries"
+    } else if !is_taken(sink.taken(), taken) {
+        "taken"
+    } else if !is_ended(rt, alloc, &finish.outcome, case.told) {
+        "told"
+    } else if sink.faults() != u64::from(case.status == 4) {
+        "faults"
+    } else {
+        ""
+    }
+}
+
+// What is not as the case has it where the call ends, with this sink, which has to take this.
+fn difference_with(
+    rt: &impl Abort,
+    alloc: Global,
+    case: &Case,
+    taken: Taken,
+    sink: &mut MemSink,
+) -> &'static str {
     let finish = finish_of(rt, alloc, case, sink);
-    compare(rt, alloc, case, &finish, sink);
+    let difference = difference(rt, alloc, case, taken, &finish, sink);
+    drop(finish);
+    difference
+}
+
+/// The call ends as it has to, where the sink has this room and has to take this.
+pub fn plays_in(rt: &impl Abort, alloc: Global, case: &Case, room: usize, taken: Taken) {
+    let mut sink = sink_of(rt, alloc, room, case.sink_fails);
+    let difference = difference_with(rt, alloc, case, taken, &mut sink);
+    drop(sink);
+    assert!(rt; difference.is_empty(), "{difference}: {}", case.front);
 }
 
 /// The call ends as it has to.
 pub fn plays(rt: &impl Abort, alloc: Global, case: &Case) {
-    let mut sink = sink_of(rt, alloc, case.room, case.sink_fails);
-    plays_into(rt, alloc, case, &mut sink);
+    plays_in(rt, alloc, case, case.room, case.taken);
 }
 
 /// Each of these calls ends as it has to.

@@ -81,11 +81,6 @@ end events=6 in=4 left=5 sent=0 dropped=0
     ..THREE
 };
 
-#[test]
-fn learns_and_forgets_a_station(rt: HostRuntime) {
-    plays(&rt, rt.alloc(), &LEARNS);
-}
-
 static RETAGS: Case = Case {
     front: "\"frame t7 ffffffffffff020000000001810060070800\",
          \"frame u ffffffffffff0200000000010800\"",
@@ -102,11 +97,6 @@ end events=2 in=2 left=2 sent=0 dropped=0
     ),
     ..TWO
 };
-
-#[test]
-fn takes_tags_off_and_puts_them_back(rt: HostRuntime) {
-    plays(&rt, rt.alloc(), &RETAGS);
-}
 
 static DROPS: Case = Case {
     front: "\"frame u ffffffffffff02000000000108\",
@@ -133,11 +123,6 @@ end events=4 in=4 left=0 sent=0 dropped=4
     ..TWO
 };
 
-#[test]
-fn drops_what_is_no_frame_of_the_circuit(rt: HostRuntime) {
-    plays(&rt, rt.alloc(), &DROPS);
-}
-
 // A frame with the MTU 1500: one of 1,518 octets is taken, and one of 1,519 is dropped.
 const LARGEST: Case = Case {
     front: "\"frame c1 ffffffffffff020000000001",
@@ -155,11 +140,6 @@ const TOO_LARGE: Case = Case {
 };
 
 static SIZES: [Case; 2] = [LARGEST, TOO_LARGE];
-
-#[test]
-fn leaves_room_for_a_tag_of_the_customers_own(rt: HostRuntime) {
-    all_play(&rt, rt.alloc(), SIZES.as_slice());
-}
 
 static FORGETS: Case = Case {
     front: "\"frame c1 ffffffffffff0200000000010800\",
@@ -195,6 +175,11 @@ end events=7 in=3 left=5 sent=0 dropped=0
 };
 
 #[test]
-fn forgets_the_stations_of_a_circuit_that_goes_off(rt: HostRuntime) {
-    plays(&rt, rt.alloc(), &FORGETS);
+fn learns_and_handles_tags(rt: HostRuntime) {
+    let alloc = rt.alloc();
+    plays(&rt, alloc, &LEARNS);
+    plays(&rt, alloc, &RETAGS);
+    plays(&rt, alloc, &DROPS);
+    all_play(&rt, alloc, SIZES.as_slice());
+    plays(&rt, alloc, &FORGETS);
 }

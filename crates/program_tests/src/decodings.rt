@@ -74,11 +74,6 @@ static MESSAGES: [Case; 14] = [
     },
 ];
 
-#[test]
-fn writes_messages(rt: HostRuntime) {
-    all_play(&rt, rt.alloc(), MESSAGES.as_slice());
-}
-
 // Label mappings, of which those with a wrong parameter are refused.
 static MAPPINGS: [Case; 7] = [
     Case {
@@ -125,11 +120,6 @@ static MAPPINGS: [Case; 7] = [
     },
 ];
 
-#[test]
-fn writes_mappings_and_refuses_parameters(rt: HostRuntime) {
-    all_play(&rt, rt.alloc(), MAPPINGS.as_slice());
-}
-
 // Requests and withdrawals of labels, the status of a pseudowire, and withdrawn MAC addresses.
 static LABELS: [Case; 7] = [
     // An empty description is none.
@@ -171,11 +161,6 @@ static LABELS: [Case; 7] = [
         ..DECODE
     },
 ];
-
-#[test]
-fn writes_requests_withdrawals_and_statuses(rt: HostRuntime) {
-    all_play(&rt, rt.alloc(), LABELS.as_slice());
-}
 
 // Streams of some PDUs, of which the last may be cut.
 static STREAMS: [Case; 5] = [
@@ -224,11 +209,6 @@ static STREAMS: [Case; 5] = [
         ..DECODE
     },
 ];
-
-#[test]
-fn tells_where_each_pdu_begins_and_the_last_is_cut(rt: HostRuntime) {
-    all_play(&rt, rt.alloc(), STREAMS.as_slice());
-}
 
 // Streams that are refused for a header or a message.
 static REFUSED: [Case; 8] = [
@@ -283,11 +263,6 @@ static REFUSED: [Case; 8] = [
         ..DECODE
     },
 ];
-
-#[test]
-fn refuses_headers_and_messages(rt: HostRuntime) {
-    all_play(&rt, rt.alloc(), REFUSED.as_slice());
-}
 
 // A KeepAlive and a PDU with a wrong length, in a sound surrounding.
 const CUT: Case = Case {
@@ -371,11 +346,6 @@ static OUTSIDE: [Case; 11] = [
     },
 ];
 
-#[test]
-fn ends_as_the_outside_lets_it(rt: HostRuntime) {
-    all_play(&rt, rt.alloc(), OUTSIDE.as_slice());
-}
-
 // More KeepAlives than a stream holds. Their lines are the digits of 0, 18, 36 and so on to 17982, and 16 characters behind
 // each.
 static MANY: Case = Case {
@@ -389,11 +359,6 @@ static MANY: Case = Case {
     ..DECODE
 };
 
-#[test]
-fn decodes_more_than_a_stream_holds(rt: HostRuntime) {
-    plays(&rt, rt.alloc(), &MANY);
-}
-
 // 67,108,865 octets.
 static TOO_LONG: Case = Case {
     piece: "\x07\x07\x07\x07\x07\x07\x07\x07\x07\x07\x07\x07\x07\x07\x07\x07",
@@ -406,6 +371,19 @@ static TOO_LONG: Case = Case {
 };
 
 #[test]
-fn tells_a_stream_that_is_too_long(rt: HostRuntime) {
-    plays(&rt, rt.alloc(), &TOO_LONG);
+fn writes_messages_of_each_kind(rt: HostRuntime) {
+    let alloc = rt.alloc();
+    all_play(&rt, alloc, MESSAGES.as_slice());
+    all_play(&rt, alloc, MAPPINGS.as_slice());
+    all_play(&rt, alloc, LABELS.as_slice());
+}
+
+#[test]
+fn ends_where_a_stream_or_the_outside_does(rt: HostRuntime) {
+    let alloc = rt.alloc();
+    all_play(&rt, alloc, STREAMS.as_slice());
+    all_play(&rt, alloc, REFUSED.as_slice());
+    all_play(&rt, alloc, OUTSIDE.as_slice());
+    plays(&rt, alloc, &MANY);
+    plays(&rt, alloc, &TOO_LONG);
 }

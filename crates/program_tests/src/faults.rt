@@ -34,36 +34,22 @@ fn place(rt: &impl Abort) -> Place {
 }
 
 #[test]
-fn tells_faults_of_the_document(rt: HostRuntime) {
+fn tells_faults(rt: HostRuntime) {
     let alloc = rt.alloc();
     is_told(&rt, alloc, &ScenarioFault::NotToml, "");
     is_told(&rt, alloc, &ScenarioFault::Version, "");
     is_told(&rt, alloc, &ScenarioFault::NoMemory, "");
-    is_told(
-        &rt,
-        alloc,
-        &ScenarioFault::BadWord { event: 7, word: 3 },
-        "",
-    );
-}
-
-#[test]
-fn tells_faults_of_rows(rt: HostRuntime) {
-    let alloc = rt.alloc();
-    let name = " edge 2 name";
-    is_told(&rt, alloc, &ScenarioFault::Missing(place(&rt)), name);
-    is_told(&rt, alloc, &ScenarioFault::WrongKind(place(&rt)), name);
-    is_told(&rt, alloc, &ScenarioFault::UnknownKey(place(&rt)), name);
-}
-
-#[test]
-fn tells_faults_of_a_plan(rt: HostRuntime) {
-    let alloc = rt.alloc();
+    let word = ScenarioFault::BadWord { event: 7, word: 3 };
+    is_told(&rt, alloc, &word, "");
     let many = ScenarioFault::TooMany {
         table: Table::Edge,
         limit: 64,
     };
     is_told(&rt, alloc, &many, " edge 64");
+    let name = " edge 2 name";
+    is_told(&rt, alloc, &ScenarioFault::Missing(place(&rt)), name);
+    is_told(&rt, alloc, &ScenarioFault::WrongKind(place(&rt)), name);
+    is_told(&rt, alloc, &ScenarioFault::UnknownKey(place(&rt)), name);
     let repeated = ScenarioFault::Plan(PlanFault::RepeatedName(place(&rt)));
     is_told(&rt, alloc, &repeated, " RepeatedName edge 2 name");
 }

@@ -98,8 +98,7 @@ fn counts(shelf: &MemShelf, read: &Read) -> bool {
 fn reads(rt: &impl Abort, alloc: Global, read: &Read) {
     let mut shelf = shelf_for(rt, alloc, read);
     let length = length_of(alloc, &mut shelf, read);
-    assert!(rt; length == read.want);
-    assert!(rt; counts(&shelf, read));
+    assert!(rt; length == read.want && counts(&shelf, read));
 }
 
 #[test]
@@ -115,17 +114,22 @@ static WRITES: [(usize, Result<(), Failed>, &str); 2] = [
     (3, Err(Failed), "abc"),
 ];
 
-// The sink answers so, takes so much, and counts a fault where it fails.
-fn takes(rt: &impl Abort, sink: &mut MemSink, want: Result<(), Failed>, taken: &str) {
-    assert!(rt; write_text(sink, b"abcdef") == want);
-    assert!(rt; sink.taken() == taken.as_bytes());
-    assert!(rt; sink.faults() == u64::from(want.is_err()));
+// Whether the sink answers so, takes so much, and counts a fault where it fails.
+fn takes(sink: &mut MemSink, want: Result<(), Failed>, taken: &str) -> bool {
+    write_text(sink, b"abcdef") == want
+        && sink.taken() == taken.as_bytes()
+        && sink.faults() == u64::from(want.is_err())
+}
+
+// A sink with this room does.
+fn writes(rt: &impl Abort, alloc: Global, room: usize, want: Result<(), Failed>, taken: &str) {
+    let mut sink = sink_of(rt, alloc, room, 0);
+    assert!(rt; takes(&mut sink, want, taken), "{taken}");
 }
 
 #[test]
 fn writes_as_much_as_is_taken(rt: HostRuntime) {
     for (room, want, taken) in WRITES.as_slice() {
-        let mut sink = sink_of(&rt, rt.alloc(), *room, 0);
-        takes(&rt, &mut sink, *want, taken);
+        writes(&rt, rt.alloc(), *room, *want, taken);
     }
 }

@@ -88,11 +88,6 @@ static ONE: Case = Case {
     ..REPLAY
 };
 
-#[test]
-fn crosses_a_mesh_wire(rt: HostRuntime) {
-    plays(&rt, rt.alloc(), &ONE);
-}
-
 // A replay that sets the wire up; more events follow.
 const SET_UP: Case = Case {
     front: "\"connect a b\", \"settle 1000\", ",
@@ -115,11 +110,6 @@ end events=7 in=1 left=1 sent=1 dropped=0
     ..SET_UP
 };
 
-#[test]
-fn crosses_in_tagged_mode(rt: HostRuntime) {
-    plays(&rt, rt.alloc(), &TAGGED);
-}
-
 static TWO_MTUS: Case = Case {
     back: "\"frame ca ffffffffffff0200000000010800\"",
     more: "far_mtu = 1400\n",
@@ -132,11 +122,6 @@ end events=6 in=1 left=0 sent=0 dropped=0
     ),
     ..SET_UP
 };
-
-#[test]
-fn crosses_no_wire_whose_ends_differ(rt: HostRuntime) {
-    plays(&rt, rt.alloc(), &TWO_MTUS);
-}
 
 // The first copy is lost, the second is repeated and arrives behind its copy, and the third overtakes both.
 static OVERTAKEN: Case = Case {
@@ -166,11 +151,6 @@ end events=16 in=3 left=3 sent=3 dropped=0
     ..SET_UP
 };
 
-#[test]
-fn is_lost_repeated_and_overtaken(rt: HostRuntime) {
-    plays(&rt, rt.alloc(), &OVERTAKEN);
-}
-
 static WITHDRAWN: Case = Case {
     back: "\"frame ca ffffffffffff0200000000010800\", \"wire b w off\", \"settle 20\", \"wire b w on\", \"settle 20\",
          \"arrive 1\"",
@@ -183,11 +163,6 @@ end events=12 in=1 left=0 sent=1 dropped=1
     ),
     ..SET_UP
 };
-
-#[test]
-fn is_dropped_under_a_withdrawn_label(rt: HostRuntime) {
-    plays(&rt, rt.alloc(), &WITHDRAWN);
-}
 
 // The label was that of the first service; after the restart no service has it.
 static RESTARTED: Case = Case {
@@ -202,11 +177,6 @@ end events=14 in=1 left=0 sent=1 dropped=1
     ),
     ..SET_UP
 };
-
-#[test]
-fn is_dropped_under_a_label_of_before_a_restart(rt: HostRuntime) {
-    plays(&rt, rt.alloc(), &RESTARTED);
-}
 
 // A broadcast of 1,518 octets: the MTU of 1500 octets, a header of 14, and room for a tag of the customer's own.
 const LARGEST: Case = Case {
@@ -239,11 +209,6 @@ static SIZES: [Case; 3] = [
     },
 ];
 
-#[test]
-fn crosses_up_to_its_largest_size(rt: HostRuntime) {
-    all_play(&rt, rt.alloc(), SIZES.as_slice());
-}
-
 // 65,537 broadcasts, of which none arrives: 65,536 packets are sent, and the next frame is refused.
 static CROWDED: Case = Case {
     front: "\"connect a b\", \"settle 1000\"",
@@ -257,6 +222,19 @@ static CROWDED: Case = Case {
 };
 
 #[test]
-fn stops_where_the_network_is_crowded(rt: HostRuntime) {
-    plays(&rt, rt.alloc(), &CROWDED);
+fn crosses_a_mesh_wire(rt: HostRuntime) {
+    let alloc = rt.alloc();
+    plays(&rt, alloc, &ONE);
+    plays(&rt, alloc, &TAGGED);
+    plays(&rt, alloc, &TWO_MTUS);
+    all_play(&rt, alloc, SIZES.as_slice());
+}
+
+#[test]
+fn is_lost_overtaken_and_dropped(rt: HostRuntime) {
+    let alloc = rt.alloc();
+    plays(&rt, alloc, &OVERTAKEN);
+    plays(&rt, alloc, &WITHDRAWN);
+    plays(&rt, alloc, &RESTARTED);
+    plays(&rt, alloc, &CROWDED);
 }

@@ -222,11 +222,6 @@ const FLOODS_TWICE: Case = Case {
 
 static FLOODED: [Case; 2] = [FLOODS, FLOODS_TWICE];
 
-#[test]
-fn floods_over_a_hierarchy_with_one_spoke_or_two_of_each_spoke_edge(rt: HostRuntime) {
-    all_play(&rt, rt.alloc(), FLOODED.as_slice());
-}
-
 // The same, and then the move of the edge x to its second spoke.
 static MOVED: Case = Case {
     back: ", \"frame cx ffffffffffff0200000000010800\", \"flow 100\", \"frame cy 0200000000010200000000020800\", \"flow 100\", \"priority x xb 5\"",
@@ -234,22 +229,12 @@ static MOVED: Case = Case {
     ..FLOODS_TWICE
 };
 
-#[test]
-fn moves_to_the_second_spoke(rt: HostRuntime) {
-    plays(&rt, rt.alloc(), &MOVED);
-}
-
 // After the move a frame for the station.
 static FOUND: Case = Case {
     back: ", \"frame cx ffffffffffff0200000000010800\", \"flow 100\", \"frame cy 0200000000010200000000020800\", \"flow 100\", \"priority x xb 5\", \"settle 100\", \"frame cd 0200000000010200000000040800\", \"flow 100\"",
     taken: Taken::Ends("", COMES_ANEW),
     ..FLOODS_TWICE
 };
-
-#[test]
-fn finds_a_station_by_the_second_spoke(rt: HostRuntime) {
-    plays(&rt, rt.alloc(), &FOUND);
-}
 
 // A path of three edges.
 static SWITCHED: Case = Case {
@@ -262,6 +247,10 @@ static SWITCHED: Case = Case {
 };
 
 #[test]
-fn is_not_built_with_a_path_of_three_edges(rt: HostRuntime) {
-    plays(&rt, rt.alloc(), &SWITCHED);
+fn floods_and_moves_over_a_hierarchy(rt: HostRuntime) {
+    let alloc = rt.alloc();
+    all_play(&rt, alloc, FLOODED.as_slice());
+    plays(&rt, alloc, &MOVED);
+    plays(&rt, alloc, &FOUND);
+    plays(&rt, alloc, &SWITCHED);
 }

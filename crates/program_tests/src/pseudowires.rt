@@ -243,32 +243,17 @@ static SETS_UP: Case = Case {
     ..CONNECTS
 };
 
-#[test]
-fn sets_a_pseudowire_up(rt: HostRuntime) {
-    plays(&rt, rt.alloc(), &SETS_UP);
-}
-
 static TWO_MTUS: Case = Case {
     more: "far_mtu = 1400\n",
     taken: Taken::Whole(DIFFERS),
     ..CONNECTS
 };
 
-#[test]
-fn tells_that_two_mtus_differ(rt: HostRuntime) {
-    plays(&rt, rt.alloc(), &TWO_MTUS);
-}
-
 static LOSES: Case = Case {
     front: "\"connect a b\", \"deliver b a 36\", \"deliver a b 54\", \"deliver b a 18\", \"deliver b a 44\", \"lose a b\", \"settle 20\", \"connect a b\", \"settle 20\"",
     taken: Taken::Whole(IS_CUT),
     ..CONNECTS
 };
-
-#[test]
-fn loses_a_connection_within_a_mapping(rt: HostRuntime) {
-    plays(&rt, rt.alloc(), &LOSES);
-}
 
 static LAST_LABEL: Case = Case {
     tables: FIRST_AT_ITS_LAST_LABEL,
@@ -277,11 +262,6 @@ static LAST_LABEL: Case = Case {
     ..CONNECTS
 };
 
-#[test]
-fn runs_out_of_labels(rt: HostRuntime) {
-    plays(&rt, rt.alloc(), &LAST_LABEL);
-}
-
 static WITHDRAWS: Case = Case {
     back: ", \"wire b w off\", \"settle 20\", \"wire b w off\", \"wire b w on\", \"settle 20\", \"status a w 6\", \"settle 20\", \"status a w 6\"",
     taken: Taken::Whole(IS_WITHDRAWN),
@@ -289,6 +269,11 @@ static WITHDRAWS: Case = Case {
 };
 
 #[test]
-fn withdraws_and_tells_a_failure(rt: HostRuntime) {
-    plays(&rt, rt.alloc(), &WITHDRAWS);
+fn sets_pseudowires_up_and_ends_them(rt: HostRuntime) {
+    let alloc = rt.alloc();
+    plays(&rt, alloc, &SETS_UP);
+    plays(&rt, alloc, &TWO_MTUS);
+    plays(&rt, alloc, &LOSES);
+    plays(&rt, alloc, &LAST_LABEL);
+    plays(&rt, alloc, &WITHDRAWS);
 }

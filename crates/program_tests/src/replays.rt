@@ -1,6 +1,6 @@
 //! Whole replays of one edge, and how a call ends that is not done.
 
-use crate::around::{Case, REPLAY, Taken, all_play, plays};
+use crate::around::{Case, REPLAY, Taken, all_play, plays_in};
 use std::alloc::Global;
 use std::process::Abort;
 
@@ -60,11 +60,6 @@ static DONE: [Case; 2] = [
     },
 ];
 
-#[test]
-fn replays_a_broadcast_and_no_events(rt: HostRuntime) {
-    all_play(&rt, rt.alloc(), DONE.as_slice());
-}
-
 // Words that are no command's.
 const USAGE: Case = Case {
     front: BROADCAST,
@@ -106,11 +101,6 @@ static UNDONE: [Case; 7] = [
         ..TABLED
     },
 ];
-
-#[test]
-fn ends_with_a_status_and_a_line(rt: HostRuntime) {
-    all_play(&rt, rt.alloc(), UNDONE.as_slice());
-}
 
 // A scenario that is refused.
 const REFUSED: Case = Case {
@@ -157,11 +147,6 @@ static REFUSALS: [Case; 7] = [
     },
 ];
 
-#[test]
-fn refuses_scenarios_and_answers_what_is_not_built(rt: HostRuntime) {
-    all_play(&rt, rt.alloc(), REFUSALS.as_slice());
-}
-
 // A file of 8,388,608 octets, and one of an octet more.
 const LONGEST: Case = Case {
     opening: "",
@@ -181,11 +166,6 @@ static LENGTHS: [Case; 2] = [
         ..LONGEST
     },
 ];
-
-#[test]
-fn tells_a_file_that_is_too_long(rt: HostRuntime) {
-    all_play(&rt, rt.alloc(), LENGTHS.as_slice());
-}
 
 // The replay in an outside of which a call fails. The file is read by two calls, and the report is taken by one.
 const CLOSE: Case = Case {
@@ -236,15 +216,17 @@ static FULL: Case = Case {
 
 // A replay ends with a write fault where there is room for so many octets of its report.
 fn fills(rt: &impl Abort, alloc: Global, room: usize) {
-    let mut case = FULL;
-    case.room = room;
-    case.taken = Taken::Front(REPORT, room);
-    plays(rt, alloc, &case);
+    plays_in(rt, alloc, &FULL, room, Taken::Front(REPORT, room));
 }
 
 #[test]
-fn stops_where_a_call_of_the_outside_fails(rt: HostRuntime) {
-    all_play(&rt, rt.alloc(), FAILING.as_slice());
+fn ends_with_a_status_and_a_line(rt: HostRuntime) {
+    let alloc = rt.alloc();
+    all_play(&rt, alloc, DONE.as_slice());
+    all_play(&rt, alloc, UNDONE.as_slice());
+    all_play(&rt, alloc, REFUSALS.as_slice());
+    all_play(&rt, alloc, LENGTHS.as_slice());
+    all_play(&rt, alloc, FAILING.as_slice());
 }
 
 #[test]

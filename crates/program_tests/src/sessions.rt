@@ -54,11 +54,6 @@ static CONNECTS: Case = Case {
     ..REPLAY
 };
 
-#[test]
-fn brings_a_session_up(rt: HostRuntime) {
-    plays(&rt, rt.alloc(), &CONNECTS);
-}
-
 // A replay with something that is not built.
 const NOT_BUILT: Case = Case {
     tables: JOINED,
@@ -84,6 +79,8 @@ static UNBUILT: [Case; 3] = [
 ];
 
 #[test]
-fn answers_what_is_not_built_of_wires(rt: HostRuntime) {
-    all_play(&rt, rt.alloc(), UNBUILT.as_slice());
+fn brings_a_session_up_and_refuses_what_is_not_built(rt: HostRuntime) {
+    let alloc = rt.alloc();
+    plays(&rt, alloc, &CONNECTS);
+    all_play(&rt, alloc, UNBUILT.as_slice());
 }

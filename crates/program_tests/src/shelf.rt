@@ -43,13 +43,24 @@ fn store(rt: &HostRuntime, test: &impl Abort, name: &str, octets: &[u8]) {
     fs::write(rt, name, octets).expect(test, "a file");
 }
 
+// Removes a file.
+fn remove(rt: &HostRuntime, test: &impl Abort, name: &str) {
+    fs::remove_file(rt, name).expect(test, "a file");
+}
+
+// A new shelf reads from the file under a name.
+fn reads_new(rt: &HostRuntime, test: &impl Abort, name: &str) {
+    store(rt, test, name, b"abcde");
+    let mut shelf = FileShelf::new(rt.alloc(), rt);
+    reads_all(test, &mut shelf, name, READS.as_slice());
+    drop(shelf);
+    remove(rt, test, name);
+}
+
 #[test]
 fn reads_in_order_and_at_any_place(rt: HostRuntime) {
     let path = path_of(&rt, &rt, "places");
-    store(&rt, &rt, path.as_str(), b"abcde");
-    let mut shelf = FileShelf::new(rt.alloc(), &rt);
-    reads_all(&rt, &mut shelf, path.as_str(), READS.as_slice());
-    fs::remove_file(&rt, path.as_str()).expect(&rt, "a file");
+    reads_new(&rt, &rt, path.as_str());
 }
 
 // Whether two octets are read from a place of a file, and they are these.
@@ -64,16 +75,27 @@ fn store_both(rt: &HostRuntime, test: &impl Abort, name: &str, other: &str) {
     store(rt, test, other, b"ABCD");
 }
 
+// A shelf reads on in the file that it opened, though another one has its name.
+fn reads_on(rt: &HostRuntime, test: &impl Abort, shelf: &mut impl Shelf, name: &str, other: &str) {
+    assert!(test; reads_two(shelf, name, 0, b"ab"));
+    fs::rename(rt, other, name).expect(test, "a file");
+    assert!(test; reads_two(shelf, name, 2, b"cd"));
+    remove(rt, test, name);
+}
+
+// A new shelf reads on in a file.
+fn reads_renamed(rt: &HostRuntime, test: &impl Abort, name: &str, other: &str) {
+    store_both(rt, test, name, other);
+    let mut shelf = FileShelf::new(rt.alloc(), rt);
+    reads_on(rt, test, &mut shelf, name, other);
+    drop(shelf);
+}
+
 #[test]
 fn reads_the_file_that_it_opened(rt: HostRuntime) {
     let path = path_of(&rt, &rt, "first");
     let other = path_of(&rt, &rt, "second");
-    store_both(&rt, &rt, path.as_str(), other.as_str());
-    let mut shelf = FileShelf::new(rt.alloc(), &rt);
-    assert!(rt; reads_two(&mut shelf, path.as_str(), 0, b"ab"));
-    fs::rename(&rt, other.as_str(), path.as_str()).expect(&rt, "a file");
-    assert!(rt; reads_two(&mut shelf, path.as_str(), 2, b"cd"));
-    fs::remove_file(&rt, path.as_str()).expect(&rt, "a file");
+    reads_renamed(&rt, &rt, path.as_str(), other.as_str());
 }
 
 // Whether a shelf cannot read a file.
@@ -82,12 +104,23 @@ fn fails(shelf: &mut impl Shelf, name: &str) -> bool {
     shelf.read_at(name, 0, &mut buf) == Err(Failed)
 }
 
+// A shelf counts under a name what it cannot read.
+fn counts(test: &impl Abort, shelf: &mut impl Shelf, name: &str) {
+    assert!(test; fails(shelf, name));
+    assert!(test; fails(shelf, ""));
+    assert!(test; fails(shelf, "/"));
+    assert!(test; shelf.faults(name) == 3);
+}
+
+// A new shelf counts what it cannot read.
+fn counts_new(rt: &HostRuntime, test: &impl Abort, name: &str) {
+    let mut shelf = FileShelf::new(rt.alloc(), rt);
+    counts(test, &mut shelf, name);
+    drop(shelf);
+}
+
 #[test]
 fn counts_what_cannot_be_read(rt: HostRuntime) {
     let path = path_of(&rt, &rt, "missing");
-    let mut shelf = FileShelf::new(rt.alloc(), &rt);
-    assert!(rt; fails(&mut shelf, path.as_str()));
-    assert!(rt; fails(&mut shelf, ""));
-    assert!(rt; fails(&mut shelf, "/"));
-    assert!(rt; shelf.faults(path.as_str()) == 3);
+    counts_new(&rt, &rt, path.as_str());
 }

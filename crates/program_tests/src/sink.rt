@@ -48,16 +48,13 @@ static STEPS: [Step; 5] = [
 
 // The sink answers a step so.
 fn takes(rt: &impl Abort, sink: &mut StdSink<Narrow<'_>>, step: Step) {
-    match step {
-        Step::Write(piece, want, faults) => {
-            assert!(rt; sink.write(piece.as_bytes()) == want, "{piece}");
-            assert!(rt; sink.faults() == faults, "{piece}");
-        }
+    let (piece, agrees, faults) = match step {
+        Step::Write(piece, want, faults) => (piece, sink.write(piece.as_bytes()) == want, faults),
         Step::Text(text, want, faults) => {
-            assert!(rt; write_text(sink, text.as_bytes()) == want, "{text}");
-            assert!(rt; sink.faults() == faults, "{text}");
+            (text, write_text(sink, text.as_bytes()) == want, faults)
         }
-    }
+    };
+    assert!(rt; agrees && sink.faults() == faults, "{piece}");
 }
 
 // A sink over a writer with room for eight octets takes these steps.
