@@ -9,7 +9,7 @@ use pw_signalling::{Binding, PwEnd, Told};
 use pw_tlvs::PwStatus;
 
 /// A change of an end: what it does itself, but for an advertisement, and what comes from its peer.
-#[derive(Clone, Copy, PartialEq, Eq)]
+#[derive(Clone, Copy)]
 pub enum EndChange {
     /// A Label Withdraw is put, where it advertises.
     Withdrawn,

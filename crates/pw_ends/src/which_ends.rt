@@ -6,7 +6,7 @@ use edge_model::EndPlace;
 use net_base::{EdgeId, WireId};
 
 /// The ends that a change is about.
-#[derive(Clone, Copy, PartialEq, Eq)]
+#[derive(Clone, Copy)]
 pub enum WhichEnds {
     /// Each end beside this peer.
     Beside(EdgeId),

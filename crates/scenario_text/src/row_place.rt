@@ -8,7 +8,7 @@ use crate::key::key_text;
 use net_base::{Place, PlanFault, Table};
 
 /// Where a row stands.
-#[derive(Clone, Copy, PartialEq, Eq)]
+#[derive(Clone, Copy)]
 pub struct RowPlace {
     pub table: Table,
     /// The row, counted from 1; 0 for the top of the document.
