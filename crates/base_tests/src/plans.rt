@@ -168,41 +168,8 @@ const ROWS: &str = "
     spoke v 01 7, spoke w 12 7 = Some(SpokeInMesh(Place { table: Wire, index: 2, key: 'path' }))
 ";
 
-// The plan of these wires has the fault of these words.
-fn agrees(rt: &impl Abort, alloc: Global, wires: &str, words: &str) {
-    let plan = plan(rt, alloc, wires);
-    has_fault(rt, alloc, &plan, words);
-}
-
-// A line agrees where it is a row; how many rows it is.
-fn reads_line(rt: &impl Abort, alloc: Global, line: &str) -> usize {
-    match line.split_once(" = ") {
-        Some((wires, words)) => {
-            agrees(rt, alloc, wires.trim(), words);
-            1
-        }
-        None => 0,
-    }
-}
-
-#[test]
-fn finds_the_fault_of_a_wire(rt: HostRuntime) {
-    let mut rows: usize = 0;
-    for line in ROWS.lines() {
-        rows = rows.saturating_add(reads_line(&rt, rt.alloc(), line));
-    }
-    assert_eq!(rt; rows, 13);
-}
-
 const REPEATED_ADDRESS: &str =
     "Some(RepeatedName(Place { table: Edge, index: 7, key: 'address' }))";
-
-#[test]
-fn finds_a_repeated_address(rt: HostRuntime) {
-    let mut plan = plan(&rt, rt.alloc(), "");
-    add_edge(&rt, &mut plan, "f", 3);
-    has_fault(&rt, rt.alloc(), &plan, REPEATED_ADDRESS);
-}
 
 // Adds 510 circuits at edge 1.
 fn add_circuits(rt: &impl Abort, alloc: Global, plan: &mut Plan) {
@@ -214,13 +181,12 @@ fn add_circuits(rt: &impl Abort, alloc: Global, plan: &mut Plan) {
 
 const TOO_MANY_PORTS: &str = "Some(OutOfRange(Place { table: Service, index: 1, key: 'name' }))";
 
-#[test]
-fn counts_512_ports(rt: HostRuntime) {
-    let mut plan = plan(&rt, rt.alloc(), "spoke w 01 7");
-    add_circuits(&rt, rt.alloc(), &mut plan);
-    has_fault(&rt, rt.alloc(), &plan, "None");
-    add_circuit(&rt, &mut plan, "last");
-    has_fault(&rt, rt.alloc(), &plan, TOO_MANY_PORTS);
+// With 511 circuits and a wire, edge 1 has 512 ports of the service; with one circuit more it has too many.
+fn counts_ports(rt: &impl Abort, alloc: Global, plan: &mut Plan) {
+    add_circuits(rt, alloc, plan);
+    has_fault(rt, alloc, plan, "None");
+    add_circuit(rt, plan, "last");
+    has_fault(rt, alloc, plan, TOO_MANY_PORTS);
 }
 
 const THREE_EDGES: [EdgeId; 3] = [EdgeId(1), EdgeId(2), EdgeId(3)];
@@ -246,9 +212,80 @@ fn copies(rt: &impl Abort, alloc: Global, plan: &Plan) {
     is_copied(rt, plan, &copy);
 }
 
+// A service and an edge, and what the edge is to it.
+const ROLES: [(u16, u16, &'static str); 5] = [
+    (0, 0, "Some(SpokeEdge)"),
+    (0, 1, "Some(Core)"),
+    (0, 3, "Some(Core)"),
+    (0, 2, "None"),
+    (1, 0, "None"),
+];
+
+// What each edge is to a service of the plan.
+fn has_roles(rt: &impl Abort, alloc: Global, plan: &Plan) {
+    for (service, edge, words) in ROLES.as_slice() {
+        let role = role(plan, ServiceId(*service), EdgeId(*edge));
+        is_told(rt, alloc, &role, words);
+    }
+}
+
+// What is tested of a plan: the fault of its words, that of an edge more with an address that another has, or of ports that are too
+// many; how it is copied; and what edges are to its services.
+#[derive(Clone, Copy)]
+enum About {
+    Fault,
+    Address,
+    Ports,
+    Copy,
+    Roles,
+}
+
+fn tells_of(rt: &impl Abort, alloc: Global, about: About, plan: &mut Plan, words: &str) {
+    match about {
+        About::Fault => has_fault(rt, alloc, plan, words),
+        About::Address => {
+            add_edge(rt, plan, "f", 3);
+            has_fault(rt, alloc, plan, words);
+        }
+        About::Ports => counts_ports(rt, alloc, plan),
+        About::Copy => copies(rt, alloc, plan),
+        About::Roles => has_roles(rt, alloc, plan),
+    }
+}
+
+// A plan with these wires agrees.
+fn agrees(rt: &impl Abort, alloc: Global, about: About, wires: &str, words: &str) {
+    let mut plan = plan(rt, alloc, wires);
+    tells_of(rt, alloc, about, &mut plan, words);
+}
+
+// A line agrees where it is a row; how many rows it is.
+fn reads_line(rt: &impl Abort, alloc: Global, line: &str) -> usize {
+    match line.split_once(" = ") {
+        Some((wires, words)) => {
+            agrees(rt, alloc, About::Fault, wires.trim(), words);
+            1
+        }
+        None => 0,
+    }
+}
+
 #[test]
-fn copies_a_plan(rt: HostRuntime) {
-    copies(&rt, rt.alloc(), &plan(&rt, rt.alloc(), "mesh v 123 7"));
+fn finds_the_fault_of_a_wire(rt: HostRuntime) {
+    let mut rows: usize = 0;
+    for line in ROWS.lines() {
+        rows = rows.saturating_add(reads_line(&rt, rt.alloc(), line));
+    }
+    assert_eq!(rt; rows, 13);
+}
+
+#[test]
+fn tells_of_plans(rt: HostRuntime) {
+    let alloc = rt.alloc();
+    agrees(&rt, alloc, About::Address, "", REPEATED_ADDRESS);
+    agrees(&rt, alloc, About::Ports, "spoke w 01 7", "");
+    agrees(&rt, alloc, About::Copy, "mesh v 123 7", "");
+    agrees(&rt, alloc, About::Roles, "spoke v 01 7, mesh w 123 8", "");
 }
 
 // Two edges; and whether the first of them has the other as a neighbour on a wire over the edges 1, 4, 3 and 2, and its mate there.
@@ -288,27 +325,4 @@ fn tells_the_ends_of_segments(rt: HostRuntime) {
     wire.far.group = 9;
     tells_each(&rt, rt.alloc(), &wire);
     offers(&rt, &wire, 0, 9);
-}
-
-// A service and an edge, and what the edge is to it.
-const ROLES: [(u16, u16, &'static str); 5] = [
-    (0, 0, "Some(SpokeEdge)"),
-    (0, 1, "Some(Core)"),
-    (0, 3, "Some(Core)"),
-    (0, 2, "None"),
-    (1, 0, "None"),
-];
-
-// What each edge is to a service of the plan.
-fn has_roles(rt: &impl Abort, alloc: Global, plan: &Plan) {
-    for (service, edge, words) in ROLES.as_slice() {
-        let role = role(plan, ServiceId(*service), EdgeId(*edge));
-        is_told(rt, alloc, &role, words);
-    }
-}
-
-#[test]
-fn tells_what_edges_are_to_a_service(rt: HostRuntime) {
-    let plan = plan(&rt, rt.alloc(), "spoke v 01 7, mesh w 123 8");
-    has_roles(&rt, rt.alloc(), &plan);
 }
