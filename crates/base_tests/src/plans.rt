@@ -229,8 +229,8 @@ fn has_roles(rt: &impl Abort, alloc: Global, plan: &Plan) {
     }
 }
 
-// What is tested of a plan: the fault of its words, that of an edge more with an address that another has, or of ports that are too
-// many; how it is copied; and what edges are to its services.
+// What is tested of a plan: the fault of its words, that of an edge more with an address that another has, or of ports that
+// are too many; how it is copied; and what edges are to its services.
 #[derive(Clone, Copy)]
 enum About {
     Fault,
@@ -288,7 +288,8 @@ fn tells_of_plans(rt: HostRuntime) {
     agrees(&rt, alloc, About::Roles, "spoke v 01 7, mesh w 123 8", "");
 }
 
-// Two edges; and whether the first of them has the other as a neighbour on a wire over the edges 1, 4, 3 and 2, and its mate there.
+// Two edges; and whether the first of them has the other as a neighbour on a wire over the edges 1, 4, 3 and 2, and its mate
+// there.
 const NEIGHBOURS: [(u16, u16, &'static str); 8] = [
     (1, 4, "(true, None)"),
     (4, 1, "(true, Some(EdgeId(3)))"),

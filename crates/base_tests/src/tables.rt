@@ -38,17 +38,29 @@ fn holds_first(rt: &impl Abort, table: &MacTable) {
     assert!(rt; table.entry(0) == Some(first));
 }
 
+// A table with room for two addresses learns three.
+fn learns_three(rt: &impl Abort, table: &mut MacTable)
+    requires ticks { NoneAfter 10 table.old.entries }
+{
+    learns(rt, table, FIRST, 1, Learned::New);
+    learns(rt, table, SECOND, 1, Learned::New);
+    learns(rt, table, FIRST, 3, Learned::Kept);
+    learns(rt, table, THIRD, 1, Learned::NotLearned);
+}
+
+// The table holds two of them.
+fn holds_two(rt: &impl Abort, table: &MacTable) {
+    assert!(rt; table.len() == 2);
+    holds_first(rt, table);
+    finds(rt, table, SECOND, Some(1));
+    finds(rt, table, THIRD, None);
+}
+
 #[test]
 fn learns_up_to_its_capacity(rt: HostRuntime) {
     let mut table = MacTable::open(rt.alloc(), 2).expect(&rt, "memory");
-    learns(&rt, &mut table, FIRST, 1, Learned::New);
-    learns(&rt, &mut table, SECOND, 1, Learned::New);
-    learns(&rt, &mut table, FIRST, 3, Learned::Kept);
-    learns(&rt, &mut table, THIRD, 1, Learned::NotLearned);
-    assert_eq!(rt; table.len(), 2);
-    holds_first(&rt, &table);
-    finds(&rt, &table, SECOND, Some(1));
-    finds(&rt, &table, THIRD, None);
+    learns_three(&rt, &mut table);
+    holds_two(&rt, &table);
 }
 
 #[test]
@@ -85,14 +97,19 @@ fn withdraw(table: &mut MacTable, list: &List<Mac>) {
     table.withdraw(1, list);
 }
 
+// Withdraws the first two addresses at port 1, and then with an empty list those at other ports.
+fn withdraws(rt: &impl Abort, alloc: Global, table: &mut MacTable) {
+    withdraw(table, &first_and_second(rt, alloc));
+    finds(rt, table, FIRST, None);
+    finds(rt, table, SECOND, Some(2));
+    finds(rt, table, THIRD, Some(1));
+    withdraw(table, &List::new(alloc));
+    finds(rt, table, SECOND, None);
+    finds(rt, table, THIRD, Some(1));
+}
+
 #[test]
 fn withdraws_addresses(rt: HostRuntime) {
     let mut table = three(&rt, rt.alloc());
-    withdraw(&mut table, &first_and_second(&rt, rt.alloc()));
-    finds(&rt, &table, FIRST, None);
-    finds(&rt, &table, SECOND, Some(2));
-    finds(&rt, &table, THIRD, Some(1));
-    withdraw(&mut table, &List::new(rt.alloc()));
-    finds(&rt, &table, SECOND, None);
-    finds(&rt, &table, THIRD, Some(1));
+    withdraws(&rt, rt.alloc(), &mut table);
 }
