@@ -5,8 +5,8 @@ use pcap_file::{read_capture, write_header, write_record};
 use std::alloc::Global;
 use std::process::Abort;
 
-// Whole files. In those of two frames zone, accuracy, snap length, times and original lengths are any, and the second frame has no
-// octets; then a header alone. The first faults are those of no octets, and of fewer than a magic.
+// Whole files. In those of two frames zone, accuracy, snap length, times and original lengths are any, and the second frame
+// has no octets; then a header alone. The first faults are those of no octets, and of fewer than a magic.
 const FILES: &str = "
     a1b2c3d4 00020004 ffffffff 00000001 00000001 00000001  00000007 3b9ac9ff 00000003 000005dc 010203  00000008 00000000 00000000 00000000 = Ok(List { items: [List { items: [1, 2, 3] }, List { items: [] }] })
     a1b23c4d 00020004 ffffffff 00000001 00000001 00000001  00000007 3b9ac9ff 00000003 000005dc 010203  00000008 00000000 00000000 00000000 = Ok(List { items: [List { items: [1, 2, 3] }, List { items: [] }] })

@@ -1,6 +1,6 @@
 //! One label space through its calls.
 ghost use Rattle.std.specs.Prelude.{◌≡◌, ◌<◌, length};
-ghost use Rattle.label_space.specs.Labels.{issued};
+ghost use Rattle.label_space.specs.Labels.{issued, opened};
 
 use label_space::{LabelSpace, NoLabel};
 use net_base::{Label, SegKey, WireId};
@@ -35,18 +35,25 @@ fn is_owned(rt: &impl Abort, space: &LabelSpace, number: u32, owner: Option<(Seg
     assert!(rt; space.owner(label(rt, number)) == owner);
 }
 
+// Two ends get labels, of which one is freed; then all are.
+fn gives_numbers(rt: &impl Abort, space: &mut LabelSpace)
+    requires { space.old ≡ opened 16 4 }
+{
+    issues(rt, space, ONE, 0, 16);
+    issues(rt, space, TWO, 1, 17);
+    is_owned(rt, space, 17, Some((TWO, 1)));
+    space.free(label(rt, 16));
+    is_owned(rt, space, 16, None);
+    issues(rt, space, ONE, 0, 18);
+    space.restarted();
+    is_owned(rt, space, 18, None);
+    issues(rt, space, ONE, 0, 19);
+}
+
 #[test]
 fn gives_each_number_once(rt: HostRuntime) {
     let mut space = LabelSpace::open(rt.alloc(), 16, 4).expect(&rt, "memory");
-    issues(&rt, &mut space, ONE, 0, 16);
-    issues(&rt, &mut space, TWO, 1, 17);
-    is_owned(&rt, &space, 17, Some((TWO, 1)));
-    space.free(label(&rt, 16));
-    is_owned(&rt, &space, 16, None);
-    issues(&rt, &mut space, ONE, 0, 18);
-    space.restarted();
-    is_owned(&rt, &space, 18, None);
-    issues(&rt, &mut space, ONE, 0, 19);
+    gives_numbers(&rt, &mut space);
     assert_eq!(rt; space.next_number(), 20);
 }
 
@@ -57,10 +64,17 @@ fn has_none(rt: &impl Abort, space: &mut LabelSpace, key: SegKey)
     assert!(rt; space.issue(key, 0) == Err(NoLabel));
 }
 
+// The last label is given, and then there is none.
+fn gives_the_last(rt: &impl Abort, space: &mut LabelSpace)
+    requires { space.old ≡ opened 1048575 2 }
+{
+    issues(rt, space, ONE, 0, 1_048_575);
+    has_none(rt, space, TWO);
+}
+
 #[test]
 fn has_no_label_after_the_largest(rt: HostRuntime) {
     let mut space = LabelSpace::open(rt.alloc(), 1_048_575, 2).expect(&rt, "memory");
-    issues(&rt, &mut space, ONE, 0, 1_048_575);
-    has_none(&rt, &mut space, TWO);
+    gives_the_last(&rt, &mut space);
     assert_eq!(rt; space.next_number(), 1_048_576);
 }

@@ -36,9 +36,9 @@ fn accepted() -> Session {
         .0
 }
 
-// A new session in the state that the first letter of its name tells. `opened` is a connection of the passive end, `early` that of
-// the active one before it sent anything, and `started` with its Initialization; `accepted` is the passive end, whose peer
-// proposed the KeepAlive Time 60, and `up` the same with its session up. Behind other letters it is the session itself.
+// A new session in the state that the first letter of its name tells. `opened` is a connection of the passive end, `early`
+// that of the active one before it sent anything, and `started` with its Initialization; `accepted` is the passive end, whose
+// peer proposed the KeepAlive Time 60, and `up` the same with its session up. Behind other letters it is the session itself.
 fn session_of(session: Session, letter: u8) -> Session {
     match letter {
         b'o' => Session::Initialized(In::new(PASSIVE)),
@@ -150,8 +150,8 @@ fn plays(rt: &impl Abort, alloc: Global, script: &str, count: usize) {
     assert_eq!(rt; rows, count);
 }
 
-// What comes to a session in each state: the table of states, row by row. Then a session that comes up at both ends, and ends without
-// a word; and ticks: KeepAlives and the end of the hold time.
+// What comes to a session in each state: the table of states, row by row. Then a session that comes up at both ends, and ends
+// without a word; and ticks: KeepAlives and the end of the hold time.
 const EVENTS: &str = "
     What an Initialization proposes, to the passive end that proposes 180 ticks and 4096 octets, and to the active one that
     proposes 60 ticks and 1500 octets. Version, receiver and KeepAlive Time are wrong.

@@ -41,8 +41,8 @@ fn begin_anew(rt: &impl Abort, alloc: Global, stream: &mut Stream) -> usize {
     stream.held()
 }
 
-// The number that comes of a step: of octets (`feed`) or of so many `zeros`, those that are taken; the `max` of a PDU Length; and else
-// how many octets are held, also of a stream that is made `anew`.
+// The number that comes of a step: of octets (`feed`) or of so many `zeros`, those that are taken; the `max` of a PDU Length;
+// and else how many octets are held, also of a stream that is made `anew`.
 fn count_of(rt: &impl Abort, alloc: Global, stream: &mut Stream, letter: u8, more: &str) -> usize {
     match letter {
         b'f' => feed(rt, alloc, stream, more),

@@ -59,8 +59,8 @@ const WRITTEN_ELEMENTS: &str = "
     80 0004 14 00000102 00000064 010405dc 03046162 06040007 0c040102 = Ok(Pw(PwFec { c: false, kind: 4, group: 258, pw_id: Some(100), params: IfParams { mtu: Some(1500), description: Text { octets: [97, 98, 0, 0, 0, 0, 0, 0, 0, 0, 0, 0, 0, 0, 0, 0, 0, 0, 0, 0, 0, 0, 0, 0, 0, 0, 0, 0, 0, 0, 0, 0, 0, 0, 0, 0, 0, 0, 0, 0, 0, 0, 0, 0, 0, 0, 0, 0, 0, 0, 0, 0, 0, 0, 0, 0, 0, 0, 0, 0, 0, 0, 0, 0, 0, 0, 0, 0, 0, 0, 0, 0, 0, 0, 0, 0, 0, 0, 0, 0], len: 2 }, vlan: Some(7), vccv: Some((1, 2)) } }))
 ";
 
-// Switching points: with all parts, with none, with the far address alone, and with the last segment too. Then no length, a length
-// past the end, a wrong length, a part that comes again, and a length past the end before the type that it repeats.
+// Switching points: with all parts, with none, with the far address alone, and with the last segment too. Then no length, a
+// length past the end, a wrong length, a part that comes again, and a length past the end before the type that it repeats.
 const POINTS: &str = "
     010400000064 03040a000002 04040a000003 = Ok(Point { pw_id: Some(100), local: Some(Addr([10, 0, 0, 2])), remote: Some(Addr([10, 0, 0, 3])) })
     = Ok(Point { pw_id: None, local: None, remote: None })
