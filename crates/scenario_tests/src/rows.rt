@@ -1,5 +1,5 @@
-//! Rows of plans: what they are, and their faults. The faults that are expected were read off the same documents by an independent
-//! reader.
+//! Rows of plans: what they are, and their faults. The faults that are expected were read off the same documents by an
+//! independent reader.
 
 use crate::tables::{LINES, WHOLE, read_as};
 
