@@ -24,52 +24,37 @@ const UP: [Step; 10] = [
 
 // The window of the broadcast: the service is calm before it, then packets arrive and nothing else happens, and at the end
 // none is under way.
-const FLOODS: [Step; 5] = [
+const FLOODS: [Step; 6] = [
     Step::Calm(true),
     Step::Frame(4, BROADCAST),
     Step::Flow(5),
     Step::UnderWay(0),
     Step::Left(1, "/1/2/2/2//3"),
+    Step::Over(0),
 ];
 
-#[test]
-fn floods_to_each_site_once(rt: HostRuntime) {
-    let entries = plays(&rt, rt.alloc(), &HIERARCHY, &UP, &FLOODS);
-    assert!(rt; entries > 0);
-}
-
-const ANSWERS: [Step; 6] = [
+const ANSWERS: [Step; 7] = [
     Step::Frame(4, BROADCAST),
     Step::Flow(5),
     Step::Calm(true),
     Step::Frame(5, ANSWER),
     Step::Flow(3),
     Step::Left(2, "/////3/"),
+    Step::Over(0),
 ];
 
-#[test]
-fn answers_one_station_alone(rt: HostRuntime) {
-    let entries = plays(&rt, rt.alloc(), &HIERARCHY, &UP, &ANSWERS);
-    assert!(rt; entries > 0);
-}
-
-const LOSES_A_SPOKE: [Step; 5] = [
+const LOSES_A_SPOKE: [Step; 6] = [
     Step::Lose(4, 0),
     Step::Settle,
     Step::Quiet(true),
     Step::Full(true),
     Step::Calm(false),
+    Step::Over(0),
 ];
-
-#[test]
-fn is_not_calm_without_a_spoke(rt: HostRuntime) {
-    let entries = plays(&rt, rt.alloc(), &HIERARCHY, &UP, &LOSES_A_SPOKE);
-    assert!(rt; entries > 0);
-}
 
 // A priority applies at the spoke edge alone, and where it is another one. The answer is flooded from where the station was
 // forgotten, and finds it over the new spoke.
-const MOVES: [Step; 16] = [
+const MOVES: [Step; 17] = [
     Step::Connect(4, 1),
     Step::Settle,
     Step::Frame(4, BROADCAST),
@@ -86,10 +71,14 @@ const MOVES: [Step; 16] = [
     Step::Frame(5, ANSWER),
     Step::Flow(5),
     Step::Left(2, "/2/2/1/2/3/"),
+    Step::Over(0),
 ];
 
 #[test]
-fn moves_to_another_spoke_by_priority(rt: HostRuntime) {
-    let entries = plays(&rt, rt.alloc(), &TWO_SPOKES, &UP, &MOVES);
-    assert!(rt; entries > 0);
+fn floods_over_a_hierarchy(rt: HostRuntime) {
+    let alloc = rt.alloc();
+    plays(&rt, alloc, &HIERARCHY, &UP, &FLOODS);
+    plays(&rt, alloc, &HIERARCHY, &UP, &ANSWERS);
+    plays(&rt, alloc, &HIERARCHY, &UP, &LOSES_A_SPOKE);
+    plays(&rt, alloc, &TWO_SPOKES, &UP, &MOVES);
 }

@@ -83,9 +83,16 @@ fn joined(rt: &impl Abort, alloc: Global, pieces: &[&str]) -> String {
     text
 }
 
+// The network of a scenario before its first event.
+fn opened(rt: &impl Abort, alloc: Global, text: &str) -> Network {
+    let scenario = read_scenario(alloc, text.as_bytes()).expect(rt, "a scenario");
+    let network = Network::open(alloc, &scenario.plan).expect(rt, "memory");
+    drop(scenario);
+    network
+}
+
 /// The network of a scenario, given in pieces, before its first event.
 pub fn network_of(rt: &impl Abort, alloc: Global, pieces: &[&str]) -> Network {
     let text = joined(rt, alloc, pieces);
-    let scenario = read_scenario(alloc, text.as_str().as_bytes()).expect(rt, "a scenario");
-    Network::open(alloc, &scenario.plan).expect(rt, "memory")
+    opened(rt, alloc, text.as_str())
 }

@@ -16,7 +16,7 @@ const SECOND_LIVES: &str = "0001000e0a00000200000201000400000002";
 
 const OFF: [Step; 2] = [Step::Wire(0, false), Step::Wire(1, false)];
 
-const SETS_UP: [Step; 8] = [
+const SETS_UP: [Step; 9] = [
     Step::Connect(0, 1),
     Step::Connect(1, 0),
     Step::Settle,
@@ -25,15 +25,10 @@ const SETS_UP: [Step; 8] = [
     Step::Says(10, 0, FIRST_OPENS),
     Step::Says(11, 0, FIRST_LIVES),
     Step::Says(14, 1, SECOND_LIVES),
+    Step::Entries(19),
 ];
 
-#[test]
-fn sets_a_session_up(rt: HostRuntime) {
-    let entries = plays(&rt, rt.alloc(), &PAIR, &OFF, &SETS_UP);
-    assert!(rt; entries == 19);
-}
-
-const LOSES: [Step; 9] = [
+const LOSES: [Step; 10] = [
     Step::Connect(0, 1),
     Step::Deliver(1, 0, 36),
     Step::Deliver(0, 1, 40),
@@ -43,24 +38,22 @@ const LOSES: [Step; 9] = [
     Step::Connect(0, 1),
     Step::Settle,
     Step::Kinds(">>>00s1>ss2>s2>c>i>3>c>00s1>ss2>s23>3"),
+    Step::Entries(37),
 ];
 
-#[test]
-fn loses_a_connection_within_a_message(rt: HostRuntime) {
-    let entries = plays(&rt, rt.alloc(), &PAIR, &OFF, &LOSES);
-    assert!(rt; entries == 37);
-}
-
-const RESTARTS: [Step; 5] = [
+const RESTARTS: [Step; 6] = [
     Step::Connect(0, 1),
     Step::Restart(1),
     Step::Lose(1, 0),
     Step::Settle,
     Step::Kinds(">>>00s1>>i>ss2>c"),
+    Step::Entries(16),
 ];
 
 #[test]
-fn restarts_an_edge(rt: HostRuntime) {
-    let entries = plays(&rt, rt.alloc(), &PAIR, &OFF, &RESTARTS);
-    assert!(rt; entries == 16);
+fn sets_sessions_up_and_ends_them(rt: HostRuntime) {
+    let alloc = rt.alloc();
+    plays(&rt, alloc, &PAIR, &OFF, &SETS_UP);
+    plays(&rt, alloc, &PAIR, &OFF, &LOSES);
+    plays(&rt, alloc, &PAIR, &OFF, &RESTARTS);
 }

@@ -1,6 +1,6 @@
 //! What a test has a network do, and what it has to find then.
 ghost use Rattle.std.specs.Prelude.{◌<◌, ◌≤◌, length, IfSome};
-ghost use Rattle.net_base.specs.plan.Planned.{IsEventOf};
+ghost use Rattle.net_base.specs.plan.Planned.{IsEventOf, IsInPlan};
 
 use crate::tests::plans::network_of;
 use crate::tests::traces::{bound_label, hops_of, is_idle, kinds_of, next_label, says, ticks_of};
@@ -30,6 +30,9 @@ pub enum Step {
     /// Whatever is on its way is delivered; and all packets arrive, the first one first, so many of them.
     Settle,
     Flow(u32),
+    /// The trace has so many entries, or more than so many.
+    Entries(usize),
+    Over(usize),
     /// The trace has entries of these kinds, a letter each; one says these octets, from this edge; the last is of an event that
     /// did not apply, or is not.
     Kinds(&'static str),
@@ -49,74 +52,77 @@ pub enum Step {
     Left(u64, &'static str),
 }
 
-/// An edge of the network's plan.
-fn edge(rt: &impl Abort, network: &Network, place: u16) -> EdgeId
-    ensures { result.0 < length network.now.plan.edges }
+// A place among so many.
+fn place_in(rt: &impl Abort, count: usize, place: u16) -> u16
+    ensures { result < count }
 {
-    assert!(rt; usize::from(place) < network.plan().edges.len());
-    EdgeId(place)
+    assert!(rt; usize::from(place) < count);
+    place
 }
 
-// A wire of the network's plan.
-fn wire(rt: &impl Abort, network: &Network, place: u16) -> WireId
-    ensures { result.0 < length network.now.plan.wires }
-{
-    assert!(rt; usize::from(place) < network.plan().wires.len());
-    WireId(place)
-}
-
-// A circuit of the network's plan.
-fn circuit(rt: &impl Abort, network: &Network, place: u16) -> CircuitId
-    ensures { result.0 < length network.now.plan.circuits }
-{
-    assert!(rt; usize::from(place) < network.plan().circuits.len());
-    CircuitId(place)
-}
-
-// The event of a step between edges; none where it is another one.
-fn event_between(rt: &impl Abort, network: &Network, step: Step) -> Option<Event>
-    ensures { IfSome result (IsEventOf network.now.plan) }
+// The event of a step, where a plan has so many edges, circuits and wires; none where the step is none, or a frame.
+fn event_in(
+    rt: &impl Abort,
+    edges: usize,
+    circuits: usize,
+    wires: usize,
+    step: Step,
+) -> Option<Event>
+    ensures { IfSome result (IsInPlan edges circuits wires) }
 {
     match step {
         Step::Connect(from, to) => Some(Event::Connect {
-            from: edge(rt, network, from),
-            to: edge(rt, network, to),
+            from: EdgeId(place_in(rt, edges, from)),
+            to: EdgeId(place_in(rt, edges, to)),
         }),
         Step::Deliver(from, to, count) => Some(Event::Deliver {
-            from: edge(rt, network, from),
-            to: edge(rt, network, to),
+            from: EdgeId(place_in(rt, edges, from)),
+            to: EdgeId(place_in(rt, edges, to)),
             count,
         }),
         Step::Lose(me, peer) => Some(Event::Lose {
-            edge: edge(rt, network, me),
-            peer: edge(rt, network, peer),
+            edge: EdgeId(place_in(rt, edges, me)),
+            peer: EdgeId(place_in(rt, edges, peer)),
+        }),
+        Step::Restart(me) => Some(Event::Restart {
+            edge: EdgeId(place_in(rt, edges, me)),
+        }),
+        Step::Tick => Some(Event::Tick),
+        Step::Wire(me, on) => Some(Event::Wire {
+            edge: EdgeId(place_in(rt, edges, me)),
+            wire: WireId(place_in(rt, wires, 0)),
+            on,
+        }),
+        Step::Status(me, bits) => Some(Event::Status {
+            edge: EdgeId(place_in(rt, edges, me)),
+            wire: WireId(place_in(rt, wires, 0)),
+            bits: bits.min(31),
+        }),
+        Step::Priority(me, priority) => Some(Event::Priority {
+            edge: EdgeId(place_in(rt, edges, me)),
+            wire: WireId(place_in(rt, wires, 6)),
+            priority,
+        }),
+        Step::Off => Some(Event::Circuit {
+            circuit: CircuitId(place_in(rt, circuits, 0)),
+            on: false,
         }),
         _ => None,
     }
 }
 
-// The event of a step of a wire at an edge; none where it is another one.
-fn event_on_wire(rt: &impl Abort, network: &Network, step: Step) -> Option<Event>
+// The event of a step of the network; none where the step is none, or a frame.
+fn event_of(rt: &impl Abort, network: &Network, step: Step) -> Option<Event>
     ensures { IfSome result (IsEventOf network.now.plan) }
 {
-    match step {
-        Step::Wire(me, on) => Some(Event::Wire {
-            edge: edge(rt, network, me),
-            wire: wire(rt, network, 0),
-            on,
-        }),
-        Step::Status(me, bits) => Some(Event::Status {
-            edge: edge(rt, network, me),
-            wire: wire(rt, network, 0),
-            bits: bits.min(31),
-        }),
-        Step::Priority(me, priority) => Some(Event::Priority {
-            edge: edge(rt, network, me),
-            wire: wire(rt, network, 6),
-            priority,
-        }),
-        _ => None,
-    }
+    let plan = network.plan();
+    event_in(
+        rt,
+        plan.edges.len(),
+        plan.circuits.len(),
+        plan.wires.len(),
+        step,
+    )
 }
 
 // The octets of pairs of hexadecimal digits, a frame's at most.
@@ -128,76 +134,91 @@ fn octets_of(rt: &impl Abort, alloc: Global, text: &str) -> Octets
     List::from_bytes(alloc, octets.as_slice()).expect(rt, "memory")
 }
 
-// The event of a step at one place; none where it is another one.
-fn event_at(rt: &impl Abort, alloc: Global, network: &Network, step: Step) -> Option<Event>
-    ensures { IfSome result (IsEventOf network.now.plan) }
+// The network does an event.
+fn apply(rt: &impl Abort, alloc: Global, network: &mut Network, event: &Event)
+    requires { IsEventOf network.old.plan event.now }
 {
-    match step {
-        Step::Restart(me) => Some(Event::Restart {
-            edge: edge(rt, network, me),
-        }),
-        Step::Tick => Some(Event::Tick),
-        Step::Off => Some(Event::Circuit {
-            circuit: circuit(rt, network, 0),
-            on: false,
-        }),
-        Step::Frame(place, text) => Some(Event::Frame {
-            circuit: circuit(rt, network, place),
-            bytes: octets_of(rt, alloc, text),
-        }),
-        _ => None,
+    assert!(rt; network.apply(alloc, event).is_ok());
+}
+
+// The network does an event, where it is one; answers whether it is.
+fn applied(rt: &impl Abort, alloc: Global, network: &mut Network, event: Option<Event>) -> bool
+    requires { IfSome event (IsEventOf network.old.plan) }
+{
+    match event {
+        Some(event) => {
+            apply(rt, alloc, network, &event);
+            true
+        }
+        None => false,
     }
 }
 
-// The event of a step; none where it is none.
-fn event_of(rt: &impl Abort, alloc: Global, network: &Network, step: Step) -> Option<Event>
-    ensures { IfSome result (IsEventOf network.now.plan) }
-{
-    if let Some(event) = event_between(rt, network, step) {
-        return Some(event);
-    }
-    match event_on_wire(rt, network, step) {
-        Some(event) => Some(event),
-        None => event_at(rt, alloc, network, step),
-    }
+// A frame of these octets comes by a circuit.
+fn enters(rt: &impl Abort, alloc: Global, network: &mut Network, place: u16, text: &str) {
+    let event = Event::Frame {
+        circuit: CircuitId(place_in(rt, network.plan().circuits.len(), place)),
+        bytes: octets_of(rt, alloc, text),
+    };
+    apply(rt, alloc, network, &event);
 }
 
 // Delivers whatever is on its way, in at most 100 events.
 fn settle(rt: &impl Abort, alloc: Global, network: &mut Network) {
     for _done in 0..100 {
-        match network.next_delivery() {
-            Some(event) => assert!(rt; network.apply(alloc, &event).is_ok()),
-            None => return,
+        let event = network.next_delivery();
+        if !applied(rt, alloc, network, event) {
+            return;
         }
+    }
+}
+
+// Whether an event is the arrival of a packet.
+fn is_arrival(event: &Event) -> bool {
+    matches!(event, Event::Arrive { .. })
+}
+
+// The first packet arrives, where one is under way; answers whether it is.
+fn arrived(rt: &impl Abort, alloc: Global, network: &mut Network) -> bool {
+    match network.next_arrival() {
+        Some(event) => {
+            assert!(rt; is_arrival(&event));
+            apply(rt, alloc, network, &event);
+            true
+        }
+        None => false,
     }
 }
 
 // All packets arrive, the first one first; answers how many, of at most 100.
 fn flow(rt: &impl Abort, alloc: Global, network: &mut Network) -> u32 {
     for arrivals in 0..100 {
-        match network.next_arrival() {
-            Some(event) => {
-                assert!(rt; matches!(event, Event::Arrive { .. }));
-                assert!(rt; network.apply(alloc, &event).is_ok());
-            }
-            None => return arrivals,
+        if !arrived(rt, alloc, network) {
+            return arrivals;
         }
     }
     100
 }
 
+// All packets arrive, so many.
+fn flows(rt: &impl Abort, alloc: Global, network: &mut Network, count: u32) {
+    let arrived = flow(rt, alloc, network);
+    assert!(rt; arrived == count, "{arrived} packets");
+}
+
+// Does a step that is one event; answers whether it is.
+fn did_event(rt: &impl Abort, alloc: Global, network: &mut Network, step: Step) -> bool {
+    let event = event_of(rt, network, step);
+    applied(rt, alloc, network, event)
+}
+
 // Does a step; answers whether it is one to do.
 fn did(rt: &impl Abort, alloc: Global, network: &mut Network, step: Step) -> bool {
     match step {
+        Step::Frame(place, text) => enters(rt, alloc, network, place, text),
         Step::Settle => settle(rt, alloc, network),
-        Step::Flow(count) => {
-            let arrived = flow(rt, alloc, network);
-            assert!(rt; arrived == count, "{arrived} packets");
-        }
-        _ => match event_of(rt, alloc, network, step) {
-            Some(event) => assert!(rt; network.apply(alloc, &event).is_ok()),
-            None => return false,
-        },
+        Step::Flow(count) => flows(rt, alloc, network, count),
+        _ => return did_event(rt, alloc, network, step),
     }
     true
 }
@@ -230,6 +251,8 @@ fn has_left(rt: &impl Abort, alloc: Global, network: &Network, frame: u64, hops:
 // Whether the trace is what a step says; none where it says nothing of it.
 fn agrees_in_trace(rt: &impl Abort, alloc: Global, network: &Network, step: Step) -> Option<bool> {
     match step {
+        Step::Entries(count) => Some(network.trace().len() == count),
+        Step::Over(count) => Some(network.trace().len() > count),
         Step::Kinds(kinds) => Some(has_kinds(rt, alloc, network, kinds)),
         Step::Says(place, me, text) => Some(has_said(rt, alloc, network, place, me, text)),
         Step::Idle(idle) => Some(is_idle(network) == idle),
@@ -282,27 +305,13 @@ fn play(rt: &impl Abort, alloc: Global, network: &mut Network, steps: &[Step]) {
     }
 }
 
-// Does steps, and then others.
-fn play_twice(
-    rt: &impl Abort,
-    alloc: Global,
-    network: &mut Network,
-    begin: &[Step],
-    steps: &[Step],
-) {
-    play(rt, alloc, network, begin);
-    play(rt, alloc, network, steps);
-}
-
-/// The network of a scenario, given in pieces, does steps; answers how many entries its trace has then.
-pub fn plays(
-    rt: &impl Abort,
-    alloc: Global,
-    pieces: &[&str],
-    begin: &[Step],
-    steps: &[Step],
-) -> usize {
+/// The network of a scenario, given in pieces, does steps.
+pub fn plays(rt: &impl Abort, alloc: Global, pieces: &[&str], begin: &[Step], steps: &[Step]) {
     let mut network = network_of(rt, alloc, pieces);
-    play_twice(rt, alloc, &mut network, begin, steps);
-    network.into_trace().len()
+    play(rt, alloc, &mut network, begin);
+    play(rt, alloc, &mut network, steps);
+    let entries = network.trace().len();
+    let trace = network.into_trace();
+    assert!(rt; trace.len() == entries);
+    drop(trace);
 }
