@@ -245,11 +245,6 @@ fn has_entries(finish: &Finish, entries: Option<usize>) -> bool {
     }
 }
 
-// Whether the outcome is the one that the case tells.
-fn is_ended(rt: &impl Abort, alloc: Global, outcome: &Outcome, told: &str) -> bool {
-    is_kind(outcome, told) && is_told(rt, alloc, outcome, told)
-}
-
 // What is not as the case has it; empty where all is. The sink counts a fault exactly where the writing failed.
 fn difference(
     rt: &impl Abort,
@@ -265,12 +260,22 @@ fn difference(
         "entries"
     } else if !is_taken(sink.taken(), taken) {
         "taken"
-    } else if !is_ended(rt, alloc, &finish.outcome, case.told) {
+    } else if !is_kind(&finish.outcome, case.told) {
+        "kind"
+    } else if !is_told(rt, alloc, &finish.outcome, case.told) {
         "told"
     } else if sink.faults() != u64::from(case.status == 4) {
         "faults"
     } else {
         ""
+    }
+}
+
+// Lets the end of a call go. What a network turns into is its trace, so that only that has to be let go here.
+fn let_go(finish: Finish) {
+    match finish.network {
+        Some(network) => drop(network.into_trace()),
+        None => {}
     }
 }
 
@@ -284,7 +289,7 @@ fn difference_with(
 ) -> &'static str {
     let finish = finish_of(rt, alloc, case, sink);
     let difference = difference(rt, alloc, case, taken, &finish, sink);
-    drop(finish);
+    let_go(finish);
     difference
 }
 

@@ -48,19 +48,12 @@ fn remove(rt: &HostRuntime, test: &impl Abort, name: &str) {
     fs::remove_file(rt, name).expect(test, "a file");
 }
 
-// A new shelf reads from the file under a name.
-fn reads_new(rt: &HostRuntime, test: &impl Abort, name: &str) {
-    store(rt, test, name, b"abcde");
-    let mut shelf = FileShelf::new(rt.alloc(), rt);
-    reads_all(test, &mut shelf, name, READS.as_slice());
-    drop(shelf);
-    remove(rt, test, name);
-}
-
-#[test]
-fn reads_in_order_and_at_any_place(rt: HostRuntime) {
-    let path = path_of(&rt, &rt, "places");
-    reads_new(&rt, &rt, path.as_str());
+// A shelf reads a file in order and at any place.
+fn reads_places(rt: &HostRuntime, test: &impl Abort, shelf: &mut impl Shelf) {
+    let path = path_of(rt, test, "places");
+    store(rt, test, path.as_str(), b"abcde");
+    reads_all(test, shelf, path.as_str(), READS.as_slice());
+    remove(rt, test, path.as_str());
 }
 
 // Whether two octets are read from a place of a file, and they are these.
@@ -69,33 +62,21 @@ fn reads_two(shelf: &mut impl Shelf, name: &str, from: u64, octets: &[u8]) -> bo
     shelf.read_at(name, from, &mut buf) == Ok(2) && buf.as_slice() == octets
 }
 
-// Stores two files.
-fn store_both(rt: &HostRuntime, test: &impl Abort, name: &str, other: &str) {
-    store(rt, test, name, b"abcd");
-    store(rt, test, other, b"ABCD");
-}
-
 // A shelf reads on in the file that it opened, though another one has its name.
 fn reads_on(rt: &HostRuntime, test: &impl Abort, shelf: &mut impl Shelf, name: &str, other: &str) {
+    store(rt, test, name, b"abcd");
+    store(rt, test, other, b"ABCD");
     assert!(test; reads_two(shelf, name, 0, b"ab"));
     fs::rename(rt, other, name).expect(test, "a file");
     assert!(test; reads_two(shelf, name, 2, b"cd"));
     remove(rt, test, name);
 }
 
-// A new shelf reads on in a file.
-fn reads_renamed(rt: &HostRuntime, test: &impl Abort, name: &str, other: &str) {
-    store_both(rt, test, name, other);
-    let mut shelf = FileShelf::new(rt.alloc(), rt);
-    reads_on(rt, test, &mut shelf, name, other);
-    drop(shelf);
-}
-
-#[test]
-fn reads_the_file_that_it_opened(rt: HostRuntime) {
-    let path = path_of(&rt, &rt, "first");
-    let other = path_of(&rt, &rt, "second");
-    reads_renamed(&rt, &rt, path.as_str(), other.as_str());
+// The same under names of this process.
+fn reads_renamed(rt: &HostRuntime, test: &impl Abort, shelf: &mut impl Shelf) {
+    let path = path_of(rt, test, "first");
+    let other = path_of(rt, test, "second");
+    reads_on(rt, test, shelf, path.as_str(), other.as_str());
 }
 
 // Whether a shelf cannot read a file.
@@ -104,23 +85,19 @@ fn fails(shelf: &mut impl Shelf, name: &str) -> bool {
     shelf.read_at(name, 0, &mut buf) == Err(Failed)
 }
 
-// A shelf counts under a name what it cannot read.
-fn counts(test: &impl Abort, shelf: &mut impl Shelf, name: &str) {
-    assert!(test; fails(shelf, name));
-    assert!(test; fails(shelf, ""));
-    assert!(test; fails(shelf, "/"));
-    assert!(test; shelf.faults(name) == 3);
-}
-
-// A new shelf counts what it cannot read.
-fn counts_new(rt: &HostRuntime, test: &impl Abort, name: &str) {
-    let mut shelf = FileShelf::new(rt.alloc(), rt);
-    counts(test, &mut shelf, name);
-    drop(shelf);
+// A shelf that has read all so far counts what it cannot read.
+fn counts(rt: &HostRuntime, test: &impl Abort, shelf: &mut impl Shelf) {
+    let path = path_of(rt, test, "missing");
+    assert!(test; fails(shelf, path.as_str()));
+    assert!(test; fails(shelf, "") && fails(shelf, "/"));
+    assert!(test; shelf.faults(path.as_str()) == 3);
 }
 
 #[test]
-fn counts_what_cannot_be_read(rt: HostRuntime) {
-    let path = path_of(&rt, &rt, "missing");
-    counts_new(&rt, &rt, path.as_str());
+fn reads_the_files_of_the_system(rt: HostRuntime) {
+    let mut shelf = FileShelf::new(rt.alloc(), &rt);
+    reads_places(&rt, &rt, &mut shelf);
+    reads_renamed(&rt, &rt, &mut shelf);
+    counts(&rt, &rt, &mut shelf);
+    drop(shelf);
 }
