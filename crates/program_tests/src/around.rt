@@ -273,7 +273,13 @@ fn difference(
 
 // Lets the end of a call go. What a network turns into is its trace, so that only that has to be let go here.
 fn let_go(finish: Finish) {
-    match finish.network {
+    let Finish {
+        outcome,
+        network,
+        ..
+    } = finish;
+    drop(outcome);
+    match network {
         Some(network) => drop(network.into_trace()),
         None => {}
     }
