@@ -266,15 +266,10 @@ fn next_tick(ticks: u64) -> u64
 }
 
 // Nothing was told of the end of any of so many wires.
-#[tactic(auto, using(crate::proofs::EachLemmas::one_more))]
 fn nothing_told(alloc: Global, count: usize) -> Result<Vec<Option<Down>>, NoMemory>
     ensures { IfOk result (λ told. told.items ≡ replicate count (Some NoLocal)) }
 {
-    let mut told_down = Vec::with_capacity(alloc, count)?;
-    for _place in 0..count {
-        told_down.push(Some(Down::NoLocal))?;
-    }
-    Ok(told_down)
+    Ok(vec![in alloc; Some(Down::NoLocal); count]?)
 }
 
 // Of no end anything was told.

@@ -2,11 +2,16 @@
 ghost use Rattle.std.specs.Prelude.{◌≡◌, ◌<◌, List, None, true, length, map, replicate, option_copied, IfOk, IfSome};
 ghost use Rattle.net_base.specs.declared.outside.link_call.LinkCall.{LinkCall};
 ghost use Rattle.net_base.specs.plan.Accepted.{IsChecked};
+ghost use Rattle.pw_signalling.specs.End.{fresh};
 ghost use Rattle.pw_signalling.specs.Rows.{lost};
+ghost use Rattle.pw_ends.specs.Ends.{seen_ends};
+ghost use Rattle.edge_forwarding.specs.Forwarding.{IsNewForwarding};
 ghost use Rattle.edge_model.specs.declared.effect.Effect.{Effect};
+ghost use Rattle.edge_model.specs.EndPlaces.{end_places};
 ghost use Rattle.edge_model.specs.Hear.{was_up};
 ghost use Rattle.edge_model.specs.Session.{clears_ends};
-ghost use Rattle.edge_model.specs.State.{has_end, with_ends_beside, with_peering, without_ends, without_peerings};
+ghost use Rattle.edge_model.specs.State.{first_label, has_end, with_ends_beside, with_peering, without_ends, without_peerings};
+ghost use Rattle.provider_edge.specs.Spokes.{IsNewSpokes};
 ghost use Rattle.provider_edge.specs.Control.{AreNewParts, IsNewControl, KeepsPlan, Rest, at_control, controlled};
 ghost use Rattle.peer_dialogue.specs.Peering.{gone, kept_with, session_name};
 
@@ -67,10 +72,53 @@ impl Control {
         requires me { me.0 < length plan.value.edges }
         ensures { IfOk result (λ control. IsNewControl plan.value me control) }
     {
-        let ends = PwEnds::open(alloc, &plan, me)?;
-        let spokes = Spokes::open(alloc, &plan, me, ends.places())?;
-        let forwarding = Forwarding::open(alloc, plan.clone()?, me)?;
-        Control::over(alloc, plan, me, ends, spokes, forwarding)
+        match PwEnds::open(alloc, &plan, me) {
+            Ok(ends) => Control::with_ends(alloc, plan, me, ends),
+            Err(fault) => Err(fault),
+        }
+    }
+
+    // The control of an edge over these ends, which have taken no input. Each part goes by value to the function that makes the
+    // next one, so that no function has several parts to drop where memory is refused.
+    fn with_ends(
+        alloc: Global,
+        plan: Rc<Plan>,
+        me: EdgeId,
+        ends: PwEnds,
+    ) -> Result<Control, NoMemory>
+        requires checked { IsChecked plan.value }
+        requires me { me.0 < length plan.value.edges }
+        requires places { ends.places ≡ end_places plan.value me }
+        requires idle { seen_ends ends ≡ (λ wire peer. fresh) }
+        requires next { ends.labels.next ≡ first_label plan.value me }
+        ensures { IfOk result (λ control. IsNewControl plan.value me control) }
+    {
+        match Spokes::open(alloc, &plan, me, ends.places()) {
+            Ok(spokes) => Control::with_spokes(alloc, plan, me, ends, spokes),
+            Err(fault) => Err(fault),
+        }
+    }
+
+    // The control of an edge over these ends and spokes, which have taken no input.
+    fn with_spokes(
+        alloc: Global,
+        plan: Rc<Plan>,
+        me: EdgeId,
+        ends: PwEnds,
+        spokes: Spokes,
+    ) -> Result<Control, NoMemory>
+        requires checked { IsChecked plan.value }
+        requires me { me.0 < length plan.value.edges }
+        requires places { ends.places ≡ end_places plan.value me }
+        requires idle { seen_ends ends ≡ (λ wire peer. fresh) }
+        requires next { ends.labels.next ≡ first_label plan.value me }
+        requires spokes { IsNewSpokes plan.value me spokes }
+        ensures { IfOk result (λ control. IsNewControl plan.value me control) }
+    {
+        match forwarding_over(alloc, &plan, me) {
+            Ok(forwarding) => Control::over(alloc, plan, me, ends, spokes, forwarding),
+            Err(fault) => Err(fault),
+        }
     }
 
     // The control of an edge over these ends, spokes and bridges, which have taken no input.
@@ -207,6 +255,15 @@ impl Control {
         self.spokes.clear();
         self.forwarding.close_wires();
     }
+}
+
+// What an edge forwards by, over a plan that others hold too.
+fn forwarding_over(alloc: Global, plan: &Rc<Plan>, me: EdgeId) -> Result<Forwarding, NoMemory>
+    requires checked { IsChecked plan.now.value }
+    requires me { me.0 < length plan.now.value.edges }
+    ensures { IfOk result (λ forwarding. IsNewForwarding plan.now.value me forwarding) }
+{
+    Forwarding::open(alloc, plan.clone()?, me)
 }
 
 // The lists of a control before its first input.

@@ -113,15 +113,10 @@ fn clear_all(chosen: &mut Vec<Option<WireId>>)
 }
 
 // No spoke is chosen for so many services.
-#[tactic(auto, using(edge_forwarding::proofs::EachLemmas::one_more))]
 fn none_chosen(alloc: Global, count: usize) -> Result<Vec<Option<WireId>>, NoMemory>
     ensures { IfOk result (λ chosen. chosen.items ≡ replicate count None) }
 {
-    let mut chosen = Vec::with_capacity(alloc, count)?;
-    for _service in 0..count {
-        chosen.push(None)?;
-    }
-    Ok(chosen)
+    Ok(vec![in alloc; None; count]?)
 }
 
 // The slots of the ends of spokes that start at an edge, by services.

@@ -1,8 +1,8 @@
 //! The pseudowire ends of an edge.
-ghost use Rattle.std.specs.Prelude.{◌≡◌, ◌≤◌, ◌<◌, ◌+◌, ◌==◌, ◌↔◌, ℕ, Some, None, length, map, position, slice_get, option_and_then, option_map, IfOk, IfSome};
+ghost use Rattle.std.specs.Prelude.{◌≡◌, ◌≤◌, ◌<◌, ◌+◌, ◌==◌, ◌↔◌, ℕ, Some, None, [], length, map, position, replicate, slice_get, option_and_then, option_map, IfOk, IfSome};
 ghost use Rattle.std.specs.List.{find, list_any};
 ghost use Rattle.net_base.specs.plan.Accepted.{IsChecked};
-ghost use Rattle.label_space.specs.Labels.{numbers_end};
+ghost use Rattle.label_space.specs.Labels.{numbers_end, opened};
 ghost use Rattle.pw_signalling.specs.AnyEnd.{end_of};
 ghost use Rattle.pw_signalling.specs.End.{fresh};
 ghost use Rattle.pw_signalling.specs.Laws.{own_label};
@@ -11,7 +11,7 @@ ghost use Rattle.edge_model.specs.EndPlaces.{end_places, is_end_of_wire, is_name
 ghost use Rattle.edge_model.specs.Packet.{advertises_label};
 ghost use Rattle.edge_model.specs.State.{first_label};
 ghost use Rattle.pw_ends.specs.Changes.{changed, changed_each, changed_in};
-ghost use Rattle.pw_ends.specs.Kept.{freed_one, left_label};
+ghost use Rattle.pw_ends.specs.Kept.{AreApart, freed_one, left_label};
 ghost use Rattle.pw_ends.specs.Owned.{without_one};
 ghost use Rattle.pw_ends.specs.Ends.{HasKind, IsIdle, changed_at, changed_beside, end_in, end_there, owns_label, place_of, renewed_of, seen_ends};
 
@@ -55,7 +55,6 @@ impl Model for PwEnds {
 impl PwEnds {
     /// The ends of an edge of the plan, all idle and none of them declined, with a label space that begins at the edge's
     /// first label.
-    #[tactic(auto, using(crate::proofs::SlotLemmas::seen_opened, crate::proofs::KeptLemmas::kept_opened))]
     pub fn open(alloc: Global, plan: &Plan, me: EdgeId) -> Result<PwEnds, NoMemory>
         requires checked { IsChecked plan.now }
         requires me { me.0 < length plan.now.edges }
@@ -63,16 +62,32 @@ impl PwEnds {
         ensures seen { IfOk result (λ ends. seen_ends ends ≡ (λ wire peer. fresh)) }
         ensures next { IfOk result (λ ends. ends.labels.next ≡ first_label plan.now me) }
     {
-        let places = PlaceList::open(alloc, plan, me)?;
-        let labels = LabelSpace::open(alloc, first_label(plan, me), places.len() as u32)?;
-        let ends = idle_ends(alloc, places.len())?;
-        let owned = OwnedLabels::open(alloc, places.len())?;
-        Ok(PwEnds {
-            places,
-            ends,
-            labels,
-            owned,
-        })
+        match PlaceList::open(alloc, plan, me) {
+            Ok(places) => PwEnds::over(alloc, places, first_label(plan, me)),
+            Err(fault) => Err(fault),
+        }
+    }
+
+    // The ends of these places, all idle, with a label space that begins at this label.
+    #[tactic(auto, using(crate::proofs::SlotLemmas::seen_opened, crate::proofs::KeptLemmas::kept_opened))]
+    fn over(alloc: Global, places: PlaceList, first: u32) -> Result<PwEnds, NoMemory>
+        requires apart { AreApart places }
+        requires few { length places ≤ 5120 }
+        requires above { 16 ≤ first }
+        requires below { first ≤ numbers_end }
+        ensures places { IfOk result (λ ends. ends.places ≡ places) }
+        ensures seen { IfOk result (λ ends. seen_ends ends ≡ (λ wire peer. fresh)) }
+        ensures next { IfOk result (λ ends. ends.labels.next ≡ first) }
+    {
+        match idle_slots(alloc, first, places.len()) {
+            Ok(slots) => Ok(PwEnds {
+                places,
+                ends: slots.ends,
+                labels: slots.labels,
+                owned: slots.owned,
+            }),
+            Err(fault) => Err(fault),
+        }
     }
 
     /// How many ends the edge has.
@@ -392,6 +407,33 @@ fn free_left(
         labels.free(label);
         owned.remove(label);
     }
+}
+
+// What an edge keeps for its slots beside their places.
+#[derive(Drop)]
+struct IdleSlots {
+    ends: Vec<PwEnd>,
+    labels: LabelSpace,
+    owned: OwnedLabels,
+}
+
+// So many slots of which nothing was told, and a label space that begins at this label.
+fn idle_slots(alloc: Global, first: u32, count: usize) -> Result<IdleSlots, NoMemory>
+    requires few { count ≤ 5120 }
+    requires above { 16 ≤ first }
+    requires below { first ≤ numbers_end }
+    ensures ends { IfOk result (λ slots. map end_of slots.ends.items ≡ replicate count fresh) }
+    ensures labels { IfOk result (λ slots. slots.labels ≡ opened first count) }
+    ensures owned { IfOk result (λ slots. slots.owned ≡ record { room = count; labels = [] }) }
+{
+    let ends = idle_ends(alloc, count)?;
+    let labels = LabelSpace::open(alloc, first, count as u32)?;
+    let owned = OwnedLabels::open(alloc, count)?;
+    Ok(IdleSlots {
+        ends,
+        labels,
+        owned,
+    })
 }
 
 // The first label of an edge of the plan.
