@@ -1,13 +1,28 @@
-//! Tests of the crates of plans, tables of addresses, frames and pieces of text. They stand in a crate of their own, since
-//! a crate with tests is proved twice.
+//! Tests of the crates below the edge: plans, tables of addresses, LDP and pseudowires, frames, packets, captures, texts and
+//! scenarios. They stand in a crate of their own, since a crate with tests is proved twice, and in one, since each such crate loads and
+//! links all that its tests use.
 #![tactic(auto)]
 
 #[cfg(test)]
+mod captures;
+#[cfg(test)]
 mod frames;
+#[cfg(test)]
+mod hex;
+#[cfg(test)]
+mod ldp;
 #[cfg(test)]
 mod links;
 #[cfg(test)]
+mod messages;
+#[cfg(test)]
+mod pings;
+#[cfg(test)]
 mod plans;
+#[cfg(test)]
+mod reports;
+#[cfg(test)]
+mod scenarios;
 #[cfg(test)]
 mod tables;
 #[cfg(test)]

@@ -10,14 +10,14 @@ use Rattle.net_base.specs.declared.plan.places.WireId.{WireId}
 use Rattle.net_base.specs.declared.trace.event.Event.TheVariants.{Connect, Deliver, Lose, Restart, Tick, Frame, Arrive, Discard, Again, Wire, Circuit, Status, Priority, Ping}
 use Rattle.net_base.specs.plan.NameFaults.{edge_names, circuit_names, wire_names}
 use Rattle.report_text.specs.Words.{edge_name, circuit_name, wire_name, switch_name}
-use Rattle.scenario_text.specs.declared.command.Command.{Command}
-use Rattle.scenario_text.specs.declared.command.Command.TheVariants.{One}
-use Rattle.scenario_text.specs.declared.plan_names.PlanNames.{PlanNames}
-use Rattle.scenario_text.specs.Document.{names_of}
-use Rattle.scenario_text.specs.Events.{connect_in, deliver_in, lose_in, restart_in, frame_in, packet_in, wire_switch_in, circuit_switch_in, status_in, priority_in, ping_in, many_of, part_of, packet_of, command_of, command_in}
-use Rattle.scenario_text.specs.Hex.{frame_of}
-use Rattle.scenario_text.specs.Names.{place_in}
-use Rattle.scenario_text.specs.Words.{is_space, decimal_from, switch_of}
+use Rattle.command_text.specs.declared.command.Command.{Command}
+use Rattle.command_text.specs.declared.command.Command.TheVariants.{One}
+use Rattle.command_text.specs.declared.plan_names.PlanNames.{PlanNames}
+use Rattle.command_text.specs.Planned.{names_of}
+use Rattle.command_text.specs.Events.{connect_in, deliver_in, lose_in, restart_in, frame_in, packet_in, wire_switch_in, circuit_switch_in, status_in, priority_in, ping_in, many_of, part_of, packet_of, command_of, command_in}
+use Rattle.command_text.specs.Hex.{frame_of}
+use Rattle.command_text.specs.Names.{place_in}
+use Rattle.command_text.specs.Words.{is_space, decimal_from, switch_of}
 use Rattle.text_pieces.specs.Pieces.{hex}
 use Rattle.event_words.specs.Law.{text_of, HasNames, ReadsWhatIsWritten}
 use Rattle.event_words.proofs.WordLemmas.{IsWhole, AreWhole, first_of, word_is, said_is, ends_is}

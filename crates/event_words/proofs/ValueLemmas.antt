@@ -12,9 +12,9 @@ use Rattle.std.proofs.lemmas.Str.Parse.{IsNumeralModel, IsDigitsTest, numerals_b
 use Rattle.hex.specs.Hex.{encode_with, lower_digits}
 use Rattle.net_values.specs.Name.{IsName, is_name_octet_of}
 use Rattle.report_text.specs.Words.{name_or_empty, switch_name}
-use Rattle.scenario_text.specs.Words.{is_space, is_digit_of, value_from, is_decimal, decimal_from, switch_of}
-use Rattle.scenario_text.specs.Names.{place_in}
-use Rattle.scenario_text.specs.Hex.{digit_value, pair_value, unhex, frame_of}
+use Rattle.command_text.specs.Words.{is_space, is_digit_of, value_from, is_decimal, decimal_from, switch_of}
+use Rattle.command_text.specs.Names.{place_in}
+use Rattle.command_text.specs.Hex.{digit_value, pair_value, unhex, frame_of}
 use Rattle.text_pieces.specs.Pieces.{hex}
 use Rattle.event_words.specs.Law.{AreNames, IsWritable}
 use Rattle.event_words.proofs.WordLemmas.{IsWhole}

@@ -1,8 +1,8 @@
 -- The words of a text by their numbers.
 use Rattle.std.proofs.Common.{◌≡◌, ◌+◌, ◌-◌, ◌++◌, ◌∙◌, ℕ, zero, suc, true, false, List, [], ◌∷◌, length, take, drop, Option, Some, None, Ok, slice_get, refl, ap, arith, length-append}
 use Rattle.std.specs.List.{position_or_len}
-use Rattle.scenario_text.specs.Words.{is_space, after_word, first_word, word_after, word_at, said, ends}
-use Rattle.scenario_text.proofs.WordLemmas.{no_space_after, no_space_before, space_after}
+use Rattle.command_text.specs.Words.{is_space, after_word, first_word, word_after, word_at, said, ends}
+use Rattle.command_text.proofs.WordLemmas.{no_space_after, no_space_before, space_after}
 use Rattle.event_words.specs.Law.{text_of}
 
 -- no blank is in the word

@@ -10,9 +10,9 @@ use Rattle.net_values.specs.Name.{IsName}
 use Rattle.std.specs.List.{All}
 use Rattle.std.specs.Str.{bytes_eq}
 use Rattle.report_text.specs.Words.{event_words}
-use Rattle.scenario_text.specs.Document.{names_of}
-use Rattle.scenario_text.specs.Events.{command_in}
-use Rattle.scenario_text.specs.declared.command.Command.TheVariants.{One}
+use Rattle.command_text.specs.Planned.{names_of}
+use Rattle.command_text.specs.Events.{command_in}
+use Rattle.command_text.specs.declared.command.Command.TheVariants.{One}
 
 -- words, parted by one blank
 abbrev pub text_of : List (List ℕ) → List ℕ

@@ -4,10 +4,10 @@ use Rattle.std.proofs.lemmas.Bool.{false_from_ne_true}
 use Rattle.std.proofs.lemmas.Str.{is_utf8-from_IsUtf8, IsUtf8-from_is_utf8}
 use Rattle.std.specs.Str.{IsUtf8, is_utf8}
 use Rattle.toml.specs.Parse.{parse_document}
+use Rattle.command_text.specs.declared.scenario_fault.ScenarioFault.{ScenarioFault}
+use Rattle.command_text.specs.declared.scenario_fault.ScenarioFault.TheVariants.{NotToml}
+use Rattle.command_text.specs.Reading.{Gives}
 use Rattle.scenario_text.specs.declared.scenario.Scenario.{Scenario}
-use Rattle.scenario_text.specs.declared.scenario_fault.ScenarioFault.{ScenarioFault}
-use Rattle.scenario_text.specs.declared.scenario_fault.ScenarioFault.TheVariants.{NotToml}
-use Rattle.scenario_text.specs.Reading.{Gives}
 use Rattle.scenario_text.specs.Document.{scenario_or, document}
 
 pub document_text : (bytes : List ℕ) → IsUtf8 bytes → document bytes ≡ scenario_or (parse_document bytes)

@@ -1,9 +1,10 @@
 -- The arrays of a document as the code holds them.
 use Rattle.std.specs.Prelude.{◌≤◌, length}
 use Rattle.toml.specs.View.{items_view}
+use Rattle.command_text.specs.declared.commands.TheConstants.{MOST_EVENTS}
 use Rattle.scenario_text.specs.Top.{Arrays as TopArrays}
 use Rattle.scenario_text.specs.declared.arrays.Arrays.{Arrays}
-use Rattle.scenario_text.specs.declared.limits.TheConstants.{MOST_EVENTS, MOST_EDGES, MOST_SERVICES, MOST_CIRCUITS, MOST_WIRES}
+use Rattle.scenario_text.specs.declared.limits.TheConstants.{MOST_EDGES, MOST_SERVICES, MOST_CIRCUITS, MOST_WIRES}
 
 -- the items of each array
 abbrev pub arrays_of : Arrays → TopArrays

@@ -5,16 +5,16 @@ use Rattle.toml.specs.Data.{Members}
 use Rattle.toml.specs.Parse.{parse_document}
 use Rattle.net_base.specs.declared.plan.Plan.{Plan}
 use Rattle.net_base.specs.declared.plan.table.Table.TheVariants.{Edge, Service, Circuit, Wire}
-use Rattle.net_base.specs.plan.NameFaults.{edge_names, circuit_names, wire_names}
-use Rattle.scenario_text.specs.declared.plan_names.PlanNames.{PlanNames}
+use Rattle.command_text.specs.declared.command.Command.{Command}
+use Rattle.command_text.specs.declared.scenario_fault.ScenarioFault.{ScenarioFault}
+use Rattle.command_text.specs.declared.scenario_fault.ScenarioFault.TheVariants.{NotToml}
+use Rattle.command_text.specs.Reading.{◌>>=◌}
+use Rattle.command_text.specs.Events.{commands_in}
+use Rattle.command_text.specs.Planned.{names_of}
 use Rattle.scenario_text.specs.declared.scenario.Scenario.{Scenario}
-use Rattle.scenario_text.specs.declared.scenario_fault.ScenarioFault.{ScenarioFault}
-use Rattle.scenario_text.specs.declared.scenario_fault.ScenarioFault.TheVariants.{NotToml}
-use Rattle.scenario_text.specs.Reading.{◌>>=◌}
 use Rattle.scenario_text.specs.Rows.{edge_in, service_in, circuit_row_in, wire_row_in, rows_in}
 use Rattle.scenario_text.specs.Top.{Arrays, arrays_in}
 use Rattle.scenario_text.specs.References.{plan_of}
-use Rattle.scenario_text.specs.Events.{commands_in}
 
 -- the plan of the arrays: the rows of all tables, then what they name, then the plan as a whole
 unfoldable pub plan_in : Arrays → Result Plan ScenarioFault
@@ -25,17 +25,16 @@ plan_in arrays = do
   wire_rows ← rows_in Wire wire_row_in 1 arrays.wires
   plan_of edges services circuit_rows wire_rows
 
--- the names by which commands speak of a plan
-abbrev pub names_of : Plan → PlanNames
-names_of plan = record { edges = edge_names plan.edges; circuits = circuit_names plan.circuits; wires = wire_names plan.wires }
+-- the plan with the commands that were read
+abbrev pub scenario_with : Plan → Result (List Command) ScenarioFault → Result Scenario ScenarioFault
+scenario_with plan read = read >>= (λ commands. Ok (record { plan = plan; commands = commands }))
 
 -- the top of the document, the plan, and then the commands
 unfoldable pub scenario_in : Members → Result Scenario ScenarioFault
 scenario_in ms = do
   arrays ← arrays_in ms
   plan ← plan_in arrays
-  commands ← commands_in (names_of plan) 1 0 arrays.events
-  Ok (record { plan = plan; commands = commands })
+  scenario_with plan (commands_in (names_of plan) 1 0 arrays.events)
 
 -- the scenario of the table that a text is
 abbrev pub scenario_or : Option Members → Result Scenario ScenarioFault

@@ -6,10 +6,10 @@ use Rattle.std.specs.Str.{bytes_eq}
 use Rattle.toml.specs.Data.{Members, no_members, member}
 use Rattle.net_base.specs.declared.plan.table.Table.{Table}
 use Rattle.net_base.specs.declared.plan.table.Table.TheVariants.{Top, Events, Edge, Service, Circuit, Wire}
-use Rattle.scenario_text.specs.declared.row_place.RowPlace.{RowPlace}
-use Rattle.scenario_text.specs.declared.scenario_fault.ScenarioFault.{ScenarioFault}
-use Rattle.scenario_text.specs.declared.scenario_fault.ScenarioFault.TheVariants.{UnknownKey}
-use Rattle.scenario_text.specs.Places.{place_at}
+use Rattle.command_text.specs.declared.row_place.RowPlace.{RowPlace}
+use Rattle.command_text.specs.declared.scenario_fault.ScenarioFault.{ScenarioFault}
+use Rattle.command_text.specs.declared.scenario_fault.ScenarioFault.TheVariants.{UnknownKey}
+use Rattle.command_text.specs.Places.{place_at}
 
 abbrev pub is_top_key : List ℕ → Bool
 is_top_key key =

@@ -1,15 +1,8 @@
 pub mod Arrays
 pub mod Document
-pub mod Events
-pub mod Hex
 pub mod Keys
-pub mod Names
 pub mod Offers
-pub mod Places
-pub mod Planned
-pub mod Reading
 pub mod References
 pub mod Rows
 pub mod Top
 pub mod Values
-pub mod Words

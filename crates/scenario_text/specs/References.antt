@@ -12,16 +12,16 @@ use Rattle.net_base.specs.declared.plan.plan_fault.PlanFault.TheVariants.{Unknow
 use Rattle.net_base.specs.declared.plan.table.Table.TheVariants.{Circuit, Wire}
 use Rattle.net_base.specs.plan.NameFaults.{edge_names, service_names}
 use Rattle.net_base.specs.plan.PlanFault.{plan_fault}
+use Rattle.command_text.specs.declared.row_place.RowPlace.{RowPlace}
+use Rattle.command_text.specs.declared.scenario_fault.ScenarioFault.{ScenarioFault}
+use Rattle.command_text.specs.declared.scenario_fault.ScenarioFault.TheVariants as fault
+use Rattle.command_text.specs.Reading.{◌>>=◌, found}
+use Rattle.command_text.specs.Places.{place_at}
+use Rattle.command_text.specs.Names.{place_in}
 use Rattle.scenario_text.specs.declared.plan.PlacedRows.{PlacedRows}
-use Rattle.scenario_text.specs.declared.row_place.RowPlace.{RowPlace}
-use Rattle.scenario_text.specs.declared.scenario_fault.ScenarioFault.{ScenarioFault}
-use Rattle.scenario_text.specs.declared.scenario_fault.ScenarioFault.TheVariants as fault
 use Rattle.scenario_text.specs.declared.circuit_row.CircuitRow.{CircuitRow}
 use Rattle.scenario_text.specs.declared.offer_row.OfferRow.{OfferRow}
 use Rattle.scenario_text.specs.declared.wire_row.WireRow.{WireRow}
-use Rattle.scenario_text.specs.Reading.{◌>>=◌, found}
-use Rattle.scenario_text.specs.Places.{place_at}
-use Rattle.scenario_text.specs.Names.{place_in}
 
 -- the place of a name that a row has at a key
 abbrev pub named : RowPlace → List ℕ → List (List ℕ) → List ℕ → Result ℕ ScenarioFault

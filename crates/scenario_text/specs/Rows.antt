@@ -5,14 +5,14 @@ use Rattle.net_base.specs.declared.plan.edge_plan.EdgePlan.{EdgePlan}
 use Rattle.net_base.specs.declared.plan.service_plan.ServicePlan.{ServicePlan}
 use Rattle.net_base.specs.declared.plan.table.Table.{Table}
 use Rattle.net_base.specs.declared.plan.table.Table.TheVariants.{Edge, Service, Circuit, Wire}
-use Rattle.scenario_text.specs.declared.row_place.RowPlace.{RowPlace}
-use Rattle.scenario_text.specs.declared.scenario_fault.ScenarioFault.{ScenarioFault}
-use Rattle.scenario_text.specs.declared.scenario_fault.ScenarioFault.TheVariants.{WrongKind}
+use Rattle.command_text.specs.declared.row_place.RowPlace.{RowPlace}
+use Rattle.command_text.specs.declared.scenario_fault.ScenarioFault.{ScenarioFault}
+use Rattle.command_text.specs.declared.scenario_fault.ScenarioFault.TheVariants.{WrongKind}
+use Rattle.command_text.specs.Reading.{◌>>=◌, found}
+use Rattle.command_text.specs.Places.{place_at}
 use Rattle.scenario_text.specs.declared.circuit_row.CircuitRow.{CircuitRow}
 use Rattle.scenario_text.specs.declared.offer_row.OfferRow.{OfferRow}
 use Rattle.scenario_text.specs.declared.wire_row.WireRow.{WireRow}
-use Rattle.scenario_text.specs.Reading.{◌>>=◌, found}
-use Rattle.scenario_text.specs.Places.{place_at}
 use Rattle.scenario_text.specs.Keys.{only_known}
 use Rattle.scenario_text.specs.Values.{a_name, an_address, a_number, a_boolean, a_class, a_mode, a_description, a_path, needed, defaulted, optional}
 

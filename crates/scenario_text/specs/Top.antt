@@ -4,11 +4,12 @@ use Rattle.toml.specs.Data.{Data, Items, no_items, Members, as_table, as_integer
 use Rattle.net_base.specs.declared.plan.place.Place.{Place}
 use Rattle.net_base.specs.declared.plan.table.Table.{Table}
 use Rattle.net_base.specs.declared.plan.table.Table.TheVariants.{Top, Events, Edge, Service, Circuit, Wire}
-use Rattle.scenario_text.specs.declared.limits.TheConstants.{MOST_EVENTS, MOST_EDGES, MOST_SERVICES, MOST_CIRCUITS, MOST_WIRES}
-use Rattle.scenario_text.specs.declared.scenario_fault.ScenarioFault.{ScenarioFault}
-use Rattle.scenario_text.specs.declared.scenario_fault.ScenarioFault.TheVariants.{WrongKind, TooMany, Version}
-use Rattle.scenario_text.specs.Reading.{◌>>=◌, checked, found}
-use Rattle.scenario_text.specs.Places.{top_row}
+use Rattle.command_text.specs.declared.commands.TheConstants.{MOST_EVENTS}
+use Rattle.command_text.specs.declared.scenario_fault.ScenarioFault.{ScenarioFault}
+use Rattle.command_text.specs.declared.scenario_fault.ScenarioFault.TheVariants.{WrongKind, TooMany, Version}
+use Rattle.command_text.specs.Reading.{◌>>=◌, checked, found}
+use Rattle.command_text.specs.Places.{top_row}
+use Rattle.scenario_text.specs.declared.limits.TheConstants.{MOST_EDGES, MOST_SERVICES, MOST_CIRCUITS, MOST_WIRES}
 use Rattle.scenario_text.specs.Keys.{only_known}
 use Rattle.scenario_text.specs.Values.{an_array, is_string, needed, defaulted}
 use Rattle.scenario_text.specs.Rows.{items_length}

@@ -9,11 +9,11 @@ use Rattle.net_base.specs.declared.plan.place.Place.{Place}
 use Rattle.net_base.specs.declared.plan.plan_fault.PlanFault.TheVariants.{OutOfRange}
 use Rattle.net_base.specs.declared.plan.wire_plan.Class.{Class}
 use Rattle.net_base.specs.declared.plan.wire_plan.Class.TheVariants.{Mesh, Spoke}
-use Rattle.scenario_text.specs.declared.row_place.RowPlace.{RowPlace}
-use Rattle.scenario_text.specs.declared.scenario_fault.ScenarioFault.{ScenarioFault}
-use Rattle.scenario_text.specs.declared.scenario_fault.ScenarioFault.TheVariants.{Missing, WrongKind, Plan}
-use Rattle.scenario_text.specs.Places.{place_at}
-use Rattle.scenario_text.specs.Reading.{◌>>=◌, checked, found}
+use Rattle.command_text.specs.declared.row_place.RowPlace.{RowPlace}
+use Rattle.command_text.specs.declared.scenario_fault.ScenarioFault.{ScenarioFault}
+use Rattle.command_text.specs.declared.scenario_fault.ScenarioFault.TheVariants.{Missing, WrongKind, Plan}
+use Rattle.command_text.specs.Places.{place_at}
+use Rattle.command_text.specs.Reading.{◌>>=◌, checked, found}
 
 -- the value where it is in its range
 abbrev pub in_range : {A : Type 0} → Place → Bool → A → Result A ScenarioFault

@@ -3,18 +3,17 @@ ghost use Rattle.std.specs.Prelude.{◌≡◌, ◌≤◌, true, codes, length, I
 ghost use Rattle.std.specs.List.{list_all};
 ghost use Rattle.toml.specs.Data.{no_items};
 ghost use Rattle.toml.specs.View.{view, items_view, table_view};
-ghost use Rattle.scenario_text.specs.Places.{place_at, top_row};
-ghost use Rattle.scenario_text.specs.Reading.{MapsTo};
+ghost use Rattle.command_text.specs.Places.{place_at, top_row};
+ghost use Rattle.command_text.specs.Reading.{MapsTo};
 ghost use Rattle.scenario_text.specs.Values.{is_string, an_array, all_items, needed, defaulted};
 ghost use Rattle.scenario_text.specs.Top.{is_table, a_version, few, few_in, arrays_at, arrays_in};
 ghost use Rattle.scenario_text.specs.Arrays.{arrays_of, HasLimits};
 
-use crate::ScenarioFault;
 use crate::keys::only_known_keys;
-use crate::limits::{MOST_CIRCUITS, MOST_EDGES, MOST_EVENTS, MOST_SERVICES, MOST_WIRES};
+use crate::limits::{MOST_CIRCUITS, MOST_EDGES, MOST_SERVICES, MOST_WIRES};
 use crate::members::{member, needed_member};
-use crate::row_place::RowPlace;
 use crate::values::strings;
+use command_text::{MOST_EVENTS, RowPlace, ScenarioFault};
 use net_base::Table as TableKind;
 use toml::{Table, Value};
 

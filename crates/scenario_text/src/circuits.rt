@@ -1,14 +1,12 @@
 //! The circuits of a plan.
 ghost use Rattle.std.specs.Prelude.{◌≡◌, ◌≤◌, length, IfOk};
-ghost use Rattle.scenario_text.specs.Reading.{Gives};
+ghost use Rattle.command_text.specs.Reading.{Gives};
 ghost use Rattle.scenario_text.specs.References.{circuit_in, circuits_in};
 
-use crate::ScenarioFault;
 use crate::circuit_row::CircuitRow;
 use crate::limits::MOST_CIRCUITS;
-use crate::name_index::NameIndex;
 use crate::named::named_place;
-use crate::row_place::RowPlace;
+use command_text::{NameIndex, RowPlace, ScenarioFault};
 use net_base::{CircuitPlan, EdgeId, List, ServiceId, Table as TableKind};
 use std::alloc::Global;
 

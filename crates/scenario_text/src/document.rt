@@ -5,24 +5,21 @@ ghost use Rattle.net_base.specs.plan.Accepted.{IsWithinLimits, IsChecked};
 ghost use Rattle.net_base.specs.plan.NameFaults.{edge_names, circuit_names, wire_names};
 ghost use Rattle.toml.specs.Parse.{parse_document};
 ghost use Rattle.toml.specs.View.{items_view, table_view};
+ghost use Rattle.command_text.specs.Events.{commands_in};
+ghost use Rattle.command_text.specs.Reading.{Gives};
+ghost use Rattle.command_text.specs.Planned.{names_of, IsPlanned};
 ghost use Rattle.scenario_text.specs.Arrays.{arrays_of, HasLimits};
-ghost use Rattle.scenario_text.specs.Document.{names_of, plan_in, scenario_in, scenario_or, document};
-ghost use Rattle.scenario_text.specs.Events.{commands_in};
-ghost use Rattle.scenario_text.specs.Reading.{Gives};
-ghost use Rattle.scenario_text.specs.Planned.{IsPlanned};
+ghost use Rattle.scenario_text.specs.Document.{plan_in, scenario_with, scenario_in, scenario_or, document};
 
+use crate::Scenario;
 use crate::arrays::{Arrays, document_arrays};
 use crate::circuit_row::CircuitRow;
-use crate::commands::commands;
-use crate::limits::MOST_EVENTS;
-use crate::name_index::NameIndex;
 use crate::names::{names_of_circuits, names_of_edges, names_of_wires};
 use crate::plan::plan;
-use crate::plan_names::PlanNames;
 use crate::rows::rows;
 use crate::wire_row::WireRow;
-use crate::{Command, Scenario, ScenarioFault};
-use net_base::{EdgePlan, List, Name, Plan, ServicePlan, Table as TableKind};
+use command_text::{Command, MOST_EVENTS, NameIndex, PlanNames, ScenarioFault, read_commands};
+use net_base::{EdgePlan, List, Name, NoMemory, Plan, ServicePlan, Table as TableKind};
 use std::alloc::Global;
 use toml::{Table, Value};
 
@@ -40,7 +37,7 @@ fn planned_commands(
     ensures planned { IfOk result (λ commands. All (IsPlanned plan.now) commands) }
 {
     let _plan = plan;
-    commands(alloc, names, events)
+    read_commands(alloc, names, events)
 }
 
 // The commands at the rows of a plan, which have these names in order.
@@ -61,15 +58,34 @@ fn named_commands(
     ensures many { IfOk result (λ commands. length commands ≡ length events.now) }
     ensures planned { IfOk result (λ commands. All (IsPlanned plan.now) commands) }
 {
-    let edge_index = NameIndex::of(alloc, edges)?;
-    let circuit_index = NameIndex::of(alloc, circuits)?;
-    let wire_index = NameIndex::of(alloc, wires)?;
-    let names = PlanNames {
-        edges: edge_index,
-        circuits: circuit_index,
-        wires: wire_index,
-    };
-    planned_commands(alloc, plan, &names, events)
+    match plan_names(alloc, edges, circuits, wires) {
+        Ok(names) => planned_commands(alloc, plan, &names, events),
+        Err(NoMemory) => Err(ScenarioFault::NoMemory),
+    }
+}
+
+// The names of a plan, each list with its index.
+fn plan_names<'a>(
+    alloc: Global,
+    edges: &'a [Name],
+    circuits: &'a [Name],
+    wires: &'a [Name],
+) -> Result<PlanNames<'a>, NoMemory>
+    requires few_edges { length edges.now ≤ 1664 }
+    requires few_circuits { length circuits.now ≤ 1664 }
+    requires few_wires { length wires.now ≤ 1664 }
+    ensures { IfOk result (λ names. names ≡ record { edges = edges.now; circuits = circuits.now; wires = wires.now }) }
+{
+    let edges = NameIndex::of(alloc, edges)?;
+    let circuits = NameIndex::of(alloc, circuits)?;
+    match NameIndex::of(alloc, wires) {
+        Ok(wires) => Ok(PlanNames {
+            edges,
+            circuits,
+            wires,
+        }),
+        Err(NoMemory) => Err(NoMemory),
+    }
 }
 
 // The commands at a plan.
@@ -126,9 +142,25 @@ fn scenario(alloc: Global, table: &Table) -> Result<Scenario, ScenarioFault>
     ensures planned { IfOk result (λ scenario. All (IsPlanned scenario.plan) scenario.commands) }
 {
     let arrays = document_arrays(table)?;
-    let plan = arrays_plan(alloc, &arrays)?;
-    let commands = plan_commands(alloc, &plan, arrays.events)?;
-    Ok(Scenario { plan, commands })
+    match arrays_plan(alloc, &arrays) {
+        Ok(plan) => scenario_at(alloc, plan, arrays.events),
+        Err(fault) => Err(fault),
+    }
+}
+
+// The scenario of these events at a plan.
+fn scenario_at(alloc: Global, plan: Plan, events: &[Value]) -> Result<Scenario, ScenarioFault>
+    requires checked { IsChecked plan }
+    requires few { length events.now ≤ MOST_EVENTS }
+    ensures exact { Gives result (scenario_with plan (commands_in (names_of plan) 1 0 (items_view events.now))) }
+    ensures checked { IfOk result (λ scenario. IsChecked scenario.plan) }
+    ensures few { IfOk result (λ scenario. length scenario.commands ≤ MOST_EVENTS) }
+    ensures planned { IfOk result (λ scenario. All (IsPlanned scenario.plan) scenario.commands) }
+{
+    match plan_commands(alloc, &plan, events) {
+        Ok(commands) => Ok(Scenario { plan, commands }),
+        Err(fault) => Err(fault),
+    }
 }
 
 // The scenario of a text.

@@ -4,12 +4,10 @@ ghost use Rattle.std.specs.List.{find};
 ghost use Rattle.std.specs.List.Sorted.{IsStrictlySortedBy};
 ghost use Rattle.std.specs.Map.{keys_of};
 ghost use Rattle.toml.specs.View.{table_view};
+ghost use Rattle.command_text.specs.Reading.{MapsTo};
 ghost use Rattle.scenario_text.specs.Keys.{is_top_key, is_edge_key, is_service_key, is_circuit_key, is_wire_key, is_offer_key, is_far_key, is_known_key, unknown_key, only_known};
-ghost use Rattle.scenario_text.specs.Reading.{MapsTo};
 
-use crate::ScenarioFault;
-use crate::row_place::RowPlace;
-use crate::same::is_same;
+use command_text::{RowPlace, ScenarioFault, is_same};
 use net_base::Table as TableKind;
 use toml::Table;
 

@@ -1,7 +1,4 @@
-//! How many events and rows a document has at most.
-
-/// The most events.
-pub const MOST_EVENTS: u32 = 100_000;
+//! How many rows a document has at most.
 
 /// The most edges.
 pub const MOST_EDGES: u32 = 64;

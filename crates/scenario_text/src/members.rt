@@ -2,13 +2,12 @@
 ghost use Rattle.std.specs.Prelude.{◌≡◌, ◌≤◌, option_map, IfOk, IfSome};
 ghost use Rattle.toml.specs.Data.{get_member};
 ghost use Rattle.toml.specs.View.{view, table_view};
-ghost use Rattle.scenario_text.specs.Places.{place_at};
-ghost use Rattle.scenario_text.specs.Reading.{Gives, MapsTo, found};
+ghost use Rattle.command_text.specs.Places.{place_at};
+ghost use Rattle.command_text.specs.Reading.{Gives, MapsTo, found};
 ghost use Rattle.scenario_text.specs.Values.{a_name, an_address, a_number, a_boolean, a_class, a_mode, a_description, a_path, needed, defaulted, optional};
 
-use crate::ScenarioFault;
-use crate::row_place::RowPlace;
 use crate::values::{address, boolean, class, description, mode, name, number, path};
+use command_text::{RowPlace, ScenarioFault};
 use net_base::{Addr, Class, List, Name, Text};
 use std::alloc::Global;
 use toml::{Table, Value};

@@ -2,9 +2,7 @@
 ghost use Rattle.std.specs.Prelude.{◌≡◌, ◌<◌, length, IfOk};
 ghost use Rattle.scenario_text.specs.References.{named};
 
-use crate::ScenarioFault;
-use crate::name_index::NameIndex;
-use crate::row_place::RowPlace;
+use command_text::{NameIndex, RowPlace, ScenarioFault};
 use net_base::Name;
 
 /// The place of a name that a row has at a key. `UnknownName` comes exactly where it is not among the names.

@@ -4,10 +4,9 @@ ghost use Rattle.toml.specs.View.{table_view};
 ghost use Rattle.scenario_text.specs.Rows.{near_in, far_in};
 ghost use Rattle.scenario_text.specs.Offers.{HasRanges};
 
-use crate::ScenarioFault;
 use crate::members::{boolean_or, description_or, mode_or, number_or, optional_number};
 use crate::offer_row::OfferRow;
-use crate::row_place::RowPlace;
+use command_text::{RowPlace, ScenarioFault};
 use net_base::Text;
 use toml::Table;
 

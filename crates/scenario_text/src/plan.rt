@@ -2,18 +2,17 @@
 ghost use Rattle.std.specs.Prelude.{◌≡◌, ◌≤◌, length, IfOk};
 ghost use Rattle.net_base.specs.plan.Accepted.{IsWithinLimits, IsChecked, plan_names};
 ghost use Rattle.net_base.specs.plan.NameFaults.{edge_names, service_names};
-ghost use Rattle.scenario_text.specs.Names.{are_distinct};
-ghost use Rattle.scenario_text.specs.Reading.{Gives};
+ghost use Rattle.command_text.specs.Names.{are_distinct};
+ghost use Rattle.command_text.specs.Reading.{Gives};
 ghost use Rattle.scenario_text.specs.References.{sound, placed_rows, plan_of};
 
-use crate::ScenarioFault;
 use crate::circuit_row::CircuitRow;
 use crate::circuits::circuits;
 use crate::limits::{MOST_CIRCUITS, MOST_EDGES, MOST_SERVICES, MOST_WIRES};
-use crate::name_index::NameIndex;
 use crate::names::{names_of_edges, names_of_plan, names_of_services};
 use crate::wire_row::WireRow;
 use crate::wires::wires;
+use command_text::{NameIndex, ScenarioFault};
 use net_base::{CircuitPlan, EdgePlan, List, NoMemory, Plan, ServicePlan, WirePlan};
 use std::alloc::Global;
 

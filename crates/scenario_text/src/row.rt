@@ -1,17 +1,16 @@
 //! What a row of a table is read as.
 ghost use Rattle.std.specs.Prelude.{◌≡◌};
 ghost use Rattle.toml.specs.View.{table_view};
-ghost use Rattle.scenario_text.specs.Reading.{Gives};
+ghost use Rattle.command_text.specs.Reading.{Gives};
 
-use crate::ScenarioFault;
 use crate::circuit_row::CircuitRow;
 use crate::keys::only_known_keys;
 use crate::members::{
     address_at, class_at, name_at, number_at, number_or, optional_number, path_at,
 };
 use crate::offers::{far_offer, near_offer};
-use crate::row_place::RowPlace;
 use crate::wire_row::WireRow;
+use command_text::{RowPlace, ScenarioFault};
 use net_base::{EdgePlan, ServicePlan, Table as TableKind};
 use std::alloc::Global;
 use toml::Table;
@@ -20,8 +19,8 @@ use toml::Table;
 pub trait Row: Sized + Drop {
     ghost use Rattle.std.specs.Prelude.{Result};
     ghost use Rattle.toml.specs.Data.{Members};
-    ghost use Rattle.scenario_text.specs.declared.row_place.RowPlace.{RowPlace};
-    ghost use Rattle.scenario_text.specs.declared.scenario_fault.ScenarioFault.{ScenarioFault};
+    ghost use Rattle.command_text.specs.declared.row_place.RowPlace.{RowPlace};
+    ghost use Rattle.command_text.specs.declared.scenario_fault.ScenarioFault.{ScenarioFault};
 
     /// What the members of a row say.
     ghost row_of: { RowPlace → Members → Result Self ScenarioFault };

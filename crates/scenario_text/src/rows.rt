@@ -1,13 +1,12 @@
 //! Rows of the document's tables.
 ghost use Rattle.std.specs.Prelude.{◌≡◌, ◌≤◌, length, IfOk};
 ghost use Rattle.toml.specs.View.{view, items_view, table_view};
-ghost use Rattle.scenario_text.specs.Reading.{Gives, MapsTo};
+ghost use Rattle.command_text.specs.Reading.{Gives, MapsTo};
 ghost use Rattle.scenario_text.specs.Rows.{row_members, rows_in};
 
-use crate::ScenarioFault;
 use crate::limits::MOST_WIRES;
 use crate::row::Row;
-use crate::row_place::RowPlace;
+use command_text::{RowPlace, ScenarioFault};
 use net_base::{List, Table as TableKind};
 use std::alloc::Global;
 use toml::{Table, Value};

@@ -2,13 +2,11 @@
 ghost use Rattle.std.specs.Prelude.{◌≡◌, ◌≤◌, IfOk};
 ghost use Rattle.std.specs.List.{list_all};
 ghost use Rattle.toml.specs.View.{view, items_view};
-ghost use Rattle.scenario_text.specs.Places.{place_at};
-ghost use Rattle.scenario_text.specs.Reading.{Gives, MapsTo};
+ghost use Rattle.command_text.specs.Places.{place_at};
+ghost use Rattle.command_text.specs.Reading.{Gives, MapsTo};
 ghost use Rattle.scenario_text.specs.Values.{a_text, a_name, quad_of, address_of, an_address, number_from, a_number, a_boolean, class_of, a_class, mode_of, a_mode, a_description, is_string, an_array, names_in, a_path, all_items};
 
-use crate::ScenarioFault;
-use crate::row_place::RowPlace;
-use crate::same::is_same;
+use command_text::{RowPlace, ScenarioFault, is_same};
 use net_base::{Addr, Class, List, Name, Text};
 use std::alloc::Global;
 use std::net::Ipv4Addr;

@@ -1,16 +1,14 @@
 //! The wires of a plan.
 ghost use Rattle.std.specs.Prelude.{◌≡◌, ◌≤◌, length, IfOk};
 ghost use Rattle.net_base.specs.plan.NameFaults.{service_names};
-ghost use Rattle.scenario_text.specs.Reading.{Gives};
+ghost use Rattle.command_text.specs.Reading.{Gives};
 ghost use Rattle.scenario_text.specs.References.{told, offer_from, mtu_at, path_in, wire_in, wires_in};
 
-use crate::ScenarioFault;
 use crate::limits::MOST_WIRES;
-use crate::name_index::NameIndex;
 use crate::named::named_place;
 use crate::offer_row::OfferRow;
-use crate::row_place::RowPlace;
 use crate::wire_row::WireRow;
+use command_text::{NameIndex, RowPlace, ScenarioFault};
 use net_base::{EdgeId, List, Name, Offer, ServiceId, ServicePlan, Table as TableKind, WirePlan};
 use std::alloc::Global;
 

@@ -14,7 +14,7 @@ use Rattle.psn_net.specs.declared.net_stop.NetStop.{NetStop}
 use Rattle.psn_net.specs.Lists.{NetLists, seen}
 use Rattle.psn_net.specs.Runs.{Ended, Halts, ended, ran}
 use Rattle.psn_net.proofs.RunLemmas.{halts_on, ran_on, ran_state}
-use Rattle.scenario_text.specs.declared.command.Command.{Command}
+use Rattle.command_text.specs.declared.command.Command.{Command}
 use Rattle.vplsnet.specs.Made.{arrivals, deliveries, event_and, made, made_by, ticks, turns}
 
 made_on : (plan : Plan) (n : NetLists) (s : NetworkState) (t : List Entry) (c : Command) (cs : List Command)

@@ -14,9 +14,9 @@ use Rattle.network_model.specs.Packet.{arrival_of, next_arrival}
 use Rattle.network_model.specs.Run.{state_after}
 use Rattle.network_model.specs.State.{NetworkState}
 use Rattle.network_model.specs.Step.{step}
-use Rattle.scenario_text.specs.declared.command.Command.{Command}
-use Rattle.scenario_text.specs.declared.command.Command.TheVariants.{One, Settle, Flow, Ticks, Play}
-use Rattle.scenario_text.specs.Planned.{IsPlanned}
+use Rattle.command_text.specs.declared.command.Command.{Command}
+use Rattle.command_text.specs.declared.command.Command.TheVariants.{One, Settle, Flow, Ticks, Play}
+use Rattle.command_text.specs.Planned.{IsPlanned}
 use Rattle.vplsnet.specs.Made.{arrivals, deliveries, event_and, made, made_by, ticks, turns}
 
 -- the first ones of a list

@@ -23,9 +23,9 @@ use Rattle.psn_net.specs.declared.net_stop.NetStop.{NetStop}
 use Rattle.psn_net.specs.Lists.{NetLists, seen}
 use Rattle.psn_net.specs.Runs.{AreDone, IsRunOf}
 use Rattle.psn_net.proofs.RunLemmas.{run_of}
+use Rattle.command_text.specs.Planned.{IsPlanned}
 use Rattle.scenario_text.specs.declared.scenario.Scenario.{Scenario}
 use Rattle.scenario_text.specs.Document.{document}
-use Rattle.scenario_text.specs.Planned.{IsPlanned}
 use Rattle.vplsnet.specs.declared.outcome.Outcome.{Outcome}
 use Rattle.vplsnet.specs.Built.{is_built}
 use Rattle.vplsnet.specs.Promises.{KeepsPromises}

@@ -4,8 +4,8 @@ use Rattle.std.specs.List.{list_all}
 use Rattle.net_base.specs.declared.plan.wire_plan.WirePlan.{WirePlan}
 use Rattle.net_base.specs.declared.trace.event.Event.{Event}
 use Rattle.net_base.specs.declared.trace.event.Event.TheVariants.{Ping}
-use Rattle.scenario_text.specs.declared.command.Command.{Command}
-use Rattle.scenario_text.specs.declared.command.Command.TheVariants.{One, Play}
+use Rattle.command_text.specs.declared.command.Command.{Command}
+use Rattle.command_text.specs.declared.command.Command.TheVariants.{One, Play}
 use Rattle.scenario_text.specs.declared.scenario.Scenario.{Scenario}
 
 -- an end offers no control channel

@@ -6,9 +6,9 @@ use Rattle.net_base.specs.declared.plan.plan_fault.PlanFault.{PlanFault}
 use Rattle.net_base.specs.declared.plan.plan_fault.PlanFault.TheVariants as plan_fault
 use Rattle.net_base.specs.declared.plan.table.Table.{Table}
 use Rattle.net_base.specs.declared.plan.table.Table.TheVariants as table
-use Rattle.scenario_text.specs.Places.{masked}
-use Rattle.scenario_text.specs.declared.scenario_fault.ScenarioFault.{ScenarioFault}
-use Rattle.scenario_text.specs.declared.scenario_fault.ScenarioFault.TheVariants as fault
+use Rattle.command_text.specs.Places.{masked}
+use Rattle.command_text.specs.declared.scenario_fault.ScenarioFault.{ScenarioFault}
+use Rattle.command_text.specs.declared.scenario_fault.ScenarioFault.TheVariants as fault
 
 abbrev pub table_name : Table → List ℕ
 table_name table.Top = codes "top"

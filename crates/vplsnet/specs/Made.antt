@@ -8,8 +8,8 @@ use Rattle.network_model.specs.Packet.{next_arrival}
 use Rattle.network_model.specs.Run.{state_after}
 use Rattle.network_model.specs.State.{NetworkState}
 use Rattle.network_model.specs.Step.{step}
-use Rattle.scenario_text.specs.declared.command.Command.{Command}
-use Rattle.scenario_text.specs.declared.command.Command.TheVariants.{One, Settle, Flow, Ticks}
+use Rattle.command_text.specs.declared.command.Command.{Command}
+use Rattle.command_text.specs.declared.command.Command.TheVariants.{One, Settle, Flow, Ticks}
 
 -- so many ticks
 abbrev pub ticks : ℕ → List Event

@@ -3,7 +3,7 @@ ghost use Rattle.std.specs.Prelude.{◌≡◌, ◌≢◌, true, All, IfOk, Match
 ghost use Rattle.net_base.specs.plan.Accepted.{IsChecked};
 ghost use Rattle.psn_net.specs.Runs.{ended};
 ghost use Rattle.report_text.specs.Report.{report};
-ghost use Rattle.scenario_text.specs.Planned.{IsPlanned};
+ghost use Rattle.command_text.specs.Planned.{IsPlanned};
 ghost use Rattle.vplsnet.specs.Built.{is_built};
 ghost use Rattle.vplsnet.specs.Replay.{HasRunAs, Replays, ending_by, outcome_by};
 

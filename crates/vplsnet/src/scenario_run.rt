@@ -4,7 +4,7 @@ ghost use Rattle.net_base.specs.plan.Accepted.{IsChecked};
 ghost use Rattle.net_base.specs.plan.Planned.{IsEventOf};
 ghost use Rattle.psn_net.specs.Lists.{seen};
 ghost use Rattle.psn_net.specs.Runs.{Gives, ended, ran};
-ghost use Rattle.scenario_text.specs.Planned.{IsPlanned};
+ghost use Rattle.command_text.specs.Planned.{IsPlanned};
 ghost use Rattle.vplsnet.specs.Made.{arrivals, deliveries, made, made_by, ticks};
 ghost use Rattle.vplsnet.specs.Replay.{whole_run};
 

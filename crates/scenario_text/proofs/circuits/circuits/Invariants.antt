@@ -1,6 +1,6 @@
 -- What is read so far, and then the rest, is what the definition reads.
 use Rattle.std.proofs.Common.{◌≡◌, ◌+◌, length, drop}
-use Rattle.scenario_text.specs.Reading.{with_front}
+use Rattle.command_text.specs.Reading.{with_front}
 use Rattle.scenario_text.specs.References.{circuits_in}
 use Rattle.scenario_text.proofs.circuits.circuits.Given as goal
 

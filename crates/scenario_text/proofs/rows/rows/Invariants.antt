@@ -1,7 +1,7 @@
 -- What is read so far, and then the rest, is what the definition reads.
 use Rattle.std.proofs.Common.{◌≡◌, ◌+◌, length, drop}
 use Rattle.toml.specs.View.{items_view}
-use Rattle.scenario_text.specs.Reading.{with_front}
+use Rattle.command_text.specs.Reading.{with_front}
 use Rattle.scenario_text.specs.Rows.{rows_in}
 use Rattle.scenario_text.proofs.rows.rows.Given as goal
 

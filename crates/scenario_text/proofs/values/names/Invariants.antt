@@ -1,8 +1,8 @@
 -- What is read so far, and then the rest, is what the definition reads.
 use Rattle.std.proofs.Common.{◌≡◌, drop}
 use Rattle.toml.specs.View.{items_view}
-use Rattle.scenario_text.specs.Places.{place_at}
-use Rattle.scenario_text.specs.Reading.{with_front}
+use Rattle.command_text.specs.Places.{place_at}
+use Rattle.command_text.specs.Reading.{with_front}
 use Rattle.scenario_text.specs.Values.{names_in}
 use Rattle.scenario_text.proofs.values.names.Given as goal
 

@@ -1,5 +1,5 @@
 use Rattle.std.proofs.Common.{◌≡◌, ◌++◌, map, drop}
-use Rattle.scenario_text.specs.Places.{masked}
+use Rattle.command_text.specs.Places.{masked}
 use Rattle.vplsnet.proofs.fault_text.put_printed.Given as goal
 
 abbrev pub invariant-loop-octet : goal.invariant-loop-octet

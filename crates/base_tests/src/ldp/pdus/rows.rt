@@ -1,0 +1,110 @@
+//! Rows of octets and what they come to.
+ghost use Rattle.std.specs.Prelude.{◌≡◌, ◌≤◌, ◌<◌, length, true};
+ghost use Rattle.ldp_grammar.specs.Written.{address_octets, list_length, mac_count, macs_length, message_octets, writable};
+
+use crate::ldp::tables::About;
+use crate::ldp::words::{is_front, is_told};
+use ldp_codec::{decode_pdu, encode_into};
+use ldp_grammar::{AddressList, LdpId, Message, Pdu, is_writable, message_size};
+use net_base::{Addr, List, Mac};
+use std::alloc::Global;
+use std::process::Abort;
+
+// The sender of the PDUs that are read.
+const SENDER: LdpId = LdpId {
+    router: Addr([10, 0, 0, 1]),
+    space: 0,
+};
+
+// The message that stands alone in a PDU.
+fn only_message(pdu: &Pdu) -> Option<&Message> {
+    match pdu.messages.as_slice() {
+        [message] => Some(message),
+        _ => None,
+    }
+}
+
+// How many octets of addresses there are, and how many MAC addresses.
+fn octets_in(addresses: &Option<AddressList>) -> usize
+    ensures { result ≡ list_length addresses.now }
+{
+    match addresses {
+        Some(list) => list.octets.len(),
+        None => 0,
+    }
+}
+
+fn macs_in(macs: &Option<List<Mac>>) -> usize
+    ensures { result ≡ macs_length macs.now }
+{
+    match macs {
+        Some(list) => list.len(),
+        None => 0,
+    }
+}
+
+// Whether a message has few addresses.
+fn has_few(message: &Message) -> bool
+    ensures few { result ≡ true → address_octets message.now ≤ 100 }
+    ensures few_macs { result ≡ true → mac_count message.now ≤ 100 }
+{
+    match message {
+        Message::Address { octets, .. } => octets.len() <= 100,
+        Message::AddressWithdraw {
+            addresses,
+            macs,
+            ..
+        } => octets_in(addresses) <= 100 && macs_in(macs) <= 100,
+        _ => true,
+    }
+}
+
+// The octets of a message that can be written, and is short.
+fn size_of(rt: &impl Abort, message: &Message) -> usize
+    ensures writable { writable message.now ≡ true }
+    ensures size { result ≡ length (message_octets message.now) }
+    ensures short { result < 86 }
+{
+    assert!(rt; is_writable(message));
+    assert!(rt; has_few(message));
+    let size = message_size(message);
+    assert!(rt; size < 86);
+    size
+}
+
+// The message is written as these octets, and those behind them stay.
+fn is_written(rt: &impl Abort, message: &Message, octets: &[u8]) {
+    let mut out = [0xeeu8; 96];
+    let size = size_of(rt, message);
+    let count = encode_into(message, SENDER, &mut out);
+    assert!(rt; count == 10 + size && octets.len() == count);
+    assert!(rt; is_front(&out, octets));
+}
+
+// The message is written as these octets again, or cannot be written.
+fn goes_back(rt: &impl Abort, about: About, message: &Message, octets: &[u8]) {
+    match about {
+        About::BothWays => is_written(rt, message, octets),
+        About::OneWay => assert!(rt; !is_writable(message)),
+        _ => {}
+    }
+}
+
+// The message of a PDU has these words; where its sender is not 10.0.0.1:0, the whole PDU has them.
+fn is_pdu(rt: &impl Abort, alloc: Global, about: About, pdu: &Pdu, octets: &[u8], words: &str) {
+    let message = only_message(pdu).expect(rt, "one message");
+    if pdu.id == SENDER {
+        is_told(rt, alloc, message, words);
+    } else {
+        is_told(rt, alloc, pdu, words);
+    }
+    goes_back(rt, about, message, octets);
+}
+
+/// The octets of a row are the message or have the fault of its words.
+pub fn agrees(rt: &impl Abort, alloc: Global, about: About, octets: &[u8], words: &str) {
+    match decode_pdu(alloc, octets, 4096) {
+        Ok(pdu) => is_pdu(rt, alloc, about, &pdu, octets, words),
+        Err(fault) => is_told(rt, alloc, &fault, words),
+    }
+}

@@ -1,0 +1,60 @@
+//! Tables of rows: each has octets, and behind `= ` what they come to. Other lines are words for a reader.
+
+use crate::ldp::hex::octets_of;
+use crate::ldp::pdus::rows as pdus;
+use crate::ldp::values;
+use std::alloc::Global;
+use std::process::Abort;
+
+/// What a table is about.
+#[derive(Clone, Copy)]
+pub enum About {
+    /// PDUs: the message or the fault that they come to. Of those both ways, the message is also written as these octets; of
+    /// those one way, it cannot be written.
+    Pdus,
+    BothWays,
+    OneWay,
+    /// FECs; the written ones are also written as these octets.
+    Fecs,
+    WrittenFecs,
+    /// Switching points, statuses and lists of MAC addresses, which are also written as these octets.
+    Points,
+    Statuses,
+    Macs,
+}
+
+// The octets of a row agree.
+fn agrees(rt: &impl Abort, alloc: Global, about: About, octets: &[u8], words: &str) {
+    match about {
+        About::Pdus | About::BothWays | About::OneWay => {
+            pdus::agrees(rt, alloc, about, octets, words)
+        }
+        _ => values::agrees(rt, alloc, about, octets, words),
+    }
+}
+
+// The digits of a row are octets that agree.
+fn reads_row(rt: &impl Abort, alloc: Global, about: About, digits: &str, words: &str) {
+    let octets = octets_of(rt, alloc, digits);
+    agrees(rt, alloc, about, octets.as_slice(), words);
+}
+
+// A line agrees where it is a row; how many rows it is.
+fn reads_line(rt: &impl Abort, alloc: Global, about: About, line: &str) -> usize {
+    match line.split_once("= ") {
+        Some((digits, words)) => {
+            reads_row(rt, alloc, about, digits, words);
+            1
+        }
+        None => 0,
+    }
+}
+
+/// Each of so many rows of a table agrees.
+pub fn reads_as(rt: &impl Abort, alloc: Global, about: About, table: &str, count: usize) {
+    let mut rows: usize = 0;
+    for line in table.lines() {
+        rows = rows.saturating_add(reads_line(rt, alloc, about, line));
+    }
+    assert_eq!(rt; rows, count);
+}

@@ -1,0 +1,7 @@
+pub mod Events
+pub mod Hex
+pub mod Names
+pub mod Places
+pub mod Planned
+pub mod Reading
+pub mod Words

@@ -1,0 +1,231 @@
+//! The commands of a document.
+ghost use Rattle.std.specs.Prelude.{◌≡◌, ◌≤◌, ◌+◌, length, IfOk};
+ghost use Rattle.std.specs.List.{All};
+ghost use Rattle.toml.specs.View.{view, items_view};
+ghost use Rattle.command_text.specs.Events.{repeats_in, tick_in, play_in, one, many_of, part_of, packet_of, command_of, command_in, event_in, plays_after, commands_in};
+ghost use Rattle.command_text.specs.Reading.{Gives};
+ghost use Rattle.command_text.specs.Planned.{IsCount, IsAmong, IsNamed};
+
+use crate::events::{
+    circuit_switch, connect, deliver, frame, lose, packet, ping, priority, restart, status,
+    wire_switch,
+};
+use crate::plan_names::PlanNames;
+use crate::row_place::RowPlace;
+use crate::said::{bad_word, file_word, name_word, no_word, number_word};
+use crate::words::{first, word};
+use crate::{Command, ScenarioFault};
+use net_base::{CircuitId, Event, List};
+use std::alloc::Global;
+use toml::Value;
+
+/// The most events of a document.
+pub const MOST_EVENTS: u32 = 100_000;
+
+// N of `settle N`, `flow N` and `tick N`, from 1 to 10000.
+#[tactic(auto, unfolding(crate::specs::Events::repeats_in))]
+fn repeats(event: u32, text: &str) -> Result<u32, ScenarioFault>
+    ensures exact { result ≡ repeats_in event text.now }
+    ensures within { IfOk result IsCount }
+{
+    let count = number_word(1, 10000, event, 2, text)? as u32;
+    match no_word(event, 3, text) {
+        Ok(()) => Ok(count),
+        Err(fault) => Err(fault),
+    }
+}
+
+// `tick` and `tick N`.
+fn tick(names: &PlanNames<'_>, event: u32, text: &str) -> Result<Command, ScenarioFault>
+    ensures exact { result ≡ tick_in event text.now }
+    ensures named { IfOk result (IsNamed names.now) }
+{
+    match word(text, 2) {
+        Some(_) => Ok(Command::Ticks(repeats(event, text)?)),
+        None => Ok(Command::One(Event::Tick)),
+    }
+}
+
+// `play C FILE`, of which a document has at most four.
+#[tactic(auto, unfolding(crate::specs::Events::play_in))]
+fn play(
+    alloc: Global,
+    names: &PlanNames<'_>,
+    event: u32,
+    plays: u32,
+    text: &str,
+) -> Result<Command, ScenarioFault>
+    ensures exact { Gives result (play_in names.now event plays text.now) }
+    ensures named { IfOk result (IsNamed names.now) }
+{
+    if plays >= 4 {
+        return Err(bad_word(event, 1));
+    }
+    let circuit = name_word(&names.circuits, event, 2, text)?;
+    let file = file_word(alloc, event, 3, text)?;
+    no_word(event, 4, text)?;
+    Ok(Command::Play(CircuitId(circuit), file))
+}
+
+// The command of one event.
+fn one_event(
+    names: &PlanNames<'_>,
+    read: Result<Event, ScenarioFault>,
+) -> Result<Command, ScenarioFault>
+    requires { IfOk read (IsAmong names.now) }
+    ensures exact { result ≡ one read }
+    ensures named { IfOk result (IsNamed names.now) }
+{
+    let _names = names;
+    match read {
+        Ok(event) => Ok(Command::One(event)),
+        Err(fault) => Err(fault),
+    }
+}
+
+// The command of a first word that stands for many events. `BadWord` comes exactly where no command begins so.
+#[tactic(auto, unfolding(crate::specs::Events::many_of))]
+fn many_of_word(
+    alloc: Global,
+    names: &PlanNames<'_>,
+    event: u32,
+    plays: u32,
+    word: &str,
+    text: &str,
+) -> Result<Command, ScenarioFault>
+    ensures exact { Gives result (many_of names.now event plays word.now text.now) }
+    ensures named { IfOk result (IsNamed names.now) }
+{
+    match word {
+        "settle" => Ok(Command::Settle(repeats(event, text)?)),
+        "flow" => Ok(Command::Flow(repeats(event, text)?)),
+        "play" => play(alloc, names, event, plays, text),
+        _ => Err(bad_word(event, 1)),
+    }
+}
+
+// The command of a first word that names a part of the plan, or of a later group.
+#[tactic(auto, unfolding(crate::specs::Events::part_of))]
+fn part_of_word(
+    alloc: Global,
+    names: &PlanNames<'_>,
+    event: u32,
+    plays: u32,
+    word: &str,
+    text: &str,
+) -> Result<Command, ScenarioFault>
+    ensures exact { Gives result (part_of names.now event plays word.now text.now) }
+    ensures named { IfOk result (IsNamed names.now) }
+{
+    match word {
+        "wire" => one_event(names, wire_switch(names, event, text)),
+        "circuit" => one_event(names, circuit_switch(names, event, text)),
+        "status" => one_event(names, status(names, event, text)),
+        "priority" => one_event(names, priority(names, event, text)),
+        "ping" => one_event(names, ping(names, event, text)),
+        _ => many_of_word(alloc, names, event, plays, word, text),
+    }
+}
+
+// The command of a first word that speaks of a frame or a packet, or of a later group.
+#[tactic(auto, unfolding(crate::specs::Events::packet_of))]
+fn packet_of_word(
+    alloc: Global,
+    names: &PlanNames<'_>,
+    event: u32,
+    plays: u32,
+    word: &str,
+    text: &str,
+) -> Result<Command, ScenarioFault>
+    ensures exact { Gives result (packet_of names.now event plays word.now text.now) }
+    ensures named { IfOk result (IsNamed names.now) }
+{
+    match word {
+        "frame" => Ok(Command::One(frame(alloc, names, event, text)?)),
+        "arrive" => Ok(Command::One(Event::Arrive {
+            packet: packet(event, text)?,
+        })),
+        "drop" => Ok(Command::One(Event::Discard {
+            packet: packet(event, text)?,
+        })),
+        "again" => Ok(Command::One(Event::Again {
+            packet: packet(event, text)?,
+        })),
+        _ => part_of_word(alloc, names, event, plays, word, text),
+    }
+}
+
+// The command of a first word. The words are tried in four groups, since each that a match has passed by weighs on what is to be
+// proved of those behind it.
+#[tactic(auto, unfolding(crate::specs::Events::command_of))]
+fn command_of_word(
+    alloc: Global,
+    names: &PlanNames<'_>,
+    event: u32,
+    plays: u32,
+    word: &str,
+    text: &str,
+) -> Result<Command, ScenarioFault>
+    ensures exact { Gives result (command_of names.now event plays word.now text.now) }
+    ensures named { IfOk result (IsNamed names.now) }
+{
+    match word {
+        "connect" => one_event(names, connect(names, event, text)),
+        "deliver" => one_event(names, deliver(names, event, text)),
+        "lose" => one_event(names, lose(names, event, text)),
+        "restart" => one_event(names, restart(names, event, text)),
+        "tick" => tick(names, event, text),
+        _ => packet_of_word(alloc, names, event, plays, word, text),
+    }
+}
+
+// The command that an item is.
+fn item(
+    alloc: Global,
+    names: &PlanNames<'_>,
+    event: u32,
+    plays: u32,
+    value: &Value,
+) -> Result<Command, ScenarioFault>
+    ensures exact { Gives result (event_in names.now event plays (view value.now)) }
+    ensures named { IfOk result (IsNamed names.now) }
+{
+    match value.as_str() {
+        Some(text) => command_of_word(alloc, names, event, plays, first(text), text),
+        None => Err(RowPlace::top().wrong_kind("events")),
+    }
+}
+
+// One more where the command is `play`.
+fn plays_with(plays: u32, command: &Command) -> u32
+    requires { plays ≤ MOST_EVENTS }
+    ensures value { result ≡ plays_after plays command.now }
+    ensures bound { result ≤ plays + 1 }
+{
+    match command {
+        Command::Play(_, _) => plays + 1,
+        _ => plays,
+    }
+}
+
+/// The commands of an array of strings. `BadWord` comes exactly where a word is missing, one too many, or not
+/// what has to stand there, and at the first word of a fifth `play`.
+pub fn read_commands(
+    alloc: Global,
+    names: &PlanNames<'_>,
+    array: &[Value],
+) -> Result<List<Command>, ScenarioFault>
+    requires { length array.now ≤ MOST_EVENTS }
+    ensures exact { Gives result (commands_in names.now 1 0 (items_view array.now)) }
+    ensures many { IfOk result (λ commands. length commands ≡ length array.now) }
+    ensures named { IfOk result (λ commands. All (IsNamed names.now) commands) }
+{
+    let mut commands = List::new(alloc);
+    let mut plays = 0;
+    for (i, value) in array.iter().enumerate() {
+        let command = item(alloc, names, i as u32 + 1, plays, value)?;
+        plays = plays_with(plays, &command);
+        commands.push(command)?;
+    }
+    Ok(commands)
+}

@@ -1,0 +1,27 @@
+//! The text of commands: each entry of a scenario's `events` is one command in words, which names rows of a plan.
+//!
+//! `specs/Events.antt` says which commands the entries are; `read_commands` reads them. What the reading of the whole document
+//! shares with them is here too: the fault of a scenario, the places of faults, and the names of a plan.
+#![tactic(auto)]
+
+mod command;
+mod commands;
+mod decimal;
+mod events;
+mod hex;
+mod key;
+mod name_index;
+mod plan_names;
+mod row_place;
+mod said;
+mod same;
+mod scenario_fault;
+mod words;
+
+pub use command::Command;
+pub use commands::{MOST_EVENTS, read_commands};
+pub use name_index::NameIndex;
+pub use plan_names::PlanNames;
+pub use row_place::RowPlace;
+pub use same::is_same;
+pub use scenario_fault::ScenarioFault;

@@ -1,0 +1,187 @@
+//! What the words of a command say.
+ghost use Rattle.std.specs.Prelude.{◌≡◌, ◌<◌, ◌≤◌, not, true, length, option_and_then, option_map, IfOk, IfSome};
+ghost use Rattle.command_text.specs.Hex.{frame_of, of_frame_size};
+ghost use Rattle.command_text.specs.Names.{place_in};
+ghost use Rattle.command_text.specs.Reading.{Gives, MapsTo, checked, found};
+ghost use Rattle.net_base.specs.plan.Planned.{IsFrame};
+ghost use Rattle.command_text.specs.Words.{said, ends, decimal_from, switch_of, some_word};
+
+use crate::ScenarioFault;
+use crate::decimal::decimal;
+use crate::hex::decode;
+use crate::name_index::NameIndex;
+use crate::same::is_same;
+use crate::words::word;
+use net_base::{NoMemory, Octets, Word};
+use std::alloc::Global;
+
+/// The fault that a word is missing, one too many, or not what has to stand there.
+pub fn bad_word(event: u32, number: u32) -> ScenarioFault
+    ensures { result ≡ ScenarioFault.BadWord event number }
+{
+    ScenarioFault::BadWord {
+        event,
+        word: number,
+    }
+}
+
+/// The place that a word names, where there is this word.
+pub fn word_place(
+    names: &NameIndex<'_>,
+    event: u32,
+    number: u32,
+    word: Option<&str>,
+) -> Result<u16, ScenarioFault>
+    ensures exact { result ≡ found (ScenarioFault.BadWord event number) (option_and_then (place_in names.now) (option_map (λ w. w.now) word.entry)) }
+    ensures within { IfOk result (λ place. place < length names.now) }
+{
+    match word {
+        Some(word) => match names.place(word.as_bytes()) {
+            Some(place) => Ok(place),
+            None => Err(bad_word(event, number)),
+        },
+        None => Err(bad_word(event, number)),
+    }
+}
+
+/// The place that a word names.
+pub fn name_word(
+    names: &NameIndex<'_>,
+    event: u32,
+    number: u32,
+    text: &str,
+) -> Result<u16, ScenarioFault>
+    requires { 1 ≤ number }
+    ensures exact { result ≡ said (place_in names.now) event number text.now }
+    ensures within { IfOk result (λ place. place < length names.now) }
+{
+    word_place(names, event, number, word(text, number))
+}
+
+/// The number from `low` to `high` that a word writes.
+pub fn number_word(
+    low: u64,
+    high: u64,
+    event: u32,
+    number: u32,
+    text: &str,
+) -> Result<u64, ScenarioFault>
+    requires { 1 ≤ number }
+    ensures exact { result ≡ said (decimal_from low high) event number text.now }
+    ensures within { IfOk result (λ n. (low ≤ n) × (n ≤ high)) }
+{
+    match word(text, number) {
+        Some(word) => match decimal(low, high, word.as_bytes()) {
+            Some(value) => Ok(value),
+            None => Err(bad_word(event, number)),
+        },
+        None => Err(bad_word(event, number)),
+    }
+}
+
+// Whether a word is `on`, where it is `on` or `off`.
+fn switch(word: &str) -> Option<bool>
+    ensures { result ≡ switch_of word.now }
+{
+    if is_same(word, "on") {
+        Some(true)
+    } else if is_same(word, "off") {
+        Some(false)
+    } else {
+        None
+    }
+}
+
+/// Whether a word is `on`; it is `on` or `off`.
+pub fn switch_word(event: u32, number: u32, text: &str) -> Result<bool, ScenarioFault>
+    requires { 1 ≤ number }
+    ensures { result ≡ said switch_of event number text.now }
+{
+    match word(text, number) {
+        Some(word) => match switch(word) {
+            Some(on) => Ok(on),
+            None => Err(bad_word(event, number)),
+        },
+        None => Err(bad_word(event, number)),
+    }
+}
+
+// The octets, where they are 1 to 9216.
+fn of_size(octets: Octets) -> Option<Octets>
+    ensures value { result ≡ of_frame_size octets }
+    ensures sized { IfSome result IsFrame }
+{
+    if octets.is_empty() || octets.len() > 9216 {
+        return None;
+    }
+    Some(octets)
+}
+
+// The octets of a frame.
+fn frame(alloc: Global, digits: &[u8]) -> Result<Option<Octets>, NoMemory>
+    ensures value { IfOk result (λ octets. octets ≡ frame_of digits.now) }
+    ensures sized { IfOk result (λ octets. IfSome octets IsFrame) }
+{
+    match decode(alloc, digits)? {
+        Some(octets) => Ok(of_size(octets)),
+        None => Ok(None),
+    }
+}
+
+/// The octets of a frame that a word writes, where there is this word.
+pub fn frame_octets(
+    alloc: Global,
+    event: u32,
+    number: u32,
+    word: Option<&str>,
+) -> Result<Octets, ScenarioFault>
+    ensures exact { Gives result (found (ScenarioFault.BadWord event number) (option_and_then frame_of (option_map (λ w. w.now) word.entry))) }
+    ensures sized { IfOk result IsFrame }
+{
+    match word {
+        Some(word) => match frame(alloc, word.as_bytes())? {
+            Some(octets) => Ok(octets),
+            None => Err(bad_word(event, number)),
+        },
+        None => Err(bad_word(event, number)),
+    }
+}
+
+// The word, where it is not empty.
+fn nonempty(word: &str) -> Option<&str>
+    ensures { option_map (λ w. w.now) result ≡ some_word word.now }
+{
+    if word.is_empty() { None } else { Some(word) }
+}
+
+/// The name of a file, a word that is not empty.
+pub fn file_word(alloc: Global, event: u32, number: u32, text: &str) -> Result<Word, ScenarioFault>
+    requires { 1 ≤ number }
+    ensures { Gives result (said some_word event number text.now) }
+{
+    match word(text, number) {
+        Some(word) => match nonempty(word) {
+            Some(name) => Ok(Word::new(alloc, name)?),
+            None => Err(bad_word(event, number)),
+        },
+        None => Err(bad_word(event, number)),
+    }
+}
+
+/// Refuses a word of this number, where there is one.
+pub fn no_more(event: u32, number: u32, more: bool) -> Result<(), ScenarioFault>
+    ensures { MapsTo (λ _. true) result (checked (ScenarioFault.BadWord event number) (not more)) }
+{
+    if more {
+        return Err(bad_word(event, number));
+    }
+    Ok(())
+}
+
+/// Refuses a word of this number.
+pub fn no_word(event: u32, number: u32, text: &str) -> Result<(), ScenarioFault>
+    requires { 1 ≤ number }
+    ensures { MapsTo (λ _. true) result (ends event number text.now) }
+{
+    no_more(event, number, word(text, number).is_some())
+}

@@ -1,0 +1,167 @@
+//! The ends of an edge that two wires join to two others, through their calls.
+ghost use Rattle.std.specs.Prelude.{◌≤◌};
+
+use crate::edges::plans::{A, B, C, TWO_WIRES, plan_of};
+use net_base::{Label, Offer, Text, WireId};
+use peer_dialogue::{binding_in, content_of, fec_of};
+use pw_ends::PwEnds;
+use pw_signalling::{PwEnd, Told};
+use pw_tlvs::{Points, PwStatus};
+use std::alloc::Global;
+use std::process::Abort;
+
+// The ends of the first edge.
+fn opened(rt: &impl Abort, alloc: Global) -> PwEnds {
+    let plan = plan_of(rt, alloc, TWO_WIRES);
+    assert!(rt; !plan.edges.is_empty());
+    PwEnds::open(alloc, &plan, A).expect(rt, "memory")
+}
+
+// What an end of group 7 tells.
+fn told(rt: &impl Abort, status: Option<PwStatus>) -> Told
+    ensures { result.kind ≤ 0x7FFF }
+{
+    let offer = Offer {
+        tagged: false,
+        cword: true,
+        mtu: Some(1500),
+        vlan: None,
+        vccv: None,
+        status: true,
+        group: 7,
+        description: Text::read([].as_slice()).expect(rt, "a text"),
+    };
+    content_of(&offer, status)
+}
+
+// The idle end of a slot advertises; answers the number of its label, or 0 where none is left.
+fn advertised(rt: &impl Abort, ends: &mut PwEnds, slot: usize, told: &Told) -> u32
+    requires { told.now.kind ≤ 0x7FFF }
+{
+    assert!(rt; slot < ends.len());
+    match ends.end(slot) {
+        PwEnd::Idle(_) => match ends.advertise(slot, told) {
+            Some(label) => label.number(),
+            None => 0,
+        },
+        _ => 0,
+    }
+}
+
+// Whether the end of a slot is idle, and holds no binding.
+fn is_fresh(ends: &PwEnds, slot: usize) -> bool {
+    slot < ends.len() && matches!(ends.end(slot), PwEnd::Idle(end) if end.remote().is_none())
+}
+
+// The slot of the end that owns the label with this number.
+fn owner(rt: &impl Abort, ends: &PwEnds, number: u32) -> Option<usize> {
+    let label = Label::new(number).expect(rt, "a label");
+    ends.owner(label)
+}
+
+// Both ends are idle and are found by peer and PW ID, and the edge knows its wires.
+fn stand(rt: &impl Abort, ends: &PwEnds) {
+    assert!(rt; ends.len() == 2);
+    assert!(rt; is_fresh(ends, 0) && is_fresh(ends, 1));
+    assert!(rt; ends.find(B, 100) == Some(0));
+    assert!(rt; ends.find(C, 100) == Some(1));
+    assert!(rt; ends.find(B, 101) == None);
+    assert!(rt; ends.find(A, 100) == None);
+    assert!(rt; ends.passes(WireId(1)));
+    assert!(rt; ends.ends_here(WireId(0)));
+    assert!(rt; !ends.passes(WireId(2)));
+}
+
+// Both ends advertise, with the first two of the edge's four labels.
+fn advertise(rt: &impl Abort, ends: &mut PwEnds) {
+    let told = told(rt, Some(PwStatus(0)));
+    assert!(rt; advertised(rt, ends, 0, &told) == 1_048_572);
+    assert!(rt; advertised(rt, ends, 1, &told) == 1_048_573);
+}
+
+// Both ends own their labels, until the connection is lost and the edge restarts.
+fn own_labels(rt: &impl Abort, ends: &mut PwEnds) {
+    advertise(rt, ends);
+    ends.lose(B);
+    assert!(rt; is_fresh(ends, 0));
+    assert!(rt; owner(rt, ends, 1_048_572) == None);
+    assert!(rt; owner(rt, ends, 1_048_573) == Some(1));
+    ends.restarted();
+    assert!(rt; owner(rt, ends, 1_048_573) == None);
+    assert!(rt; ends.next_label() == 1_048_574);
+}
+
+// Both ends advertise, until one withdraws.
+fn advertise_until_one_withdraws(rt: &impl Abort, ends: &mut PwEnds) {
+    advertise(rt, ends);
+    assert!(rt; ends.advertiser(1_048_573) == Some(1));
+    assert!(rt; ends.len() == 2);
+    ends.withdraw(1);
+    assert!(rt; ends.advertiser(1_048_573) == None);
+    assert!(rt; ends.advertiser(1_048_572) == Some(0));
+}
+
+// The first end has no label to advertise once the edge has given its four.
+fn end_with_the_labels(rt: &impl Abort, ends: &mut PwEnds) {
+    let told = told(rt, None);
+    for number in 1_048_572..1_048_576 {
+        assert!(rt; advertised(rt, ends, 0, &told) == number);
+        ends.lose(B);
+    }
+    assert!(rt; advertised(rt, ends, 0, &told) == 0);
+    assert!(rt; is_fresh(ends, 0));
+}
+
+// The end of a slot hears a mapping of label 17.
+fn binds(rt: &impl Abort, ends: &mut PwEnds, slot: usize) {
+    assert!(rt; slot < ends.len());
+    let label = Label::new(17).expect(rt, "a label");
+    let fec = fec_of(100, &told(rt, None));
+    ends.on_mapping(slot, &binding_in(&fec, label, None, &Points::empty()));
+}
+
+// Whether the end of a slot holds a binding.
+fn is_bound(ends: &PwEnds, slot: usize) -> bool {
+    slot < ends.len() && ends.end(slot).remote().is_some()
+}
+
+// The first end holds its binding where the second one's peer withdraws their group.
+fn hold_a_binding(rt: &impl Abort, ends: &mut PwEnds) {
+    binds(rt, ends, 0);
+    binds(rt, ends, 1);
+    ends.on_group_withdraw(C, 7);
+    assert!(rt; is_bound(ends, 0));
+    assert!(rt; !is_bound(ends, 1));
+}
+
+// What the ends of the first edge have to do, each once they are opened.
+#[derive(Clone, Copy)]
+enum Deed {
+    Stand,
+    OwnLabels,
+    AdvertiseUntilOneWithdraws,
+    EndWithTheLabels,
+    HoldABinding,
+}
+
+// The ends of the first edge are opened, and do a deed.
+fn opened_do(rt: &impl Abort, alloc: Global, deed: Deed) {
+    let mut ends = opened(rt, alloc);
+    match deed {
+        Deed::Stand => stand(rt, &ends),
+        Deed::OwnLabels => own_labels(rt, &mut ends),
+        Deed::AdvertiseUntilOneWithdraws => advertise_until_one_withdraws(rt, &mut ends),
+        Deed::EndWithTheLabels => end_with_the_labels(rt, &mut ends),
+        Deed::HoldABinding => hold_a_binding(rt, &mut ends),
+    }
+    drop(ends);
+}
+
+#[test]
+fn ends_stand_advertise_and_bind(rt: HostRuntime) {
+    opened_do(&rt, rt.alloc(), Deed::Stand);
+    opened_do(&rt, rt.alloc(), Deed::OwnLabels);
+    opened_do(&rt, rt.alloc(), Deed::AdvertiseUntilOneWithdraws);
+    opened_do(&rt, rt.alloc(), Deed::EndWithTheLabels);
+    opened_do(&rt, rt.alloc(), Deed::HoldABinding);
+}

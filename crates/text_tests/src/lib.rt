@@ -1,7 +1,0 @@
-//! Tests of the crates of texts. They stand in a crate of their own, since a crate with tests is proved twice.
-#![tactic(auto)]
-
-#[cfg(test)]
-mod messages;
-#[cfg(test)]
-mod reports;
