@@ -1,5 +1,5 @@
 //! One provider edge.
-ghost use Rattle.std.specs.Prelude.{◌≡◌, ◌<◌, ◌≤◌, ◌↔◌, ◌⊎◌, List, Some, None, true, false, [], length, replicate, slice_index_or, IfOk, IfErr, IfSome, IsNone, IsErrOf};
+ghost use Rattle.std.specs.Prelude.{◌≡◌, ◌<◌, ◌≤◌, ◌↔◌, ◌⊎◌, List, Some, None, true, false, [], length, replicate, slice_index_or, IfOk, IfErr, IfSome, IsNone, IsErrOf, OnOk};
 ghost use Rattle.std.specs.List.{find};
 ghost use Rattle.net_base.specs.declared.outside.link_call.LinkCall.{LinkCall};
 ghost use Rattle.net_base.specs.plan.Accepted.{IsChecked};
@@ -28,7 +28,7 @@ mod wire;
 
 use crate::EdgeStop;
 use crate::control::Control;
-use crate::quiet::idle;
+use crate::quiet::nothing;
 use edge_model::{Effects, Input};
 use net_base::{
     CircuitId, Down, EdgeId, Link, NoMemory, Plan, SegKey, ServiceId, StateName, WireId,
@@ -142,7 +142,6 @@ impl Edge {
 
     // What the edge makes of an input. Until it is done nothing is said of what was told last of the wires, so the edge counts
     // as stopped.
-    #[tactic(auto, using(crate::proofs::WorkLemmas::idle_done, crate::proofs::EffectLemmas::goes_nowhere))]
     fn work<L: Link>(
         &mut self,
         alloc: Global,
@@ -157,19 +156,51 @@ impl Edge {
         ensures step { IfOk result (λ effects. (told : Answers) → Agrees told (L.calls link.new)
             → worked self.new (L.calls link.new) effects ≡ edge_step self.old.plan told input.entry (beginning (seen self.old) (L.calls link.old))) }
     {
+        let mut effects = nothing(alloc);
+        match self.work_into(alloc, input, link, &mut effects) {
+            Ok(()) => Ok(effects),
+            Err(fault) => Err(fault),
+        }
+    }
+
+    // The same, where nothing was given out on the input before.
+    fn work_into<L: Link>(
+        &mut self,
+        alloc: Global,
+        input: Input<'_>,
+        link: &mut L,
+        effects: &mut Effects,
+    ) -> Result<(), NoMemory>
+        requires range { IsInRange input }
+        requires working { self.old.stopped ≡ true }
+        requires synced { InSync self.old.plan (seen self.old) }
+        requires fresh { effects.old ≡ record { idle = false; list = [] } }
+        ensures keeps { Keeps self.old self.new }
+        ensures calls { GoesOn (L.calls link.old) (L.calls link.new) }
+        ensures step { OnOk result ((told : Answers) → Agrees told (L.calls link.new)
+            → worked self.new (L.calls link.new) effects.new ≡ edge_step self.old.plan told input.entry (beginning (seen self.old) (L.calls link.old))) }
+    {
         match input {
-            Input::Connected { peer } => self.connected(alloc, peer, link),
-            Input::Octets { peer, bytes } => self.octets(alloc, peer, bytes, link),
-            Input::Lost { peer } => self.lost(alloc, peer, link),
-            Input::Restart => Ok(self.restart(alloc)),
-            Input::Tick => self.tick(alloc, link),
-            Input::Frame { circuit, bytes } => self.frame(alloc, circuit, bytes, link),
-            Input::Packet { bytes } => self.packet(alloc, bytes, link),
-            Input::Circuit { circuit, on } => self.circuit(alloc, circuit, on, link),
-            Input::Wire { wire, on } => self.wire(alloc, wire, on, link),
-            Input::Status { wire, bits } => self.status(alloc, wire, bits, link),
-            Input::Priority { wire, priority } => self.priority(alloc, wire, priority, link),
-            Input::Ping { .. } => Ok(idle(alloc)),
+            Input::Connected { peer } => self.connected(alloc, peer, link, effects),
+            Input::Octets { peer, bytes } => self.octets(alloc, peer, bytes, link, effects),
+            Input::Lost { peer } => self.lost(alloc, peer, link, effects),
+            Input::Restart => {
+                self.restart();
+                Ok(())
+            }
+            Input::Tick => self.tick(alloc, link, effects),
+            Input::Frame { circuit, bytes } => self.frame(alloc, circuit, bytes, link, effects),
+            Input::Packet { bytes } => self.packet(alloc, bytes, link, effects),
+            Input::Circuit { circuit, on } => self.circuit(alloc, circuit, on, link, effects),
+            Input::Wire { wire, on } => self.wire(alloc, wire, on, link, effects),
+            Input::Status { wire, bits } => self.status(alloc, wire, bits, link, effects),
+            Input::Priority { wire, priority } => {
+                self.priority(alloc, wire, priority, link, effects)
+            }
+            Input::Ping { .. } => {
+                effects.idle = true;
+                Ok(())
+            }
         }
     }
 

@@ -1,20 +1,10 @@
 //! Effects that need no memory.
-ghost use Rattle.std.specs.Prelude.{◌≡◌, ◌++◌, ◌∷◌, [], true, false, OnOk};
+ghost use Rattle.std.specs.Prelude.{◌≡◌, ◌++◌, ◌∷◌, [], false, OnOk};
 ghost use Rattle.edge_model.specs.declared.effect.Effect.TheVariants.{Dropped};
 
 use edge_model::{Effect, Effects};
 use net_base::{DropCause, List, NoMemory};
 use std::alloc::Global;
-
-/// The input does not apply.
-pub fn idle(alloc: Global) -> Effects
-    ensures { result ≡ record { idle = true; list = [] } }
-{
-    Effects {
-        idle: true,
-        list: List::new(alloc),
-    }
-}
 
 /// Nothing is given out.
 pub fn nothing(alloc: Global) -> Effects

@@ -1,5 +1,5 @@
 //! A circuit is turned on or off.
-ghost use Rattle.std.specs.Prelude.{◌≡◌, Some, true, position, IfOk};
+ghost use Rattle.std.specs.Prelude.{◌≡◌, [], Some, true, false, position, OnOk};
 ghost use Rattle.net_base.specs.declared.plan.circuit_plan.CircuitPlan.{CircuitPlan};
 ghost use Rattle.net_base.specs.plan.Places.{circuit_row};
 ghost use Rattle.hvpls_spokes.specs.Port.{is_circuit_port, ports_of};
@@ -10,9 +10,8 @@ ghost use Rattle.edge_forwarding.specs.Forwarding.{own_service};
 ghost use Rattle.provider_edge.specs.Lists.{Keeps, seen, worked};
 
 use crate::Edge;
-use crate::quiet::idle;
 use edge_model::Effects;
-use net_base::{CircuitId, Link, List, NoMemory, ServiceId};
+use net_base::{CircuitId, Link, NoMemory, ServiceId};
 use std::alloc::Global;
 
 impl Edge {
@@ -23,23 +22,25 @@ impl Edge {
         circuit: CircuitId,
         on: bool,
         link: &mut L,
-    ) -> Result<Effects, NoMemory>
+        effects: &mut Effects,
+    ) -> Result<(), NoMemory>
         requires working { self.old.stopped ≡ true }
+        requires fresh { effects.old ≡ record { idle = false; list = [] } }
         ensures keeps { Keeps self.old self.new }
         ensures calls { GoesOn (L.calls link.old) (L.calls link.new) }
-        ensures step { IfOk result (λ effects. (told : Answers) → Agrees told (L.calls link.new)
-            → worked self.new (L.calls link.new) effects ≡ circuit_input self.old.plan told circuit on (circuit_row self.old.plan circuit) (beginning (seen self.old) (L.calls link.old))) }
+        ensures step { OnOk result ((told : Answers) → Agrees told (L.calls link.new)
+            → worked self.new (L.calls link.new) effects.new ≡ circuit_input self.old.plan told circuit on (circuit_row self.old.plan circuit) (beginning (seen self.old) (L.calls link.old))) }
     {
         let Some(service) = self.own_service(circuit) else {
-            return Ok(idle(alloc));
+            effects.idle = true;
+            return Ok(());
         };
         if self.is_on(circuit) == on {
-            return Ok(idle(alloc));
+            effects.idle = true;
+            return Ok(());
         }
         self.turn_circuit(circuit, service, on);
-        let mut list = List::new(alloc);
-        self.mend(alloc, link, &mut list)?;
-        Ok(Effects { idle: false, list })
+        self.mend(alloc, link, &mut effects.list)
     }
 
     // Turns a circuit of the edge; where it is off, the bridge forgets what it learned there.

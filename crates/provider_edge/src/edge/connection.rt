@@ -1,5 +1,5 @@
 //! Connections of the edge: one stands, one is lost, and the edge restarts.
-ghost use Rattle.std.specs.Prelude.{◌≡◌, ◌<◌, [], true, List, None, length, slice_get, slice_index_or, IfOk, OnOk};
+ghost use Rattle.std.specs.Prelude.{◌≡◌, ◌<◌, [], true, false, List, None, length, slice_get, slice_index_or, OnOk};
 ghost use Rattle.net_base.specs.declared.trace.state_name.Reason.TheVariants as reason;
 ghost use Rattle.session_core.specs.State.{IsProper};
 ghost use Rattle.session_core.specs.Table.{Closed};
@@ -13,7 +13,6 @@ ghost use Rattle.provider_edge.specs.Lists.{Keeps, seen, worked};
 ghost use Rattle.peer_dialogue.specs.Peering.{at_edge, connection_with, peers_between};
 
 use crate::Edge;
-use crate::quiet::{idle, nothing};
 use edge_model::{Effect, Effects};
 use net_base::{EdgeId, Link, List, NoMemory};
 use session_core::Peers;
@@ -21,30 +20,31 @@ use std::alloc::Global;
 
 impl Edge {
     // The edge's end of a connection with a peer stands, and its session begins.
-    #[tactic(auto, using(peer_dialogue::proofs::SpeakerLemmas::goes_both))]
     pub(crate) fn connected<L: Link>(
         &mut self,
         alloc: Global,
         peer: EdgeId,
         link: &mut L,
-    ) -> Result<Effects, NoMemory>
+        effects: &mut Effects,
+    ) -> Result<(), NoMemory>
         requires working { self.old.stopped ≡ true }
+        requires fresh { effects.old ≡ record { idle = false; list = [] } }
         ensures keeps { Keeps self.old self.new }
         ensures calls { GoesOn (L.calls link.old) (L.calls link.new) }
-        ensures step { IfOk result (λ effects. (told : Answers) → Agrees told (L.calls link.new)
-            → worked self.new (L.calls link.new) effects ≡ connected_input self.old.plan told peer (beginning (seen self.old) (L.calls link.old))) }
+        ensures step { OnOk result ((told : Answers) → Agrees told (L.calls link.new)
+            → worked self.new (L.calls link.new) effects.new ≡ connected_input self.old.plan told peer (beginning (seen self.old) (L.calls link.old))) }
     {
         if !self.plan.joined(self.me, peer) || self.has_end(peer) {
-            return Ok(idle(alloc));
+            effects.idle = true;
+            return Ok(());
         }
         let Some(peers) = self.peers_with(peer) else {
-            return Ok(idle(alloc));
+            effects.idle = true;
+            return Ok(());
         };
-        let mut list = List::new(alloc);
         self.forget_octets(peer);
-        self.connect(alloc, peer, peers, link, &mut list)?;
-        self.mend(alloc, link, &mut list)?;
-        Ok(Effects { idle: false, list })
+        self.connect(alloc, peer, peers, link, &mut effects.list)?;
+        self.mend(alloc, link, &mut effects.list)
     }
 
     // A connection stands, of which nothing came yet, and its session begins.
@@ -101,20 +101,21 @@ impl Edge {
         alloc: Global,
         peer: EdgeId,
         link: &mut L,
-    ) -> Result<Effects, NoMemory>
+        effects: &mut Effects,
+    ) -> Result<(), NoMemory>
         requires working { self.old.stopped ≡ true }
+        requires fresh { effects.old ≡ record { idle = false; list = [] } }
         ensures keeps { Keeps self.old self.new }
         ensures calls { GoesOn (L.calls link.old) (L.calls link.new) }
-        ensures step { IfOk result (λ effects. (told : Answers) → Agrees told (L.calls link.new)
-            → worked self.new (L.calls link.new) effects ≡ lost_input self.old.plan told peer (beginning (seen self.old) (L.calls link.old))) }
+        ensures step { OnOk result ((told : Answers) → Agrees told (L.calls link.new)
+            → worked self.new (L.calls link.new) effects.new ≡ lost_input self.old.plan told peer (beginning (seen self.old) (L.calls link.old))) }
     {
         if !self.has_end(peer) {
-            return Ok(idle(alloc));
+            effects.idle = true;
+            return Ok(());
         }
-        let mut list = List::new(alloc);
-        self.lose(peer, &mut list)?;
-        self.mend(alloc, link, &mut list)?;
-        Ok(Effects { idle: false, list })
+        self.lose(peer, &mut effects.list)?;
+        self.mend(alloc, link, &mut effects.list)
     }
 
     // The session with a peer ends, since the connection is lost.
@@ -144,14 +145,13 @@ impl Edge {
     }
 
     // The edge restarts: it keeps its ticks, what was set of its circuits and wires, and the label that it gives next.
-    pub(crate) fn restart(&mut self, alloc: Global) -> Effects
+    pub(crate) fn restart(&mut self)
         requires working { self.old.stopped ≡ true }
         ensures keeps { Keeps self.old self.new }
-        ensures step { (calls : List LinkCall) → worked self.new calls result ≡ restart_input (beginning (seen self.old) calls) }
+        ensures step { (calls : List LinkCall) → worked self.new calls (record { idle = false; list = [] }) ≡ restart_input (beginning (seen self.old) calls) }
     {
         self.restart_control();
         self.forget_stations();
-        nothing(alloc)
     }
 
     // No session stands, and each end is as it was opened.

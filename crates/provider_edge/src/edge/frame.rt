@@ -1,5 +1,5 @@
 //! A customer's frame comes by a circuit.
-ghost use Rattle.std.specs.Prelude.{◌≡◌, ◌==◌, ◌≤◌, ℕ, List, Result, Ok, Err, Some, true, length, position, IfOk, OnOk, MatchResult};
+ghost use Rattle.std.specs.Prelude.{◌≡◌, ◌==◌, ◌≤◌, ℕ, List, [], Result, Ok, Err, Some, true, false, length, position, IfOk, OnOk, MatchResult};
 ghost use Rattle.net_base.specs.declared.trace.arrival.Arrival.TheVariants as arrival;
 ghost use Rattle.net_base.specs.declared.trace.drop_cause.DropCause.{DropCause};
 ghost use Rattle.net_base.specs.plan.Places.{circuit_row};
@@ -15,7 +15,6 @@ ghost use Rattle.provider_edge.specs.Lists.{Keeps, seen, worked};
 ghost use Rattle.peer_dialogue.specs.Peering.{at_edge};
 
 use crate::Edge;
-use crate::quiet::idle;
 use edge_forwarding::read_inner;
 use edge_model::{Effect, Effects};
 use eth_encap::FrameFault;
@@ -30,23 +29,25 @@ impl Edge {
         circuit: CircuitId,
         octets: &[u8],
         link: &mut L,
-    ) -> Result<Effects, NoMemory>
+        effects: &mut Effects,
+    ) -> Result<(), NoMemory>
         requires working { self.old.stopped ≡ true }
+        requires fresh { effects.old ≡ record { idle = false; list = [] } }
         requires synced { InSync self.old.plan (seen self.old) }
         ensures keeps { Keeps self.old self.new }
         ensures calls { GoesOn (L.calls link.old) (L.calls link.new) }
-        ensures step { IfOk result (λ effects. (told : Answers) → Agrees told (L.calls link.new)
-            → worked self.new (L.calls link.new) effects ≡ frame_input self.old.plan told circuit octets.now (circuit_row self.old.plan circuit) (beginning (seen self.old) (L.calls link.old))) }
+        ensures step { OnOk result ((told : Answers) → Agrees told (L.calls link.new)
+            → worked self.new (L.calls link.new) effects.new ≡ frame_input self.old.plan told circuit octets.now (circuit_row self.old.plan circuit) (beginning (seen self.old) (L.calls link.old))) }
     {
         let Some(service) = self.own_service(circuit) else {
-            return Ok(idle(alloc));
+            effects.idle = true;
+            return Ok(());
         };
         if !self.is_on(circuit) {
-            return Ok(idle(alloc));
+            effects.idle = true;
+            return Ok(());
         }
-        let mut list = List::new(alloc);
-        self.receive(alloc, circuit, service, octets, link, &mut list)?;
-        Ok(Effects { idle: false, list })
+        self.receive(alloc, circuit, service, octets, link, &mut effects.list)
     }
 
     // The service of a circuit of the edge.

@@ -1,5 +1,5 @@
 //! Octets of LDP come from a peer.
-ghost use Rattle.std.specs.Prelude.{◌≡◌, true, IfOk, OnOk};
+ghost use Rattle.std.specs.Prelude.{◌≡◌, [], true, false, OnOk};
 ghost use Rattle.edge_model.specs.Hear.{hears_on, octets_input};
 ghost use Rattle.edge_model.specs.State.{has_end};
 ghost use Rattle.edge_model.specs.Work.{Agrees, Answers, GoesOn, beginning};
@@ -7,34 +7,33 @@ ghost use Rattle.provider_edge.specs.Lists.{Keeps, seen, worked};
 ghost use Rattle.peer_dialogue.specs.Peering.{at_edge};
 
 use crate::Edge;
-use crate::quiet::idle;
 use edge_model::{Effect, Effects};
 use net_base::{EdgeId, Link, List, NoMemory};
 use std::alloc::Global;
 
 impl Edge {
     // Octets of LDP come from a peer.
-    #[tactic(auto, using(peer_dialogue::proofs::SpeakerLemmas::goes_both))]
     pub(crate) fn octets<L: Link>(
         &mut self,
         alloc: Global,
         peer: EdgeId,
         octets: &[u8],
         link: &mut L,
-    ) -> Result<Effects, NoMemory>
+        effects: &mut Effects,
+    ) -> Result<(), NoMemory>
         requires working { self.old.stopped ≡ true }
+        requires fresh { effects.old ≡ record { idle = false; list = [] } }
         ensures keeps { Keeps self.old self.new }
         ensures calls { GoesOn (L.calls link.old) (L.calls link.new) }
-        ensures step { IfOk result (λ effects. (told : Answers) → Agrees told (L.calls link.new)
-            → worked self.new (L.calls link.new) effects ≡ octets_input self.old.plan told peer octets.now ((seen self.old).peering peer.0) (beginning (seen self.old) (L.calls link.old))) }
+        ensures step { OnOk result ((told : Answers) → Agrees told (L.calls link.new)
+            → worked self.new (L.calls link.new) effects.new ≡ octets_input self.old.plan told peer octets.now ((seen self.old).peering peer.0) (beginning (seen self.old) (L.calls link.old))) }
     {
         if !self.has_end(peer) {
-            return Ok(idle(alloc));
+            effects.idle = true;
+            return Ok(());
         }
-        let mut list = List::new(alloc);
-        self.hear_octets(alloc, peer, octets, link, &mut list)?;
-        self.mend(alloc, link, &mut list)?;
-        Ok(Effects { idle: false, list })
+        self.hear_octets(alloc, peer, octets, link, &mut effects.list)?;
+        self.mend(alloc, link, &mut effects.list)
     }
 
     // Octets are heard behind those that are held of a peer with which a connection stands.

@@ -1,5 +1,5 @@
 //! A packet comes from a neighbour.
-ghost use Rattle.std.specs.Prelude.{◌≡◌, true, IfOk};
+ghost use Rattle.std.specs.Prelude.{◌≡◌, [], true, false, OnOk};
 ghost use Rattle.edge_model.specs.Packet.{packet_input};
 ghost use Rattle.edge_model.specs.Synced.{InSync};
 ghost use Rattle.edge_model.specs.Work.{Agrees, Answers, GoesOn, beginning};
@@ -7,7 +7,7 @@ ghost use Rattle.provider_edge.specs.Lists.{Keeps, seen, worked};
 
 use crate::Edge;
 use edge_model::Effects;
-use net_base::{Link, List, NoMemory};
+use net_base::{Link, NoMemory};
 use std::alloc::Global;
 
 impl Edge {
@@ -17,16 +17,16 @@ impl Edge {
         alloc: Global,
         octets: &[u8],
         link: &mut L,
-    ) -> Result<Effects, NoMemory>
+        effects: &mut Effects,
+    ) -> Result<(), NoMemory>
         requires working { self.old.stopped ≡ true }
+        requires fresh { effects.old ≡ record { idle = false; list = [] } }
         requires synced { InSync self.old.plan (seen self.old) }
         ensures keeps { Keeps self.old self.new }
         ensures calls { GoesOn (L.calls link.old) (L.calls link.new) }
-        ensures step { IfOk result (λ effects. (told : Answers) → Agrees told (L.calls link.new)
-            → worked self.new (L.calls link.new) effects ≡ packet_input self.old.plan told octets.now (beginning (seen self.old) (L.calls link.old))) }
+        ensures step { OnOk result ((told : Answers) → Agrees told (L.calls link.new)
+            → worked self.new (L.calls link.new) effects.new ≡ packet_input self.old.plan told octets.now (beginning (seen self.old) (L.calls link.old))) }
     {
-        let mut list = List::new(alloc);
-        self.control.packet(alloc, octets, link, &mut list)?;
-        Ok(Effects { idle: false, list })
+        self.control.packet(alloc, octets, link, &mut effects.list)
     }
 }

@@ -1,5 +1,5 @@
 //! A tick passes.
-ghost use Rattle.std.specs.Prelude.{◌≡◌, true, length, IfOk, OnOk};
+ghost use Rattle.std.specs.Prelude.{◌≡◌, [], true, false, length, OnOk};
 ghost use Rattle.edge_model.specs.State.{later, with_ticks};
 ghost use Rattle.edge_model.specs.Tick.{forgetting, tick_input, ticks_sessions};
 ghost use Rattle.edge_model.specs.Work.{Agrees, Answers, GoesOn, beginning};
@@ -13,20 +13,23 @@ use std::alloc::Global;
 
 impl Edge {
     // The edge counts the tick, its sessions have it, its bridges forget, and then it mends its ends.
-    #[tactic(auto, using(peer_dialogue::proofs::SpeakerLemmas::goes_both))]
-    pub(crate) fn tick<L: Link>(&mut self, alloc: Global, link: &mut L) -> Result<Effects, NoMemory>
+    pub(crate) fn tick<L: Link>(
+        &mut self,
+        alloc: Global,
+        link: &mut L,
+        effects: &mut Effects,
+    ) -> Result<(), NoMemory>
         requires working { self.old.stopped ≡ true }
+        requires fresh { effects.old ≡ record { idle = false; list = [] } }
         ensures keeps { Keeps self.old self.new }
         ensures calls { GoesOn (L.calls link.old) (L.calls link.new) }
-        ensures step { IfOk result (λ effects. (told : Answers) → Agrees told (L.calls link.new)
-            → worked self.new (L.calls link.new) effects ≡ tick_input self.old.plan told (beginning (seen self.old) (L.calls link.old))) }
+        ensures step { OnOk result ((told : Answers) → Agrees told (L.calls link.new)
+            → worked self.new (L.calls link.new) effects.new ≡ tick_input self.old.plan told (beginning (seen self.old) (L.calls link.old))) }
     {
         self.count_tick();
-        let mut list = List::new(alloc);
-        self.tick_sessions(alloc, link, &mut list)?;
+        self.tick_sessions(alloc, link, &mut effects.list)?;
         self.forget();
-        self.mend(alloc, link, &mut list)?;
-        Ok(Effects { idle: false, list })
+        self.mend(alloc, link, &mut effects.list)
     }
 
     // The sessions have the tick, in the plan's order.

@@ -1,14 +1,13 @@
 //! A wire is put on or off, and the failure bits of the edge's end of it and the priority of a spoke are set.
-ghost use Rattle.std.specs.Prelude.{◌≡◌, ◌<◌, ◌≤◌, true, length, IfOk};
+ghost use Rattle.std.specs.Prelude.{◌≡◌, ◌<◌, ◌≤◌, [], true, false, length, OnOk};
 ghost use Rattle.edge_model.specs.State.{with_bits, with_priority};
 ghost use Rattle.edge_model.specs.Wire.{priority_input, status_input, turned_wire, wire_input};
 ghost use Rattle.edge_model.specs.Work.{Agrees, Answers, GoesOn, beginning};
 ghost use Rattle.provider_edge.specs.Lists.{Keeps, seen, worked};
 
 use crate::Edge;
-use crate::quiet::idle;
 use edge_model::Effects;
-use net_base::{Link, List, NoMemory, WireId};
+use net_base::{Link, NoMemory, WireId};
 use std::alloc::Global;
 
 impl Edge {
@@ -19,20 +18,21 @@ impl Edge {
         wire: WireId,
         on: bool,
         link: &mut L,
-    ) -> Result<Effects, NoMemory>
+        effects: &mut Effects,
+    ) -> Result<(), NoMemory>
         requires working { self.old.stopped ≡ true }
+        requires fresh { effects.old ≡ record { idle = false; list = [] } }
         ensures keeps { Keeps self.old self.new }
         ensures calls { GoesOn (L.calls link.old) (L.calls link.new) }
-        ensures step { IfOk result (λ effects. (told : Answers) → Agrees told (L.calls link.new)
-            → worked self.new (L.calls link.new) effects ≡ wire_input self.old.plan told wire on (beginning (seen self.old) (L.calls link.old))) }
+        ensures step { OnOk result ((told : Answers) → Agrees told (L.calls link.new)
+            → worked self.new (L.calls link.new) effects.new ≡ wire_input self.old.plan told wire on (beginning (seen self.old) (L.calls link.old))) }
     {
         if !self.control.passes(wire) || self.control.is_on(wire) == on {
-            return Ok(idle(alloc));
+            effects.idle = true;
+            return Ok(());
         }
         self.turn_wire(wire, on);
-        let mut list = List::new(alloc);
-        self.mend(alloc, link, &mut list)?;
-        Ok(Effects { idle: false, list })
+        self.mend(alloc, link, &mut effects.list)
     }
 
     // Puts a wire on or off.
@@ -52,21 +52,22 @@ impl Edge {
         wire: WireId,
         bits: u8,
         link: &mut L,
-    ) -> Result<Effects, NoMemory>
+        effects: &mut Effects,
+    ) -> Result<(), NoMemory>
         requires working { self.old.stopped ≡ true }
+        requires fresh { effects.old ≡ record { idle = false; list = [] } }
         requires small { bits ≤ 31 }
         ensures keeps { Keeps self.old self.new }
         ensures calls { GoesOn (L.calls link.old) (L.calls link.new) }
-        ensures step { IfOk result (λ effects. (told : Answers) → Agrees told (L.calls link.new)
-            → worked self.new (L.calls link.new) effects ≡ status_input self.old.plan told wire bits (beginning (seen self.old) (L.calls link.old))) }
+        ensures step { OnOk result ((told : Answers) → Agrees told (L.calls link.new)
+            → worked self.new (L.calls link.new) effects.new ≡ status_input self.old.plan told wire bits (beginning (seen self.old) (L.calls link.old))) }
     {
         if !self.control.ends_here(wire) || self.control.bits_of(wire) == bits {
-            return Ok(idle(alloc));
+            effects.idle = true;
+            return Ok(());
         }
         self.set_bits(wire, bits);
-        let mut list = List::new(alloc);
-        self.mend(alloc, link, &mut list)?;
-        Ok(Effects { idle: false, list })
+        self.mend(alloc, link, &mut effects.list)
     }
 
     // Sets the failure bits of the edge's end of a wire.
@@ -87,20 +88,21 @@ impl Edge {
         wire: WireId,
         priority: u8,
         link: &mut L,
-    ) -> Result<Effects, NoMemory>
+        effects: &mut Effects,
+    ) -> Result<(), NoMemory>
         requires working { self.old.stopped ≡ true }
+        requires fresh { effects.old ≡ record { idle = false; list = [] } }
         ensures keeps { Keeps self.old self.new }
         ensures calls { GoesOn (L.calls link.old) (L.calls link.new) }
-        ensures step { IfOk result (λ effects. (told : Answers) → Agrees told (L.calls link.new)
-            → worked self.new (L.calls link.new) effects ≡ priority_input self.old.plan told wire priority (beginning (seen self.old) (L.calls link.old))) }
+        ensures step { OnOk result ((told : Answers) → Agrees told (L.calls link.new)
+            → worked self.new (L.calls link.new) effects.new ≡ priority_input self.old.plan told wire priority (beginning (seen self.old) (L.calls link.old))) }
     {
         if !self.control.is_own_spoke(wire) || self.control.priority_of(wire) == priority {
-            return Ok(idle(alloc));
+            effects.idle = true;
+            return Ok(());
         }
         self.set_priority(wire, priority);
-        let mut list = List::new(alloc);
-        self.mend(alloc, link, &mut list)?;
-        Ok(Effects { idle: false, list })
+        self.mend(alloc, link, &mut effects.list)
     }
 
     // Sets the priority of a spoke.

@@ -1,4 +1,4 @@
-use Rattle.std.proofs.Common.{◌≡◌, ◌∙◌, Bool, ap, sym, subst}
+use Rattle.std.proofs.Common.{◌≡◌, ◌∙◌, Bool, ap, sym, subst, true}
 use Rattle.std.proofs.Math.Bool.{beq}
 use Rattle.net_base.specs.plan.Places.{circuit_row}
 use Rattle.edge_model.specs.declared.effects.Effects.{Effects}
@@ -10,11 +10,12 @@ use Rattle.peer_dialogue.specs.Peering.{at_edge}
 use Rattle.provider_edge.proofs.EdgeLemmas.{circuit_at, mended}
 use Rattle.edge_forwarding.proofs.ForwardingLemmas.{own_row}
 use Rattle.provider_edge.proofs.WorkLemmas.{circuit_already, circuit_done, circuit_other}
+use Rattle.peer_dialogue.proofs.SettleLemmas.{map_on}
 use Rattle.provider_edge.proofs.edge.Edge.circuit.Goals as goal
 
 pub returns-in_default-clause-step : goal.returns-in_default-clause-step
 returns-in_default-clause-step g c = λ told agrees.
-    subst (λ (e : Effects). worked c.args.self.now (g.L.Link.calls c.args.link.now) e ≡ circuit_input c.args.self.now.plan told c.args.circuit c.args.on (circuit_row c.args.self.now.plan c.args.circuit) (beginning (seen c.args.self.now) (g.L.Link.calls c.args.link.now))) (sym c.idle.ensures)
+    subst (λ (e : Effects). worked c.args.self.now (g.L.Link.calls c.args.link.now) (record e { idle = true }) ≡ circuit_input c.args.self.now.plan told c.args.circuit c.args.on (circuit_row c.args.self.now.plan c.args.circuit) (beginning (seen c.args.self.now) (g.L.Link.calls c.args.link.now))) (sym c.requires.fresh)
     (circuit_other c.args.self.now told c.args.circuit c.args.on (circuit_row c.args.self.now.plan c.args.circuit) (g.L.Link.calls c.args.link.now) (sym c.own_service.ensures ∙ c.in_default.is))
 
 pub is_on-requires : goal.is_on-requires
@@ -24,17 +25,19 @@ is_on-requires g c =
 
 pub returns-then-is_on-on-clause-step : goal.returns-then-is_on-on-clause-step
 returns-then-is_on-on-clause-step g c = λ told agrees.
-    subst (λ (e : Effects). worked c.args.self.now (g.L.Link.calls c.args.link.now) e ≡ circuit_input c.args.self.now.plan told c.args.circuit c.args.on (circuit_row c.args.self.now.plan c.args.circuit) (beginning (seen c.args.self.now) (g.L.Link.calls c.args.link.now))) (sym c.idle-then-is_on-on.ensures)
+    subst (λ (e : Effects). worked c.args.self.now (g.L.Link.calls c.args.link.now) (record e { idle = true }) ≡ circuit_input c.args.self.now.plan told c.args.circuit c.args.on (circuit_row c.args.self.now.plan c.args.circuit) (beginning (seen c.args.self.now) (g.L.Link.calls c.args.link.now))) (sym c.requires.fresh)
     (circuit_already c.args.self.now told c.args.circuit c.args.on (circuit_row c.args.self.now.plan c.args.circuit) c.in-Some.service (g.L.Link.calls c.args.link.now) (sym c.own_service.ensures ∙ c.in-Some.is)
     (ap (λ (b : Bool). beq b c.args.on) (sym c.is_on.ensures) ∙ c.if-is_on-on.true))
 
 pub returns-clause-step : goal.returns-clause-step
-returns-clause-step g c = λ told agrees.
+returns-clause-step g c = map_on _ _ c.mend.result
+    (λ step told agrees.
     let found = own_row c.args.self.now.me (circuit_row c.args.self.now.plan c.args.circuit) c.in-Some.service (sym c.own_service.ensures ∙ c.in-Some.is) in
     circuit_done c.args.self.now told c.args.circuit c.args.on (circuit_row c.args.self.now.plan c.args.circuit) c.in-Some.service (g.L.Link.calls c.args.link.now) _ found
     (ap (λ (b : Bool). beq b c.args.on) (sym c.is_on.ensures) ∙ c.if-is_on-on.false)
-    (mended c.args.self.now c.turn_circuit.new.self c.mend.new.self c.args.self.now.plan told (g.L.Link.calls c.args.link.now) (g.L.Link.calls c.args.link.now) (g.L.Link.calls c.mend.new.link) c.new-list.result c.mend.new.out
-    (changes (turned c.args.self.now.plan c.args.circuit found.circuit c.args.on) (beginning (seen c.args.self.now) (g.L.Link.calls c.args.link.now))) c.turn_circuit.ensures.keeps
-    (subst (λ l. at_edge (seen c.turn_circuit.new.self) (g.L.Link.calls c.args.link.now) l ≡ changes (turned c.args.self.now.plan c.args.circuit found.circuit c.args.on) (beginning (seen c.args.self.now) (g.L.Link.calls c.args.link.now))) (sym c.new-list.ensures)
+    (mended c.args.self.now c.turn_circuit.new.self c.mend.new.self told (g.L.Link.calls c.args.link.now) (g.L.Link.calls c.mend.new.link) c.args.effects.now.list c.mend.new.out c.args.effects.now.idle
+    (changes (turned c.args.self.now.plan c.args.circuit found.circuit c.args.on) (beginning (seen c.args.self.now) (g.L.Link.calls c.args.link.now))) (ap (λ (e : Effects). e.idle) c.requires.fresh) c.turn_circuit.ensures.keeps
+    (subst (λ (e : Effects). at_edge (seen c.turn_circuit.new.self) (g.L.Link.calls c.args.link.now) e.list ≡ changes (turned c.args.self.now.plan c.args.circuit found.circuit c.args.on) (beginning (seen c.args.self.now) (g.L.Link.calls c.args.link.now))) (sym c.requires.fresh)
     (circuit_at c.args.self.now c.turn_circuit.new.self c.args.circuit found.circuit c.args.on (g.L.Link.calls c.args.link.now) (c.turn_circuit.ensures.step found.circuit found.is)))
-    (c.in_ok-mend.ensures.step told agrees))
+    (step told agrees)))
+    c.mend.ensures.step

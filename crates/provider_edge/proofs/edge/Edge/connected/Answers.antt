@@ -1,4 +1,4 @@
-use Rattle.std.proofs.Common.{◌≡◌, ◌∙◌, ◌<◌, [], length, ap, sym, subst}
+use Rattle.std.proofs.Common.{◌≡◌, ◌∙◌, ◌<◌, [], length, ap, sym, subst, true}
 use Rattle.net_base.specs.declared.plan.Plan.{Plan}
 use Rattle.net_base.specs.plan.Accepted.{IsChecked}
 use Rattle.net_base.specs.plan.Paths.{are_joined}
@@ -10,8 +10,9 @@ use Rattle.provider_edge.specs.Lists.{EdgeLists, seen, worked}
 use Rattle.peer_dialogue.specs.Peering.{at_edge, connection_with}
 use Rattle.provider_edge.proofs.EdgeLemmas.{apart_test, begun, connected_done, connected_idle, connected_none, joined_test, mended, none_by, peer_within, stands_test}
 use Rattle.provider_edge.proofs.ProperLemmas.{proper_between}
-use Rattle.peer_dialogue.proofs.SpeakerLemmas.{agrees_before}
+use Rattle.peer_dialogue.proofs.SpeakerLemmas.{agrees_before, goes_both}
 use Rattle.provider_edge.proofs.WorkLemmas.{keeps_both}
+use Rattle.peer_dialogue.proofs.SettleLemmas.{map_on}
 use Rattle.provider_edge.proofs.edge.Edge.connected.Goals.{then-not-joined-via-then-not-joined, then-not-joined-via-else-not-joined+then-has_end}
 use Rattle.provider_edge.proofs.edge.Edge.connected.Goals as goal
 
@@ -19,7 +20,7 @@ pub returns-then-not-joined-clause-step : goal.returns-then-not-joined-clause-st
 returns-then-not-joined-clause-step g c = λ told agrees.
     let joined : c.joined.result ≡ are_joined c.args.self.now.plan c.args.self.now.me.0 c.args.peer.0 =
     c.joined.ensures ∙ (ap (λ (p : Plan). are_joined p c.self.inside.me.0 c.args.peer.0) c.deref.ensures ∙ ap (λ (e : EdgeLists). are_joined e.plan e.me.0 c.args.peer.0) c.self.view_is) in
-    subst (λ (e : Effects). worked c.args.self.now (g.L.Link.calls c.args.link.now) e ≡ connected_input c.args.self.now.plan told c.args.peer (beginning (seen c.args.self.now) (g.L.Link.calls c.args.link.now))) (sym c.idle.ensures)
+    subst (λ (e : Effects). worked c.args.self.now (g.L.Link.calls c.args.link.now) (record e { idle = true }) ≡ connected_input c.args.self.now.plan told c.args.peer (beginning (seen c.args.self.now) (g.L.Link.calls c.args.link.now))) (sym c.requires.fresh)
     (connected_idle c.args.self.now told c.args.peer (g.L.Link.calls c.args.link.now) (elim c.then-not-joined.branch [
       | then-not-joined-via-then-not-joined w ↦ apart_test (are_joined c.args.self.now.plan c.args.self.now.me.0 c.args.peer.0) (has_end (seen c.args.self.now) c.args.peer) (sym joined ∙ w.if-not-joined.true)
       | then-not-joined-via-else-not-joined+then-has_end w ↦ stands_test (are_joined c.args.self.now.plan c.args.self.now.me.0 c.args.peer.0) (has_end (seen c.args.self.now) c.args.peer) (sym w.has_end.ensures ∙ w.if-has_end.true)
@@ -29,7 +30,7 @@ pub returns-in_default-clause-step : goal.returns-in_default-clause-step
 returns-in_default-clause-step g c = λ told agrees.
     let joined : c.joined.result ≡ are_joined c.args.self.now.plan c.args.self.now.me.0 c.args.peer.0 =
     c.joined.ensures ∙ (ap (λ (p : Plan). are_joined p c.self.inside.me.0 c.args.peer.0) c.deref.ensures ∙ ap (λ (e : EdgeLists). are_joined e.plan e.me.0 c.args.peer.0) c.self.view_is) in
-    subst (λ (e : Effects). worked c.args.self.now (g.L.Link.calls c.args.link.now) e ≡ connected_input c.args.self.now.plan told c.args.peer (beginning (seen c.args.self.now) (g.L.Link.calls c.args.link.now))) (sym c.idle-in_default.ensures)
+    subst (λ (e : Effects). worked c.args.self.now (g.L.Link.calls c.args.link.now) (record e { idle = true }) ≡ connected_input c.args.self.now.plan told c.args.peer (beginning (seen c.args.self.now) (g.L.Link.calls c.args.link.now))) (sym c.requires.fresh)
     (connected_none c.args.self.now told c.args.peer c.peers_with.result (g.L.Link.calls c.args.link.now) (joined_test (are_joined c.args.self.now.plan c.args.self.now.me.0 c.args.peer.0) (has_end (seen c.args.self.now) c.args.peer) (sym joined ∙ c.if-not-joined.false) (sym c.has_end.ensures ∙ c.if-has_end.false)) c.peers_with.ensures c.in_default.is)
 
 pub forget_octets-requires-clause-within : goal.forget_octets-requires-clause-within
@@ -49,18 +50,24 @@ connect-requires-clause-proper g c =
     c.joined.ensures ∙ (ap (λ (p : Plan). are_joined p c.self.inside.me.0 c.args.peer.0) c.deref.ensures ∙ ap (λ (e : EdgeLists). are_joined e.plan e.me.0 c.args.peer.0) c.self.view_is) in
     proper_between c.args.self.now.plan c.args.self.now.me.0 c.args.peer.0 c.peers_with.result c.in-Some.peers (subst (λ (e : EdgeLists). IsChecked e.plan) c.self.view_is c.self.invariant.checked) (sym joined ∙ c.if-not-joined.false) c.peers_with.ensures c.in-Some.is
 
+pub returns-clause-calls : goal.returns-clause-calls
+returns-clause-calls g c = goes_both _ _ _ c.in_ok-connect.ensures.calls c.mend.ensures.calls
+
 pub returns-clause-step : goal.returns-clause-step
-returns-clause-step g c = λ told agrees.
+returns-clause-step g c = map_on _ _ c.mend.result
+    (λ step told agrees.
     let joined : c.joined.result ≡ are_joined c.args.self.now.plan c.args.self.now.me.0 c.args.peer.0 =
     c.joined.ensures ∙ (ap (λ (p : Plan). are_joined p c.self.inside.me.0 c.args.peer.0) c.deref.ensures ∙ ap (λ (e : EdgeLists). are_joined e.plan e.me.0 c.args.peer.0) c.self.view_is) in
     connected_done c.args.self.now told c.args.peer c.peers_with.result c.in-Some.peers (g.L.Link.calls c.args.link.now) _
     (joined_test (are_joined c.args.self.now.plan c.args.self.now.me.0 c.args.peer.0) (has_end (seen c.args.self.now) c.args.peer) (sym joined ∙ c.if-not-joined.false) (sym c.has_end.ensures ∙ c.if-has_end.false))
     c.peers_with.ensures c.in-Some.is
-    (mended c.args.self.now c.connect.new.self c.mend.new.self c.args.self.now.plan told (g.L.Link.calls c.args.link.now) (g.L.Link.calls c.connect.new.link) (g.L.Link.calls c.mend.new.link) c.connect.new.out c.mend.new.out
+    (mended c.args.self.now c.connect.new.self c.mend.new.self told (g.L.Link.calls c.connect.new.link) (g.L.Link.calls c.mend.new.link) c.connect.new.out c.mend.new.out c.args.effects.now.idle
     (connects told c.args.peer (connection_with c.in-Some.peers) (beginning (seen c.args.self.now) (g.L.Link.calls c.args.link.now)))
+    (ap (λ (e : Effects). e.idle) c.requires.fresh)
     (keeps_both c.args.self.now c.forget_octets.new.self c.connect.new.self c.forget_octets.ensures.keeps c.in_ok-connect.ensures.keeps)
-    (subst (λ l. at_edge (seen c.connect.new.self) (g.L.Link.calls c.connect.new.link) c.connect.new.out ≡ connects told c.args.peer (connection_with c.in-Some.peers) (at_edge (seen c.forget_octets.new.self) (g.L.Link.calls c.args.link.now) l)) c.new-list.ensures
-    (c.in_ok-connect.ensures.step told (agrees_before told _ _ c.in_ok-mend.ensures.calls agrees))
+    (subst (λ (e : Effects). at_edge (seen c.connect.new.self) (g.L.Link.calls c.connect.new.link) c.connect.new.out ≡ connects told c.args.peer (connection_with c.in-Some.peers) (at_edge (seen c.forget_octets.new.self) (g.L.Link.calls c.args.link.now) e.list)) c.requires.fresh
+    (c.in_ok-connect.ensures.step told (agrees_before told _ _ c.mend.ensures.calls agrees))
     ∙ (ap (λ (s : EdgeState). connects told c.args.peer (connection_with c.in-Some.peers) (at_edge s (g.L.Link.calls c.args.link.now) [])) c.forget_octets.ensures.step
     ∙ ap (connects told c.args.peer (connection_with c.in-Some.peers)) (begun (seen c.args.self.now) (g.L.Link.calls c.args.link.now))))
-    (c.in_ok-mend.ensures.step told agrees))
+    (step told agrees)))
+    c.mend.ensures.step

@@ -1,4 +1,4 @@
-use Rattle.std.proofs.Common.{◌≡◌, ◌∙◌, ap, sym, subst}
+use Rattle.std.proofs.Common.{◌≡◌, ◌∙◌, ap, sym, subst, true}
 use Rattle.net_base.specs.declared.trace.state_name.Reason.TheVariants as reason
 use Rattle.session_core.specs.Table.{Closed}
 use Rattle.edge_model.specs.declared.effects.Effects.{Effects}
@@ -8,19 +8,22 @@ use Rattle.edge_model.specs.Work.{beginning}
 use Rattle.provider_edge.specs.Lists.{seen, worked}
 use Rattle.peer_dialogue.specs.Peering.{at_edge}
 use Rattle.provider_edge.proofs.EdgeLemmas.{begun, lost_done, lost_idle, mended}
+use Rattle.peer_dialogue.proofs.SettleLemmas.{map_on}
 use Rattle.provider_edge.proofs.edge.Edge.lost.Goals as goal
 
 pub returns-then-not-has_end-clause-step : goal.returns-then-not-has_end-clause-step
 returns-then-not-has_end-clause-step g c = λ told agrees.
-    subst (λ (e : Effects). worked c.args.self.now (g.L.Link.calls c.args.link.now) e ≡ lost_input c.args.self.now.plan told c.args.peer (beginning (seen c.args.self.now) (g.L.Link.calls c.args.link.now))) (sym c.idle.ensures)
+    subst (λ (e : Effects). worked c.args.self.now (g.L.Link.calls c.args.link.now) (record e { idle = true }) ≡ lost_input c.args.self.now.plan told c.args.peer (beginning (seen c.args.self.now) (g.L.Link.calls c.args.link.now))) (sym c.requires.fresh)
     (lost_idle c.args.self.now told c.args.peer (g.L.Link.calls c.args.link.now) (sym c.has_end.ensures ∙ c.if-not-has_end.true))
 
 pub returns-clause-step : goal.returns-clause-step
-returns-clause-step g c = λ told agrees.
+returns-clause-step g c = map_on _ _ c.mend.result
+    (λ step told agrees.
     lost_done c.args.self.now told c.args.peer (g.L.Link.calls c.args.link.now) _ (sym c.has_end.ensures ∙ c.if-not-has_end.false)
-    (mended c.args.self.now c.lose.new.self c.mend.new.self c.args.self.now.plan told (g.L.Link.calls c.args.link.now) (g.L.Link.calls c.args.link.now) (g.L.Link.calls c.mend.new.link) c.lose.new.out c.mend.new.out
-    (happens_with_ends told c.args.peer (Closed reason.Closed) (beginning (seen c.args.self.now) (g.L.Link.calls c.args.link.now))) c.in_ok-lose.ensures.keeps
-    (subst (λ l. at_edge (seen c.lose.new.self) (g.L.Link.calls c.args.link.now) c.lose.new.out ≡ happens_with_ends told c.args.peer (Closed reason.Closed) (at_edge (seen c.args.self.now) (g.L.Link.calls c.args.link.now) l)) c.new-list.ensures
+    (mended c.args.self.now c.lose.new.self c.mend.new.self told (g.L.Link.calls c.args.link.now) (g.L.Link.calls c.mend.new.link) c.lose.new.out c.mend.new.out c.args.effects.now.idle
+    (happens_with_ends told c.args.peer (Closed reason.Closed) (beginning (seen c.args.self.now) (g.L.Link.calls c.args.link.now))) (ap (λ (e : Effects). e.idle) c.requires.fresh) c.in_ok-lose.ensures.keeps
+    (subst (λ (e : Effects). at_edge (seen c.lose.new.self) (g.L.Link.calls c.args.link.now) c.lose.new.out ≡ happens_with_ends told c.args.peer (Closed reason.Closed) (at_edge (seen c.args.self.now) (g.L.Link.calls c.args.link.now) e.list)) c.requires.fresh
     (c.in_ok-lose.ensures.step told (g.L.Link.calls c.args.link.now))
     ∙ ap (happens_with_ends told c.args.peer (Closed reason.Closed)) (begun (seen c.args.self.now) (g.L.Link.calls c.args.link.now)))
-    (c.in_ok-mend.ensures.step told agrees))
+    (step told agrees)))
+    c.mend.ensures.step

@@ -1,4 +1,4 @@
-use Rattle.std.proofs.Common.{◌≡◌, ◌∙◌, true, false, ap, sym, subst}
+use Rattle.std.proofs.Common.{◌≡◌, ◌∙◌, true, ap, sym, subst}
 use Rattle.net_base.specs.declared.plan.Plan.{Plan}
 use Rattle.edge_model.specs.Packet.{packet_input}
 use Rattle.edge_model.specs.Synced.{InSync}
@@ -8,6 +8,8 @@ use Rattle.provider_edge.specs.contracts.edge.Edge.{the_view}
 use Rattle.peer_dialogue.specs.Peering.{at_edge}
 use Rattle.edge_model.specs.Work.{beginning}
 use Rattle.provider_edge.proofs.EdgeLemmas.{begun, edge_control, given_out, synced_control, worked_edge}
+use Rattle.edge_model.specs.declared.effects.Effects.{Effects}
+use Rattle.peer_dialogue.proofs.SettleLemmas.{map_on}
 use Rattle.provider_edge.proofs.edge.Edge.packet.Goals as goal
 
 pub packet-requires : goal.packet-requires
@@ -17,10 +19,12 @@ pub invariant_of-self : goal.invariant_of-self
 invariant_of-self g c = edge_control (the_view c.self.inside) c.packet.new.self (subst (λ (n : EdgeLists). n.stopped ≡ true) (sym c.self.view_is) c.requires.working) c.packet.ensures.keeps c.self.invariant
 
 pub returns-clause-step : goal.returns-clause-step
-returns-clause-step g c = λ told agrees.
+returns-clause-step g c = map_on _ _ c.packet.result
+    (λ step told agrees.
     let v : EdgeLists = the_view c.self.inside in
-    subst (λ (n : EdgeLists). worked (record v { control = c.packet.new.self }) (g.L.Link.calls c.packet.new.link) (record { idle = false; list = c.packet.new.out }) ≡ packet_input n.plan told c.args.octets.now (beginning (seen n) (g.L.Link.calls c.args.link.now))) c.self.view_is
-    (given_out (record v { control = c.packet.new.self }) (g.L.Link.calls c.packet.new.link) c.packet.new.out
-    ∙ (worked_edge (packet_input v.plan told c.args.octets.now) v c.packet.new.self (g.L.Link.calls c.args.link.now) (g.L.Link.calls c.packet.new.link) c.new-list.result c.packet.new.out c.self.invariant c.in_ok-packet.ensures.keeps
-    (c.in_ok-packet.ensures.step told (rest_of v) agrees ∙ ap (λ (p : Plan). packet_input p told c.args.octets.now (at_control v.control (rest_of v) (g.L.Link.calls c.args.link.now) c.new-list.result)) c.self.invariant.plan)
-    ∙ ap (packet_input v.plan told c.args.octets.now) (ap (λ l. at_edge (seen v) (g.L.Link.calls c.args.link.now) l) c.new-list.ensures ∙ begun (seen v) (g.L.Link.calls c.args.link.now))))
+    subst (λ (n : EdgeLists). worked (record v { control = c.packet.new.self }) (g.L.Link.calls c.packet.new.link) (record { idle = c.args.effects.now.idle; list = c.packet.new.out }) ≡ packet_input n.plan told c.args.octets.now (beginning (seen n) (g.L.Link.calls c.args.link.now))) c.self.view_is
+    (given_out (record v { control = c.packet.new.self }) (g.L.Link.calls c.packet.new.link) c.packet.new.out c.args.effects.now.idle (ap (λ (e : Effects). e.idle) c.requires.fresh)
+    ∙ (worked_edge (packet_input v.plan told c.args.octets.now) v c.packet.new.self (g.L.Link.calls c.args.link.now) (g.L.Link.calls c.packet.new.link) c.args.effects.now.list c.packet.new.out c.self.invariant c.packet.ensures.keeps
+    (step told (rest_of v) agrees ∙ ap (λ (p : Plan). packet_input p told c.args.octets.now (at_control v.control (rest_of v) (g.L.Link.calls c.args.link.now) c.args.effects.now.list)) c.self.invariant.plan)
+    ∙ ap (packet_input v.plan told c.args.octets.now) (ap (λ (e : Effects). at_edge (seen v) (g.L.Link.calls c.args.link.now) e.list) c.requires.fresh ∙ begun (seen v) (g.L.Link.calls c.args.link.now)))))
+    c.packet.ensures.step

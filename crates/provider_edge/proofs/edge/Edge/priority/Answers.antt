@@ -1,4 +1,4 @@
-use Rattle.std.proofs.Common.{◌≡◌, ◌∙◌, ap, sym, subst}
+use Rattle.std.proofs.Common.{◌≡◌, ◌∙◌, ap, sym, subst, true}
 use Rattle.std.proofs.lemmas.Bool.{eq-eqb}
 use Rattle.edge_model.specs.declared.effects.Effects.{Effects}
 use Rattle.net_base.specs.plan.Places.{wire_row}
@@ -9,6 +9,7 @@ use Rattle.provider_edge.specs.Lists.{EdgeLists, rest_of, seen, worked}
 use Rattle.provider_edge.specs.contracts.edge.Edge.{the_view}
 use Rattle.peer_dialogue.specs.Peering.{at_edge}
 use Rattle.provider_edge.proofs.EdgeLemmas.{apart_eqb, priority_at, priority_seen, own_edge, mended, priority_already, priority_apart, priority_set}
+use Rattle.peer_dialogue.proofs.SettleLemmas.{map_on}
 use Rattle.provider_edge.proofs.edge.Edge.priority.Goals.{then-not-is_own_spoke-via-then-not-is_own_spoke, then-not-is_own_spoke-via-else-not-is_own_spoke+then-priority_of-priority}
 use Rattle.provider_edge.proofs.edge.Edge.priority.Goals as goal
 
@@ -17,7 +18,7 @@ returns-then-not-is_own_spoke-clause-step g c = λ told agrees.
     let v : EdgeLists = the_view c.self.inside in
     let here : c.is_own_spoke.result ≡ is_own_spoke c.args.self.now.me (wire_row c.args.self.now.plan c.args.wire) =
     c.is_own_spoke.ensures.own ∙ (own_edge v c.args.wire c.self.invariant ∙ ap (λ (e : EdgeLists). is_own_spoke e.me (wire_row e.plan c.args.wire)) c.self.view_is) in
-    subst (λ (e : Effects). worked c.args.self.now (g.L.Link.calls c.args.link.now) e ≡ priority_input c.args.self.now.plan told c.args.wire c.args.priority (beginning (seen c.args.self.now) (g.L.Link.calls c.args.link.now))) (sym c.idle.ensures)
+    subst (λ (e : Effects). worked c.args.self.now (g.L.Link.calls c.args.link.now) (record e { idle = true }) ≡ priority_input c.args.self.now.plan told c.args.wire c.args.priority (beginning (seen c.args.self.now) (g.L.Link.calls c.args.link.now))) (sym c.requires.fresh)
     (elim c.then-not-is_own_spoke.branch [
       | then-not-is_own_spoke-via-then-not-is_own_spoke w ↦ priority_apart c.args.self.now told c.args.wire c.args.priority (g.L.Link.calls c.args.link.now) (sym here ∙ w.if-not-is_own_spoke.true)
       | then-not-is_own_spoke-via-else-not-is_own_spoke+then-priority_of-priority w ↦ priority_already c.args.self.now told c.args.wire c.args.priority (g.L.Link.calls c.args.link.now)
@@ -25,14 +26,16 @@ returns-then-not-is_own_spoke-clause-step g c = λ told agrees.
     ])
 
 pub returns-clause-step : goal.returns-clause-step
-returns-clause-step g c = λ told agrees.
+returns-clause-step g c = map_on _ _ c.mend.result
+    (λ step told agrees.
     let v : EdgeLists = the_view c.self.inside in
     let here : c.is_own_spoke.result ≡ is_own_spoke c.args.self.now.me (wire_row c.args.self.now.plan c.args.wire) =
     c.is_own_spoke.ensures.own ∙ (own_edge v c.args.wire c.self.invariant ∙ ap (λ (e : EdgeLists). is_own_spoke e.me (wire_row e.plan c.args.wire)) c.self.view_is) in
     priority_set c.args.self.now told c.args.wire c.args.priority (g.L.Link.calls c.args.link.now) _ (sym here ∙ c.if-not-is_own_spoke.false)
     (apart_eqb c.args.priority ((seen c.args.self.now).priority c.args.wire.0) (λ same. c.if-priority_of-priority.false (c.priority_of.ensures (rest_of v) ∙ (priority_seen v c.args.wire.0 ∙ (ap (λ (e : EdgeLists). (seen e).priority c.args.wire.0) c.self.view_is ∙ sym same)))))
-    (mended c.args.self.now c.set_priority.new.self c.mend.new.self c.args.self.now.plan told (g.L.Link.calls c.args.link.now) (g.L.Link.calls c.args.link.now) (g.L.Link.calls c.mend.new.link) c.new-list.result c.mend.new.out
-    (changes (with_priority c.args.wire c.args.priority) (beginning (seen c.args.self.now) (g.L.Link.calls c.args.link.now))) c.set_priority.ensures.keeps
-    (subst (λ l. at_edge (seen c.set_priority.new.self) (g.L.Link.calls c.args.link.now) l ≡ changes (with_priority c.args.wire c.args.priority) (beginning (seen c.args.self.now) (g.L.Link.calls c.args.link.now))) (sym c.new-list.ensures)
+    (mended c.args.self.now c.set_priority.new.self c.mend.new.self told (g.L.Link.calls c.args.link.now) (g.L.Link.calls c.mend.new.link) c.args.effects.now.list c.mend.new.out c.args.effects.now.idle
+    (changes (with_priority c.args.wire c.args.priority) (beginning (seen c.args.self.now) (g.L.Link.calls c.args.link.now))) (ap (λ (e : Effects). e.idle) c.requires.fresh) c.set_priority.ensures.keeps
+    (subst (λ (e : Effects). at_edge (seen c.set_priority.new.self) (g.L.Link.calls c.args.link.now) e.list ≡ changes (with_priority c.args.wire c.args.priority) (beginning (seen c.args.self.now) (g.L.Link.calls c.args.link.now))) (sym c.requires.fresh)
     (priority_at c.args.self.now c.set_priority.new.self c.args.wire c.args.priority (g.L.Link.calls c.args.link.now) c.set_priority.ensures.step))
-    (c.in_ok-mend.ensures.step told agrees))
+    (step told agrees)))
+    c.mend.ensures.step

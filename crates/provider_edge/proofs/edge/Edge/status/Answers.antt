@@ -1,4 +1,4 @@
-use Rattle.std.proofs.Common.{◌≡◌, ◌∙◌, ap, sym, subst}
+use Rattle.std.proofs.Common.{◌≡◌, ◌∙◌, ap, sym, subst, true}
 use Rattle.std.proofs.lemmas.Bool.{eq-eqb}
 use Rattle.edge_model.specs.declared.effects.Effects.{Effects}
 use Rattle.edge_model.specs.EndPlaces.{ends_here}
@@ -9,6 +9,7 @@ use Rattle.provider_edge.specs.Lists.{EdgeLists, rest_of, seen, worked}
 use Rattle.provider_edge.specs.contracts.edge.Edge.{the_view}
 use Rattle.peer_dialogue.specs.Peering.{at_edge}
 use Rattle.provider_edge.proofs.EdgeLemmas.{apart_eqb, bits_at, bits_seen, ends_edge, mended, status_already, status_apart, status_set}
+use Rattle.peer_dialogue.proofs.SettleLemmas.{map_on}
 use Rattle.provider_edge.proofs.edge.Edge.status.Goals.{then-not-ends_here-via-then-not-ends_here, then-not-ends_here-via-else-not-ends_here+then-bits_of-bits}
 use Rattle.provider_edge.proofs.edge.Edge.status.Goals as goal
 
@@ -17,7 +18,7 @@ returns-then-not-ends_here-clause-step g c = λ told agrees.
     let v : EdgeLists = the_view c.self.inside in
     let here : c.ends_here.result ≡ ends_here c.args.self.now.plan c.args.self.now.me c.args.wire =
     c.ends_here.ensures.ends ∙ (ends_edge v c.args.wire c.self.invariant ∙ ap (λ (e : EdgeLists). ends_here e.plan e.me c.args.wire) c.self.view_is) in
-    subst (λ (e : Effects). worked c.args.self.now (g.L.Link.calls c.args.link.now) e ≡ status_input c.args.self.now.plan told c.args.wire c.args.bits (beginning (seen c.args.self.now) (g.L.Link.calls c.args.link.now))) (sym c.idle.ensures)
+    subst (λ (e : Effects). worked c.args.self.now (g.L.Link.calls c.args.link.now) (record e { idle = true }) ≡ status_input c.args.self.now.plan told c.args.wire c.args.bits (beginning (seen c.args.self.now) (g.L.Link.calls c.args.link.now))) (sym c.requires.fresh)
     (elim c.then-not-ends_here.branch [
       | then-not-ends_here-via-then-not-ends_here w ↦ status_apart c.args.self.now told c.args.wire c.args.bits (g.L.Link.calls c.args.link.now) (sym here ∙ w.if-not-ends_here.true)
       | then-not-ends_here-via-else-not-ends_here+then-bits_of-bits w ↦ status_already c.args.self.now told c.args.wire c.args.bits (g.L.Link.calls c.args.link.now)
@@ -25,14 +26,16 @@ returns-then-not-ends_here-clause-step g c = λ told agrees.
     ])
 
 pub returns-clause-step : goal.returns-clause-step
-returns-clause-step g c = λ told agrees.
+returns-clause-step g c = map_on _ _ c.mend.result
+    (λ step told agrees.
     let v : EdgeLists = the_view c.self.inside in
     let here : c.ends_here.result ≡ ends_here c.args.self.now.plan c.args.self.now.me c.args.wire =
     c.ends_here.ensures.ends ∙ (ends_edge v c.args.wire c.self.invariant ∙ ap (λ (e : EdgeLists). ends_here e.plan e.me c.args.wire) c.self.view_is) in
     status_set c.args.self.now told c.args.wire c.args.bits (g.L.Link.calls c.args.link.now) _ (sym here ∙ c.if-not-ends_here.false)
     (apart_eqb c.args.bits ((seen c.args.self.now).bits c.args.wire.0) (λ same. c.if-bits_of-bits.false (c.bits_of.ensures.bits (rest_of v) ∙ (bits_seen v c.args.wire.0 ∙ (ap (λ (e : EdgeLists). (seen e).bits c.args.wire.0) c.self.view_is ∙ sym same)))))
-    (mended c.args.self.now c.set_bits.new.self c.mend.new.self c.args.self.now.plan told (g.L.Link.calls c.args.link.now) (g.L.Link.calls c.args.link.now) (g.L.Link.calls c.mend.new.link) c.new-list.result c.mend.new.out
-    (changes (with_bits c.args.wire c.args.bits) (beginning (seen c.args.self.now) (g.L.Link.calls c.args.link.now))) c.set_bits.ensures.keeps
-    (subst (λ l. at_edge (seen c.set_bits.new.self) (g.L.Link.calls c.args.link.now) l ≡ changes (with_bits c.args.wire c.args.bits) (beginning (seen c.args.self.now) (g.L.Link.calls c.args.link.now))) (sym c.new-list.ensures)
+    (mended c.args.self.now c.set_bits.new.self c.mend.new.self told (g.L.Link.calls c.args.link.now) (g.L.Link.calls c.mend.new.link) c.args.effects.now.list c.mend.new.out c.args.effects.now.idle
+    (changes (with_bits c.args.wire c.args.bits) (beginning (seen c.args.self.now) (g.L.Link.calls c.args.link.now))) (ap (λ (e : Effects). e.idle) c.requires.fresh) c.set_bits.ensures.keeps
+    (subst (λ (e : Effects). at_edge (seen c.set_bits.new.self) (g.L.Link.calls c.args.link.now) e.list ≡ changes (with_bits c.args.wire c.args.bits) (beginning (seen c.args.self.now) (g.L.Link.calls c.args.link.now))) (sym c.requires.fresh)
     (bits_at c.args.self.now c.set_bits.new.self c.args.wire c.args.bits (g.L.Link.calls c.args.link.now) c.set_bits.ensures.step))
-    (c.in_ok-mend.ensures.step told agrees))
+    (step told agrees)))
+    c.mend.ensures.step

@@ -1,4 +1,4 @@
-use Rattle.std.proofs.Common.{◌≡◌, ◌∙◌, Bool, ap, sym, subst}
+use Rattle.std.proofs.Common.{◌≡◌, ◌∙◌, Bool, ap, sym, subst, true}
 use Rattle.std.proofs.Math.Bool.{beq}
 use Rattle.edge_model.specs.declared.effects.Effects.{Effects}
 use Rattle.edge_model.specs.EndPlaces.{passes}
@@ -8,6 +8,7 @@ use Rattle.provider_edge.specs.Lists.{EdgeLists, rest_of, seen, worked}
 use Rattle.provider_edge.specs.contracts.edge.Edge.{the_view}
 use Rattle.peer_dialogue.specs.Peering.{at_edge}
 use Rattle.provider_edge.proofs.EdgeLemmas.{mended, passes_edge, turned_at, wire_already, wire_apart, wire_seen, wire_turned}
+use Rattle.peer_dialogue.proofs.SettleLemmas.{map_on}
 use Rattle.provider_edge.proofs.edge.Edge.wire.Goals.{then-not-passes-via-then-not-passes, then-not-passes-via-else-not-passes+then-is_on-on}
 use Rattle.provider_edge.proofs.edge.Edge.wire.Goals as goal
 
@@ -16,7 +17,7 @@ returns-then-not-passes-clause-step g c = λ told agrees.
     let v : EdgeLists = the_view c.self.inside in
     let through : c.passes.result ≡ passes c.args.self.now.plan c.args.self.now.me c.args.wire =
     c.passes.ensures.passes ∙ (passes_edge v c.args.wire c.self.invariant ∙ ap (λ (e : EdgeLists). passes e.plan e.me c.args.wire) c.self.view_is) in
-    subst (λ (e : Effects). worked c.args.self.now (g.L.Link.calls c.args.link.now) e ≡ wire_input c.args.self.now.plan told c.args.wire c.args.on (beginning (seen c.args.self.now) (g.L.Link.calls c.args.link.now))) (sym c.idle.ensures)
+    subst (λ (e : Effects). worked c.args.self.now (g.L.Link.calls c.args.link.now) (record e { idle = true }) ≡ wire_input c.args.self.now.plan told c.args.wire c.args.on (beginning (seen c.args.self.now) (g.L.Link.calls c.args.link.now))) (sym c.requires.fresh)
     (elim c.then-not-passes.branch [
       | then-not-passes-via-then-not-passes w ↦ wire_apart c.args.self.now told c.args.wire c.args.on (g.L.Link.calls c.args.link.now) (sym through ∙ w.if-not-passes.true)
       | then-not-passes-via-else-not-passes+then-is_on-on w ↦ wire_already c.args.self.now told c.args.wire c.args.on (g.L.Link.calls c.args.link.now)
@@ -24,14 +25,16 @@ returns-then-not-passes-clause-step g c = λ told agrees.
     ])
 
 pub returns-clause-step : goal.returns-clause-step
-returns-clause-step g c = λ told agrees.
+returns-clause-step g c = map_on _ _ c.mend.result
+    (λ step told agrees.
     let v : EdgeLists = the_view c.self.inside in
     let through : c.passes.result ≡ passes c.args.self.now.plan c.args.self.now.me c.args.wire =
     c.passes.ensures.passes ∙ (passes_edge v c.args.wire c.self.invariant ∙ ap (λ (e : EdgeLists). passes e.plan e.me c.args.wire) c.self.view_is) in
     wire_turned c.args.self.now told c.args.wire c.args.on (g.L.Link.calls c.args.link.now) _ (sym through ∙ c.if-not-passes.false)
     (ap (λ (b : Bool). beq b c.args.on) (sym (c.is_on.ensures (rest_of v) ∙ (wire_seen v c.args.wire.0 ∙ ap (λ (e : EdgeLists). (seen e).wire_on c.args.wire.0) c.self.view_is))) ∙ c.if-is_on-on.false)
-    (mended c.args.self.now c.turn_wire.new.self c.mend.new.self c.args.self.now.plan told (g.L.Link.calls c.args.link.now) (g.L.Link.calls c.args.link.now) (g.L.Link.calls c.mend.new.link) c.new-list.result c.mend.new.out
-    (changes (turned_wire c.args.wire c.args.on) (beginning (seen c.args.self.now) (g.L.Link.calls c.args.link.now))) c.turn_wire.ensures.keeps
-    (subst (λ l. at_edge (seen c.turn_wire.new.self) (g.L.Link.calls c.args.link.now) l ≡ changes (turned_wire c.args.wire c.args.on) (beginning (seen c.args.self.now) (g.L.Link.calls c.args.link.now))) (sym c.new-list.ensures)
+    (mended c.args.self.now c.turn_wire.new.self c.mend.new.self told (g.L.Link.calls c.args.link.now) (g.L.Link.calls c.mend.new.link) c.args.effects.now.list c.mend.new.out c.args.effects.now.idle
+    (changes (turned_wire c.args.wire c.args.on) (beginning (seen c.args.self.now) (g.L.Link.calls c.args.link.now))) (ap (λ (e : Effects). e.idle) c.requires.fresh) c.turn_wire.ensures.keeps
+    (subst (λ (e : Effects). at_edge (seen c.turn_wire.new.self) (g.L.Link.calls c.args.link.now) e.list ≡ changes (turned_wire c.args.wire c.args.on) (beginning (seen c.args.self.now) (g.L.Link.calls c.args.link.now))) (sym c.requires.fresh)
     (turned_at c.args.self.now c.turn_wire.new.self c.args.wire c.args.on (g.L.Link.calls c.args.link.now) c.turn_wire.ensures.step))
-    (c.in_ok-mend.ensures.step told agrees))
+    (step told agrees)))
+    c.mend.ensures.step
