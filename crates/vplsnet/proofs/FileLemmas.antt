@@ -1,9 +1,11 @@
 -- Reading and writing in pieces.
-use Rattle.std.proofs.Common.{◌≡◌, ◌≢◌, ◌≤◌, ◌<◌, ◌+◌, ◌-◌, ◌++◌, ℕ, List, [], ◌∷◌, Option, Some, None, IfSome, length, take, drop, refl, sym, ap, ◌∙◌, subst, arith, append_assoc, length-append, length-take, length-drop}
+use Rattle.std.proofs.Common.{◌≡◌, ◌≢◌, ◌≤◌, ◌<◌, ◌+◌, ◌-◌, ◌++◌, ℕ, List, [], ◌∷◌, Option, Some, None, Result, Ok, Err, IfSome, IfOk, IfErr, OnOk, IsErrOf, length, take, drop, refl, sym, ap, ◌∙◌, subst, arith, append_assoc, length-append, length-take, length-drop}
 use Rattle.std.proofs.Math.Seq.{take-add}
 use Rattle.std.proofs.lemmas.List.{take_all, take-append-le}
 use Rattle.net_base.specs.outside.Outside.{Appends, ReadsFrom}
-use Rattle.vplsnet.specs.Files.{IsFrontOf, Writes}
+use Rattle.vplsnet.specs.declared.files.ReadStop.{ReadStop}
+use Rattle.vplsnet.specs.declared.files.ReadStop.TheVariants.{TooLong}
+use Rattle.vplsnet.specs.Files.{IsFrontOf, IsLonger, Writes}
 
 -- what was taken goes on, piece by piece
 pub appends_more : (old between new : Option (List ℕ)) (first second both : List ℕ) → first ++ second ≡ both → Appends old between first → Appends between new second → Appends old new both
@@ -83,3 +85,43 @@ read_beyond None name octets limit so_far len = tt
 read_beyond (Some held) name octets limit so_far len =
     let (bytes, is) = so_far.some held refl (omega arith) in
     record { bytes = bytes; held = is; front = (so_far.front held refl bytes is).1 ∙ ap (λ (k : ℕ). take k bytes) len }
+
+-- where all that was read is within the limit, it is the whole file; where it is not, the file is longer
+front_whole : (file : Option (List ℕ)) (octets : List ℕ) (limit : ℕ) → IsFrontOf limit file octets → length octets ≤ limit → file ≡ Some octets
+front_whole file octets limit front fits =
+    let len : length octets ≡ length (take (limit + 1) front.bytes) = ap length front.front in
+    let whole : take (limit + 1) front.bytes ≡ front.bytes = take_all _ _ (omega (arith, len, length-take (limit + 1) front.bytes, fits)) in
+    front.held ∙ ap Some (sym (front.front ∙ whole))
+
+front_longer : (file : Option (List ℕ)) (octets : List ℕ) (limit : ℕ) → IsFrontOf limit file octets → limit < length octets → IsLonger limit file
+front_longer file octets limit front long = record {
+  bytes = front.bytes;
+  held = front.held;
+  longer = omega (arith, ap length front.front, length-take (limit + 1) front.bytes, long);
+}
+
+pub short_whole : (files : Option Held) (name octets : List ℕ) (limit : ℕ) (result : Result (List ℕ) ReadStop) → IfSome files (λ held. IsFrontOf limit (held name) octets)
+    → IfOk result (λ same. (same ≡ octets) × (length octets ≤ limit)) → IfSome files (λ held. IfOk result (λ all. held name ≡ Some all))
+short_whole None name octets limit result front fits = tt
+short_whole (Some held) name octets limit (Ok same) front fits = front_whole (held name) octets limit front fits.1 ∙ ap Some (sym fits.0)
+short_whole (Some held) name octets limit (Err stop) front fits = tt
+
+pub too_long : (files : Option Held) (name octets : List ℕ) (limit : ℕ) (result : Result (List ℕ) ReadStop) → IfSome files (λ held. IsFrontOf limit (held name) octets)
+    → IfErr result (λ stop. (stop ≡ TooLong) × (limit < length octets)) → IfSome files (λ held. IsErrOf result TooLong → IsLonger limit (held name))
+too_long None name octets limit result front long = tt
+too_long (Some held) name octets limit (Ok same) front long = λ is. absurd (cc (is))
+too_long (Some held) name octets limit (Err stop) front long = λ is. front_longer (held name) octets limit front long.1
+
+pub short_longer : (files : Option Held) (name octets : List ℕ) (limit : ℕ) (result : Result (List ℕ) ReadStop) → IfSome files (λ held. IsFrontOf limit (held name) octets)
+    → IfOk result (λ same. (same ≡ octets) × (length octets ≤ limit)) → IfSome files (λ held. IsLonger limit (held name) → OnOk result ⊥)
+short_longer None name octets limit result front fits = tt
+short_longer (Some held) name octets limit (Ok same) front fits = λ longer.
+    let both : Some octets ≡ Some longer.bytes = sym (front_whole (held name) octets limit front fits.1) ∙ longer.held in
+    let is : octets ≡ longer.bytes = cc (both) in
+    omega (arith, ap length is, longer.longer, fits.1)
+short_longer (Some held) name octets limit (Err stop) front fits = λ longer. tt
+
+-- where nothing was read, nothing is asked
+pub none_longer : (files : Option Held) (name : List ℕ) (limit : ℕ) → IfSome files (λ held. IsLonger limit (held name) → Unit {0})
+none_longer None name limit = tt
+none_longer (Some held) name limit = λ longer. tt

@@ -1,5 +1,6 @@
 pub mod SeenLemmas
 pub mod AnswerLemmas
+pub mod FaultLemmas
 pub mod FileLemmas
 pub mod MadeLemmas
 pub mod OnceLemmas

@@ -104,6 +104,14 @@ pub delivery_err_at : (plan : Plan) (n : NetLists) (stop : NetStop) (s : Network
     → Halts stop n (ran plan s t (event ∷ [])) → Halts stop n (ran plan s t (deliveries plan (count - i) s))
 delivery_err_at plan n stop s t count i event below found h = turn_err_at plan (next_delivery plan) n stop s t count i event below found h
 
+-- a further one was done, by a network that keeps the plan
+pub delivery_done : (plan : Plan) (old new : NetLists) (count i : ℕ) (event : Event) → old.plan ≡ plan → i < count → Some event ≡ next_delivery old.plan (seen old)
+    → ended new None ≡ ran old.plan (seen old) old.trace (event ∷ [])
+    → ran plan (seen new) new.trace (deliveries plan (count - (i + 1)) (seen new)) ≡ ran plan (seen old) old.trace (deliveries plan (count - i) (seen old))
+delivery_done plan old new count i event kept below next done =
+    subst (λ (p : Plan). ran p (seen new) new.trace (deliveries p (count - (i + 1)) (seen new)) ≡ ran p (seen old) old.trace (deliveries p (count - i) (seen old))) kept
+    (delivery_on_at old.plan new (seen old) old.trace count i event below (sym next) done)
+
 pub ruleset delivery_steps = (delivery_on_at, delivery_err_at, deliveries_end, deliveries_none)
 
 -- ---- arrivals
@@ -121,5 +129,13 @@ arrival_on_at plan n s t count i event below found h = turn_on_at plan next_arri
 pub arrival_err_at : (plan : Plan) (n : NetLists) (stop : NetStop) (s : NetworkState) (t : List Entry) (count i : ℕ) (event : Event) → i < count → next_arrival s ≡ Some event
     → Halts stop n (ran plan s t (event ∷ [])) → Halts stop n (ran plan s t (arrivals plan (count - i) s))
 arrival_err_at plan n stop s t count i event below found h = turn_err_at plan next_arrival n stop s t count i event below found h
+
+-- a further one was done, by a network that keeps the plan
+pub arrival_done : (plan : Plan) (old new : NetLists) (count i : ℕ) (event : Event) → old.plan ≡ plan → i < count → Some event ≡ next_arrival (seen old)
+    → ended new None ≡ ran old.plan (seen old) old.trace (event ∷ [])
+    → ran plan (seen new) new.trace (arrivals plan (count - (i + 1)) (seen new)) ≡ ran plan (seen old) old.trace (arrivals plan (count - i) (seen old))
+arrival_done plan old new count i event kept below next done =
+    subst (λ (p : Plan). ran p (seen new) new.trace (arrivals p (count - (i + 1)) (seen new)) ≡ ran p (seen old) old.trace (arrivals p (count - i) (seen old))) kept
+    (arrival_on_at old.plan new (seen old) old.trace count i event below (sym next) done)
 
 pub ruleset arrival_steps = (arrival_on_at, arrival_err_at, arrivals_end, arrivals_none)

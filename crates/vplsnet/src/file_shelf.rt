@@ -100,10 +100,28 @@ impl<R: Files> FileShelf<R> {
         if let Some(place) = place_of(self.opened.as_slice(), name) {
             return self.opened[place].read_from(from, buf);
         }
-        let mut file = open_file(self.alloc, &self.files, name)?;
-        let count = file.read_from(from, buf)?;
-        self.opened.push(file)?;
-        Ok(count)
+        match open_file(self.alloc, &self.files, name) {
+            Ok(file) => read_first(&mut self.opened, file, from, buf),
+            Err(error) => Err(error),
+        }
+    }
+}
+
+// Reads once from the place on, of a file that was opened just now, and keeps it open.
+fn read_first<F: Read + Seek + Drop>(
+    opened: &mut Vec<Opened<F>>,
+    mut file: Opened<F>,
+    from: u64,
+    buf: &mut [u8],
+) -> io::Result<usize>
+    ensures { IfOk result (λ count. count ≤ length buf.new) }
+{
+    match file.read_from(from, buf) {
+        Ok(count) => {
+            opened.push(file)?;
+            Ok(count)
+        }
+        Err(error) => Err(error),
     }
 }
 

@@ -1,19 +1,20 @@
 //! The command `replay`: the report of a scenario's run.
-ghost use Rattle.std.specs.Prelude.{◌≡◌, ◌≢◌, true, All, IfOk, MatchResult, Some};
+ghost use Rattle.std.specs.Prelude.{◌≡◌, [], All, IfOk, Some};
 ghost use Rattle.net_base.specs.plan.Accepted.{IsChecked};
+ghost use Rattle.network_model.specs.State.{empty_network};
+ghost use Rattle.psn_net.specs.Lists.{seen};
 ghost use Rattle.psn_net.specs.Runs.{ended};
 ghost use Rattle.report_text.specs.Report.{report};
 ghost use Rattle.command_text.specs.Planned.{IsPlanned};
-ghost use Rattle.vplsnet.specs.Built.{is_built};
-ghost use Rattle.vplsnet.specs.Replay.{HasRunAs, Replays, ending_by, outcome_by};
+ghost use Rattle.vplsnet.specs.Replay.{HasRunAs, Replays, ending_by, outcome_by, whole_run};
 
 use crate::answer::Answer;
 use crate::built::is_built_scenario;
 use crate::outcome::Outcome;
-use crate::scenario_run::run_of;
+use crate::scenario_run::run_over;
 use crate::types::see_types;
-use net_base::{NoMemory, Octets};
-use psn_net::NetStop;
+use net_base::NoMemory;
+use psn_net::{NetStop, Network};
 use report_text::{Ending, report_of};
 use scenario_text::{Scenario, ScenarioFault, read_scenario};
 use std::alloc::Global;
@@ -22,10 +23,10 @@ use std::alloc::Global;
 /// where the scenario has something that is not built yet, then `Stopped` where a limit stops its run. The one error is
 /// want of memory.
 #[tactic(auto, using(crate::proofs::ReplayLemmas::replays))]
-pub fn replay(alloc: Global, octets: Octets) -> Result<Answer, NoMemory>
-    ensures { IfOk result (λ answer. Replays octets answer.text.items answer.network answer.outcome) }
+pub fn replay(alloc: Global, octets: &[u8]) -> Result<Answer, NoMemory>
+    ensures { IfOk result (λ answer. Replays octets.now answer.text.items answer.network answer.outcome) }
 {
-    match read_scenario(alloc, octets.as_slice()) {
+    match read_scenario(alloc, octets) {
         Ok(scenario) => {
             if is_built_scenario(&scenario) {
                 replay_built(alloc, &scenario)
@@ -33,7 +34,8 @@ pub fn replay(alloc: Global, octets: Octets) -> Result<Answer, NoMemory>
                 Ok(Answer::refusal(alloc, Outcome::NotBuilt))
             }
         }
-        Err(fault) => Ok(Answer::refusal(alloc, refused(fault)?)),
+        Err(ScenarioFault::NoMemory) => Err(NoMemory),
+        Err(fault) => Ok(Answer::refusal(alloc, Outcome::ScenarioRefused(fault))),
     }
 }
 
@@ -44,18 +46,37 @@ fn replay_built(alloc: Global, scenario: &Scenario) -> Result<Answer, NoMemory>
     ensures { IfOk result (λ answer. HasRunAs scenario.now answer.text.items answer.network answer.outcome) }
 {
     see_types(&scenario.plan);
-    let (network, stop) = run_of(alloc, scenario)?;
-    let text = report_of(
-        alloc,
-        &scenario.plan,
-        network.trace().as_slice(),
-        ending_of(stop),
-    )?;
-    Ok(Answer {
-        text,
-        network: Some(network),
-        outcome: outcome_of(stop),
-    })
+    let mut network = Network::open(alloc, &scenario.plan)?;
+    match run_and_report(alloc, scenario, &mut network) {
+        Ok((text, stop)) => Ok(Answer {
+            text,
+            network: Some(network),
+            outcome: outcome_of(stop),
+        }),
+        Err(fault) => Err(fault),
+    }
+}
+
+// Runs a scenario over the network of its plan, and answers the report and the limit that stopped the run, where one did.
+fn run_and_report(
+    alloc: Global,
+    scenario: &Scenario,
+    network: &mut Network,
+) -> Result<(Vec<u8>, Option<NetStop>), NoMemory>
+    requires plan { network.old.plan ≡ scenario.now.plan }
+    requires state { seen network.old ≡ empty_network scenario.now.plan }
+    requires trace { network.old.trace ≡ [] }
+    requires checked { IsChecked scenario.now.plan }
+    requires planned { All (IsPlanned scenario.now.plan) scenario.now.commands }
+    ensures ends { IfOk result (λ made. ended network.new made.1 ≡ whole_run scenario.now) }
+    ensures text { IfOk result (λ made. made.0.items ≡ report scenario.now.plan network.new.trace (ending_by made.1)) }
+{
+    let stop = run_over(alloc, network, scenario)?;
+    let trace = network.trace().as_slice();
+    match report_of(alloc, &scenario.plan, trace, ending_of(stop)) {
+        Ok(text) => Ok((text, stop)),
+        Err(fault) => Err(fault),
+    }
 }
 
 // How the report ends of a run that this limit stopped, or none.
@@ -76,15 +97,5 @@ fn outcome_of(stop: Option<NetStop>) -> Outcome
     match stop {
         None => Outcome::Done,
         Some(stop) => Outcome::Stopped(stop),
-    }
-}
-
-// The outcome of a scenario with this fault, which is told as it is; want of memory is no fault of the scenario.
-fn refused(fault: ScenarioFault) -> Result<Outcome, NoMemory>
-    ensures { MatchResult result (λ outcome. (outcome ≡ Outcome.ScenarioRefused fault) × (fault ≢ ScenarioFault.NoMemory)) (λ _. fault ≡ ScenarioFault.NoMemory) }
-{
-    match fault {
-        ScenarioFault::NoMemory => Err(NoMemory),
-        fault => Ok(Outcome::ScenarioRefused(fault)),
     }
 }

@@ -112,7 +112,7 @@ fn answer_of(alloc: Global, request: Request<'_>, octets: Octets) -> Result<Answ
     ensures { IfOk result (λ answer. Makes (asked_by request.entry) octets answer.text.items answer.network answer.outcome) }
 {
     match request {
-        Request::Replay { .. } => replay(alloc, octets),
-        Request::Decode { .. } => decode(alloc, octets),
+        Request::Replay { .. } => replay(alloc, octets.as_slice()),
+        Request::Decode { .. } => decode(alloc, octets.as_slice()),
     }
 }

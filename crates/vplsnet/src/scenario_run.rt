@@ -1,7 +1,7 @@
 //! The run of a scenario: each command makes its events, and the network does them in turn.
 ghost use Rattle.std.specs.Prelude.{◌≡◌, ◌∷◌, [], All, IfOk};
-ghost use Rattle.net_base.specs.plan.Accepted.{IsChecked};
 ghost use Rattle.net_base.specs.plan.Planned.{IsEventOf};
+ghost use Rattle.network_model.specs.State.{empty_network};
 ghost use Rattle.psn_net.specs.Lists.{seen};
 ghost use Rattle.psn_net.specs.Runs.{Gives, ended, ran};
 ghost use Rattle.command_text.specs.Planned.{IsPlanned};
@@ -13,18 +13,23 @@ use psn_net::{NetStop, Network};
 use scenario_text::{Command, Scenario};
 use std::alloc::Global;
 
-/// The network as the run of a scenario leaves it, and the limit that stopped the run, where one did. The one error is want
-/// of memory.
-pub fn run_of(alloc: Global, scenario: &Scenario) -> Result<(Network, Option<NetStop>), NoMemory>
-    requires checked { IsChecked scenario.now.plan }
+/// Does the events of a scenario over the network of its plan, which is as it was opened. The answer is the limit that
+/// stopped the run, where one did. The one error is want of memory.
+pub fn run_over(
+    alloc: Global,
+    network: &mut Network,
+    scenario: &Scenario,
+) -> Result<Option<NetStop>, NoMemory>
+    requires plan { network.old.plan ≡ scenario.now.plan }
+    requires state { seen network.old ≡ empty_network scenario.now.plan }
+    requires trace { network.old.trace ≡ [] }
     requires planned { All (IsPlanned scenario.now.plan) scenario.now.commands }
-    ensures { IfOk result (λ left. ended left.0 left.1 ≡ whole_run scenario.now) }
+    ensures { IfOk result (λ stop. ended network.new stop ≡ whole_run scenario.now) }
 {
-    let mut network = Network::open(alloc, &scenario.plan)?;
-    match run_commands(alloc, &mut network, scenario.commands.as_slice()) {
-        Ok(()) => Ok((network, None)),
+    match run_commands(alloc, network, scenario.commands.as_slice()) {
+        Ok(()) => Ok(None),
         Err(NetStop::NoMemory) => Err(NoMemory),
-        Err(stop) => Ok((network, Some(stop))),
+        Err(stop) => Ok(Some(stop)),
     }
 }
 

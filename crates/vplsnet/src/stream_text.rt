@@ -1,10 +1,13 @@
 //! The text of a stream: it is fed in pieces, and PDUs are taken as soon as they are whole.
-ghost use Rattle.std.specs.Prelude.{◌≡◌, ◌==◌, ◌<◌, ◌≤◌, ◌-◌, ◌^◌, [], drop, length, min, take, if◌then◌else◌, IfErr, IfOk, OnOk};
+ghost use Rattle.std.specs.Prelude.{◌≡◌, ◌==◌, ◌<◌, ◌≤◌, ◌-◌, ◌^◌, ◌++◌, [], true, drop, length, min, take, if◌then◌else◌, IfErr, IfOk, OnOk};
 ghost use Rattle.ldp_stream.specs.Front.{IsPending};
+ghost use Rattle.ldp_stream.specs.State.{empty};
+ghost use Rattle.message_text.specs.Line.{decoded_lines};
 ghost use Rattle.vplsnet.specs.StreamSteps.{EndsWith, GoesOn, IsGoing, IsStopped, LeavesSome, StopsIn, TakesOne};
 ghost use Rattle.vplsnet.specs.StreamText.{largest_pdu};
 
 use crate::outcome::Outcome;
+use ldp_grammar::Pdu;
 use ldp_stream::{Stream, StreamFault};
 use message_text::put_messages;
 use net_base::NoMemory;
@@ -28,12 +31,20 @@ fn take_pdu(
 {
     let base = fed - stream.held() as u64;
     match stream.next(alloc) {
-        Ok(Some(pdu)) => {
-            put_messages(text, base, pdu.messages.as_slice())?;
-            Ok(true)
-        }
+        Ok(Some(pdu)) => put_pdu(base, pdu, text),
         Ok(None) => Ok(false),
         Err(fault) => Err(fault),
+    }
+}
+
+// Adds the lines of the messages of a PDU, and owns it.
+fn put_pdu(base: u64, pdu: Pdu, text: &mut Vec<u8>) -> Result<bool, StreamFault>
+    ensures lines { IfOk result (λ more. (more ≡ true) × (text.new.items ≡ text.old.items ++ decoded_lines base pdu.messages)) }
+    ensures stopped { IfErr result (λ fault. fault ≡ StreamFault.NoMemory) }
+{
+    match put_messages(text, base, pdu.messages.as_slice()) {
+        Ok(()) => Ok(true),
+        Err(NoMemory) => Err(StreamFault::NoMemory),
     }
 }
 
@@ -75,11 +86,29 @@ fn put_stream(alloc: Global, octets: &[u8], text: &mut Vec<u8>) -> Result<usize,
     ensures left { IfOk result (LeavesSome octets.now text.new.items) }
     ensures stopped { IfErr result (λ fault. StopsIn fault octets.now text.new.items) }
 {
-    let mut stream = Stream::new(alloc)?;
+    match Stream::new(alloc) {
+        Ok(mut stream) => feed_stream(alloc, octets, &mut stream, text),
+        Err(NoMemory) => Err(StreamFault::NoMemory),
+    }
+}
+
+// Feeds the octets to a stream, and adds the lines of their messages to an empty text.
+fn feed_stream(
+    alloc: Global,
+    octets: &[u8],
+    stream: &mut Stream,
+    text: &mut Vec<u8>,
+) -> Result<usize, StreamFault>
+    requires few { length octets.now < 2 ^ 62 }
+    requires none { stream.old ≡ empty }
+    requires empty { text.old.items ≡ [] }
+    ensures left { IfOk result (LeavesSome octets.now text.new.items) }
+    ensures stopped { IfErr result (λ fault. StopsIn fault octets.now text.new.items) }
+{
     let mut at = 0;
     'feeding: while at < octets.len() {
         at += stream.feed(piece_at(octets, at));
-        match take_pdus(alloc, &mut stream, at as u64, text) {
+        match take_pdus(alloc, stream, at as u64, text) {
             Ok(()) => {}
             Err(fault) => return Err(fault),
         }

@@ -1,6 +1,6 @@
 use Rattle.std.proofs.Common.{arith}
 use Rattle.vplsnet.proofs.StreamLemmas.{fed_all, fed_on, fed_stopped}
-use Rattle.vplsnet.proofs.stream_text.put_stream.Goals as goal
+use Rattle.vplsnet.proofs.stream_text.feed_stream.Goals as goal
 
 pub feeding-preserved : goal.feeding-preserved
 feeding-preserved c = fed_on _ _ _ _ _ _ _ _ _ c.feeding.invariant

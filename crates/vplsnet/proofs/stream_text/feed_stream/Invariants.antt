@@ -1,6 +1,6 @@
 use Rattle.std.proofs.Common.{length, ◌-◌}
 use Rattle.vplsnet.specs.StreamSteps.{IsFedTo}
-use Rattle.vplsnet.proofs.stream_text.put_stream.Given as goal
+use Rattle.vplsnet.proofs.stream_text.feed_stream.Given as goal
 
 abbrev pub invariant-feeding : goal.invariant-feeding
 invariant-feeding l = IsFedTo l.octets l.at l.stream l.text.items
