@@ -78,7 +78,6 @@ impl Edge {
     }
 
     /// The same over a plan that other edges hold too.
-    #[tactic(auto, using(crate::proofs::KeptLemmas::edge_new, crate::proofs::KeptLemmas::seen_new))]
     pub fn share(alloc: Global, plan: Rc<Plan>, me: EdgeId) -> Result<Edge, NoMemory>
         requires checked { IsChecked plan.value }
         requires me { me.0 < length plan.value.edges }
@@ -107,7 +106,6 @@ impl Edge {
     /// Pings do not apply yet. The bits of a `Status` are at most 31.
     ///
     /// `NoMemory` where memory was refused; from then on the edge is given up, and answers `Stopped` to every input.
-    #[tactic(auto, using(crate::proofs::EffectLemmas::steps_fit, crate::proofs::EffectLemmas::steps_tell, crate::proofs::StayLemmas::steps_local, crate::proofs::EffectLemmas::steps_synced, crate::proofs::EffectLemmas::goes_nowhere, crate::proofs::EdgeLemmas::edge_stopped, crate::proofs::EdgeLemmas::edge_going, crate::proofs::EdgeLemmas::seen_stopped))]
     pub fn take<L: Link>(
         &mut self,
         alloc: Global,
@@ -316,7 +314,6 @@ impl Edge {
 }
 
 // Nothing is held of any of so many neighbours.
-#[tactic(auto, using(edge_forwarding::proofs::EachLemmas::one_more))]
 fn none_held(alloc: Global, count: usize) -> Result<Vec<Held>, NoMemory>
     ensures { IfOk result (λ held. held.items ≡ replicate count []) }
 {
