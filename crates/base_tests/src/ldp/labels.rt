@@ -54,7 +54,7 @@ fn gives_numbers(rt: &impl Abort, space: &mut LabelSpace)
 fn gives_each_number_once(rt: HostRuntime) {
     let mut space = LabelSpace::open(rt.alloc(), 16, 4).expect(&rt, "memory");
     gives_numbers(&rt, &mut space);
-    assert_eq!(rt; space.next_number(), 20);
+    assert!(rt; space.next_number() == 20);
 }
 
 // There is no label for this end.
@@ -76,5 +76,5 @@ fn gives_the_last(rt: &impl Abort, space: &mut LabelSpace)
 fn has_no_label_after_the_largest(rt: HostRuntime) {
     let mut space = LabelSpace::open(rt.alloc(), 1_048_575, 2).expect(&rt, "memory");
     gives_the_last(&rt, &mut space);
-    assert_eq!(rt; space.next_number(), 1_048_576);
+    assert!(rt; space.next_number() == 1_048_576);
 }

@@ -21,6 +21,11 @@ fn feed(rt: &impl Abort, alloc: Global, stream: &mut Stream, digits: &str) -> us
     stream.feed(octets.as_slice())
 }
 
+// Octets come, and all are taken.
+fn feed_whole(rt: &impl Abort, stream: &mut Stream, octets: &[u8]) {
+    assert!(rt; stream.feed(octets) == octets.len());
+}
+
 // Zeros come, at most 4095; how many are taken.
 fn feed_zeros(stream: &mut Stream, count: usize) -> usize {
     let zeros = [0u8; 4095];
@@ -57,7 +62,7 @@ fn count_of(rt: &impl Abort, alloc: Global, stream: &mut Stream, letter: u8, mor
 fn feed_singly(rt: &impl Abort, alloc: Global, stream: &mut Stream, octets: &[u8], words: &str) {
     for octet in octets {
         is_next(rt, alloc, stream, words);
-        assert_eq!(rt; stream.feed(&[*octet]), 1);
+        feed_whole(rt, stream, &[*octet]);
     }
 }
 
@@ -176,7 +181,7 @@ const TWO: &str =
     "0001000e0a0000010000 0201000400000001 000100120a0000010000 0201000800000002 bf000000";
 
 // The words of these two.
-const PDUS: [&str; 2] = [
+static PDUS: [&str; 2] = [
     "Ok(Some(Pdu { id: LdpId { router: Addr([10, 0, 0, 1]), space: 0 }, messages: List { items: [KeepAlive { id: 1 }] } }))",
     "Ok(Some(Pdu { id: LdpId { router: Addr([10, 0, 0, 1]), space: 0 }, messages: List { items: [KeepAlive { id: 2 }] } }))",
 ];
@@ -192,21 +197,31 @@ fn ended_within(count: usize) -> usize
     }
 }
 
-// Octets come, and all are taken; the next PDUs have then these words, and then there is none.
-fn goes_on(rt: &impl Abort, alloc: Global, stream: &mut Stream, octets: &[u8], pdus: &[&str]) {
-    assert_eq!(rt; stream.feed(octets), octets.len());
+// The words of the PDUs that end within so many octets, and those of the others.
+fn words_at(count: usize) -> (&'static [&'static str], &'static [&'static str]) {
+    PDUS.split_at(ended_within(count))
+}
+
+// The next PDUs have these words.
+fn are_next(rt: &impl Abort, alloc: Global, stream: &mut Stream, pdus: &[&str]) {
     for words in pdus {
         is_next(rt, alloc, stream, words);
     }
+}
+
+// Octets come, and all are taken; the next PDUs have then these words, and then there is none.
+fn goes_on(rt: &impl Abort, alloc: Global, stream: &mut Stream, octets: &[u8], pdus: &[&str]) {
+    feed_whole(rt, stream, octets);
+    are_next(rt, alloc, stream, pdus);
     is_next(rt, alloc, stream, "Ok(None)");
 }
 
 // Two PDUs that come in these two pieces.
 fn takes(rt: &impl Abort, alloc: Global, stream: &mut Stream, front: &[u8], back: &[u8]) {
-    let (first, second) = PDUS.split_at(ended_within(front.len()));
+    let (first, second) = words_at(front.len());
     goes_on(rt, alloc, stream, front, first);
     goes_on(rt, alloc, stream, back, second);
-    assert_eq!(rt; stream.held(), 0);
+    assert!(rt; stream.held() == 0);
 }
 
 // Octets that are cut at a place.
@@ -216,8 +231,9 @@ fn is_cut(rt: &impl Abort, alloc: Global, octets: &[u8], at: usize) {
     takes(rt, alloc, &mut stream, front, back);
 }
 
-// Octets that are cut at each place.
+// 40 octets that are cut at each place.
 fn is_cut_at_each(rt: &impl Abort, alloc: Global, octets: &[u8]) {
+    assert!(rt; octets.len() == 40);
     for at in 0..41 {
         is_cut(rt, alloc, octets, at);
     }
@@ -226,8 +242,8 @@ fn is_cut_at_each(rt: &impl Abort, alloc: Global, octets: &[u8]) {
 #[test]
 fn answers_the_same_of_each_cut(rt: HostRuntime) {
     let octets = octets_of(&rt, rt.alloc(), TWO);
-    assert_eq!(rt; octets.len(), 40);
     is_cut_at_each(&rt, rt.alloc(), octets.as_slice());
+    drop(octets);
 }
 
 // The first octets of a PDU.

@@ -56,5 +56,5 @@ pub fn reads_as(rt: &impl Abort, alloc: Global, about: About, table: &str, count
     for line in table.lines() {
         rows = rows.saturating_add(reads_line(rt, alloc, about, line));
     }
-    assert_eq!(rt; rows, count);
+    assert!(rt; rows == count);
 }
