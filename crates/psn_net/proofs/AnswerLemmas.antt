@@ -1,5 +1,5 @@
 -- Events that an edge answers: what does not apply is told so, and else the edge's work goes into the network.
-use Rattle.std.proofs.Common.{◌≡◌, ◌++◌, ◌∷◌, [], ◌∙◌, ℕ, Bool, true, false, List, Option, Some, None, refl, ap, sym, subst}
+use Rattle.std.proofs.Common.{◌≡◌, ◌++◌, ◌∷◌, [], ◌∙◌, ℕ, Bool, true, false, List, Option, Some, None, if◌then◌else◌, refl, ap, sym, subst}
 use Rattle.net_base.specs.declared.plan.Plan.{Plan}
 use Rattle.net_base.specs.declared.plan.circuit_plan.CircuitPlan.{CircuitPlan}
 use Rattle.net_base.specs.declared.plan.places.CircuitId.{CircuitId}
@@ -19,7 +19,7 @@ use Rattle.network_model.specs.Absorb.{idle as idle_event}
 use Rattle.network_model.specs.Circuit.{circuit_event}
 use Rattle.network_model.specs.State.{NetworkState, at_edge, with_edge}
 use Rattle.network_model.specs.Wire.{priority_event, status_event, wire_event}
-use Rattle.psn_net.specs.Lists.{HasDriven, HasStepped, NetLists, edge_of, seen}
+use Rattle.psn_net.specs.Lists.{HasAnswered, HasDriven, HasStepped, NetLists, edge_of, seen}
 use Rattle.psn_net.proofs.NetworkLemmas.{edge_stays, some_edge}
 
 -- an edge that does nothing
@@ -49,6 +49,17 @@ answered old mid now me work effects driven idle absorbed = record {
   event : answer me 0 0 work (seen old) ≡ absorb me 0 0 work (seen old)
   event = let e : work.idle ≡ false = sym driven.idle_is ∙ idle in rw e refl
 
+-- an edge that took an input, which leaves it as it is where it does not apply
+answer_stepped : (old now : NetLists) (me : EdgeId) (work : Work) → (work.idle ≡ true → work.edge ≡ at_edge (seen old) me)
+    → HasAnswered me old now work → HasStepped old now (answer me 0 0 work (seen old))
+answer_stepped old now me work still has = by has.effects.idle refl has.step
+  where
+    by : (b : Bool) → has.effects.idle ≡ b
+        → HasStepped has.mid now (if b then idle_event (seen has.mid) else (record { state = absorb_all me 0 0 has.effects.list (seen has.mid); entries = all_entries_of me 0 0 has.effects.list (seen has.mid) }))
+        → HasStepped old now (answer me 0 0 work (seen old))
+    by true idle step = answered_idle old has.mid now me work has.effects has.driven idle still step.state step.told
+    by false idle step = answered old has.mid now me work has.effects has.driven idle step
+
 -- ---- a circuit
 
 circuit_answer : (plan : Plan) (circuit : CircuitId) (on : Bool) (row : Option CircuitPlan) (me : EdgeId) (network : NetworkState)
@@ -57,69 +68,27 @@ circuit_answer plan circuit on None me network at = absurd (cc (at))
 circuit_answer plan circuit on (Some row) me network at =
     subst (λ (e : EdgeId). answer e 0 0 (circuit_input plan taken_all circuit on (Some row) (begin_at network e)) network ≡ circuit_event plan circuit on (Some row) network) (some_edge row me at) refl
 
-pub circuit_idle_stepped : (old mid now : NetLists) (circuit : CircuitId) (on : Bool) (me : EdgeId) (effects : Effects)
-    → edge_of (circuit_row old.plan circuit) ≡ Some me
-    → HasDriven me old mid (circuit_input old.plan taken_all circuit on (circuit_row old.plan circuit) (begin_at (seen old) me)) effects
-    → effects.idle ≡ true → seen now ≡ seen mid → now.trace ≡ mid.trace ++ Idle ∷ []
+pub circuit_stepped : (old now : NetLists) (circuit : CircuitId) (on : Bool) (me : EdgeId) → edge_of (circuit_row old.plan circuit) ≡ Some me
+    → HasAnswered me old now (circuit_input old.plan taken_all circuit on (circuit_row old.plan circuit) (begin_at (seen old) me))
     → HasStepped old now (circuit_event old.plan circuit on (circuit_row old.plan circuit) (seen old))
-circuit_idle_stepped old mid now circuit on me effects at driven idle state told =
+circuit_stepped old now circuit on me at has =
     subst (λ (s : Stepped). HasStepped old now s) (circuit_answer old.plan circuit on (circuit_row old.plan circuit) me (seen old) at)
-    (answered_idle old mid now me (circuit_input old.plan taken_all circuit on (circuit_row old.plan circuit) (begin_at (seen old) me)) effects driven idle
-    (circuit_still old.plan taken_all circuit on (circuit_row old.plan circuit) (begin_at (seen old) me) refl) state told)
-
-pub circuit_stepped : (old mid now : NetLists) (circuit : CircuitId) (on : Bool) (me : EdgeId) (effects : Effects)
-    → edge_of (circuit_row old.plan circuit) ≡ Some me
-    → HasDriven me old mid (circuit_input old.plan taken_all circuit on (circuit_row old.plan circuit) (begin_at (seen old) me)) effects
-    → effects.idle ≡ false
-    → HasStepped mid now (record { state = absorb_all me 0 0 effects.list (seen mid); entries = all_entries_of me 0 0 effects.list (seen mid) })
-    → HasStepped old now (circuit_event old.plan circuit on (circuit_row old.plan circuit) (seen old))
-circuit_stepped old mid now circuit on me effects at driven idle absorbed =
-    subst (λ (s : Stepped). HasStepped old now s) (circuit_answer old.plan circuit on (circuit_row old.plan circuit) me (seen old) at)
-    (answered old mid now me (circuit_input old.plan taken_all circuit on (circuit_row old.plan circuit) (begin_at (seen old) me)) effects driven idle absorbed)
+    (answer_stepped old now me (circuit_input old.plan taken_all circuit on (circuit_row old.plan circuit) (begin_at (seen old) me))
+    (circuit_still old.plan taken_all circuit on (circuit_row old.plan circuit) (begin_at (seen old) me) refl) has)
 
 -- ---- a wire, its failure bits, and the priority of a spoke
 
-pub wire_idle_stepped : (old mid now : NetLists) (wire : WireId) (on : Bool) (me : EdgeId) (effects : Effects)
-    → HasDriven me old mid (wire_input old.plan taken_all wire on (begin_at (seen old) me)) effects
-    → effects.idle ≡ true → seen now ≡ seen mid → now.trace ≡ mid.trace ++ Idle ∷ []
-    → HasStepped old now (wire_event old.plan me wire on (seen old))
-wire_idle_stepped old mid now wire on me effects driven idle state told =
-    answered_idle old mid now me (wire_input old.plan taken_all wire on (begin_at (seen old) me)) effects driven idle
-    (wire_still old.plan taken_all wire on (begin_at (seen old) me) refl) state told
+pub wire_stepped : (old now : NetLists) (wire : WireId) (on : Bool) (me : EdgeId)
+    → HasAnswered me old now (wire_input old.plan taken_all wire on (begin_at (seen old) me)) → HasStepped old now (wire_event old.plan me wire on (seen old))
+wire_stepped old now wire on me has =
+    answer_stepped old now me (wire_input old.plan taken_all wire on (begin_at (seen old) me)) (wire_still old.plan taken_all wire on (begin_at (seen old) me) refl) has
 
-pub wire_stepped : (old mid now : NetLists) (wire : WireId) (on : Bool) (me : EdgeId) (effects : Effects)
-    → HasDriven me old mid (wire_input old.plan taken_all wire on (begin_at (seen old) me)) effects → effects.idle ≡ false
-    → HasStepped mid now (record { state = absorb_all me 0 0 effects.list (seen mid); entries = all_entries_of me 0 0 effects.list (seen mid) })
-    → HasStepped old now (wire_event old.plan me wire on (seen old))
-wire_stepped old mid now wire on me effects driven idle absorbed =
-    answered old mid now me (wire_input old.plan taken_all wire on (begin_at (seen old) me)) effects driven idle absorbed
+pub status_stepped : (old now : NetLists) (wire : WireId) (bits : ℕ) (me : EdgeId)
+    → HasAnswered me old now (status_input old.plan taken_all wire bits (begin_at (seen old) me)) → HasStepped old now (status_event old.plan me wire bits (seen old))
+status_stepped old now wire bits me has =
+    answer_stepped old now me (status_input old.plan taken_all wire bits (begin_at (seen old) me)) (status_still old.plan taken_all wire bits (begin_at (seen old) me) refl) has
 
-pub status_idle_stepped : (old mid now : NetLists) (wire : WireId) (bits : ℕ) (me : EdgeId) (effects : Effects)
-    → HasDriven me old mid (status_input old.plan taken_all wire bits (begin_at (seen old) me)) effects
-    → effects.idle ≡ true → seen now ≡ seen mid → now.trace ≡ mid.trace ++ Idle ∷ []
-    → HasStepped old now (status_event old.plan me wire bits (seen old))
-status_idle_stepped old mid now wire bits me effects driven idle state told =
-    answered_idle old mid now me (status_input old.plan taken_all wire bits (begin_at (seen old) me)) effects driven idle
-    (status_still old.plan taken_all wire bits (begin_at (seen old) me) refl) state told
-
-pub status_stepped : (old mid now : NetLists) (wire : WireId) (bits : ℕ) (me : EdgeId) (effects : Effects)
-    → HasDriven me old mid (status_input old.plan taken_all wire bits (begin_at (seen old) me)) effects → effects.idle ≡ false
-    → HasStepped mid now (record { state = absorb_all me 0 0 effects.list (seen mid); entries = all_entries_of me 0 0 effects.list (seen mid) })
-    → HasStepped old now (status_event old.plan me wire bits (seen old))
-status_stepped old mid now wire bits me effects driven idle absorbed =
-    answered old mid now me (status_input old.plan taken_all wire bits (begin_at (seen old) me)) effects driven idle absorbed
-
-pub priority_idle_stepped : (old mid now : NetLists) (wire : WireId) (priority : ℕ) (me : EdgeId) (effects : Effects)
-    → HasDriven me old mid (priority_input old.plan taken_all wire priority (begin_at (seen old) me)) effects
-    → effects.idle ≡ true → seen now ≡ seen mid → now.trace ≡ mid.trace ++ Idle ∷ []
-    → HasStepped old now (priority_event old.plan me wire priority (seen old))
-priority_idle_stepped old mid now wire priority me effects driven idle state told =
-    answered_idle old mid now me (priority_input old.plan taken_all wire priority (begin_at (seen old) me)) effects driven idle
-    (priority_still old.plan taken_all wire priority (begin_at (seen old) me) refl) state told
-
-pub priority_stepped : (old mid now : NetLists) (wire : WireId) (priority : ℕ) (me : EdgeId) (effects : Effects)
-    → HasDriven me old mid (priority_input old.plan taken_all wire priority (begin_at (seen old) me)) effects → effects.idle ≡ false
-    → HasStepped mid now (record { state = absorb_all me 0 0 effects.list (seen mid); entries = all_entries_of me 0 0 effects.list (seen mid) })
-    → HasStepped old now (priority_event old.plan me wire priority (seen old))
-priority_stepped old mid now wire priority me effects driven idle absorbed =
-    answered old mid now me (priority_input old.plan taken_all wire priority (begin_at (seen old) me)) effects driven idle absorbed
+pub priority_stepped : (old now : NetLists) (wire : WireId) (priority : ℕ) (me : EdgeId)
+    → HasAnswered me old now (priority_input old.plan taken_all wire priority (begin_at (seen old) me)) → HasStepped old now (priority_event old.plan me wire priority (seen old))
+priority_stepped old now wire priority me has =
+    answer_stepped old now me (priority_input old.plan taken_all wire priority (begin_at (seen old) me)) (priority_still old.plan taken_all wire priority (begin_at (seen old) me) refl) has

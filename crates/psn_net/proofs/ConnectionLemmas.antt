@@ -138,11 +138,12 @@ unfolding seen
 hearing n now from to count bytes effects e drove =
     subst (λ (octets : List ℕ). HasDriven to n now (octets_input n.plan taken_all from octets ((at_edge (seen n) to).peering from.0) (begin_at (seen n) to)) effects) e drove
 
-pub lose_stepped : (old mid now : NetLists) (me peer : EdgeId) (effects : Effects)
-    → HasDriven me old mid (lost_input old.plan taken_all peer (begin_at (seen old) me)) effects
-    → HasStepped mid now (record { state = absorb_all me 0 0 effects.list (seen mid); entries = all_entries_of me 0 0 effects.list (seen mid) })
-    → HasStepped old now (losing old.plan me peer (seen old))
-lose_stepped old mid now me peer effects drove absorbed = absorbed_stepped old mid now me 0 0 (losing_work old.plan (seen old) me peer) effects (seen old) drove.told drove.effects_are drove.state absorbed
+-- an edge took an input, and what it gave out was absorbed
+pub input_absorbed : (old mid now : NetLists) (me : EdgeId) (origin hops : ℕ) (work : Work) (effects : Effects) → HasDriven me old mid work effects
+    → HasStepped mid now (record { state = absorb_all me origin hops effects.list (seen mid); entries = all_entries_of me origin hops effects.list (seen mid) })
+    → HasStepped old now (absorb me origin hops work (seen old))
+input_absorbed old mid now me origin hops work effects drove absorbed =
+    absorbed_stepped old mid now me origin hops work effects (seen old) drove.told drove.effects_are drove.state absorbed
 
 edge_with_pipe : (n : NetworkState) (from to me : EdgeId) (count : ℕ) (e : EdgeState)
     → with_pipe from to (drop count ((with_edge me e n).pipes from.0 to.0)) (with_edge me e n) ≡ with_edge me e (with_pipe from to (drop count (n.pipes from.0 to.0)) n)

@@ -127,14 +127,3 @@ arrive_stepped old mid now number packet found planned taken told next =
 pub ruleset arrive_steps = (arrive_idle_stepped, arrive_stepped)
 
 pub ruleset discard_steps = (discard_idle_stepped, discard_stepped)
-
--- ---- the edge takes it
-
-pub take_in_stepped : (old mid now : NetLists) (packet : Packet) (effects : Effects)
-    → HasDriven packet.to old mid (packet_work old.plan (seen old) packet) effects
-    → HasStepped mid now (record { state = absorb_all packet.to packet.origin packet.hops effects.list (seen mid); entries = all_entries_of packet.to packet.origin packet.hops effects.list (seen mid) })
-    → HasStepped old now (absorb packet.to packet.origin packet.hops (packet_work old.plan (seen old) packet) (seen old))
-take_in_stepped old mid now packet effects drove absorbed =
-    absorbed_stepped old mid now packet.to packet.origin packet.hops (packet_work old.plan (seen old) packet) effects (seen old) drove.told drove.effects_are drove.state absorbed
-
-pub ruleset take_in_steps = (take_in_stepped)

@@ -1,11 +1,11 @@
 -- The network as contracts see it: lists by the plan's places, and by `seen` maps.
-use Rattle.std.specs.Prelude.{◌≡◌, ◌<◌, ◌≤◌, ◌++◌, ◌+◌, ◌∷◌, ℕ, Bool, false, List, [], Option, option_map, length, slice_index_or}
+use Rattle.std.specs.Prelude.{◌≡◌, ◌<◌, ◌≤◌, ◌++◌, ◌+◌, ◌∷◌, ℕ, Bool, false, List, [], Option, option_map, length, slice_index_or, if◌then◌else◌}
 use Rattle.net_base.specs.declared.plan.Plan.{Plan}
 use Rattle.net_base.specs.declared.trace.entry.Entry.{Entry}
 use Rattle.net_base.specs.plan.Accepted.{IsChecked}
 use Rattle.edge_model.specs.declared.effects.Effects.{Effects}
 use Rattle.edge_model.specs.Work.{Work}
-use Rattle.network_model.specs.Absorb.{Stepped}
+use Rattle.network_model.specs.Absorb.{Stepped, absorb_all, all_entries_of, idle}
 use Rattle.network_model.specs.State.{NetworkState, with_edge, with_frame}
 use Rattle.net_base.specs.declared.plan.places.CircuitId.{CircuitId}
 use Rattle.net_base.specs.declared.plan.places.EdgeId.{EdgeId}
@@ -77,6 +77,18 @@ pub record HasDriven (me : EdgeId) (old now : NetLists) (work : Work) (effects :
   pub effects_are : effects.list ≡ work.effects
   pub idle_is : effects.idle ≡ work.idle
   pub told : now.trace ≡ old.trace
+
+-- what an edge gave out goes into the network; where its input did not apply, that is told
+abbrev pub answered : EdgeId → Effects → NetworkState → Stepped
+answered me effects network =
+    if effects.idle then idle network else (record { state = absorb_all me 0 0 effects.list network; entries = all_entries_of me 0 0 effects.list network })
+
+-- an edge of the network did this work, which went into the network, or it was told that the input did not apply
+pub record HasAnswered (me : EdgeId) (old now : NetLists) (work : Work) : Type 0 where
+  pub mid : NetLists
+  pub effects : Effects
+  pub driven : HasDriven me old mid work effects
+  pub step : HasStepped mid now (answered me effects (seen mid))
 
 -- the edges of a plan, so many from the first on, before their first input
 pub record AreOpen (plan : Plan) (count : ℕ) (edges : List EdgeLists) : Type 0 where

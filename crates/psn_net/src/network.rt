@@ -59,9 +59,11 @@ impl Network {
         ensures trace { IfOk result (λ network. network.trace ≡ []) }
         ensures going { IfOk result (λ network. network.failed ≡ false) }
     {
-        let parts = Parts::open(alloc, plan)?;
-        let index = DeliveryIndex::open(alloc, parts.count())?;
-        Ok(Network { parts, index })
+        let index = DeliveryIndex::open(alloc, plan.edges.len())?;
+        match Parts::open(alloc, plan) {
+            Ok(parts) => Ok(Network { parts, index }),
+            Err(fault) => Err(fault),
+        }
     }
 
     /// Does one event, and adds to the trace what it tells. The event names places of the plan, and its numbers are in

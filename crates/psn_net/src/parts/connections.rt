@@ -145,15 +145,13 @@ impl Parts {
     }
 
     // The edge's end is lost.
-    #[tactic(auto, using(crate::proofs::ConnectionLemmas::lose_stepped))]
     fn lose_end(&mut self, alloc: Global, me: EdgeId, peer: EdgeId) -> Result<(), NoMemory>
         requires me { me.0 < length self.old.plan.edges }
         requires room { HasRoom self.old }
         ensures keeps { Keeps self.old self.new }
         ensures step { OnOk result (HasStepped self.old self.new (losing self.old.plan me peer (seen self.old))) }
     {
-        let effects = self.drive(alloc, me, Input::Lost { peer })?;
-        self.absorb(alloc, me, 0, 0, effects.list.into_items())
+        self.absorb_input(alloc, me, 0, 0, Input::Lost { peer })
     }
 
     // An edge restarts.

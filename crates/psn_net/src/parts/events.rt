@@ -1,15 +1,19 @@
 //! The events of the network.
 ghost use Rattle.std.specs.Prelude.{◌≡◌, ◌<◌, ◌≤◌, ◌+◌, ◌++◌, ◌∷◌, [], Some, length, IfOk, OnOk};
 ghost use Rattle.net_base.specs.plan.Places.{circuit_row};
+ghost use Rattle.edge_model.specs.Step.{edge_step};
+ghost use Rattle.network_model.specs.Absorb.{absorb, begin_at, taken_all};
 ghost use Rattle.network_model.specs.Circuit.{circuit_event};
 ghost use Rattle.network_model.specs.Frame.{frame_event};
 ghost use Rattle.network_model.specs.State.{with_frame};
 ghost use Rattle.network_model.specs.Tick.{tick_at, tick_event};
 ghost use Rattle.network_model.specs.Wire.{priority_event, status_event, wire_event};
-ghost use Rattle.psn_net.specs.Lists.{HasEntered, HasRoom, HasStepped, Keeps, edge_of, seen};
+ghost use Rattle.provider_edge.specs.Said.{AllFit};
+ghost use Rattle.provider_edge.specs.Taking.{IsInRange};
+ghost use Rattle.psn_net.specs.Lists.{HasAnswered, HasEntered, HasRoom, HasStepped, Keeps, answered, edge_of, seen};
 
 use crate::parts::Parts;
-use edge_model::Input;
+use edge_model::{Effects, Input};
 use net_base::{CircuitId, EdgeId, Entry, List, NoMemory, WireId};
 use std::alloc::Global;
 
@@ -36,7 +40,58 @@ impl Parts {
         ensures room { OnOk result (HasRoom self.new) }
         ensures step { OnOk result (HasStepped self.old self.new (tick_at self.old.plan me (seen self.old))) }
     {
-        let effects = self.drive(alloc, me, Input::Tick)?;
+        self.absorb_input(alloc, me, 0, 0, Input::Tick)
+    }
+
+    // An edge takes an input of this origin, which has passed so many segments, and its work goes into the network.
+    #[tactic(auto, using(crate::proofs::ConnectionLemmas::input_absorbed))]
+    pub(crate) fn absorb_input(
+        &mut self,
+        alloc: Global,
+        me: EdgeId,
+        origin: u64,
+        hops: u64,
+        input: Input<'_>,
+    ) -> Result<(), NoMemory>
+        requires me { me.0 < length self.old.plan.edges }
+        requires range { IsInRange input }
+        requires passed { hops ≤ self.old.packets.last }
+        requires room { HasRoom self.old }
+        ensures keeps { Keeps self.old self.new }
+        ensures room { OnOk result (HasRoom self.new) }
+        ensures step { OnOk result (HasStepped self.old self.new (absorb me origin hops (edge_step self.old.plan taken_all input.entry (begin_at (seen self.old) me)) (seen self.old))) }
+    {
+        match self.drive(alloc, me, input) {
+            Ok(effects) => self.absorb(alloc, me, origin, hops, effects.list.into_items()),
+            Err(fault) => Err(fault),
+        }
+    }
+
+    // An edge takes an input. Where it does not apply that is told, and else the edge's work goes into the network.
+    fn answer_input(&mut self, alloc: Global, me: EdgeId, input: Input<'_>) -> Result<(), NoMemory>
+        requires me { me.0 < length self.old.plan.edges }
+        requires range { IsInRange input }
+        requires room { HasRoom self.old }
+        ensures keeps { Keeps self.old self.new }
+        ensures step { OnOk result (HasAnswered me self.old self.new (edge_step self.old.plan taken_all input.entry (begin_at (seen self.old) me))) }
+    {
+        match self.drive(alloc, me, input) {
+            Ok(effects) => self.answer(alloc, me, effects),
+            Err(fault) => Err(fault),
+        }
+    }
+
+    // What an edge gave out goes into the network. Where its input did not apply, that is told.
+    fn answer(&mut self, alloc: Global, me: EdgeId, effects: Effects) -> Result<(), NoMemory>
+        requires me { me.0 < length self.old.plan.edges }
+        requires fit { AllFit self.old.plan effects.list }
+        requires room { HasRoom self.old }
+        ensures keeps { Keeps self.old self.new }
+        ensures step { OnOk result (HasStepped self.old self.new (answered me effects (seen self.old))) }
+    {
+        if effects.idle {
+            return self.tell(Entry::Idle);
+        }
         self.absorb(alloc, me, 0, 0, effects.list.into_items())
     }
 
@@ -54,12 +109,7 @@ impl Parts {
         ensures step { OnOk result (HasStepped self.old self.new (circuit_event self.old.plan circuit on (circuit_row self.old.plan circuit) (seen self.old))) }
     {
         let me = self.edge_of(circuit);
-        let effects = self.drive(alloc, me, Input::Circuit { circuit, on })?;
-        if effects.idle {
-            self.tell(Entry::Idle)?;
-            return Ok(());
-        }
-        self.absorb(alloc, me, 0, 0, effects.list.into_items())
+        self.answer_input(alloc, me, Input::Circuit { circuit, on })
     }
 
     // A wire is put on or off at an edge.
@@ -76,12 +126,7 @@ impl Parts {
         ensures keeps { Keeps self.old self.new }
         ensures step { OnOk result (HasStepped self.old self.new (wire_event self.old.plan me wire on (seen self.old))) }
     {
-        let effects = self.drive(alloc, me, Input::Wire { wire, on })?;
-        if effects.idle {
-            self.tell(Entry::Idle)?;
-            return Ok(());
-        }
-        self.absorb(alloc, me, 0, 0, effects.list.into_items())
+        self.answer_input(alloc, me, Input::Wire { wire, on })
     }
 
     // The failure bits of an edge's end of a wire are set.
@@ -99,12 +144,7 @@ impl Parts {
         ensures keeps { Keeps self.old self.new }
         ensures step { OnOk result (HasStepped self.old self.new (status_event self.old.plan me wire bits (seen self.old))) }
     {
-        let effects = self.drive(alloc, me, Input::Status { wire, bits })?;
-        if effects.idle {
-            self.tell(Entry::Idle)?;
-            return Ok(());
-        }
-        self.absorb(alloc, me, 0, 0, effects.list.into_items())
+        self.answer_input(alloc, me, Input::Status { wire, bits })
     }
 
     // The priority of a spoke is set at its spoke edge.
@@ -121,12 +161,7 @@ impl Parts {
         ensures keeps { Keeps self.old self.new }
         ensures step { OnOk result (HasStepped self.old self.new (priority_event self.old.plan me wire priority (seen self.old))) }
     {
-        let effects = self.drive(alloc, me, Input::Priority { wire, priority })?;
-        if effects.idle {
-            self.tell(Entry::Idle)?;
-            return Ok(());
-        }
-        self.absorb(alloc, me, 0, 0, effects.list.into_items())
+        self.answer_input(alloc, me, Input::Priority { wire, priority })
     }
 
     // A customer's frame enters at a circuit.

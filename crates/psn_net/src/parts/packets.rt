@@ -28,7 +28,6 @@ impl Parts {
     }
 
     // An edge takes a packet that has reached it: what it gives out has the packet's origin, and has passed as many segments.
-    #[tactic(auto, using(crate::proofs::UnderWayLemmas::take_in_steps))]
     fn take_in(&mut self, alloc: Global, packet: &Packet) -> Result<(), NoMemory>
         requires packet { IsPacketOf self.old.plan self.old.packets.last packet.now }
         requires room { HasRoom self.old }
@@ -36,14 +35,8 @@ impl Parts {
         ensures step { OnOk result (HasStepped self.old self.new (absorb packet.now.to packet.now.origin packet.now.hops (packet_work self.old.plan (seen self.old) packet.now) (seen self.old))) }
     {
         let bytes = packet.bytes.as_slice();
-        let effects = self.drive(alloc, packet.to, Input::Packet { bytes })?;
-        self.absorb(
-            alloc,
-            packet.to,
-            packet.origin,
-            packet.hops,
-            effects.list.into_items(),
-        )
+        let input = Input::Packet { bytes };
+        self.absorb_input(alloc, packet.to, packet.origin, packet.hops, input)
     }
 
     // A packet is lost on its way.
