@@ -1,6 +1,7 @@
 -- The work of an edge on one input, exit by exit.
-use Rattle.std.proofs.Common.{◌≡◌, ◌∙◌, ℕ, Bool, true, false, List, [], Option, Some, None, nat_eq, position, refl, ap, sym}
+use Rattle.std.proofs.Common.{◌≡◌, ◌∙◌, ℕ, Bool, true, false, List, [], Option, Some, None, Result, nat_eq, position, refl, ap, sym, subst}
 use Rattle.std.proofs.Math.Bool.{beq}
+use Rattle.std.specs.Prelude.{OnOk}
 use Rattle.net_base.specs.declared.outside.link_call.LinkCall.{LinkCall}
 use Rattle.net_base.specs.declared.plan.Plan.{Plan}
 use Rattle.net_base.specs.declared.plan.circuit_plan.CircuitPlan.{CircuitPlan}
@@ -12,11 +13,13 @@ use Rattle.net_base.specs.plan.Places.{circuit_row}
 use Rattle.net_base.specs.trace.Isolated.{inner_at}
 use Rattle.hvpls_spokes.specs.Port.{is_circuit_port, ports_of}
 use Rattle.edge_model.specs.declared.effects.Effects.{Effects}
+use Rattle.edge_model.specs.declared.input.Input.{Input}
 use Rattle.edge_model.specs.Circuit.{circuit_input, is_same, turned}
 use Rattle.edge_model.specs.Frame.{frame_input, is_own, received}
 use Rattle.edge_model.specs.Mend.{mends}
 use Rattle.edge_model.specs.State.{EdgeState, addresses_of, is_on, with_addresses, with_circuit, without_port}
-use Rattle.edge_model.specs.Work.{Answers, Work, beginning, changes, idles}
+use Rattle.edge_model.specs.Step.{edge_step}
+use Rattle.edge_model.specs.Work.{Agrees, Answers, Work, beginning, changes, idles}
 use Rattle.edge_forwarding.specs.Forwarding.{own_service}
 use Rattle.provider_edge.specs.Lists.{EdgeLists, Keeps, seen, worked}
 use Rattle.edge_forwarding.proofs.ForwardingLemmas.{OwnRow, own_row, other_row}
@@ -121,6 +124,15 @@ frame_on e told circuit octets row service calls work own on is =
     let found = own_row e.me row service own in
     rw (found.is, found.own, on)
     (is ∙ ap (λ (at : ServiceId). received e.plan told (arrival.Circuit circuit) at (position (is_circuit_port circuit) (ports_of e.plan at e.me)) (inner_at e.plan circuit octets) (beginning (seen e) calls)) (sym found.same))
+
+-- ---- one input of many
+
+-- what the edge makes of the input that came
+pub input_done : {A E : Type 0} (r : Result A E) (e now : EdgeLists) (calls new : List LinkCall) (effects : Effects) (came input : Input) → came ≡ input
+    → OnOk r ((told : Answers) → Agrees told new → worked now new effects ≡ edge_step e.plan told input (beginning (seen e) calls))
+    → OnOk r ((told : Answers) → Agrees told new → worked now new effects ≡ edge_step e.plan told came (beginning (seen e) calls))
+input_done r e now calls new effects came input is done =
+    subst (λ (i : Input). OnOk r ((told : Answers) → Agrees told new → worked now new effects ≡ edge_step e.plan told i (beginning (seen e) calls))) (sym is) done
 
 -- ---- inputs that are to come
 
