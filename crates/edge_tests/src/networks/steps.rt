@@ -6,7 +6,7 @@ use crate::networks::plans::network_of;
 use crate::networks::traces::{
     bound_label, hops_of, is_idle, kinds_of, next_label, says, ticks_of,
 };
-use net_base::{CircuitId, EdgeId, Event, List, Octets, ServiceId, WireId};
+use net_base::{CircuitId, EdgeId, Event, List, Octets, ServiceId, Trace, WireId};
 use psn_net::Network;
 use std::alloc::Global;
 use std::process::Abort;
@@ -113,20 +113,6 @@ fn event_in(
     }
 }
 
-// The event of a step of the network; none where the step is none, or a frame.
-fn event_of(rt: &impl Abort, network: &Network, step: Step) -> Option<Event>
-    ensures { IfSome result (IsEventOf network.now.plan) }
-{
-    let plan = network.plan();
-    event_in(
-        rt,
-        plan.edges.len(),
-        plan.circuits.len(),
-        plan.wires.len(),
-        step,
-    )
-}
-
 // The octets of pairs of hexadecimal digits, a frame's at most.
 fn octets_of(rt: &impl Abort, alloc: Global, text: &str) -> Octets
     ensures { length result ≤ 9216 }
@@ -192,25 +178,23 @@ fn arrived(rt: &impl Abort, alloc: Global, network: &mut Network) -> bool {
     }
 }
 
-// All packets arrive, the first one first; answers how many, of at most 100.
-fn flow(rt: &impl Abort, alloc: Global, network: &mut Network) -> u32 {
-    for arrivals in 0..100 {
-        if !arrived(rt, alloc, network) {
-            return arrivals;
-        }
-    }
-    100
-}
-
-// All packets arrive, so many.
+// All packets arrive, the first one first: so many, of at most 100.
 fn flows(rt: &impl Abort, alloc: Global, network: &mut Network, count: u32) {
-    let arrived = flow(rt, alloc, network);
-    assert!(rt; arrived == count, "{arrived} packets");
+    let mut arrivals: u32 = 0;
+    for _arrival in 0..100 {
+        if !arrived(rt, alloc, network) {
+            break;
+        }
+        arrivals = arrivals.saturating_add(1);
+    }
+    assert!(rt; arrivals == count, "{arrivals} packets");
 }
 
 // Does a step that is one event; answers whether it is.
 fn did_event(rt: &impl Abort, alloc: Global, network: &mut Network, step: Step) -> bool {
-    let event = event_of(rt, network, step);
+    let plan = network.plan();
+    let (edges, circuits, wires) = (plan.edges.len(), plan.circuits.len(), plan.wires.len());
+    let event = event_in(rt, edges, circuits, wires, step);
     applied(rt, alloc, network, event)
 }
 
@@ -226,8 +210,8 @@ fn did(rt: &impl Abort, alloc: Global, network: &mut Network, step: Step) -> boo
 }
 
 // Whether the kinds of the entries are these.
-fn has_kinds(rt: &impl Abort, alloc: Global, network: &Network, kinds: &str) -> bool {
-    let found = kinds_of(rt, alloc, network);
+fn has_kinds(rt: &impl Abort, alloc: Global, trace: &Trace, kinds: &str) -> bool {
+    let found = kinds_of(rt, alloc, trace);
     found.as_str() == kinds
 }
 
@@ -235,30 +219,30 @@ fn has_kinds(rt: &impl Abort, alloc: Global, network: &Network, kinds: &str) -> 
 fn has_said(
     rt: &impl Abort,
     alloc: Global,
-    network: &Network,
+    trace: &Trace,
     place: usize,
     edge: u16,
     text: &str,
 ) -> bool {
     let octets = octets_of(rt, alloc, text);
-    says(network, place, edge, octets.as_slice())
+    says(trace, place, edge, octets.as_slice())
 }
 
 // Whether a frame left after so many segments at each of the circuits.
-fn has_left(rt: &impl Abort, alloc: Global, network: &Network, frame: u64, hops: &str) -> bool {
-    let found = hops_of(rt, alloc, network, frame);
+fn has_left(rt: &impl Abort, alloc: Global, trace: &Trace, frame: u64, hops: &str) -> bool {
+    let found = hops_of(rt, alloc, trace, frame);
     found.as_str() == hops
 }
 
 // Whether the trace is what a step says; none where it says nothing of it.
-fn agrees_in_trace(rt: &impl Abort, alloc: Global, network: &Network, step: Step) -> Option<bool> {
+fn agrees_in_trace(rt: &impl Abort, alloc: Global, trace: &Trace, step: Step) -> Option<bool> {
     match step {
-        Step::Entries(count) => Some(network.trace().len() == count),
-        Step::Over(count) => Some(network.trace().len() > count),
-        Step::Kinds(kinds) => Some(has_kinds(rt, alloc, network, kinds)),
-        Step::Says(place, me, text) => Some(has_said(rt, alloc, network, place, me, text)),
-        Step::Idle(idle) => Some(is_idle(network) == idle),
-        Step::Left(frame, hops) => Some(has_left(rt, alloc, network, frame, hops)),
+        Step::Entries(count) => Some(trace.len() == count),
+        Step::Over(count) => Some(trace.len() > count),
+        Step::Kinds(kinds) => Some(has_kinds(rt, alloc, trace, kinds)),
+        Step::Says(place, me, text) => Some(has_said(rt, alloc, trace, place, me, text)),
+        Step::Idle(idle) => Some(is_idle(trace) == idle),
+        Step::Left(frame, hops) => Some(has_left(rt, alloc, trace, frame, hops)),
         _ => None,
     }
 }
@@ -289,7 +273,7 @@ fn agrees_in_state(network: &Network, step: Step) -> bool {
 
 // Whether what stands is what a step says.
 fn agrees(rt: &impl Abort, alloc: Global, network: &Network, step: Step) -> bool {
-    if let Some(agrees) = agrees_in_trace(rt, alloc, network, step) {
+    if let Some(agrees) = agrees_in_trace(rt, alloc, network.trace(), step) {
         return agrees;
     }
     match agrees_in_service(rt, network, step) {

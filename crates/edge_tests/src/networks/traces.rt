@@ -1,6 +1,6 @@
 //! What tests read of a network and its trace.
 
-use net_base::{EdgeId, Entry, Reason, SegKey, StateName, WireId};
+use net_base::{EdgeId, Entry, Reason, SegKey, StateName, Trace, WireId};
 use psn_net::Network;
 use std::alloc::Global;
 use std::process::Abort;
@@ -34,25 +34,24 @@ fn kind_of(entry: &Entry) -> char {
 }
 
 /// The kinds of the entries, a letter each.
-pub fn kinds_of(rt: &impl Abort, alloc: Global, network: &Network) -> String {
+pub fn kinds_of(rt: &impl Abort, alloc: Global, trace: &Trace) -> String {
     let mut text = String::new(alloc);
-    for entry in network.trace().as_slice() {
+    for entry in trace.as_slice() {
         text.push(kind_of(entry)).expect(rt, "memory");
     }
     text
 }
 
 /// Whether the entry at a place says these octets, from this edge.
-pub fn says(network: &Network, place: usize, edge: u16, octets: &[u8]) -> bool {
-    match network.trace().get(place) {
+pub fn says(trace: &Trace, place: usize, edge: u16, octets: &[u8]) -> bool {
+    match trace.get(place) {
         Some(Entry::Said { from, bytes, .. }) => from.0 == edge && bytes.as_slice() == octets,
         _ => false,
     }
 }
 
 /// Whether the last event did not apply.
-pub fn is_idle(network: &Network) -> bool {
-    let trace = network.trace();
+pub fn is_idle(trace: &Trace) -> bool {
     matches!(trace.get(trace.len().saturating_sub(1)), Some(Entry::Idle))
 }
 
@@ -68,8 +67,8 @@ fn digit_of(hops: u64) -> char {
 }
 
 // After how many segments a frame left at a circuit, one digit a time.
-fn push_hops(rt: &impl Abort, text: &mut String, network: &Network, frame: u64, at: u16) {
-    for entry in network.trace().as_slice() {
+fn push_hops(rt: &impl Abort, text: &mut String, trace: &Trace, frame: u64, at: u16) {
+    for entry in trace.as_slice() {
         if let Entry::Left {
             circuit,
             origin,
@@ -85,11 +84,11 @@ fn push_hops(rt: &impl Abort, text: &mut String, network: &Network, frame: u64, 
 }
 
 /// After how many segments a frame left at each of the first six circuits, one digit a time, each behind a stroke.
-pub fn hops_of(rt: &impl Abort, alloc: Global, network: &Network, frame: u64) -> String {
+pub fn hops_of(rt: &impl Abort, alloc: Global, trace: &Trace, frame: u64) -> String {
     let mut text = String::new(alloc);
     for circuit in 0..6 {
         text.push('/').expect(rt, "memory");
-        push_hops(rt, &mut text, network, frame, circuit);
+        push_hops(rt, &mut text, trace, frame, circuit);
     }
     text
 }
