@@ -9,7 +9,8 @@ use Rattle.provider_edge.specs.Lists.{seen, worked}
 use Rattle.peer_dialogue.specs.Peering.{at_edge}
 use Rattle.provider_edge.proofs.EdgeLemmas.{circuit_at, mended}
 use Rattle.edge_forwarding.proofs.ForwardingLemmas.{own_row}
-use Rattle.provider_edge.proofs.WorkLemmas.{circuit_already, circuit_done, circuit_other}
+use Rattle.provider_edge.proofs.EffectLemmas.{goes_nowhere}
+use Rattle.provider_edge.proofs.WorkLemmas.{circuit_already, circuit_done, circuit_other, keeps_both, keeps_same}
 use Rattle.peer_dialogue.proofs.SettleLemmas.{map_on}
 use Rattle.provider_edge.proofs.edge.Edge.circuit.Goals as goal
 
@@ -41,3 +42,21 @@ returns-clause-step g c = map_on _ _ c.mend.result
     (circuit_at c.args.self.now c.turn_circuit.new.self c.args.circuit found.circuit c.args.on (g.L.Link.calls c.args.link.now) (c.turn_circuit.ensures.step found.circuit found.is)))
     (step told agrees)))
     c.mend.ensures.step
+
+pub returns-in_default-clause-keeps : goal.returns-in_default-clause-keeps
+returns-in_default-clause-keeps g c = keeps_same c.args.self.now
+
+pub returns-in_default-clause-calls : goal.returns-in_default-clause-calls
+returns-in_default-clause-calls g c = goes_nowhere (g.L.Link.calls c.args.link.now)
+
+pub returns-then-is_on-on-clause-keeps : goal.returns-then-is_on-on-clause-keeps
+returns-then-is_on-on-clause-keeps g c = keeps_same c.args.self.now
+
+pub returns-then-is_on-on-clause-calls : goal.returns-then-is_on-on-clause-calls
+returns-then-is_on-on-clause-calls g c = goes_nowhere (g.L.Link.calls c.args.link.now)
+
+pub returns-clause-keeps : goal.returns-clause-keeps
+returns-clause-keeps g c = keeps_both c.args.self.now c.turn_circuit.new.self c.mend.new.self c.turn_circuit.ensures.keeps c.mend.ensures.keeps
+
+pub returns-clause-calls : goal.returns-clause-calls
+returns-clause-calls g c = c.mend.ensures.calls

@@ -11,7 +11,8 @@ use Rattle.peer_dialogue.specs.Peering.{at_edge, connection_with}
 use Rattle.provider_edge.proofs.EdgeLemmas.{apart_test, begun, connected_done, connected_idle, connected_none, joined_test, mended, none_by, peer_within, stands_test}
 use Rattle.provider_edge.proofs.ProperLemmas.{proper_between}
 use Rattle.peer_dialogue.proofs.SpeakerLemmas.{agrees_before, goes_both}
-use Rattle.provider_edge.proofs.WorkLemmas.{keeps_both}
+use Rattle.provider_edge.proofs.EffectLemmas.{goes_nowhere}
+use Rattle.provider_edge.proofs.WorkLemmas.{keeps_both, keeps_same}
 use Rattle.peer_dialogue.proofs.SettleLemmas.{map_on}
 use Rattle.provider_edge.proofs.edge.Edge.connected.Goals.{then-not-joined-via-then-not-joined, then-not-joined-via-else-not-joined+then-has_end}
 use Rattle.provider_edge.proofs.edge.Edge.connected.Goals as goal
@@ -71,3 +72,25 @@ returns-clause-step g c = map_on _ _ c.mend.result
     ∙ ap (connects told c.args.peer (connection_with c.in-Some.peers)) (begun (seen c.args.self.now) (g.L.Link.calls c.args.link.now))))
     (step told agrees)))
     c.mend.ensures.step
+
+pub returns-then-not-joined-clause-keeps : goal.returns-then-not-joined-clause-keeps
+returns-then-not-joined-clause-keeps g c = keeps_same c.args.self.now
+
+pub returns-then-not-joined-clause-calls : goal.returns-then-not-joined-clause-calls
+returns-then-not-joined-clause-calls g c = goes_nowhere (g.L.Link.calls c.args.link.now)
+
+pub returns-in_default-clause-keeps : goal.returns-in_default-clause-keeps
+returns-in_default-clause-keeps g c = keeps_same c.args.self.now
+
+pub returns-in_default-clause-calls : goal.returns-in_default-clause-calls
+returns-in_default-clause-calls g c = goes_nowhere (g.L.Link.calls c.args.link.now)
+
+pub returns-clause-keeps : goal.returns-clause-keeps
+returns-clause-keeps g c =
+    keeps_both c.args.self.now c.connect.new.self c.mend.new.self (keeps_both c.args.self.now c.forget_octets.new.self c.connect.new.self c.forget_octets.ensures.keeps c.in_ok-connect.ensures.keeps) c.mend.ensures.keeps
+
+pub returns-in_err-connect-clause-keeps : goal.returns-in_err-connect-clause-keeps
+returns-in_err-connect-clause-keeps g c = keeps_both c.args.self.now c.forget_octets.new.self c.connect.new.self c.forget_octets.ensures.keeps c.connect.ensures.keeps
+
+pub returns-in_err-connect-clause-calls : goal.returns-in_err-connect-clause-calls
+returns-in_err-connect-clause-calls g c = c.connect.ensures.calls

@@ -10,7 +10,8 @@ use Rattle.provider_edge.specs.Lists.{seen, worked}
 use Rattle.peer_dialogue.specs.Peering.{at_edge}
 use Rattle.provider_edge.proofs.EdgeLemmas.{begun, given_out}
 use Rattle.edge_forwarding.proofs.ForwardingLemmas.{own_circuit}
-use Rattle.provider_edge.proofs.WorkLemmas.{frame_off, frame_on, frame_other}
+use Rattle.provider_edge.proofs.EffectLemmas.{goes_nowhere}
+use Rattle.provider_edge.proofs.WorkLemmas.{frame_off, frame_on, frame_other, keeps_same}
 use Rattle.peer_dialogue.proofs.SettleLemmas.{map_on}
 use Rattle.provider_edge.proofs.edge.Edge.frame.Goals as goal
 
@@ -42,3 +43,18 @@ returns-clause-step g c = map_on _ _ c.receive.result
     ∙ ap (received c.args.self.now.plan told (arrival.Circuit c.args.circuit) c.in-Some.service (position (is_circuit_port c.args.circuit) (ports_of c.args.self.now.plan c.in-Some.service c.args.self.now.me)) (inner_at c.args.self.now.plan c.args.circuit c.args.octets.now))
     (ap (λ (e : Effects). at_edge (seen c.args.self.now) (g.L.Link.calls c.args.link.now) e.list) c.requires.fresh ∙ begun (seen c.args.self.now) (g.L.Link.calls c.args.link.now)))))
     c.receive.ensures.step
+
+pub returns-in_default-clause-keeps : goal.returns-in_default-clause-keeps
+returns-in_default-clause-keeps g c = keeps_same c.args.self.now
+
+pub returns-in_default-clause-calls : goal.returns-in_default-clause-calls
+returns-in_default-clause-calls g c = goes_nowhere (g.L.Link.calls c.args.link.now)
+
+pub returns-then-not-is_on-clause-keeps : goal.returns-then-not-is_on-clause-keeps
+returns-then-not-is_on-clause-keeps g c = keeps_same c.args.self.now
+
+pub returns-then-not-is_on-clause-calls : goal.returns-then-not-is_on-clause-calls
+returns-then-not-is_on-clause-calls g c = goes_nowhere (g.L.Link.calls c.args.link.now)
+
+pub returns-clause-calls : goal.returns-clause-calls
+returns-clause-calls g c = c.receive.ensures.calls

@@ -8,6 +8,8 @@ use Rattle.edge_model.specs.Work.{beginning}
 use Rattle.provider_edge.specs.Lists.{seen, worked}
 use Rattle.peer_dialogue.specs.Peering.{at_edge}
 use Rattle.provider_edge.proofs.EdgeLemmas.{begun, lost_done, lost_idle, mended}
+use Rattle.provider_edge.proofs.EffectLemmas.{goes_nowhere}
+use Rattle.provider_edge.proofs.WorkLemmas.{keeps_both, keeps_same}
 use Rattle.peer_dialogue.proofs.SettleLemmas.{map_on}
 use Rattle.provider_edge.proofs.edge.Edge.lost.Goals as goal
 
@@ -27,3 +29,21 @@ returns-clause-step g c = map_on _ _ c.mend.result
     ∙ ap (happens_with_ends told c.args.peer (Closed reason.Closed)) (begun (seen c.args.self.now) (g.L.Link.calls c.args.link.now)))
     (step told agrees)))
     c.mend.ensures.step
+
+pub returns-then-not-has_end-clause-keeps : goal.returns-then-not-has_end-clause-keeps
+returns-then-not-has_end-clause-keeps g c = keeps_same c.args.self.now
+
+pub returns-then-not-has_end-clause-calls : goal.returns-then-not-has_end-clause-calls
+returns-then-not-has_end-clause-calls g c = goes_nowhere (g.L.Link.calls c.args.link.now)
+
+pub returns-clause-keeps : goal.returns-clause-keeps
+returns-clause-keeps g c = keeps_both c.args.self.now c.lose.new.self c.mend.new.self c.in_ok-lose.ensures.keeps c.mend.ensures.keeps
+
+pub returns-clause-calls : goal.returns-clause-calls
+returns-clause-calls g c = c.mend.ensures.calls
+
+pub returns-in_err-lose-clause-keeps : goal.returns-in_err-lose-clause-keeps
+returns-in_err-lose-clause-keeps g c = c.lose.ensures.keeps
+
+pub returns-in_err-lose-clause-calls : goal.returns-in_err-lose-clause-calls
+returns-in_err-lose-clause-calls g c = goes_nowhere (g.L.Link.calls c.args.link.now)

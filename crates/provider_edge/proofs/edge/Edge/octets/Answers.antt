@@ -6,6 +6,8 @@ use Rattle.provider_edge.specs.Lists.{seen, worked}
 use Rattle.peer_dialogue.specs.Peering.{at_edge}
 use Rattle.provider_edge.proofs.EdgeLemmas.{begun, mended, octets_done, octets_idle}
 use Rattle.peer_dialogue.proofs.SpeakerLemmas.{agrees_before, goes_both}
+use Rattle.provider_edge.proofs.EffectLemmas.{goes_nowhere}
+use Rattle.provider_edge.proofs.WorkLemmas.{keeps_both, keeps_same}
 use Rattle.peer_dialogue.proofs.SettleLemmas.{map_on}
 use Rattle.provider_edge.proofs.edge.Edge.octets.Goals as goal
 
@@ -28,3 +30,18 @@ returns-clause-step g c = map_on _ _ c.mend.result
     ∙ ap (hears_on c.args.self.now.plan told c.args.peer c.args.octets.now ((seen c.args.self.now).peering c.args.peer.0)) (begun (seen c.args.self.now) (g.L.Link.calls c.args.link.now)))
     (step told agrees)))
     c.mend.ensures.step
+
+pub returns-then-not-has_end-clause-keeps : goal.returns-then-not-has_end-clause-keeps
+returns-then-not-has_end-clause-keeps g c = keeps_same c.args.self.now
+
+pub returns-then-not-has_end-clause-calls : goal.returns-then-not-has_end-clause-calls
+returns-then-not-has_end-clause-calls g c = goes_nowhere (g.L.Link.calls c.args.link.now)
+
+pub returns-clause-keeps : goal.returns-clause-keeps
+returns-clause-keeps g c = keeps_both c.args.self.now c.hear_octets.new.self c.mend.new.self c.in_ok-hear_octets.ensures.keeps c.mend.ensures.keeps
+
+pub returns-in_err-hear_octets-clause-keeps : goal.returns-in_err-hear_octets-clause-keeps
+returns-in_err-hear_octets-clause-keeps g c = c.hear_octets.ensures.keeps
+
+pub returns-in_err-hear_octets-clause-calls : goal.returns-in_err-hear_octets-clause-calls
+returns-in_err-hear_octets-clause-calls g c = c.hear_octets.ensures.calls

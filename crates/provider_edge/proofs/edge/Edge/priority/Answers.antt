@@ -9,6 +9,8 @@ use Rattle.provider_edge.specs.Lists.{EdgeLists, rest_of, seen, worked}
 use Rattle.provider_edge.specs.contracts.edge.Edge.{the_view}
 use Rattle.peer_dialogue.specs.Peering.{at_edge}
 use Rattle.provider_edge.proofs.EdgeLemmas.{apart_eqb, priority_at, priority_seen, own_edge, mended, priority_already, priority_apart, priority_set}
+use Rattle.provider_edge.proofs.EffectLemmas.{goes_nowhere}
+use Rattle.provider_edge.proofs.WorkLemmas.{keeps_both, keeps_same}
 use Rattle.peer_dialogue.proofs.SettleLemmas.{map_on}
 use Rattle.provider_edge.proofs.edge.Edge.priority.Goals.{then-not-is_own_spoke-via-then-not-is_own_spoke, then-not-is_own_spoke-via-else-not-is_own_spoke+then-priority_of-priority}
 use Rattle.provider_edge.proofs.edge.Edge.priority.Goals as goal
@@ -39,3 +41,15 @@ returns-clause-step g c = map_on _ _ c.mend.result
     (priority_at c.args.self.now c.set_priority.new.self c.args.wire c.args.priority (g.L.Link.calls c.args.link.now) c.set_priority.ensures.step))
     (step told agrees)))
     c.mend.ensures.step
+
+pub returns-then-not-is_own_spoke-clause-keeps : goal.returns-then-not-is_own_spoke-clause-keeps
+returns-then-not-is_own_spoke-clause-keeps g c = keeps_same c.args.self.now
+
+pub returns-then-not-is_own_spoke-clause-calls : goal.returns-then-not-is_own_spoke-clause-calls
+returns-then-not-is_own_spoke-clause-calls g c = goes_nowhere (g.L.Link.calls c.args.link.now)
+
+pub returns-clause-keeps : goal.returns-clause-keeps
+returns-clause-keeps g c = keeps_both c.args.self.now c.set_priority.new.self c.mend.new.self c.set_priority.ensures.keeps c.mend.ensures.keeps
+
+pub returns-clause-calls : goal.returns-clause-calls
+returns-clause-calls g c = c.mend.ensures.calls

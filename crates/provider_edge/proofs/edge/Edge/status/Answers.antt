@@ -9,6 +9,8 @@ use Rattle.provider_edge.specs.Lists.{EdgeLists, rest_of, seen, worked}
 use Rattle.provider_edge.specs.contracts.edge.Edge.{the_view}
 use Rattle.peer_dialogue.specs.Peering.{at_edge}
 use Rattle.provider_edge.proofs.EdgeLemmas.{apart_eqb, bits_at, bits_seen, ends_edge, mended, status_already, status_apart, status_set}
+use Rattle.provider_edge.proofs.EffectLemmas.{goes_nowhere}
+use Rattle.provider_edge.proofs.WorkLemmas.{keeps_both, keeps_same}
 use Rattle.peer_dialogue.proofs.SettleLemmas.{map_on}
 use Rattle.provider_edge.proofs.edge.Edge.status.Goals.{then-not-ends_here-via-then-not-ends_here, then-not-ends_here-via-else-not-ends_here+then-bits_of-bits}
 use Rattle.provider_edge.proofs.edge.Edge.status.Goals as goal
@@ -39,3 +41,15 @@ returns-clause-step g c = map_on _ _ c.mend.result
     (bits_at c.args.self.now c.set_bits.new.self c.args.wire c.args.bits (g.L.Link.calls c.args.link.now) c.set_bits.ensures.step))
     (step told agrees)))
     c.mend.ensures.step
+
+pub returns-then-not-ends_here-clause-keeps : goal.returns-then-not-ends_here-clause-keeps
+returns-then-not-ends_here-clause-keeps g c = keeps_same c.args.self.now
+
+pub returns-then-not-ends_here-clause-calls : goal.returns-then-not-ends_here-clause-calls
+returns-then-not-ends_here-clause-calls g c = goes_nowhere (g.L.Link.calls c.args.link.now)
+
+pub returns-clause-keeps : goal.returns-clause-keeps
+returns-clause-keeps g c = keeps_both c.args.self.now c.set_bits.new.self c.mend.new.self c.set_bits.ensures.keeps c.mend.ensures.keeps
+
+pub returns-clause-calls : goal.returns-clause-calls
+returns-clause-calls g c = c.mend.ensures.calls

@@ -28,3 +28,13 @@ returns-clause-step g c = map_on _ _ c.mend.result
     c.forget.ensures.step)
     (step told agrees))
     c.mend.ensures.step
+
+pub returns-in_err-tick_sessions-clause-keeps : goal.returns-in_err-tick_sessions-clause-keeps
+returns-in_err-tick_sessions-clause-keeps g c = keeps_both c.args.self.now c.count_tick.new.self c.tick_sessions.new.self c.count_tick.ensures.keeps c.tick_sessions.ensures.keeps
+
+pub returns-in_err-tick_sessions-clause-calls : goal.returns-in_err-tick_sessions-clause-calls
+returns-in_err-tick_sessions-clause-calls g c = c.tick_sessions.ensures.calls
+
+pub returns-clause-keeps : goal.returns-clause-keeps
+returns-clause-keeps g c =
+    keeps_both c.args.self.now c.forget.new.self c.mend.new.self (keeps_both c.args.self.now c.count_tick.new.self c.forget.new.self c.count_tick.ensures.keeps (keeps_both c.count_tick.new.self c.tick_sessions.new.self c.forget.new.self c.in_ok-tick_sessions.ensures.keeps c.forget.ensures.keeps)) c.mend.ensures.keeps

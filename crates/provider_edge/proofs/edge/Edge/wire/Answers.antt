@@ -8,6 +8,8 @@ use Rattle.provider_edge.specs.Lists.{EdgeLists, rest_of, seen, worked}
 use Rattle.provider_edge.specs.contracts.edge.Edge.{the_view}
 use Rattle.peer_dialogue.specs.Peering.{at_edge}
 use Rattle.provider_edge.proofs.EdgeLemmas.{mended, passes_edge, turned_at, wire_already, wire_apart, wire_seen, wire_turned}
+use Rattle.provider_edge.proofs.EffectLemmas.{goes_nowhere}
+use Rattle.provider_edge.proofs.WorkLemmas.{keeps_both, keeps_same}
 use Rattle.peer_dialogue.proofs.SettleLemmas.{map_on}
 use Rattle.provider_edge.proofs.edge.Edge.wire.Goals.{then-not-passes-via-then-not-passes, then-not-passes-via-else-not-passes+then-is_on-on}
 use Rattle.provider_edge.proofs.edge.Edge.wire.Goals as goal
@@ -38,3 +40,15 @@ returns-clause-step g c = map_on _ _ c.mend.result
     (turned_at c.args.self.now c.turn_wire.new.self c.args.wire c.args.on (g.L.Link.calls c.args.link.now) c.turn_wire.ensures.step))
     (step told agrees)))
     c.mend.ensures.step
+
+pub returns-then-not-passes-clause-keeps : goal.returns-then-not-passes-clause-keeps
+returns-then-not-passes-clause-keeps g c = keeps_same c.args.self.now
+
+pub returns-then-not-passes-clause-calls : goal.returns-then-not-passes-clause-calls
+returns-then-not-passes-clause-calls g c = goes_nowhere (g.L.Link.calls c.args.link.now)
+
+pub returns-clause-keeps : goal.returns-clause-keeps
+returns-clause-keeps g c = keeps_both c.args.self.now c.turn_wire.new.self c.mend.new.self c.turn_wire.ensures.keeps c.mend.ensures.keeps
+
+pub returns-clause-calls : goal.returns-clause-calls
+returns-clause-calls g c = c.mend.ensures.calls
