@@ -1,5 +1,6 @@
 pub mod AbsorbLemmas
 pub mod AnswerLemmas
+pub mod BroughtLemmas
 pub mod CalmLemmas
 pub mod CarryingLemmas
 pub mod ConnectionLemmas

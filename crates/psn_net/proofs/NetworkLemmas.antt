@@ -1,14 +1,16 @@
 -- An edge's work lies in the lists as in the maps.
-use Rattle.std.proofs.Common.{◌≡◌, ◌==◌, ◌<◌, ◌+◌, ◌++◌, ◌∷◌, [], ℕ, suc, zero, Bool, true, false, List, Option, Some, None, cond, refl, ap, sym, subst, arith, length, slice_index_or, slice_set, nat_eq, append_assoc, length-append, inl, inr, ◌∙◌}
+use Rattle.std.proofs.Common.{◌≡◌, ◌==◌, ◌<◌, ◌≤◌, ◌+◌, ◌++◌, ◌∷◌, [], ℕ, suc, zero, Bool, true, false, List, Option, Some, None, Result, Ok, Err, OnOk, OnErr, cond, refl, ap, sym, subst, arith, length, slice_index_or, slice_set, nat_eq, append_assoc, length-append, inl, inr, ◌∙◌}
 use Rattle.std.proofs.lemmas.Bool.{cases_Bool, cases_order, eq-eqb, eqb-true}
 use Rattle.std.proofs.lemmas.Bool.Decides.{nat_tests}
 use Rattle.net_base.specs.declared.plan.places.EdgeId.{EdgeId}
+use Rattle.net_values.specs.declared.no_memory.NoMemory.{NoMemory}
 use Rattle.provider_edge.specs.Lists.{EdgeLists}
 use Rattle.provider_edge.specs.Lists as edge
 use Rattle.net_base.specs.declared.plan.circuit_plan.CircuitPlan.{CircuitPlan}
 use Rattle.net_base.specs.declared.plan.places.CircuitId.{CircuitId}
 use Rattle.net_base.specs.declared.trace.entry.Entry.{Entry}
 use Rattle.net_base.specs.declared.trace.entry.Entry.TheVariants.{Idle, In}
+use Rattle.net_base.specs.plan.Accepted.{IsChecked}
 use Rattle.net_base.specs.plan.Places.{circuit_row}
 use Rattle.edge_model.specs.declared.effect.Effect.{Effect}
 use Rattle.edge_model.specs.Circuit.{circuit_input}
@@ -29,7 +31,8 @@ use Rattle.edge_model.specs.Step.{edge_step}
 use Rattle.edge_model.specs.Work.{Work, beginning}
 use Rattle.network_model.specs.Absorb.{Stepped, absorb, absorb_all, all_entries_of, answer, begin_at, taken_all}
 use Rattle.network_model.specs.Absorb.{idle as idle_event}
-use Rattle.psn_net.specs.Lists.{AreOpen, HasDriven, HasEntered, HasStepped, NetLists, edge_lists, edge_of, no_edge, seen}
+use Rattle.psn_net.specs.Lists.{AreOpen, HasDriven, HasEntered, HasStepped, IsNetwork, NetLists, edge_lists, edge_of, no_edge, seen}
+use Rattle.psn_net.specs.Packets.{ArePacketsOf, UnderWay}
 use Rattle.psn_net.specs.Pipes.{PipeLists, no_octets}
 use Rattle.psn_net.specs.Pipes.{seen as pipes_of}
 
@@ -86,6 +89,46 @@ pub fitting_at : (n : NetLists) (me : EdgeId) (found : EdgeLists) (effects : Lis
 fitting_at n me found effects h planned is fit =
     let same : found ≡ edge_lists n me.0 = is ∙ same_default n.edges me.0 found (no_edge n.plan me.0) h in
     subst (λ (p : Plan). AllFit p effects) (ap (λ (e : EdgeLists). e.plan) same ∙ planned) fit
+
+set_length : {X : Type 0} (xs : List X) (i : ℕ) (v : X) → length (slice_set xs i v) ≡ length xs
+set_length [] i v = refl
+set_length (x ∷ xs) zero v = refl
+set_length (x ∷ xs) (suc i) v = ap suc (set_length xs i v)
+
+-- an entry more, or none
+pub told_network : (n : NetLists) (now : List Entry) (entry : Entry) (result : Result (Unit {0}) NoMemory) → IsNetwork n
+    → OnOk result (now ≡ n.trace ++ entry ∷ []) → OnErr result (now ≡ n.trace) → IsNetwork (record n { trace = now })
+told_network n now entry result is ok err =
+    let more : length n.trace ≤ length now = by result ok err in
+    record {
+      checked = is.checked;
+      count = is.count;
+      square = is.square;
+      planned = is.planned;
+      packets = is.packets;
+      packets_told = omega (arith, is.packets_told, more);
+      frames_told = omega (arith, is.frames_told, more);
+    }
+  where
+    by : (result : Result (Unit {0}) NoMemory) → OnOk result (now ≡ n.trace ++ entry ∷ []) → OnErr result (now ≡ n.trace) → length n.trace ≤ length now
+    by (Ok done) ok err = omega (arith, ap length ok, length-append n.trace (entry ∷ []))
+    by (Err fault) ok err = omega (arith, ap length err)
+
+-- an edge that took an input keeps its plan, and so the network keeps what always holds of it
+pub edge_kept : (n : NetLists) (me : EdgeId) (found now : EdgeLists) → IsNetwork n → me.0 < length n.edges → found ≡ slice_index_or n.edges me.0 found → now.plan ≡ found.plan
+    → IsNetwork (record n { edges = slice_set n.edges me.0 now })
+edge_kept n me found now is below at kept = record {
+  checked = is.checked;
+  count = set_length n.edges me.0 now ∙ is.count;
+  square = is.square;
+  planned = λ k within. ap (λ (e : EdgeLists). e.plan) (view_set (no_edge n.plan k) n.edges me.0 now k below) ∙ by (k == me.0) k (subst (λ (m : ℕ). k < m) (set_length n.edges me.0 now) within);
+  packets = is.packets;
+  packets_told = is.packets_told;
+  frames_told = is.frames_told;
+} where
+  by : (b : Bool) (k : ℕ) → k < length n.edges → (cond b now (edge_lists n k)).plan ≡ n.plan
+  by true k within = kept ∙ (ap (λ (e : EdgeLists). e.plan) (at ∙ same_default n.edges me.0 found (no_edge n.plan me.0) below) ∙ is.planned me.0 below)
+  by false k within = is.planned k within
 
 -- an edge that stays as it is
 pub edge_stays : (network : NetworkState) (me : EdgeId) (state : EdgeState) → state ≡ at_edge network me → with_edge me state network ≡ network
@@ -186,6 +229,29 @@ pub opening : (plan : Plan) (edges : List EdgeLists) (pipes : PipeLists) → Are
     → seen (record { plan = plan; edges = edges; pipes = pipes; packets = record { list = []; last = 0 }; entered = 0; trace = []; failed = false }) ≡ empty_network plan
 unfolding seen
 opening plan edges pipes are empty = λ i. record { edges = λ k. are.empty k i; pipes = empty i; under_way = []; sent = 0; entered = 0 }
+
+-- the network of a plan before its first event, by its parts
+pub opened_state : (plan own : Plan) (count : ℕ) (edges : List EdgeLists) (pipes : PipeLists) (packets : UnderWay) (trace : List Entry)
+    → own ≡ plan → count ≡ length plan.edges → AreOpen own count edges → pipes_of pipes ≡ no_octets → packets ≡ record { list = []; last = 0 } → trace ≡ []
+    → seen (record { plan = own; edges = edges; pipes = pipes; packets = packets; entered = 0; trace = trace; failed = false }) ≡ empty_network plan
+opened_state plan own count edges pipes packets trace planned counted are empty sent told =
+    (λ i. seen (record { plan = own; edges = edges; pipes = pipes; packets = sent i; entered = 0; trace = told i; failed = false }))
+    ∙ (opening own edges pipes (subst (λ (m : ℕ). AreOpen own m edges) (counted ∙ ap (λ (p : Plan). length p.edges) (sym planned)) are) empty ∙ ap empty_network planned)
+
+pub opened_network : (plan own : Plan) (count : ℕ) (edges : List EdgeLists) (pipes : PipeLists) (packets : UnderWay) (trace : List Entry)
+    → IsChecked plan → own ≡ plan → count ≡ length plan.edges → AreOpen own count edges → pipes.size ≡ count → packets ≡ record { list = []; last = 0 }
+    → IsNetwork (record { plan = own; edges = edges; pipes = pipes; packets = packets; entered = 0; trace = trace; failed = false })
+opened_network plan own count edges pipes packets trace checked planned counted are size sent =
+    let many : count ≡ length own.edges = counted ∙ ap (λ (p : Plan). length p.edges) (sym planned) in
+    record {
+      checked = subst (λ (p : Plan). IsChecked p) (sym planned) checked;
+      count = are.len ∙ many;
+      square = size ∙ many;
+      planned = λ k within. are.planned k (subst (λ (m : ℕ). k < m) are.len within);
+      packets = subst (λ (u : UnderWay). ArePacketsOf own u.last u.list) (sym sent) tt;
+      packets_told = subst (λ (u : UnderWay). u.last ≤ length trace) (sym sent) (omega arith);
+      frames_told = omega arith;
+    }
 
 index_end : {X : Type 0} (xs : List X) (x d : X) (k : ℕ) → slice_index_or (xs ++ x ∷ []) k d ≡ cond (nat_eq k (length xs)) x (slice_index_or xs k d)
 index_end [] x d zero = refl

@@ -1,10 +1,11 @@
 -- Ticks of edges, one after another.
-use Rattle.std.proofs.Common.{◌≡◌, ◌<◌, ◌≤◌, ◌+◌, ◌-◌, ◌++◌, ℕ, suc, List, refl, ap, sym, arith, append_assoc, ◌∙◌}
+use Rattle.std.proofs.Common.{◌≡◌, ◌<◌, ◌≤◌, ◌+◌, ◌-◌, ◌++◌, ℕ, suc, List, refl, ap, sym, subst, arith, append_assoc, ◌∙◌}
 use Rattle.net_base.specs.declared.plan.Plan.{Plan}
 use Rattle.net_base.specs.declared.trace.entry.Entry.{Entry}
 use Rattle.network_model.specs.Absorb.{Stepped, and_then, stays}
 use Rattle.network_model.specs.State.{NetworkState}
 use Rattle.network_model.specs.Tick.{tick_at, ticks_from}
+use Rattle.psn_net.specs.Lists.{HasStepped, NetLists, seen}
 
 pub ticks_more : (plan : Plan) (i n : ℕ) (network : NetworkState) → i < n → ticks_from plan i (n - i) network ≡ and_then (tick_at plan (record { 0 = i }) network) (ticks_from plan (i + 1) (n - (i + 1)))
 ticks_more plan i n network h = let e : n - i ≡ suc (n - (i + 1)) = omega arith in rw e refl
@@ -26,5 +27,13 @@ pub ticks_state : (plan : Plan) (i n : ℕ) (network after : NetworkState) → i
     → (ticks_from plan (i + 1) (n - (i + 1)) after).state ≡ (ticks_from plan i (n - i) network).state
 ticks_state plan i n network after below state =
     ap (λ (s : NetworkState). (ticks_from plan (i + 1) (n - (i + 1)) s).state) state ∙ ap (λ (s : Stepped). s.state) (sym (ticks_more plan i n network below))
+
+-- the tick of an edge was done, by a network that keeps the plan
+pub tick_done : (plan : Plan) (old new : NetLists) (i n : ℕ) → old.plan ≡ plan → i < n → HasStepped old new (tick_at old.plan (record { 0 = i }) (seen old))
+    → ((ticks_from plan (i + 1) (n - (i + 1)) (seen new)).state ≡ (ticks_from plan i (n - i) (seen old)).state)
+    × (new.trace ++ (ticks_from plan (i + 1) (n - (i + 1)) (seen new)).entries ≡ old.trace ++ (ticks_from plan i (n - i) (seen old)).entries)
+tick_done plan old new i n kept below done =
+    let step : HasStepped old new (tick_at plan (record { 0 = i }) (seen old)) = subst (λ (p : Plan). HasStepped old new (tick_at p (record { 0 = i }) (seen old))) kept done in
+    (ticks_state plan i n (seen old) (seen new) below step.state, ticks_told plan i n (seen old) (seen new) old.trace new.trace below step.state step.told)
 
 pub ruleset tick_steps = (ticks_told, ticks_state, ticks_end)

@@ -4,7 +4,7 @@ use Rattle.edge_model.specs.Work.{Agrees}
 use Rattle.network_model.specs.Absorb.{begin_at, taken_all}
 use Rattle.provider_edge.specs.Said.{AllFit}
 use Rattle.psn_net.specs.Lists.{HasDriven, NetLists, seen}
-use Rattle.psn_net.proofs.NetworkLemmas.{driving_at, fitting_at}
+use Rattle.psn_net.proofs.NetworkLemmas.{driving_at, edge_kept, fitting_at}
 use Rattle.psn_net.proofs.parts.Parts.drive.Goals as goal
 
 -- src/parts.rt:182:5
@@ -25,3 +25,17 @@ returns-in-Ok-clause-fit c =
     let before : NetLists = record { plan = c.self.inside.plan.value; edges = c.self.inside.edges.items; pipes = c.self.inside.pipes; packets = c.self.inside.packets; entered = c.self.inside.entered; trace = c.self.inside.ledger; failed = c.self.inside.failed } in
     let fit = fitting_at before c.args.me c.index_mut.result.now c.in-Ok.effects.list below (c.self.invariant.planned c.args.me.0 below) c.index_mut.ensures.value c.in-Ok.ensures.fit in
     subst (λ (n : NetLists). AllFit n.plan c.in-Ok.effects.list) c.self.view_is fit
+
+pub invariant_of-self : goal.invariant_of-self
+invariant_of-self c =
+    let below : c.args.me.0 < length c.self.inside.edges.items =
+    omega (arith, c.requires.me, ap (λ (n : NetLists). length n.plan.edges) c.self.view_is, c.self.invariant.count) in
+    let before : NetLists = record { plan = c.self.inside.plan.value; edges = c.self.inside.edges.items; pipes = c.self.inside.pipes; packets = c.self.inside.packets; entered = c.self.inside.entered; trace = c.self.inside.ledger; failed = c.self.inside.failed } in
+    edge_kept before c.args.me c.index_mut.result.now c.take.new.self c.self.invariant below c.index_mut.ensures.value c.take.ensures.plan
+
+pub invariant_of-self-2 : goal.invariant_of-self-2
+invariant_of-self-2 c =
+    let below : c.args.me.0 < length c.self.inside.edges.items =
+    omega (arith, c.requires.me, ap (λ (n : NetLists). length n.plan.edges) c.self.view_is, c.self.invariant.count) in
+    let before : NetLists = record { plan = c.self.inside.plan.value; edges = c.self.inside.edges.items; pipes = c.self.inside.pipes; packets = c.self.inside.packets; entered = c.self.inside.entered; trace = c.self.inside.ledger; failed = c.self.inside.failed } in
+    edge_kept before c.args.me c.index_mut.result.now c.take.new.self c.self.invariant below c.index_mut.ensures.value c.take.ensures.plan

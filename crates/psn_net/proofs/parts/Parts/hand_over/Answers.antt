@@ -6,7 +6,7 @@ use Rattle.network_model.specs.Connection.{hearing_work}
 use Rattle.provider_edge.specs.Said.{AllFit}
 use Rattle.psn_net.specs.Lists.{HasDriven, NetLists, seen}
 use Rattle.psn_net.proofs.ConnectionLemmas.{hearing}
-use Rattle.psn_net.proofs.NetworkLemmas.{driving_at, fitting_at}
+use Rattle.psn_net.proofs.NetworkLemmas.{driving_at, edge_kept, fitting_at}
 use Rattle.psn_net.proofs.parts.Parts.hand_over.Goals as goal
 
 pub returns-in-Ok-clause-driven : goal.returns-in-Ok-clause-driven
@@ -27,3 +27,17 @@ returns-in-Ok-clause-fit c =
     let before : NetLists = record { plan = c.self.inside.plan.value; edges = c.self.inside.edges.items; pipes = c.self.inside.pipes; packets = c.self.inside.packets; entered = c.self.inside.entered; trace = c.self.inside.ledger; failed = c.self.inside.failed } in
     let fit = fitting_at before c.args.to c.index_mut.result.now c.in-Ok.effects.list below (c.self.invariant.planned c.args.to.0 below) c.index_mut.ensures.value c.in-Ok.ensures.fit in
     subst (λ (n : NetLists). AllFit n.plan c.in-Ok.effects.list) c.self.view_is fit
+
+pub invariant_of-self : goal.invariant_of-self
+invariant_of-self c =
+    let below : c.args.to.0 < length c.self.inside.edges.items =
+    omega (arith, c.requires.to, ap (λ (n : NetLists). length n.plan.edges) c.self.view_is, c.self.invariant.count) in
+    let before : NetLists = record { plan = c.self.inside.plan.value; edges = c.self.inside.edges.items; pipes = c.self.inside.pipes; packets = c.self.inside.packets; entered = c.self.inside.entered; trace = c.self.inside.ledger; failed = c.self.inside.failed } in
+    edge_kept before c.args.to c.index_mut.result.now c.take.new.self c.self.invariant below c.index_mut.ensures.value c.take.ensures.plan
+
+pub invariant_of-self-2 : goal.invariant_of-self-2
+invariant_of-self-2 c =
+    let below : c.args.to.0 < length c.self.inside.edges.items =
+    omega (arith, c.requires.to, ap (λ (n : NetLists). length n.plan.edges) c.self.view_is, c.self.invariant.count) in
+    let before : NetLists = record { plan = c.self.inside.plan.value; edges = c.self.inside.edges.items; pipes = c.self.inside.pipes; packets = c.self.inside.packets; entered = c.self.inside.entered; trace = c.self.inside.ledger; failed = c.self.inside.failed } in
+    edge_kept before c.args.to c.index_mut.result.now c.take.new.self c.self.invariant below c.index_mut.ensures.value c.take.ensures.plan
