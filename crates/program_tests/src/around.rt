@@ -182,22 +182,14 @@ fn case_shelf(rt: &impl Abort, alloc: Global, case: &Case) -> MemShelf {
     shelf_of(rt, alloc, octets.as_slice(), case.shelf_fails)
 }
 
-// Runs the words over this shelf and this sink.
-fn finish_over(
-    rt: &impl Abort,
-    alloc: Global,
-    case: &Case,
-    shelf: &mut MemShelf,
-    sink: &mut MemSink,
-) -> Finish {
-    let words = words_of(rt, alloc, case.words);
-    run(alloc, words.as_slice(), shelf, sink)
-}
-
 // Runs the words over the shelf and this sink.
 fn finish_of(rt: &impl Abort, alloc: Global, case: &Case, sink: &mut MemSink) -> Finish {
     let mut shelf = case_shelf(rt, alloc, case);
-    finish_over(rt, alloc, case, &mut shelf, sink)
+    let words = words_of(rt, alloc, case.words);
+    let finish = run(alloc, words.as_slice(), &mut shelf, sink);
+    drop(words);
+    drop(shelf);
+    finish
 }
 
 // Whether octets end with two texts.
@@ -237,32 +229,34 @@ fn is_kind(outcome: &Outcome, told: &str) -> bool {
         && matches!(outcome, Outcome::NotBuilt) == (told == "vplsnet: not built")
 }
 
-// Whether the run has so many entries, where that is told.
-fn has_entries(finish: &Finish, entries: Option<usize>) -> bool {
-    match entries {
-        Some(count) => finish.trace().len() == count,
+// Whether there are so many entries, where that is told.
+fn is_count(entries: usize, told: Option<usize>) -> bool {
+    match told {
+        Some(count) => entries == count,
         None => true,
     }
 }
 
-// What is not as the case has it; empty where all is. The sink counts a fault exactly where the writing failed.
+// What of the status, the entries, the outcome and the sink is not as the case has it; empty where all is. The sink counts a
+// fault exactly where the writing failed.
 fn difference(
     rt: &impl Abort,
     alloc: Global,
     case: &Case,
     taken: Taken,
-    finish: &Finish,
+    (status, entries): (u8, usize),
+    outcome: &Outcome,
     sink: &MemSink,
 ) -> &'static str {
-    if finish.status != case.status {
+    if status != case.status {
         "status"
-    } else if !has_entries(finish, case.entries) {
+    } else if !is_count(entries, case.entries) {
         "entries"
     } else if !is_taken(sink.taken(), taken) {
         "taken"
-    } else if !is_kind(&finish.outcome, case.told) {
+    } else if !is_kind(outcome, case.told) {
         "kind"
-    } else if !is_told(rt, alloc, &finish.outcome, case.told) {
+    } else if !is_told(rt, alloc, outcome, case.told) {
         "told"
     } else if sink.faults() != u64::from(case.status == 4) {
         "faults"
@@ -294,7 +288,8 @@ fn difference_with(
     sink: &mut MemSink,
 ) -> &'static str {
     let finish = finish_of(rt, alloc, case, sink);
-    let difference = difference(rt, alloc, case, taken, &finish, sink);
+    let counts = (finish.status, finish.trace().len());
+    let difference = difference(rt, alloc, case, taken, counts, &finish.outcome, sink);
     let_go(finish);
     difference
 }

@@ -374,11 +374,18 @@ static TOO_LONG: Case = Case {
 };
 
 #[test]
-fn writes_messages_of_each_kind(rt: HostRuntime) {
-    let alloc = rt.alloc();
-    all_play(&rt, alloc, MESSAGES.as_slice());
-    all_play(&rt, alloc, MAPPINGS.as_slice());
-    all_play(&rt, alloc, LABELS.as_slice());
+fn writes_messages_of_sessions_and_addresses(rt: HostRuntime) {
+    all_play(&rt, rt.alloc(), MESSAGES.as_slice());
+}
+
+#[test]
+fn writes_label_mappings(rt: HostRuntime) {
+    all_play(&rt, rt.alloc(), MAPPINGS.as_slice());
+}
+
+#[test]
+fn writes_messages_of_labels(rt: HostRuntime) {
+    all_play(&rt, rt.alloc(), LABELS.as_slice());
 }
 
 #[test]

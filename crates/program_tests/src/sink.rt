@@ -31,30 +31,36 @@ impl<'a> Write for Narrow<'a> {
     }
 }
 
-// One call of the sink, what it answers, and how many faults are counted after it.
+// What a call of the sink answers: of a piece that is written, or of a whole text.
 #[derive(Clone, Copy)]
-enum Step {
-    Write(&'static str, Result<usize, Failed>, u64),
-    Text(&'static str, Result<(), Failed>, u64),
+enum Want {
+    Write(Result<usize, Failed>),
+    Text(Result<(), Failed>),
 }
 
+// The octets of a call of the sink, what it answers, and how many faults are counted after it.
+type Step = (&'static str, Want, u64);
+
 static STEPS: [Step; 5] = [
-    Step::Write("abc", Ok(2), 0),
-    Step::Write("", Ok(0), 0),
-    Step::Text("cde", Ok(()), 0),
-    Step::Text("fghij", Err(Failed), 1),
-    Step::Write("i", Err(Failed), 2),
+    ("abc", Want::Write(Ok(2)), 0),
+    ("", Want::Write(Ok(0)), 0),
+    ("cde", Want::Text(Ok(())), 0),
+    ("fghij", Want::Text(Err(Failed)), 1),
+    ("i", Want::Write(Err(Failed)), 2),
 ];
+
+// Whether the sink answers so.
+fn answers(sink: &mut StdSink<Narrow<'_>>, octets: &[u8], want: Want) -> bool {
+    match want {
+        Want::Write(want) => sink.write(octets) == want,
+        Want::Text(want) => write_text(sink, octets) == want,
+    }
+}
 
 // The sink answers a step so.
 fn takes(rt: &impl Abort, sink: &mut StdSink<Narrow<'_>>, step: Step) {
-    let (piece, agrees, faults) = match step {
-        Step::Write(piece, want, faults) => (piece, sink.write(piece.as_bytes()) == want, faults),
-        Step::Text(text, want, faults) => {
-            (text, write_text(sink, text.as_bytes()) == want, faults)
-        }
-    };
-    assert!(rt; agrees && sink.faults() == faults, "{piece}");
+    let agrees = answers(sink, step.0.as_bytes(), step.1);
+    assert!(rt; agrees && sink.faults() == step.2, "{}", step.0);
 }
 
 // A sink over a writer with room for eight octets takes these steps.
@@ -69,9 +75,15 @@ fn takes_all(rt: &impl Abort, taken: &mut Vec<u8>, steps: &[Step]) {
     }
 }
 
+// The writer has taken all that there is room for.
+fn is_taken(rt: &impl Abort, taken: &[u8]) {
+    assert!(rt; taken == b"abcdefgh".as_slice());
+}
+
 #[test]
 fn takes_pieces_until_there_is_no_room(rt: HostRuntime) {
     let mut taken = Vec::new(rt.alloc());
     takes_all(&rt, &mut taken, STEPS.as_slice());
-    assert!(rt; taken.as_slice() == b"abcdefgh".as_slice());
+    is_taken(&rt, taken.as_slice());
+    drop(taken);
 }
