@@ -456,10 +456,6 @@ synced_control e rest is synced =
     synced_rest e.control.plan e.control (rest_of e) rest
     (subst (λ (p : Plan). InSync p (controlled e.control (rest_of e))) (sym is.plan) (subst (InSync e.plan) (seen_is e is) synced))
 
--- memory was refused, or an input is at work
-pub edge_stopped : (e : EdgeLists) → IsEdge e → IsEdge (record e { stopped = true })
-edge_stopped e is = record { checked = is.checked; plan = is.plan; me = is.me; dialogues = is.dialogues; held = is.held; synced = λ going. absurd (cc (going)) }
-
 pub seen_stopped : (e : EdgeLists) (stopped : Bool) → seen (record e { stopped = stopped }) ≡ seen e
 unfolding seen
 seen_stopped e stopped = refl
