@@ -1,5 +1,5 @@
 //! The command `replay`: the report of a scenario's run.
-ghost use Rattle.std.specs.Prelude.{◌≡◌, [], All, IfOk, Some};
+ghost use Rattle.std.specs.Prelude.{◌≡◌, ◌≢◌, [], All, IfOk, MatchResult, Some};
 ghost use Rattle.net_base.specs.plan.Accepted.{IsChecked};
 ghost use Rattle.network_model.specs.State.{empty_network};
 ghost use Rattle.psn_net.specs.Lists.{seen};
@@ -34,8 +34,10 @@ pub fn replay(alloc: Global, octets: &[u8]) -> Result<Answer, NoMemory>
                 Ok(Answer::refusal(alloc, Outcome::NotBuilt))
             }
         }
-        Err(ScenarioFault::NoMemory) => Err(NoMemory),
-        Err(fault) => Ok(Answer::refusal(alloc, Outcome::ScenarioRefused(fault))),
+        Err(fault) => match refused(fault) {
+            Ok(outcome) => Ok(Answer::refusal(alloc, outcome)),
+            Err(fault) => Err(fault),
+        },
     }
 }
 
@@ -97,5 +99,15 @@ fn outcome_of(stop: Option<NetStop>) -> Outcome
     match stop {
         None => Outcome::Done,
         Some(stop) => Outcome::Stopped(stop),
+    }
+}
+
+// The outcome of a scenario with this fault, which is told as it is; want of memory is no fault of the scenario.
+fn refused(fault: ScenarioFault) -> Result<Outcome, NoMemory>
+    ensures { MatchResult result (λ outcome. (outcome ≡ Outcome.ScenarioRefused fault) × (fault ≢ ScenarioFault.NoMemory)) (λ _. fault ≡ ScenarioFault.NoMemory) }
+{
+    match fault {
+        ScenarioFault::NoMemory => Err(NoMemory),
+        fault => Ok(Outcome::ScenarioRefused(fault)),
     }
 }
