@@ -281,3 +281,9 @@ open_more plan count edges more are planned empty = record {
   empty_by : (k : ℕ) (b : Bool) → nat_eq k (length edges) ≡ b → edge.seen (cond b more (slice_index_or edges k (no_edge plan k))) ≡ empty_edge plan (record { 0 = k })
   empty_by k true e = empty ∙ ap (λ (n : ℕ). empty_edge plan (record { 0 = n })) (sym are.len ∙ sym (eqb-true k (length edges) e))
   empty_by k false e = are.empty k
+
+pub open_next : (plan : Plan) (count : ℕ) (edges after : List EdgeLists) (more : EdgeLists) → AreOpen plan count edges → after ≡ edges ++ more ∷ []
+    → more.plan ≡ plan → edge.seen more ≡ empty_edge more.plan (record { 0 = count }) → AreOpen plan (count + 1) after
+open_next plan count edges after more are is planned empty =
+    subst (λ (es : List EdgeLists). AreOpen plan (count + 1) es) (sym is)
+    (open_more plan count edges more are planned (empty ∙ ap (λ (p : Plan). empty_edge p (record { 0 = count })) planned))
