@@ -1,9 +1,9 @@
 -- The effects of an edge, one after another.
-use Rattle.std.proofs.Common.{◌≡◌, ◌+◌, ◌++◌, ◌∷◌, [], ℕ, List, refl, ap, sym, append_assoc, ◌∙◌}
+use Rattle.std.proofs.Common.{◌≡◌, ◌++◌, ◌∷◌, ℕ, List, ap, append_assoc, ◌∙◌}
 use Rattle.net_base.specs.declared.plan.places.EdgeId.{EdgeId}
 use Rattle.net_base.specs.declared.trace.entry.Entry.{Entry}
 use Rattle.edge_model.specs.declared.effect.Effect.{Effect}
-use Rattle.network_model.specs.Absorb.{absorb_all, absorb_one, all_entries_of, entries_of}
+use Rattle.network_model.specs.Absorb.{absorb_one, all_entries_of, entries_of}
 use Rattle.network_model.specs.State.{NetworkState}
 
 pub told_one : (me : EdgeId) (origin hops : ℕ) (effect : Effect) (effects : List Effect) (network : NetworkState) (trace now : List Entry)

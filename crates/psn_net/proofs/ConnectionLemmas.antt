@@ -1,5 +1,5 @@
 -- The events of connections: what the edges did lies in the lists as the definitions say.
-use Rattle.std.proofs.Common.{◌≡◌, ◌<◌, ◌++◌, ◌∷◌, ◌&&◌, ◌||◌, ◌∙◌, [], ℕ, zero, suc, arith, length, subst, Bool, true, false, List, cond, not, drop, take, refl, ap, sym, nat_eq, append_assoc, inl, inr}
+use Rattle.std.proofs.Common.{◌≡◌, ◌++◌, ◌∷◌, ◌&&◌, ◌||◌, ◌∙◌, [], ℕ, suc, arith, subst, Bool, true, false, List, drop, take, refl, ap, sym, nat_eq, append_assoc, inl, inr}
 use Rattle.std.proofs.lemmas.Bool.{cases_Bool, eqb-true}
 use Rattle.std.specs.List.{All, list_any}
 use Rattle.net_base.specs.declared.plan.Plan.{Plan}
@@ -8,14 +8,14 @@ use Rattle.net_base.specs.declared.plan.wire_plan.WirePlan.{WirePlan}
 use Rattle.net_base.specs.declared.trace.entry.Entry.{Entry}
 use Rattle.net_base.specs.plan.Accepted.{IsChecked, IsWireOf}
 use Rattle.net_base.specs.plan.Paths.{are_joined, has_repeat, joins}
-use Rattle.edge_model.specs.Connection.{connected_input, lost_input, restart_input}
+use Rattle.edge_model.specs.Connection.{connected_input, restart_input}
 use Rattle.edge_model.specs.declared.effect.Effect.{Effect}
 use Rattle.edge_model.specs.declared.effects.Effects.{Effects}
 use Rattle.edge_model.specs.Hear.{octets_input}
 use Rattle.edge_model.specs.State.{EdgeState}
 use Rattle.edge_model.specs.Work.{Work}
-use Rattle.network_model.specs.Absorb.{Stepped, absorb, absorb_all, all_entries_of, begin_at, taken_all}
-use Rattle.network_model.specs.Connection.{connected_work, connecting, delivering, hearing_work, losing, losing_work, restart_event}
+use Rattle.network_model.specs.Absorb.{absorb, absorb_all, all_entries_of, begin_at, taken_all}
+use Rattle.network_model.specs.Connection.{connected_work, connecting, delivering, hearing_work, restart_event}
 use Rattle.network_model.specs.State.{NetworkState, at_edge, with_edge, with_pipe, without_octets_to}
 use Rattle.psn_net.specs.Lists.{HasDriven, HasStepped, NetLists, seen}
 use Rattle.psn_net.specs.Pipes.{seen as pipes_of}

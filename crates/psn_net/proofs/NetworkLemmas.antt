@@ -13,12 +13,10 @@ use Rattle.net_base.specs.declared.trace.entry.Entry.TheVariants.{Idle, In}
 use Rattle.net_base.specs.plan.Accepted.{IsChecked}
 use Rattle.net_base.specs.plan.Places.{circuit_row}
 use Rattle.edge_model.specs.declared.effect.Effect.{Effect}
-use Rattle.edge_model.specs.Circuit.{circuit_input}
 use Rattle.edge_model.specs.Frame.{frame_input}
 use Rattle.edge_model.specs.State.{EdgeState, empty_edge, put_at}
-use Rattle.edge_model.proofs.StillLemmas.{circuit_still, frame_still}
+use Rattle.edge_model.proofs.StillLemmas.{frame_still}
 use Rattle.provider_edge.specs.Said.{AllFit}
-use Rattle.network_model.specs.Circuit.{circuit_event}
 use Rattle.network_model.specs.Frame.{frame_event, next_origin}
 use Rattle.network_model.specs.State.{NetworkState, at_edge, empty_network, with_edge, with_frame}
 use Rattle.provider_edge.proofs.KeptLemmas.{no_edge_seen}
@@ -29,8 +27,7 @@ use Rattle.edge_model.specs.declared.effects.Effects.{Effects}
 use Rattle.edge_model.specs.declared.input.Input.{Input}
 use Rattle.edge_model.specs.Step.{edge_step}
 use Rattle.edge_model.specs.Work.{Work, beginning}
-use Rattle.network_model.specs.Absorb.{Stepped, absorb, absorb_all, all_entries_of, answer, begin_at, taken_all}
-use Rattle.network_model.specs.Absorb.{idle as idle_event}
+use Rattle.network_model.specs.Absorb.{Stepped, absorb, absorb_all, all_entries_of, begin_at, taken_all}
 use Rattle.psn_net.specs.Lists.{AreOpen, HasDriven, HasEntered, HasStepped, IsNetwork, NetLists, edge_lists, edge_of, no_edge, seen}
 use Rattle.psn_net.specs.Packets.{ArePacketsOf, UnderWay}
 use Rattle.psn_net.specs.Pipes.{PipeLists, no_octets}

@@ -4,16 +4,14 @@ use Rattle.std.specs.List.{find}
 use Rattle.net_base.specs.declared.plan.Plan.{Plan}
 use Rattle.net_base.specs.declared.trace.entry.Entry.{Entry}
 use Rattle.net_base.specs.declared.trace.entry.Entry.TheVariants.{Idle}
-use Rattle.edge_model.specs.declared.effects.Effects.{Effects}
 use Rattle.edge_model.specs.Work.{Work}
 use Rattle.network_model.specs.declared.packet.Packet.{Packet}
-use Rattle.network_model.specs.Absorb.{Stepped, absorb, absorb_all, all_entries_of}
+use Rattle.network_model.specs.Absorb.{Stepped, absorb}
 use Rattle.network_model.specs.Absorb.{idle as idle_event}
 use Rattle.network_model.specs.Packet.{arrive_event, arriving, discard_event, packet_at, packet_work}
 use Rattle.network_model.specs.State.{NetworkState, without_number, without_packet}
-use Rattle.psn_net.specs.Lists.{HasDriven, HasStepped, NetLists, seen}
+use Rattle.psn_net.specs.Lists.{HasStepped, NetLists, seen}
 use Rattle.psn_net.specs.Packets.{ArePacketsOf, IsPacketOf, is_numbered}
-use Rattle.psn_net.proofs.ConnectionLemmas.{absorbed_stepped}
 
 -- ---- the packets are those of the plan
 
