@@ -1,8 +1,9 @@
 //! Octets from their hexadecimal digits.
 
+use std::alloc::Global;
 use std::process::Abort;
 
-// The value of a hexadecimal digit; none for a blank.
+// The value of a hexadecimal digit; none for a blank or the end of a line.
 fn nibble(digit: u8) -> Option<u8> {
     match digit {
         b'0'..=b'9' => Some(digit - b'0'),
@@ -11,7 +12,7 @@ fn nibble(digit: u8) -> Option<u8> {
     }
 }
 
-/// Adds the octets of pairs of hexadecimal digits at the end; blanks are passed over.
+/// Adds the octets of pairs of hexadecimal digits at the end; what is no digit is passed over.
 pub fn push_octets(rt: &impl Abort, octets: &mut Vec<u8>, text: &str) {
     let mut high = None;
     for digit in text.as_bytes() {
@@ -25,4 +26,11 @@ pub fn push_octets(rt: &impl Abort, octets: &mut Vec<u8>, text: &str) {
             }
         }
     }
+}
+
+/// The octets of pairs of hexadecimal digits; what is no digit is passed over.
+pub fn octets_of(rt: &impl Abort, alloc: Global, text: &str) -> Vec<u8> {
+    let mut octets = Vec::new(alloc);
+    push_octets(rt, &mut octets, text);
+    octets
 }

@@ -1,6 +1,5 @@
 //! The crates of LDP and of pseudowires.
 
-mod hex;
 mod labels;
 mod pdus;
 mod pw_ends;
@@ -11,4 +10,3 @@ mod statuses;
 mod streams;
 mod tables;
 mod values;
-mod words;

@@ -1,38 +1,71 @@
-//! What values are told as: in the words of their types.
+//! What values are told as: in the words of their types, or in those of a fault.
 
 use net_base::Text;
 use std::alloc::Global;
-use std::fmt::Debug;
+use std::fmt::{Debug, Display};
 use std::process::Abort;
 
-// What stands between these words in front and behind.
-fn between<'a>(told: &'a str, front: &str, back: &str) -> Option<&'a str> {
-    match told.strip_prefix(front) {
-        Some(rest) => rest.strip_suffix(back),
-        None => None,
-    }
-}
+// The words of an empty description.
+const NO_TEXT: &str =
+    "Text { octets: [0, 0, 0, 0, 0, 0, 0, 0, 0, 0, 0, 0, 0, 0, 0, 0, 0, 0, 0, 0, 0, 0, 0, 0, 0, 0, 0, 0, 0, 0, 0, 0, 0, 0, 0, 0, 0, 0, 0, 0, 0, 0, 0, 0, 0, 0, 0, 0, 0, 0, 0, 0, 0, 0, 0, 0, 0, 0, 0, 0, 0, 0, 0, 0, 0, 0, 0, 0, 0, 0, 0, 0, 0, 0, 0, 0, 0, 0, 0, 0], len: 0 }";
 
-// A key is told between these words.
-fn is_key(rt: &impl Abort, alloc: Global, told: Option<&str>, key: &str) -> bool {
+// The words of a name or a key.
+fn key_words(rt: &impl Abort, alloc: Global, key: &str) -> String {
     let key: Text<32> = Text::read(key.as_bytes()).expect(rt, "a key");
-    let words = format!(in alloc; "{key:?}").expect(rt, "memory");
-    told == Some(words.as_str())
+    format!(in alloc; "{key:?}").expect(rt, "memory")
 }
 
-// These are the words that are told, where a key stands in quotes.
-fn are_words(rt: &impl Abort, alloc: Global, told: &str, words: &str) -> bool {
-    match words.split_once('\'') {
-        Some((front, rest)) => {
-            let (key, back) = rest.split_once('\'').expect(rt, "a key");
-            is_key(rt, alloc, between(told, front, back), key)
-        }
-        None => told == words,
+// What stands behind a name, a key or an empty description.
+fn behind_text<'a>(rt: &impl Abort, alloc: Global, told: &'a str, text: &str) -> Option<&'a str> {
+    if text.is_empty() {
+        told.strip_prefix(NO_TEXT)
+    } else {
+        let words = key_words(rt, alloc, text);
+        told.strip_prefix(words.as_str())
     }
 }
 
-/// A value is told in these words of its type, where a key stands in quotes.
+// What stands behind these words, which are a text or not.
+fn behind<'a>(
+    rt: &impl Abort,
+    alloc: Global,
+    told: Option<&'a str>,
+    words: &str,
+    quoted: bool,
+) -> Option<&'a str> {
+    let told = told?;
+    if quoted {
+        behind_text(rt, alloc, told, words)
+    } else {
+        told.strip_prefix(words)
+    }
+}
+
+// These are the words that are told, where a name, a key or an empty description stands in quotes.
+fn are_words(rt: &impl Abort, alloc: Global, told: &str, words: &str) -> bool {
+    let mut rest = Some(told);
+    let mut quoted = false;
+    for piece in words.split('\'') {
+        rest = behind(rt, alloc, rest, piece, quoted);
+        quoted = !quoted;
+    }
+    rest == Some("")
+}
+
+/// A value is told in these words of its type, where a name, a key or an empty description stands in quotes.
 pub fn is_told<T: Debug>(rt: &impl Abort, alloc: Global, value: &T, words: &str) {
     let told = format!(in alloc; "{value:?}").expect(rt, "memory");
     assert!(rt; are_words(rt, alloc, told.as_str(), words), "{words}");
+}
+
+/// A fault says these words.
+pub fn says<T: Display>(rt: &impl Abort, alloc: Global, fault: &T, words: &str) {
+    let told = format!(in alloc; "{fault}").expect(rt, "memory");
+    assert!(rt; told.as_str() == words, "{words}");
+}
+
+/// The front of what was written is these octets, and what stands behind them stays 0xee.
+pub fn is_front(out: &[u8], octets: &[u8]) -> bool {
+    let (front, rest) = out.split_at(octets.len().min(out.len()));
+    front == octets && rest.iter().all(|octet| *octet == 0xee)
 }

@@ -1,5 +1,6 @@
-//! Tests of what no clause of the program's crate says: whole calls, and the outside that no contract sees. They stand in
-//! a crate of their own, since a crate with tests is proved twice.
+//! Tests of runs of the network, and of what no clause of the program's crate says: whole calls, and the outside that no contract
+//! sees. They stand in a crate of their own, since a crate with tests is proved twice, and in one, since each such crate loads and links
+//! all that its tests use.
 #![tactic(auto)]
 
 #[cfg(test)]
@@ -16,6 +17,8 @@ mod files;
 mod frames;
 #[cfg(test)]
 mod hierarchy;
+#[cfg(test)]
+mod networks;
 #[cfg(test)]
 mod pseudowires;
 #[cfg(test)]

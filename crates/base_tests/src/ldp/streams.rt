@@ -1,9 +1,9 @@
 //! Streams of octets that were worked out by hand, in pieces and whole.
 ghost use Rattle.std.specs.Prelude.{◌≤◌};
 
-use crate::ldp::hex::octets_of;
+use crate::hex::octets_of;
 use crate::ldp::scripts::{event_of, number};
-use crate::ldp::words::is_told;
+use crate::words::is_told;
 use ldp_stream::{Stream, StreamFault};
 use net_base::NoMemory;
 use std::alloc::Global;

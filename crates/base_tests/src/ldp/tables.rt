@@ -1,6 +1,6 @@
 //! Tables of rows: each has octets, and behind `= ` what they come to. Other lines are words for a reader.
 
-use crate::ldp::hex::octets_of;
+use crate::hex::octets_of;
 use crate::ldp::pdus::rows as pdus;
 use crate::ldp::values;
 use std::alloc::Global;

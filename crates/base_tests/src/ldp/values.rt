@@ -2,7 +2,7 @@
 ghost use Rattle.std.specs.Prelude.{◌≤◌, length};
 
 use crate::ldp::tables::{About, reads_as};
-use crate::ldp::words::{is_front, is_told, says};
+use crate::words::{is_front, is_told, says};
 use net_base::{Field, List, Mac};
 use pw_tlvs::{
     FecValue, FieldFault, MacsFault, Point, Points, PwFec, PwStatus, fec_size, is_writable_fec,
@@ -16,7 +16,7 @@ use std::process::Abort;
 // one with a further octet or with a second element behind it. An information length of 1 to 3 is too short for a PW ID, and
 // one of 20 counts past the end.
 const ELEMENTS: &str = "
-    80 8005 0a 00000000 00000064 010405dc 7f02 = Ok(Pw(PwFec { c: true, kind: 5, group: 0, pw_id: Some(100), params: IfParams { mtu: Some(1500), description: no text, vlan: None, vccv: None } }))
+    80 8005 0a 00000000 00000064 010405dc 7f02 = Ok(Pw(PwFec { c: true, kind: 5, group: 0, pw_id: Some(100), params: IfParams { mtu: Some(1500), description: '', vlan: None, vccv: None } }))
     02 00 01 20 0a0003 = Ok(Foreign(2))
     80 8005 08 00000000 00000064 010905dc 80 = Ok(Foreign(128))
     80 8005 00 00000007 00 = Ok(Foreign(128))
@@ -54,8 +54,8 @@ const ELEMENTS: &str = "
 // Elements that are also written: one with the C bit, raw, of PW ID 100 and MTU 1500, one of a group, and one with all
 // parameters, of which the description is `ab`.
 const WRITTEN_ELEMENTS: &str = "
-    80 8005 08 00000000 00000064 010405dc = Ok(Pw(PwFec { c: true, kind: 5, group: 0, pw_id: Some(100), params: IfParams { mtu: Some(1500), description: no text, vlan: None, vccv: None } }))
-    80 8005 00 00000007 = Ok(Pw(PwFec { c: true, kind: 5, group: 7, pw_id: None, params: IfParams { mtu: None, description: no text, vlan: None, vccv: None } }))
+    80 8005 08 00000000 00000064 010405dc = Ok(Pw(PwFec { c: true, kind: 5, group: 0, pw_id: Some(100), params: IfParams { mtu: Some(1500), description: '', vlan: None, vccv: None } }))
+    80 8005 00 00000007 = Ok(Pw(PwFec { c: true, kind: 5, group: 7, pw_id: None, params: IfParams { mtu: None, description: '', vlan: None, vccv: None } }))
     80 0004 14 00000102 00000064 010405dc 03046162 06040007 0c040102 = Ok(Pw(PwFec { c: false, kind: 4, group: 258, pw_id: Some(100), params: IfParams { mtu: Some(1500), description: Text { octets: [97, 98, 0, 0, 0, 0, 0, 0, 0, 0, 0, 0, 0, 0, 0, 0, 0, 0, 0, 0, 0, 0, 0, 0, 0, 0, 0, 0, 0, 0, 0, 0, 0, 0, 0, 0, 0, 0, 0, 0, 0, 0, 0, 0, 0, 0, 0, 0, 0, 0, 0, 0, 0, 0, 0, 0, 0, 0, 0, 0, 0, 0, 0, 0, 0, 0, 0, 0, 0, 0, 0, 0, 0, 0, 0, 0, 0, 0, 0, 0], len: 2 }, vlan: Some(7), vccv: Some((1, 2)) } }))
 ";
 

@@ -1,63 +1,9 @@
 //! Tables of documents and of what they are read as.
 
-use net_base::Text;
+use crate::words::is_told;
 use scenario_text::{Scenario, read_scenario};
 use std::alloc::Global;
-use std::fmt::Debug;
 use std::process::Abort;
-
-// The words of an empty description.
-const NO_TEXT: &str =
-    "Text { octets: [0, 0, 0, 0, 0, 0, 0, 0, 0, 0, 0, 0, 0, 0, 0, 0, 0, 0, 0, 0, 0, 0, 0, 0, 0, 0, 0, 0, 0, 0, 0, 0, 0, 0, 0, 0, 0, 0, 0, 0, 0, 0, 0, 0, 0, 0, 0, 0, 0, 0, 0, 0, 0, 0, 0, 0, 0, 0, 0, 0, 0, 0, 0, 0, 0, 0, 0, 0, 0, 0, 0, 0, 0, 0, 0, 0, 0, 0, 0, 0], len: 0 }";
-
-// What stands behind a name or a key.
-fn behind_key<'a>(rt: &impl Abort, alloc: Global, told: &'a str, key: &str) -> Option<&'a str> {
-    let key: Text<32> = Text::read(key.as_bytes()).expect(rt, "a key");
-    let words = format!(in alloc; "{key:?}").expect(rt, "memory");
-    told.strip_prefix(words.as_str())
-}
-
-// What stands behind a name, a key or an empty description.
-fn behind_text<'a>(rt: &impl Abort, alloc: Global, told: &'a str, text: &str) -> Option<&'a str> {
-    if text.is_empty() {
-        told.strip_prefix(NO_TEXT)
-    } else {
-        behind_key(rt, alloc, told, text)
-    }
-}
-
-// What stands behind these words, which are a text or not.
-fn behind<'a>(
-    rt: &impl Abort,
-    alloc: Global,
-    told: Option<&'a str>,
-    words: &str,
-    quoted: bool,
-) -> Option<&'a str> {
-    let told = told?;
-    if quoted {
-        behind_text(rt, alloc, told, words)
-    } else {
-        told.strip_prefix(words)
-    }
-}
-
-// These are the words that are told, where a name, a key or an empty description stands in quotes.
-fn are_words(rt: &impl Abort, alloc: Global, told: &str, words: &str) -> bool {
-    let mut rest = Some(told);
-    let mut quoted = false;
-    for piece in words.split('\'') {
-        rest = behind(rt, alloc, rest, piece, quoted);
-        quoted = !quoted;
-    }
-    rest == Some("")
-}
-
-// A value is told in these words of its type, where such a text stands in quotes.
-fn is_told<T: Debug>(rt: &impl Abort, alloc: Global, value: &T, words: &str) {
-    let told = format!(in alloc; "{value:?}").expect(rt, "memory");
-    assert!(rt; are_words(rt, alloc, told.as_str(), words), "{words}");
-}
 
 // A scenario has so many commands, or commands or a plan of these words, which has no commands then.
 fn is_scenario(rt: &impl Abort, alloc: Global, scenario: &Scenario, words: &str) {

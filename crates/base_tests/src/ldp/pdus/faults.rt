@@ -1,7 +1,7 @@
 //! One PDU for each fault, with its place and its field.
 
 use crate::ldp::tables::{About, reads_as};
-use crate::ldp::words::says;
+use crate::words::says;
 use ldp_codec::{DecodeFault, decode_pdu};
 use net_base::Field;
 

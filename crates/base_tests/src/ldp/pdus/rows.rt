@@ -3,7 +3,7 @@ ghost use Rattle.std.specs.Prelude.{◌≡◌, ◌≤◌, ◌<◌, length, true}
 ghost use Rattle.ldp_grammar.specs.Written.{address_octets, list_length, mac_count, macs_length, message_octets, writable};
 
 use crate::ldp::tables::About;
-use crate::ldp::words::{is_front, is_told};
+use crate::words::{is_front, is_told};
 use ldp_codec::{decode_pdu, encode_into};
 use ldp_grammar::{AddressList, LdpId, Message, Pdu, is_writable, message_size};
 use net_base::{Addr, List, Mac};

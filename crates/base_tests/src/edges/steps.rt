@@ -2,8 +2,8 @@
 ghost use Rattle.std.specs.Prelude.{IfSome};
 ghost use Rattle.provider_edge.specs.Taking.{IsInRange};
 
-use crate::edges::octets::octets_of;
 use crate::edges::side::{Side, side_of, take_often};
+use crate::hex::octets_of;
 use edge_model::{Effect, Effects, Input};
 use net_base::{
     Arrival, CircuitId, DropCause, EdgeId, LinkCall, MemLink, SegKey, ServiceId, StateName, WireId,

@@ -3,7 +3,6 @@
 mod bridges;
 mod dialogue;
 mod edge_ends;
-mod octets;
 mod packets;
 mod plans;
 mod proposals;
