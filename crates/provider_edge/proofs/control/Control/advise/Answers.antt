@@ -5,6 +5,7 @@ use Rattle.edge_model.specs.Work.{Work}
 use Rattle.provider_edge.specs.Control.{at_control, controlled}
 use Rattle.peer_dialogue.specs.Peering.{kept_with}
 use Rattle.provider_edge.proofs.LiftLemmas.{advised, done_edge, none_there}
+use Rattle.provider_edge.proofs.ControlLemmas.{plan_both}
 use Rattle.provider_edge.proofs.control.Control.advise.Goals as goal
 
 pub returns-in_default-clause-step : goal.returns-in_default-clause-step
@@ -19,3 +20,6 @@ returns-clause-step g c = λ told rest agrees.
     (c.take_dialogue.ensures.taken rest) (ap (kept_with (rest.held c.args.peer.0)) c.in-Some.is) (c.take_dialogue.ensures.step rest) (c.put_dialogue.ensures.step rest)
     (c.in_ok-left.ensures.step told (rest.held c.args.peer.0) (controlled c.args.self.now rest) agrees))
     (c.clear_ends.ensures.step rest (g.L.Link.calls c.put.new.link) c.put.new.out)
+
+pub returns-clause-keeps : goal.returns-clause-keeps
+returns-clause-keeps g c = plan_both _ _ _ c.take_dialogue.ensures.keeps (plan_both _ _ _ c.put_dialogue.ensures.keeps c.clear_ends.ensures.keeps)

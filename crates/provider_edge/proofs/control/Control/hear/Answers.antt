@@ -44,3 +44,27 @@ hearing-preserved g c = record {
       (c.hearing.invariant.step told rest (agrees_before told _ _ c.in_ok-hear_held.ensures.calls agrees))
       (on_plan c.args.self.now.plan c.hearing.self.plan told c.args.peer _ _ _ _ c.hearing.invariant.keeps.plan (c.in_ok-hear_held.ensures.step told rest (drop c.hearing.at c.args.octets.now) agrees (octets_drop c.hearing.at c.args.octets.now octets))));
 }
+
+pub returns-in_err-hear_held-clause-keeps : goal.returns-in_err-hear_held-clause-keeps
+returns-in_err-hear_held-clause-keeps g c = plan_both _ _ _ c.hearing.invariant.keeps c.hear_held.ensures.keeps
+
+pub returns-in_err-hear_held-clause-calls : goal.returns-in_err-hear_held-clause-calls
+returns-in_err-hear_held-clause-calls g c = goes_both _ _ _ c.hearing.invariant.calls c.hear_held.ensures.calls
+
+pub returns-then-not-has_session-clause-keeps : goal.returns-then-not-has_session-clause-keeps
+returns-then-not-has_session-clause-keeps g c = plan_both _ _ _ c.hearing.invariant.keeps c.in_ok-hear_held.ensures.keeps
+
+pub returns-then-not-has_session-clause-calls : goal.returns-then-not-has_session-clause-calls
+returns-then-not-has_session-clause-calls g c = goes_both _ _ _ c.hearing.invariant.calls c.in_ok-hear_held.ensures.calls
+
+pub returns-then-at-octets-clause-keeps : goal.returns-then-at-octets-clause-keeps
+returns-then-at-octets-clause-keeps g c = plan_both _ _ _ c.hearing.invariant.keeps c.in_ok-hear_held.ensures.keeps
+
+pub returns-then-at-octets-clause-calls : goal.returns-then-at-octets-clause-calls
+returns-then-at-octets-clause-calls g c = goes_both _ _ _ c.hearing.invariant.calls c.in_ok-hear_held.ensures.calls
+
+pub returns-in_err-at-clause-keeps : goal.returns-in_err-at-clause-keeps
+returns-in_err-at-clause-keeps g c = plan_both _ _ _ c.hearing.invariant.keeps c.in_ok-hear_held.ensures.keeps
+
+pub returns-in_err-at-clause-calls : goal.returns-in_err-at-clause-calls
+returns-in_err-at-clause-calls g c = goes_both _ _ _ c.hearing.invariant.calls c.in_ok-hear_held.ensures.calls

@@ -40,3 +40,15 @@ returns-in-Fault-clause-step g c =
     c.next.ensures.octets octets c.max_pdu.ensures.longest c.max_pdu.ensures.value
     (ap (λ d. kept_with (rest.held c.args.peer.0) (option_copied d)) (sym c.in-Some.is) ∙ c.dialogue.ensures rest) at (step told rest agrees) (ended rest c.in-Fault.fault refl)))
     c.happens.ensures.ended c.happens.ensures.step
+
+pub returns-in-Fault-clause-keeps : goal.returns-in-Fault-clause-keeps
+returns-in-Fault-clause-keeps g c = plan_both _ _ _ c.pdus.invariant.keeps c.happens.ensures.keeps
+
+pub returns-in-Fault-clause-calls : goal.returns-in-Fault-clause-calls
+returns-in-Fault-clause-calls g c = goes_both _ _ _ c.pdus.invariant.calls c.happens.ensures.calls
+
+pub returns-in_err-hear_pdu-in-Pdu-clause-keeps : goal.returns-in_err-hear_pdu-in-Pdu-clause-keeps
+returns-in_err-hear_pdu-in-Pdu-clause-keeps g c = plan_both _ _ _ c.pdus.invariant.keeps c.hear_pdu.ensures.keeps
+
+pub returns-in_err-hear_pdu-in-Pdu-clause-calls : goal.returns-in_err-hear_pdu-in-Pdu-clause-calls
+returns-in_err-hear_pdu-in-Pdu-clause-calls g c = goes_both _ _ _ c.pdus.invariant.calls c.hear_pdu.ensures.calls

@@ -2,7 +2,8 @@ use Rattle.std.proofs.Common.{◌∙◌, sym}
 use Rattle.provider_edge.specs.Control.{at_control, controlled}
 use Rattle.provider_edge.proofs.MessageLemmas.{message_none, message_some}
 use Rattle.peer_dialogue.proofs.SettleLemmas.{map_on}
-use Rattle.peer_dialogue.proofs.SpeakerLemmas.{agrees_before}
+use Rattle.peer_dialogue.proofs.SpeakerLemmas.{agrees_before, goes_both}
+use Rattle.provider_edge.proofs.ControlLemmas.{plan_both}
 use Rattle.provider_edge.proofs.control.Control.hear_message.Goals as goal
 
 pub returns-then-not-has_session-clause-step : goal.returns-then-not-has_session-clause-step
@@ -17,3 +18,9 @@ returns-clause-step g c = map_on _ _ c.mend.result
     (sym (c.has_session.ensures rest) ∙ c.if-not-has_session.false) c.in_ok-hear_one.ensures.keeps.plan
     (c.in_ok-hear_one.ensures.step told rest (agrees_before told _ _ c.mend.ensures.calls agrees)) (mended told rest agrees))
     c.mend.ensures.step
+
+pub returns-clause-keeps : goal.returns-clause-keeps
+returns-clause-keeps g c = plan_both _ _ _ c.in_ok-hear_one.ensures.keeps c.mend.ensures.keeps
+
+pub returns-clause-calls : goal.returns-clause-calls
+returns-clause-calls g c = goes_both _ _ _ c.in_ok-hear_one.ensures.calls c.mend.ensures.calls

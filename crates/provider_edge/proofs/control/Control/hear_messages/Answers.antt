@@ -12,3 +12,9 @@ loop-place-preserved g c = record {
       c.loop-place.invariant.keeps.plan (omega (arith, c.loop-place-test.true)) c.index-messages-place.is
       (c.loop-place.invariant.step told rest (agrees_before told _ _ c.in_ok-hear_message.ensures.calls agrees)) (c.in_ok-hear_message.ensures.step told rest agrees);
 }
+
+pub returns-in_err-hear_message-clause-keeps : goal.returns-in_err-hear_message-clause-keeps
+returns-in_err-hear_message-clause-keeps g c = plan_both _ _ _ c.loop-place.invariant.keeps c.hear_message.ensures.keeps
+
+pub returns-in_err-hear_message-clause-calls : goal.returns-in_err-hear_message-clause-calls
+returns-in_err-hear_message-clause-calls g c = goes_both _ _ _ c.loop-place.invariant.calls c.hear_message.ensures.calls

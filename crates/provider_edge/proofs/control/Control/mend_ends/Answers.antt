@@ -22,3 +22,9 @@ loop-slot-preserved g c = record {
 pub returns-clause-step : goal.returns-clause-step
 returns-clause-step g c = λ told rest agrees.
     ends_past (λ plan. mends_end plan told) c.args.self.now c.loop-slot.slot _ _ c.loop-slot.invariant.places (omega (arith, c.loop-slot-test.false, c.count_ends-slot-end.ensures.count)) (c.loop-slot.invariant.step told rest agrees)
+
+pub returns-in_err-failed-clause-keeps : goal.returns-in_err-failed-clause-keeps
+returns-in_err-failed-clause-keeps g c = plan_both _ _ _ c.loop-slot.invariant.keeps c.and_mend_end.ensures.keeps
+
+pub returns-in_err-failed-clause-calls : goal.returns-in_err-failed-clause-calls
+returns-in_err-failed-clause-calls g c = goes_both _ _ _ c.loop-slot.invariant.calls c.and_mend_end.ensures.calls

@@ -3,7 +3,7 @@ use Rattle.provider_edge.specs.Control.{at_control}
 use Rattle.edge_forwarding.specs.Views.{view}
 use Rattle.provider_edge.proofs.ControlLemmas.{plan_both}
 use Rattle.provider_edge.proofs.MendLemmas.{choices_kept, chosen_at, chosen_kept, downs_kept, forgets_kept, me_at, once_done, statuses_kept}
-use Rattle.peer_dialogue.proofs.SpeakerLemmas.{agrees_before}
+use Rattle.peer_dialogue.proofs.SpeakerLemmas.{agrees_before, goes_both}
 use Rattle.provider_edge.proofs.control.Control.mend_from.Goals as goal
 
 pub returns-clause-step : goal.returns-clause-step
@@ -28,3 +28,33 @@ returns-clause-step g c = λ told rest agrees.
     (downs_kept c.args.self.now c.forget_downs.new.self _ _
     (plan_both _ _ _ c.in_ok-refused.ensures.keeps (plan_both _ _ _ c.in_ok-choose_spokes.ensures.keeps (plan_both _ _ _ c.in_ok-untold.ensures.keeps (plan_both _ _ _ c.in_ok-failed.ensures.keeps c.forget_downs.ensures.keeps))))
     (c.in_ok-tell_downs.ensures.step rest (g.L.Link.calls c.mend_choices.new.link)))
+
+pub returns-clause-keeps : goal.returns-clause-keeps
+returns-clause-keeps g c =
+    plan_both _ _ _ c.in_ok-refused.ensures.keeps (plan_both _ _ _ c.in_ok-choose_spokes.ensures.keeps (plan_both _ _ _ c.in_ok-untold.ensures.keeps (plan_both _ _ _ c.in_ok-failed.ensures.keeps (plan_both _ _ _ c.forget_downs.ensures.keeps c.in_ok-tell_downs.ensures.keeps))))
+
+pub returns-clause-calls : goal.returns-clause-calls
+returns-clause-calls g c = goes_both _ _ _ c.in_ok-refused.ensures.calls (goes_both _ _ _ c.in_ok-untold.ensures.calls c.in_ok-failed.ensures.calls)
+
+pub returns-in_err-choose_spokes-clause-keeps : goal.returns-in_err-choose_spokes-clause-keeps
+returns-in_err-choose_spokes-clause-keeps g c = plan_both _ _ _ c.in_ok-refused.ensures.keeps c.choose_spokes.ensures.keeps
+
+pub returns-in_err-untold-clause-keeps : goal.returns-in_err-untold-clause-keeps
+returns-in_err-untold-clause-keeps g c = plan_both _ _ _ c.in_ok-refused.ensures.keeps (plan_both _ _ _ c.in_ok-choose_spokes.ensures.keeps c.mend_statuses.ensures.keeps)
+
+pub returns-in_err-untold-clause-calls : goal.returns-in_err-untold-clause-calls
+returns-in_err-untold-clause-calls g c = goes_both _ _ _ c.in_ok-refused.ensures.calls c.mend_statuses.ensures.calls
+
+pub returns-in_err-failed-clause-keeps : goal.returns-in_err-failed-clause-keeps
+returns-in_err-failed-clause-keeps g c =
+    plan_both _ _ _ c.in_ok-refused.ensures.keeps (plan_both _ _ _ c.in_ok-choose_spokes.ensures.keeps (plan_both _ _ _ c.in_ok-untold.ensures.keeps c.mend_choices.ensures.keeps))
+
+pub returns-in_err-failed-clause-calls : goal.returns-in_err-failed-clause-calls
+returns-in_err-failed-clause-calls g c = goes_both _ _ _ c.in_ok-refused.ensures.calls (goes_both _ _ _ c.in_ok-untold.ensures.calls c.mend_choices.ensures.calls)
+
+pub returns-in_err-tell_downs-clause-keeps : goal.returns-in_err-tell_downs-clause-keeps
+returns-in_err-tell_downs-clause-keeps g c =
+    plan_both _ _ _ c.in_ok-refused.ensures.keeps (plan_both _ _ _ c.in_ok-choose_spokes.ensures.keeps (plan_both _ _ _ c.in_ok-untold.ensures.keeps (plan_both _ _ _ c.in_ok-failed.ensures.keeps (plan_both _ _ _ c.forget_downs.ensures.keeps c.tell_downs.ensures.keeps))))
+
+pub returns-in_err-tell_downs-clause-calls : goal.returns-in_err-tell_downs-clause-calls
+returns-in_err-tell_downs-clause-calls g c = goes_both _ _ _ c.in_ok-refused.ensures.calls (goes_both _ _ _ c.in_ok-untold.ensures.calls c.in_ok-failed.ensures.calls)

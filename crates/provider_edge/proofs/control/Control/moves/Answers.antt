@@ -5,6 +5,7 @@ use Rattle.provider_edge.specs.Control.{controlled}
 use Rattle.peer_dialogue.specs.Peering.{kept_with}
 use Rattle.provider_edge.proofs.LiftLemmas.{done_edge, happened_none}
 use Rattle.provider_edge.proofs.MessageLemmas.{left_none_read}
+use Rattle.provider_edge.proofs.ControlLemmas.{plan_both}
 use Rattle.provider_edge.proofs.control.Control.moves.Goals as goal
 
 pub returns-in_default-clause-step : goal.returns-in_default-clause-step
@@ -26,3 +27,6 @@ returns-in_default-clause-ended g c = λ rest wrong refused.
 pub returns-clause-ended : goal.returns-clause-ended
 returns-clause-ended g c = λ rest wrong refused.
     left_none_read c.args.peer (controlled c.take_dialogue.new.self rest) (controlled c.put_dialogue.new.self rest) (rest.held c.args.peer.0) c.in_ok-left.left (c.put_dialogue.ensures.step rest) (c.in_ok-left.ensures.refused wrong refused)
+
+pub returns-clause-keeps : goal.returns-clause-keeps
+returns-clause-keeps g c = plan_both _ _ _ c.take_dialogue.ensures.keeps c.put_dialogue.ensures.keeps

@@ -18,3 +18,6 @@ pub returns-clause-step : goal.returns-clause-step
 returns-clause-step g c = λ told rest agrees.
     let past : length c.args.ports.now ≤ c.loop-port.port = omega (arith, c.len-port-end.ensures.len, c.loop-port-test.false) in
     sym (copies_end (has c.args.targets.now) (copy_by c.args.self.now.plan told c.args.came c.args.frame.now) c.loop-port.port c.loop-port.port c.args.ports.now _ past) ∙ c.loop-port.invariant.step told rest agrees
+
+pub returns-in_err-put_copy_at-clause-calls : goal.returns-in_err-put_copy_at-clause-calls
+returns-in_err-put_copy_at-clause-calls g c = goes_both _ _ _ c.loop-port.invariant.calls c.put_copy_at.ensures.calls

@@ -4,6 +4,7 @@ use Rattle.provider_edge.specs.Control.{at_control, controlled}
 use Rattle.peer_dialogue.specs.Peering.{had_spoken, is_over, kept_with, put_message}
 use Rattle.peer_dialogue.specs.PwMessage.{numbered}
 use Rattle.provider_edge.proofs.LiftLemmas.{over_is, said_none, said_some, spoken_edge}
+use Rattle.provider_edge.proofs.ControlLemmas.{plan_both}
 use Rattle.provider_edge.proofs.control.Control.say.Goals as goal
 
 pub returns-in_default-clause-step : goal.returns-in_default-clause-step
@@ -23,3 +24,6 @@ returns-clause-step g c = λ told rest agrees.
     (c.take_dialogue.ensures.taken rest) (ap (kept_with (rest.held c.args.peer.0)) c.in-Some.is) (c.take_dialogue.ensures.step rest) (c.put_dialogue.ensures.step rest)
     (c.in_ok-left.ensures.step told (rest.held c.args.peer.0) (controlled c.args.self.now rest) agrees))
     (c.clear_ends.ensures.step rest (g.L.Link.calls c.say.new.link) c.say.new.out)
+
+pub returns-clause-keeps : goal.returns-clause-keeps
+returns-clause-keeps g c = plan_both _ _ _ c.take_dialogue.ensures.keeps (plan_both _ _ _ c.put_dialogue.ensures.keeps c.clear_ends.ensures.keeps)

@@ -30,3 +30,9 @@ pub returns-clause-step : goal.returns-clause-step
 returns-clause-step g c = λ told rest agrees.
     let past : length (ports_of c.args.self.now.plan c.args.service c.args.self.now.me) ≤ c.loop-port.port = omega (arith, c.requires.count, c.loop-port-test.false) in
     sym (copies_end (has c.args.passed.now) (tells_at c.args.self.now.plan told c.args.addresses.now) c.loop-port.port c.loop-port.port (ports_of c.args.self.now.plan c.args.service c.args.self.now.me) _ past) ∙ c.loop-port.invariant.step told rest agrees
+
+pub returns-in_err-tell_where-clause-keeps : goal.returns-in_err-tell_where-clause-keeps
+returns-in_err-tell_where-clause-keeps g c = plan_both _ _ _ c.loop-port.invariant.keeps c.tell_where.ensures.keeps
+
+pub returns-in_err-tell_where-clause-calls : goal.returns-in_err-tell_where-clause-calls
+returns-in_err-tell_where-clause-calls g c = goes_both _ _ _ c.loop-port.invariant.calls c.tell_where.ensures.calls

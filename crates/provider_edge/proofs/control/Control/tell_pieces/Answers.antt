@@ -29,3 +29,9 @@ pub returns-clause-step : goal.returns-clause-step
 returns-clause-step g c = λ told rest agrees.
     pieces_end told (place_of c.args.self.now.ends c.args.slot) (piece_count (length c.args.addresses.now)) c.loop-index.index c.args.addresses.now _ _ (omega (arith, c.loop-index-test.false, c.pieces-index-end.ensures))
     (c.loop-index.invariant.step told rest agrees)
+
+pub returns-in_err-tell_piece-clause-keeps : goal.returns-in_err-tell_piece-clause-keeps
+returns-in_err-tell_piece-clause-keeps g c = plan_both _ _ _ c.loop-index.invariant.keeps c.tell_piece.ensures.keeps
+
+pub returns-in_err-tell_piece-clause-calls : goal.returns-in_err-tell_piece-clause-calls
+returns-in_err-tell_piece-clause-calls g c = goes_both _ _ _ c.loop-index.invariant.calls c.tell_piece.ensures.calls
