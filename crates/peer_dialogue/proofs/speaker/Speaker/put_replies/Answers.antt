@@ -21,3 +21,9 @@ returns-in_default-clause-step g c = λ told s held edge agrees between. all_put
 
 pub returns-clause-step : goal.returns-clause-step
 returns-clause-step g c = λ told s held edge agrees between. c.loop-place.invariant.step told s held edge agrees between ∙ replies_end told c.args.peer c.args.replies.now c.loop-place.place _ (omega (arith, c.loop-place-test.false, c.len-place-end.ensures.count))
+
+pub returns-in_err-put_reply-clause-calls : goal.returns-in_err-put_reply-clause-calls
+returns-in_err-put_reply-clause-calls g c = goes_both _ _ _ c.loop-place.invariant.calls c.put_reply.ensures.calls
+
+pub returns-then-not-branch-clause-calls : goal.returns-then-not-branch-clause-calls
+returns-then-not-branch-clause-calls g c = goes_both _ _ _ c.loop-place.invariant.calls c.in_ok-put_reply.ensures.calls
