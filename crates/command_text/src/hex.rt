@@ -45,7 +45,6 @@ fn pair(first: u8, second: u8) -> Option<u8>
 }
 
 /// The octets of pairs of digits; `None` exactly where these are no pairs of hexadecimal digits.
-#[tactic(auto, using(crate::proofs::HexLemmas::unhex_step, crate::proofs::HexLemmas::unhex_odd, crate::proofs::HexLemmas::unhex_bad))]
 pub fn decode(alloc: Global, digits: &[u8]) -> Result<Option<Octets>, NoMemory>
     ensures { IfOk result (λ octets. octets ≡ unhex digits.now) }
 {

@@ -1,7 +1,7 @@
--- One more octet is decoded.
-use Rattle.std.proofs.Common.{◌∙◌, ◌+◌, ◌++◌, drop, option_map, ap, arith}
+-- One more octet is decoded, and octets that are no pairs of digits are refused.
+use Rattle.std.proofs.Common.{◌∙◌, ◌+◌, ◌++◌, ℕ, List, Option, drop, option_map, sym, ap, arith}
 use Rattle.command_text.specs.Hex.{unhex}
-use Rattle.command_text.proofs.HexLemmas.{unhex_step}
+use Rattle.command_text.proofs.HexLemmas.{unhex_step, unhex_bad, unhex_odd}
 use Rattle.command_text.proofs.hex.decode.Goals as goal
 
 pub decoding-preserved : goal.decoding-preserved
@@ -11,3 +11,13 @@ decoding-preserved c = (
       ∙ c.decoding.invariant.0,
   omega arith,
 )
+
+pub returns-in-None : goal.returns-in-None
+returns-in-None c =
+    sym (ap (λ (read : Option (List ℕ)). option_map (λ xs. c.decoding.octets ++ xs) read) (unhex_bad c.args.digits.now c.decoding.at (omega arith) c.in-None.ensures))
+    ∙ c.decoding.invariant.0
+
+pub returns-then-at-digits : goal.returns-then-at-digits
+returns-then-at-digits c =
+    sym (ap (λ (read : Option (List ℕ)). option_map (λ xs. c.decoding.octets ++ xs) read) (unhex_odd c.args.digits.now c.decoding.at (omega arith)))
+    ∙ c.decoding.invariant.0
