@@ -1,11 +1,13 @@
 -- Words with a blank before each, joined.
-use Rattle.std.proofs.Common.{suc, zero, ◌≡◌, ◌≢◌, ◌+◌, ◌++◌, ℕ, List, [], ◌∷◌, Some, drop, refl, ap, sym, ◌∙◌, length, append_assoc, arith}
-use Rattle.std.specs.Prelude.{codes, slice_get, Option}
-use Rattle.std.proofs.lemmas.List.{append-nil}
+use Rattle.std.proofs.Common.{suc, zero, ◌≡◌, ◌≢◌, ◌<◌, ◌+◌, ◌++◌, ℕ, List, [], ◌∷◌, Some, drop, get_or, refl, ap, sym, ◌∙◌, length, append_assoc, arith}
+use Rattle.std.specs.Prelude.{codes, slice_get, Option, Bool, true, false}
+use Rattle.std.specs.Int.{from_bool}
+use Rattle.std.specs.Fmt.{decimal}
+use Rattle.std.proofs.lemmas.Fmt.{decimal_digit}
+use Rattle.std.proofs.lemmas.List.{append-nil, at_drop_more}
 use Rattle.pw_tlvs.specs.declared.point.Point.{Point}
-use Rattle.text_pieces.specs.Pieces.{spaced}
-use Rattle.text_pieces.specs.Pieces.{hex}
-use Rattle.message_text.specs.Words.{description_words, point_word, point_words}
+use Rattle.text_pieces.specs.Pieces.{hex, spaced}
+use Rattle.message_text.specs.Words.{description_words, flag, parted, point_word, point_words}
 
 -- the words from a place on are the one there and those behind it
 pub points_from : (points : List Point) (index : ℕ) (point : Point) → slice_get points index ≡ Some point
@@ -24,3 +26,23 @@ points_from (first ∷ points) (suc index) point is =
 pub description_told : (octets : List ℕ) → length octets ≢ 0 → spaced (description_words octets) ≡ codes " description=" ++ hex octets
 description_told [] some = absurd (some refl)
 description_told (octet ∷ octets) some = append-nil (codes " description=" ++ hex (octet ∷ octets))
+
+-- a bit is told by its number
+pub bit_digit : (set : Bool) → decimal (from_bool set) ≡ flag set
+bit_digit true = decimal_digit 1 (omega arith)
+bit_digit false = decimal_digit 0 (omega arith)
+
+-- a second part is told behind a slash
+pub pair_told : (old one two new name first second : List ℕ) → one ≡ old ++ spaced ((name ++ first) ∷ []) → two ≡ one ++ codes "/" → new ≡ two ++ second
+    → new ≡ old ++ spaced ((name ++ parted (codes "/") (first ∷ second ∷ [])) ∷ [])
+pair_told old one two new name first second begun marked told = simp (told, marked, begun, append_assoc, append-nil)
+
+-- one more item of a list is told, and those behind it are left
+pub next_told : {X : Type 0} (told : List X → List ℕ) (item : X → List ℕ) → ((x : X) (xs : List X) → told (x ∷ xs) ≡ item x ++ told xs)
+    → (xs : List X) (index : ℕ) (other : X) (old new whole : List ℕ) → index < length xs → new ≡ old ++ item (get_or xs index other)
+    → old ++ told (drop index xs) ≡ whole → new ++ told (drop (index + 1) xs) ≡ whole
+next_told told item step xs index other old new whole within adds before =
+    let x = get_or xs index other in
+    let rest = drop (index + 1) xs in
+    (ap (λ (text : List ℕ). text ++ told rest) adds ∙ append_assoc old (item x) (told rest))
+    ∙ (ap (λ (back : List ℕ). old ++ back) (sym (at_drop_more told xs index other within ∙ step x rest)) ∙ before)

@@ -7,6 +7,7 @@ ghost use Rattle.message_text.specs.Words.{message_name};
 
 use crate::names::message_text;
 use crate::parts::put_parts;
+use crate::pieces::put_told;
 use ldp_grammar::Message;
 use net_values::NoMemory;
 use text_pieces::{put_number, put_text, put_word};
@@ -17,8 +18,7 @@ fn put_head(text: &mut Vec<u8>, base: u64, message: &Message) -> Result<(), NoMe
 {
     put_number(text, base)?;
     put_word(text, message_text(message).as_bytes())?;
-    put_text(text, b" id=")?;
-    put_number(text, u64::from(message.id()))?;
+    put_told(text, b"id=", u64::from(message.id()))?;
     Ok(())
 }
 

@@ -1,51 +1,45 @@
 //! The parts of a message, each with a blank before it.
 ghost use Rattle.std.specs.Prelude.{◌≡◌, ◌++◌, ◌∷◌, [], codes, OnOk};
-ghost use Rattle.std.specs.Fmt.{decimal};
 ghost use Rattle.text_pieces.specs.Pieces.{spaced};
-ghost use Rattle.message_text.specs.Words.{addresses_word, dotted, fec_words, flag, hello_word, label_word, label_words, macs_words, marked, part_words, point_words, pw_status_words, request_word, session_word, status_word, told_fec_words, transport_words, type_word, why_word, withdrawn_words};
+ghost use Rattle.message_text.specs.Words.{addresses_word, fec_words, hello_word, label_word, label_words, macs_words, part_words, point_words, pw_status_words, request_word, session_word, status_word, told_fec_words, transport_words, type_word, why_word, withdrawn_words};
 
 use crate::names::field_text;
-use crate::pieces::{put_dotted, put_flag, put_id, put_slash_flag, put_slash_number, put_told};
+use crate::pieces::{bit, put_address, put_id, put_told, put_told_numbers};
 use crate::pseudowire::{
-    put_fec, put_label, put_macs, put_points, put_pw_status, put_request, put_told_fec,
-    put_told_label,
+    put_fec, put_macs, put_points, put_pw_status, put_request, put_told_fec, put_told_label,
 };
 use ldp_grammar::{AddressList, Message, SessionParams, StatusCode, Why};
 use net_values::{Addr, Label, List, Mac, NoMemory, Octets};
 use pw_tlvs::{Points, PwFec, PwStatus};
-use text_pieces::{put_digits, put_number, put_text, put_word};
+use text_pieces::{put_digits, put_text, put_word};
 
 // Adds a status.
 fn put_status(text: &mut Vec<u8>, status: StatusCode) -> Result<(), NoMemory>
     ensures { OnOk result (text.new.items ≡ text.old.items ++ (codes " " ++ status_word status)) }
 {
-    put_text(text, b" code=")?;
-    put_flag(text, status.fatal)?;
-    put_slash_flag(text, status.forward)?;
-    put_slash_number(text, u64::from(status.code))?;
-    put_slash_number(text, u64::from(status.message))?;
-    put_slash_number(text, u64::from(status.kind))?;
-    Ok(())
+    put_told_numbers(
+        text,
+        b"code=",
+        bit(status.fatal),
+        &[
+            bit(status.forward),
+            u64::from(status.code),
+            u64::from(status.message),
+            u64::from(status.kind),
+        ],
+    )
 }
 
 // Adds the hold time, the T bit and the R bit of a Hello.
 fn put_hello(text: &mut Vec<u8>, hold: u16, targeted: bool, request: bool) -> Result<(), NoMemory>
     ensures { OnOk result (text.new.items ≡ text.old.items ++ (codes " " ++ hello_word hold targeted request)) }
 {
-    put_text(text, b" hold=")?;
-    put_number(text, u64::from(hold))?;
-    put_slash_flag(text, targeted)?;
-    put_slash_flag(text, request)?;
-    Ok(())
-}
-
-// Adds an address under its label.
-fn put_address(text: &mut Vec<u8>, label: &[u8], address: Addr) -> Result<(), NoMemory>
-    ensures { OnOk result (text.new.items ≡ text.old.items ++ spaced ((label.now ++ dotted address) ∷ [])) }
-{
-    put_word(text, label)?;
-    put_dotted(text, address)?;
-    Ok(())
+    put_told_numbers(
+        text,
+        b"hold=",
+        u64::from(hold),
+        &[bit(targeted), bit(request)],
+    )
 }
 
 // Adds the transport address, where there is one.
@@ -53,41 +47,29 @@ fn put_transport(text: &mut Vec<u8>, transport: &Option<Addr>) -> Result<(), NoM
     ensures { OnOk result (text.new.items ≡ text.old.items ++ spaced (transport_words transport.now)) }
 {
     match transport {
-        Some(address) => put_address(text, b"transport=", *address),
+        Some(address) => put_address(text, b" transport=", *address),
         None => Ok(()),
     }
-}
-
-// Adds what an Initialization proposes, before the Max PDU Length.
-fn put_session_front(text: &mut Vec<u8>, params: SessionParams) -> Result<(), NoMemory>
-    ensures { OnOk result (text.new.items ≡ text.old.items ++ (codes " session=" ++ (decimal params.version ++ marked (codes "/") (decimal params.keepalive ∷ flag params.demand ∷ flag params.loops ∷ decimal params.limit ∷ [])))) }
-{
-    put_text(text, b" session=")?;
-    put_number(text, u64::from(params.version))?;
-    put_slash_number(text, u64::from(params.keepalive))?;
-    put_slash_flag(text, params.demand)?;
-    put_slash_flag(text, params.loops)?;
-    put_slash_number(text, u64::from(params.limit))?;
-    Ok(())
 }
 
 // Adds what an Initialization proposes.
 fn put_session(text: &mut Vec<u8>, params: SessionParams) -> Result<(), NoMemory>
     ensures { OnOk result (text.new.items ≡ text.old.items ++ spaced (session_word params ∷ [])) }
 {
-    put_session_front(text, params)?;
-    put_slash_number(text, u64::from(params.max_pdu))?;
+    put_told_numbers(
+        text,
+        b"session=",
+        u64::from(params.version),
+        &[
+            u64::from(params.keepalive),
+            bit(params.demand),
+            bit(params.loops),
+            u64::from(params.limit),
+            u64::from(params.max_pdu),
+        ],
+    )?;
     put_text(text, b"/")?;
     put_id(text, params.receiver)?;
-    Ok(())
-}
-
-// Adds an address family.
-fn put_family(text: &mut Vec<u8>, family: u16) -> Result<(), NoMemory>
-    ensures { OnOk result (text.new.items ≡ text.old.items ++ (codes " addresses=" ++ decimal family)) }
-{
-    put_text(text, b" addresses=")?;
-    put_number(text, u64::from(family))?;
     Ok(())
 }
 
@@ -95,7 +77,7 @@ fn put_family(text: &mut Vec<u8>, family: u16) -> Result<(), NoMemory>
 fn put_addresses(text: &mut Vec<u8>, family: u16, octets: &Octets) -> Result<(), NoMemory>
     ensures { OnOk result (text.new.items ≡ text.old.items ++ spaced (addresses_word family octets.now ∷ [])) }
 {
-    put_family(text, family)?;
+    put_told(text, b"addresses=", u64::from(family))?;
     put_text(text, b"/")?;
     put_digits(text, octets.as_slice())?;
     Ok(())
@@ -166,12 +148,12 @@ fn put_withdrawal(
     Ok(())
 }
 
-// Adds the FEC of a binding and its label.
-fn put_bound(text: &mut Vec<u8>, fec: &PwFec, label: Label) -> Result<(), NoMemory>
-    ensures { OnOk result (text.new.items ≡ text.old.items ++ spaced (fec_words fec.now ++ (label_word label ∷ []))) }
+// Adds the FEC of a binding, and the label where it is told.
+fn put_binding(text: &mut Vec<u8>, fec: &PwFec, label: Option<Label>) -> Result<(), NoMemory>
+    ensures { OnOk result (text.new.items ≡ text.old.items ++ spaced (fec_words fec.now ++ label_words label)) }
 {
     put_fec(text, fec)?;
-    put_label(text, label)?;
+    put_told_label(text, label)?;
     Ok(())
 }
 
@@ -185,18 +167,9 @@ fn put_mapping(
 ) -> Result<(), NoMemory>
     ensures { OnOk result (text.new.items ≡ text.old.items ++ spaced (((fec_words fec.now ++ (label_word label ∷ [])) ++ pw_status_words pw_status) ++ point_words points.now)) }
 {
-    put_bound(text, fec, label)?;
+    put_binding(text, fec, Some(label))?;
     put_pw_status(text, pw_status)?;
     put_points(text, points)?;
-    Ok(())
-}
-
-// Adds the FEC of a binding, and the label where it is told.
-fn put_unbound(text: &mut Vec<u8>, fec: &PwFec, label: Option<Label>) -> Result<(), NoMemory>
-    ensures { OnOk result (text.new.items ≡ text.old.items ++ spaced (fec_words fec.now ++ label_words label)) }
-{
-    put_fec(text, fec)?;
-    put_told_label(text, label)?;
     Ok(())
 }
 
@@ -250,8 +223,9 @@ pub fn put_parts(text: &mut Vec<u8>, message: &Message) -> Result<(), NoMemory>
             ..
         } => put_mapping(text, fec, *label, *pw_status, points),
         Message::LabelRequest { fec, .. } => put_fec(text, fec),
-        Message::LabelWithdraw { fec, label, .. } => put_unbound(text, fec, *label),
-        Message::LabelRelease { fec, label, .. } => put_unbound(text, fec, *label),
+        Message::LabelWithdraw { fec, label, .. } | Message::LabelRelease { fec, label, .. } => {
+            put_binding(text, fec, *label)
+        }
         Message::LabelAbort { fec, request, .. } => put_abort(text, fec, *request),
         Message::Other { kind, .. } => put_type(text, *kind),
         Message::Unprocessed { kind, why, .. } => {

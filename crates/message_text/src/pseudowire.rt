@@ -1,40 +1,34 @@
 //! The parts of a message that are about pseudowires, each with a blank before it.
-ghost use Rattle.std.specs.Prelude.{◌≡◌, ◌++◌, ◌∷◌, [], codes, length, OnOk};
+ghost use Rattle.std.specs.Prelude.{◌≡◌, ◌++◌, ◌∷◌, [], codes, Some, OnOk};
 ghost use Rattle.std.specs.Fmt.{decimal};
 ghost use Rattle.text_pieces.specs.Pieces.{spaced};
-ghost use Rattle.message_text.specs.Words.{description_words, element_word, end_word, fec_words, flag, label_word, label_words, mac_digits, macs_words, marked, mtu_words, params_words, point_word, point_words, pw_id_word, pw_status_words, request_word, segment_word, told_fec_words, vccv_words, vlan_words};
+ghost use Rattle.message_text.specs.Words.{description_words, element_word, end_word, fec_words, label_words, mac_digits, macs_words, mtu_words, params_words, point_word, point_words, pw_id_word, pw_status_words, request_word, segment_word, told_fec_words, vccv_words, vlan_words};
 
-use crate::pieces::{put_dotted, put_flag, put_slash_number, put_told};
+use crate::pieces::{bit, put_address, put_marked_number, put_told, put_told_numbers};
 use net_values::{Addr, Label, List, Mac, NoMemory, Text};
 use pw_tlvs::{IfParams, Point, Points, PwFec, PwStatus};
-use text_pieces::{put_digits, put_number, put_text, put_word};
+use text_pieces::{put_digits, put_text};
 
 // Adds a slash and the PW ID of a FEC element.
 fn put_pw_id(text: &mut Vec<u8>, pw_id: Option<u32>) -> Result<(), NoMemory>
     ensures { OnOk result (text.new.items ≡ text.old.items ++ (codes "/" ++ pw_id_word pw_id)) }
 {
     match pw_id {
-        Some(pw_id) => put_slash_number(text, u64::from(pw_id)),
+        Some(pw_id) => put_marked_number(text, b"/", u64::from(pw_id)),
         None => put_text(text, b"/*"),
     }
-}
-
-// Adds the C bit, the PW type and the group of a FEC element.
-fn put_element_front(text: &mut Vec<u8>, fec: &PwFec) -> Result<(), NoMemory>
-    ensures { OnOk result (text.new.items ≡ text.old.items ++ (codes " fec=" ++ (flag fec.now.c ++ marked (codes "/") (decimal fec.now.kind ∷ decimal fec.now.group ∷ [])))) }
-{
-    put_text(text, b" fec=")?;
-    put_flag(text, fec.c)?;
-    put_slash_number(text, u64::from(fec.kind))?;
-    put_slash_number(text, u64::from(fec.group))?;
-    Ok(())
 }
 
 // Adds a FEC element.
 fn put_element(text: &mut Vec<u8>, fec: &PwFec) -> Result<(), NoMemory>
     ensures { OnOk result (text.new.items ≡ text.old.items ++ (codes " " ++ element_word fec.now)) }
 {
-    put_element_front(text, fec)?;
+    put_told_numbers(
+        text,
+        b"fec=",
+        bit(fec.c),
+        &[u64::from(fec.kind), u64::from(fec.group)],
+    )?;
     put_pw_id(text, fec.pw_id)?;
     Ok(())
 }
@@ -71,28 +65,22 @@ fn put_vlan(text: &mut Vec<u8>, vlan: Option<u16>) -> Result<(), NoMemory>
     }
 }
 
-// Adds what VCCV can do: the bits of control channels, and of checks.
-fn put_vccv_pair(text: &mut Vec<u8>, channels: u8, checks: u8) -> Result<(), NoMemory>
-    ensures { OnOk result (text.new.items ≡ text.old.items ++ (codes " vccv=" ++ (decimal channels ++ marked (codes "/") (decimal checks ∷ [])))) }
-{
-    put_text(text, b" vccv=")?;
-    put_number(text, u64::from(channels))?;
-    put_slash_number(text, u64::from(checks))?;
-    Ok(())
-}
-
 // Adds what VCCV can do, where it is told.
 fn put_vccv(text: &mut Vec<u8>, vccv: Option<(u8, u8)>) -> Result<(), NoMemory>
     ensures { OnOk result (text.new.items ≡ text.old.items ++ spaced (vccv_words vccv)) }
 {
     match vccv {
-        Some((channels, checks)) => put_vccv_pair(text, channels, checks),
+        Some((channels, checks)) => put_told_numbers(
+            text,
+            b"vccv=",
+            u64::from(channels),
+            &[u64::from(checks)],
+        ),
         None => Ok(()),
     }
 }
 
 // Adds the interface parameters that are there.
-#[tactic(auto, using(text_pieces::proofs::SpacedLemmas::spaced_join))]
 fn put_params(text: &mut Vec<u8>, params: &IfParams) -> Result<(), NoMemory>
     ensures { OnOk result (text.new.items ≡ text.old.items ++ spaced (params_words params.now)) }
 {
@@ -122,19 +110,12 @@ pub fn put_told_fec(text: &mut Vec<u8>, fec: &Option<PwFec>) -> Result<(), NoMem
     }
 }
 
-/// Adds a label.
-pub fn put_label(text: &mut Vec<u8>, label: Label) -> Result<(), NoMemory>
-    ensures { OnOk result (text.new.items ≡ text.old.items ++ spaced (label_word label ∷ [])) }
-{
-    put_told(text, b"label=", u64::from(label.number()))
-}
-
 /// Adds a label, where there is one.
 pub fn put_told_label(text: &mut Vec<u8>, label: Option<Label>) -> Result<(), NoMemory>
     ensures { OnOk result (text.new.items ≡ text.old.items ++ spaced (label_words label)) }
 {
     match label {
-        Some(label) => put_label(text, label),
+        Some(label) => put_told(text, b"label=", u64::from(label.number())),
         None => Ok(()),
     }
 }
@@ -159,20 +140,11 @@ fn put_mac_digits(text: &mut Vec<u8>, macs: &[Mac]) -> Result<(), NoMemory>
     Ok(())
 }
 
-// Adds the number of MAC addresses.
-fn put_count(text: &mut Vec<u8>, macs: &List<Mac>) -> Result<(), NoMemory>
-    ensures { OnOk result (text.new.items ≡ text.old.items ++ (codes " macs=" ++ decimal (length macs.now))) }
-{
-    put_text(text, b" macs=")?;
-    put_number(text, macs.len() as u64)?;
-    Ok(())
-}
-
 // Adds a list of MAC addresses.
 fn put_mac_list(text: &mut Vec<u8>, macs: &List<Mac>) -> Result<(), NoMemory>
-    ensures { OnOk result (text.new.items ≡ text.old.items ++ ((codes " macs=" ++ decimal (length macs.now)) ++ (codes "/" ++ mac_digits macs.now))) }
+    ensures { OnOk result (text.new.items ≡ text.old.items ++ spaced (macs_words (Some macs.now))) }
 {
-    put_count(text, macs)?;
+    put_told(text, b"macs=", macs.len() as u64)?;
     put_text(text, b"/")?;
     put_mac_digits(text, macs.as_slice())?;
     Ok(())
@@ -188,23 +160,23 @@ pub fn put_macs(text: &mut Vec<u8>, macs: &Option<List<Mac>>) -> Result<(), NoMe
     }
 }
 
-// Adds the PW ID of a switching point, or a dash.
+// Begins a switching point by its PW ID, or a dash.
 fn put_segment(text: &mut Vec<u8>, pw_id: Option<u32>) -> Result<(), NoMemory>
-    ensures { OnOk result (text.new.items ≡ text.old.items ++ segment_word pw_id) }
+    ensures { OnOk result (text.new.items ≡ text.old.items ++ (codes " point=" ++ segment_word pw_id)) }
 {
     match pw_id {
-        Some(pw_id) => put_number(text, u64::from(pw_id)),
-        None => put_text(text, b"-"),
+        Some(pw_id) => put_marked_number(text, b" point=", u64::from(pw_id)),
+        None => put_text(text, b" point=-"),
     }
 }
 
-// Adds an address of a switching point, or a dash.
+// Adds a slash and an address of a switching point, or a dash.
 fn put_end(text: &mut Vec<u8>, address: Option<Addr>) -> Result<(), NoMemory>
-    ensures { OnOk result (text.new.items ≡ text.old.items ++ end_word address) }
+    ensures { OnOk result (text.new.items ≡ text.old.items ++ (codes "/" ++ end_word address)) }
 {
     match address {
-        Some(address) => put_dotted(text, address),
-        None => put_text(text, b"-"),
+        Some(address) => put_address(text, b"/", address),
+        None => put_text(text, b"/-"),
     }
 }
 
@@ -212,11 +184,8 @@ fn put_end(text: &mut Vec<u8>, address: Option<Addr>) -> Result<(), NoMemory>
 fn put_point(text: &mut Vec<u8>, point: Point) -> Result<(), NoMemory>
     ensures { OnOk result (text.new.items ≡ text.old.items ++ (codes " " ++ point_word point)) }
 {
-    put_text(text, b" point=")?;
     put_segment(text, point.pw_id)?;
-    put_text(text, b"/")?;
     put_end(text, point.local)?;
-    put_text(text, b"/")?;
     put_end(text, point.remote)?;
     Ok(())
 }

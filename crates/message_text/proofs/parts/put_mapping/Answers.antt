@@ -7,5 +7,5 @@ use Rattle.message_text.proofs.parts.put_mapping.Goals as goal
 pub returns : goal.returns
 returns c =
     let old = c.args.text.now.items in
-    let front = both_told old c.put_bound.new.text.items c.put_pw_status.new.text.items (fec_words c.args.fec.now ++ (label_word c.args.label ∷ [])) (pw_status_words c.args.pw_status) c.in_ok-put_bound.ensures c.in_ok-put_pw_status.ensures in
+    let front = both_told old c.put_binding.new.text.items c.put_pw_status.new.text.items (fec_words c.args.fec.now ++ (label_word c.args.label ∷ [])) (pw_status_words c.args.pw_status) c.in_ok-put_binding.ensures c.in_ok-put_pw_status.ensures in
     both_told old c.put_pw_status.new.text.items c.put_points.new.text.items ((fec_words c.args.fec.now ++ (label_word c.args.label ∷ [])) ++ pw_status_words c.args.pw_status) (point_words c.args.points.now) front c.in_ok-put_points.ensures

@@ -1,8 +1,0 @@
--- The label stands behind its FEC.
-use Rattle.std.proofs.Common.{◌∷◌, []}
-use Rattle.message_text.specs.Words.{fec_words, label_word}
-use Rattle.text_pieces.proofs.SpacedLemmas.{both_told}
-use Rattle.message_text.proofs.parts.put_bound.Goals as goal
-
-pub returns : goal.returns
-returns c = both_told c.args.text.now.items c.put_fec.new.text.items c.put_label.new.text.items (fec_words c.args.fec.now) (label_word c.args.label ∷ []) c.in_ok-put_fec.ensures c.in_ok-put_label.ensures
