@@ -6,12 +6,13 @@ ghost use Rattle.text_pieces.specs.Pieces.{hex};
 ghost use Rattle.report_text.specs.Report.{entry_line};
 
 use crate::event::put_event;
-use crate::lines::{put_end_line, put_end_number_line, put_numbers_line};
-use crate::names::{
-    cause_text, put_arrival, put_circuit, put_edge, put_wire, state_text, wire_end_text,
+use crate::lines::{
+    begin_with_circuit, begin_with_edge, begin_with_edges, end_with_octets, end_with_word,
+    put_end_line, put_end_number_line, put_numbers_line,
 };
+use crate::names::{cause_text, put_arrival, put_edge, put_wire, state_text, wire_end_text};
 use net_base::{CircuitId, Down, DropCause, EdgeId, Entry, NoMemory, Plan, StateName, WireId};
-use text_pieces::{put_hex_word, put_number_word, put_text, put_word};
+use text_pieces::{put_number_word, put_text};
 
 // Adds the line of octets that an edge put towards a peer.
 fn put_said(
@@ -23,11 +24,8 @@ fn put_said(
 ) -> Result<(), NoMemory>
     ensures { OnOk result (text.new.items ≡ text.old.items ++ line_of (codes "said" ∷ edge_name plan.now from ∷ edge_name plan.now to ∷ hex octets.now ∷ [])) }
 {
-    put_text(text, b"said")?;
-    put_edge(text, plan, from)?;
-    put_edge(text, plan, to)?;
-    put_hex_word(text, octets)?;
-    put_text(text, b"\n")?;
+    begin_with_edges(text, plan, b"said", from, to)?;
+    end_with_octets(text, octets)?;
     Ok(())
 }
 
@@ -41,11 +39,9 @@ fn put_in(
 ) -> Result<(), NoMemory>
     ensures { OnOk result (text.new.items ≡ text.old.items ++ line_of (codes "in" ∷ circuit_name plan.now circuit ∷ decimal number ∷ hex octets.now ∷ [])) }
 {
-    put_text(text, b"in")?;
-    put_circuit(text, plan, circuit)?;
+    begin_with_circuit(text, plan, b"in", circuit)?;
     put_number_word(text, number)?;
-    put_hex_word(text, octets)?;
-    put_text(text, b"\n")?;
+    end_with_octets(text, octets)?;
     Ok(())
 }
 
@@ -74,8 +70,7 @@ fn put_origin(text: &mut Vec<u8>, origin: u64, hops: u64, octets: &[u8]) -> Resu
 {
     put_number_word(text, origin)?;
     put_number_word(text, hops)?;
-    put_hex_word(text, octets)?;
-    put_text(text, b"\n")?;
+    end_with_octets(text, octets)?;
     Ok(())
 }
 
@@ -90,8 +85,7 @@ fn put_left(
 ) -> Result<(), NoMemory>
     ensures { OnOk result (text.new.items ≡ text.old.items ++ line_of (codes "left" ∷ circuit_name plan.now circuit ∷ decimal origin ∷ decimal hops ∷ hex octets.now ∷ [])) }
 {
-    put_text(text, b"left")?;
-    put_circuit(text, plan, circuit)?;
+    begin_with_circuit(text, plan, b"left", circuit)?;
     put_origin(text, origin, hops, octets)?;
     Ok(())
 }
@@ -106,11 +100,9 @@ fn put_dropped(
 ) -> Result<(), NoMemory>
     ensures { OnOk result (text.new.items ≡ text.old.items ++ line_of (codes "dropped" ∷ edge_name plan.now edge ∷ decimal origin ∷ cause_name cause ∷ [])) }
 {
-    put_text(text, b"dropped")?;
-    put_edge(text, plan, edge)?;
+    begin_with_edge(text, plan, b"dropped", edge)?;
     put_number_word(text, origin)?;
-    put_word(text, cause_text(cause).as_bytes())?;
-    put_text(text, b"\n")?;
+    end_with_word(text, cause_text(cause).as_bytes())?;
     Ok(())
 }
 
@@ -124,11 +116,8 @@ fn put_session(
 ) -> Result<(), NoMemory>
     ensures { OnOk result (text.new.items ≡ text.old.items ++ line_of (codes "session" ∷ edge_name plan.now edge ∷ edge_name plan.now peer ∷ state_name state ∷ [])) }
 {
-    put_text(text, b"session")?;
-    put_edge(text, plan, edge)?;
-    put_edge(text, plan, peer)?;
-    put_word(text, state_text(state).as_bytes())?;
-    put_text(text, b"\n")?;
+    begin_with_edges(text, plan, b"session", edge, peer)?;
+    end_with_word(text, state_text(state).as_bytes())?;
     Ok(())
 }
 

@@ -5,11 +5,13 @@ ghost use Rattle.report_text.specs.Words.{line_of, edge_name, circuit_name, wire
 ghost use Rattle.text_pieces.specs.Pieces.{hex};
 
 use crate::lines::{
-    put_edge_line, put_edges_line, put_end_line, put_end_number_line, put_number_line,
+    begin_with_circuit, begin_with_edges, begin_with_end, end_with_number, end_with_octets,
+    end_with_word, put_edge_line, put_edges_line, put_end_line, put_end_number_line,
+    put_number_line,
 };
-use crate::names::{put_circuit, put_edge, put_wire, switch_text};
+use crate::names::switch_text;
 use net_base::{CircuitId, EdgeId, Event, NoMemory, Plan, WireId};
-use text_pieces::{put_hex_word, put_number_word, put_text, put_word};
+use text_pieces::put_text;
 
 // Adds the line of a delivery.
 fn put_deliver(
@@ -21,11 +23,8 @@ fn put_deliver(
 ) -> Result<(), NoMemory>
     ensures { OnOk result (text.new.items ≡ text.old.items ++ line_of (codes ">" ∷ codes "deliver" ∷ edge_name plan.now from ∷ edge_name plan.now to ∷ decimal count ∷ [])) }
 {
-    put_text(text, b"> deliver")?;
-    put_edge(text, plan, from)?;
-    put_edge(text, plan, to)?;
-    put_number_word(text, u64::from(count))?;
-    put_text(text, b"\n")?;
+    begin_with_edges(text, plan, b"> deliver", from, to)?;
+    end_with_number(text, u64::from(count))?;
     Ok(())
 }
 
@@ -38,10 +37,8 @@ fn put_frame(
 ) -> Result<(), NoMemory>
     ensures { OnOk result (text.new.items ≡ text.old.items ++ line_of (codes ">" ∷ codes "frame" ∷ circuit_name plan.now circuit ∷ hex octets.now ∷ [])) }
 {
-    put_text(text, b"> frame")?;
-    put_circuit(text, plan, circuit)?;
-    put_hex_word(text, octets)?;
-    put_text(text, b"\n")?;
+    begin_with_circuit(text, plan, b"> frame", circuit)?;
+    end_with_octets(text, octets)?;
     Ok(())
 }
 
@@ -74,10 +71,8 @@ fn put_circuit_switch(
 ) -> Result<(), NoMemory>
     ensures { OnOk result (text.new.items ≡ text.old.items ++ line_of (codes ">" ∷ codes "circuit" ∷ circuit_name plan.now circuit ∷ switch_name on ∷ [])) }
 {
-    put_text(text, b"> circuit")?;
-    put_circuit(text, plan, circuit)?;
-    put_word(text, switch_text(on).as_bytes())?;
-    put_text(text, b"\n")?;
+    begin_with_circuit(text, plan, b"> circuit", circuit)?;
+    end_with_word(text, switch_text(on).as_bytes())?;
     Ok(())
 }
 
@@ -111,9 +106,7 @@ fn put_priority(
 fn put_ping(text: &mut Vec<u8>, plan: &Plan, edge: EdgeId, wire: WireId) -> Result<(), NoMemory>
     ensures { OnOk result (text.new.items ≡ text.old.items ++ line_of (codes ">" ∷ codes "ping" ∷ edge_name plan.now edge ∷ wire_name plan.now wire ∷ [])) }
 {
-    put_text(text, b"> ping")?;
-    put_edge(text, plan, edge)?;
-    put_wire(text, plan, wire)?;
+    begin_with_end(text, plan, b"> ping", edge, wire)?;
     put_text(text, b"\n")?;
     Ok(())
 }

@@ -4,8 +4,9 @@ ghost use Rattle.std.specs.Fmt.{decimal};
 ghost use Rattle.report_text.specs.Report.{is_counted, counted_more, counts_line, last_line, told_counts};
 
 use crate::ending::Ending;
+use crate::lines::put_number_line;
 use net_base::{Entry, NoMemory};
-use text_pieces::{put_number, put_number_word, put_text};
+use text_pieces::{put_number, put_text};
 
 /// The kinds of entries that the last line counts. Contracts name a count by its kind.
 #[derive(Clone, Copy, Debug, PartialEq, Eq)]
@@ -108,23 +109,13 @@ fn put_counts(text: &mut Vec<u8>, trace: &[Entry]) -> Result<(), NoMemory>
     put_told(text, counts_of(trace))
 }
 
-// Adds the line of a run that stopped.
-fn put_stop(text: &mut Vec<u8>, bound: &[u8], number: u64) -> Result<(), NoMemory>
-    ensures { OnOk result (text.new.items ≡ text.old.items ++ ((bound.now ++ (codes " " ++ decimal number)) ++ codes "\n")) }
-{
-    put_text(text, bound)?;
-    put_number_word(text, number)?;
-    put_text(text, b"\n")?;
-    Ok(())
-}
-
 /// Adds the last line of a report: the counts of a run that came to its end, or the bound at which it stopped.
 pub fn put_last_line(text: &mut Vec<u8>, trace: &[Entry], ending: Ending) -> Result<(), NoMemory>
     ensures { OnOk result (text.new.items ≡ text.old.items ++ last_line trace.now ending) }
 {
     match ending {
         Ending::End => put_counts(text, trace),
-        Ending::Crowded { count } => put_stop(text, b"stop Crowded", u64::from(count)),
-        Ending::TooMuch { weight } => put_stop(text, b"stop TooMuch", weight),
+        Ending::Crowded { count } => put_number_line(text, b"stop Crowded", u64::from(count)),
+        Ending::TooMuch { weight } => put_number_line(text, b"stop TooMuch", weight),
     }
 }

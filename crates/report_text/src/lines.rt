@@ -2,19 +2,104 @@
 //! stands before each further word, and a line feed ends it.
 ghost use Rattle.std.specs.Prelude.{◌≡◌, ◌++◌, ◌∷◌, [], codes, OnOk};
 ghost use Rattle.std.specs.Fmt.{decimal};
-ghost use Rattle.report_text.specs.Words.{line_of, edge_name, wire_name};
+ghost use Rattle.text_pieces.specs.Pieces.{hex};
+ghost use Rattle.report_text.specs.Words.{line_of, line_end, circuit_name, edge_name, wire_name};
 
-use crate::names::{put_edge, put_wire};
-use net_base::{EdgeId, NoMemory, Plan, WireId};
-use text_pieces::{put_number_word, put_text, put_word};
+use crate::names::{put_circuit, put_edge, put_wire};
+use net_base::{CircuitId, EdgeId, NoMemory, Plan, WireId};
+use text_pieces::{put_hex_word, put_number_word, put_text, put_word};
+
+/// Ends a line with a number.
+pub fn end_with_number(text: &mut Vec<u8>, number: u64) -> Result<(), NoMemory>
+    ensures { OnOk result (text.new.items ≡ text.old.items ++ line_end (decimal number ∷ [])) }
+{
+    put_number_word(text, number)?;
+    put_text(text, b"\n")?;
+    Ok(())
+}
+
+/// Ends a line with a word.
+pub fn end_with_word(text: &mut Vec<u8>, word: &[u8]) -> Result<(), NoMemory>
+    ensures { OnOk result (text.new.items ≡ text.old.items ++ line_end (word.now ∷ [])) }
+{
+    put_word(text, word)?;
+    put_text(text, b"\n")?;
+    Ok(())
+}
+
+/// Ends a line with octets in hexadecimal.
+pub fn end_with_octets(text: &mut Vec<u8>, octets: &[u8]) -> Result<(), NoMemory>
+    ensures { OnOk result (text.new.items ≡ text.old.items ++ line_end (hex octets.now ∷ [])) }
+{
+    put_hex_word(text, octets)?;
+    put_text(text, b"\n")?;
+    Ok(())
+}
+
+/// Begins a line with an edge.
+pub fn begin_with_edge(
+    text: &mut Vec<u8>,
+    plan: &Plan,
+    first: &[u8],
+    edge: EdgeId,
+) -> Result<(), NoMemory>
+    ensures { OnOk result (text.new.items ≡ text.old.items ++ (first.now ++ (codes " " ++ edge_name plan.now edge))) }
+{
+    put_text(text, first)?;
+    put_edge(text, plan, edge)?;
+    Ok(())
+}
+
+/// Begins a line with two edges.
+pub fn begin_with_edges(
+    text: &mut Vec<u8>,
+    plan: &Plan,
+    first: &[u8],
+    from: EdgeId,
+    to: EdgeId,
+) -> Result<(), NoMemory>
+    ensures { OnOk result (text.new.items ≡ text.old.items ++ ((first.now ++ (codes " " ++ edge_name plan.now from)) ++ (codes " " ++ edge_name plan.now to))) }
+{
+    begin_with_edge(text, plan, first, from)?;
+    put_edge(text, plan, to)?;
+    Ok(())
+}
+
+/// Begins a line with an edge and a wire.
+pub fn begin_with_end(
+    text: &mut Vec<u8>,
+    plan: &Plan,
+    first: &[u8],
+    edge: EdgeId,
+    wire: WireId,
+) -> Result<(), NoMemory>
+    ensures { OnOk result (text.new.items ≡ text.old.items ++ ((first.now ++ (codes " " ++ edge_name plan.now edge)) ++ (codes " " ++ wire_name plan.now wire))) }
+{
+    begin_with_edge(text, plan, first, edge)?;
+    put_wire(text, plan, wire)?;
+    Ok(())
+}
+
+/// Begins a line with a circuit.
+pub fn begin_with_circuit(
+    text: &mut Vec<u8>,
+    plan: &Plan,
+    first: &[u8],
+    circuit: CircuitId,
+) -> Result<(), NoMemory>
+    ensures { OnOk result (text.new.items ≡ text.old.items ++ (first.now ++ (codes " " ++ circuit_name plan.now circuit))) }
+{
+    put_text(text, first)?;
+    put_circuit(text, plan, circuit)?;
+    Ok(())
+}
 
 /// Adds a line with a number.
 pub fn put_number_line(text: &mut Vec<u8>, first: &[u8], number: u64) -> Result<(), NoMemory>
     ensures { OnOk result (text.new.items ≡ text.old.items ++ line_of (first.now ∷ decimal number ∷ [])) }
 {
     put_text(text, first)?;
-    put_number_word(text, number)?;
-    put_text(text, b"\n")?;
+    end_with_number(text, number)?;
     Ok(())
 }
 
@@ -29,8 +114,7 @@ pub fn put_numbers_line(
 {
     put_text(text, first)?;
     put_number_word(text, left)?;
-    put_number_word(text, right)?;
-    put_text(text, b"\n")?;
+    end_with_number(text, right)?;
     Ok(())
 }
 
@@ -43,8 +127,7 @@ pub fn put_edge_line(
 ) -> Result<(), NoMemory>
     ensures { OnOk result (text.new.items ≡ text.old.items ++ line_of (first.now ∷ edge_name plan.now edge ∷ [])) }
 {
-    put_text(text, first)?;
-    put_edge(text, plan, edge)?;
+    begin_with_edge(text, plan, first, edge)?;
     put_text(text, b"\n")?;
     Ok(())
 }
@@ -59,9 +142,7 @@ pub fn put_edges_line(
 ) -> Result<(), NoMemory>
     ensures { OnOk result (text.new.items ≡ text.old.items ++ line_of (first.now ∷ edge_name plan.now from ∷ edge_name plan.now to ∷ [])) }
 {
-    put_text(text, first)?;
-    put_edge(text, plan, from)?;
-    put_edge(text, plan, to)?;
+    begin_with_edges(text, plan, first, from, to)?;
     put_text(text, b"\n")?;
     Ok(())
 }
@@ -77,11 +158,8 @@ pub fn put_end_line(
 ) -> Result<(), NoMemory>
     ensures { OnOk result (text.new.items ≡ text.old.items ++ line_of (first.now ∷ edge_name plan.now edge ∷ wire_name plan.now wire ∷ word.now ∷ [])) }
 {
-    put_text(text, first)?;
-    put_edge(text, plan, edge)?;
-    put_wire(text, plan, wire)?;
-    put_word(text, word)?;
-    put_text(text, b"\n")?;
+    begin_with_end(text, plan, first, edge, wire)?;
+    end_with_word(text, word)?;
     Ok(())
 }
 
@@ -96,10 +174,7 @@ pub fn put_end_number_line(
 ) -> Result<(), NoMemory>
     ensures { OnOk result (text.new.items ≡ text.old.items ++ line_of (first.now ∷ edge_name plan.now edge ∷ wire_name plan.now wire ∷ decimal number ∷ [])) }
 {
-    put_text(text, first)?;
-    put_edge(text, plan, edge)?;
-    put_wire(text, plan, wire)?;
-    put_number_word(text, number)?;
-    put_text(text, b"\n")?;
+    begin_with_end(text, plan, first, edge, wire)?;
+    end_with_number(text, number)?;
     Ok(())
 }
