@@ -2,7 +2,6 @@
 
 mod labels;
 mod pdus;
-mod pw_ends;
 mod scripts;
 mod sessions;
 mod spokes;
@@ -10,3 +9,4 @@ mod statuses;
 mod streams;
 mod tables;
 mod values;
+mod wire_ends;
