@@ -9,7 +9,7 @@ const BROADCAST: &str = "ffffffffffff0200000000010800";
 const ANSWER: &str = "0200000000010200000000020800";
 
 // Every wire is set up.
-const UP: [Step; 10] = [
+static UP: [Step; 10] = [
     Step::Calm(false),
     Step::Connect(0, 1),
     Step::Connect(0, 2),
