@@ -1,7 +1,7 @@
 //! The line of an entry.
 ghost use Rattle.std.specs.Prelude.{◌≡◌, ◌++◌, ◌∷◌, [], codes, OnOk};
 ghost use Rattle.std.specs.Fmt.{decimal};
-ghost use Rattle.report_text.specs.Words.{line_of, line_end, edge_name, circuit_name, wire_name, arrival_name, cause_name, wire_end_name, state_name};
+ghost use Rattle.report_text.specs.Words.{line_of, line_end, edge_name, circuit_name, wire_name, cause_name, state_name};
 ghost use Rattle.text_pieces.specs.Pieces.{hex};
 ghost use Rattle.report_text.specs.Report.{entry_line};
 
@@ -11,7 +11,7 @@ use crate::lines::{
     put_end_line, put_end_number_line, put_numbers_line,
 };
 use crate::names::{cause_text, put_arrival, put_edge, put_wire, state_text, wire_end_text};
-use net_base::{CircuitId, Down, DropCause, EdgeId, Entry, NoMemory, Plan, StateName, WireId};
+use net_base::{CircuitId, DropCause, EdgeId, Entry, NoMemory, Plan, StateName, WireId};
 use text_pieces::{put_number_word, put_text};
 
 // Adds the line of octets that an edge put towards a peer.
@@ -25,8 +25,7 @@ fn put_said(
     ensures { OnOk result (text.new.items ≡ text.old.items ++ line_of (codes "said" ∷ edge_name plan.now from ∷ edge_name plan.now to ∷ hex octets.now ∷ [])) }
 {
     begin_with_edges(text, plan, b"said", from, to)?;
-    end_with_octets(text, octets)?;
-    Ok(())
+    end_with_octets(text, octets)
 }
 
 // Adds the line of a frame that entered.
@@ -41,8 +40,7 @@ fn put_in(
 {
     begin_with_circuit(text, plan, b"in", circuit)?;
     put_number_word(text, number)?;
-    end_with_octets(text, octets)?;
-    Ok(())
+    end_with_octets(text, octets)
 }
 
 // Adds the front of the line of a packet that was sent: its number, its edges and its wire.
@@ -60,8 +58,7 @@ fn put_packet(
     put_number_word(text, packet)?;
     put_edge(text, plan, from)?;
     put_edge(text, plan, to)?;
-    put_wire(text, plan, wire)?;
-    Ok(())
+    put_wire(text, plan, wire)
 }
 
 // Ends a line with the origin of a frame, its hops and its octets.
@@ -70,8 +67,7 @@ fn put_origin(text: &mut Vec<u8>, origin: u64, hops: u64, octets: &[u8]) -> Resu
 {
     put_number_word(text, origin)?;
     put_number_word(text, hops)?;
-    end_with_octets(text, octets)?;
-    Ok(())
+    end_with_octets(text, octets)
 }
 
 // Adds the line of a frame that left.
@@ -86,8 +82,7 @@ fn put_left(
     ensures { OnOk result (text.new.items ≡ text.old.items ++ line_of (codes "left" ∷ circuit_name plan.now circuit ∷ decimal origin ∷ decimal hops ∷ hex octets.now ∷ [])) }
 {
     begin_with_circuit(text, plan, b"left", circuit)?;
-    put_origin(text, origin, hops, octets)?;
-    Ok(())
+    put_origin(text, origin, hops, octets)
 }
 
 // Adds the line of a drop.
@@ -102,8 +97,7 @@ fn put_dropped(
 {
     begin_with_edge(text, plan, b"dropped", edge)?;
     put_number_word(text, origin)?;
-    end_with_word(text, cause_text(cause).as_bytes())?;
-    Ok(())
+    end_with_word(text, cause_text(cause).as_bytes())
 }
 
 // Adds the line of a session that moved to a state.
@@ -117,56 +111,26 @@ fn put_session(
     ensures { OnOk result (text.new.items ≡ text.old.items ++ line_of (codes "session" ∷ edge_name plan.now edge ∷ edge_name plan.now peer ∷ state_name state ∷ [])) }
 {
     begin_with_edges(text, plan, b"session", edge, peer)?;
-    end_with_word(text, state_text(state).as_bytes())?;
-    Ok(())
-}
-
-// Adds the line of a wire's end that began to forward, or stopped.
-fn put_wire_end(
-    text: &mut Vec<u8>,
-    plan: &Plan,
-    edge: EdgeId,
-    wire: WireId,
-    down: Option<Down>,
-) -> Result<(), NoMemory>
-    ensures { OnOk result (text.new.items ≡ text.old.items ++ line_of (codes "wire" ∷ edge_name plan.now edge ∷ wire_name plan.now wire ∷ wire_end_name down ∷ [])) }
-{
-    put_end_line(
-        text,
-        plan,
-        b"wire",
-        edge,
-        wire,
-        wire_end_text(down).as_bytes(),
-    )
-}
-
-// Adds the line of the answer to a ping.
-fn put_pong(
-    text: &mut Vec<u8>,
-    plan: &Plan,
-    edge: EdgeId,
-    wire: WireId,
-    sequence: u16,
-) -> Result<(), NoMemory>
-    ensures { OnOk result (text.new.items ≡ text.old.items ++ line_of (codes "pong" ∷ edge_name plan.now edge ∷ wire_name plan.now wire ∷ decimal sequence ∷ [])) }
-{
-    put_end_number_line(text, plan, b"pong", edge, wire, u64::from(sequence))
+    end_with_word(text, state_text(state).as_bytes())
 }
 
 /// Adds the line of an entry.
 pub fn put_entry(text: &mut Vec<u8>, plan: &Plan, entry: &Entry) -> Result<(), NoMemory>
     ensures { OnOk result (text.new.items ≡ text.old.items ++ entry_line plan.now entry.now) }
 {
-    match entry {
-        Entry::Did { event } => put_event(text, plan, event),
+    match *entry {
+        Entry::Did { ref event } => put_event(text, plan, event),
         Entry::Idle => put_text(text, b"idle\n"),
-        Entry::Said { from, to, bytes } => put_said(text, plan, *from, *to, bytes.as_slice()),
+        Entry::Said {
+            from,
+            to,
+            ref bytes,
+        } => put_said(text, plan, from, to, bytes.as_slice()),
         Entry::In {
             circuit,
             number,
-            bytes,
-        } => put_in(text, plan, *circuit, *number, bytes.as_slice()),
+            ref bytes,
+        } => put_in(text, plan, circuit, number, bytes.as_slice()),
         Entry::Sent {
             packet,
             from,
@@ -175,30 +139,37 @@ pub fn put_entry(text: &mut Vec<u8>, plan: &Plan, entry: &Entry) -> Result<(), N
             arrival,
             origin,
             hops,
-            bytes,
+            ref bytes,
         } => {
-            put_packet(text, plan, *packet, *from, *to, *wire)?;
-            put_arrival(text, plan, *arrival)?;
-            put_origin(text, *origin, *hops, bytes.as_slice())
+            put_packet(text, plan, packet, from, to, wire)?;
+            put_arrival(text, plan, arrival)?;
+            put_origin(text, origin, hops, bytes.as_slice())
         }
-        Entry::Copied { packet, of } => put_numbers_line(text, b"copied", *packet, *of),
+        Entry::Copied { packet, of } => put_numbers_line(text, b"copied", packet, of),
         Entry::Left {
             circuit,
             origin,
             hops,
-            bytes,
-        } => put_left(text, plan, *circuit, *origin, *hops, bytes.as_slice()),
+            ref bytes,
+        } => put_left(text, plan, circuit, origin, hops, bytes.as_slice()),
         Entry::Dropped {
             edge,
             origin,
             cause,
-        } => put_dropped(text, plan, *edge, *origin, *cause),
-        Entry::Session { edge, peer, state } => put_session(text, plan, *edge, *peer, *state),
-        Entry::Wire { edge, wire, down } => put_wire_end(text, plan, *edge, *wire, *down),
+        } => put_dropped(text, plan, edge, origin, cause),
+        Entry::Session { edge, peer, state } => put_session(text, plan, edge, peer, state),
+        Entry::Wire { edge, wire, down } => put_end_line(
+            text,
+            plan,
+            b"wire",
+            edge,
+            wire,
+            wire_end_text(down).as_bytes(),
+        ),
         Entry::Pong {
             edge,
             wire,
             sequence,
-        } => put_pong(text, plan, *edge, *wire, *sequence),
+        } => put_end_number_line(text, plan, b"pong", edge, wire, u64::from(sequence)),
     }
 }

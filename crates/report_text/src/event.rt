@@ -24,8 +24,7 @@ fn put_deliver(
     ensures { OnOk result (text.new.items ≡ text.old.items ++ line_of (codes ">" ∷ codes "deliver" ∷ edge_name plan.now from ∷ edge_name plan.now to ∷ decimal count ∷ [])) }
 {
     begin_with_edges(text, plan, b"> deliver", from, to)?;
-    end_with_number(text, u64::from(count))?;
-    Ok(())
+    end_with_number(text, u64::from(count))
 }
 
 // Adds the line of a frame that a customer sends.
@@ -38,28 +37,7 @@ fn put_frame(
     ensures { OnOk result (text.new.items ≡ text.old.items ++ line_of (codes ">" ∷ codes "frame" ∷ circuit_name plan.now circuit ∷ hex octets.now ∷ [])) }
 {
     begin_with_circuit(text, plan, b"> frame", circuit)?;
-    end_with_octets(text, octets)?;
-    Ok(())
-}
-
-// Adds the line of a wire put on or off.
-fn put_wire_switch(
-    text: &mut Vec<u8>,
-    plan: &Plan,
-    edge: EdgeId,
-    wire: WireId,
-    on: bool,
-) -> Result<(), NoMemory>
-    ensures { OnOk result (text.new.items ≡ text.old.items ++ line_of (codes ">" ∷ codes "wire" ∷ edge_name plan.now edge ∷ wire_name plan.now wire ∷ switch_name on ∷ [])) }
-{
-    put_end_line(
-        text,
-        plan,
-        b"> wire",
-        edge,
-        wire,
-        switch_text(on).as_bytes(),
-    )
+    end_with_octets(text, octets)
 }
 
 // Adds the line of a circuit put on or off.
@@ -72,34 +50,7 @@ fn put_circuit_switch(
     ensures { OnOk result (text.new.items ≡ text.old.items ++ line_of (codes ">" ∷ codes "circuit" ∷ circuit_name plan.now circuit ∷ switch_name on ∷ [])) }
 {
     begin_with_circuit(text, plan, b"> circuit", circuit)?;
-    end_with_word(text, switch_text(on).as_bytes())?;
-    Ok(())
-}
-
-// Adds the line of failure bits that are set.
-fn put_status(
-    text: &mut Vec<u8>,
-    plan: &Plan,
-    edge: EdgeId,
-    wire: WireId,
-    bits: u8,
-) -> Result<(), NoMemory>
-    ensures { OnOk result (text.new.items ≡ text.old.items ++ line_of (codes ">" ∷ codes "status" ∷ edge_name plan.now edge ∷ wire_name plan.now wire ∷ decimal bits ∷ [])) }
-{
-    put_end_number_line(text, plan, b"> status", edge, wire, u64::from(bits))
-}
-
-// Adds the line of a priority that is set.
-fn put_priority(
-    text: &mut Vec<u8>,
-    plan: &Plan,
-    edge: EdgeId,
-    wire: WireId,
-    priority: u8,
-) -> Result<(), NoMemory>
-    ensures { OnOk result (text.new.items ≡ text.old.items ++ line_of (codes ">" ∷ codes "priority" ∷ edge_name plan.now edge ∷ wire_name plan.now wire ∷ decimal priority ∷ [])) }
-{
-    put_end_number_line(text, plan, b"> priority", edge, wire, u64::from(priority))
+    end_with_word(text, switch_text(on).as_bytes())
 }
 
 // Adds the line of a ping.
@@ -107,32 +58,45 @@ fn put_ping(text: &mut Vec<u8>, plan: &Plan, edge: EdgeId, wire: WireId) -> Resu
     ensures { OnOk result (text.new.items ≡ text.old.items ++ line_of (codes ">" ∷ codes "ping" ∷ edge_name plan.now edge ∷ wire_name plan.now wire ∷ [])) }
 {
     begin_with_end(text, plan, b"> ping", edge, wire)?;
-    put_text(text, b"\n")?;
-    Ok(())
+    put_text(text, b"\n")
 }
 
 /// Adds the line of an event that was done: its words behind a pointed bracket and a blank.
 pub fn put_event(text: &mut Vec<u8>, plan: &Plan, event: &Event) -> Result<(), NoMemory>
     ensures { OnOk result (text.new.items ≡ text.old.items ++ line_of (codes ">" ∷ event_words plan.now event.now)) }
 {
-    match event {
-        Event::Connect { from, to } => put_edges_line(text, plan, b"> connect", *from, *to),
-        Event::Deliver { from, to, count } => put_deliver(text, plan, *from, *to, *count),
-        Event::Lose { edge, peer } => put_edges_line(text, plan, b"> lose", *edge, *peer),
-        Event::Restart { edge } => put_edge_line(text, plan, b"> restart", *edge),
+    match *event {
+        Event::Connect { from, to } => put_edges_line(text, plan, b"> connect", from, to),
+        Event::Deliver { from, to, count } => put_deliver(text, plan, from, to, count),
+        Event::Lose { edge, peer } => put_edges_line(text, plan, b"> lose", edge, peer),
+        Event::Restart { edge } => put_edge_line(text, plan, b"> restart", edge),
         Event::Tick => put_text(text, b"> tick\n"),
-        Event::Frame { circuit, bytes } => put_frame(text, plan, *circuit, bytes.as_slice()),
-        Event::Arrive { packet } => put_number_line(text, b"> arrive", *packet),
-        Event::Discard { packet } => put_number_line(text, b"> drop", *packet),
-        Event::Again { packet } => put_number_line(text, b"> again", *packet),
-        Event::Wire { edge, wire, on } => put_wire_switch(text, plan, *edge, *wire, *on),
-        Event::Circuit { circuit, on } => put_circuit_switch(text, plan, *circuit, *on),
-        Event::Status { edge, wire, bits } => put_status(text, plan, *edge, *wire, *bits),
+        Event::Frame { circuit, ref bytes } => put_frame(text, plan, circuit, bytes.as_slice()),
+        Event::Arrive { packet } => put_number_line(text, b"> arrive", packet),
+        Event::Discard { packet } => put_number_line(text, b"> drop", packet),
+        Event::Again { packet } => put_number_line(text, b"> again", packet),
+        Event::Wire { edge, wire, on } => put_end_line(
+            text,
+            plan,
+            b"> wire",
+            edge,
+            wire,
+            switch_text(on).as_bytes(),
+        ),
+        Event::Circuit { circuit, on } => put_circuit_switch(text, plan, circuit, on),
+        Event::Status { edge, wire, bits } => put_end_number_line(
+            text,
+            plan,
+            b"> status",
+            edge,
+            wire,
+            u64::from(bits),
+        ),
         Event::Priority {
             edge,
             wire,
             priority,
-        } => put_priority(text, plan, *edge, *wire, *priority),
-        Event::Ping { edge, wire } => put_ping(text, plan, *edge, *wire),
+        } => put_end_number_line(text, plan, b"> priority", edge, wire, u64::from(priority)),
+        Event::Ping { edge, wire } => put_ping(text, plan, edge, wire),
     }
 }

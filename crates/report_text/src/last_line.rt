@@ -1,7 +1,7 @@
 //! The last line of a report.
 ghost use Rattle.std.specs.Prelude.{◌≡◌, ◌<◌, ◌^◌, ◌++◌, codes, count_by, OnOk};
 ghost use Rattle.std.specs.Fmt.{decimal};
-ghost use Rattle.report_text.specs.Report.{is_counted, counted_more, counts_line, last_line, told_counts};
+ghost use Rattle.report_text.specs.Report.{is_counted, counted_more, last_line, told_counts};
 
 use crate::ending::Ending;
 use crate::lines::put_number_line;
@@ -85,8 +85,7 @@ fn put_count(text: &mut Vec<u8>, label: &[u8], count: u64) -> Result<(), NoMemor
     ensures { OnOk result (text.new.items ≡ text.old.items ++ (label.now ++ decimal count)) }
 {
     put_text(text, label)?;
-    put_number(text, count)?;
-    Ok(())
+    put_number(text, count)
 }
 
 // Adds the line that tells these counts.
@@ -98,15 +97,7 @@ fn put_told(text: &mut Vec<u8>, counts: Counts) -> Result<(), NoMemory>
     put_count(text, b" left=", counts.left)?;
     put_count(text, b" sent=", counts.sent)?;
     put_count(text, b" dropped=", counts.dropped)?;
-    put_text(text, b"\n")?;
-    Ok(())
-}
-
-// Adds the line that tells the counts of a run.
-fn put_counts(text: &mut Vec<u8>, trace: &[Entry]) -> Result<(), NoMemory>
-    ensures { OnOk result (text.new.items ≡ text.old.items ++ counts_line trace.now) }
-{
-    put_told(text, counts_of(trace))
+    put_text(text, b"\n")
 }
 
 /// Adds the last line of a report: the counts of a run that came to its end, or the bound at which it stopped.
@@ -114,7 +105,7 @@ pub fn put_last_line(text: &mut Vec<u8>, trace: &[Entry], ending: Ending) -> Res
     ensures { OnOk result (text.new.items ≡ text.old.items ++ last_line trace.now ending) }
 {
     match ending {
-        Ending::End => put_counts(text, trace),
+        Ending::End => put_told(text, counts_of(trace)),
         Ending::Crowded { count } => put_number_line(text, b"stop Crowded", u64::from(count)),
         Ending::TooMuch { weight } => put_number_line(text, b"stop TooMuch", weight),
     }

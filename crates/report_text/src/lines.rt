@@ -14,8 +14,7 @@ pub fn end_with_number(text: &mut Vec<u8>, number: u64) -> Result<(), NoMemory>
     ensures { OnOk result (text.new.items ≡ text.old.items ++ line_end (decimal number ∷ [])) }
 {
     put_number_word(text, number)?;
-    put_text(text, b"\n")?;
-    Ok(())
+    put_text(text, b"\n")
 }
 
 /// Ends a line with a word.
@@ -23,8 +22,7 @@ pub fn end_with_word(text: &mut Vec<u8>, word: &[u8]) -> Result<(), NoMemory>
     ensures { OnOk result (text.new.items ≡ text.old.items ++ line_end (word.now ∷ [])) }
 {
     put_word(text, word)?;
-    put_text(text, b"\n")?;
-    Ok(())
+    put_text(text, b"\n")
 }
 
 /// Ends a line with octets in hexadecimal.
@@ -32,8 +30,7 @@ pub fn end_with_octets(text: &mut Vec<u8>, octets: &[u8]) -> Result<(), NoMemory
     ensures { OnOk result (text.new.items ≡ text.old.items ++ line_end (hex octets.now ∷ [])) }
 {
     put_hex_word(text, octets)?;
-    put_text(text, b"\n")?;
-    Ok(())
+    put_text(text, b"\n")
 }
 
 /// Begins a line with an edge.
@@ -46,8 +43,7 @@ pub fn begin_with_edge(
     ensures { OnOk result (text.new.items ≡ text.old.items ++ (first.now ++ (codes " " ++ edge_name plan.now edge))) }
 {
     put_text(text, first)?;
-    put_edge(text, plan, edge)?;
-    Ok(())
+    put_edge(text, plan, edge)
 }
 
 /// Begins a line with two edges.
@@ -61,8 +57,7 @@ pub fn begin_with_edges(
     ensures { OnOk result (text.new.items ≡ text.old.items ++ ((first.now ++ (codes " " ++ edge_name plan.now from)) ++ (codes " " ++ edge_name plan.now to))) }
 {
     begin_with_edge(text, plan, first, from)?;
-    put_edge(text, plan, to)?;
-    Ok(())
+    put_edge(text, plan, to)
 }
 
 /// Begins a line with an edge and a wire.
@@ -76,8 +71,7 @@ pub fn begin_with_end(
     ensures { OnOk result (text.new.items ≡ text.old.items ++ ((first.now ++ (codes " " ++ edge_name plan.now edge)) ++ (codes " " ++ wire_name plan.now wire))) }
 {
     begin_with_edge(text, plan, first, edge)?;
-    put_wire(text, plan, wire)?;
-    Ok(())
+    put_wire(text, plan, wire)
 }
 
 /// Begins a line with a circuit.
@@ -90,8 +84,7 @@ pub fn begin_with_circuit(
     ensures { OnOk result (text.new.items ≡ text.old.items ++ (first.now ++ (codes " " ++ circuit_name plan.now circuit))) }
 {
     put_text(text, first)?;
-    put_circuit(text, plan, circuit)?;
-    Ok(())
+    put_circuit(text, plan, circuit)
 }
 
 /// Adds a line with a number.
@@ -99,8 +92,7 @@ pub fn put_number_line(text: &mut Vec<u8>, first: &[u8], number: u64) -> Result<
     ensures { OnOk result (text.new.items ≡ text.old.items ++ line_of (first.now ∷ decimal number ∷ [])) }
 {
     put_text(text, first)?;
-    end_with_number(text, number)?;
-    Ok(())
+    end_with_number(text, number)
 }
 
 /// Adds a line with two numbers.
@@ -114,8 +106,7 @@ pub fn put_numbers_line(
 {
     put_text(text, first)?;
     put_number_word(text, left)?;
-    end_with_number(text, right)?;
-    Ok(())
+    end_with_number(text, right)
 }
 
 /// Adds a line with an edge.
@@ -128,8 +119,7 @@ pub fn put_edge_line(
     ensures { OnOk result (text.new.items ≡ text.old.items ++ line_of (first.now ∷ edge_name plan.now edge ∷ [])) }
 {
     begin_with_edge(text, plan, first, edge)?;
-    put_text(text, b"\n")?;
-    Ok(())
+    put_text(text, b"\n")
 }
 
 /// Adds a line with two edges.
@@ -143,8 +133,7 @@ pub fn put_edges_line(
     ensures { OnOk result (text.new.items ≡ text.old.items ++ line_of (first.now ∷ edge_name plan.now from ∷ edge_name plan.now to ∷ [])) }
 {
     begin_with_edges(text, plan, first, from, to)?;
-    put_text(text, b"\n")?;
-    Ok(())
+    put_text(text, b"\n")
 }
 
 /// Adds a line with an edge, a wire and one more word.
@@ -159,8 +148,7 @@ pub fn put_end_line(
     ensures { OnOk result (text.new.items ≡ text.old.items ++ line_of (first.now ∷ edge_name plan.now edge ∷ wire_name plan.now wire ∷ word.now ∷ [])) }
 {
     begin_with_end(text, plan, first, edge, wire)?;
-    end_with_word(text, word)?;
-    Ok(())
+    end_with_word(text, word)
 }
 
 /// Adds a line with an edge, a wire and a number.
@@ -175,6 +163,5 @@ pub fn put_end_number_line(
     ensures { OnOk result (text.new.items ≡ text.old.items ++ line_of (first.now ∷ edge_name plan.now edge ∷ wire_name plan.now wire ∷ decimal number ∷ [])) }
 {
     begin_with_end(text, plan, first, edge, wire)?;
-    end_with_number(text, number)?;
-    Ok(())
+    end_with_number(text, number)
 }
