@@ -1,10 +1,10 @@
 -- Words with a blank before each, joined.
-use Rattle.std.proofs.Common.{suc, zero, ◌≡◌, ◌≢◌, ◌<◌, ◌+◌, ◌++◌, ℕ, List, [], ◌∷◌, Some, drop, get_or, refl, ap, sym, ◌∙◌, length, append_assoc, arith}
+use Rattle.std.proofs.Common.{suc, zero, ◌≡◌, ◌≢◌, ◌<◌, ◌≤◌, ◌+◌, ◌++◌, ℕ, List, [], ◌∷◌, Some, drop, get_or, refl, ap, sym, ◌∙◌, length, append_assoc, arith}
 use Rattle.std.specs.Prelude.{codes, slice_get, Option, Bool, true, false}
 use Rattle.std.specs.Int.{from_bool}
 use Rattle.std.specs.Fmt.{decimal}
 use Rattle.std.proofs.lemmas.Fmt.{decimal_digit}
-use Rattle.std.proofs.lemmas.List.{append-nil, at_drop_more}
+use Rattle.std.proofs.lemmas.List.{append-nil, at_drop_more, drop_all}
 use Rattle.pw_tlvs.specs.declared.point.Point.{Point}
 use Rattle.text_pieces.specs.Pieces.{hex, spaced}
 use Rattle.message_text.specs.Words.{description_words, flag, parted, point_word, point_words}
@@ -46,3 +46,9 @@ next_told told item step xs index other old new whole within adds before =
     let rest = drop (index + 1) xs in
     (ap (λ (text : List ℕ). text ++ told rest) adds ∙ append_assoc old (item x) (told rest))
     ∙ (ap (λ (back : List ℕ). old ++ back) (sym (at_drop_more told xs index other within ∙ step x rest)) ∙ before)
+
+-- where no item of a list is left, all are told
+pub all_told : {X : Type 0} (told : List X → List ℕ) → told [] ≡ [] → (xs : List X) (index : ℕ) (now whole : List ℕ) → length xs ≤ index
+    → now ++ told (drop index xs) ≡ whole → now ≡ whole
+all_told told none xs index now whole end before =
+    (sym (append-nil now) ∙ ap (λ (back : List ℕ). now ++ back) (sym (ap told (drop_all index xs end) ∙ none))) ∙ before

@@ -1,9 +1,6 @@
 //! The lines of messages.
-ghost use Rattle.std.specs.Prelude.{◌≡◌, ◌++◌, codes, OnOk};
-ghost use Rattle.std.specs.Fmt.{decimal};
-ghost use Rattle.ldp_grammar.specs.Written.{id_of};
+ghost use Rattle.std.specs.Prelude.{◌≡◌, ◌++◌, OnOk};
 ghost use Rattle.message_text.specs.Line.{decoded_line, decoded_lines};
-ghost use Rattle.message_text.specs.Words.{message_name};
 
 use crate::names::message_text;
 use crate::parts::put_parts;
@@ -12,24 +9,15 @@ use ldp_grammar::Message;
 use net_values::NoMemory;
 use text_pieces::{put_number, put_text, put_word};
 
-// Adds the place of a message's PDU, its name and its Message ID.
-fn put_head(text: &mut Vec<u8>, base: u64, message: &Message) -> Result<(), NoMemory>
-    ensures { OnOk result (text.new.items ≡ text.old.items ++ ((decimal base ++ (codes " " ++ message_name message.now)) ++ (codes " id=" ++ decimal (id_of message.now)))) }
+// Adds the line of a message: the place of its PDU, its name, its Message ID and its parts.
+fn put_message(text: &mut Vec<u8>, base: u64, message: &Message) -> Result<(), NoMemory>
+    ensures { OnOk result (text.new.items ≡ text.old.items ++ decoded_line base message.now) }
 {
     put_number(text, base)?;
     put_word(text, message_text(message).as_bytes())?;
     put_told(text, b"id=", u64::from(message.id()))?;
-    Ok(())
-}
-
-// Adds the line of a message.
-fn put_message(text: &mut Vec<u8>, base: u64, message: &Message) -> Result<(), NoMemory>
-    ensures { OnOk result (text.new.items ≡ text.old.items ++ decoded_line base message.now) }
-{
-    put_head(text, base, message)?;
     put_parts(text, message)?;
-    put_text(text, b"\n")?;
-    Ok(())
+    put_text(text, b"\n")
 }
 
 /// Adds the lines of the messages of a PDU that begins at this place of its stream.

@@ -6,7 +6,7 @@ ghost use Rattle.message_text.specs.Words.{addresses_word, fec_words, hello_word
 use crate::names::field_text;
 use crate::pieces::{bit, put_address, put_id, put_told, put_told_numbers};
 use crate::pseudowire::{
-    put_fec, put_macs, put_points, put_pw_status, put_request, put_told_fec, put_told_label,
+    put_fec, put_macs, put_points, put_pw_status, put_told_fec, put_told_label,
 };
 use ldp_grammar::{AddressList, Message, SessionParams, StatusCode, Why};
 use net_values::{Addr, Label, List, Mac, NoMemory, Octets};
@@ -68,9 +68,7 @@ fn put_session(text: &mut Vec<u8>, params: SessionParams) -> Result<(), NoMemory
             u64::from(params.max_pdu),
         ],
     )?;
-    put_text(text, b"/")?;
-    put_id(text, params.receiver)?;
-    Ok(())
+    put_id(text, params.receiver)
 }
 
 // Adds an address family and addresses.
@@ -79,8 +77,7 @@ fn put_addresses(text: &mut Vec<u8>, family: u16, octets: &Octets) -> Result<(),
 {
     put_told(text, b"addresses=", u64::from(family))?;
     put_text(text, b"/")?;
-    put_digits(text, octets.as_slice())?;
-    Ok(())
+    put_digits(text, octets.as_slice())
 }
 
 // Adds the addresses that are withdrawn, where there are any.
@@ -105,8 +102,7 @@ fn put_named(text: &mut Vec<u8>, name: &[u8], named: &[u8]) -> Result<(), NoMemo
     ensures { OnOk result (text.new.items ≡ text.old.items ++ spaced ((name.now ++ named.now) ∷ [])) }
 {
     put_word(text, name)?;
-    put_text(text, named)?;
-    Ok(())
+    put_text(text, named)
 }
 
 // Adds why a message is not processed.
@@ -129,8 +125,7 @@ fn put_notified(
     ensures { OnOk result (text.new.items ≡ text.old.items ++ spaced (told_fec_words fec.now ++ pw_status_words pw_status)) }
 {
     put_told_fec(text, fec)?;
-    put_pw_status(text, pw_status)?;
-    Ok(())
+    put_pw_status(text, pw_status)
 }
 
 // Adds the parts of an Address Withdraw.
@@ -144,8 +139,7 @@ fn put_withdrawal(
 {
     put_withdrawn(text, addresses)?;
     put_told_fec(text, fec)?;
-    put_macs(text, macs)?;
-    Ok(())
+    put_macs(text, macs)
 }
 
 // Adds the FEC of a binding, and the label where it is told.
@@ -153,8 +147,7 @@ fn put_binding(text: &mut Vec<u8>, fec: &PwFec, label: Option<Label>) -> Result<
     ensures { OnOk result (text.new.items ≡ text.old.items ++ spaced (fec_words fec.now ++ label_words label)) }
 {
     put_fec(text, fec)?;
-    put_told_label(text, label)?;
-    Ok(())
+    put_told_label(text, label)
 }
 
 // Adds the parts of a Label Mapping.
@@ -169,8 +162,7 @@ fn put_mapping(
 {
     put_binding(text, fec, Some(label))?;
     put_pw_status(text, pw_status)?;
-    put_points(text, points)?;
-    Ok(())
+    put_points(text, points)
 }
 
 // Adds the parts of a Label Abort Request.
@@ -178,59 +170,65 @@ fn put_abort(text: &mut Vec<u8>, fec: &PwFec, request: u32) -> Result<(), NoMemo
     ensures { OnOk result (text.new.items ≡ text.old.items ++ spaced (fec_words fec.now ++ (request_word request ∷ []))) }
 {
     put_fec(text, fec)?;
-    put_request(text, request)?;
-    Ok(())
+    put_told(text, b"request=", u64::from(request))
 }
 
 /// Adds the parts of a message.
 pub fn put_parts(text: &mut Vec<u8>, message: &Message) -> Result<(), NoMemory>
     ensures { OnOk result (text.new.items ≡ text.old.items ++ spaced (part_words message.now)) }
 {
-    match message {
+    match *message {
         Message::Notification {
             status,
             pw_status,
-            fec,
+            ref fec,
             ..
         } => {
-            put_status(text, *status)?;
-            put_notified(text, fec, *pw_status)
+            put_status(text, status)?;
+            put_notified(text, fec, pw_status)
         }
         Message::Hello {
             hold,
             targeted,
             request,
-            transport,
+            ref transport,
             ..
         } => {
-            put_hello(text, *hold, *targeted, *request)?;
+            put_hello(text, hold, targeted, request)?;
             put_transport(text, transport)
         }
-        Message::Initialization { params, .. } => put_session(text, *params),
+        Message::Initialization { params, .. } => put_session(text, params),
         Message::KeepAlive { .. } => Ok(()),
-        Message::Address { family, octets, .. } => put_addresses(text, *family, octets),
+        Message::Address {
+            family,
+            ref octets,
+            ..
+        } => put_addresses(text, family, octets),
         Message::AddressWithdraw {
-            addresses,
-            fec,
-            macs,
+            ref addresses,
+            ref fec,
+            ref macs,
             ..
         } => put_withdrawal(text, addresses, fec, macs),
         Message::LabelMapping {
-            fec,
+            ref fec,
             label,
             pw_status,
-            points,
+            ref points,
             ..
-        } => put_mapping(text, fec, *label, *pw_status, points),
-        Message::LabelRequest { fec, .. } => put_fec(text, fec),
-        Message::LabelWithdraw { fec, label, .. } | Message::LabelRelease { fec, label, .. } => {
-            put_binding(text, fec, *label)
-        }
-        Message::LabelAbort { fec, request, .. } => put_abort(text, fec, *request),
-        Message::Other { kind, .. } => put_type(text, *kind),
+        } => put_mapping(text, fec, label, pw_status, points),
+        Message::LabelRequest { ref fec, .. } => put_fec(text, fec),
+        Message::LabelWithdraw { ref fec, label, .. }
+        | Message::LabelRelease { ref fec, label, .. } => { put_binding(text, fec, label) }
+        Message::LabelAbort {
+            ref fec,
+            request,
+            ..
+        } => put_abort(text, fec, request),
+        Message::Other { kind, .. } => put_type(text, kind),
         Message::Unprocessed { kind, why, .. } => {
-            put_type(text, *kind)?;
-            put_why(text, *why)
+            put_type(text, kind)?;
+            put_why(text, why)
         }
     }
 }

@@ -22,8 +22,7 @@ pub fn put_told(text: &mut Vec<u8>, name: &[u8], number: u64) -> Result<(), NoMe
     ensures { OnOk result (text.new.items ≡ text.old.items ++ spaced ((name.now ++ decimal number) ∷ [])) }
 {
     put_word(text, name)?;
-    put_number(text, number)?;
-    Ok(())
+    put_number(text, number)
 }
 
 /// Adds a mark and a number in decimal.
@@ -31,8 +30,7 @@ pub fn put_marked_number(text: &mut Vec<u8>, mark: &[u8], number: u64) -> Result
     ensures { OnOk result (text.new.items ≡ text.old.items ++ (mark.now ++ decimal number)) }
 {
     put_text(text, mark)?;
-    put_number(text, number)?;
-    Ok(())
+    put_number(text, number)
 }
 
 // Adds numbers in decimal, a mark before each.
@@ -55,19 +53,17 @@ pub fn put_told_numbers(
     ensures { OnOk result (text.new.items ≡ text.old.items ++ (codes " " ++ (name.now ++ parted (codes "/") (decimal first ∷ map decimal rest.now)))) }
 {
     put_told(text, name, first)?;
-    put_marked(text, b"/", rest)?;
-    Ok(())
+    put_marked(text, b"/", rest)
 }
 
-/// Adds an address as a dotted quad.
+// Adds an address as a dotted quad.
 #[tactic(auto, unfolding(crate::specs::Words::dotted))]
-pub fn put_dotted(text: &mut Vec<u8>, address: Addr) -> Result<(), NoMemory>
+fn put_dotted(text: &mut Vec<u8>, address: Addr) -> Result<(), NoMemory>
     ensures { OnOk result (text.new.items ≡ text.old.items ++ dotted address) }
 {
     let [a, b, c, d] = address.0;
     put_number(text, u64::from(a))?;
-    put_marked(text, b".", &[u64::from(b), u64::from(c), u64::from(d)])?;
-    Ok(())
+    put_marked(text, b".", &[u64::from(b), u64::from(c), u64::from(d)])
 }
 
 /// Adds a label and an address as a dotted quad.
@@ -75,15 +71,13 @@ pub fn put_address(text: &mut Vec<u8>, label: &[u8], address: Addr) -> Result<()
     ensures { OnOk result (text.new.items ≡ text.old.items ++ (label.now ++ dotted address)) }
 {
     put_text(text, label)?;
-    put_dotted(text, address)?;
-    Ok(())
+    put_dotted(text, address)
 }
 
-/// Adds an LDP Identifier: the router ID as a dotted quad, a colon and the label space.
+/// Adds a slash and an LDP Identifier: the router ID as a dotted quad, a colon and the label space.
 pub fn put_id(text: &mut Vec<u8>, id: LdpId) -> Result<(), NoMemory>
-    ensures { OnOk result (text.new.items ≡ text.old.items ++ id_word id) }
+    ensures { OnOk result (text.new.items ≡ text.old.items ++ (codes "/" ++ id_word id)) }
 {
-    put_dotted(text, id.router)?;
-    put_marked_number(text, b":", u64::from(id.space))?;
-    Ok(())
+    put_address(text, b"/", id.router)?;
+    put_marked_number(text, b":", u64::from(id.space))
 }

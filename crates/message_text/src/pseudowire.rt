@@ -2,7 +2,7 @@
 ghost use Rattle.std.specs.Prelude.{◌≡◌, ◌++◌, ◌∷◌, [], codes, Some, OnOk};
 ghost use Rattle.std.specs.Fmt.{decimal};
 ghost use Rattle.text_pieces.specs.Pieces.{spaced};
-ghost use Rattle.message_text.specs.Words.{description_words, element_word, end_word, fec_words, label_words, mac_digits, macs_words, mtu_words, params_words, point_word, point_words, pw_id_word, pw_status_words, request_word, segment_word, told_fec_words, vccv_words, vlan_words};
+ghost use Rattle.message_text.specs.Words.{description_words, element_word, end_word, fec_words, label_words, mac_digits, macs_words, mtu_words, params_words, point_word, point_words, pw_id_word, pw_status_words, segment_word, told_fec_words, vccv_words, vlan_words};
 
 use crate::pieces::{bit, put_address, put_marked_number, put_told, put_told_numbers};
 use net_values::{Addr, Label, List, Mac, NoMemory, Text};
@@ -29,8 +29,7 @@ fn put_element(text: &mut Vec<u8>, fec: &PwFec) -> Result<(), NoMemory>
         bit(fec.c),
         &[u64::from(fec.kind), u64::from(fec.group)],
     )?;
-    put_pw_id(text, fec.pw_id)?;
-    Ok(())
+    put_pw_id(text, fec.pw_id)
 }
 
 // Adds the MTU, where it is told.
@@ -51,8 +50,7 @@ fn put_description(text: &mut Vec<u8>, description: &Text<80>) -> Result<(), NoM
         return Ok(());
     }
     put_text(text, b" description=")?;
-    put_digits(text, description.as_slice())?;
-    Ok(())
+    put_digits(text, description.as_slice())
 }
 
 // Adds the VLAN ID, where it is told.
@@ -87,8 +85,7 @@ fn put_params(text: &mut Vec<u8>, params: &IfParams) -> Result<(), NoMemory>
     put_mtu(text, params.mtu)?;
     put_description(text, &params.description)?;
     put_vlan(text, params.vlan)?;
-    put_vccv(text, params.vccv)?;
-    Ok(())
+    put_vccv(text, params.vccv)
 }
 
 /// Adds a FEC element and its interface parameters.
@@ -96,8 +93,7 @@ pub fn put_fec(text: &mut Vec<u8>, fec: &PwFec) -> Result<(), NoMemory>
     ensures { OnOk result (text.new.items ≡ text.old.items ++ spaced (fec_words fec.now)) }
 {
     put_element(text, fec)?;
-    put_params(text, &fec.params)?;
-    Ok(())
+    put_params(text, &fec.params)
 }
 
 /// Adds a FEC element and its interface parameters, where there is one.
@@ -146,8 +142,7 @@ fn put_mac_list(text: &mut Vec<u8>, macs: &List<Mac>) -> Result<(), NoMemory>
 {
     put_told(text, b"macs=", macs.len() as u64)?;
     put_text(text, b"/")?;
-    put_mac_digits(text, macs.as_slice())?;
-    Ok(())
+    put_mac_digits(text, macs.as_slice())
 }
 
 /// Adds a list of MAC addresses, where there is one.
@@ -186,8 +181,7 @@ fn put_point(text: &mut Vec<u8>, point: Point) -> Result<(), NoMemory>
 {
     put_segment(text, point.pw_id)?;
     put_end(text, point.local)?;
-    put_end(text, point.remote)?;
-    Ok(())
+    put_end(text, point.remote)
 }
 
 /// Adds switching points.
@@ -201,11 +195,4 @@ pub fn put_points(text: &mut Vec<u8>, points: &Points) -> Result<(), NoMemory>
         index += 1;
     }
     Ok(())
-}
-
-/// Adds the Message ID of a request.
-pub fn put_request(text: &mut Vec<u8>, request: u32) -> Result<(), NoMemory>
-    ensures { OnOk result (text.new.items ≡ text.old.items ++ spaced (request_word request ∷ [])) }
-{
-    put_told(text, b"request=", u64::from(request))
 }
