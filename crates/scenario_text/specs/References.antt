@@ -98,6 +98,10 @@ abbrev pub without_fault : Plan → Option PlanFault → Result Plan ScenarioFau
 without_fault plan None = Ok plan
 without_fault plan (Some found) = Err (fault.Plan found)
 
+-- the plan, where it passed a test
+abbrev pub passed : {A : Type 0} → Plan → Result A ScenarioFault → Result Plan ScenarioFault
+passed plan test = test >>= (λ _. Ok plan)
+
 -- the plan, where it has no fault
 abbrev pub sound : Plan → Result Plan ScenarioFault
 sound plan = without_fault plan (plan_fault plan)

@@ -20,7 +20,7 @@ use crate::rows::rows;
 use crate::wire_row::WireRow;
 use command_text::{Command, MOST_EVENTS, NameIndex, PlanNames, ScenarioFault, read_commands};
 use net_base::{EdgePlan, List, Name, NoMemory, Plan, ServicePlan, Table as TableKind};
-use std::alloc::Global;
+use std::alloc::{AllocError, Global};
 use toml::{Table, Value};
 
 // The commands at the rows of a plan, whose names these are.
@@ -59,12 +59,17 @@ fn named_commands(
     ensures planned { IfOk result (λ commands. All (IsPlanned plan.now) commands) }
 {
     match plan_names(alloc, edges, circuits, wires) {
-        Ok(names) => planned_commands(alloc, plan, &names, events),
+        Ok(names) => {
+            let commands = planned_commands(alloc, plan, &names, events);
+            drop(names);
+            commands
+        }
         Err(NoMemory) => Err(ScenarioFault::NoMemory),
     }
 }
 
-// The names of a plan, each list with its index.
+// The names of a plan, each list with its index. An index is given to `drop`, since its end at a brace proves
+// slowly.
 fn plan_names<'a>(
     alloc: Global,
     edges: &'a [Name],
@@ -77,14 +82,36 @@ fn plan_names<'a>(
     ensures { IfOk result (λ names. names ≡ record { edges = edges.now; circuits = circuits.now; wires = wires.now }) }
 {
     let edges = NameIndex::of(alloc, edges)?;
-    let circuits = NameIndex::of(alloc, circuits)?;
+    match NameIndex::of(alloc, circuits) {
+        Ok(circuits) => names_with_wires(alloc, edges, circuits, wires),
+        Err(NoMemory) => {
+            drop(edges);
+            Err(NoMemory)
+        }
+    }
+}
+
+// The names of a plan, of which the wires still lack their index.
+fn names_with_wires<'a>(
+    alloc: Global,
+    edges: NameIndex<'a>,
+    circuits: NameIndex<'a>,
+    wires: &'a [Name],
+) -> Result<PlanNames<'a>, NoMemory>
+    requires { length wires.now ≤ 1664 }
+    ensures { IfOk result (λ names. names ≡ record { edges = edges.entry; circuits = circuits.entry; wires = wires.now }) }
+{
     match NameIndex::of(alloc, wires) {
         Ok(wires) => Ok(PlanNames {
             edges,
             circuits,
             wires,
         }),
-        Err(NoMemory) => Err(NoMemory),
+        Err(NoMemory) => {
+            drop(edges);
+            drop(circuits);
+            Err(NoMemory)
+        }
     }
 }
 
@@ -102,15 +129,17 @@ fn plan_commands(
 {
     let edges = names_of_edges(alloc, plan.edges.as_slice())?;
     let circuits = names_of_circuits(alloc, plan.circuits.as_slice())?;
-    let wires = names_of_wires(alloc, plan.wires.as_slice())?;
-    named_commands(
-        alloc,
-        plan,
-        edges.as_slice(),
-        circuits.as_slice(),
-        wires.as_slice(),
-        events,
-    )
+    match names_of_wires(alloc, plan.wires.as_slice()) {
+        Ok(wires) => named_commands(
+            alloc,
+            plan,
+            edges.as_slice(),
+            circuits.as_slice(),
+            wires.as_slice(),
+            events,
+        ),
+        Err(AllocError) => Err(ScenarioFault::NoMemory),
+    }
 }
 
 // The plan of the arrays.

@@ -1,5 +1,5 @@
 //! The names of rows in order.
-ghost use Rattle.std.specs.Prelude.{◌≡◌, IfOk};
+ghost use Rattle.std.specs.Prelude.{◌≡◌, ◌++◌, IfOk, IsOkAnd};
 ghost use Rattle.net_base.specs.plan.Accepted.{plan_names};
 ghost use Rattle.net_base.specs.plan.NameFaults.{edge_names, service_names, circuit_names, wire_names};
 
@@ -34,16 +34,31 @@ pub fn names_of_wires(alloc: Global, wires: &[WirePlan]) -> Result<Vec<Name>, Al
     wires.iter().map(|wire| wire.name).collect(alloc)
 }
 
+// Adds names behind others, where there was memory for them.
+fn add(names: &mut Vec<Name>, added: Result<Vec<Name>, AllocError>) -> Result<(), AllocError>
+    ensures { IfOk result (λ _. IsOkAnd added (λ added. names.new.items ≡ names.old.items ++ added.items)) }
+{
+    match added {
+        Ok(added) => names.extend_from_slice(added.as_slice()),
+        Err(AllocError) => Err(AllocError),
+    }
+}
+
 /// The names of a plan in order, over all its lists.
 pub fn names_of_plan(alloc: Global, plan: &Plan) -> Result<Vec<Name>, AllocError>
     ensures { IfOk result (λ names. names.items ≡ plan_names plan.now) }
 {
     let mut names = names_of_edges(alloc, plan.edges.as_slice())?;
-    let services = names_of_services(alloc, plan.services.as_slice())?;
-    let circuits = names_of_circuits(alloc, plan.circuits.as_slice())?;
-    let wires = names_of_wires(alloc, plan.wires.as_slice())?;
-    names.extend_from_slice(services.as_slice())?;
-    names.extend_from_slice(circuits.as_slice())?;
-    names.extend_from_slice(wires.as_slice())?;
-    Ok(names)
+    add(
+        &mut names,
+        names_of_services(alloc, plan.services.as_slice()),
+    )?;
+    add(
+        &mut names,
+        names_of_circuits(alloc, plan.circuits.as_slice()),
+    )?;
+    match add(&mut names, names_of_wires(alloc, plan.wires.as_slice())) {
+        Ok(()) => Ok(names),
+        Err(AllocError) => Err(AllocError),
+    }
 }

@@ -4,7 +4,7 @@ ghost use Rattle.net_base.specs.plan.Accepted.{IsWithinLimits, IsChecked, plan_n
 ghost use Rattle.net_base.specs.plan.NameFaults.{edge_names, service_names};
 ghost use Rattle.command_text.specs.Names.{are_distinct};
 ghost use Rattle.command_text.specs.Reading.{Gives};
-ghost use Rattle.scenario_text.specs.References.{sound, placed_rows, plan_of};
+ghost use Rattle.scenario_text.specs.References.{passed, sound, placed_rows, plan_of};
 
 use crate::circuit_row::CircuitRow;
 use crate::circuits::circuits;
@@ -13,33 +13,61 @@ use crate::names::{names_of_edges, names_of_plan, names_of_services};
 use crate::wire_row::WireRow;
 use crate::wires::wires;
 use command_text::{NameIndex, ScenarioFault};
-use net_base::{CircuitPlan, EdgePlan, List, NoMemory, Plan, ServicePlan, WirePlan};
-use std::alloc::Global;
+use net_base::{CircuitPlan, EdgePlan, List, Name, NoMemory, Plan, ServicePlan, WirePlan};
+use std::alloc::{AllocError, Global};
+
+// Whether these names differ. An index is given to `drop`, since its end at a brace proves slowly.
+fn are_distinct(alloc: Global, names: &[Name]) -> Result<bool, NoMemory>
+    requires { length names.now ≤ 1664 }
+    ensures { IfOk result (λ distinct. distinct ≡ are_distinct names.now) }
+{
+    match NameIndex::of(alloc, names) {
+        Ok(index) => {
+            let distinct = index.are_distinct();
+            drop(index);
+            Ok(distinct)
+        }
+        Err(NoMemory) => Err(NoMemory),
+    }
+}
 
 // Whether the names of a plan differ, over all its lists.
 fn have_distinct_names(alloc: Global, plan: &Plan) -> Result<bool, NoMemory>
     requires { IsWithinLimits plan.now }
     ensures { IfOk result (λ distinct. distinct ≡ are_distinct (plan_names plan.now)) }
 {
-    let names = names_of_plan(alloc, plan)?;
-    let index = NameIndex::of(alloc, names.as_slice())?;
-    Ok(index.are_distinct())
+    match names_of_plan(alloc, plan) {
+        Ok(names) => are_distinct(alloc, names.as_slice()),
+        Err(AllocError) => Err(NoMemory),
+    }
 }
 
-// The plan, where it has no fault. Names are compared with each other only where one stands twice.
-fn sound_plan(alloc: Global, plan: Plan) -> Result<Plan, ScenarioFault>
-    requires { IsWithinLimits plan }
-    ensures exact { Gives result (sound plan) }
-    ensures checked { IfOk result IsChecked }
+// Refuses a plan that has a fault. Names are compared with each other only where one stands twice.
+fn check(alloc: Global, plan: &Plan) -> Result<(), ScenarioFault>
+    requires { IsWithinLimits plan.now }
+    ensures exact { Gives (passed plan.now result) (sound plan.now) }
+    ensures checked { IfOk result (λ _. IsChecked plan.now) }
 {
-    let checked = if have_distinct_names(alloc, &plan)? {
+    let checked = if have_distinct_names(alloc, plan)? {
         plan.check_distinct()
     } else {
         plan.check()
     };
     match checked {
-        Ok(()) => Ok(plan),
+        Ok(()) => Ok(()),
         Err(fault) => Err(ScenarioFault::Plan(fault)),
+    }
+}
+
+// The plan, where it has no fault.
+fn sound_plan(alloc: Global, plan: Plan) -> Result<Plan, ScenarioFault>
+    requires { IsWithinLimits plan }
+    ensures exact { Gives result (sound plan) }
+    ensures checked { IfOk result IsChecked }
+{
+    match check(alloc, &plan) {
+        Ok(()) => Ok(plan),
+        Err(fault) => Err(fault),
     }
 }
 
@@ -74,6 +102,32 @@ fn placed_rows(
     }
 }
 
+// The circuits and the wires of these rows over these services, where edges are found by this index.
+fn rows_over_services(
+    alloc: Global,
+    edges: &NameIndex<'_>,
+    services: &[ServicePlan],
+    circuit_rows: &[CircuitRow],
+    wire_rows: &[WireRow],
+) -> Result<PlacedRows, ScenarioFault>
+    requires few_services { length services.now ≤ MOST_SERVICES }
+    requires few_circuits { length circuit_rows.now ≤ MOST_CIRCUITS }
+    requires few_wires { length wire_rows.now ≤ MOST_WIRES }
+    ensures exact { Gives result (placed_rows edges.now services.now circuit_rows.now wire_rows.now) }
+    ensures circuits { IfOk result (λ rows. length rows.circuits ≡ length circuit_rows.now) }
+    ensures wires { IfOk result (λ rows. length rows.wires ≡ length wire_rows.now) }
+{
+    let names = names_of_services(alloc, services)?;
+    match NameIndex::of(alloc, names.as_slice()) {
+        Ok(index) => {
+            let rows = placed_rows(alloc, edges, &index, services, circuit_rows, wire_rows);
+            drop(index);
+            rows
+        }
+        Err(NoMemory) => Err(ScenarioFault::NoMemory),
+    }
+}
+
 // The circuits and the wires of these rows, over these edges and services.
 fn rows_over(
     alloc: Global,
@@ -90,18 +144,15 @@ fn rows_over(
     ensures circuits { IfOk result (λ rows. length rows.circuits ≡ length circuit_rows.now) }
     ensures wires { IfOk result (λ rows. length rows.wires ≡ length wire_rows.now) }
 {
-    let edge_names = names_of_edges(alloc, edges)?;
-    let service_names = names_of_services(alloc, services)?;
-    let edge_index = NameIndex::of(alloc, edge_names.as_slice())?;
-    let service_index = NameIndex::of(alloc, service_names.as_slice())?;
-    placed_rows(
-        alloc,
-        &edge_index,
-        &service_index,
-        services,
-        circuit_rows,
-        wire_rows,
-    )
+    let names = names_of_edges(alloc, edges)?;
+    match NameIndex::of(alloc, names.as_slice()) {
+        Ok(index) => {
+            let rows = rows_over_services(alloc, &index, services, circuit_rows, wire_rows);
+            drop(index);
+            rows
+        }
+        Err(NoMemory) => Err(ScenarioFault::NoMemory),
+    }
 }
 
 /// The plan of these rows.
