@@ -1,7 +1,7 @@
 //! What the ends of a wire offer.
 ghost use Rattle.std.specs.Prelude.{◌≡◌, ◌≤◌, [], IfSome, IfOk};
 ghost use Rattle.toml.specs.View.{table_view};
-ghost use Rattle.scenario_text.specs.Rows.{near_in, far_in};
+ghost use Rattle.scenario_text.specs.Rows.{near_rest_in, near_in, far_rest_in, far_in};
 ghost use Rattle.scenario_text.specs.Offers.{HasRanges};
 
 use crate::members::{boolean_or, description_or, mode_or, number_or, optional_number};
@@ -17,16 +17,21 @@ fn no_description() -> Text<80>
     Text::read(&[]).unwrap()
 }
 
-/// What the near end of a wire offers.
-#[tactic(auto, unfolding(crate::specs::Rows::near_in))]
-pub fn near_offer(row: RowPlace, table: &Table) -> Result<OfferRow, ScenarioFault>
-    ensures exact { result ≡ near_in row (table_view table.now) }
+// What the near end of a wire offers, where its first keys say this.
+#[tactic(auto, unfolding(crate::specs::Rows::near_rest_in))]
+fn near_rest(
+    tagged: bool,
+    cword: bool,
+    mtu: Option<u16>,
+    vlan: Option<u16>,
+    row: RowPlace,
+    table: &Table,
+) -> Result<OfferRow, ScenarioFault>
+    requires mtu { IfSome mtu (λ n. (0 ≤ n) × (n ≤ 65535)) }
+    requires vlan { IfSome vlan (λ n. (0 ≤ n) × (n ≤ 4095)) }
+    ensures exact { result ≡ near_rest_in tagged cword mtu vlan row (table_view table.now) }
     ensures ranges { IfOk result HasRanges }
 {
-    let tagged = mode_or(false, row, table, "mode")?;
-    let cword = boolean_or(true, row, table, "control_word")?;
-    let mtu = optional_number(None, row, table, "mtu", 0, 65535)?;
-    let vlan = optional_number(None, row, table, "vlan", 0, 4095)?;
     let vccv = number_or(0, row, table, "vccv", 0, 7)? as u8;
     let status = boolean_or(true, row, table, "status")?;
     let group = number_or(0, row, table, "group", 0, 4294967295)?;
@@ -45,8 +50,45 @@ pub fn near_offer(row: RowPlace, table: &Table) -> Result<OfferRow, ScenarioFaul
     }
 }
 
+/// What the near end of a wire offers.
+#[tactic(auto, unfolding(crate::specs::Rows::near_in, crate::specs::Rows::near_rest_in))]
+pub fn near_offer(row: RowPlace, table: &Table) -> Result<OfferRow, ScenarioFault>
+    ensures exact { result ≡ near_in row (table_view table.now) }
+    ensures ranges { IfOk result HasRanges }
+{
+    let tagged = mode_or(false, row, table, "mode")?;
+    let cword = boolean_or(true, row, table, "control_word")?;
+    let mtu = optional_number(None, row, table, "mtu", 0, 65535)?;
+    match optional_number(None, row, table, "vlan", 0, 4095) {
+        Ok(vlan) => near_rest(tagged, cword, mtu, vlan, row, table),
+        Err(fault) => Err(fault),
+    }
+}
+
+// What the far end of a wire offers, where its first keys say this of an offer whose other parts are the near end's.
+#[tactic(auto, unfolding(crate::specs::Rows::far_rest_in))]
+fn far_rest(offer: OfferRow, row: RowPlace, table: &Table) -> Result<OfferRow, ScenarioFault>
+    requires { HasRanges offer }
+    ensures exact { result ≡ far_rest_in offer row (table_view table.now) }
+    ensures ranges { IfOk result HasRanges }
+{
+    let vccv = number_or(offer.vccv as u32, row, table, "far_vccv", 0, 7)? as u8;
+    let status = boolean_or(offer.status, row, table, "far_status")?;
+    let group = number_or(offer.group, row, table, "far_group", 0, 4294967295)?;
+    match description_or(&offer.description, row, table, "far_description") {
+        Ok(description) => Ok(OfferRow {
+            vccv,
+            status,
+            group,
+            description,
+            ..offer
+        }),
+        Err(fault) => Err(fault),
+    }
+}
+
 /// What the far end of a wire offers, which is the same as the near one where nothing else is said.
-#[tactic(auto, unfolding(crate::specs::Rows::far_in))]
+#[tactic(auto, unfolding(crate::specs::Rows::far_in, crate::specs::Rows::far_rest_in))]
 pub fn far_offer(near: &OfferRow, row: RowPlace, table: &Table) -> Result<OfferRow, ScenarioFault>
     requires { HasRanges near.now }
     ensures exact { result ≡ far_in near.now row (table_view table.now) }
@@ -55,21 +97,17 @@ pub fn far_offer(near: &OfferRow, row: RowPlace, table: &Table) -> Result<OfferR
     let tagged = mode_or(near.tagged, row, table, "far_mode")?;
     let cword = boolean_or(near.cword, row, table, "far_control_word")?;
     let mtu = optional_number(near.mtu, row, table, "far_mtu", 0, 65535)?;
-    let vlan = optional_number(near.vlan, row, table, "far_vlan", 0, 4095)?;
-    let vccv = number_or(near.vccv as u32, row, table, "far_vccv", 0, 7)? as u8;
-    let status = boolean_or(near.status, row, table, "far_status")?;
-    let group = number_or(near.group, row, table, "far_group", 0, 4294967295)?;
-    match description_or(&near.description, row, table, "far_description") {
-        Ok(description) => Ok(OfferRow {
-            tagged,
-            cword,
-            mtu,
-            vlan,
-            vccv,
-            status,
-            group,
-            description,
-        }),
+    match optional_number(near.vlan, row, table, "far_vlan", 0, 4095) {
+        Ok(vlan) => {
+            let offer = OfferRow {
+                tagged,
+                cword,
+                mtu,
+                vlan,
+                ..*near
+            };
+            far_rest(offer, row, table)
+        }
         Err(fault) => Err(fault),
     }
 }

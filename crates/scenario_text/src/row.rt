@@ -2,6 +2,7 @@
 ghost use Rattle.std.specs.Prelude.{◌≡◌};
 ghost use Rattle.toml.specs.View.{table_view};
 ghost use Rattle.command_text.specs.Reading.{Gives};
+ghost use Rattle.scenario_text.specs.Rows.{edge_with, wire_row_with};
 
 use crate::circuit_row::CircuitRow;
 use crate::keys::only_known_keys;
@@ -11,7 +12,7 @@ use crate::members::{
 use crate::offers::{far_offer, near_offer};
 use crate::wire_row::WireRow;
 use command_text::{RowPlace, ScenarioFault};
-use net_base::{EdgePlan, ServicePlan, Table as TableKind};
+use net_base::{Addr, Class, EdgePlan, List, Name, ServicePlan, Table as TableKind};
 use std::alloc::Global;
 use toml::Table;
 
@@ -35,23 +36,38 @@ impl Row for EdgePlan {
 
     ghost row_of = { edge_in };
 
-    #[tactic(auto, unfolding(crate::specs::Rows::edge_in))]
+    #[tactic(auto, unfolding(crate::specs::Rows::edge_in, crate::specs::Rows::edge_with))]
     fn read(_alloc: Global, row: RowPlace, table: &Table) -> Result<EdgePlan, ScenarioFault> {
         let name = name_at(row, table, "name")?;
-        let address = address_at(row, table, "address")?;
-        let first_label = number_or(16, row, table, "first_label", 16, 1048575)?;
-        let keepalive = number_or(180, row, table, "keepalive", 3, 65535)? as u16;
-        let max_pdu = number_or(4096, row, table, "max_pdu", 256, 4096)? as u16;
-        match only_known_keys(TableKind::Edge, row, table) {
-            Ok(()) => Ok(EdgePlan {
-                name,
-                address,
-                first_label,
-                keepalive,
-                max_pdu,
-            }),
+        match address_at(row, table, "address") {
+            Ok(address) => edge_with(name, address, row, table),
             Err(fault) => Err(fault),
         }
+    }
+}
+
+// A row of `edge` whose first keys say this.
+#[tactic(auto, unfolding(crate::specs::Rows::edge_with))]
+fn edge_with(
+    name: Name,
+    address: Addr,
+    row: RowPlace,
+    table: &Table,
+) -> Result<EdgePlan, ScenarioFault>
+    ensures { result ≡ edge_with name address row (table_view table.now) }
+{
+    let first_label = number_or(16, row, table, "first_label", 16, 1048575)?;
+    let keepalive = number_or(180, row, table, "keepalive", 3, 65535)? as u16;
+    let max_pdu = number_or(4096, row, table, "max_pdu", 256, 4096)? as u16;
+    match only_known_keys(TableKind::Edge, row, table) {
+        Ok(()) => Ok(EdgePlan {
+            name,
+            address,
+            first_label,
+            keepalive,
+            max_pdu,
+        }),
+        Err(fault) => Err(fault),
     }
 }
 
@@ -100,28 +116,45 @@ impl Row for WireRow {
 
     ghost row_of = { wire_row_in };
 
-    #[tactic(auto, unfolding(crate::specs::Rows::wire_row_in))]
+    #[tactic(auto, unfolding(crate::specs::Rows::wire_row_in, crate::specs::Rows::wire_row_with))]
     fn read(alloc: Global, row: RowPlace, table: &Table) -> Result<WireRow, ScenarioFault> {
         let name = name_at(row, table, "name")?;
         let service = name_at(row, table, "service")?;
         let class = class_at(row, table, "class")?;
-        let path = path_at(alloc, row, table, "path")?;
-        let pw_id = number_at(row, table, "pw_id", 1, 4294967295)?;
-        let priority = number_or(100, row, table, "priority", 0, 255)? as u8;
-        let near = near_offer(row, table)?;
-        let far = far_offer(&near, row, table)?;
-        match only_known_keys(TableKind::Wire, row, table) {
-            Ok(()) => Ok(WireRow {
-                name,
-                service,
-                class,
-                path,
-                pw_id,
-                priority,
-                near,
-                far,
-            }),
+        match path_at(alloc, row, table, "path") {
+            Ok(path) => wire_row_with(name, service, class, path, row, table),
             Err(fault) => Err(fault),
         }
+    }
+}
+
+// A row of `wire` whose first keys say this.
+#[tactic(auto, unfolding(crate::specs::Rows::wire_row_with))]
+fn wire_row_with(
+    name: Name,
+    service: Name,
+    class: Class,
+    path: List<Name>,
+    row: RowPlace,
+    table: &Table,
+) -> Result<WireRow, ScenarioFault>
+    ensures { result ≡ wire_row_with name service class path row (table_view table.now) }
+{
+    let pw_id = number_at(row, table, "pw_id", 1, 4294967295)?;
+    let priority = number_or(100, row, table, "priority", 0, 255)? as u8;
+    let near = near_offer(row, table)?;
+    let far = far_offer(&near, row, table)?;
+    match only_known_keys(TableKind::Wire, row, table) {
+        Ok(()) => Ok(WireRow {
+            name,
+            service,
+            class,
+            path,
+            pw_id,
+            priority,
+            near,
+            far,
+        }),
+        Err(fault) => Err(fault),
     }
 }

@@ -2,7 +2,7 @@
 ghost use Rattle.std.specs.Prelude.{◌≡◌, ◌≤◌, length, IfOk};
 ghost use Rattle.toml.specs.View.{view, items_view, table_view};
 ghost use Rattle.command_text.specs.Reading.{Gives, MapsTo};
-ghost use Rattle.scenario_text.specs.Rows.{row_members, rows_in};
+ghost use Rattle.scenario_text.specs.Rows.{row_members, row_in, rows_in};
 
 use crate::limits::MOST_WIRES;
 use crate::row::Row;
@@ -18,6 +18,16 @@ fn row_table<'a>(row: RowPlace, value: &'a Value) -> Result<&'a Table, ScenarioF
     match value.as_table() {
         Some(table) => Ok(table),
         None => Err(row.wrong_kind("")),
+    }
+}
+
+// The row that a value is.
+fn row_at<T: Row>(alloc: Global, place: RowPlace, value: &Value) -> Result<T, ScenarioFault>
+    ensures { Gives result (row_in T.row_of place (view value.now)) }
+{
+    match row_table(place, value) {
+        Ok(table) => T::read(alloc, place, table),
+        Err(fault) => Err(fault),
     }
 }
 
@@ -37,8 +47,7 @@ pub fn rows<T: Row>(
             table,
             index: i as u32 + 1,
         };
-        let members = row_table(place, value)?;
-        let row = T::read(alloc, place, members)?;
+        let row = row_at::<T>(alloc, place, value)?;
         rows.push(row)?;
     }
     Ok(rows)
