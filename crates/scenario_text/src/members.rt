@@ -37,24 +37,30 @@ pub fn needed_member<'a>(
 pub fn name_at(row: RowPlace, table: &Table, key: &str) -> Result<Name, ScenarioFault>
     ensures { result ≡ needed a_name row key.now (table_view table.now) }
 {
-    let value = needed_member(row, table, key)?;
-    name(row, key, value)
+    match needed_member(row, table, key) {
+        Ok(value) => name(row, key, value),
+        Err(fault) => Err(fault),
+    }
 }
 
 /// The address at a key.
 pub fn address_at(row: RowPlace, table: &Table, key: &str) -> Result<Addr, ScenarioFault>
     ensures { result ≡ needed an_address row key.now (table_view table.now) }
 {
-    let value = needed_member(row, table, key)?;
-    address(row, key, value)
+    match needed_member(row, table, key) {
+        Ok(value) => address(row, key, value),
+        Err(fault) => Err(fault),
+    }
 }
 
 /// The class at a key.
 pub fn class_at(row: RowPlace, table: &Table, key: &str) -> Result<Class, ScenarioFault>
     ensures { result ≡ needed a_class row key.now (table_view table.now) }
 {
-    let value = needed_member(row, table, key)?;
-    class(row, key, value)
+    match needed_member(row, table, key) {
+        Ok(value) => class(row, key, value),
+        Err(fault) => Err(fault),
+    }
 }
 
 /// The names of edges at a key.
@@ -66,8 +72,10 @@ pub fn path_at(
 ) -> Result<List<Name>, ScenarioFault>
     ensures { Gives result (needed a_path row key.now (table_view table.now)) }
 {
-    let value = needed_member(row, table, key)?;
-    path(alloc, row, key, value)
+    match needed_member(row, table, key) {
+        Ok(value) => path(alloc, row, key, value),
+        Err(fault) => Err(fault),
+    }
 }
 
 /// The number at a key that the row has to have.
@@ -81,8 +89,10 @@ pub fn number_at(
     ensures exact { result ≡ needed (a_number low high) row key.now (table_view table.now) }
     ensures within { IfOk result (λ n. (low ≤ n) × (n ≤ high)) }
 {
-    let value = needed_member(row, table, key)?;
-    number(row, key, value, low, high)
+    match needed_member(row, table, key) {
+        Ok(value) => number(row, key, value, low, high),
+        Err(fault) => Err(fault),
+    }
 }
 
 /// The number at a key, or the default.

@@ -4,7 +4,7 @@ ghost use Rattle.std.specs.List.{list_all};
 ghost use Rattle.toml.specs.View.{view, items_view};
 ghost use Rattle.command_text.specs.Places.{place_at};
 ghost use Rattle.command_text.specs.Reading.{Gives, MapsTo};
-ghost use Rattle.scenario_text.specs.Values.{a_text, a_name, quad_of, address_of, an_address, number_from, a_number, a_boolean, class_of, a_class, mode_of, a_mode, a_description, is_string, an_array, names_in, a_path, all_items};
+ghost use Rattle.scenario_text.specs.Values.{meant, a_text, a_name, quad_of, address_of, an_address, number_from, a_number, a_boolean, class_of, a_class, mode_of, a_mode, a_description, is_string, an_array, names_in, a_path, all_items};
 
 use command_text::{RowPlace, ScenarioFault, is_same};
 use net_base::{Addr, Class, List, Name, Text};
@@ -22,14 +22,23 @@ fn text<'a>(row: RowPlace, key: &str, value: &'a Value) -> Result<&'a str, Scena
     }
 }
 
+// The value that is meant, where there is one in the range of the key.
+fn meant<T: Drop>(row: RowPlace, key: &str, value: Option<T>) -> Result<T, ScenarioFault>
+    ensures { result ≡ meant (place_at row key.now) value }
+{
+    match value {
+        Some(value) => Ok(value),
+        None => Err(row.out_of_range(key)),
+    }
+}
+
 /// A string that is a name.
 pub fn name(row: RowPlace, key: &str, value: &Value) -> Result<Name, ScenarioFault>
     ensures { result ≡ a_name (place_at row key.now) (view value.now) }
 {
-    let text = text(row, key, value)?;
-    match Name::read(text) {
-        Some(name) => Ok(name),
-        None => Err(row.out_of_range(key)),
+    match text(row, key, value) {
+        Ok(text) => meant(row, key, Name::read(text)),
+        Err(fault) => Err(fault),
     }
 }
 
@@ -63,8 +72,10 @@ fn address_of_text(row: RowPlace, key: &str, text: &str) -> Result<Addr, Scenari
 pub fn address(row: RowPlace, key: &str, value: &Value) -> Result<Addr, ScenarioFault>
     ensures { result ≡ an_address (place_at row key.now) (view value.now) }
 {
-    let text = text(row, key, value)?;
-    address_of_text(row, key, text)
+    match text(row, key, value) {
+        Ok(text) => address_of_text(row, key, text),
+        Err(fault) => Err(fault),
+    }
 }
 
 // The number that an integer is, from low to high.
@@ -128,10 +139,9 @@ fn class_of_text(text: &str) -> Option<Class>
 pub fn class(row: RowPlace, key: &str, value: &Value) -> Result<Class, ScenarioFault>
     ensures { result ≡ a_class (place_at row key.now) (view value.now) }
 {
-    let text = text(row, key, value)?;
-    match class_of_text(text) {
-        Some(class) => Ok(class),
-        None => Err(row.out_of_range(key)),
+    match text(row, key, value) {
+        Ok(text) => meant(row, key, class_of_text(text)),
+        Err(fault) => Err(fault),
     }
 }
 
@@ -152,10 +162,9 @@ fn mode_of_text(text: &str) -> Option<bool>
 pub fn mode(row: RowPlace, key: &str, value: &Value) -> Result<bool, ScenarioFault>
     ensures { result ≡ a_mode (place_at row key.now) (view value.now) }
 {
-    let text = text(row, key, value)?;
-    match mode_of_text(text) {
-        Some(tagged) => Ok(tagged),
-        None => Err(row.out_of_range(key)),
+    match text(row, key, value) {
+        Ok(text) => meant(row, key, mode_of_text(text)),
+        Err(fault) => Err(fault),
     }
 }
 
@@ -163,10 +172,9 @@ pub fn mode(row: RowPlace, key: &str, value: &Value) -> Result<bool, ScenarioFau
 pub fn description(row: RowPlace, key: &str, value: &Value) -> Result<Text<80>, ScenarioFault>
     ensures { result ≡ a_description (place_at row key.now) (view value.now) }
 {
-    let text = text(row, key, value)?;
-    match Text::read(text.as_bytes()) {
-        Some(text) => Ok(text),
-        None => Err(row.out_of_range(key)),
+    match text(row, key, value) {
+        Ok(text) => meant(row, key, Text::read(text.as_bytes())),
+        Err(fault) => Err(fault),
     }
 }
 
@@ -226,6 +234,8 @@ pub fn path(
 ) -> Result<List<Name>, ScenarioFault>
     ensures { Gives result (a_path (place_at row key.now) (view value.now)) }
 {
-    let items = strings(row, key, value)?;
-    names(alloc, row, key, items)
+    match strings(row, key, value) {
+        Ok(items) => names(alloc, row, key, items),
+        Err(fault) => Err(fault),
+    }
 }
