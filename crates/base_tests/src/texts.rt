@@ -1,5 +1,6 @@
 //! Pieces against texts that were written by hand.
 
+use crate::words::is_same;
 use std::process::Abort;
 use text_pieces::{put_hex_word, put_number_word, put_text, put_word};
 
@@ -19,5 +20,5 @@ const LINE: &str = "left paris 0 18446744073709551615  00090a9fff";
 fn adds_each_piece_at_the_end(rt: HostRuntime) {
     let mut text = Vec::new(rt.alloc());
     put_pieces(&rt, &mut text);
-    assert!(rt; text.as_slice() == LINE.as_bytes());
+    assert!(rt; is_same(text.as_slice(), LINE.as_bytes()));
 }

@@ -49,7 +49,10 @@ fn are_words(rt: &impl Abort, alloc: Global, told: &str, words: &str) -> bool {
         rest = behind(rt, alloc, rest, piece, quoted);
         quoted = !quoted;
     }
-    rest == Some("")
+    match rest {
+        Some(rest) => rest.is_empty(),
+        None => false,
+    }
 }
 
 /// A value is told in these words of its type, where a name, a key or an empty description stands in quotes.
@@ -61,11 +64,16 @@ pub fn is_told<T: Debug>(rt: &impl Abort, alloc: Global, value: &T, words: &str)
 /// A fault says these words.
 pub fn says<T: Display>(rt: &impl Abort, alloc: Global, fault: &T, words: &str) {
     let told = format!(in alloc; "{fault}").expect(rt, "memory");
-    assert!(rt; told.as_str() == words, "{words}");
+    assert!(rt; is_same(told.as_bytes(), words.as_bytes()), "{words}");
+}
+
+/// Whether these are the same octets. Tests compare them by this one call, since each comparison takes long to prove.
+pub fn is_same(one: &[u8], other: &[u8]) -> bool {
+    one == other
 }
 
 /// The front of what was written is these octets, and what stands behind them stays 0xee.
 pub fn is_front(out: &[u8], octets: &[u8]) -> bool {
     let (front, rest) = out.split_at(octets.len().min(out.len()));
-    front == octets && rest.iter().all(|octet| *octet == 0xee)
+    is_same(front, octets) && rest.iter().all(|octet| *octet == 0xee)
 }

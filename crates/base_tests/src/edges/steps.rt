@@ -4,6 +4,7 @@ ghost use Rattle.provider_edge.specs.Taking.{IsInRange};
 
 use crate::edges::side::{Side, side_of, take_often};
 use crate::hex::octets_of;
+use crate::words::is_same;
 use edge_model::{Effect, Effects, Input};
 use net_base::{
     Arrival, CircuitId, DropCause, EdgeId, LinkCall, MemLink, SegKey, ServiceId, StateName, WireId,
@@ -122,7 +123,9 @@ fn is_told(effects: &Effects, place: usize, named: StateName) -> bool {
 // Whether what was given out at a place is this frame at this circuit.
 fn is_left(effects: &Effects, place: usize, at: u16, octets: &[u8]) -> bool {
     match effects.list.get(place) {
-        Some(Effect::Left { circuit, bytes }) => circuit.0 == at && bytes.as_slice() == octets,
+        Some(Effect::Left { circuit, bytes }) => {
+            circuit.0 == at && is_same(bytes.as_slice(), octets)
+        }
         _ => false,
     }
 }
@@ -167,7 +170,7 @@ fn agrees_in_effects(effects: &Effects, step: Step, octets: &[u8]) -> Option<boo
 fn is_call(call: Option<&LinkCall>, peer: EdgeId, packet: bool, octets: &[u8]) -> bool {
     match call {
         Some(call) => {
-            call.peer == peer && call.packet == packet && call.bytes.as_slice() == octets
+            call.peer == peer && call.packet == packet && is_same(call.bytes.as_slice(), octets)
         }
         None => false,
     }
