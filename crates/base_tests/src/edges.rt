@@ -4,7 +4,7 @@ mod bridges;
 mod dialogue;
 mod edge_ends;
 mod packets;
-mod plans;
+pub mod plans;
 mod proposals;
 mod pseudowires;
 mod sessions;

@@ -1,95 +1,27 @@
 //! What no clause says: that the lines are those of the format, on a plan of two edges, a circuit and a wire.
 
+use crate::edges::plans::{A, B, plan_of};
+use crate::words::is_same;
 use net_base::{
-    Addr, Arrival, CircuitId, CircuitPlan, Class, Down, DropCause, EdgeId, EdgePlan, Entry, Event,
-    List, Name, Octets, Offer, Plan, Reason, ServiceId, StateName, Text, Trace, WireId, WirePlan,
+    Arrival, CircuitId, Down, DropCause, Entry, Event, List, Octets, Plan, Reason, StateName,
+    Trace, WireId,
 };
 use report_text::{Ending, report_of};
 use std::alloc::Global;
 use std::process::Abort;
 
-const A: EdgeId = EdgeId(0);
-
-const B: EdgeId = EdgeId(1);
-
 const CA: CircuitId = CircuitId(0);
 
 const W: WireId = WireId(0);
 
-fn name(rt: &impl Abort, text: &str) -> Name {
-    Name::read(text).expect(rt, "a name")
-}
-
-fn edge(rt: &impl Abort, text: &str) -> EdgePlan {
-    EdgePlan {
-        name: name(rt, text),
-        address: Addr([10, 0, 0, 1]),
-        first_label: 16,
-        keepalive: 180,
-        max_pdu: 4096,
-    }
-}
-
-fn circuit(rt: &impl Abort) -> CircuitPlan {
-    CircuitPlan {
-        name: name(rt, "ca"),
-        edge: A,
-        service: ServiceId(0),
-        tag: None,
-    }
-}
-
-fn offer(rt: &impl Abort) -> Offer {
-    Offer {
-        tagged: false,
-        cword: true,
-        mtu: None,
-        vlan: None,
-        vccv: None,
-        status: true,
-        group: 0,
-        description: Text::read(b"").expect(rt, "a text"),
-    }
-}
-
-fn wire(rt: &impl Abort, alloc: Global) -> WirePlan {
-    WirePlan {
-        name: name(rt, "w"),
-        service: ServiceId(0),
-        class: Class::Mesh,
-        path: List::new(alloc),
-        pw_id: 1,
-        near: offer(rt),
-        far: offer(rt),
-        priority: 100,
-    }
-}
-
-fn add_edge(rt: &impl Abort, plan: &mut Plan, text: &str) {
-    plan.edges.push(edge(rt, text)).expect(rt, "memory");
-}
-
-fn add_wire(rt: &impl Abort, alloc: Global, plan: &mut Plan) {
-    plan.wires.push(wire(rt, alloc)).expect(rt, "memory");
-}
-
-fn fill(rt: &impl Abort, alloc: Global, plan: &mut Plan) {
-    add_edge(rt, plan, "a");
-    add_edge(rt, plan, "b_2");
-    plan.circuits.push(circuit(rt)).expect(rt, "memory");
-    add_wire(rt, alloc, plan);
-}
-
-fn plan(rt: &impl Abort, alloc: Global) -> Plan {
-    let mut plan = Plan {
-        edges: List::new(alloc),
-        services: List::new(alloc),
-        circuits: List::new(alloc),
-        wires: List::new(alloc),
-    };
-    fill(rt, alloc, &mut plan);
-    plan
-}
+// Two edges, a circuit and a wire.
+const PLAN: &str = r#"
+version = 1
+edge = [{ name = "a", address = "10.0.0.1" }, { name = "b_2", address = "10.0.0.2" }]
+service = [{ name = "s" }]
+circuit = [{ name = "ca", edge = "a", service = "s" }]
+wire = [{ name = "w", service = "s", class = "mesh", path = ["a", "b_2"], pw_id = 1 }]
+"#;
 
 fn add(rt: &impl Abort, trace: &mut Trace, entry: Entry) {
     trace.push(entry).expect(rt, "memory");
@@ -284,12 +216,12 @@ fn entries_of_sessions(rt: &impl Abort, alloc: Global, trace: &mut Trace) {
 // The report of a trace that ended so is this text.
 fn tells(rt: &impl Abort, alloc: Global, plan: &Plan, trace: &Trace, ending: Ending, text: &str) {
     let report = report_of(alloc, plan, trace.as_slice(), ending).expect(rt, "memory");
-    assert!(rt; report.as_slice() == text.as_bytes(), "{text}");
+    assert!(rt; is_same(report.as_slice(), text.as_bytes()), "{text}");
 }
 
 // The same in the plan.
 fn reports(rt: &impl Abort, alloc: Global, trace: &Trace, ending: Ending, text: &str) {
-    let plan = plan(rt, alloc);
+    let plan = plan_of(rt, alloc, PLAN);
     tells(rt, alloc, &plan, trace, ending, text);
 }
 
@@ -301,13 +233,14 @@ const EVENTS_OF_WIRES: &str =
 
 #[test]
 fn events_as_the_format_writes_them(rt: HostRuntime) {
-    let mut trace = List::new(rt.alloc());
-    events(&rt, rt.alloc(), &mut trace);
-    reports(&rt, rt.alloc(), &trace, Ending::End, EVENTS);
-    let mut trace = List::new(rt.alloc());
+    let alloc = rt.alloc();
+    let mut trace = List::new(alloc);
+    events(&rt, alloc, &mut trace);
+    reports(&rt, alloc, &trace, Ending::End, EVENTS);
+    let mut trace = List::new(alloc);
     events_of_wires(&rt, &mut trace);
     let crowded = Ending::Crowded { count: 1_000_001 };
-    reports(&rt, rt.alloc(), &trace, crowded, EVENTS_OF_WIRES);
+    reports(&rt, alloc, &trace, crowded, EVENTS_OF_WIRES);
 }
 
 const ENTRIES_OF_FRAMES: &str =
@@ -318,13 +251,14 @@ const ENTRIES_OF_SESSIONS: &str =
 
 #[test]
 fn entries_as_the_format_writes_them(rt: HostRuntime) {
-    let mut trace = List::new(rt.alloc());
-    entries_of_frames(&rt, rt.alloc(), &mut trace);
-    reports(&rt, rt.alloc(), &trace, Ending::End, ENTRIES_OF_FRAMES);
-    let mut trace = List::new(rt.alloc());
-    entries_of_sessions(&rt, rt.alloc(), &mut trace);
+    let alloc = rt.alloc();
+    let mut trace = List::new(alloc);
+    entries_of_frames(&rt, alloc, &mut trace);
+    reports(&rt, alloc, &trace, Ending::End, ENTRIES_OF_FRAMES);
+    let mut trace = List::new(alloc);
+    entries_of_sessions(&rt, alloc, &mut trace);
     let much = Ending::TooMuch {
         weight: 268_435_457,
     };
-    reports(&rt, rt.alloc(), &trace, much, ENTRIES_OF_SESSIONS);
+    reports(&rt, alloc, &trace, much, ENTRIES_OF_SESSIONS);
 }
