@@ -1,8 +1,9 @@
 //! The ends of an edge that two wires join to two others, through their calls.
 ghost use Rattle.std.specs.Prelude.{◌≤◌};
+ghost use Rattle.net_base.specs.plan.Accepted.{IsChecked};
 
 use crate::edges::plans::{A, B, C, TWO_WIRES, plan_of};
-use net_base::{Label, Offer, Text, WireId};
+use net_base::{EdgeId, Label, Offer, Plan, Text, WireId};
 use peer_dialogue::{binding_in, content_of, fec_of};
 use pw_ends::PwEnds;
 use pw_signalling::{PwEnd, Told};
@@ -10,11 +11,18 @@ use pw_tlvs::{Points, PwStatus};
 use std::alloc::Global;
 use std::process::Abort;
 
+// The ends of the first edge of a plan.
+fn ends_of(rt: &impl Abort, alloc: Global, plan: &Plan) -> PwEnds
+    requires { IsChecked plan.now }
+{
+    assert!(rt; !plan.edges.is_empty());
+    PwEnds::open(alloc, plan, A).expect(rt, "memory")
+}
+
 // The ends of the first edge.
 fn opened(rt: &impl Abort, alloc: Global) -> PwEnds {
     let plan = plan_of(rt, alloc, TWO_WIRES);
-    assert!(rt; !plan.edges.is_empty());
-    PwEnds::open(alloc, &plan, A).expect(rt, "memory")
+    ends_of(rt, alloc, &plan)
 }
 
 // What an end of group 7 tells.
@@ -48,35 +56,62 @@ fn advertised(rt: &impl Abort, ends: &mut PwEnds, slot: usize, told: &Told) -> u
     }
 }
 
+// A label is advertised with this number by the end of this slot, or by none.
+fn is_advertised(rt: &impl Abort, ends: &PwEnds, number: u32, slot: Option<usize>) {
+    assert!(rt; ends.advertiser(number) == slot);
+}
+
 // Whether the end of a slot is idle, and holds no binding.
 fn is_fresh(ends: &PwEnds, slot: usize) -> bool {
     slot < ends.len() && matches!(ends.end(slot), PwEnd::Idle(end) if end.remote().is_none())
 }
 
-// The slot of the end that owns the label with this number.
-fn owner(rt: &impl Abort, ends: &PwEnds, number: u32) -> Option<usize> {
+// The label with this number is owned by the end of this slot, or by none.
+fn is_owned(rt: &impl Abort, ends: &PwEnds, number: u32, slot: Option<usize>) {
     let label = Label::new(number).expect(rt, "a label");
-    ends.owner(label)
+    assert!(rt; ends.owner(label) == slot);
 }
 
-// Both ends are idle and are found by peer and PW ID, and the edge knows its wires.
+// A peer and a PW ID, and the slot of their end.
+const SLOTS: [(EdgeId, u32, Option<usize>); 4] = [
+    (B, 100, Some(0)),
+    (C, 100, Some(1)),
+    (B, 101, None),
+    (A, 100, None),
+];
+
+// Each end is found by its peer and its PW ID.
+fn are_found(rt: &impl Abort, ends: &PwEnds) {
+    for (peer, pw_id, slot) in SLOTS.as_slice() {
+        assert!(rt; ends.find(*peer, *pw_id) == *slot);
+    }
+}
+
+// Whether wire 1 passes the edge, wire 0 ends there, and wire 2 does not pass it.
+fn knows_wires(ends: &PwEnds) -> bool {
+    ends.passes(WireId(1)) && ends.ends_here(WireId(0)) && !ends.passes(WireId(2))
+}
+
+// Both ends are idle and are found, and the edge knows its wires.
 fn stand(rt: &impl Abort, ends: &PwEnds) {
     assert!(rt; ends.len() == 2);
     assert!(rt; is_fresh(ends, 0) && is_fresh(ends, 1));
-    assert!(rt; ends.find(B, 100) == Some(0));
-    assert!(rt; ends.find(C, 100) == Some(1));
-    assert!(rt; ends.find(B, 101) == None);
-    assert!(rt; ends.find(A, 100) == None);
-    assert!(rt; ends.passes(WireId(1)));
-    assert!(rt; ends.ends_here(WireId(0)));
-    assert!(rt; !ends.passes(WireId(2)));
+    are_found(rt, ends);
+    assert!(rt; knows_wires(ends));
+}
+
+// The idle end of a slot advertises with the label of this number, or with none where it is 0.
+fn advertises(rt: &impl Abort, ends: &mut PwEnds, slot: usize, told: &Told, number: u32)
+    requires { told.now.kind ≤ 0x7FFF }
+{
+    assert!(rt; advertised(rt, ends, slot, told) == number);
 }
 
 // Both ends advertise, with the first two of the edge's four labels.
 fn advertise(rt: &impl Abort, ends: &mut PwEnds) {
     let told = told(rt, Some(PwStatus(0)));
-    assert!(rt; advertised(rt, ends, 0, &told) == 1_048_572);
-    assert!(rt; advertised(rt, ends, 1, &told) == 1_048_573);
+    advertises(rt, ends, 0, &told, 1_048_572);
+    advertises(rt, ends, 1, &told, 1_048_573);
 }
 
 // Both ends own their labels, until the connection is lost and the edge restarts.
@@ -84,31 +119,31 @@ fn own_labels(rt: &impl Abort, ends: &mut PwEnds) {
     advertise(rt, ends);
     ends.lose(B);
     assert!(rt; is_fresh(ends, 0));
-    assert!(rt; owner(rt, ends, 1_048_572) == None);
-    assert!(rt; owner(rt, ends, 1_048_573) == Some(1));
+    is_owned(rt, ends, 1_048_572, None);
+    is_owned(rt, ends, 1_048_573, Some(1));
     ends.restarted();
-    assert!(rt; owner(rt, ends, 1_048_573) == None);
+    is_owned(rt, ends, 1_048_573, None);
     assert!(rt; ends.next_label() == 1_048_574);
 }
 
 // Both ends advertise, until one withdraws.
 fn advertise_until_one_withdraws(rt: &impl Abort, ends: &mut PwEnds) {
     advertise(rt, ends);
-    assert!(rt; ends.advertiser(1_048_573) == Some(1));
+    is_advertised(rt, ends, 1_048_573, Some(1));
     assert!(rt; ends.len() == 2);
     ends.withdraw(1);
-    assert!(rt; ends.advertiser(1_048_573) == None);
-    assert!(rt; ends.advertiser(1_048_572) == Some(0));
+    is_advertised(rt, ends, 1_048_573, None);
+    is_advertised(rt, ends, 1_048_572, Some(0));
 }
 
 // The first end has no label to advertise once the edge has given its four.
 fn end_with_the_labels(rt: &impl Abort, ends: &mut PwEnds) {
     let told = told(rt, None);
     for number in 1_048_572..1_048_576 {
-        assert!(rt; advertised(rt, ends, 0, &told) == number);
+        advertises(rt, ends, 0, &told, number);
         ends.lose(B);
     }
-    assert!(rt; advertised(rt, ends, 0, &told) == 0);
+    advertises(rt, ends, 0, &told, 0);
     assert!(rt; is_fresh(ends, 0));
 }
 
@@ -159,9 +194,10 @@ fn opened_do(rt: &impl Abort, alloc: Global, deed: Deed) {
 
 #[test]
 fn ends_stand_advertise_and_bind(rt: HostRuntime) {
-    opened_do(&rt, rt.alloc(), Deed::Stand);
-    opened_do(&rt, rt.alloc(), Deed::OwnLabels);
-    opened_do(&rt, rt.alloc(), Deed::AdvertiseUntilOneWithdraws);
-    opened_do(&rt, rt.alloc(), Deed::EndWithTheLabels);
-    opened_do(&rt, rt.alloc(), Deed::HoldABinding);
+    let alloc = rt.alloc();
+    opened_do(&rt, alloc, Deed::Stand);
+    opened_do(&rt, alloc, Deed::OwnLabels);
+    opened_do(&rt, alloc, Deed::AdvertiseUntilOneWithdraws);
+    opened_do(&rt, alloc, Deed::EndWithTheLabels);
+    opened_do(&rt, alloc, Deed::HoldABinding);
 }

@@ -1,7 +1,9 @@
 //! One frame as a pseudowire carries it, with octets that were worked out by hand (RFC 3032 section 2.1, RFC 4448 section 4).
 
+use crate::words::is_front;
 use eth_encap::{FrameFault, StackEntry, pack, read_entry, unpack};
 use net_base::Label;
+use std::process::Abort;
 
 // A broadcast of 14 octets.
 const FRAME: [u8; 14] = [0xff, 0xff, 0xff, 0xff, 0xff, 0xff, 2, 0, 0, 0, 0, 1, 8, 0];
@@ -15,14 +17,18 @@ const TAGGED: [u8; 22] = [
     0, 1, 1, 0xff, 0xff, 0xff, 0xff, 0xff, 0xff, 0xff, 2, 0, 0, 0, 0, 1, 0x81, 0, 0, 9, 8, 0,
 ];
 
+// The frame is packed into these 22 octets.
+fn is_packed(rt: &impl Abort, cword: bool, vlan: Option<u16>, packet: &[u8; 22]) {
+    let label = Label::new(16).expect(rt, "a label");
+    let mut out = [0xee; 26];
+    let size = pack(label, 255, cword, vlan, &FRAME, &mut out);
+    assert!(rt; size == 22 && is_front(&out, packet));
+}
+
 #[test]
 fn packs_a_frame(rt: HostRuntime) {
-    let label = Label::new(16).expect(&rt, "a label");
-    let mut out = [0u8; 26];
-    assert_eq!(rt; pack(label, 255, true, None, &FRAME, &mut out), 22);
-    assert!(rt; out[..22] == RAW[..]);
-    assert_eq!(rt; pack(label, 255, false, Some(9), &FRAME, &mut out), 22);
-    assert!(rt; out[..22] == TAGGED[..]);
+    is_packed(&rt, true, None, &RAW);
+    is_packed(&rt, false, Some(9), &TAGGED);
 }
 
 #[test]
@@ -37,21 +43,36 @@ fn reads_an_entry(rt: HostRuntime) {
     assert!(rt; read_entry(&[0, 1, 1, 0]) == Err(FrameFault::Ttl));
 }
 
+// What stands behind a label is unpacked into the frame, with a control word or a tag.
+fn is_unpacked(rt: &impl Abort, cword: bool, tagged: bool, payload: &[u8]) {
+    let mut out = [0xee; 18];
+    assert!(rt; payload.len() <= 18);
+    let size = unpack(cword, tagged, 1500, payload, &mut out).expect(rt, "a frame");
+    assert!(rt; size == 14 && is_front(&out, &FRAME));
+}
+
 #[test]
 fn unpacks_a_frame(rt: HostRuntime) {
+    is_unpacked(&rt, true, false, &RAW[4..]);
+    is_unpacked(&rt, false, true, &TAGGED[4..]);
+}
+
+// What stands behind a label has this fault.
+fn refuses(rt: &impl Abort, cword: bool, tagged: bool, payload: &[u8], fault: FrameFault) {
     let mut out = [0u8; 18];
-    assert!(rt; unpack(true, false, 1500, &RAW[4..], &mut out) == Ok(14));
-    assert!(rt; out[..14] == FRAME[..]);
-    assert!(rt; unpack(false, true, 1500, &TAGGED[4..], &mut out) == Ok(14));
-    assert!(rt; out[..14] == FRAME[..]);
+    assert!(rt; payload.len() <= 18);
+    let fails = match unpack(cword, tagged, 1500, payload, &mut out) {
+        Ok(_) => false,
+        Err(found) => found == fault,
+    };
+    assert!(rt; fails);
 }
 
 #[test]
 fn refuses_what_is_no_frame(rt: HostRuntime) {
-    let mut out = [0u8; 18];
-    assert!(rt; unpack(true, false, 1500, &[], &mut out) == Err(FrameFault::Short));
-    assert!(rt; unpack(true, false, 1500, &[16, 0, 0, 0], &mut out) == Err(FrameFault::BadNibble));
-    assert!(rt; unpack(true, false, 1500, &RAW[4..21], &mut out) == Err(FrameFault::Short));
-    assert!(rt; unpack(false, true, 1500, &FRAME, &mut out) == Err(FrameFault::NoTag));
-    assert!(rt; unpack(false, true, 1500, &TAGGED[4..21], &mut out) == Err(FrameFault::Short));
+    refuses(&rt, true, false, &[], FrameFault::Short);
+    refuses(&rt, true, false, &[16, 0, 0, 0], FrameFault::BadNibble);
+    refuses(&rt, true, false, &RAW[4..21], FrameFault::Short);
+    refuses(&rt, false, true, &FRAME, FrameFault::NoTag);
+    refuses(&rt, false, true, &TAGGED[4..21], FrameFault::Short);
 }
