@@ -92,7 +92,7 @@ fn is_written(rt: &impl Abort, out: &[u8], length: usize, stack: &[u8], packet: 
 fn asks(rt: &impl Abort, channel: Cc, stack: &[u8], length: usize) {
     let label = Label::new(16).expect(rt, "a label");
     let mut out = [0xeeu8; 64];
-    assert_eq!(rt; request(channel, label, 0, PING, &mut out), length);
+    assert!(rt; request(channel, label, 0, PING, &mut out) == length);
     is_written(rt, &out, length, stack, &REQUEST);
 }
 
@@ -132,17 +132,12 @@ struct Answered {
 // A request has its answer.
 fn is_answered(rt: &impl Abort, answered: &Answered) {
     let label = Label::new(answered.label).expect(rt, "a label");
+    let request = answered.request;
     let mut out = [0xeeu8; 64];
-    is_request(rt, answered.request, answered.sequence);
-    assert!(rt; answered.request.len() <= 52 && answered.points <= 3);
-    let length = answer(
-        answered.channel,
-        label,
-        answered.points,
-        answered.request,
-        &mut out,
-    );
-    assert_eq!(rt; length, answered.length);
+    is_request(rt, request, answered.sequence);
+    assert!(rt; request.len() <= 52 && answered.points <= 3);
+    let length = answer(answered.channel, label, answered.points, request, &mut out);
+    assert!(rt; length == answered.length);
     is_written(rt, &out, length, answered.stack, answered.packet);
 }
 
@@ -237,18 +232,25 @@ fn put(rt: &impl Abort, octets: &mut [u8], place: usize, octet: u8) {
     octets[place] = octet;
 }
 
-// The ping with these changes has this fault.
-fn has_fault(rt: &impl Abort, change: &Change) {
-    let (first, one, second, two, fault) = *change;
+// The ping, as it stands behind its label.
+fn payload() -> [u8; 32] {
     let mut payload = [0u8; 32];
     payload[..4].copy_from_slice(&HEADER_STACK[4..]);
     payload[4..].copy_from_slice(&REQUEST);
+    payload
+}
+
+// The ping with these changes has this fault.
+fn has_fault(rt: &impl Abort, change: &Change) {
+    let (first, one, second, two, fault) = *change;
+    let mut payload = payload();
     put(rt, &mut payload, first, one);
     put(rt, &mut payload, second, two);
-    assert!(rt;
-        read_echo(&payload, true, 100) == Err(fault),
-        "{first} {second}"
-    );
+    let fails = match read_echo(&payload, true, 100) {
+        Ok(_) => false,
+        Err(found) => found == fault,
+    };
+    assert!(rt; fails, "{first} {second}");
 }
 
 #[test]

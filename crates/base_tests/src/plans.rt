@@ -118,8 +118,8 @@ fn add_wires(rt: &impl Abort, alloc: Global, plan: &mut Plan, rows: &str) {
     if rows.is_empty() {
         return;
     }
-    for words in rows.split(", ") {
-        add_wire(rt, alloc, plan, words);
+    for words in rows.split(',') {
+        add_wire(rt, alloc, plan, words.trim());
     }
 }
 
@@ -276,7 +276,7 @@ fn finds_the_fault_of_a_wire(rt: HostRuntime) {
     for line in ROWS.lines() {
         rows = rows.saturating_add(reads_line(&rt, rt.alloc(), line));
     }
-    assert_eq!(rt; rows, 13);
+    assert!(rt; rows == 13);
 }
 
 #[test]
@@ -314,10 +314,9 @@ fn tells_each(rt: &impl Abort, alloc: Global, wire: &WirePlan) {
     }
 }
 
-// The ends of a wire from edge 1 to edge 2 offer these groups.
-fn offers(rt: &impl Abort, wire: &WirePlan, near: u32, far: u32) {
-    assert!(rt; wire.offer_of(EdgeId(1)).group == near);
-    assert!(rt; wire.offer_of(EdgeId(2)).group == far);
+// The end of a wire at an edge offers this group.
+fn offers(rt: &impl Abort, wire: &WirePlan, edge: EdgeId, group: u32) {
+    assert!(rt; wire.offer_of(edge).group == group);
 }
 
 #[test]
@@ -325,5 +324,6 @@ fn tells_the_ends_of_segments(rt: HostRuntime) {
     let mut wire = wire(&rt, rt.alloc(), "mesh v 1432 7");
     wire.far.group = 9;
     tells_each(&rt, rt.alloc(), &wire);
-    offers(&rt, &wire, 0, 9);
+    offers(&rt, &wire, EdgeId(1), 0);
+    offers(&rt, &wire, EdgeId(2), 9);
 }

@@ -70,5 +70,5 @@ pub fn read_as(
     for row in text.split(between) {
         rows = rows.saturating_add(reads_row(rt, alloc, document, words, row));
     }
-    assert_eq!(rt; rows, count);
+    assert!(rt; rows == count);
 }
