@@ -123,10 +123,11 @@ fn bridges(rt: &impl Abort, alloc: Global, steps: &[Step]) {
 
 #[test]
 fn bridges_frames(rt: HostRuntime) {
-    bridges(&rt, rt.alloc(), &FLOODS_AND_LEARNS);
-    bridges(&rt, rt.alloc(), &TURNS_OFF);
-    bridges(&rt, rt.alloc(), &FORGETS);
-    bridges(&rt, rt.alloc(), &BRIDGES_ITS_SERVICES);
+    let alloc = rt.alloc();
+    bridges(&rt, alloc, &FLOODS_AND_LEARNS);
+    bridges(&rt, alloc, &TURNS_OFF);
+    bridges(&rt, alloc, &FORGETS);
+    bridges(&rt, alloc, &BRIDGES_ITS_SERVICES);
 }
 
 #[test]

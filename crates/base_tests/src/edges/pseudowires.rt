@@ -90,9 +90,10 @@ fn plays_up(rt: &impl Abort, alloc: Global, fails: u64, steps: &[Step]) {
 
 #[test]
 fn hears_of_a_pseudowire(rt: HostRuntime) {
-    plays_up(&rt, rt.alloc(), 0, &RELEASES_A_GROUP);
-    plays_up(&rt, rt.alloc(), 0, &KEEPS_OTHER_GROUPS);
-    plays_up(&rt, rt.alloc(), 0, &RELEASES_WHAT_IT_DOES_NOT_KNOW);
-    plays_up(&rt, rt.alloc(), 0, &ADVERTISES_AGAIN_ONCE_RENEWED);
-    plays_up(&rt, rt.alloc(), 3, &LOSES_ITS_ENDS);
+    let alloc = rt.alloc();
+    plays_up(&rt, alloc, 0, &RELEASES_A_GROUP);
+    plays_up(&rt, alloc, 0, &KEEPS_OTHER_GROUPS);
+    plays_up(&rt, alloc, 0, &RELEASES_WHAT_IT_DOES_NOT_KNOW);
+    plays_up(&rt, alloc, 0, &ADVERTISES_AGAIN_ONCE_RENEWED);
+    plays_up(&rt, alloc, 3, &LOSES_ITS_ENDS);
 }

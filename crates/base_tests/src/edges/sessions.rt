@@ -77,8 +77,9 @@ fn plays_off(rt: &impl Abort, alloc: Global, me: EdgeId, fails: u64, steps: &[St
 
 #[test]
 fn comes_up_and_ends(rt: HostRuntime) {
-    plays_off(&rt, rt.alloc(), B, 0, &COMES_UP_AND_IS_LOST);
-    plays_off(&rt, rt.alloc(), A, 0, &REFUSES_ANOTHER_RECEIVER);
-    plays_off(&rt, rt.alloc(), A, 1, &ENDS_WHERE_A_PUT_FAILS);
-    plays_off(&rt, rt.alloc(), A, 0, &EXPIRES);
+    let alloc = rt.alloc();
+    plays_off(&rt, alloc, B, 0, &COMES_UP_AND_IS_LOST);
+    plays_off(&rt, alloc, A, 0, &REFUSES_ANOTHER_RECEIVER);
+    plays_off(&rt, alloc, A, 1, &ENDS_WHERE_A_PUT_FAILS);
+    plays_off(&rt, alloc, A, 0, &EXPIRES);
 }

@@ -314,9 +314,10 @@ const OF_PASSIVE: &str =
 // What each end proposes, and that the Initialization of each end tells; and whether it is the active one.
 #[test]
 fn proposes_its_own(rt: HostRuntime) {
+    let alloc = rt.alloc();
     let active = (ACTIVE.proposal(), ACTIVE.is_active());
     let passive = (PASSIVE.proposal(), PASSIVE.is_active());
-    reads_as(&rt, rt.alloc(), About::Pdus, INITIALIZATIONS, 2);
-    is_told(&rt, rt.alloc(), &active, OF_ACTIVE);
-    is_told(&rt, rt.alloc(), &passive, OF_PASSIVE);
+    reads_as(&rt, alloc, About::Pdus, INITIALIZATIONS, 2);
+    is_told(&rt, alloc, &active, OF_ACTIVE);
+    is_told(&rt, alloc, &passive, OF_PASSIVE);
 }

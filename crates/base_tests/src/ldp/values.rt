@@ -176,11 +176,12 @@ pub fn agrees(rt: &impl Abort, alloc: Global, about: About, octets: &[u8], words
 
 #[test]
 fn reads_and_writes_values(rt: HostRuntime) {
-    reads_as(&rt, rt.alloc(), About::Fecs, ELEMENTS, 26);
-    reads_as(&rt, rt.alloc(), About::WrittenFecs, WRITTEN_ELEMENTS, 3);
-    reads_as(&rt, rt.alloc(), About::Points, POINTS, 14);
-    reads_as(&rt, rt.alloc(), About::Statuses, STATUSES, 2);
-    reads_as(&rt, rt.alloc(), About::Macs, MACS, 3);
+    let alloc = rt.alloc();
+    reads_as(&rt, alloc, About::Fecs, ELEMENTS, 26);
+    reads_as(&rt, alloc, About::WrittenFecs, WRITTEN_ELEMENTS, 3);
+    reads_as(&rt, alloc, About::Points, POINTS, 14);
+    reads_as(&rt, alloc, About::Statuses, STATUSES, 2);
+    reads_as(&rt, alloc, About::Macs, MACS, 3);
 }
 
 // A point with this PW ID alone.
