@@ -28,11 +28,13 @@ pub fn replay(alloc: Global, octets: &[u8]) -> Result<Answer, NoMemory>
 {
     match read_scenario(alloc, octets) {
         Ok(scenario) => {
-            if is_built_scenario(&scenario) {
+            let answer = if is_built_scenario(&scenario) {
                 replay_built(alloc, &scenario)
             } else {
                 Ok(Answer::refusal(alloc, Outcome::NotBuilt))
-            }
+            };
+            drop(scenario);
+            answer
         }
         Err(fault) => match refused(fault) {
             Ok(outcome) => Ok(Answer::refusal(alloc, outcome)),
@@ -55,7 +57,10 @@ fn replay_built(alloc: Global, scenario: &Scenario) -> Result<Answer, NoMemory>
             network: Some(network),
             outcome: outcome_of(stop),
         }),
-        Err(fault) => Err(fault),
+        Err(fault) => {
+            drop(network);
+            Err(fault)
+        }
     }
 }
 
