@@ -10,7 +10,7 @@ use net_base::{List, NoMemory, Octets, Offer};
 use pw_signalling::Binding;
 use std::alloc::Global;
 
-/// The TTL with which a packet begins its way (RFC 4448 section 4.1).
+/// The TTL with which a packet begins its way (RFC 3032 section 2.4 leaves it open; 255 is own).
 const FULL_TTL: u8 = 255;
 
 /// The octets of an inner frame as a terminal edge with this offer sends it under a binding.

@@ -60,7 +60,7 @@ ethernet_tagged = 0x0004
 abbrev pub ethernet_raw : ℕ
 ethernet_raw = 0x0005
 
--- the connectivity verification type of an LSP ping (RFC 5085 section 5.3.1)
+-- the connectivity verification type of an ICMP ping (RFC 5085 section 5.3.1)
 abbrev pub icmp_ping : ℕ
 icmp_ping = 0x01
 

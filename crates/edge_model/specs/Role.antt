@@ -42,7 +42,7 @@ abbrev pub role_at : Plan → EdgeState → EndPlace → EndRole
 role_at plan edge place = role_in (wire_row plan place.wire) edge.me edge.chosen place.wire
 
 -- the status that an end tells: its own failure bits, and that it stands by where it was not chosen (RFC 4446 section 3.5, RFC
--- 6870 section 5.1)
+-- 6870 section 5.2)
 abbrev pub status_to_tell : Plan → EdgeState → EndPlace → PwStatus
 status_to_tell plan edge place = combined (edge.bits place.wire.0) (is_not_chosen (role_at plan edge place))
 

@@ -23,7 +23,7 @@ drops why work = gives (Dropped why) work
 
 -- ---- a packet
 
--- the TTL with which a packet begins its way (RFC 4448 section 4.1)
+-- the TTL with which a packet begins its way (RFC 3032 section 2.4 leaves it open; 255 is own)
 abbrev pub full_ttl : ℕ
 full_ttl = 255
 

@@ -56,7 +56,7 @@ happens_to told peer event (Some kept) work = comes_of told peer kept (outcome_o
 abbrev pub happens : Answers → EdgeId → SessionEvent → Work → Work
 happens told peer event work = happens_to told peer event (work.edge.peering peer.0) work
 
--- where no session with a peer stands, each end beside it is lost (RFC 5036 section 2.5.4)
+-- where no session with a peer stands, each end beside it is lost (RFC 5036 section 3.5.1.1)
 abbrev pub clears_ends : EdgeId → Work → Work
 clears_ends peer work = if has_end work.edge peer then work else changes (with_ends_beside peer lost) work
 

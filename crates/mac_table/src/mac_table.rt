@@ -71,7 +71,7 @@ impl MacTable {
         find_port(self.entries.as_slice(), address)
     }
 
-    /// Removes the addresses from which no frame came for `limit` ticks or more (RFC 4762 section 4.2). The
+    /// Removes the addresses from which no frame came for `limit` ticks or more (RFC 4762 section 9.1). The
     /// others stay in order.
     pub fn age(&mut self, now: u64, limit: u32)
         requires { NoneAfter now self.old.entries }

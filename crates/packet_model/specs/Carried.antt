@@ -26,7 +26,7 @@ pub record HasEntered (plan : Plan) (trace : List Entry) (row : WirePlan) (origi
   pub formed : inner_at plan sender octets ≡ Ok frame
 
 -- The octets are those of the frame, in the mode of the terminal edge that it comes from, with a TTL of 255 less the switching
--- points that it has passed (RFC 4448 section 4.1); and the edge at the other end of the wire reads them in the same mode.
+-- points that it has passed (RFC 3032 section 2.4); and the edge at the other end of the wire reads them in the same mode.
 pub record IsPacked (plan : Plan) (row : WirePlan) (packet : Packet) (label : ℕ) (frame : List ℕ) : Type 0 where
   pub ttl : ℕ
   pub vlan : Option ℕ

@@ -6,7 +6,7 @@ ghost use Rattle.edge_model.specs.Hear.{advice_of, advisory, data_for};
 use ldp_grammar::{Message, MessageKind, StatusCode, Why};
 use session_core::Reply;
 
-/// The status data of an unknown message type (RFC 5036 section 3.5.1.2.3).
+/// The status data of an unknown message type (RFC 5036 section 3.5.1.2.1).
 const UNKNOWN_MESSAGE_TYPE: u32 = 0x04;
 
 /// The status data of an unknown TLV.
@@ -18,8 +18,9 @@ const MISSING_PARAMETERS: u32 = 0x16;
 /// The status data of an unknown FEC.
 const UNKNOWN_FEC: u32 = 0x0c;
 
-/// What is told of a message that is not processed (RFC 5036 sections 3.4.6 and 3.5.1.2.3): of one of an unknown type, where
-/// it says so by U = 0, and of one that lacks something or has something unknown, unless it is itself a Notification.
+/// What is told of a message that is not processed (RFC 5036 sections 3.4.6, 3.5.1.2.1 and 3.5.1.2.2): of one of an unknown
+/// type, where it says so by U = 0, and of one that lacks something or has something unknown, unless it is itself a
+/// Notification.
 pub fn advice_of(message: &Message) -> Option<Reply>
     ensures advice { result ≡ advice_of message.now }
     ensures data { IfSome result HasData }

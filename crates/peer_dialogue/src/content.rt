@@ -13,7 +13,7 @@ const ETHERNET_TAGGED: u16 = 0x0004;
 
 const ETHERNET_RAW: u16 = 0x0005;
 
-// The connectivity verification type of an LSP ping (RFC 5085 section 5.3.1).
+// The connectivity verification type of an ICMP ping (RFC 5085 section 5.3.1).
 const ICMP_PING: u8 = 0x01;
 
 /// What a terminal edge tells by its offer, with a status or without one (RFC 8077 section 6).

@@ -218,7 +218,7 @@ impl Control {
         self.ends.lose(peer);
     }
 
-    // Where no session with a neighbour stands, each end beside it is lost (RFC 5036 section 2.5.4).
+    // Where no session with a neighbour stands, each end beside it is lost (RFC 5036 section 3.5.1.1).
     fn clear_ends(&mut self, peer: EdgeId)
         ensures keeps { KeepsPlan self.old self.new }
         ensures step { (rest : Rest) (calls : List LinkCall) (out : List Effect) → at_control self.new rest calls out ≡ clears_ends peer (at_control self.old rest calls out) }

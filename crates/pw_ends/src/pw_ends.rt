@@ -340,7 +340,7 @@ impl PwEnds {
     }
 
     /// The session with a peer is lost: each end beside it is idle, not declined, and holds no binding, and its label is free
-    /// (RFC 5036 section 2.5.4).
+    /// (RFC 5036 section 3.5.1.1).
     #[tactic(auto, using(crate::proofs::SlotLemmas::seen_steps))]
     pub fn lose(&mut self, peer: EdgeId)
         ensures places { self.new.places ≡ self.old.places }

@@ -97,7 +97,7 @@ is_in_group group None = false
 is_in_group group (Some binding) = binding.told.group == group
 
 -- a Label Withdraw or a status of a whole group: the same as without a group, where the binding is of the group (RFC 8077
--- section 6.1)
+-- section 6.5)
 abbrev pub group_unbound : ℕ → EndState → EndState
 group_unbound group e = if is_in_group group e.remote then unbound None e else e
 

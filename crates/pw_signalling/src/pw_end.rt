@@ -82,7 +82,7 @@ impl PwEnd {
         }
     }
 
-    /// A Label Withdraw of a whole group came (RFC 8077 section 6.1): the binding goes, where it is of the group.
+    /// A Label Withdraw of a whole group came (RFC 8077 section 6.5): the binding goes, where it is of the group.
     pub fn on_group_withdraw(self, group: u32) -> PwEnd
         ensures state { end_of result ≡ group_unbound group (end_of self) }
     {
@@ -105,7 +105,7 @@ impl PwEnd {
         }
     }
 
-    /// The session with the peer is lost: the end is idle, not declined, and holds no binding (RFC 5036 section 2.5.4).
+    /// The session with the peer is lost: the end is idle, not declined, and holds no binding (RFC 5036 section 3.5.1.1).
     pub fn lost(self) -> PwEnd
         ensures state { end_of result ≡ lost (end_of self) }
     {

@@ -1,5 +1,5 @@
 //! The choice among the spokes that hang an edge on the core of a service, and what an end tells of that choice (RFC 4762 section
-//! 10.2.1, RFC 6870 section 5.1).
+//! 10.2.1, RFC 6870 section 5.2).
 //!
 //! The definition of the choice stands in `specs/Choice.antt`, that of the status in `specs/Telling.antt`.
 #![tactic(auto)]

@@ -8,7 +8,7 @@ use pw_status::combine;
 use pw_tlvs::PwStatus;
 
 /// The status that an end of this role with these failure bits, at most 31, tells: its bits, and that it stands by where it was not
-/// chosen (RFC 4446 section 3.5, RFC 6870 section 5.1).
+/// chosen (RFC 4446 section 3.5, RFC 6870 section 5.2).
 pub fn status_to_tell(role: EndRole, bits: u8) -> PwStatus
     requires { bits ≤ 31 }
     ensures status { result ≡ combined bits (is_not_chosen role) }

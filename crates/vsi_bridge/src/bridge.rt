@@ -39,7 +39,7 @@ impl Model for Bridge {
 impl Bridge {
     /// A bridge over these ports that has learned nothing, with the memory for 4,096 addresses. After this no
     /// call takes memory. `age` is the number of ticks after which a learned address that was not heard again
-    /// is forgotten (RFC 4762 section 4.2).
+    /// is forgotten (RFC 4762 section 9.1).
     pub fn open(alloc: Global, ports: Ports, age: u32) -> Result<Bridge, NoMemory>
         ensures { IfOk result (λ bridge. bridge ≡ record { ports = ports; age = age; entries = [] }) }
     {
@@ -95,7 +95,7 @@ impl Bridge {
         self.table.find(destination)
     }
 
-    /// Forgets the addresses that were not heard for as many ticks as the age limit (RFC 4762 section 4.2).
+    /// Forgets the addresses that were not heard for as many ticks as the age limit (RFC 4762 section 9.1).
     pub fn tick(&mut self, now: u64)
         requires { NoneAfter now self.old.entries }
         ensures entries { self.new ≡ record self.old { entries = filter (is_young now self.old.age) self.old.entries } }
