@@ -1,5 +1,5 @@
 -- What always holds of what an edge forwards by holds after each change of it, and the change is that of the edge.
-use Rattle.std.proofs.Common.{◌≡◌, ◌<◌, ◌≤◌, ◌+◌, ◌++◌, ◌∙◌, ◌⊎◌, ◌&&◌, not, ℕ, zero, suc, Bool, true, false, List, [], ◌∷◌, Option, Some, None, cond, filter, length, slice_get, slice_set, slice_index_or, map, take, drop, set, position, nat_eq, replicate, refl, ap, sym, subst, inl, inr, arith, length-set}
+use Rattle.std.proofs.Common.{◌≡◌, ◌<◌, ◌≤◌, ◌+◌, ◌++◌, ◌∙◌, ◌⊎◌, ◌&&◌, not, ℕ, zero, suc, Bool, true, false, List, [], ◌∷◌, Option, Some, None, cond, filter, length, option_map, slice_get, slice_set, slice_index_or, map, take, drop, set, position, nat_eq, replicate, refl, ap, sym, subst, inl, inr, arith, length-set}
 use Rattle.std.proofs.lemmas.Bool.{eq-eqb, eqb-true}
 use Rattle.std.proofs.lemmas.List.{length-map}
 use Rattle.std.proofs.lemmas.List.Elements.{All-get_or}
@@ -33,7 +33,7 @@ use Rattle.edge_model.specs.Mend.{forgetting_wire}
 use Rattle.edge_model.specs.State.{EdgeState, addresses_of, put_at, with_addresses, with_circuit, with_learned, with_ticks, with_told_down, without_port}
 use Rattle.edge_model.specs.Tick.{aged, forgetting}
 use Rattle.edge_forwarding.specs.declared.domain.Domain.{Domain}
-use Rattle.edge_forwarding.specs.Domain.{AreClosed, AreNew, IsDomain, IsKept, IsKeptClosed, IsKeptTurned, IsNew, KeptNotAfter, aged_kept, all_on, cleared_kept, forgot_kept, is_found, is_wire, nothing_told, port_opens, withdrawn_kept}
+use Rattle.edge_forwarding.specs.Domain.{AreClosed, AreNew, IsDomain, IsKept, IsKeptClosed, IsKeptTurned, IsNew, KeptNotAfter, age_of, aged_kept, all_on, cleared_kept, forgot_kept, is_found, is_wire, nothing_told, port_opens, withdrawn_kept}
 use Rattle.edge_forwarding.specs.Forwarding.{ForwardingLists, IsForwarding, IsNewForwarding, circuits_in, domain_of, entries_of, forgotten, open_ports, opened_forwarding, own_service, told_in, with_forwarding, without_told}
 use Rattle.edge_forwarding.specs.Views.{view}
 use Rattle.edge_forwarding.proofs.OpenLemmas.{closed_port, opens_within, same_tests, told_elsewhere, told_ports, turned_elsewhere, turned_ports}
@@ -721,3 +721,9 @@ lent_learned f service domain found = ap entries_of (sym (view_of f.domains serv
 
 pub lent_ports : (f : ForwardingLists) (service : ServiceId) (domain : Domain) → IsForwarding f → slice_get f.domains service.0 ≡ Some (Some domain) → domain.bridge.ports ≡ ports_of f.plan service f.me
 lent_ports f service domain is found = (found_kept f service (Some domain) is found).ports
+
+pub lent_age : (f : ForwardingLists) (service : ServiceId) (domain : Domain) → IsForwarding f → slice_get f.domains service.0 ≡ Some (Some domain) → age_of f.plan service ≡ Some domain.bridge.age
+lent_age f service domain is found = by (service_row f.plan service) refl where
+  by : (row : Option ServicePlan) → service_row f.plan service ≡ row → option_map (λ (r : ServicePlan). r.age) row ≡ Some domain.bridge.age
+  by None unknown = absurd (bridge_there f service domain is found (inl unknown))
+  by (Some row) is_row = ap (λ (n : ℕ). Some n) (sym ((found_kept f service (Some domain) is found).age row is_row))

@@ -47,6 +47,10 @@ pub record IsDomain (plan : Plan) (me : EdgeId) (on : ℕ → Bool) (told : ℕ 
   pub forwarding : (p : ℕ) → has domain.forwarding p ≡ port_opens on told domain.bridge.ports p
   pub ticks : NoneAfter now domain.bridge.entries
 
+-- after how many ticks the addresses of a service are forgotten, where the plan has the service
+abbrev pub age_of : Plan → ServiceId → Option ℕ
+age_of plan service = option_map (λ (row : ServicePlan). row.age) (service_row plan service)
+
 -- there is a domain exactly where the service has a port at the edge
 abbrev pub IsKept : Plan → EdgeId → (ℕ → Bool) → (ℕ → Option Down) → ℕ → ServiceId → Option Domain → Type 0
 IsKept plan me on told now service None = ports_of plan service me ≡ []

@@ -11,6 +11,7 @@ ghost use Rattle.edge_model.specs.Frame.{destination, hearing};
 ghost use Rattle.edge_model.specs.Mend.{forgetting_wire};
 ghost use Rattle.edge_model.specs.State.{EdgeState, addresses_of, later, with_addresses, with_circuit, with_learned, with_ticks, with_told_down, without_port};
 ghost use Rattle.edge_model.specs.Tick.{forgetting};
+ghost use Rattle.edge_forwarding.specs.Domain.{age_of};
 ghost use Rattle.edge_forwarding.specs.Forwarding.{IsNewForwarding, IsServiceOf, KeepsForwarding, circuits_in, domain_of, entries_of, forgotten, open_ports, own_service, told_in, with_forwarding, without_told};
 
 use crate::domain::{
@@ -151,12 +152,13 @@ impl Forwarding {
 
     // ---- bridges
 
-    /// The bridge of a service; `None` where the service has no port at the edge.
-    #[tactic(auto, using(crate::proofs::ForwardingLemmas::lent_some, crate::proofs::ForwardingLemmas::lent_none, crate::proofs::ForwardingLemmas::lent_past, crate::proofs::ForwardingLemmas::lent_learned, crate::proofs::ForwardingLemmas::lent_ports))]
+    /// The bridge of a service, with its ports at the edge and its age limit; `None` where the service has no port at the edge.
+    #[tactic(auto, using(crate::proofs::ForwardingLemmas::lent_some, crate::proofs::ForwardingLemmas::lent_none, crate::proofs::ForwardingLemmas::lent_past, crate::proofs::ForwardingLemmas::lent_learned, crate::proofs::ForwardingLemmas::lent_ports, crate::proofs::ForwardingLemmas::lent_age))]
     pub fn bridge(&self, service: ServiceId) -> Option<&Bridge>
         ensures none { IsNone result ↔ ((service_row self.now.plan service ≡ None) ⊎ (ports_of self.now.plan service self.now.me ≡ [])) }
         ensures learned { IfSome result (λ bridge. bridge.now.entries ≡ entries_of (domain_of self.now service.0)) }
         ensures ports { IfSome result (λ bridge. bridge.now.ports ≡ ports_of self.now.plan service self.now.me) }
+        ensures age { IfSome result (λ bridge. age_of self.now.plan service ≡ Some bridge.now.age) }
     {
         match self.domains.get(service.0 as usize)? {
             Some(domain) => Some(&domain.bridge),

@@ -12,6 +12,7 @@ ghost use Rattle.edge_model.specs.State.{addresses_of, empty_edge, end_at, has_e
 ghost use Rattle.edge_model.specs.Step.{edge_step};
 ghost use Rattle.edge_model.specs.Synced.{InSync};
 ghost use Rattle.edge_model.specs.Work.{Agrees, Answers, GoesOn, beginning};
+ghost use Rattle.edge_forwarding.specs.Domain.{age_of};
 ghost use Rattle.provider_edge.specs.EndOf.{is_of_segment};
 ghost use Rattle.provider_edge.specs.Lists.{Keeps, seen, worked};
 ghost use Rattle.peer_dialogue.specs.Peering.{held_of, session_name};
@@ -275,10 +276,13 @@ impl Edge {
         self.control.next_label()
     }
 
-    /// The bridge of a service; `None` exactly where the plan has no such service, or the service no port at the edge.
+    /// The bridge of a service, over its ports at the edge, with its age limit and all that it has learned; `None` exactly where
+    /// the plan has no such service, or the service no port at the edge.
     pub fn bridge(&self, service: ServiceId) -> Option<&Bridge>
         ensures none { IsNone result ↔ ((service_row self.now.plan service ≡ None) ⊎ (ports_of self.now.plan service self.now.me ≡ [])) }
         ensures learned { IfSome result (λ bridge. bridge.now.entries ≡ addresses_of (seen self.now) service) }
+        ensures ports { IfSome result (λ bridge. bridge.now.ports ≡ ports_of self.now.plan service self.now.me) }
+        ensures age { IfSome result (λ bridge. age_of self.now.plan service ≡ Some bridge.now.age) }
     {
         self.control.bridge(service)
     }

@@ -102,6 +102,7 @@ told_network n now entry result is ok err =
       count = is.count;
       square = is.square;
       planned = is.planned;
+      placed = is.placed;
       packets = is.packets;
       packets_told = omega (arith, is.packets_told, more);
       frames_told = omega (arith, is.frames_told, more);
@@ -111,14 +112,15 @@ told_network n now entry result is ok err =
     by (Ok done) ok err = omega (arith, ap length ok, length-append n.trace (entry ∷ []))
     by (Err fault) ok err = omega (arith, ap length err)
 
--- an edge that took an input keeps its plan, and so the network keeps what always holds of it
-pub edge_kept : (n : NetLists) (me : EdgeId) (found now : EdgeLists) → IsNetwork n → me.0 < length n.edges → found ≡ slice_index_or n.edges me.0 found → now.plan ≡ found.plan
+-- an edge that took an input keeps its plan and its place, and so the network keeps what always holds of it
+pub edge_kept : (n : NetLists) (me : EdgeId) (found now : EdgeLists) → IsNetwork n → me.0 < length n.edges → found ≡ slice_index_or n.edges me.0 found → now.plan ≡ found.plan → now.me ≡ found.me
     → IsNetwork (record n { edges = slice_set n.edges me.0 now })
-edge_kept n me found now is below at kept = record {
+edge_kept n me found now is below at kept stays = record {
   checked = is.checked;
   count = set_length n.edges me.0 now ∙ is.count;
   square = is.square;
   planned = λ k within. ap (λ (e : EdgeLists). e.plan) (view_set (no_edge n.plan k) n.edges me.0 now k below) ∙ by (k == me.0) k (subst (λ (m : ℕ). k < m) (set_length n.edges me.0 now) within);
+  placed = λ k. ap (λ (e : EdgeLists). e.me) (view_set (no_edge n.plan k) n.edges me.0 now k below) ∙ place_by (k == me.0) k refl;
   packets = is.packets;
   packets_told = is.packets_told;
   frames_told = is.frames_told;
@@ -126,6 +128,14 @@ edge_kept n me found now is below at kept = record {
   by : (b : Bool) (k : ℕ) → k < length n.edges → (cond b now (edge_lists n k)).plan ≡ n.plan
   by true k within = kept ∙ (ap (λ (e : EdgeLists). e.plan) (at ∙ same_default n.edges me.0 found (no_edge n.plan me.0) below) ∙ is.planned me.0 below)
   by false k within = is.planned k within
+
+  edge_id : ℕ → EdgeId
+  edge_id m = record { 0 = m }
+
+  place_by : (b : Bool) (k : ℕ) → (k == me.0) ≡ b → (cond b now (edge_lists n k)).me ≡ record { 0 = k }
+  place_by true k here =
+      stays ∙ (ap (λ (e : EdgeLists). e.me) (at ∙ same_default n.edges me.0 found (no_edge n.plan me.0) below) ∙ (is.placed me.0 ∙ ap edge_id (sym (eqb-true k me.0 here))))
+  place_by false k apart = is.placed k
 
 -- an edge that stays as it is
 pub edge_stays : (network : NetworkState) (me : EdgeId) (state : EdgeState) → state ≡ at_edge network me → with_edge me state network ≡ network
@@ -238,6 +248,7 @@ opened_state plan own count edges pipes packets trace planned counted are empty 
 pub opened_network : (plan own : Plan) (count : ℕ) (edges : List EdgeLists) (pipes : PipeLists) (packets : UnderWay) (trace : List Entry)
     → IsChecked plan → own ≡ plan → count ≡ length plan.edges → AreOpen own count edges → pipes.size ≡ count → packets ≡ record { list = []; last = 0 }
     → IsNetwork (record { plan = own; edges = edges; pipes = pipes; packets = packets; entered = 0; trace = trace; failed = false })
+unfolding edge.seen
 opened_network plan own count edges pipes packets trace checked planned counted are size sent =
     let many : count ≡ length own.edges = counted ∙ ap (λ (p : Plan). length p.edges) (sym planned) in
     record {
@@ -245,6 +256,7 @@ opened_network plan own count edges pipes packets trace checked planned counted 
       count = are.len ∙ many;
       square = size ∙ many;
       planned = λ k within. are.planned k (subst (λ (m : ℕ). k < m) are.len within);
+      placed = λ k. ap (λ (s : EdgeState). s.me) (are.empty k);
       packets = subst (λ (u : UnderWay). ArePacketsOf own u.last u.list) (sym sent) tt;
       packets_told = subst (λ (u : UnderWay). u.last ≤ length trace) (sym sent) (omega arith);
       frames_told = omega arith;

@@ -51,6 +51,7 @@ pub record IsNetwork (n : NetLists) : Type 0 where
   pub count : length n.edges ≡ length n.plan.edges
   pub square : n.pipes.size ≡ length n.plan.edges
   pub planned : (k : ℕ) → k < length n.edges → (edge_lists n k).plan ≡ n.plan
+  pub placed : (k : ℕ) → (edge_lists n k).me ≡ record { 0 = k }
   pub packets : ArePacketsOf n.plan n.packets.last n.packets.list
   -- each packet that was sent and each frame that entered has an entry
   pub packets_told : n.packets.last ≤ length n.trace

@@ -148,10 +148,13 @@ impl Network {
         self.parts.into_trace()
     }
 
-    /// The edge with this place, in its part of the network's state; `None` exactly where the plan has no such edge.
+    /// The edge with this place, over the network's plan and in its part of the network's state; `None` exactly where the plan
+    /// has no such edge.
     pub fn edge(&self, id: EdgeId) -> Option<&Edge>
         ensures some { IsSome result ↔ (id.0 < length self.now.plan.edges) }
         ensures part { IfSome result (λ edge. seen_edge edge.now ≡ at_edge (seen self.now) id) }
+        ensures plan { IfSome result (λ edge. edge.now.plan ≡ self.now.plan) }
+        ensures place { IfSome result (λ edge. edge.now.me ≡ id) }
     {
         self.parts.edge(id)
     }

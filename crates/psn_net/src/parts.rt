@@ -256,6 +256,8 @@ impl Parts {
     pub fn edge(&self, id: EdgeId) -> Option<&Edge>
         ensures some { IsSome result ↔ (id.0 < length self.now.plan.edges) }
         ensures part { IfSome result (λ edge. seen_edge edge.now ≡ at_edge (seen self.now) id) }
+        ensures plan { IfSome result (λ edge. edge.now.plan ≡ self.now.plan) }
+        ensures place { IfSome result (λ edge. edge.now.me ≡ id) }
     {
         self.edges.get(id.0 as usize)
     }

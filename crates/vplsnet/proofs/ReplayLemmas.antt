@@ -82,6 +82,7 @@ is_replay octets text scenario network outcome reads built checked planned has =
       built = built;
       left = has.left;
       network_is = has.network_is;
+      plan_is = has.plan_is;
       ends = has.ends;
       done = run.done;
       are_done = run.are_done;

@@ -46,8 +46,8 @@ abbrev pub outcome_by : Option NetStop → Outcome
 outcome_by None = Done
 outcome_by (Some reason) = Stopped reason
 
--- The octets are an accepted scenario; the network is what its run comes to, and the limit is the one that stopped it,
--- where one did. The trace is that of the run of the events that were done, the text is its report, and every promise
+-- The octets are an accepted scenario; the network is one over its plan and what its run comes to, and the limit is the one
+-- that stopped it, where one did. The trace is that of the run of the events that were done, the text is its report, and every promise
 -- holds of those events.
 pub record IsReplay (octets text : List ℕ) (network : Option NetLists) (reason : Option NetStop) : Type 0 where
   pub scenario : Scenario
@@ -55,6 +55,7 @@ pub record IsReplay (octets text : List ℕ) (network : Option NetLists) (reason
   pub built : is_built scenario ≡ true
   pub left : NetLists
   pub network_is : network ≡ Some left
+  pub plan_is : left.plan ≡ scenario.plan
   pub ends : ended left reason ≡ whole_run scenario
   -- the events that were done: all, or those before the one that the limit stopped
   pub done : List Event
@@ -103,6 +104,7 @@ pub record HasRunAs (scenario : Scenario) (text : List ℕ) (network : Option Ne
   pub left : NetLists
   pub reason : Option NetStop
   pub network_is : network ≡ Some left
+  pub plan_is : left.plan ≡ scenario.plan
   pub outcome_is : outcome ≡ outcome_by reason
   pub ends : ended left reason ≡ whole_run scenario
   pub text_is : text ≡ report scenario.plan left.trace (ending_by reason)

@@ -75,6 +75,7 @@ fn run_and_report(
     requires trace { network.old.trace ≡ [] }
     requires checked { IsChecked scenario.now.plan }
     requires planned { All (IsPlanned scenario.now.plan) scenario.now.commands }
+    ensures plan { network.new.plan ≡ scenario.now.plan }
     ensures ends { IfOk result (λ made. ended network.new made.1 ≡ whole_run scenario.now) }
     ensures text { IfOk result (λ made. made.0.items ≡ report scenario.now.plan network.new.trace (ending_by made.1)) }
 {

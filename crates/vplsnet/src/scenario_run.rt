@@ -24,7 +24,8 @@ pub fn run_over(
     requires state { seen network.old ≡ empty_network scenario.now.plan }
     requires trace { network.old.trace ≡ [] }
     requires planned { All (IsPlanned scenario.now.plan) scenario.now.commands }
-    ensures { IfOk result (λ stop. ended network.new stop ≡ whole_run scenario.now) }
+    ensures plan { network.new.plan ≡ scenario.now.plan }
+    ensures ends { IfOk result (λ stop. ended network.new stop ≡ whole_run scenario.now) }
 {
     match run_commands(alloc, network, scenario.commands.as_slice()) {
         Ok(()) => Ok(None),

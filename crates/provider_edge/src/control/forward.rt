@@ -5,6 +5,7 @@ ghost use Rattle.hvpls_spokes.specs.Port.{is_circuit_port, ports_of};
 ghost use Rattle.edge_model.specs.State.{addresses_of, is_on, later, with_addresses, with_circuit, with_learned, with_ticks, without_port};
 ghost use Rattle.edge_model.specs.Tick.{forgetting};
 ghost use Rattle.provider_edge.specs.Control.{KeepsPlan, Rest, controlled};
+ghost use Rattle.edge_forwarding.specs.Domain.{age_of};
 ghost use Rattle.edge_forwarding.specs.Forwarding.{open_ports, own_service};
 
 use super::Control;
@@ -42,10 +43,12 @@ impl Control {
         self.forwarding.forget_circuit(circuit, service);
     }
 
-    /// The bridge of a service; `None` where the service has no port at the edge.
+    /// The bridge of a service, with its ports at the edge and its age limit; `None` where the service has no port at the edge.
     pub fn bridge(&self, service: ServiceId) -> Option<&Bridge>
         ensures none { IsNone result ↔ ((service_row self.now.plan service ≡ None) ⊎ (ports_of self.now.plan service self.now.me ≡ [])) }
         ensures learned { IfSome result (λ bridge. (rest : Rest) → bridge.now.entries ≡ addresses_of (controlled self.now rest) service) }
+        ensures ports { IfSome result (λ bridge. bridge.now.ports ≡ ports_of self.now.plan service self.now.me) }
+        ensures age { IfSome result (λ bridge. age_of self.now.plan service ≡ Some bridge.now.age) }
     {
         self.forwarding.bridge(service)
     }

@@ -33,11 +33,11 @@ invariant_of-self c =
     let below : c.args.to.0 < length c.self.inside.edges.items =
     omega (arith, c.requires.to, ap (λ (n : NetLists). length n.plan.edges) c.self.view_is, c.self.invariant.count) in
     let before : NetLists = record { plan = c.self.inside.plan.value; edges = c.self.inside.edges.items; pipes = c.self.inside.pipes; packets = c.self.inside.packets; entered = c.self.inside.entered; trace = c.self.inside.ledger; failed = c.self.inside.failed } in
-    edge_kept before c.args.to c.index_mut.result.now c.take.new.self c.self.invariant below c.index_mut.ensures.value c.take.ensures.plan
+    edge_kept before c.args.to c.index_mut.result.now c.take.new.self c.self.invariant below c.index_mut.ensures.value c.take.ensures.plan c.take.ensures.me
 
 pub invariant_of-self-2 : goal.invariant_of-self-2
 invariant_of-self-2 c =
     let below : c.args.to.0 < length c.self.inside.edges.items =
     omega (arith, c.requires.to, ap (λ (n : NetLists). length n.plan.edges) c.self.view_is, c.self.invariant.count) in
     let before : NetLists = record { plan = c.self.inside.plan.value; edges = c.self.inside.edges.items; pipes = c.self.inside.pipes; packets = c.self.inside.packets; entered = c.self.inside.entered; trace = c.self.inside.ledger; failed = c.self.inside.failed } in
-    edge_kept before c.args.to c.index_mut.result.now c.take.new.self c.self.invariant below c.index_mut.ensures.value c.take.ensures.plan
+    edge_kept before c.args.to c.index_mut.result.now c.take.new.self c.self.invariant below c.index_mut.ensures.value c.take.ensures.plan c.take.ensures.me
