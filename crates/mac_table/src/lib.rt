@@ -4,11 +4,13 @@
 #![tactic(auto)]
 
 mod edits;
+mod laws;
 mod learned;
 mod mac_entry;
 mod mac_table;
 mod search;
 
+pub use laws::lasts_its_age;
 pub use learned::Learned;
 pub use mac_entry::MacEntry;
 pub use mac_table::MacTable;
