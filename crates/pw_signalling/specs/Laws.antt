@@ -1,9 +1,12 @@
 -- What holds of an end, and of every list of calls.
 use Rattle.std.specs.Prelude.{◌≡◌, ◌≢◌, ◌⊎◌, ℕ, Bool, true, false, List, [], ◌∷◌, Option, Some, None}
+use Rattle.net_base.specs.declared.trace.down.Down.TheVariants as cause
 use Rattle.pw_tlvs.specs.declared.pw_status.PwStatus.{PwStatus}
+use Rattle.pw_status.specs.Status.{is_set, is_standby}
 use Rattle.pw_signalling.specs.declared.binding.Binding.{Binding}
 use Rattle.pw_signalling.specs.declared.told.Told.{Told}
 use Rattle.pw_signalling.specs.declared.end_role.EndRole.{EndRole}
+use Rattle.pw_signalling.specs.declared.end_role.EndRole.TheVariants as role
 use Rattle.pw_signalling.specs.Down.{down}
 use Rattle.pw_signalling.specs.End.{EndState, LocalPart, Idle, Advertised, Withdrawing}
 use Rattle.pw_signalling.specs.Rows.{advertised, bound, group_stated, group_unbound, lost, released, renewed, stated, telling, unbound, withdrawn}
@@ -128,3 +131,18 @@ pub record BothAgree (e : EndState) : Type 0 where
 -- An end forwards only where it advertises and is bound, both C bits and both PW types are the same, and the MTUs do not differ.
 abbrev pub ForwardsWhereBothAgree : Type 0
 ForwardsWhereBothAgree = (role : EndRole) (bits : ℕ) (e : EndState) → down role bits e ≡ None → BothAgree e
+
+-- ---- the standby bit
+
+-- two statuses have the same bits but for the standby bit, 0x20 (RFC 6870)
+abbrev pub AreSameButStandby : PwStatus → PwStatus → Type 0
+AreSameButStandby first second = (bit : ℕ) → bit ≢ 5 → is_set first bit ≡ is_set second bit
+
+-- Of the standby bit that the peer tells only the core edge's end of a spoke takes heed, and that end does not forward where it is
+-- set. Why each other end does not forward, an end of a mesh wire and both kinds at a spoke edge, is the same with the bit as
+-- without it.
+pub record HeedsNoStandby : Type 0 where
+  pub others : (own : EndRole) (bits : ℕ) (e : EndState) (first second : PwStatus) → own ≢ role.Core → AreSameButStandby first second
+      → down own bits (stated first e) ≡ down own bits (stated second e)
+  pub core : (bits : ℕ) (e : EndState) (status : PwStatus) → down role.Mesh bits (stated status e) ≡ None → is_standby status ≡ true
+      → down role.Core bits (stated status e) ≡ Some cause.Standby

@@ -1,5 +1,5 @@
 //! What holds of an end, and of every list of calls.
-ghost use Rattle.pw_signalling.specs.Laws.{ForwardsWhereBothAgree, HoldsTheLastMapping, KeepsItsLabel, KeepsItsMark};
+ghost use Rattle.pw_signalling.specs.Laws.{ForwardsWhereBothAgree, HeedsNoStandby, HoldsTheLastMapping, KeepsItsLabel, KeepsItsMark};
 
 /// Whatever comes, an end holds one binding at most: that of the last Label Mapping since the session stands, but for the
 /// status.
@@ -23,4 +23,11 @@ pub fn keeps_its_mark()
 /// the same, and the MTUs, where both are told, too (section 6.4).
 pub fn forwards_where_both_agree()
     ensures { ForwardsWhereBothAgree }
+{}
+
+/// Only the core edge's end of a spoke takes heed of the standby bit that the peer tells (RFC 6870). Why each other end does not
+/// forward is the same with the bit as without it.
+#[tactic(auto, using(crate::proofs::StandbyLemmas::heeds_no_standby))]
+pub fn heeds_no_standby()
+    ensures { HeedsNoStandby }
 {}

@@ -19,7 +19,8 @@ mod told;
 pub use binding::Binding;
 pub use end_role::EndRole;
 pub use laws::{
-    forwards_where_both_agree, holds_the_last_mapping, keeps_its_label, keeps_its_mark,
+    forwards_where_both_agree, heeds_no_standby, holds_the_last_mapping, keeps_its_label,
+    keeps_its_mark,
 };
 pub use pw_advertised::PwAdvertised;
 pub use pw_end::PwEnd;
