@@ -4,7 +4,9 @@
 #![tactic(auto)]
 
 mod in_pieces;
+mod laws;
 mod passing;
 
 pub use in_pieces::pieces;
+pub use laws::passes_by_horizon;
 pub use passing::pass_to;
