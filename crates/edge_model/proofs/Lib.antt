@@ -1,7 +1,9 @@
+pub mod AgainLemmas
+pub mod AgingLemmas
 pub mod BridgeLemmas
 pub mod ChoiceLemmas
-mod Examples
 pub mod CopyLemmas
+mod Examples
 pub mod FitLemmas
 pub mod FollowLemmas
 pub mod HeldLemmas
@@ -14,10 +16,12 @@ mod PacketExamples
 pub mod PacketLemmas
 pub mod PartsLemmas
 pub mod PlaceLemmas
+pub mod ReleaseLemmas
 mod SessionExamples
 pub mod SessionLemmas
 mod SignalExamples
 pub mod SignalLemmas
+pub mod StandbyLemmas
 pub mod StillLemmas
 pub mod SyncLemmas
 pub mod WalkLemmas

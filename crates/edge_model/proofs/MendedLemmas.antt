@@ -343,7 +343,7 @@ wish_steady plan a b place steady = of (wire_row plan place.wire) where
 
 -- ---- one end has another state
 
-end_put : (place : EndPlace) (end : EndState) (edge : EdgeState) → end_at (with_end place end edge) place ≡ end
+pub end_put : (place : EndPlace) (end : EndState) (edge : EdgeState) → end_at (with_end place end edge) place ≡ end
 unfolding with_end
 end_put place end edge = rw (eq-eqb place.wire.0 place.wire.0 refl, eq-eqb place.peer.0 place.peer.0 refl) refl
 

@@ -90,7 +90,7 @@ one_neighbour (first ∷ next ∷ rest) me a b once terminal one other = by (me 
   by false away side = last_neighbour (first ∷ next ∷ rest) me a b once side one other
 
 -- what holds of each row holds of the row at a place
-row_holds : {A : Type 0} (P : A → Type 0) (rows : List A) (place : ℕ) (row : A) → slice_get rows place ≡ Some row → All P rows → P row
+pub row_holds : {A : Type 0} (P : A → Type 0) (rows : List A) (place : ℕ) (row : A) → slice_get rows place ≡ Some row → All P rows → P row
 row_holds P rows place row is all = subst P (get_or_from_slice_get rows place row row is) (All-get_or P rows place row (slice_get_within rows place row is) all)
 
 pub has_one_end : (plan : Plan) (me : EdgeId) → IsChecked plan → HasOneEnd plan me

@@ -1,3 +1,4 @@
+pub mod Aging
 pub mod Circuit
 pub mod Clear
 pub mod Connection
@@ -9,14 +10,17 @@ pub mod Frame
 pub mod Hear
 pub mod Local
 pub mod Mend
+pub mod Mended
 pub mod Packet
 pub mod Parts
 pub mod Put
+pub mod Released
 pub mod Role
 pub mod Send
 pub mod Session
 pub mod Signal
 pub mod Spokes
+pub mod StandbyBit
 pub mod State
 pub mod Step
 pub mod Synced

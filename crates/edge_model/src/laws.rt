@@ -1,6 +1,10 @@
 //! What holds of the work of every edge.
+ghost use Rattle.edge_model.specs.Aging.{AddressesLastTheirAge};
 ghost use Rattle.edge_model.specs.Local.{FramesStayLocal, PacketsStayLocal};
+ghost use Rattle.edge_model.specs.Mended.{MendsAtOnce};
 ghost use Rattle.edge_model.specs.Parts.{HeardInParts};
+ghost use Rattle.edge_model.specs.Released.{MindsOwnReleases};
+ghost use Rattle.edge_model.specs.StandbyBit.{SpokesAloneStandBy};
 
 /// Local isolation of frames: what an edge lets leave on a frame of a circuit leaves at another circuit of that circuit's
 /// service, as that circuit's dress of the same inner frame; and what it sends, it sends on a wire of the same service
@@ -25,4 +29,35 @@ pub fn packets_stay_local()
 #[tactic(auto, using(crate::proofs::PartsLemmas::heard_in_parts))]
 pub fn heard_in_parts()
     ensures { HeardInParts }
+{}
+
+/// A Label Release of another label than that of the end which its FEC names, or whose FEC names none, changes nothing: the
+/// edge, its calls and what it gives out stay as they are, and all that comes of the message before the edge mends is what its
+/// session makes of any message (RFC 5036 section 3.5.11).
+#[tactic(auto, using(crate::proofs::ReleaseLemmas::minds_own_releases))]
+pub fn minds_own_releases()
+    ensures { MindsOwnReleases }
+{}
+
+/// Of the standby bit that a peer tells only a core edge's end of a spoke takes heed: why a mesh wire's end does not forward, or
+/// an end at a spoke edge, is the same with the bit as without it, in every state (RFC 6870).
+#[tactic(auto, using(crate::proofs::StandbyLemmas::spokes_alone_stand_by))]
+pub fn spokes_alone_stand_by()
+    ensures { SpokesAloneStandBy }
+{}
+
+/// What a bridge learns lasts exactly its age: an address that was heard in the tick of now is gone once as many ticks have
+/// passed as the age limit of its service says, and stands before, at a circuit whatever the link answers, where nothing else
+/// comes (RFC 4762 section 9.1).
+#[tactic(auto, using(crate::proofs::AgingLemmas::addresses_last_their_age))]
+pub fn addresses_last_their_age()
+    ensures { AddressesLastTheirAge }
+{}
+
+/// An edge that mends right after it has mended changes nothing, calls its link no more and gives out nothing more: in every
+/// state, whatever the link answers, over every plan whose paths have edges of the plan, each once, as each checked plan has
+/// (RFC 8077 sections 6 and 6.3).
+#[tactic(auto, using(crate::proofs::AgainLemmas::mends_at_once))]
+pub fn mends_at_once()
+    ensures { MendsAtOnce }
 {}
