@@ -15,6 +15,10 @@ use Rattle.command_text.specs.Names.{place_in}
 use Rattle.command_text.specs.Words.{word_at, first_word, said, ends, decimal_from, switch_of, some_word}
 use Rattle.command_text.specs.Hex.{frame_of}
 
+-- the most events of a document
+abbrev pub most_events : ℕ
+most_events = 100000
+
 -- connect E P
 unfoldable pub connect_in : PlanNames → ℕ → List ℕ → Result Event ScenarioFault
 connect_in names event text = do

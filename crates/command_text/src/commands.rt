@@ -2,7 +2,7 @@
 ghost use Rattle.std.specs.Prelude.{◌≡◌, ◌≤◌, ◌+◌, length, IfOk};
 ghost use Rattle.std.specs.List.{All};
 ghost use Rattle.toml.specs.View.{view, items_view};
-ghost use Rattle.command_text.specs.Events.{repeats_in, tick_in, play_in, one, many_of, part_of, packet_of, command_of, command_in, event_in, plays_after, commands_in};
+ghost use Rattle.command_text.specs.Events.{most_events, repeats_in, tick_in, play_in, one, many_of, part_of, packet_of, command_of, command_in, event_in, plays_after, commands_in};
 ghost use Rattle.command_text.specs.Reading.{Gives};
 ghost use Rattle.command_text.specs.Planned.{IsCount, IsAmong, IsNamed};
 
@@ -18,9 +18,6 @@ use crate::{Command, ScenarioFault};
 use net_base::{CircuitId, Event, List};
 use std::alloc::Global;
 use toml::Value;
-
-/// The most events of a document.
-pub const MOST_EVENTS: u32 = 100_000;
 
 // N of `settle N`, `flow N` and `tick N`, from 1 to 10000.
 #[tactic(auto, unfolding(crate::specs::Events::repeats_in))]
@@ -198,7 +195,7 @@ fn item(
 
 // One more where the command is `play`.
 fn plays_with(plays: u32, command: &Command) -> u32
-    requires { plays ≤ MOST_EVENTS }
+    requires { plays ≤ most_events }
     ensures value { result ≡ plays_after plays command.now }
     ensures bound { result ≤ plays + 1 }
 {
@@ -215,7 +212,7 @@ pub fn read_commands(
     names: &PlanNames<'_>,
     array: &[Value],
 ) -> Result<List<Command>, ScenarioFault>
-    requires { length array.now ≤ MOST_EVENTS }
+    requires { length array.now ≤ most_events }
     ensures exact { Gives result (commands_in names.now 1 0 (items_view array.now)) }
     ensures many { IfOk result (λ commands. length commands ≡ length array.now) }
     ensures named { IfOk result (λ commands. All (IsNamed names.now) commands) }

@@ -19,7 +19,7 @@ mod scenario_fault;
 mod words;
 
 pub use command::Command;
-pub use commands::{MOST_EVENTS, read_commands};
+pub use commands::read_commands;
 pub use name_index::NameIndex;
 pub use plan_names::PlanNames;
 pub use row_place::RowPlace;

@@ -1,10 +1,9 @@
 -- The arrays of a document as the code holds them.
 use Rattle.std.specs.Prelude.{◌≤◌, length}
 use Rattle.toml.specs.View.{items_view}
-use Rattle.command_text.specs.declared.commands.TheConstants.{MOST_EVENTS}
-use Rattle.scenario_text.specs.Top.{Arrays as TopArrays}
+use Rattle.command_text.specs.Events.{most_events}
+use Rattle.scenario_text.specs.Top.{Arrays as TopArrays, most_edges, most_services, most_circuits, most_wires}
 use Rattle.scenario_text.specs.declared.arrays.Arrays.{Arrays}
-use Rattle.scenario_text.specs.declared.limits.TheConstants.{MOST_EDGES, MOST_SERVICES, MOST_CIRCUITS, MOST_WIRES}
 
 -- the items of each array
 abbrev pub arrays_of : Arrays → TopArrays
@@ -19,8 +18,8 @@ arrays_of arrays =
 
 -- no array has too many items
 pub record HasLimits (arrays : Arrays) : Type 0 where
-  pub events : length arrays.events.now ≤ MOST_EVENTS
-  pub edges : length arrays.edges.now ≤ MOST_EDGES
-  pub services : length arrays.services.now ≤ MOST_SERVICES
-  pub circuits : length arrays.circuits.now ≤ MOST_CIRCUITS
-  pub wires : length arrays.wires.now ≤ MOST_WIRES
+  pub events : length arrays.events.now ≤ most_events
+  pub edges : length arrays.edges.now ≤ most_edges
+  pub services : length arrays.services.now ≤ most_services
+  pub circuits : length arrays.circuits.now ≤ most_circuits
+  pub wires : length arrays.wires.now ≤ most_wires

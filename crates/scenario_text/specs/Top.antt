@@ -4,12 +4,11 @@ use Rattle.toml.specs.Data.{Data, Items, no_items, Members, as_table, as_integer
 use Rattle.net_base.specs.declared.plan.place.Place.{Place}
 use Rattle.net_base.specs.declared.plan.table.Table.{Table}
 use Rattle.net_base.specs.declared.plan.table.Table.TheVariants.{Top, Events, Edge, Service, Circuit, Wire}
-use Rattle.command_text.specs.declared.commands.TheConstants.{MOST_EVENTS}
 use Rattle.command_text.specs.declared.scenario_fault.ScenarioFault.{ScenarioFault}
 use Rattle.command_text.specs.declared.scenario_fault.ScenarioFault.TheVariants.{WrongKind, TooMany, Version}
 use Rattle.command_text.specs.Reading.{◌>>=◌, checked, found}
+use Rattle.command_text.specs.Events.{most_events}
 use Rattle.command_text.specs.Places.{top_row}
-use Rattle.scenario_text.specs.declared.limits.TheConstants.{MOST_EDGES, MOST_SERVICES, MOST_CIRCUITS, MOST_WIRES}
 use Rattle.scenario_text.specs.Keys.{only_known}
 use Rattle.scenario_text.specs.Values.{an_array, is_string, needed, defaulted}
 use Rattle.scenario_text.specs.Rows.{items_length}
@@ -33,6 +32,19 @@ pub record Arrays : Type 0 where
   pub circuits : Items
   pub wires : Items
 
+-- the most edges, services, circuits and wires of a document
+abbrev pub most_edges : ℕ
+most_edges = 64
+
+abbrev pub most_services : ℕ
+most_services = 64
+
+abbrev pub most_circuits : ℕ
+most_circuits = 512
+
+abbrev pub most_wires : ℕ
+most_wires = 1024
+
 -- the array has at most so many items
 abbrev pub few : ℕ → Table → Items → Result Bool ScenarioFault
 few limit table items = checked (TooMany table limit) (nat_le (items_length items) limit)
@@ -50,11 +62,11 @@ arrays_at ms = do
 -- no array has too many items
 unfoldable pub few_in : Arrays → Result Bool ScenarioFault
 few_in arrays = do
-  events ← few MOST_EVENTS Events arrays.events
-  edges ← few MOST_EDGES Edge arrays.edges
-  services ← few MOST_SERVICES Service arrays.services
-  circuits ← few MOST_CIRCUITS Circuit arrays.circuits
-  few MOST_WIRES Wire arrays.wires
+  events ← few most_events Events arrays.events
+  edges ← few most_edges Edge arrays.edges
+  services ← few most_services Service arrays.services
+  circuits ← few most_circuits Circuit arrays.circuits
+  few most_wires Wire arrays.wires
 
 -- the arrays of a document of version 1
 unfoldable pub arrays_in : Members → Result Arrays ScenarioFault

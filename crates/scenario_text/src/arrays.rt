@@ -10,10 +10,10 @@ ghost use Rattle.scenario_text.specs.Top.{is_table, a_version, few, few_in, arra
 ghost use Rattle.scenario_text.specs.Arrays.{arrays_of, HasLimits};
 
 use crate::keys::only_known_keys;
-use crate::limits::{MOST_CIRCUITS, MOST_EDGES, MOST_SERVICES, MOST_WIRES};
+use crate::limits::{MOST_CIRCUITS, MOST_EDGES, MOST_EVENTS, MOST_SERVICES, MOST_WIRES};
 use crate::members::{member, needed_member};
 use crate::values::strings;
-use command_text::{MOST_EVENTS, RowPlace, ScenarioFault};
+use command_text::{RowPlace, ScenarioFault};
 use net_base::Table as TableKind;
 use toml::{Table, Value};
 

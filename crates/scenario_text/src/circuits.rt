@@ -2,9 +2,9 @@
 ghost use Rattle.std.specs.Prelude.{◌≡◌, ◌≤◌, length, IfOk};
 ghost use Rattle.command_text.specs.Reading.{Gives};
 ghost use Rattle.scenario_text.specs.References.{circuit_in, circuits_in};
+ghost use Rattle.scenario_text.specs.Top.{most_circuits};
 
 use crate::circuit_row::CircuitRow;
-use crate::limits::MOST_CIRCUITS;
 use crate::named::named_place;
 use command_text::{NameIndex, RowPlace, ScenarioFault};
 use net_base::{CircuitPlan, EdgeId, List, ServiceId, Table as TableKind};
@@ -40,7 +40,7 @@ pub fn circuits(
     services: &NameIndex<'_>,
     rows: &[CircuitRow],
 ) -> Result<List<CircuitPlan>, ScenarioFault>
-    requires { length rows.now ≤ MOST_CIRCUITS }
+    requires { length rows.now ≤ most_circuits }
     ensures exact { Gives result (circuits_in edges.now services.now 1 rows.now) }
     ensures many { IfOk result (λ circuits. length circuits ≡ length rows.now) }
 {

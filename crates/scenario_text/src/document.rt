@@ -5,7 +5,7 @@ ghost use Rattle.net_base.specs.plan.Accepted.{IsWithinLimits, IsChecked};
 ghost use Rattle.net_base.specs.plan.NameFaults.{edge_names, circuit_names, wire_names};
 ghost use Rattle.toml.specs.Parse.{parse_document};
 ghost use Rattle.toml.specs.View.{items_view, table_view};
-ghost use Rattle.command_text.specs.Events.{commands_in};
+ghost use Rattle.command_text.specs.Events.{commands_in, most_events};
 ghost use Rattle.command_text.specs.Reading.{Gives};
 ghost use Rattle.command_text.specs.Planned.{names_of, IsPlanned};
 ghost use Rattle.scenario_text.specs.Arrays.{arrays_of, HasLimits};
@@ -18,7 +18,7 @@ use crate::names::{names_of_circuits, names_of_edges, names_of_wires};
 use crate::plan::plan;
 use crate::rows::rows;
 use crate::wire_row::WireRow;
-use command_text::{Command, MOST_EVENTS, NameIndex, PlanNames, ScenarioFault, read_commands};
+use command_text::{Command, NameIndex, PlanNames, ScenarioFault, read_commands};
 use net_base::{EdgePlan, List, Name, NoMemory, Plan, ServicePlan, Table as TableKind};
 use std::alloc::{AllocError, Global};
 use toml::{Table, Value};
@@ -31,7 +31,7 @@ fn planned_commands(
     events: &[Value],
 ) -> Result<List<Command>, ScenarioFault>
     requires names { names.now ≡ names_of plan.now }
-    requires few { length events.now ≤ MOST_EVENTS }
+    requires few { length events.now ≤ most_events }
     ensures exact { Gives result (commands_in (names_of plan.now) 1 0 (items_view events.now)) }
     ensures many { IfOk result (λ commands. length commands ≡ length events.now) }
     ensures planned { IfOk result (λ commands. All (IsPlanned plan.now) commands) }
@@ -53,7 +53,7 @@ fn named_commands(
     requires edges { edges.now ≡ edge_names plan.now.edges }
     requires circuits { circuits.now ≡ circuit_names plan.now.circuits }
     requires wires { wires.now ≡ wire_names plan.now.wires }
-    requires few { length events.now ≤ MOST_EVENTS }
+    requires few { length events.now ≤ most_events }
     ensures exact { Gives result (commands_in (names_of plan.now) 1 0 (items_view events.now)) }
     ensures many { IfOk result (λ commands. length commands ≡ length events.now) }
     ensures planned { IfOk result (λ commands. All (IsPlanned plan.now) commands) }
@@ -122,7 +122,7 @@ fn plan_commands(
     events: &[Value],
 ) -> Result<List<Command>, ScenarioFault>
     requires limits { IsWithinLimits plan.now }
-    requires few { length events.now ≤ MOST_EVENTS }
+    requires few { length events.now ≤ most_events }
     ensures exact { Gives result (commands_in (names_of plan.now) 1 0 (items_view events.now)) }
     ensures many { IfOk result (λ commands. length commands ≡ length events.now) }
     ensures planned { IfOk result (λ commands. All (IsPlanned plan.now) commands) }
@@ -167,7 +167,7 @@ fn arrays_plan(alloc: Global, arrays: &Arrays<'_>) -> Result<Plan, ScenarioFault
 fn scenario(alloc: Global, table: &Table) -> Result<Scenario, ScenarioFault>
     ensures exact { Gives result (scenario_in (table_view table.now)) }
     ensures checked { IfOk result (λ scenario. IsChecked scenario.plan) }
-    ensures few { IfOk result (λ scenario. length scenario.commands ≤ MOST_EVENTS) }
+    ensures few { IfOk result (λ scenario. length scenario.commands ≤ most_events) }
     ensures planned { IfOk result (λ scenario. All (IsPlanned scenario.plan) scenario.commands) }
 {
     let arrays = document_arrays(table)?;
@@ -180,10 +180,10 @@ fn scenario(alloc: Global, table: &Table) -> Result<Scenario, ScenarioFault>
 // The scenario of these events at a plan.
 fn scenario_at(alloc: Global, plan: Plan, events: &[Value]) -> Result<Scenario, ScenarioFault>
     requires checked { IsChecked plan }
-    requires few { length events.now ≤ MOST_EVENTS }
+    requires few { length events.now ≤ most_events }
     ensures exact { Gives result (scenario_with plan (commands_in (names_of plan) 1 0 (items_view events.now))) }
     ensures checked { IfOk result (λ scenario. IsChecked scenario.plan) }
-    ensures few { IfOk result (λ scenario. length scenario.commands ≤ MOST_EVENTS) }
+    ensures few { IfOk result (λ scenario. length scenario.commands ≤ most_events) }
     ensures planned { IfOk result (λ scenario. All (IsPlanned scenario.plan) scenario.commands) }
 {
     match plan_commands(alloc, &plan, events) {
@@ -196,7 +196,7 @@ fn scenario_at(alloc: Global, plan: Plan, events: &[Value]) -> Result<Scenario, 
 fn read_text(alloc: Global, text: &str) -> Result<Scenario, ScenarioFault>
     ensures exact { Gives result (scenario_or (parse_document text.now)) }
     ensures checked { IfOk result (λ scenario. IsChecked scenario.plan) }
-    ensures few { IfOk result (λ scenario. length scenario.commands ≤ MOST_EVENTS) }
+    ensures few { IfOk result (λ scenario. length scenario.commands ≤ most_events) }
     ensures planned { IfOk result (λ scenario. All (IsPlanned scenario.plan) scenario.commands) }
 {
     match toml::table_from_str(alloc, text) {
@@ -223,7 +223,7 @@ fn read_text(alloc: Global, text: &str) -> Result<Scenario, ScenarioFault>
 pub fn read_scenario(alloc: Global, bytes: &[u8]) -> Result<Scenario, ScenarioFault>
     ensures document { Gives result (document bytes.now) }
     ensures checked { IfOk result (λ scenario. IsChecked scenario.plan) }
-    ensures few { IfOk result (λ scenario. length scenario.commands ≤ MOST_EVENTS) }
+    ensures few { IfOk result (λ scenario. length scenario.commands ≤ most_events) }
     ensures planned { IfOk result (λ scenario. All (IsPlanned scenario.plan) scenario.commands) }
 {
     match str::from_utf8(bytes) {

@@ -1,4 +1,7 @@
-//! How many rows a document has at most.
+//! How many events and rows a document has at most.
+
+/// The most events.
+pub const MOST_EVENTS: u32 = 100_000;
 
 /// The most edges.
 pub const MOST_EDGES: u32 = 64;

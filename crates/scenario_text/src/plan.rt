@@ -5,10 +5,10 @@ ghost use Rattle.net_base.specs.plan.NameFaults.{edge_names, service_names};
 ghost use Rattle.command_text.specs.Names.{are_distinct};
 ghost use Rattle.command_text.specs.Reading.{Gives};
 ghost use Rattle.scenario_text.specs.References.{passed, sound, placed_rows, plan_of};
+ghost use Rattle.scenario_text.specs.Top.{most_edges, most_services, most_circuits, most_wires};
 
 use crate::circuit_row::CircuitRow;
 use crate::circuits::circuits;
-use crate::limits::{MOST_CIRCUITS, MOST_EDGES, MOST_SERVICES, MOST_WIRES};
 use crate::names::{names_of_edges, names_of_plan, names_of_services};
 use crate::wire_row::WireRow;
 use crate::wires::wires;
@@ -88,8 +88,8 @@ fn placed_rows(
     circuit_rows: &[CircuitRow],
     wire_rows: &[WireRow],
 ) -> Result<PlacedRows, ScenarioFault>
-    requires few_circuits { length circuit_rows.now ≤ MOST_CIRCUITS }
-    requires few_wires { length wire_rows.now ≤ MOST_WIRES }
+    requires few_circuits { length circuit_rows.now ≤ most_circuits }
+    requires few_wires { length wire_rows.now ≤ most_wires }
     requires same { service_index.now ≡ service_names services.now }
     ensures exact { Gives result (placed_rows edges.now services.now circuit_rows.now wire_rows.now) }
     ensures circuits { IfOk result (λ rows. length rows.circuits ≡ length circuit_rows.now) }
@@ -110,9 +110,9 @@ fn rows_over_services(
     circuit_rows: &[CircuitRow],
     wire_rows: &[WireRow],
 ) -> Result<PlacedRows, ScenarioFault>
-    requires few_services { length services.now ≤ MOST_SERVICES }
-    requires few_circuits { length circuit_rows.now ≤ MOST_CIRCUITS }
-    requires few_wires { length wire_rows.now ≤ MOST_WIRES }
+    requires few_services { length services.now ≤ most_services }
+    requires few_circuits { length circuit_rows.now ≤ most_circuits }
+    requires few_wires { length wire_rows.now ≤ most_wires }
     ensures exact { Gives result (placed_rows edges.now services.now circuit_rows.now wire_rows.now) }
     ensures circuits { IfOk result (λ rows. length rows.circuits ≡ length circuit_rows.now) }
     ensures wires { IfOk result (λ rows. length rows.wires ≡ length wire_rows.now) }
@@ -136,10 +136,10 @@ fn rows_over(
     circuit_rows: &[CircuitRow],
     wire_rows: &[WireRow],
 ) -> Result<PlacedRows, ScenarioFault>
-    requires few_edges { length edges.now ≤ MOST_EDGES }
-    requires few_services { length services.now ≤ MOST_SERVICES }
-    requires few_circuits { length circuit_rows.now ≤ MOST_CIRCUITS }
-    requires few_wires { length wire_rows.now ≤ MOST_WIRES }
+    requires few_edges { length edges.now ≤ most_edges }
+    requires few_services { length services.now ≤ most_services }
+    requires few_circuits { length circuit_rows.now ≤ most_circuits }
+    requires few_wires { length wire_rows.now ≤ most_wires }
     ensures exact { Gives result (placed_rows (edge_names edges.now) services.now circuit_rows.now wire_rows.now) }
     ensures circuits { IfOk result (λ rows. length rows.circuits ≡ length circuit_rows.now) }
     ensures wires { IfOk result (λ rows. length rows.wires ≡ length wire_rows.now) }
@@ -164,10 +164,10 @@ pub fn plan(
     circuit_rows: &[CircuitRow],
     wire_rows: &[WireRow],
 ) -> Result<Plan, ScenarioFault>
-    requires few_edges { length edges ≤ MOST_EDGES }
-    requires few_services { length services ≤ MOST_SERVICES }
-    requires few_circuits { length circuit_rows.now ≤ MOST_CIRCUITS }
-    requires few_wires { length wire_rows.now ≤ MOST_WIRES }
+    requires few_edges { length edges ≤ most_edges }
+    requires few_services { length services ≤ most_services }
+    requires few_circuits { length circuit_rows.now ≤ most_circuits }
+    requires few_wires { length wire_rows.now ≤ most_wires }
     ensures exact { Gives result (plan_of edges services circuit_rows.now wire_rows.now) }
     ensures checked { IfOk result IsChecked }
 {

@@ -3,8 +3,8 @@ ghost use Rattle.std.specs.Prelude.{◌≡◌, ◌≤◌, length, IfOk};
 ghost use Rattle.toml.specs.View.{view, items_view, table_view};
 ghost use Rattle.command_text.specs.Reading.{Gives, MapsTo};
 ghost use Rattle.scenario_text.specs.Rows.{row_members, row_in, rows_in};
+ghost use Rattle.scenario_text.specs.Top.{most_wires};
 
-use crate::limits::MOST_WIRES;
 use crate::row::Row;
 use command_text::{RowPlace, ScenarioFault};
 use net_base::{List, Table as TableKind};
@@ -37,7 +37,7 @@ pub fn rows<T: Row>(
     table: TableKind,
     array: &[Value],
 ) -> Result<List<T>, ScenarioFault>
-    requires { length array.now ≤ MOST_WIRES }
+    requires { length array.now ≤ most_wires }
     ensures exact { Gives result (rows_in table T.row_of 1 (items_view array.now)) }
     ensures many { IfOk result (λ rows. length rows ≡ length array.now) }
 {

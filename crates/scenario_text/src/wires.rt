@@ -2,9 +2,9 @@
 ghost use Rattle.std.specs.Prelude.{◌≡◌, ◌≤◌, length, IfOk};
 ghost use Rattle.net_base.specs.plan.NameFaults.{service_names};
 ghost use Rattle.command_text.specs.Reading.{Gives};
+ghost use Rattle.scenario_text.specs.Top.{most_wires};
 ghost use Rattle.scenario_text.specs.References.{told, offer_from, mtu_at, path_in, wire_in, wires_in};
 
-use crate::limits::MOST_WIRES;
 use crate::named::named_place;
 use crate::offer_row::OfferRow;
 use crate::wire_row::WireRow;
@@ -106,7 +106,7 @@ pub fn wires(
     services: &[ServicePlan],
     rows: &[WireRow],
 ) -> Result<List<WirePlan>, ScenarioFault>
-    requires few { length rows.now ≤ MOST_WIRES }
+    requires few { length rows.now ≤ most_wires }
     requires same { service_index.now ≡ service_names services.now }
     ensures exact { Gives result (wires_in edges.now services.now 1 rows.now) }
     ensures many { IfOk result (λ wires. length wires ≡ length rows.now) }

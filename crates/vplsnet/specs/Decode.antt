@@ -3,12 +3,11 @@ use Rattle.std.specs.Prelude.{◌≡◌, ℕ, List, Option, None}
 use Rattle.psn_net.specs.Lists.{NetLists}
 use Rattle.ldp_stream.specs.Parsed.{PlacedPdu, Ending, IsParsed}
 use Rattle.vplsnet.specs.declared.outcome.Outcome.{Outcome}
-use Rattle.vplsnet.specs.declared.request.TheConstants.{STREAM_LIMIT}
 use Rattle.vplsnet.specs.StreamText.{largest_pdu, IsStreamText, outcome_of}
 
 -- the most octets of a stream
 abbrev pub stream_limit : ℕ
-stream_limit = STREAM_LIMIT
+stream_limit = 67108864
 
 -- the text is that of the stream before its end or its first fault, and the outcome tells which of the two it is; no run
 -- begins

@@ -18,14 +18,13 @@ use Rattle.scenario_text.specs.declared.scenario.Scenario.{Scenario}
 use Rattle.scenario_text.specs.Document.{document}
 use Rattle.vplsnet.specs.declared.outcome.Outcome.{Outcome}
 use Rattle.vplsnet.specs.declared.outcome.Outcome.TheVariants.{Done, ScenarioRefused, NotBuilt, Stopped}
-use Rattle.vplsnet.specs.declared.request.TheConstants.{SCENARIO_LIMIT}
 use Rattle.vplsnet.specs.Built.{is_built}
 use Rattle.vplsnet.specs.Made.{made}
 use Rattle.vplsnet.specs.Promises.{KeepsPromises}
 
 -- the most octets of a scenario
 abbrev pub scenario_limit : ℕ
-scenario_limit = SCENARIO_LIMIT
+scenario_limit = 8388608
 
 -- the events that the commands of a scenario make
 abbrev pub events_of : Scenario → List Event
