@@ -67,6 +67,13 @@ pub fn says<T: Display>(rt: &impl Abort, alloc: Global, fault: &T, words: &str) 
     assert!(rt; is_same(told.as_bytes(), words.as_bytes()), "{words}");
 }
 
+/// Each of these faults says the words beside it.
+pub fn all_say<T: Display>(rt: &impl Abort, alloc: Global, rows: &[(T, &str)]) {
+    for row in rows {
+        says(rt, alloc, &row.0, row.1);
+    }
+}
+
 /// Whether these are the same octets. Tests compare them by this one call, since each comparison takes long to prove.
 pub fn is_same(one: &[u8], other: &[u8]) -> bool {
     one == other

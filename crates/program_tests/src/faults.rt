@@ -1,6 +1,7 @@
 //! The texts of a scenario's faults: the program tells each by its own text, and what it names behind it.
 
 use net_base::{Place, PlanFault, Table, Text};
+use psn_net::NetStop;
 use scenario_text::ScenarioFault;
 use std::alloc::Global;
 use std::process::Abort;
@@ -31,6 +32,29 @@ fn place(rt: &impl Abort) -> Place {
         index: 2,
         key: Text::read(b"name").expect(rt, "a key"),
     }
+}
+
+// The text of what stopped a network.
+fn says(rt: &impl Abort, alloc: Global, stop: &NetStop, words: &str) {
+    let text = format!(in alloc; "{stop}").expect(rt, "memory");
+    assert!(rt; text.as_str() == words);
+}
+
+const CROWDED: NetStop = NetStop::Crowded {
+    count: 65_536,
+    event: 7,
+};
+
+const TOO_MUCH: NetStop = NetStop::TooMuch {
+    weight: 268_435_457,
+    event: 3,
+};
+
+#[test]
+fn tells_limits(rt: HostRuntime) {
+    says(&rt, rt.alloc(), &CROWDED, "Crowded 65536 7");
+    says(&rt, rt.alloc(), &TOO_MUCH, "TooMuch 268435457 3");
+    says(&rt, rt.alloc(), &NetStop::NoMemory, "NoMemory");
 }
 
 #[test]

@@ -1,6 +1,7 @@
 //! Runs of small networks, and of the largest one that the limit lets be.
 
 mod hierarchy;
+mod largest;
 mod limit;
 mod plans;
 mod pseudowires;

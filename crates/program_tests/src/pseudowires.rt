@@ -268,6 +268,24 @@ static WITHDRAWS: Case = Case {
     ..CONNECTS
 };
 
+// 200 status messages of 56 octets each are on their way at once. After 4,097 octets of them the others are delivered too, and
+// the far end hears all.
+static MANY_STATUSES: Case = Case {
+    piece: ", \"status a w 6\", \"status a w 0\"",
+    times: 100,
+    back: ", \"deliver a b 4097\", \"settle 20\"",
+    room: 40_000,
+    entries: Some(824),
+    taken: Taken::Long(
+        34_796,
+        "wire b w RemoteFault
+wire b w up
+end events=207 in=0 left=0 sent=0 dropped=0
+",
+    ),
+    ..CONNECTS
+};
+
 #[test]
 fn sets_pseudowires_up_and_ends_them(rt: HostRuntime) {
     let alloc = rt.alloc();
@@ -276,4 +294,5 @@ fn sets_pseudowires_up_and_ends_them(rt: HostRuntime) {
     plays(&rt, alloc, &LOSES);
     plays(&rt, alloc, &LAST_LABEL);
     plays(&rt, alloc, &WITHDRAWS);
+    plays(&rt, alloc, &MANY_STATUSES);
 }

@@ -1,8 +1,10 @@
 //! One edge without wires bridges frames between its circuits.
 
 use crate::edges::plans::BRIDGE;
-use crate::edges::steps::{Step, plays};
-use net_base::{DropCause, EdgeId, StateName};
+use crate::edges::side::{Side, side_of, take};
+use crate::edges::steps::{Step, play, plays};
+use edge_model::Input;
+use net_base::{CircuitId, DropCause, EdgeId, StateName};
 use std::alloc::Global;
 use std::process::Abort;
 
@@ -134,4 +136,45 @@ fn bridges_frames(rt: HostRuntime) {
 fn takes_nothing_else(rt: HostRuntime) {
     bridges(&rt, rt.alloc(), &DROPS);
     bridges(&rt, rt.alloc(), &LEAVES);
+}
+
+// Of 4,097 stations, from 0 on, the last one that is learned and the one that is not, each spoken to by a further station.
+const TO_THE_LAST: &str = "020000000fff 020000010000 0800";
+
+const TO_ONE_MORE: &str = "020000001000 020000010000 0800";
+
+const IS_FULL: [Step; 7] = [
+    Step::Learned(4096),
+    Step::Frame(1, TO_THE_LAST),
+    Step::Gives(1),
+    Step::Left(0, 0, TO_THE_LAST),
+    Step::Frame(1, TO_ONE_MORE),
+    Step::Gives(2),
+    Step::Learned(4096),
+];
+
+// A frame to all comes by circuit 0 from the station of this number.
+fn speaks(rt: &impl Abort, alloc: Global, side: &mut Side, number: u16) {
+    let [high, low] = number.to_be_bytes();
+    let bytes = [255, 255, 255, 255, 255, 255, 2, 0, 0, 0, high, low, 8, 0];
+    let input = Input::Frame {
+        circuit: CircuitId(0),
+        bytes: &bytes,
+    };
+    take(rt, alloc, side, input);
+}
+
+// One station more speaks than the bridge learns.
+fn fills(rt: &impl Abort, alloc: Global, side: &mut Side) {
+    for number in 0..4_097 {
+        speaks(rt, alloc, side, number);
+    }
+}
+
+#[test]
+fn learns_4096_stations(rt: HostRuntime) {
+    let mut side = side_of(&rt, rt.alloc(), BRIDGE, E, 0);
+    fills(&rt, rt.alloc(), &mut side);
+    play(&rt, rt.alloc(), &mut side, &IS_FULL);
+    drop(side);
 }

@@ -29,6 +29,17 @@ wire = [{ name = "w0", service = "s", class = "mesh", path = ["e0", "e1"], pw_id
 "#,
 ];
 
+/// Two edges with a circuit each, and a wire between them that carries frames of 9,216 octets.
+pub const LARGEST: [&str; 1] = [
+    r#"
+version = 1
+edge = [{ name = "e0", address = "10.0.0.1" }, { name = "e1", address = "10.0.0.2" }]
+service = [{ name = "s", mtu = 9198 }]
+circuit = [{ name = "c0", edge = "e0", service = "s" }, { name = "c1", edge = "e1", service = "s" }]
+wire = [{ name = "w0", service = "s", class = "mesh", path = ["e0", "e1"], pw_id = 100 }]
+"#,
+];
+
 // Six edges with a circuit each.
 const SITES: &str = r#"
 version = 1

@@ -282,8 +282,8 @@ fn agrees(rt: &impl Abort, alloc: Global, network: &Network, step: Step) -> bool
     }
 }
 
-// Does steps.
-fn play(rt: &impl Abort, alloc: Global, network: &mut Network, steps: &[Step]) {
+/// Does steps.
+pub fn play(rt: &impl Abort, alloc: Global, network: &mut Network, steps: &[Step]) {
     for (place, step) in steps.iter().enumerate() {
         if !did(rt, alloc, network, *step) {
             assert!(rt; agrees(rt, alloc, network, *step), "step {place}");
