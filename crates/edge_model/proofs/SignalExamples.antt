@@ -194,6 +194,19 @@ idle_elsewhere : (wire_input plan taken v false (beginning b_set [])).idle ≡ t
 unfolding changes down gives idles puts with_addresses with_chosen with_end with_ends_beside with_next_label with_peering with_renewed with_spoken with_told_down with_wire
 idle_elsewhere = refl
 
+-- ---- a label that the other end releases unasked is declined: no other one is given until the wire is turned on again
+
+abbrev b_declined : Work
+b_declined = hearing plan a (LabelRelease 4 (bare_fec_of 100 usual) (Some 16) ∷ []) b_set
+
+declined : b_declined.effects ≡ Wire w (Some NoLocal) ∷ []
+unfolding changes down gives idles puts with_addresses with_chosen with_end with_ends_beside with_next_label with_peering with_spoken with_told_down
+declined = refl
+
+renewed : (turns true (turns false b_declined.edge).edge).effects ≡ said_by_b (mapping_with 4 100 17 usual) ∷ Wire w None ∷ []
+unfolding changes down gives idles puts with_addresses with_chosen with_end with_ends_beside with_next_label with_peering with_renewed with_spoken with_told_down with_wire
+renewed = refl
+
 -- ---- a whole group is withdrawn: each binding of the group goes, and one release answers with the same FEC
 
 abbrev grouped_plan : Plan
