@@ -124,10 +124,10 @@ put_stands peer bytes work k = elim (cases_Bool (nat_eq k peer.0)) [
 ]
 
 -- and one that the link did not take
-abbrev refused : EdgeId → List ℕ → Work → Work
+abbrev pub refused : EdgeId → List ℕ → Work → Work
 refused peer bytes work = clears_ends peer (ends peer reason.LinkFault (puts peer bytes false work))
 
-refused_keeps : (peer : EdgeId) (bytes : List ℕ) (work : Work) → (refused peer bytes work).edge.peering ≡ (with_peering peer None work.edge).peering
+pub refused_keeps : (peer : EdgeId) (bytes : List ℕ) (work : Work) → (refused peer bytes work).edge.peering ≡ (with_peering peer None work.edge).peering
 unfolding changes gives puts with_peering
 refused_keeps peer bytes work = clears_keep peer (ends peer reason.LinkFault (puts peer bytes false work))
 

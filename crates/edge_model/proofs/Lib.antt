@@ -15,6 +15,7 @@ pub mod OneEndLemmas
 mod PacketExamples
 pub mod PacketLemmas
 pub mod PartsLemmas
+pub mod PassedLemmas
 pub mod PlaceLemmas
 pub mod ReleaseLemmas
 mod SessionExamples

@@ -13,6 +13,7 @@ pub mod Mend
 pub mod Mended
 pub mod Packet
 pub mod Parts
+pub mod Passed
 pub mod Put
 pub mod Released
 pub mod Role

@@ -3,6 +3,7 @@ ghost use Rattle.edge_model.specs.Aging.{AddressesLastTheirAge};
 ghost use Rattle.edge_model.specs.Local.{FramesStayLocal, PacketsStayLocal};
 ghost use Rattle.edge_model.specs.Mended.{MendsAtOnce};
 ghost use Rattle.edge_model.specs.Parts.{HeardInParts};
+ghost use Rattle.edge_model.specs.Passed.{WithdrawalsGoOn};
 ghost use Rattle.edge_model.specs.Released.{MindsOwnReleases};
 ghost use Rattle.edge_model.specs.StandbyBit.{SpokesAloneStandBy};
 
@@ -60,4 +61,12 @@ pub fn addresses_last_their_age()
 #[tactic(auto, using(crate::proofs::AgainLemmas::mends_at_once))]
 pub fn mends_at_once()
     ensures { MendsAtOnce }
+{}
+
+/// A withdrawal of addresses goes on from a core edge in all its pieces by each wire to which split horizon lets it, a mesh wire
+/// where it came by a spoke, whose end at the edge advertises and whose session stands, unless the link does not take one and
+/// the session ends; and by no other wire (RFC 4762 sections 4.4 and 6.2).
+#[tactic(auto, using(crate::proofs::PassedLemmas::withdrawals_go_on))]
+pub fn withdrawals_go_on()
+    ensures { WithdrawalsGoOn }
 {}

@@ -15,5 +15,5 @@ pub use end_place::EndPlace;
 pub use input::Input;
 pub use laws::{
     addresses_last_their_age, frames_stay_local, heard_in_parts, mends_at_once, minds_own_releases,
-    packets_stay_local, spokes_alone_stand_by,
+    packets_stay_local, spokes_alone_stand_by, withdrawals_go_on,
 };
