@@ -8,13 +8,11 @@ use Rattle.net_base.specs.declared.plan.Plan.{Plan}
 use Rattle.net_base.specs.declared.plan.places.EdgeId.{EdgeId}
 use Rattle.net_base.specs.declared.plan.places.WireId.{WireId}
 use Rattle.net_base.specs.declared.plan.wire_plan.WirePlan.{WirePlan}
-use Rattle.net_base.specs.declared.trace.down.Down.{Down}
 use Rattle.net_base.specs.declared.trace.state_name.Reason.TheVariants as reason
-use Rattle.net_base.specs.plan.Accepted.{IsChecked, IsWireOf}
+use Rattle.net_base.specs.plan.Accepted.{IsWireOf}
 use Rattle.net_base.specs.plan.Paths.{joins}
 use Rattle.net_base.specs.plan.Places.{wire_row}
 use Rattle.net_base.specs.plan.RowFaults.{is_edge_of}
-use Rattle.net_values.specs.declared.mac.Mac.{Mac}
 use Rattle.label_space.specs.Labels.{numbers_end}
 use Rattle.ldp_grammar.specs.declared.message.Message.{Message}
 use Rattle.pw_tlvs.specs.declared.pw_status.PwStatus.{PwStatus}
@@ -330,7 +328,7 @@ peers_within plan fit me =
     all-map (IsEndOf plan me) (λ place. place.peer.0 < length plan.edges) (end_places plan me)
     (λ place end. joined_within plan end.row.path me.0 place.peer.0 (fit.edges place.wire end.row end.is) end.joined) (places_are plan me)
 
-one_end : (plan : Plan) → HasFitPaths plan → (me : EdgeId) → HasOneEnd plan me
+pub one_end : (plan : Plan) → HasFitPaths plan → (me : EdgeId) → HasOneEnd plan me
 one_end plan fit me p q one other first second w =
     one_neighbour one.row.path me.0 p.peer.0 q.peer.0 (fit.once p.wire one.row one.is)
     (sym one.terminal ∙ first) one.joined (subst (λ (row : WirePlan). joins me.0 q.peer.0 row.path ≡ true) same other.joined)

@@ -11,10 +11,8 @@ use Rattle.net_base.specs.declared.plan.places.ServiceId.{ServiceId}
 use Rattle.net_base.specs.declared.plan.places.WireId.{WireId}
 use Rattle.net_base.specs.declared.plan.service_plan.ServicePlan.{ServicePlan}
 use Rattle.net_base.specs.declared.plan.wire_plan.WirePlan.{WirePlan}
-use Rattle.net_base.specs.declared.trace.down.Down.{Down}
 use Rattle.net_base.specs.plan.Places.{wire_row}
 use Rattle.net_values.specs.declared.mac.Mac.{Mac}
-use Rattle.hvpls_spokes.specs.declared.port.Port.{Port}
 use Rattle.hvpls_spokes.specs.declared.port.Port.TheVariants as port
 use Rattle.hvpls_spokes.specs.Port.{is_wire_port, ports_of}
 use Rattle.hvpls_spokes.proofs.WirePortLemmas.{found_wire_port, ports_apart}
@@ -23,12 +21,9 @@ use Rattle.mac_table.specs.declared.mac_entry.MacEntry.{MacEntry}
 use Rattle.mac_table.specs.Addresses.{AreDistinct, entry_of, is_young}
 use Rattle.mac_table.proofs.AddressLemmas.{distinct-filter, entry_of-filter}
 use Rattle.mac_table.proofs.AgeLemmas.{goes_old, none_comes, old, stays_young, young}
-use Rattle.pw_signalling.specs.declared.told.Told.{Told}
-use Rattle.edge_model.specs.Aging.{AddressesLastTheirAge, IsAtCircuit, IsHeardNow, entry_at, ticking}
+use Rattle.edge_model.specs.Aging.{IsAtCircuit, entry_at, ticking}
 use Rattle.edge_model.specs.Content.{mac_withdrawal, mapping, status_notification, withdrawal}
-use Rattle.edge_model.specs.declared.effect.Effect.TheVariants as effect
-use Rattle.edge_model.specs.declared.end_place.EndPlace.{EndPlace}
-use Rattle.edge_model.specs.Mend.{advertising, forgetting_wire, mends, port_of_wire, telling_status, withdrawing, withdraws}
+use Rattle.edge_model.specs.Mend.{advertising, forgetting_wire, mends, port_of_wire, telling_status, withdrawing}
 use Rattle.edge_model.specs.Role.{down_at, status_to_tell}
 use Rattle.edge_model.specs.Session.{says}
 use Rattle.edge_model.specs.Spokes.{choosing}
@@ -36,7 +31,7 @@ use Rattle.edge_model.specs.State.{EdgeState, addresses_of, later, with_addresse
 use Rattle.edge_model.specs.Tick.{aged, counted, forgetting, tick_input, ticks_sessions}
 use Rattle.edge_model.specs.Work.{Work, Answers, beginning, changes, gives}
 use Rattle.edge_model.proofs.SessionLemmas.{IsSessionWork, any, says_works, ticks_work}
-use Rattle.edge_model.proofs.WalkLemmas.{IsEndAt, MendSteps, mends_holds}
+use Rattle.edge_model.proofs.WalkLemmas.{MendSteps, mends_holds}
 
 -- ---- what an edge that mends leaves of an address
 
@@ -118,7 +113,7 @@ module _ (plan : Plan) (service : ServiceId) (address : Mac) where
         | inr none ↦ inr (entry_of-filter stays xs address distinct ∙ (ap (option_filter stays) is ∙ none))
       ]
 
-  forgetting_keeps : (wire : WireId) (row : Option WirePlan) (edge : EdgeState) → KeepsAddress plan service address edge (forgetting_wire plan wire row edge)
+  pub forgetting_keeps : (wire : WireId) (row : Option WirePlan) (edge : EdgeState) → KeepsAddress plan service address edge (forgetting_wire plan wire row edge)
   unfolding with_addresses
   forgetting_keeps wire None edge = keeps_same edge edge refl refl refl
   forgetting_keeps wire (Some row) edge = by (nat_eq service.0 row.service.0) refl where
@@ -175,24 +170,35 @@ module _ (plan : Plan) (service : ServiceId) (address : Mac) where
     tells_down = λ place work here terminal other. keeps_same work.edge (with_told_down place.wire (down_at plan work.edge place) work.edge) refl refl refl;
   }
 
-  mends_keep : (told : Answers) (work : Work) → KeepsAddress plan service address work.edge (mends plan told work).edge
+  pub mends_keep : (told : Answers) (work : Work) → KeepsAddress plan service address work.edge (mends plan told work).edge
   mends_keep told work = mends_holds plan told (λ a b. KeepsAddress plan service address a.edge b.edge) (mend_keeps told) work
 
   -- ---- one tick
 
-  record TicksOnce (row : ServicePlan) (old new : EdgeState) : Type 0 where
-    me : new.me ≡ old.me
-    ticks : new.ticks ≡ later old.ticks
-    distinct : AreDistinct (addresses_of old service) → AreDistinct (addresses_of new service)
-    none : AreDistinct (addresses_of old service) → entry_at old service address ≡ None → entry_at new service address ≡ None
-    stands : AreDistinct (addresses_of old service) → (entry : MacEntry) → entry_at old service address ≡ Some entry → IsAtCircuit plan old service entry
+  pub record TicksOnce (row : ServicePlan) (old new : EdgeState) : Type 0 where
+    pub me : new.me ≡ old.me
+    pub ticks : new.ticks ≡ later old.ticks
+    pub distinct : AreDistinct (addresses_of old service) → AreDistinct (addresses_of new service)
+    pub none : AreDistinct (addresses_of old service) → entry_at old service address ≡ None → entry_at new service address ≡ None
+    pub stands : AreDistinct (addresses_of old service) → (entry : MacEntry) → entry_at old service address ≡ Some entry → IsAtCircuit plan old service entry
         → is_young (later old.ticks) row.age entry ≡ true → entry_at new service address ≡ Some entry
-    fades : AreDistinct (addresses_of old service) → (entry : MacEntry) → entry_at old service address ≡ Some entry → is_young (later old.ticks) row.age entry ≡ true
+    pub fades : AreDistinct (addresses_of old service) → (entry : MacEntry) → entry_at old service address ≡ Some entry → is_young (later old.ticks) row.age entry ≡ true
         → (entry_at new service address ≡ Some entry) ⊎ (entry_at new service address ≡ None)
-    goes : AreDistinct (addresses_of old service) → (entry : MacEntry) → entry_at old service address ≡ Some entry → is_young (later old.ticks) row.age entry ≡ false
+    pub goes : AreDistinct (addresses_of old service) → (entry : MacEntry) → entry_at old service address ≡ Some entry → is_young (later old.ticks) row.age entry ≡ false
         → entry_at new service address ≡ None
 
-  one_tick : (told : Answers) (row : ServicePlan) → slice_get plan.services service.0 ≡ Some row → (work : Work) → TicksOnce row work.edge (tick_input plan told work).edge
+  -- what each bridge forgets at a tick
+  pub at_forgot_is : (told : Answers) (row : ServicePlan) → slice_get plan.services service.0 ≡ Some row → (work : Work)
+      → addresses_of (changes (forgetting plan) (ticks_sessions told 0 (length plan.edges) (changes counted work))).edge service ≡ filter (is_young (later work.edge.ticks) row.age) (addresses_of work.edge service)
+  unfolding changes with_learned with_ticks
+  at_forgot_is told row is work =
+      let ticked : Work = ticks_sessions told 0 (length plan.edges) (changes counted work) in
+      let sessions : IsSessionWork any (changes counted work) ticked = ticks_work told 0 (length plan.edges) (changes counted work) in
+      ap (λ (o : Option ServicePlan). aged ticked.edge.ticks o (ticked.edge.learned service.0)) is
+      ∙ (ap (λ (t : ℕ). filter (is_young t row.age) (ticked.edge.learned service.0)) sessions.edge.ticks
+      ∙ ap (λ (map : ℕ → List MacEntry). filter (is_young (later work.edge.ticks) row.age) (map service.0)) sessions.edge.learned)
+
+  pub one_tick : (told : Answers) (row : ServicePlan) → slice_get plan.services service.0 ≡ Some row → (work : Work) → TicksOnce row work.edge (tick_input plan told work).edge
   unfolding changes with_learned with_ticks
   one_tick told row is work = record {
     me = last.me ∙ sessions.edge.me;
@@ -229,12 +235,8 @@ module _ (plan : Plan) (service : ServiceId) (address : Mac) where
       last : KeepsAddress plan service address forgot.edge (tick_input plan told work).edge
       last = mends_keep told forgot
 
-      -- what each bridge forgets
       forgotten : addresses_of forgot.edge service ≡ filter young_now before
-      forgotten =
-          ap (λ (o : Option ServicePlan). aged ticked.edge.ticks o (ticked.edge.learned service.0)) is
-          ∙ (ap (λ (t : ℕ). filter (is_young t row.age) (ticked.edge.learned service.0)) sessions.edge.ticks
-          ∙ ap (λ (map : ℕ → List MacEntry). filter young_now (map service.0)) sessions.edge.learned)
+      forgotten = at_forgot_is told row is work
 
       at_forgot : entry_at forgot.edge service address ≡ entry_of (filter young_now before) address
       at_forgot = ap (λ (xs : List MacEntry). entry_of xs address) forgotten
@@ -253,20 +255,20 @@ module _ (plan : Plan) (service : ServiceId) (address : Mac) where
   below : (t limit : ℕ) → t < limit → nat_lt t limit ≡ true
   below t limit less = grind (arith, nat_tests)
 
-  next_tick : (ticks : ℕ) → ticks < 2 ^ 64 - 1 → later ticks ≡ ticks + 1
+  pub next_tick : (ticks : ℕ) → ticks < 2 ^ 64 - 1 → later ticks ≡ ticks + 1
   next_tick ticks less = ap (λ (b : Bool). cond b (ticks + 1) ticks) (below ticks (2 ^ 64 - 1) less)
 
-  fresh : (ticks age tick : ℕ) → ticks < 2 ^ 64 - 1 → tick ≤ ticks → ticks + 1 < tick + age → nat_lt (later ticks - tick) age ≡ true
+  pub fresh : (ticks age tick : ℕ) → ticks < 2 ^ 64 - 1 → tick ≤ ticks → ticks + 1 < tick + age → nat_lt (later ticks - tick) age ≡ true
   fresh ticks age tick less past within =
       ap (λ (t : ℕ). nat_lt (t - tick) age) (next_tick ticks less) ∙ young (ticks + 1) age tick (omega (arith, past)) within
 
   stale : (ticks age tick : ℕ) → ticks < 2 ^ 64 - 1 → tick + age ≤ ticks + 1 → nat_lt (later ticks - tick) age ≡ false
   stale ticks age tick less past = ap (λ (t : ℕ). nat_lt (t - tick) age) (next_tick ticks less) ∙ old (ticks + 1) age tick past
 
-  less_of : (t n limit : ℕ) → t + suc n ≤ limit → t < limit
+  pub less_of : (t n limit : ℕ) → t + suc n ≤ limit → t < limit
   less_of t n limit within = omega (arith, within)
 
-  rest_of : (t now n limit : ℕ) → now ≡ t + 1 → t + suc n ≤ limit → now + n ≤ limit
+  pub rest_of : (t now n limit : ℕ) → now ≡ t + 1 → t + suc n ≤ limit → now + n ≤ limit
   rest_of t now n limit is within = omega (arith, is, within)
 
   ticking_none : (told : Answers) (row : ServicePlan) → slice_get plan.services service.0 ≡ Some row → (n : ℕ) (work : Work) → AreDistinct (addresses_of work.edge service) → entry_at work.edge service address ≡ None
@@ -277,7 +279,7 @@ module _ (plan : Plan) (service : ServiceId) (address : Mac) where
       let tick : TicksOnce row work.edge (tick_input plan told begun).edge = one_tick told row is begun in
       ticking_none told row is n (tick_input plan told begun) (tick.distinct distinct) (tick.none distinct none)
 
-  ticking_stands : (told : Answers) (row : ServicePlan) → slice_get plan.services service.0 ≡ Some row → (n : ℕ) (work : Work) (entry : MacEntry) → AreDistinct (addresses_of work.edge service)
+  pub ticking_stands : (told : Answers) (row : ServicePlan) → slice_get plan.services service.0 ≡ Some row → (n : ℕ) (work : Work) (entry : MacEntry) → AreDistinct (addresses_of work.edge service)
       → entry_at work.edge service address ≡ Some entry → IsAtCircuit plan work.edge service entry → entry.tick ≤ work.edge.ticks → work.edge.ticks + n < entry.tick + row.age → work.edge.ticks + n ≤ 2 ^ 64 - 1
       → entry_at (ticking plan told n work).edge service address ≡ Some entry
   ticking_stands told row is zero work entry distinct found here past within counts = found
@@ -300,7 +302,7 @@ module _ (plan : Plan) (service : ServiceId) (address : Mac) where
       next_within : (t now n limit : ℕ) → now ≡ t + 1 → t + suc n < limit → now + n < limit
       next_within t now n limit is within = omega (arith, is, within)
 
-  ticking_goes : (told : Answers) (row : ServicePlan) → slice_get plan.services service.0 ≡ Some row → (n : ℕ) (work : Work) (entry : MacEntry) → AreDistinct (addresses_of work.edge service)
+  pub ticking_goes : (told : Answers) (row : ServicePlan) → slice_get plan.services service.0 ≡ Some row → (n : ℕ) (work : Work) (entry : MacEntry) → AreDistinct (addresses_of work.edge service)
       → entry_at work.edge service address ≡ Some entry → entry.tick ≤ work.edge.ticks → work.edge.ticks < entry.tick + row.age → entry.tick + row.age ≤ work.edge.ticks + n → work.edge.ticks + n ≤ 2 ^ 64 - 1
       → entry_at (ticking plan told n work).edge service address ≡ None
   ticking_goes told row is zero work entry distinct found past young_yet due counts = absurd (clash work.edge.ticks (entry.tick + row.age) young_yet due) where
@@ -341,25 +343,3 @@ module _ (plan : Plan) (service : ServiceId) (address : Mac) where
 
       due_later : (t now n limit : ℕ) → now ≡ t + 1 → limit ≤ t + suc n → limit ≤ now + n
       due_later t now n limit is due = omega (arith, is, due)
-
-starts_past : (tick ticks : ℕ) → tick ≡ ticks → tick ≤ ticks
-starts_past tick ticks is = omega (arith, is)
-
-starts_within : (tick ticks n age : ℕ) → tick ≡ ticks → n < age → ticks + n < tick + age
-starts_within tick ticks n age is less = omega (arith, is, less)
-
-starts_young : (tick ticks age : ℕ) → tick ≡ ticks → 1 ≤ age → ticks < tick + age
-starts_young tick ticks age is some = omega (arith, is, some)
-
-starts_due : (tick ticks n age : ℕ) → tick ≡ ticks → age ≤ n → tick + age ≤ ticks + n
-starts_due tick ticks n age is more = omega (arith, is, more)
-
-pub addresses_last_their_age : AddressesLastTheirAge
-addresses_last_their_age = record {
-  stands = λ plan told n work service row address entry heard here counts within.
-      ticking_stands plan service address told row heard.is n work entry heard.distinct heard.found here (starts_past entry.tick work.edge.ticks heard.now)
-      (starts_within entry.tick work.edge.ticks n row.age heard.now within) counts;
-  goes = λ plan told n work service row address entry heard counts some more.
-      ticking_goes plan service address told row heard.is n work entry heard.distinct heard.found (starts_past entry.tick work.edge.ticks heard.now)
-      (starts_young entry.tick work.edge.ticks row.age heard.now some) (starts_due entry.tick work.edge.ticks n row.age heard.now more) counts;
-}

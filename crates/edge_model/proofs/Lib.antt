@@ -1,4 +1,5 @@
 pub mod AgainLemmas
+pub mod AgeLemmas
 pub mod AgingLemmas
 pub mod BridgeLemmas
 pub mod ChoiceLemmas

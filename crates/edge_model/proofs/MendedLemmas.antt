@@ -916,7 +916,7 @@ all_go plan (q ∷ list) work = (all_keep plan list q (forgets_one plan q work) 
 abbrev pub HasOneEnd : Plan → EdgeId → Type 0
 HasOneEnd plan me = (p q : EndPlace) → IsEndOf plan me p → IsEndOf plan me q → p.terminal ≡ true → q.terminal ≡ true → p.wire.0 ≡ q.wire.0 → p.peer.0 ≡ q.peer.0
 
-down_like : (plan : Plan) (edge : EdgeState) (p q : EndPlace) → p.wire.0 ≡ q.wire.0 → p.peer.0 ≡ q.peer.0 → down_at plan edge p ≡ down_at plan edge q
+pub down_like : (plan : Plan) (edge : EdgeState) (p q : EndPlace) → p.wire.0 ≡ q.wire.0 → p.peer.0 ≡ q.peer.0 → down_at plan edge p ≡ down_at plan edge q
 down_like plan edge p q w k = ap (λ (n : ℕ). down_at plan edge (like n p.peer.0 false)) w ∙ ap (λ (n : ℕ). down_at plan edge (like q.wire.0 n false)) k
 
 -- one end is told

@@ -1,6 +1,6 @@
 -- By which wires a withdrawal of addresses goes on.
-use Rattle.std.proofs.Common.{◌≡◌, ◌≢◌, ◌+◌, ◌++◌, ◌==◌, ◌&&◌, ◌∙◌, ℕ, zero, suc, Bool, true, false, not, List, [], ◌∷◌, Option, Some, None, cond, nat_eq, slice_get, option_map, append_assoc, append-nil, add-one, refl, sym, ap, subst, inl, inr, arith}
-use Rattle.std.specs.List.{AllByRecursion, find}
+use Rattle.std.proofs.Common.{◌≡◌, ◌+◌, ◌++◌, ◌==◌, ◌&&◌, ◌∙◌, ℕ, zero, suc, Bool, true, false, not, List, [], ◌∷◌, Option, Some, None, cond, nat_eq, slice_get, option_map, append_assoc, append-nil, refl, sym, ap, subst, inl, inr, arith}
+use Rattle.std.specs.List.{AllByRecursion}
 use Rattle.std.proofs.lemmas.Bool.{and_parts, cases_Bool, eqb-true}
 use Rattle.std.proofs.lemmas.Bool.Decides.{nat_tests}
 use Rattle.net_base.specs.declared.plan.Plan.{Plan}
@@ -17,7 +17,6 @@ use Rattle.hvpls_spokes.specs.declared.edge_role.Role.TheVariants as role
 use Rattle.hvpls_spokes.specs.declared.port.Port.{Port}
 use Rattle.hvpls_spokes.specs.declared.port.Port.TheVariants as port
 use Rattle.hvpls_spokes.specs.Port.{is_mesh, is_mesh_port, is_wire_port, ports_of}
-use Rattle.hvpls_spokes.specs.Role as roles
 use Rattle.ldp_grammar.specs.declared.message.Message.{Message}
 use Rattle.ldp_grammar.specs.Written.{written}
 use Rattle.mac_withdraw.specs.Passing.{is_passed_to, is_wire}
@@ -34,16 +33,13 @@ use Rattle.edge_model.specs.declared.effect.Effect.TheVariants.{Said, Session, C
 use Rattle.edge_model.specs.declared.end_place.EndPlace.{EndPlace}
 use Rattle.edge_model.specs.Ends.{wire_end}
 use Rattle.edge_model.specs.Frame.{copies}
-use Rattle.edge_model.specs.Mend.{port_of_wire}
-use Rattle.edge_model.specs.Passed.{ComesToCore, GoesOnBy, IsOfPassing, IsPassed, MayGoOnBy, Tells, WasTold, WithdrawalsGoOn, piece_octets}
+use Rattle.edge_model.specs.Passed.{ComesToCore, GoesOnBy, IsOfPassing, MayGoOnBy, Tells, WasTold, WithdrawalsGoOn, piece_octets}
 use Rattle.edge_model.specs.Put.{Spoken, having_spoken, message_octets_of, platform_of, put_octets, stays, with_spoken}
 use Rattle.edge_model.specs.Session.{ends, had_said, says, says_to}
-use Rattle.edge_model.specs.Signal.{end_of_fec}
 use Rattle.edge_model.specs.State.{EdgeState, Peering, end_at, has_end, is_there, with_addresses, with_ends_beside, with_peering}
 use Rattle.edge_model.specs.Withdraw.{tells_piece, tells_piece_by, tells_pieces}
 use Rattle.edge_model.specs.Work.{Work, Answers, changes, gives, next_answer, puts}
 use Rattle.edge_model.proofs.AgainLemmas.{refused, refused_keeps}
-use Rattle.edge_model.proofs.HeldLemmas.{clears_keep}
 use Rattle.edge_model.proofs.MendLemmas.{says_nothing, says_taken}
 use Rattle.edge_model.proofs.PlaceLemmas.{all-append, all-map}
 use Rattle.edge_model.proofs.SessionLemmas.{IsBesides, says_works}

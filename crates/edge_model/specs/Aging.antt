@@ -1,15 +1,20 @@
 -- How long an address stays in a bridge of an edge to which nothing else comes than ticks (RFC 4762 section 9.1).
-use Rattle.std.specs.Prelude.{◌≡◌, ◌<◌, ◌≤◌, ◌+◌, ◌-◌, ◌^◌, zero, suc, ℕ, Some, None, Option, slice_get}
+use Rattle.std.specs.Prelude.{◌≡◌, ◌<◌, ◌≤◌, ◌+◌, ◌-◌, ◌^◌, zero, suc, ℕ, true, Some, None, Option, slice_get}
 use Rattle.net_base.specs.declared.plan.Plan.{Plan}
 use Rattle.net_base.specs.declared.plan.places.CircuitId.{CircuitId}
 use Rattle.net_base.specs.declared.plan.places.ServiceId.{ServiceId}
 use Rattle.net_base.specs.declared.plan.service_plan.ServicePlan.{ServicePlan}
 use Rattle.net_values.specs.declared.mac.Mac.{Mac}
+use Rattle.hvpls_spokes.specs.declared.port.Port.{Port}
 use Rattle.hvpls_spokes.specs.declared.port.Port.TheVariants as port
-use Rattle.hvpls_spokes.specs.Port.{ports_of}
+use Rattle.hvpls_spokes.specs.Port.{is_wire_port, ports_of}
 use Rattle.mac_table.specs.declared.mac_entry.MacEntry.{MacEntry}
 use Rattle.mac_table.specs.Addresses.{AreDistinct, entry_of}
+use Rattle.edge_model.specs.declared.end_place.EndPlace.{EndPlace}
 use Rattle.edge_model.specs.declared.input.Input.TheVariants.{Tick}
+use Rattle.edge_model.specs.Ends.{wire_end}
+use Rattle.edge_model.specs.Mended.{HasFitPaths}
+use Rattle.edge_model.specs.Role.{down_at}
 use Rattle.edge_model.specs.State.{EdgeState, addresses_of}
 use Rattle.edge_model.specs.Step.{edge_step}
 use Rattle.edge_model.specs.Work.{Work, Answers, beginning}
@@ -35,11 +40,23 @@ pub record IsAtCircuit (plan : Plan) (edge : EdgeState) (service : ServiceId) (e
   pub circuit : CircuitId
   pub at : slice_get (ports_of plan service edge.me) entry.port ≡ Some (port.Circuit circuit)
 
+-- the entry points to a wire of the service, of which this is the end at the edge
+pub record IsAtWire (plan : Plan) (edge : EdgeState) (service : ServiceId) (entry : MacEntry) (place : EndPlace) : Type 0 where
+  pub x : Port
+  pub at : slice_get (ports_of plan service edge.me) entry.port ≡ Some x
+  pub to_wire : is_wire_port place.wire x ≡ true
+  pub here : wire_end plan edge.me place.wire ≡ Some place
+
 -- Whatever the link answers, and whatever the state of the edge, whose ticks are counted up to 2^64 - 1.
 pub record AddressesLastTheirAge : Type 0 where
   -- an address that was heard at a circuit stands while fewer ticks have passed than its service's age limit says
   pub stands : (plan : Plan) (told : Answers) (n : ℕ) (work : Work) (service : ServiceId) (row : ServicePlan) (address : Mac) (entry : MacEntry)
       → IsHeardNow plan work.edge service row address entry → IsAtCircuit plan work.edge service entry → work.edge.ticks + n ≤ 2 ^ 64 - 1 → n < row.age
+      → entry_at (ticking plan told n work).edge service address ≡ Some entry
+  -- so does one that was heard on a wire whose end forwards after each of the ticks, where the link takes each message
+  pub stands_by_wire : (plan : Plan) (told : Answers) (n : ℕ) (work : Work) (service : ServiceId) (row : ServicePlan) (address : Mac) (entry : MacEntry) (place : EndPlace)
+      → HasFitPaths plan → ((k : ℕ) → told k ≡ true) → IsHeardNow plan work.edge service row address entry → IsAtWire plan work.edge service entry place
+      → ((k : ℕ) → 1 ≤ k → k ≤ n → down_at plan (ticking plan told k work).edge place ≡ None) → work.edge.ticks + n ≤ 2 ^ 64 - 1 → n < row.age
       → entry_at (ticking plan told n work).edge service address ≡ Some entry
   -- and each address is gone once as many have
   pub goes : (plan : Plan) (told : Answers) (n : ℕ) (work : Work) (service : ServiceId) (row : ServicePlan) (address : Mac) (entry : MacEntry)

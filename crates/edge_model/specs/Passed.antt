@@ -1,6 +1,6 @@
 -- By which wires a withdrawal of addresses goes on from a core edge: by each one that split horizon lets it, whose end at the edge
 -- advertises and whose session stands (RFC 4762 sections 4.4 and 6.2).
-use Rattle.std.specs.Prelude.{◌≡◌, ◌++◌, ℕ, true, List, [], ◌∷◌, Some, slice_get}
+use Rattle.std.specs.Prelude.{◌≡◌, ◌++◌, ℕ, true, List, ◌∷◌, Some, slice_get}
 use Rattle.std.specs.List.{AllByRecursion}
 use Rattle.net_base.specs.declared.plan.Plan.{Plan}
 use Rattle.net_base.specs.declared.plan.places.EdgeId.{EdgeId}

@@ -1,5 +1,5 @@
 -- A Label Release of another label than the end's own changes nothing (RFC 5036 section 3.5.11).
-use Rattle.std.specs.Prelude.{◌≡◌, ◌≢◌, ℕ, true, Option, Some, None}
+use Rattle.std.specs.Prelude.{◌≡◌, ◌≢◌, ℕ, Option, Some, None}
 use Rattle.net_base.specs.declared.plan.Plan.{Plan}
 use Rattle.net_base.specs.declared.plan.places.EdgeId.{EdgeId}
 use Rattle.pw_tlvs.specs.declared.pw_fec.PwFec.{PwFec}

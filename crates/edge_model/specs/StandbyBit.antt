@@ -1,8 +1,7 @@
 -- Whether the standby bit that a peer tells is looked at: by the core edge's end of a spoke alone (RFC 6870, RFC 4762 section 10.2.1).
-use Rattle.std.specs.Prelude.{◌≡◌, ◌≢◌, true, Some, None}
+use Rattle.std.specs.Prelude.{◌≡◌, ◌≢◌, true, Some}
 use Rattle.net_base.specs.declared.plan.Plan.{Plan}
 use Rattle.net_base.specs.declared.plan.wire_plan.WirePlan.{WirePlan}
-use Rattle.net_base.specs.declared.trace.down.Down.TheVariants as cause
 use Rattle.net_base.specs.plan.Places.{is_mesh_class, wire_row}
 use Rattle.pw_tlvs.specs.declared.pw_status.PwStatus.{PwStatus}
 use Rattle.pw_signalling.specs.declared.end_role.EndRole.TheVariants as role

@@ -47,10 +47,10 @@ pub fn spokes_alone_stand_by()
     ensures { SpokesAloneStandBy }
 {}
 
-/// What a bridge learns lasts exactly its age: an address that was heard in the tick of now is gone once as many ticks have
-/// passed as the age limit of its service says, and stands before, at a circuit whatever the link answers, where nothing else
-/// comes (RFC 4762 section 9.1).
-#[tactic(auto, using(crate::proofs::AgingLemmas::addresses_last_their_age))]
+/// What a bridge learns lasts exactly its age where nothing else comes than ticks: an address that was heard in the tick of now is
+/// gone once as many have passed as the age limit of its service says. Before, it stands: at a circuit whatever the link answers,
+/// and by a wire whose end forwards after each tick where the link takes each message (RFC 4762 section 9.1).
+#[tactic(auto, using(crate::proofs::AgeLemmas::addresses_last_their_age))]
 pub fn addresses_last_their_age()
     ensures { AddressesLastTheirAge }
 {}

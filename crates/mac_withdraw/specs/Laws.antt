@@ -1,5 +1,5 @@
 -- Split horizon for what an edge passes on (RFC 4762 sections 4.4 and 6.2).
-use Rattle.std.specs.Prelude.{◌≡◌, ◌≢◌, ◌==◌, ◌&&◌, ℕ, true, false, List, Some, slice_get}
+use Rattle.std.specs.Prelude.{◌≡◌, ◌≢◌, ◌&&◌, ℕ, true, false, List, Some, slice_get}
 use Rattle.net_base.specs.declared.plan.places.WireId.{WireId}
 use Rattle.hvpls_spokes.specs.declared.edge_role.Role.{Role}
 use Rattle.hvpls_spokes.specs.declared.edge_role.Role.TheVariants as role

@@ -5,7 +5,6 @@ use Rattle.net_base.specs.declared.trace.down.Down.TheVariants as cause
 use Rattle.pw_tlvs.specs.declared.pw_status.PwStatus.{PwStatus}
 use Rattle.pw_status.specs.Status.{is_failure, is_set, is_standby}
 use Rattle.pw_signalling.specs.declared.binding.Binding.{Binding}
-use Rattle.pw_signalling.specs.declared.told.Told.{Told}
 use Rattle.pw_signalling.specs.declared.end_role.EndRole.{EndRole}
 use Rattle.pw_signalling.specs.declared.end_role.EndRole.TheVariants as role
 use Rattle.pw_signalling.specs.Down.{differ, down, mtus_differ, stands_by}
