@@ -64,15 +64,15 @@ after_bounds plan (e ∷ es) network checked types planned ordered bounds =
 empty_bounds : (plan : Plan) → Bounds plan (empty_network plan)
 empty_bounds plan a b apart = record { bound = λ messages answers said answered out_is back_is near far. clash near }
 
-run_bounds : (plan : Plan) (events : List Event) → IsRun plan events → Bounds plan (network_after plan events)
+pub run_bounds : (plan : Plan) (events : List Event) → IsRun plan events → Bounds plan (network_after plan events)
 run_bounds plan events run = after_bounds plan events (empty_network plan) run.checked run.types run.planned (empty_ordered plan run.checked) (empty_bounds plan)
 
 -- the ends of wires between two edges whose ends stand, with the messages on their way
-record AreBoundNow (plan : Plan) (network : NetworkState) (a b : ℕ) : Type 0 where
-  pair : ArePaired (ends_at plan a b) (ends_at plan b a) ((network.edges a).peering b) ((network.edges b).peering a) (flight network a b) (flight network b a)
-  bound : AreBound plan a b (network.edges a) (network.edges b) pair.messages pair.answers
+pub record AreBoundNow (plan : Plan) (network : NetworkState) (a b : ℕ) : Type 0 where
+  pub pair : ArePaired (ends_at plan a b) (ends_at plan b a) ((network.edges a).peering b) ((network.edges b).peering a) (flight network a b) (flight network b a)
+  pub bound : AreBound plan a b (network.edges a) (network.edges b) pair.messages pair.answers
 
-bound_now : (plan : Plan) (network : NetworkState) (a b : ℕ) → IsOrdered plan network → Bounds plan network → BothStand network a b → AreBoundNow plan network a b
+pub bound_now : (plan : Plan) (network : NetworkState) (a b : ℕ) → IsOrdered plan network → Bounds plan network → BothStand network a b → AreBoundNow plan network a b
 bound_now plan network a b ordered bounds both =
     let apart : nat_eq a b ≡ false = both_apart plan network a b ordered both.one in
     let pair : ArePaired (ends_at plan a b) (ends_at plan b a) ((network.edges a).peering b) ((network.edges b).peering a) (flight network a b) (flight network b a) = ordered.two a b apart in

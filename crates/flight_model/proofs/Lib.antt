@@ -33,6 +33,7 @@ pub mod PlaceLemmas
 pub mod PlanLemmas
 pub mod ReactLemmas
 pub mod ReadyLemmas
+pub mod ReleaseLemmas
 pub mod RowBindingLemmas
 pub mod RowLemmas
 pub mod RuledDeliverLemmas

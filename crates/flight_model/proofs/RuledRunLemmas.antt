@@ -92,7 +92,7 @@ run_ruled plan events run = after_ruled plan events (empty_network plan) run.che
 
 -- ---- the laws
 
-messages_said : (plan : Plan) (network : NetworkState) (a b : ℕ) (apart : nat_eq a b ≡ false) → IsOrdered plan network → (ruled : IsRuledNetwork plan network) → AreOnWay plan network a b (ruled.two a b apart).0.messages
+pub messages_said : (plan : Plan) (network : NetworkState) (a b : ℕ) (apart : nat_eq a b ≡ false) → IsOrdered plan network → (ruled : IsRuledNetwork plan network) → AreOnWay plan network a b (ruled.two a b apart).0.messages
 messages_said plan network a b apart ordered ruled = record {
   octets = (ruled.two a b apart).0.octets;
   said = ruled_said plan a b (network.edges a) (network.edges b) (ruled.two a b apart).0.messages (ordered.two a b apart).messages (ruled.two a b apart).0.ruled (ordered.two a b apart).talk.said

@@ -9,5 +9,6 @@ pub mod Laws
 pub mod Meeting
 pub mod Messages
 pub mod Pair
+pub mod Releases
 pub mod Rules
 pub mod Sound

@@ -1,5 +1,6 @@
 //! What holds of sessions and pseudowires in every run of the network.
 ghost use Rattle.flight_model.specs.Laws.{RunsAgreeAfterFlight, RunsComeUp, RunsEndWell, RunsFollowTable, RunsKeepLabelRule, RunsKeepToldRule, RunsSettle};
+ghost use Rattle.flight_model.specs.Releases.{RunsAwaitReleases, RunsReleaseUnadvertised};
 
 /// Of two ends that stand one is active, and their session states with what is on its way between them are a row of the table:
 /// the octets that each is still to hear of the other one are those of whole messages (RFC 5036 sections 2.5.3 and 2.5.4).
@@ -51,4 +52,19 @@ pub fn runs_keep_label_rule()
 #[tactic(auto, using(crate::proofs::RuledRunLemmas::runs_keep_told_rule))]
 pub fn runs_keep_told_rule()
     ensures { RunsKeepToldRule }
+{}
+
+/// Where both ends of a connection stand, of each label that an end withdraws the Label Withdraw is on its way to the peer, or
+/// the Label Release on its way back: no end waits in vain (RFC 5036 sections 3.5.10 and 3.5.11).
+#[tactic(auto, using(crate::proofs::ReleaseLemmas::runs_await_releases))]
+pub fn runs_await_releases()
+    ensures { RunsAwaitReleases }
+{}
+
+/// Where both ends of a connection stand, each Label Release on its way names a label, and no end of its receiver advertises
+/// that label, whatever the wire and the peer: no label is taken from an end that has just advertised it (RFC 5036 section
+/// 3.5.11).
+#[tactic(auto, using(crate::proofs::ReleaseLemmas::runs_release_unadvertised))]
+pub fn runs_release_unadvertised()
+    ensures { RunsReleaseUnadvertised }
 {}
