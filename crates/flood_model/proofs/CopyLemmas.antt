@@ -63,6 +63,17 @@ still_forwards plan calm edge wire still = ap (λ (e : EdgeState). end_forwards 
   by None = refl
   by (Some place) = refl
 
+-- it is at its place
+pub still_placed : (calm edge : EdgeState) → IsStillEdge calm edge → calm.me ≡ edge.me
+unfolding with_learned
+still_placed calm edge still = sym (ap (λ (e : EdgeState). e.me) still.is)
+
+-- a copy is sent by an end that forwards
+pub copy_forwards : (plan : Plan) (calm network : NetworkState) (me : EdgeId) (came : Arrival) (service : ServiceId) (frame : List ℕ) (arrival : ℕ) (peer : EdgeId) (wire : WireId) (of_arrival : Arrival) (bytes : List ℕ)
+    → IsStill calm network → SentCopy plan (network.edges me.0) came service frame arrival peer wire of_arrival bytes → end_forwards plan (calm.edges me.0) wire ≡ true
+copy_forwards plan calm network me came service frame arrival peer wire of_arrival bytes still copy =
+    sym (still_forwards plan (calm.edges me.0) (network.edges me.0) wire (still.edges me.0)) ∙ (ap (forwards_at plan (network.edges me.0)) copy.here ∙ ap is_up copy.forwards)
+
 -- ---- the packets of copies
 
 copy_carries : (plan : Plan) (calm network : NetworkState) (me : EdgeId) (origin hops sent : ℕ) (came : Arrival) (service : ServiceId) (frame : List ℕ) (arrival : ℕ) (peer : EdgeId) (wire : WireId) (of_arrival : Arrival) (bytes : List ℕ)
@@ -87,7 +98,7 @@ copy_carries plan calm network me origin hops sent came service frame arrival pe
       is = copy.is;
       of_service = of_service;
       joined = joined;
-      sends = sym (still_forwards plan (calm.edges me.0) (network.edges me.0) wire (still.edges me.0)) ∙ (ap (forwards_at plan (network.edges me.0)) copy.here ∙ ap is_up copy.forwards);
+      sends = copy_forwards plan calm network me came service frame arrival peer wire of_arrival bytes still copy;
       carries = copy_carried plan network me origin hops sent came service frame arrival peer wire of_arrival bytes checked ruled copy sized;
       labelled = record {
         entry = record { label = copy.binding.label; bottom = true; ttl = pack.ttl };

@@ -12,11 +12,10 @@ use Rattle.net_base.specs.declared.plan.places.WireId.{WireId}
 use Rattle.net_base.specs.plan.Accepted.{IsChecked}
 use Rattle.net_base.specs.plan.Paths.{first_edge, has_repeat, is_first, is_last, is_same_edge, joins, last_edge}
 use Rattle.net_base.specs.plan.Places.{is_mesh_class, wire_row}
-use Rattle.net_base.specs.plan.Roles.{ends_at, is_spoke_from, is_wire_of}
+use Rattle.net_base.specs.plan.Roles.{ends_at, is_wire_of}
 use Rattle.net_base.specs.plan.WireFaults.{have_same_service, is_spoke_in_mesh, starts_in_mesh}
 use Rattle.edge_model.specs.Ends.{end_forwards}
 use Rattle.edge_model.proofs.LocalLemmas.{and_left, and_right}
-use Rattle.network_model.specs.Calm.{carries, first_forwards, is_calm, is_joined_up, last_forwards}
 use Rattle.network_model.specs.Reach.{far_of}
 use Rattle.network_model.specs.State.{NetworkState}
 use Rattle.flight_model.proofs.SettleLemmas.{apart_turned}
@@ -24,7 +23,7 @@ use Rattle.packet_model.proofs.PackLemmas.{wire_checked}
 use Rattle.flood_model.specs.Due.{has_short_paths}
 use Rattle.flood_model.specs.Hops.{most_hops}
 use Rattle.flood_model.proofs.ArrivalLemmas.{short_path}
-use Rattle.flood_model.proofs.LawLemmas.{one_live_spoke}
+use Rattle.flood_model.proofs.ChosenLemmas.{one_chosen}
 
 -- ---- a path of two edges
 
@@ -80,6 +79,10 @@ last_is edge path two = ap (is_last edge) two.is
 last_apart : (edge first last : ℕ) → edge ≡ last → nat_eq first last ≡ false → nat_eq edge first ≡ false
 last_apart edge first last is apart = ap (λ (n : ℕ). nat_eq n first) is ∙ apart_turned first last apart
 
+-- the first edge is not the last one
+first_apart : (edge first last : ℕ) → edge ≡ first → nat_eq first last ≡ false → nat_eq edge last ≡ false
+first_apart edge first last is apart = ap (λ (n : ℕ). nat_eq n last) is ∙ apart
+
 -- the edge at the other end
 pub far_two : (from to : ℕ) (path : List EdgeId) → IsOfTwo path → joins from to path ≡ true → far_of to path ≡ Some from
 far_two from to path two joined = ap (far_of to) two.is ∙ by (two_ends from to path two joined) where
@@ -102,19 +105,6 @@ ends_two service from to row of_service two joined = both (is_wire_of service ro
   by : AreEnds two.first.0 two.last.0 from to → (is_first to row.path ≡ true) ⊎ (is_last to row.path ≡ true)
   by (GoOut here there) = inr (last_is to row.path two ∙ eq-eqb to two.last.0 there)
   by (GoBack there here) = inl (first_is to row.path two ∙ eq-eqb to two.first.0 there)
-
--- it carries frames where both ends forward
-pub carries_two : (plan : Plan) (calm : NetworkState) (wire : WireId) (row : WirePlan) (from to : ℕ) → IsOfTwo row.path → joins from to row.path ≡ true
-    → end_forwards plan (calm.edges from) wire ≡ true → end_forwards plan (calm.edges to) wire ≡ true → carries plan calm wire.0 row ≡ true
-carries_two plan calm wire row from to two joined sends takes =
-    ap (λ (path : List EdgeId). (first_forwards plan calm wire.0 path && last_forwards plan calm wire.0 path) && is_joined_up plan calm wire.0 path) two.is ∙ by (two_ends from to row.path two joined)
-  where
-    all : (a b : Bool) → a ≡ true → b ≡ true → (a && b) && true ≡ true
-    all a b one other = rw (one, other) refl
-
-    by : AreEnds two.first.0 two.last.0 from to → (end_forwards plan (calm.edges two.first.0) wire && end_forwards plan (calm.edges two.last.0) wire) && true ≡ true
-    by (GoOut here there) = all _ _ (ap (λ (n : ℕ). end_forwards plan (calm.edges n) wire) (sym here) ∙ sends) (ap (λ (n : ℕ). end_forwards plan (calm.edges n) wire) (sym there) ∙ takes)
-    by (GoBack there here) = all _ _ (ap (λ (n : ℕ). end_forwards plan (calm.edges n) wire) (sym there) ∙ takes) (ap (λ (n : ℕ). end_forwards plan (calm.edges n) wire) (sym here) ∙ sends)
 
 -- ---- two wires of a service
 
@@ -201,9 +191,9 @@ at_last to row spoke last = rw (spoke, last) refl
 
 -- one that is flooded passes one segment more
 module _ (plan : Plan) (calm : NetworkState) (service : ServiceId) (wire next : WireId) (row other : WirePlan) (from to peer hops : ℕ)
-    (checked : IsChecked plan) (short : has_short_paths plan ≡ true) (calmed : is_calm plan calm service ≡ true)
-    (is : wire_row plan wire ≡ Some row) (of_service : is_wire_of service row ≡ true) (joined : joins from to row.path ≡ true) (live : carries plan calm wire.0 row ≡ true)
-    (next_is : wire_row plan next ≡ Some other) (next_of : is_wire_of service other ≡ true) (next_joined : joins to peer other.path ≡ true) (next_live : carries plan calm next.0 other ≡ true)
+    (checked : IsChecked plan) (short : has_short_paths plan ≡ true) (placed : (calm.edges to).me ≡ record { 0 = to })
+    (is : wire_row plan wire ≡ Some row) (of_service : is_wire_of service row ≡ true) (joined : joins from to row.path ≡ true) (takes : end_forwards plan (calm.edges to) wire ≡ true)
+    (next_is : wire_row plan next ≡ Some other) (next_of : is_wire_of service other ≡ true) (next_joined : joins to peer other.path ≡ true) (sends : end_forwards plan (calm.edges to) next ≡ true)
     (apart : nat_eq next.0 wire.0 ≡ false) (meshes : is_mesh_class row.class && is_mesh_class other.class ≡ false) (come : hops ≤ most_hops to row) where
   first : IsOfTwo row.path
   first = two_edges plan wire row checked short is
@@ -220,10 +210,9 @@ module _ (plan : Plan) (calm : NetworkState) (service : ServiceId) (wire next : 
 
   spokes_met : is_mesh_class row.class ≡ false → is_mesh_class other.class ≡ false → to ≡ first.first.0 → to ≡ second.first.0 → ⊥
   spokes_met spoke too here there =
-      let from_here : is_spoke_from service to row ≡ true = rw (of_service, spoke, first_is to row.path first, eq-eqb to first.first.0 here) refl in
-      let from_there : is_spoke_from service to other ≡ true = rw (next_of, too, first_is to other.path second, eq-eqb to second.first.0 there) refl in
-      let same : next.0 ≡ wire.0 = sym (one_live_spoke plan calm service to wire next row other checked calmed is from_here live next_is from_there next_live) in
-      never (nat_eq next.0 wire.0) (eq-eqb next.0 wire.0 same) apart
+      let not_last : is_last to row.path ≡ false = last_is to row.path first ∙ first_apart to first.first.0 first.last.0 here first.apart in
+      let nor_last : is_last to other.path ≡ false = last_is to other.path second ∙ first_apart to second.first.0 second.last.0 there second.apart in
+      never (nat_eq next.0 wire.0) (eq-eqb next.0 wire.0 (one_chosen plan (calm.edges to) to service wire next row other placed is of_service spoke not_last takes next_is next_of too nor_last sends)) apart
 
   both_mesh : {P : Type 0} → is_mesh_class row.class ≡ true → is_mesh_class other.class ≡ true → P
   both_mesh one too =

@@ -1,6 +1,7 @@
 pub mod ArrivalLemmas
 pub mod BridgeLemmas
 pub mod CarryLemmas
+pub mod ChosenLemmas
 pub mod CopyLemmas
 pub mod CountLemmas
 pub mod DueLemmas
@@ -16,7 +17,9 @@ pub mod OriginLemmas
 pub mod RunLemmas
 pub mod ServeArrivalLemmas
 pub mod ServeLemmas
+pub mod ShareLemmas
 pub mod SiteLemmas
+pub mod SoFarLemmas
 pub mod StartLemmas
 pub mod StillLemmas
 pub mod SumLemmas

@@ -1,95 +1,32 @@
 -- Each site of a calm service gets a flooded frame exactly once, in every run: before the frame enters nothing is told of it, in its
 -- window each copy that is due is served, and after the window no copy of it is under way.
-use Rattle.std.proofs.Common.{◌≡◌, ◌+◌, ◌++◌, ◌&&◌, ◌∙◌, ℕ, Bool, true, List, [], ◌∷◌, Option, Some, None, Ok, cond, nat_eq, not, option_map, refl, ap, sym, subst, inl, inr, arith, append_assoc}
+use Rattle.std.proofs.Common.{◌≡◌, ◌+◌, ◌++◌, ◌&&◌, ◌∙◌, ℕ, Bool, true, List, [], ◌∷◌, cond, nat_eq, not, ap, sym, subst, inl, inr, arith, append_assoc, append-nil}
 use Rattle.std.proofs.lemmas.Bool.{cases_Bool}
-use Rattle.std.proofs.lemmas.List.Elements.{All-cons, All-head, All-nil, All-tail}
-use Rattle.std.specs.List.{All}
 use Rattle.net_base.specs.declared.plan.Plan.{Plan}
-use Rattle.net_base.specs.declared.plan.circuit_plan.CircuitPlan.{CircuitPlan}
 use Rattle.net_base.specs.declared.plan.places.CircuitId.{CircuitId}
 use Rattle.net_base.specs.declared.plan.places.ServiceId.{ServiceId}
 use Rattle.net_base.specs.declared.trace.entry.Entry.{Entry}
-use Rattle.net_base.specs.declared.trace.entry.Entry.TheVariants.{In}
 use Rattle.net_base.specs.declared.trace.event.Event.{Event}
 use Rattle.net_base.specs.declared.trace.event.Event.TheVariants.{Frame}
-use Rattle.net_base.specs.plan.Accepted.{IsChecked}
-use Rattle.net_base.specs.plan.Places.{circuit_row, mtu_of}
-use Rattle.net_base.specs.plan.Planned.{IsEventOf}
-use Rattle.net_base.specs.plan.Roles.{are_joined_by}
-use Rattle.net_base.specs.trace.Isolated.{inner_at}
-use Rattle.net_base.specs.trace.Frame.{destination_of}
-use Rattle.edge_model.proofs.LocalLemmas.{and_left}
 use Rattle.network_model.specs.Absorb.{Stepped}
-use Rattle.network_model.specs.Calm.{has_live_spokes, is_calm, is_full, is_quiet}
-use Rattle.network_model.specs.Frame.{frame_event, frame_work, next_origin}
+use Rattle.network_model.specs.Frame.{next_origin}
 use Rattle.network_model.specs.OnceEach.{LeftWithin, ServedOnce, times_left}
-use Rattle.network_model.specs.Reach.{is_row_on, is_site}
+use Rattle.network_model.specs.Reach.{is_site}
 use Rattle.network_model.specs.Run.{entries_along, state_after}
 use Rattle.network_model.specs.State.{NetworkState, empty_network}
 use Rattle.network_model.specs.Step.{step}
-use Rattle.network_model.specs.Window.{Window, is_flooded_frame}
+use Rattle.network_model.specs.Window.{Window}
 use Rattle.network_model.proofs.AbsorbLemmas.{of_origin, times_left-append, within-append}
-use Rattle.network_model.proofs.FloodLemmas.{unknown_heard}
-use Rattle.network_model.proofs.OtherLemmas.{IsApart, along, apart_after, apart_before, counts_rise, entering_counts, never_within}
+use Rattle.network_model.proofs.OtherLemmas.{IsApart, along, apart_after, counts_rise, never_within}
 use Rattle.network_model.proofs.RunLemmas.{along-append}
-use Rattle.flight_model.specs.Laws.{AreSettled, IsRun}
-use Rattle.flight_model.proofs.BoundRunLemmas.{runs_settle}
-use Rattle.flight_model.proofs.RuledNetworkLemmas.{IsRuledNetwork}
-use Rattle.flight_model.proofs.RuledRunLemmas.{run_ruled}
-use Rattle.flight_model.proofs.RunLemmas.{run_ordered}
-use Rattle.packet_model.proofs.ArriveLemmas.{IsSized, come_sized}
-use Rattle.packet_model.proofs.RunLemmas.{runs_keep_packet_rule}
+use Rattle.flight_model.specs.Laws.{IsRun}
 use Rattle.flood_model.specs.Due.{has_short_paths}
 use Rattle.flood_model.specs.Laws.{RunsServeOnce}
 use Rattle.flood_model.proofs.CountLemmas.{awaited, due}
-use Rattle.flood_model.proofs.EntryLemmas.{flooded_unlearned}
 use Rattle.flood_model.proofs.OriginLemmas.{none_of}
-use Rattle.flood_model.proofs.ServeLemmas.{Serves, serves_then, serves_told}
-use Rattle.flood_model.proofs.StartLemmas.{entering_is, entering_serves, owed_to, still_self}
-use Rattle.flood_model.proofs.StillLemmas.{step_still, step_unlearned}
-use Rattle.flood_model.proofs.WindowLemmas.{IsAfter, IsReached, StaysUnknown, step_reached, window_serves}
-
--- ---- the events before the frame, and from it on
-
-pub front_all : {X : Type 0} (P : X → Type 0) (xs ys : List X) → All P (xs ++ ys) → All P xs
-front_all P [] ys all = All-nil P
-front_all P (x ∷ xs) ys all = All-cons P x xs (All-head P x (xs ++ ys) all) (front_all P xs ys (All-tail P x (xs ++ ys) all))
-
-pub back_all : {X : Type 0} (P : X → Type 0) (xs ys : List X) → All P (xs ++ ys) → All P ys
-back_all P [] ys all = all
-back_all P (x ∷ xs) ys all = back_all P xs ys (All-tail P x (xs ++ ys) all)
-
--- ---- the frame enters
-
--- its step serves each site but the sender, or owes it a copy
-record Starts (plan : Plan) (calm : NetworkState) (service : ServiceId) (frame : List ℕ) (at : CircuitId) (stepped : Stepped) : Type 0 where
-  serves : Serves plan calm service frame (next_origin calm) (owed_to at) stepped
-  entered : stepped.state.entered ≡ calm.entered + 1
-
-starts : (plan : Plan) (calm : NetworkState) (at : CircuitId) (octets frame : List ℕ) (service : ServiceId) (during : List Event) (found : Option CircuitPlan)
-    → IsChecked plan → has_short_paths plan ≡ true → is_calm plan calm service ≡ true → ((a b : ℕ) → are_joined_by plan service a b ≡ true → AreSettled plan calm a b) → IsSized (mtu_of plan service) frame
-    → IsRuledNetwork plan calm → circuit_row plan at ≡ found → option_map (λ (row : CircuitPlan). row.service) found ≡ Some service → is_row_on calm at found ≡ true → inner_at plan at octets ≡ Ok frame
-    → is_flooded_frame plan calm service frame (Frame at octets ∷ during) ≡ true → of_origin (next_origin calm) calm.under_way ≡ []
-    → Starts plan calm service frame at (frame_event plan at octets found calm)
-starts plan calm at octets frame service during None checked short calmed settled sized ruled is of_service on formed floods none = absurd (cc (of_service))
-starts plan calm at octets frame service during (Some row) checked short calmed settled sized ruled is of_service on formed floods none =
-    let same : row.service ≡ service = cc (of_service) in
-    by same calmed settled sized floods
-  where
-    by : row.service ≡ service → is_calm plan calm service ≡ true → ((a b : ℕ) → are_joined_by plan service a b ≡ true → AreSettled plan calm a b) → IsSized (mtu_of plan service) frame
-        → is_flooded_frame plan calm service frame (Frame at octets ∷ during) ≡ true → Starts plan calm service frame at (frame_event plan at octets (Some row) calm)
-    by same = subst (λ (s : ServiceId). is_calm plan calm s ≡ true → ((a b : ℕ) → are_joined_by plan s a b ≡ true → AreSettled plan calm a b) → IsSized (mtu_of plan s) frame
-        → is_flooded_frame plan calm s frame (Frame at octets ∷ during) ≡ true → Starts plan calm s frame at (frame_event plan at octets (Some row) calm)) same
-        (λ calm_here settled_here sized_here floods_here.
-        let unknown = unknown_heard plan calm at octets frame row during checked is on formed floods_here in
-        record {
-          serves = entering_serves plan calm at octets frame row checked short calm_here settled_here sized_here ruled is on formed unknown none;
-          entered =
-              ap (λ (stepped : Stepped). stepped.state.entered) (entering_is plan calm at octets frame row checked short calm_here settled_here sized_here ruled is on formed unknown none)
-              ∙ entering_counts at octets row (frame_work plan calm at octets row) calm;
-        })
-
--- ---- the whole window
+use Rattle.flood_model.proofs.ServeLemmas.{Serves}
+use Rattle.flood_model.proofs.SoFarLemmas.{early, entered_one, served_so_far}
+use Rattle.flood_model.proofs.StartLemmas.{owed_to}
 
 module _ (plan : Plan) (events : List Event) (run : IsRun plan events) (short : has_short_paths plan ≡ true) (before : List Event) (at : CircuitId) (octets : List ℕ) (during after : List Event) (service : ServiceId)
     (split : events ≡ before ++ Frame at octets ∷ (during ++ after)) (window : Window plan before at octets during service) where
@@ -105,71 +42,28 @@ module _ (plan : Plan) (events : List Event) (run : IsRun plan events) (short : 
   abbrev last : NetworkState
   last = state_after plan entry.state during
 
-  abbrev frame : List ℕ
-  frame = window.frame
-
   -- what it tells before
   abbrev trace : List Entry
   trace = entries_along plan (empty_network plan) before
 
-  planned : All (IsEventOf plan) (before ++ Frame at octets ∷ (during ++ after))
-  planned = subst (All (IsEventOf plan)) split run.planned
+  -- the whole window is a front of itself
+  whole : Window plan before at octets (during ++ []) service
+  whole = subst (λ (es : List Event). Window plan before at octets es service) (sym (append-nil during)) window
 
-  from_frame : All (IsEventOf plan) (Frame at octets ∷ (during ++ after))
-  from_frame = back_all (IsEventOf plan) before (Frame at octets ∷ (during ++ after)) planned
+  nothing_before : (circuit : CircuitId) → IsApart origin circuit (empty_network plan) (along plan (empty_network plan) before)
+  nothing_before circuit = early plan events run short before at octets during [] after service split whole circuit
 
-  run_before : IsRun plan before
-  run_before = record { checked = run.checked; types = run.types; planned = front_all (IsEventOf plan) before (Frame at octets ∷ (during ++ after)) planned }
+  entered : entry.state.entered ≡ calm.entered + 1
+  entered = entered_one plan events run short before at octets during [] after service split whole
 
-  reached : IsReached plan calm trace
-  reached = record { ordered = run_ordered plan before run_before; ruled = run_ruled plan before run_before; rule = runs_keep_packet_rule plan before run_before }
-
-  settled : (a b : ℕ) → are_joined_by plan service a b ≡ true → AreSettled plan calm a b
-  settled a b joined =
-      runs_settle plan before run_before service
-      (and_left (is_quiet plan calm service) (is_full plan calm service) (and_left (is_quiet plan calm service && is_full plan calm service) (has_live_spokes plan calm service) window.calm)) a b joined
-
-  sized : IsSized (mtu_of plan service) frame
-  sized = come_sized plan (In at origin octets ∷ []) service origin frame
-      (record { sender = at; octets = octets; told = inl refl; of_service = window.sender; formed = window.formed })
-
-  -- nothing is told of the frame before it enters
-  early : (circuit : CircuitId) → IsApart origin circuit (empty_network plan) (along plan (empty_network plan) before)
-  early circuit = apart_before plan origin circuit (empty_network plan) before (omega arith) refl
-
-  begins : Starts plan calm service frame at (frame_event plan at octets (circuit_row plan at) calm)
-  begins = starts plan calm at octets frame service during (circuit_row plan at) run.checked short window.calm settled sized reached.ruled refl window.sender window.on window.formed window.flooded (early at).under_way
-
-  first : Serves plan calm service frame origin (owed_to at) entry
-  first = serves_told plan calm service frame origin (owed_to at) (Frame at octets) (frame_event plan at octets (circuit_row plan at) calm) begins.serves
-
-  after_entry : IsAfter plan calm service frame origin entry.state
-  after_entry = record {
-    still = step_still plan calm calm trace origin (Frame at octets) run.checked reached.ruled reached.rule refl (still_self calm);
-    copies = first.copies;
-    issued = omega (arith, begins.entered);
-  }
-
-  unknown : StaysUnknown plan service frame entry.state during
-  unknown = elim (flooded_unlearned plan calm service frame at octets during window.flooded) [
-    | inl group ↦ inl group
-    | inr stays ↦ inr (step_unlearned plan calm trace origin service (destination_of frame) (Frame at octets) run.checked short reached.ruled reached.rule refl stays.first stays.now, stays.later)
-  ]
-
-  -- from its entry to the end of the window
-  served : Serves plan calm service frame origin (owed_to at) (record { state = last; entries = entry.entries ++ entries_along plan entry.state during })
-  served =
-      serves_then plan calm service frame origin (owed_to at) entry (along plan entry.state during) first
-      (window_serves plan calm service frame origin run.checked short window.calm settled sized entry.state (trace ++ entry.entries) during run.types
-      (front_all (IsEventOf plan) during after (All-tail (IsEventOf plan) (Frame at octets) (during ++ after) from_frame))
-      (step_reached plan calm trace (Frame at octets) run.checked run.types (All-head (IsEventOf plan) (Frame at octets) (during ++ after) from_frame) reached)
-      after_entry unknown window.spared)
+  served : Serves plan calm service whole.frame origin (owed_to at) (record { state = last; entries = entry.entries ++ entries_along plan entry.state during })
+  served = served_so_far plan events run short before at octets during [] after service split whole
 
   over : of_origin origin last.under_way ≡ []
   over = none_of origin last.under_way window.over
 
   late : (circuit : CircuitId) → IsApart origin circuit last (along plan last after)
-  late circuit = apart_after plan origin circuit last after (omega (arith, begins.entered, counts_rise plan entry.state during)) over
+  late circuit = apart_after plan origin circuit last after (omega (arith, entered, counts_rise plan entry.state during)) over
 
   told : entries_along plan (empty_network plan) events ≡ trace ++ ((entry.entries ++ entries_along plan entry.state during) ++ entries_along plan last after)
   told =
@@ -186,7 +80,7 @@ module _ (plan : Plan) (events : List Event) (run : IsRun plan events) (short : 
         arith,
         times_left-append origin circuit trace ((entry.entries ++ entries_along plan entry.state during) ++ entries_along plan last after),
         times_left-append origin circuit (entry.entries ++ entries_along plan entry.state during) (entries_along plan last after),
-        (early circuit).left,
+        (nothing_before circuit).left,
         (late circuit).left,
       )
 
@@ -201,7 +95,7 @@ module _ (plan : Plan) (events : List Event) (run : IsRun plan events) (short : 
 
   within : LeftWithin 3 origin (entries_along plan (empty_network plan) events)
   within = subst (LeftWithin 3 origin) (sym told)
-      (within-append 3 origin trace ((entry.entries ++ entries_along plan entry.state during) ++ entries_along plan last after) (never_within 3 origin trace (λ circuit. (early circuit).left))
+      (within-append 3 origin trace ((entry.entries ++ entries_along plan entry.state during) ++ entries_along plan last after) (never_within 3 origin trace (λ circuit. (nothing_before circuit).left))
       (within-append 3 origin (entry.entries ++ entries_along plan entry.state during) (entries_along plan last after) served.within (never_within 3 origin (entries_along plan last after) (λ circuit. (late circuit).left))))
 
   serves_once : ServedOnce 3 plan before at service (entries_along plan (empty_network plan) events)

@@ -34,7 +34,7 @@ use Rattle.edge_model.proofs.LocalLemmas.{and_left}
 use Rattle.edge_model.proofs.PacketLemmas.{mesh_port}
 use Rattle.network_model.specs.declared.packet.Packet.{Packet}
 use Rattle.network_model.specs.Absorb.{absorb, all_entries_of, begin_at, taken_all}
-use Rattle.network_model.specs.Calm.{carries, has_live_spokes, is_calm, is_full, is_quiet}
+use Rattle.network_model.specs.Calm.{has_live_spokes, is_calm, is_full, is_quiet}
 use Rattle.network_model.specs.OnceEach.{LeftWithin, times_left}
 use Rattle.network_model.specs.Packet.{arriving, packet_at, packet_work}
 use Rattle.network_model.specs.Reach.{far_of, is_site}
@@ -52,10 +52,10 @@ use Rattle.flood_model.specs.Copy.{CarriesCopy, IsStill, IsStillEdge}
 use Rattle.flood_model.specs.Due.{awaits, has_short_paths, serves_here, wires_due}
 use Rattle.flood_model.specs.Hops.{most_hops}
 use Rattle.flood_model.proofs.BridgeLemmas.{packet_meets}
-use Rattle.flood_model.proofs.CopyLemmas.{copies_carry, copy_arrives, copy_drops}
+use Rattle.flood_model.proofs.CopyLemmas.{copies_carry, copy_arrives, copy_drops, copy_forwards, still_placed}
 use Rattle.flood_model.proofs.CountLemmas.{awaited, due, meets}
 use Rattle.flood_model.proofs.EntryLemmas.{carried_within, group_unknown, unlearned_unknown}
-use Rattle.flood_model.proofs.HopLemmas.{IsOfTwo, carries_two, ends_two, far_two, hop_on, most_three, two_edges}
+use Rattle.flood_model.proofs.HopLemmas.{IsOfTwo, ends_two, far_two, hop_on, most_three, two_edges}
 use Rattle.flood_model.proofs.LawLemmas.{arrival_law, down_law}
 use Rattle.flood_model.proofs.OriginLemmas.{CopyGoes, copy_goes, has_number}
 use Rattle.flood_model.proofs.ServeLemmas.{Floods, FloodsBy, FloodsNot, IsNear, IsNearCopy, Serves, copies_near, floods, serves_absorb}
@@ -159,11 +159,8 @@ module _ (plan : Plan) (calm network : NetworkState) (trace : List Entry) (servi
     bridged : work ≡ forwarded plan taken_all (arrival.Wire packet.wire) service frame port (begin_at network packet.to)
     bridged = copy_arrives plan calm network trace service frame packet checked short ruled still rule_here copy takes
 
-    live : carries plan calm packet.wire.0 copy.row ≡ true
-    live = carries_two plan calm packet.wire copy.row packet.from.0 packet.to.0 two copy.joined copy.sends takes
-
     come : packet.hops ≤ most_hops packet.to.0 copy.row
-    come = goes.here.1 copy.row copy.is live
+    come = goes.here.1 copy.row copy.is
 
     -- the bridge knows no port for the destination
     unknown : (from : ℕ) → known_port (addresses_of (hearing service frame from (network.edges packet.to.0)) service) (destination frame) ≡ None
@@ -197,11 +194,12 @@ module _ (plan : Plan) (calm network : NetworkState) (trace : List Entry) (servi
     -- what it sends has passed one segment more
     bound : (from : ℕ) → port ≡ Some from → (peer : EdgeId) (wire : WireId) (of_arrival : Arrival) (bytes : List ℕ)
         → SentCopy plan (network.edges packet.to.0) (arrival.Wire packet.wire) service frame from peer wire of_arrival bytes
-        → (row : WirePlan) → wire_row plan wire ≡ Some row → carries plan calm wire.0 row ≡ true → packet.hops + 1 ≤ most_hops peer.0 row
-    bound from at peer wire of_arrival bytes sent row is carrying =
-        hop_on plan calm service packet.wire wire copy.row row packet.from.0 packet.to.0 peer.0 packet.hops checked short calmed copy.is copy.of_service copy.joined live is
+        → (row : WirePlan) → wire_row plan wire ≡ Some row → packet.hops + 1 ≤ most_hops peer.0 row
+    bound from at peer wire of_arrival bytes sent row is =
+        hop_on plan calm service packet.wire wire copy.row row packet.from.0 packet.to.0 peer.0 packet.hops checked short (still_placed (calm.edges packet.to.0) (network.edges packet.to.0) (still.edges packet.to.0) ∙ placed)
+        copy.is copy.of_service copy.joined takes is
         (eq-eqb row.service.0 service.0 (ap (λ (r : WirePlan). r.service.0) (sym rows) ∙ ap (λ (s : ServiceId). s.0) sent.same_service))
-        joined carrying (sym (same_wire_port plan service (network.edges packet.to.0).me sent.p from wire.0 packet.wire.0 there here) ∙ sent.by.other) meshes come
+        joined (copy_forwards plan calm network packet.to (arrival.Wire packet.wire) service frame from peer wire of_arrival bytes still sent) (sym (same_wire_port plan service (network.edges packet.to.0).me sent.p from wire.0 packet.wire.0 there here) ∙ sent.by.other) meshes come
       where
         rows : sent.row ≡ row
         rows = same_row sent.row row (sym sent.is ∙ is)
@@ -232,9 +230,9 @@ module _ (plan : Plan) (calm network : NetworkState) (trace : List Entry) (servi
     sends : (sent : ℕ) → Floods plan (network.edges packet.to.0) (arrival.Wire packet.wire) service frame port work.effects → AllByRecursion (IsNearCopy plan calm service frame) (packets_of packet.to origin packet.hops sent work.effects)
     sends sent (FloodsNot none) = subst (λ (es : List Effect). AllByRecursion (IsNearCopy plan calm service frame) (packets_of packet.to origin packet.hops sent es)) (sym none) tt
     sends sent (FloodsBy from at all) =
-        both_hold (CarriesCopy plan calm service frame) (IsNear plan calm) (packets_of packet.to origin packet.hops sent work.effects)
+        both_hold (CarriesCopy plan calm service frame) (IsNear plan) (packets_of packet.to origin packet.hops sent work.effects)
         (copies_carry plan calm network packet.to origin packet.hops sent (arrival.Wire packet.wire) service frame from work.effects checked ruled still quiet settled sized all)
-        (copies_near plan calm (network.edges packet.to.0) packet.to origin packet.hops sent (arrival.Wire packet.wire) service frame from work.effects (bound from at) all)
+        (copies_near plan (network.edges packet.to.0) packet.to origin packet.hops sent (arrival.Wire packet.wire) service frame from work.effects (bound from at) all)
 
     nowhere_else : (circuit : CircuitId) (other : NetworkState) → is_site plan calm service circuit ≡ false → Floods plan (network.edges packet.to.0) (arrival.Wire packet.wire) service frame port work.effects
         → times_left origin circuit (all_entries_of packet.to origin packet.hops work.effects other) ≡ 0

@@ -20,7 +20,6 @@ use Rattle.edge_model.specs.Work.{Work, beginning}
 use Rattle.edge_model.proofs.CopyLemmas.{forwards_copies}
 use Rattle.network_model.specs.declared.packet.Packet.{Packet}
 use Rattle.network_model.specs.Absorb.{Stepped, absorb, all_entries_of, taken_all}
-use Rattle.network_model.specs.Calm.{carries}
 use Rattle.network_model.specs.OnceEach.{LeftWithin, times_left}
 use Rattle.network_model.specs.Reach.{is_site}
 use Rattle.network_model.specs.State.{NetworkState, with_edge}
@@ -32,13 +31,13 @@ use Rattle.flood_model.specs.Hops.{most_hops}
 use Rattle.flood_model.proofs.CountLemmas.{all_due, awaited, due, meets}
 use Rattle.flood_model.proofs.OriginLemmas.{of_origin-append, of_origin_hold}
 
--- a packet on a wire that carries frames has passed so many segments at most
-abbrev pub IsNear : Plan → NetworkState → Packet → Type 0
-IsNear plan calm packet = (row : WirePlan) → wire_row plan packet.wire ≡ Some row → carries plan calm packet.wire.0 row ≡ true → packet.hops ≤ most_hops packet.to.0 row
+-- a packet has passed so many segments at most
+abbrev pub IsNear : Plan → Packet → Type 0
+IsNear plan packet = (row : WirePlan) → wire_row plan packet.wire ≡ Some row → packet.hops ≤ most_hops packet.to.0 row
 
 -- a copy of the frame that has
 abbrev pub IsNearCopy : Plan → NetworkState → ServiceId → List ℕ → Packet → Type 0
-IsNearCopy plan calm service frame packet = CarriesCopy plan calm service frame packet × IsNear plan calm packet
+IsNearCopy plan calm service frame packet = CarriesCopy plan calm service frame packet × IsNear plan packet
 
 -- ---- what a step serves
 
@@ -126,11 +125,11 @@ floods plan came service frame (Some arrival) edge =
     FloodsBy arrival refl (subst (AllAreCopies plan edge came service frame arrival) (sym copied.joined) copied.all)
 
 -- its packets have passed one segment more
-pub copies_near : (plan : Plan) (calm : NetworkState) (edge : EdgeState) (me : EdgeId) (origin hops sent : ℕ) (came : Arrival) (service : ServiceId) (frame : List ℕ) (arrival : ℕ) (es : List Effect)
+pub copies_near : (plan : Plan) (edge : EdgeState) (me : EdgeId) (origin hops sent : ℕ) (came : Arrival) (service : ServiceId) (frame : List ℕ) (arrival : ℕ) (es : List Effect)
     → ((peer : EdgeId) (wire : WireId) (of_arrival : Arrival) (bytes : List ℕ) → SentCopy plan edge came service frame arrival peer wire of_arrival bytes
-    → (row : WirePlan) → wire_row plan wire ≡ Some row → carries plan calm wire.0 row ≡ true → hops + 1 ≤ most_hops peer.0 row)
-    → AllAreCopies plan edge came service frame arrival es → AllByRecursion (IsNear plan calm) (packets_of me origin hops sent es)
-copies_near plan calm edge me origin hops sent came service frame arrival [] bound all = tt
-copies_near plan calm edge me origin hops sent came service frame arrival (effect.Sent peer wire of_arrival bytes ∷ es) bound all =
-    (λ row is live. bound peer wire of_arrival bytes all.0 row is live, copies_near plan calm edge me origin hops (sent + 1) came service frame arrival es bound all.1)
-copies_near plan calm edge me origin hops sent came service frame arrival (e ∷ es) bound all = copies_near plan calm edge me origin hops sent came service frame arrival es bound all.1
+    → (row : WirePlan) → wire_row plan wire ≡ Some row → hops + 1 ≤ most_hops peer.0 row)
+    → AllAreCopies plan edge came service frame arrival es → AllByRecursion (IsNear plan) (packets_of me origin hops sent es)
+copies_near plan edge me origin hops sent came service frame arrival [] bound all = tt
+copies_near plan edge me origin hops sent came service frame arrival (effect.Sent peer wire of_arrival bytes ∷ es) bound all =
+    (λ row is. bound peer wire of_arrival bytes all.0 row is, copies_near plan edge me origin hops (sent + 1) came service frame arrival es bound all.1)
+copies_near plan edge me origin hops sent came service frame arrival (e ∷ es) bound all = copies_near plan edge me origin hops sent came service frame arrival es bound all.1

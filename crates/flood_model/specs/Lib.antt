@@ -2,3 +2,4 @@ pub mod Due
 pub mod Laws
 pub mod Copy
 pub mod Hops
+pub mod Shares

@@ -5,4 +5,4 @@
 
 mod laws;
 
-pub use laws::runs_serve_once;
+pub use laws::{runs_serve_once, runs_share_sites};
