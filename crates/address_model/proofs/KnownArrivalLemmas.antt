@@ -26,7 +26,7 @@ use Rattle.edge_model.specs.Work.{Work, gives}
 use Rattle.edge_model.proofs.LocalLemmas.{and_left}
 use Rattle.network_model.specs.declared.packet.Packet.{Packet}
 use Rattle.network_model.specs.Absorb.{absorb, all_entries_of, begin_at, taken_all}
-use Rattle.network_model.specs.Calm.{carries, has_live_spokes, is_calm, is_full, is_quiet}
+use Rattle.network_model.specs.Calm.{has_live_spokes, is_calm, is_full, is_quiet}
 use Rattle.network_model.specs.OnceEach.{LeftWithin, times_left}
 use Rattle.network_model.specs.Packet.{arriving, packet_at, packet_work}
 use Rattle.network_model.specs.Reach.{far_of, is_site}
@@ -43,7 +43,7 @@ use Rattle.flood_model.specs.Hops.{most_hops}
 use Rattle.flood_model.proofs.CopyLemmas.{copies_carry, copy_arrives, copy_drops}
 use Rattle.flood_model.proofs.CountLemmas.{awaited, due, meets}
 use Rattle.flood_model.proofs.EntryLemmas.{carried_within}
-use Rattle.flood_model.proofs.HopLemmas.{IsOfTwo, carries_two, ends_two, far_two, most_three, two_edges}
+use Rattle.flood_model.proofs.HopLemmas.{IsOfTwo, ends_two, far_two, most_three, two_edges}
 use Rattle.flood_model.proofs.LawLemmas.{arrival_law, down_law}
 use Rattle.flood_model.proofs.MeshLemmas.{port_at}
 use Rattle.flood_model.proofs.OriginLemmas.{CopyGoes, copy_goes}
@@ -143,11 +143,8 @@ module _ (plan : Plan) (calm network : NetworkState) (trace : List Entry) (servi
     bridged : work ≡ forwarded plan taken_all (arrival.Wire packet.wire) service frame port (begin_at network packet.to)
     bridged = copy_arrives plan calm network trace service frame packet checked short ruled still rule_here copy takes
 
-    live : carries plan calm packet.wire.0 copy.row ≡ true
-    live = carries_two plan calm packet.wire copy.row packet.from.0 packet.to.0 two copy.joined copy.sends takes
-
     come : packet.hops ≤ most_hops packet.to.0 copy.row
-    come = goes.here.1 copy.row copy.is live
+    come = goes.here.1 copy.row copy.is
 
     -- the port that the bridge knows for the station leads to its site
     leads : (from q : ℕ) → port ≡ Some from → known_port (addresses_of (hearing service frame from (network.edges packet.to.0)) service) (destination frame) ≡ Some q
@@ -197,10 +194,10 @@ module _ (plan : Plan) (calm network : NetworkState) (trace : List Entry) (servi
     sends : (sent : ℕ) → Floods plan (network.edges packet.to.0) (arrival.Wire packet.wire) service frame port work.effects → AllByRecursion (IsNearCopy plan calm service frame) (packets_of packet.to origin packet.hops sent work.effects)
     sends sent (FloodsNot none) = subst (λ (es : List Effect). AllByRecursion (IsNearCopy plan calm service frame) (packets_of packet.to origin packet.hops sent es)) (sym none) tt
     sends sent (FloodsBy from at all) =
-        both_hold (CarriesCopy plan calm service frame) (IsNear plan calm) (packets_of packet.to origin packet.hops sent work.effects)
+        both_hold (CarriesCopy plan calm service frame) (IsNear plan) (packets_of packet.to origin packet.hops sent work.effects)
         (copies_carry plan calm network packet.to origin packet.hops sent (arrival.Wire packet.wire) service frame from work.effects checked ruled still quiet settled sized all)
-        (copies_near plan calm (network.edges packet.to.0) packet.to origin packet.hops sent (arrival.Wire packet.wire) service frame from work.effects
-        (copies_hop plan calm network service frame packet checked short calmed placed copy live come from at) all)
+        (copies_near plan (network.edges packet.to.0) packet.to origin packet.hops sent (arrival.Wire packet.wire) service frame from work.effects
+        (copies_hop plan calm network service frame packet checked short still placed copy takes come from at) all)
 
     nowhere_else : (circuit : CircuitId) (other : NetworkState) → is_site plan calm service circuit ≡ false → Floods plan (network.edges packet.to.0) (arrival.Wire packet.wire) service frame port work.effects
         → times_left origin circuit (all_entries_of packet.to origin packet.hops work.effects other) ≡ 0

@@ -38,7 +38,7 @@ use Rattle.flood_model.specs.Copy.{IsStill}
 use Rattle.flood_model.specs.Due.{has_short_paths}
 use Rattle.flood_model.proofs.CountLemmas.{awaited, due}
 use Rattle.flood_model.proofs.OriginLemmas.{none_of}
-use Rattle.flood_model.proofs.RunLemmas.{back_all, front_all}
+use Rattle.flood_model.proofs.SoFarLemmas.{back_all, front_all}
 use Rattle.flood_model.proofs.StartLemmas.{owed_to, still_self}
 use Rattle.flood_model.proofs.StillLemmas.{step_still}
 use Rattle.flood_model.proofs.WindowLemmas.{IsAfter, IsReached, step_reached}

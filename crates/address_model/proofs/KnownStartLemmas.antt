@@ -150,10 +150,10 @@ module _ (plan : Plan) (calm network : NetworkState) (site : Sites) (at : Circui
   sends : (sent : ℕ) → Floods plan (at_edge network row.edge) (arrival.Circuit at) row.service frame port work.effects → AllByRecursion (IsNearCopy plan calm row.service frame) (packets_of row.edge origin 0 sent work.effects)
   sends sent (FloodsNot none) = subst (λ (es : List Effect). AllByRecursion (IsNearCopy plan calm row.service frame) (packets_of row.edge origin 0 sent es)) (sym none) tt
   sends sent (FloodsBy from found all) =
-      both_hold (CarriesCopy plan calm row.service frame) (IsNear plan calm) (packets_of row.edge origin 0 sent work.effects)
+      both_hold (CarriesCopy plan calm row.service frame) (IsNear plan) (packets_of row.edge origin 0 sent work.effects)
       (copies_carry plan calm network row.edge origin 0 sent (arrival.Circuit at) row.service frame from work.effects checked ruled still quiet settled sized all)
-      (copies_near plan calm (at_edge network row.edge) row.edge origin 0 sent (arrival.Circuit at) row.service frame from work.effects
-      (λ peer wire of_arrival bytes copy r r_is live. first_hop peer.0 r) all)
+      (copies_near plan (at_edge network row.edge) row.edge origin 0 sent (arrival.Circuit at) row.service frame from work.effects
+      (λ peer wire of_arrival bytes copy r r_is. first_hop peer.0 r) all)
 
   nowhere_else : (circuit : CircuitId) (other : NetworkState) → is_site plan calm row.service circuit ≡ false → Floods plan (at_edge network row.edge) (arrival.Circuit at) row.service frame port work.effects
       → times_left origin circuit (all_entries_of row.edge origin 0 work.effects other) ≡ 0
