@@ -14,9 +14,10 @@ const BOTTOM: u32 = 0x100;
 const CONTROL_WORD: [u8; 4] = [0, 0, 0, 0];
 
 /// A packet of a pseudowire (RFC 4448 section 4): an entry of the label stack with this label and TTL at the bottom, the
-/// control word where the wire has one, and the inner frame, which has a tag with this VLAN ID in tagged mode. Writes it to the
-/// front of `out`, which has twelve octets more than the inner frame or still more, and answers its length in octets. `vlan` is
-/// told in tagged mode alone; where it is at most 4095 it stands there with priority and drop eligibility 0.
+/// control word where the wire has one, and the inner frame, which has a tag with this VLAN ID in tagged mode. Every frame is
+/// packed: the tag comes behind its first twelve octets, or behind all of them where it has fewer. Writes the packet to the front
+/// of `out`, which has twelve octets more than the inner frame or still more, and answers its length in octets. `vlan` is told in
+/// tagged mode alone; where it is at most 4095 it stands there with priority and drop eligibility 0.
 #[tactic(auto, using(crate::proofs::PacketLemmas::packed_behind))]
 pub fn pack(
     label: Label,
@@ -26,7 +27,6 @@ pub fn pack(
     inner: &[u8],
     out: &mut [u8],
 ) -> usize
-    requires header { 14 ≤ length inner.now }
     requires room { length inner.now + 12 ≤ length out.old }
     ensures count { result ≡ length (packed label ttl cword vlan inner.now) }
     ensures octets { out.new ≡ packed label ttl cword vlan inner.now ++ drop result out.old }
