@@ -20,7 +20,6 @@ pub fn packet_of(
     binding: &Binding,
     frame: &[u8],
 ) -> Result<Octets, NoMemory>
-    requires header { 14 ≤ length frame.now }
     ensures { IfOk result (λ octets. octets ≡ packet_of offer.now binding.now frame.now) }
 {
     let mut out = vec![in alloc; 0u8; frame.len() + 12]?;

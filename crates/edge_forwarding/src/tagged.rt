@@ -1,5 +1,5 @@
 //! Frames as they leave at circuits.
-ghost use Rattle.std.specs.Prelude.{◌≡◌, ◌≤◌, length, IfOk, IfSome};
+ghost use Rattle.std.specs.Prelude.{◌≡◌, IfOk, IfSome};
 ghost use Rattle.net_base.specs.trace.Frame.{dress as dressed_frame};
 
 use eth_encap::dress;
@@ -8,7 +8,6 @@ use std::alloc::Global;
 
 /// The inner frame with the tag, where there is one.
 pub fn dressed(alloc: Global, tag: Option<u16>, frame: &[u8]) -> Result<Octets, NoMemory>
-    requires header { 14 ≤ length frame.now }
     ensures { IfOk result (λ octets. octets ≡ dressed_frame tag frame.now) }
 {
     if tag.is_none() {
