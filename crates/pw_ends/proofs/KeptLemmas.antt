@@ -19,10 +19,12 @@ use Rattle.edge_model.specs.declared.end_place.EndPlace.{EndPlace}
 use Rattle.pw_ends.specs.declared.end_change.EndChange.{EndChange}
 use Rattle.pw_ends.specs.declared.end_change.EndChange.TheVariants as change
 use Rattle.pw_ends.specs.Changes.{changed, changed_in}
-use Rattle.pw_ends.specs.Ends.{HasKind, IsIdle}
-use Rattle.pw_ends.specs.Kept.{AreApart, AreKept, Differ, IsOwned, OwnApart, OwnTheirs, count_owned, freed_one, left_label, one_owned, own_of}
+use Rattle.pw_ends.specs.Ends.{EndLists, HasKind, IsIdle, end_in, no_place, place_of}
+use Rattle.pw_ends.specs.Kept.{AreApart, AreKept, Differ, IsOwned, IsOwner, OwnApart, OwnTheirs, count_owned, freed_one, left_label, one_owned, own_of, segment_of}
 use Rattle.pw_ends.specs.Owned.{AreEarlier, OwnedList, with_owner, without_one}
 use Rattle.pw_ends.proofs.OwnerLemmas.{all_at, differ_sym, index_changed, index_count, index_earlier, index_issued, index_opened, set_same}
+use Rattle.pw_ends.proofs.SegmentLemmas.{owner_at, owners_changed, owners_issued, owners_none}
+use Rattle.pw_ends.proofs.SlotLemmas.{seen_at}
 
 -- ---- counting
 
@@ -280,6 +282,13 @@ own_at [] slot = refl
 own_at (e ∷ es) zero = refl
 own_at (e ∷ es) (suc slot) = own_at es slot
 
+-- the label space has what the end of a slot owns as the label of its segment and side
+pub owner_seen : (lists : EndLists) (index : OwnedList) (slot : ℕ) → AreKept lists.places lists.ends lists.labels index → slot < length lists.places → IsOwner lists.labels.owners (place_of lists slot) (own_label (end_in lists slot).local)
+owner_seen lists index slot kept within =
+    let short : slot < length (map own_of lists.ends) = subst (λ (n : ℕ). slot < n) (sym (own_count lists.ends ∙ kept.count)) within in
+    let own : get_or (map own_of lists.ends) slot None ≡ own_label (end_in lists slot).local = own_at lists.ends slot ∙ ap own_of (sym (seen_at lists slot kept.apart kept.count within)) in
+    subst (IsOwner lists.labels.owners (place_of lists slot)) own (owner_at lists.labels.owners lists.places (map own_of lists.ends) slot kept.owners within short)
+
 -- after a change the ends own what is left in the label space
 theirs_changed : (own_list : List (Option ℕ)) (labels : LabelNumbers) (slot : ℕ) (before after : Option ℕ) → OwnTheirs own_list labels → slot < length own_list → get_or own_list slot None ≡ before → (after ≡ before) ⊎ (after ≡ None) → OwnTheirs (set own_list slot after) (freed_one (left_label before after) labels)
 theirs_changed own_list labels slot None None theirs within at either = rw (set_same own_list slot None None within (sym at)) theirs
@@ -314,6 +323,7 @@ kept_changed c places ends labels index slot kept within =
     let short_own : slot < length (map own_of ends) = subst (λ (n : ℕ). slot < n) (sym (own_count ends)) short in
     let now : get_or (changed_in (changed c) slot ends) slot fresh ≡ changed c old = set_at ends slot (changed c old) short in
     let theirs = theirs_changed (map own_of ends) labels slot (own_of old) (own_of (changed c old)) kept.owns short_own (own_at ends slot) (stays_or_none c old) in
+    let owners = owners_changed (map own_of ends) labels places slot (own_of old) (own_of (changed c old)) kept.owns.apart kept.owners short_own (own_at ends slot) (stays_or_none c old) in
     let slots = index_changed (map own_of ends) labels index slot (own_of old) (own_of (changed c old)) kept.slots kept.owns.apart short_own (own_at ends slot) (stays_or_none c old) in
     let owned : map own_of (changed_in (changed c) slot ends) ≡ set (map own_of ends) slot (own_of (changed c old)) = map-set own_of ends slot (changed c old) in
     rw now (record {
@@ -321,6 +331,7 @@ kept_changed c places ends labels index slot kept within =
       apart = kept.apart;
       room = freed_room (left_label (own_of old) (own_of (changed c old))) labels ∙ kept.room;
       owns = rw owned theirs;
+      owners = rw owned owners;
       kinds = all_set (λ (end : EndState). HasKind end.local) ends slot (changed c old) kept.kinds (kind_stays c old (ends_at (λ (end : EndState). HasKind end.local) ends slot kept.kinds short));
       slots = rw owned slots;
     })
@@ -375,8 +386,8 @@ issued_room key side labels = elim (cases_Bool (labels.next == numbers_end)) [
 ]
 
 pub kept_issued : (key : SegKey) (side : ℕ) (told : Told) (places : List EndPlace) (ends : List EndState) (labels : LabelNumbers) (index : OwnedList) (slot : ℕ) → AreKept places ends labels index → slot < length places → IsIdle (get_or ends slot fresh).local → told.kind ≤ 0x7FFF → (labels.next == numbers_end) ≡ false →
-    AreKept places (changed_in (advertised labels.next told) slot ends) (issued key side labels) (with_owner labels.next slot index)
-kept_issued key side told places ends labels index slot kept within idle kind left =
+    key ≡ segment_of (get_or places slot no_place) → side ≡ (get_or places slot no_place).side → AreKept places (changed_in (advertised labels.next told) slot ends) (issued key side labels) (with_owner labels.next slot index)
+kept_issued key side told places ends labels index slot kept within idle kind left of_segment of_side =
     let old : EndState = get_or ends slot fresh in
     let new : EndState = advertised labels.next told old in
     let short : slot < length ends = subst (λ (n : ℕ). slot < n) (sym kept.count) within in
@@ -389,16 +400,18 @@ kept_issued key side told places ends labels index slot kept within idle kind le
       apart = kept.apart;
       room = issued_room key side labels ∙ kept.room;
       owns = rw owned (theirs_issued (map own_of ends) labels slot key side kept.owns short_own none left);
+      owners = rw (owned, of_segment, of_side) (owners_issued (map own_of ends) labels places slot kept.owners kept.owns.given left);
       kinds = all_set (λ (end : EndState). HasKind end.local) ends slot new kept.kinds (advertised_kind labels.next told old.local idle kind);
       slots = rw owned (index_issued (map own_of ends) labels index slot key side kept.slots (all_next labels.owners labels.next (map own_of ends) kept.owns.given kept.owns.owned) (index_larger places ends labels index kept) short_own none left);
     }
 
 -- the same of what the code has
 pub kept_advertised : (key : SegKey) (side : ℕ) (told : Told) (places : List EndPlace) (ends now : List EndState) (labels left : LabelNumbers) (index more : OwnedList) (slot label : ℕ) → AreKept places ends labels index → slot < length places → IsIdle (get_or ends slot fresh).local → told.kind ≤ 0x7FFF → labels.next ≢ numbers_end → label ≡ labels.next
-    → now ≡ changed_in (advertised label told) slot ends → left ≡ issued key side labels → more ≡ with_owner label slot index → AreKept places now left more
-kept_advertised key side told places ends now labels left index more slot label kept within idle kind some same is issued_is with_is =
+    → now ≡ changed_in (advertised label told) slot ends → left ≡ issued key side labels → more ≡ with_owner label slot index → key ≡ segment_of (get_or places slot no_place) → side ≡ (get_or places slot no_place).side
+    → AreKept places now left more
+kept_advertised key side told places ends now labels left index more slot label kept within idle kind some same is issued_is with_is of_segment of_side =
     let on : (labels.next == numbers_end) ≡ false = grind (arith, nat_tests, some) in
-    rw (issued_is, with_is, is, same) (kept_issued key side told places ends labels index slot kept within idle kind on)
+    rw (issued_is, with_is, is, same) (kept_issued key side told places ends labels index slot kept within idle kind on of_segment of_side)
 
 pub next_issued : (key : SegKey) (side : ℕ) (labels left : LabelNumbers) → labels.next ≢ numbers_end → left ≡ issued key side labels → left.next ≡ labels.next + 1
 next_issued key side labels left some is =
@@ -442,6 +455,7 @@ kept_opened places first apart = record {
     few = omega arith;
     given = below_none first;
   });
+  owners = rw (none_own (length places)) (owners_none [] places (length places));
   kinds = none_kind (length places);
   slots = rw (none_own (length places)) (index_opened (length places) (length places) first);
 }

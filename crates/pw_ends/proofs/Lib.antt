@@ -6,4 +6,5 @@ pub mod OrderLemmas
 pub mod OwnedLemmas
 pub mod OwnerLemmas
 pub mod PlaceLemmas
+pub mod SegmentLemmas
 pub mod SlotLemmas

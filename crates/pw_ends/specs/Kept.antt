@@ -1,6 +1,7 @@
 -- What always holds of the pseudowire ends of an edge.
 use Rattle.std.specs.Prelude.{◌≡◌, ◌≢◌, ◌≤◌, ◌+◌, ℕ, false, List, [], ◌∷◌, Option, Some, None, length, map, position}
 use Rattle.std.specs.List.{AllByRecursion}
+use Rattle.net_base.specs.declared.plan.places.SegKey.{SegKey}
 use Rattle.label_space.specs.declared.label_owner.LabelOwner.{LabelOwner}
 use Rattle.label_space.specs.Labels.{AreBelow, LabelNumbers, freed, owner_of}
 use Rattle.pw_signalling.specs.End.{EndState}
@@ -22,6 +23,20 @@ own_of end = own_label end.local
 abbrev pub IsOwned : List LabelOwner → Option ℕ → Type 0
 IsOwned owners None = Unit {0}
 IsOwned owners (Some label) = owner_of label owners ≢ None
+
+-- the segment that an end belongs to
+abbrev pub segment_of : EndPlace → SegKey
+segment_of place = record { wire = place.wire; segment = place.segment }
+
+-- the label space says that the end at a place owns the label: the end at that side of that segment
+abbrev pub IsOwner : List LabelOwner → EndPlace → Option ℕ → Type 0
+IsOwner owners place None = Unit {0}
+IsOwner owners place (Some label) = owner_of label owners ≡ Some (segment_of place, place.side)
+
+abbrev pub AreOwners : List LabelOwner → List EndPlace → List (Option ℕ) → Type 0
+AreOwners owners [] owns = Unit {0}
+AreOwners owners (place ∷ places) [] = Unit {0}
+AreOwners owners (place ∷ places) (own ∷ others) = IsOwner owners place own × AreOwners owners places others
 
 -- two ends own no label both
 abbrev pub Differ : Option ℕ → Option ℕ → Type 0
@@ -56,12 +71,13 @@ pub record IsIndex (owns : List (Option ℕ)) (labels : LabelNumbers) (index : O
   pub slot : (label : ℕ) → slot_of label index.labels ≡ position (is_label label) owns
 
 -- each end has a place of its own, the label space has room for as many labels, and the ends own its labels, by which they are
--- found
+-- found; the label space has each of them as the label of the end's own segment and side
 pub record AreKept (places : List EndPlace) (ends : List EndState) (labels : LabelNumbers) (index : OwnedList) : Type 0 where
   pub count : length ends ≡ length places
   pub apart : AreApart places
   pub room : labels.room ≡ length places
   pub owns : OwnTheirs (map own_of ends) labels
+  pub owners : AreOwners labels.owners places (map own_of ends)
   pub kinds : AllByRecursion (λ end. HasKind end.local) ends
   pub slots : IsIndex (map own_of ends) labels index
 

@@ -2,7 +2,7 @@
 ghost use Rattle.std.specs.Prelude.{◌≡◌, ◌≤◌, ◌<◌, ◌+◌, ◌==◌, ◌↔◌, ℕ, Some, None, [], length, map, position, replicate, slice_get, option_and_then, option_map, IfOk, IfSome};
 ghost use Rattle.std.specs.List.{find, list_any};
 ghost use Rattle.net_base.specs.plan.Accepted.{IsChecked};
-ghost use Rattle.label_space.specs.Labels.{numbers_end, opened};
+ghost use Rattle.label_space.specs.Labels.{numbers_end, opened, owner_of};
 ghost use Rattle.pw_signalling.specs.AnyEnd.{end_of};
 ghost use Rattle.pw_signalling.specs.End.{fresh};
 ghost use Rattle.pw_signalling.specs.Laws.{own_label};
@@ -11,7 +11,7 @@ ghost use Rattle.edge_model.specs.EndPlaces.{end_places, is_end_of_wire, is_name
 ghost use Rattle.edge_model.specs.Packet.{advertises_label};
 ghost use Rattle.edge_model.specs.State.{first_label};
 ghost use Rattle.pw_ends.specs.Changes.{changed, changed_each, changed_in};
-ghost use Rattle.pw_ends.specs.Kept.{AreApart, freed_one, left_label};
+ghost use Rattle.pw_ends.specs.Kept.{AreApart, IsOwner, freed_one, left_label, segment_of};
 ghost use Rattle.pw_ends.specs.Owned.{without_one};
 ghost use Rattle.pw_ends.specs.Ends.{HasKind, IsIdle, changed_at, changed_beside, end_in, end_there, owns_label, place_of, renewed_of, seen_ends};
 
@@ -151,12 +151,14 @@ impl PwEnds {
         self.places.terminal(wire)
     }
 
-    /// The end of a slot. Where it advertises, its PW type has 15 bits.
+    /// The end of a slot. Where it advertises, its PW type has 15 bits. A label that it owns is that of its segment and side
+    /// in the label space.
     #[tactic(auto, using(crate::proofs::SlotLemmas::seen_at, crate::proofs::KeptLemmas::slot_within, crate::proofs::KeptLemmas::ends_at, pw_signalling::proofs::EndsLemmas::moves))]
     pub fn end(&self, slot: usize) -> &PwEnd
         requires slot { slot < length self.now.places }
         ensures end { end_of result.now ≡ end_in self.now slot }
         ensures kind { HasKind (end_in self.now slot).local }
+        ensures owner { IsOwner self.now.labels.owners (place_of self.now slot) (own_label (end_in self.now slot).local) }
     {
         &self.ends[slot]
     }
@@ -213,7 +215,8 @@ impl PwEnds {
     // ---- what an end does
 
     /// A Label Mapping with the next label and this content is put for an idle end, which then owns the label (RFC 5036
-    /// section 3.5.7). `None` exactly where no label is left, and then nothing has changed.
+    /// section 3.5.7): the label space has it as the label of the end's segment and side. `None` exactly where no label is
+    /// left, and then nothing has changed.
     #[tactic(auto, using(crate::proofs::KeptLemmas::room_for, crate::proofs::KeptLemmas::index_room, crate::proofs::KeptLemmas::index_larger, crate::proofs::KeptLemmas::slot_within, crate::proofs::KeptLemmas::next_issued, crate::proofs::SlotLemmas::seen_at))]
     pub fn advertise(&mut self, slot: usize, told: &Told) -> Option<Label>
         requires slot { slot < length self.old.places }
@@ -223,6 +226,7 @@ impl PwEnds {
         ensures none { (result ≡ None) ↔ (self.old.labels.next ≡ numbers_end) }
         ensures unchanged { result ≡ None → self.new ≡ self.old }
         ensures label { IfSome result (λ label. label ≡ self.old.labels.next) }
+        ensures owner { IfSome result (λ label. owner_of label self.new.labels.owners ≡ Some (segment_of (place_of self.old slot), (place_of self.old slot).side)) }
         ensures next { IfSome result (λ label. self.new.labels.next ≡ self.old.labels.next + 1) }
         ensures seen { IfSome result (λ label. seen_ends self.new ≡ changed_at (place_of self.old slot) (advertised label told.now) (seen_ends self.old)) }
     {

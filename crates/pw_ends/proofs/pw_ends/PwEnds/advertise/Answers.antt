@@ -3,8 +3,10 @@ use Rattle.std.proofs.Common.{◌≡◌, ◌<◌, ◌∙◌, true, false, length
 use Rattle.pw_signalling.specs.AnyEnd.{end_of}
 use Rattle.pw_signalling.specs.End.{EndState, fresh}
 use Rattle.pw_signalling.specs.Rows.{advertised}
+use Rattle.edge_model.specs.declared.end_place.EndPlace.{EndPlace}
 use Rattle.pw_ends.specs.contracts.pw_ends.PwEnds.{the_view}
 use Rattle.pw_ends.specs.Ends.{EndLists, IsIdle, changed_at, end_in, place_of, seen_ends}
+use Rattle.pw_ends.specs.Kept.{segment_of}
 use Rattle.pw_ends.proofs.KeptLemmas.{kept_advertised}
 use Rattle.pw_ends.proofs.SlotLemmas.{seen_at, seen_changed}
 use Rattle.pw_ends.proofs.pw_ends.PwEnds.advertise.Goals as goal
@@ -20,6 +22,7 @@ invariant_of-self-2 c =
     (subst (λ (l : EndLists). IsIdle (end_in l c.args.slot).local) (sym c.self.view_is) c.requires.idle) in
     kept_advertised _ _ c.args.told.now c.self.inside.places (map end_of c.self.inside.ends.items) (map end_of c.advertise_at.new.ends.items) c.self.inside.labels c.issue.new.self c.self.inside.owned c.add.new.self c.args.slot c.in-Ok.label
     c.self.invariant within idle c.requires.kind (λ last. none (c.in-Ok.ensures.no_label.1 last)) c.in-Ok.ensures.label c.advertise_at.ensures c.issue.ensures.space c.add.ensures
+    (ap segment_of c.place-place.ensures) (ap (λ (place : EndPlace). place.side) c.place-place.ensures)
 
 pub returns-clause-seen : goal.returns-clause-seen
 returns-clause-seen c =
