@@ -15,7 +15,8 @@ use Rattle.net_base.specs.plan.Places.{wire_row}
 use Rattle.net_values.specs.Label.{IsLabel}
 use Rattle.label_space.specs.Labels.{numbers_end}
 use Rattle.pw_tlvs.specs.declared.pw_status.PwStatus.{PwStatus}
-use Rattle.pw_status.specs.Status.{combined, method_by}
+use Rattle.pw_status.proofs.StatusLemmas.{combined_most}
+use Rattle.pw_status.specs.Status.{method_by}
 use Rattle.pw_signalling.specs.declared.told.Told.{Told}
 use Rattle.pw_signalling.specs.End.{EndState, Idle, Advertised}
 use Rattle.pw_signalling.specs.Rows.{advertised, telling, withdrawn}
@@ -61,10 +62,7 @@ pub record IsOwnOffer (row : WirePlan) (me : EdgeId) (place : EndPlace) (content
   pub small : Rattle.ldp_grammar.specs.Written.IsState status
 
 pub status_small : (plan : Plan) (edge : EdgeState) (place : EndPlace) → edge.bits place.wire.0 ≤ 31 → (status_to_tell plan edge place).0 < 2 ^ 32
-status_small plan edge place low = by_choice (is_not_chosen (role_at plan edge place)) where
-  by_choice : (b : Bool) → (combined (edge.bits place.wire.0) b).0 < 2 ^ 32
-  by_choice true = omega (arith, low)
-  by_choice false = omega (arith, low)
+status_small plan edge place low = omega (arith, low, combined_most (edge.bits place.wire.0) (is_not_chosen (role_at plan edge place)))
 
 wish_is : (plan : Plan) (edge : EdgeState) (me : EdgeId) (place : EndPlace) (row : WirePlan) (content : Told) → edge.me ≡ me → edge.bits place.wire.0 ≤ 31 → wire_row plan place.wire ≡ Some row → wish plan edge place ≡ Some content
     → IsOwnOffer row me place content

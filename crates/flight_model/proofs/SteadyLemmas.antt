@@ -16,6 +16,7 @@ use Rattle.net_values.specs.Label.{IsLabel}
 use Rattle.ldp_grammar.specs.declared.message.Message.{Message}
 use Rattle.ldp_grammar.specs.Written.{IsState}
 use Rattle.pw_tlvs.specs.declared.pw_status.PwStatus.{PwStatus}
+use Rattle.pw_status.proofs.StatusLemmas.{combined_most}
 use Rattle.pw_status.specs.Status.{combined}
 use Rattle.pw_signalling.specs.declared.told.Told.{Told}
 use Rattle.pw_signalling.specs.End.{EndState, Idle, Advertised}
@@ -75,8 +76,7 @@ pub record WishesOffer (edge : EdgeState) (place : EndPlace) (offer : Offer) (co
   pub is : content ≡ content_of offer status
 
 small_status : (bits : ℕ) (standby : Bool) → bits ≤ 31 → (combined bits standby).0 < 2 ^ 32
-small_status bits true few = omega (arith, few)
-small_status bits false few = omega (arith, few)
+small_status bits standby few = omega (arith, few, combined_most bits standby)
 
 pub status_small : (plan : Plan) (edge : EdgeState) (place : EndPlace) → TellsSoundly edge → (status_to_tell plan edge place).0 < 2 ^ 32
 status_small plan edge place sound = small_status (edge.bits place.wire.0) (is_not_chosen (role_at plan edge place)) (sound.bits place.wire.0)

@@ -1,5 +1,5 @@
 //! The bits of a status.
-ghost use Rattle.std.specs.Prelude.{◌≡◌, ◌≤◌};
+ghost use Rattle.std.specs.Prelude.{◌≡◌};
 ghost use Rattle.pw_status.specs.Status.{combined, is_failure, is_standby};
 
 use pw_tlvs::PwStatus;
@@ -28,10 +28,9 @@ pub fn standby(status: PwStatus) -> bool
     status.0 >> STANDBY_PLACE & 1 == 1
 }
 
-/// The status with these failure bits, at most 31, and the standby bit where it is to be set.
+/// The status with these bits, and with the standby bit too where it is to be set.
 #[tactic(auto, using(crate::proofs::StatusLemmas::or_standby))]
 pub fn combine(bits: u8, standby: bool) -> PwStatus
-    requires { bits ≤ 31 }
     ensures status { result ≡ combined bits standby }
 {
     if standby {

@@ -1,5 +1,4 @@
 //! Choices among spokes that were worked out by hand, and the statuses that follow from them.
-ghost use Rattle.std.specs.Prelude.{◌≤◌};
 
 use pw_signalling::EndRole;
 use pw_tlvs::PwStatus;
@@ -46,10 +45,8 @@ fn chooses_among_usable_spokes(rt: HostRuntime) {
     chooses(&rt, &[unusable(3), usable(3)], Some(1));
 }
 
-// An end of this role with these failure bits tells this status.
-fn tells(rt: &impl Abort, role: EndRole, bits: u8, status: u32)
-    requires { bits ≤ 31 }
-{
+// An end of this role with these bits tells this status.
+fn tells(rt: &impl Abort, role: EndRole, bits: u8, status: u32) {
     assert!(rt; status_to_tell(role, bits) == PwStatus(status));
 }
 
@@ -60,4 +57,9 @@ fn stands_by_where_it_is_not_chosen(rt: HostRuntime) {
     tells(&rt, EndRole::Chosen, 6, 0x06);
     tells(&rt, EndRole::Core, 0, 0);
     tells(&rt, EndRole::Mesh, 31, 0x1f);
+    tells(&rt, EndRole::NotChosen, 0x20, 0x20);
+    tells(&rt, EndRole::NotChosen, 0xff, 0xff);
+    tells(&rt, EndRole::NotChosen, 0xc1, 0xe1);
+    tells(&rt, EndRole::Chosen, 0xff, 0xff);
+    tells(&rt, EndRole::Core, 0x20, 0x20);
 }
