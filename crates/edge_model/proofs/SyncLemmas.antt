@@ -21,7 +21,7 @@ use Rattle.edge_model.specs.Circuit.{circuit_input, is_same, turned}
 use Rattle.edge_model.specs.Connection.{connected_input, connects, connects_between, opened_with, restart_input}
 use Rattle.edge_model.specs.declared.end_place.EndPlace.{EndPlace}
 use Rattle.edge_model.specs.declared.input.Input.{Input}
-use Rattle.edge_model.specs.declared.input.Input.TheVariants.{Connected, Octets, Lost, Restart, Tick, Frame, Packet, Wire, Circuit, Status, Priority}
+use Rattle.edge_model.specs.declared.input.Input.TheVariants.{Connected, Octets, Lost, Restart, Tick, Frame, Packet, Wire, Circuit, Status, Priority, Ping}
 use Rattle.edge_model.specs.EndPlaces.{end_places, ends_here, is_end_of_wire, passes}
 use Rattle.edge_model.specs.Ends.{end_forwards, forwards_at, is_up, wire_end}
 use Rattle.edge_model.specs.Frame.{frame_input, is_own}
@@ -203,7 +203,7 @@ module _ (plan : Plan) (told : Answers) (work : Work) (checked : IsChecked plan)
   input_synced (Status wire bits) = mended_synced (ends_here plan work.edge.me wire && not (nat_eq bits (work.edge.bits wire.0))) (changes (with_bits wire bits) work)
   input_synced (Priority wire priority) =
       mended_synced (is_own_spoke work.edge.me (wire_row plan wire) && not (nat_eq priority (work.edge.priority wire.0))) (changes (with_priority wire priority) work)
-  input_synced input = idles_synced
+  input_synced (Ping wire) = idles_synced
 
 pub step_synced : (plan : Plan) (told : Answers) (input : Input) (work : Work) → IsChecked plan → InSync plan work.edge → InSync plan (edge_step plan told input work).edge
 step_synced plan told input work checked synced = input_synced plan told work checked synced input

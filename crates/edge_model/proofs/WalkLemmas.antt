@@ -53,7 +53,7 @@ use Rattle.edge_model.specs.Circuit.{circuit_input, is_same, turned}
 use Rattle.edge_model.specs.Clear.{clears_at, clears_by, clears_wire, hears_mac_withdraw, passes_on, tells_at, tells_by, withdrawing_at}
 use Rattle.edge_model.specs.Connection.{connected_input, connects_between, lost_input, opened_with, restart_input}
 use Rattle.edge_model.specs.declared.input.Input.{Input}
-use Rattle.edge_model.specs.declared.input.Input.TheVariants.{Connected, Octets, Lost, Restart, Tick, Frame, Packet, Wire, Circuit, Status, Priority}
+use Rattle.edge_model.specs.declared.input.Input.TheVariants.{Connected, Octets, Lost, Restart, Tick, Frame, Packet, Wire, Circuit, Status, Priority, Ping}
 use Rattle.edge_model.specs.EndPlaces.{end_places, ends_here, passes}
 use Rattle.edge_model.specs.Ends.{is_up, wire_end}
 use Rattle.edge_model.specs.Frame.{copies, copy_by, frame_input, hearing, is_own, port_at, received, targets_of}
@@ -697,4 +697,4 @@ module _ (plan : Plan) (told : Answers) (R : Work → Work → Type 0) (steps : 
   step_holds (Wire wire on) work = wire_holds wire on work
   step_holds (Status wire bits) work = status_holds wire bits work
   step_holds (Priority wire priority) work = priority_holds wire priority work
-  step_holds input work = steps.idles work
+  step_holds (Ping wire) work = steps.idles work

@@ -2,7 +2,7 @@
 use Rattle.net_base.specs.declared.plan.Plan.{Plan}
 use Rattle.net_base.specs.plan.Places.{circuit_row}
 use Rattle.edge_model.specs.declared.input.Input.{Input}
-use Rattle.edge_model.specs.declared.input.Input.TheVariants.{Connected, Octets, Lost, Restart, Tick, Frame, Packet, Wire, Circuit, Status, Priority}
+use Rattle.edge_model.specs.declared.input.Input.TheVariants.{Connected, Octets, Lost, Restart, Tick, Frame, Packet, Wire, Circuit, Status, Priority, Ping}
 use Rattle.edge_model.specs.Circuit.{circuit_input}
 use Rattle.edge_model.specs.Connection.{connected_input, lost_input, restart_input}
 use Rattle.edge_model.specs.Frame.{frame_input}
@@ -12,7 +12,7 @@ use Rattle.edge_model.specs.Tick.{tick_input}
 use Rattle.edge_model.specs.Wire.{priority_input, status_input, wire_input}
 use Rattle.edge_model.specs.Work.{Work, Answers, idles}
 
--- one definition an input. Those that are to come do not apply yet
+-- A row for each input, and none for the rest. No control channel is built yet (RFC 5085), so a ping does not apply
 abbrev pub edge_step : Plan → Answers → Input → Work → Work
 edge_step plan told (Connected peer) work = connected_input plan told peer work
 edge_step plan told (Octets peer bytes) work = octets_input plan told peer bytes.now (work.edge.peering peer.0) work
@@ -25,4 +25,4 @@ edge_step plan told (Circuit circuit on) work = circuit_input plan told circuit 
 edge_step plan told (Wire wire on) work = wire_input plan told wire on work
 edge_step plan told (Status wire bits) work = status_input plan told wire bits work
 edge_step plan told (Priority wire priority) work = priority_input plan told wire priority work
-edge_step plan told input work = idles work
+edge_step plan told (Ping wire) work = idles work
