@@ -7,7 +7,7 @@ use Rattle.net_base.specs.declared.plan.places.CircuitId.{CircuitId}
 use Rattle.net_base.specs.declared.plan.places.EdgeId.{EdgeId}
 use Rattle.net_base.specs.declared.plan.places.WireId.{WireId}
 use Rattle.net_base.specs.declared.trace.event.Event.{Event}
-use Rattle.net_base.specs.declared.trace.event.Event.TheVariants.{Connect, Deliver, Lose, Restart, Tick, Frame, Arrive, Discard, Again, Wire, Circuit, Status, Priority}
+use Rattle.net_base.specs.declared.trace.event.Event.TheVariants.{Connect, Deliver, Lose, Restart, Tick, Frame, Arrive, Discard, Again, Wire, Circuit, Status, Priority, Ping}
 use Rattle.net_base.specs.plan.Places.{circuit_row}
 use Rattle.edge_model.specs.Circuit.{circuit_input}
 use Rattle.edge_model.specs.Connection.{restart_input}
@@ -200,7 +200,7 @@ module _ (plan : Plan) (P : ℕ → EdgeState → Type 0) (R : Work → Work →
   event_holds (Arrive number) network holds = arrive_holds (packet_at network number) network holds
   event_holds (Discard number) network holds = discard_holds (packet_at network number) network holds
   event_holds (Again number) network holds = again_holds (packet_at network number) network holds
-  event_holds event network holds = holds
+  event_holds (Ping me wire) network holds = holds
 
   pub after_holds : (events : List Event) (network : NetworkState) → HoldsOfEach P network → HoldsOfEach P (state_after plan network events)
   after_holds [] network holds = holds

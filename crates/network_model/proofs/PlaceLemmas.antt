@@ -7,7 +7,7 @@ use Rattle.net_base.specs.declared.plan.places.CircuitId.{CircuitId}
 use Rattle.net_base.specs.declared.plan.places.EdgeId.{EdgeId}
 use Rattle.net_base.specs.declared.plan.places.WireId.{WireId}
 use Rattle.net_base.specs.declared.trace.event.Event.{Event}
-use Rattle.net_base.specs.declared.trace.event.Event.TheVariants.{Connect, Deliver, Lose, Restart, Tick, Frame, Arrive, Discard, Again, Wire, Circuit, Status, Priority}
+use Rattle.net_base.specs.declared.trace.event.Event.TheVariants.{Connect, Deliver, Lose, Restart, Tick, Frame, Arrive, Discard, Again, Wire, Circuit, Status, Priority, Ping}
 use Rattle.net_base.specs.plan.Places.{circuit_row}
 use Rattle.edge_model.specs.Circuit.{circuit_input}
 use Rattle.edge_model.specs.Connection.{restart_input}
@@ -190,7 +190,7 @@ step_placed plan network (Priority me wire priority) placed = priority_placed pl
 step_placed plan network (Arrive number) placed = arrive_placed plan (packet_at network number) network placed
 step_placed plan network (Discard number) placed = discard_placed (packet_at network number) network placed
 step_placed plan network (Again number) placed = again_placed (packet_at network number) network placed
-step_placed plan network event placed = placed
+step_placed plan network (Ping me wire) placed = placed
 
 after_placed : (plan : Plan) (network : NetworkState) (events : List Event) → IsPlaced network → IsPlaced (state_after plan network events)
 after_placed plan network [] placed = placed

@@ -9,7 +9,7 @@ use Rattle.net_base.specs.declared.plan.places.WireId.{WireId}
 use Rattle.net_base.specs.declared.trace.entry.Entry.{Entry}
 use Rattle.net_base.specs.declared.trace.entry.Entry.TheVariants.{Left, Sent}
 use Rattle.net_base.specs.declared.trace.event.Event.{Event}
-use Rattle.net_base.specs.declared.trace.event.Event.TheVariants.{Connect, Deliver, Lose, Restart, Tick, Frame, Arrive, Discard, Again, Wire, Circuit, Status, Priority}
+use Rattle.net_base.specs.declared.trace.event.Event.TheVariants.{Connect, Deliver, Lose, Restart, Tick, Frame, Arrive, Discard, Again, Wire, Circuit, Status, Priority, Ping}
 use Rattle.net_base.specs.plan.Places.{circuit_row}
 use Rattle.edge_model.specs.Circuit.{circuit_input}
 use Rattle.edge_model.specs.Connection.{restart_input}
@@ -315,4 +315,4 @@ step_signals plan network (Frame circuit octets) other = absurd (cc (other))
 step_signals plan network (Arrive number) other = absurd (cc (other))
 step_signals plan network (Discard number) other = absurd (cc (other))
 step_signals plan network (Again number) other = absurd (cc (other))
-step_signals plan network event other = record { tells = tt; quiet = record { under_way = refl; sent = refl; entered = refl } }
+step_signals plan network (Ping me wire) other = record { tells = tt; quiet = record { under_way = refl; sent = refl; entered = refl } }

@@ -7,7 +7,7 @@ use Rattle.net_base.specs.declared.trace.drop_cause.DropCause.{DropCause}
 use Rattle.net_base.specs.declared.trace.drop_cause.DropCause.TheVariants.{Down}
 use Rattle.net_base.specs.declared.plan.wire_plan.WirePlan.{WirePlan}
 use Rattle.net_base.specs.declared.trace.event.Event.{Event}
-use Rattle.net_base.specs.declared.trace.event.Event.TheVariants.{Frame, Arrive, Discard, Again}
+use Rattle.net_base.specs.declared.trace.event.Event.TheVariants.{Connect, Deliver, Lose, Restart, Tick, Frame, Arrive, Discard, Again, Wire, Circuit, Status, Priority, Ping}
 use Rattle.net_base.specs.declared.plan.places.CircuitId.{CircuitId}
 use Rattle.net_base.specs.declared.plan.places.ServiceId.{ServiceId}
 use Rattle.net_base.specs.trace.Frame.{destination_of, source_of, goes_to_group}
@@ -41,7 +41,16 @@ spares network origin (Frame circuit octets) = true
 spares network origin (Arrive number) = true
 spares network origin (Discard number) = not (names_copy network origin number)
 spares network origin (Again number) = not (names_copy network origin number)
-spares network origin event = false
+spares network origin (Connect from to) = false
+spares network origin (Deliver from to count) = false
+spares network origin (Lose me peer) = false
+spares network origin (Restart me) = false
+spares network origin Tick = false
+spares network origin (Wire me wire on) = false
+spares network origin (Circuit circuit on) = false
+spares network origin (Status me wire bits) = false
+spares network origin (Priority me wire priority) = false
+spares network origin (Ping me wire) = false
 
 abbrev pub all_spare : Plan → ℕ → NetworkState → List Event → Bool
 all_spare plan origin network [] = true
