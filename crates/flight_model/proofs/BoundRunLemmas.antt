@@ -10,7 +10,7 @@ use Rattle.net_base.specs.declared.plan.places.EdgeId.{EdgeId}
 use Rattle.net_base.specs.declared.plan.places.ServiceId.{ServiceId}
 use Rattle.net_base.specs.declared.plan.wire_plan.WirePlan.{WirePlan}
 use Rattle.net_base.specs.declared.trace.event.Event.{Event}
-use Rattle.net_base.specs.declared.trace.event.Event.TheVariants.{Connect, Deliver, Lose, Restart, Tick, Frame, Arrive, Discard, Again, Wire, Circuit, Status, Priority}
+use Rattle.net_base.specs.declared.trace.event.Event.TheVariants.{Connect, Deliver, Lose, Restart, Tick, Frame, Arrive, Discard, Again, Wire, Circuit, Status, Priority, Ping}
 use Rattle.net_base.specs.plan.Accepted.{IsChecked, IsWireOf}
 use Rattle.net_base.specs.plan.Paths.{joins}
 use Rattle.net_base.specs.plan.Places.{circuit_row}
@@ -52,7 +52,7 @@ brings_bounds plan (Priority me wire priority) network checked types planned ord
 brings_bounds plan (Arrive number) network checked types planned ordered bounds = arrive_bounds plan (packet_at network number) network checked types ordered bounds
 brings_bounds plan (Discard number) network checked types planned ordered bounds = discard_bounds plan (packet_at network number) network bounds
 brings_bounds plan (Again number) network checked types planned ordered bounds = again_bounds plan (packet_at network number) network bounds
-brings_bounds plan event network checked types planned ordered bounds = bounds
+brings_bounds plan (Ping me wire) network checked types planned ordered bounds = bounds
 
 after_bounds : (plan : Plan) (events : List Event) (network : NetworkState) → IsChecked plan → HasTypes plan → All (IsEventOf plan) events → IsOrdered plan network → Bounds plan network → Bounds plan (state_after plan network events)
 after_bounds plan [] network checked types planned ordered bounds = bounds

@@ -5,7 +5,7 @@ use Rattle.std.specs.List.{All}
 use Rattle.net_base.specs.declared.plan.Plan.{Plan}
 use Rattle.net_base.specs.declared.plan.edge_plan.EdgePlan.{EdgePlan}
 use Rattle.net_base.specs.declared.trace.event.Event.{Event}
-use Rattle.net_base.specs.declared.trace.event.Event.TheVariants.{Connect, Deliver, Lose, Restart, Tick, Frame, Arrive, Discard, Again, Wire, Circuit, Status, Priority}
+use Rattle.net_base.specs.declared.trace.event.Event.TheVariants.{Connect, Deliver, Lose, Restart, Tick, Frame, Arrive, Discard, Again, Wire, Circuit, Status, Priority, Ping}
 use Rattle.net_base.specs.plan.Accepted.{IsChecked, IsEdge}
 use Rattle.net_base.specs.plan.Places.{circuit_row}
 use Rattle.net_base.specs.plan.Planned.{IsEventOf}
@@ -44,7 +44,7 @@ brings_stays plan (Priority me wire priority) network checked types planned orde
 brings_stays plan (Arrive number) network checked types planned ordered ruled = arrive_event_ruled plan checked types (packet_at network number) network ruled
 brings_stays plan (Discard number) network checked types planned ordered ruled = discard_event_ruled plan checked types (packet_at network number) network ruled
 brings_stays plan (Again number) network checked types planned ordered ruled = again_event_ruled plan checked types (packet_at network number) network ruled
-brings_stays plan event network checked types planned ordered ruled = stays_ruled plan network ruled
+brings_stays plan (Ping me wire) network checked types planned ordered ruled = stays_ruled plan network ruled
 
 pub brings_ruled : (plan : Plan) (event : Event) (network : NetworkState) → IsChecked plan → HasTypes plan → IsEventOf plan event → IsOrdered plan network → IsRuledNetwork plan network → IsRuledNetwork plan (brings plan event network).state
 brings_ruled plan event network checked types planned ordered ruled = (brings_stays plan event network checked types planned ordered ruled).ruled

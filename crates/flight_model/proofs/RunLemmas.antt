@@ -4,7 +4,7 @@ use Rattle.std.proofs.lemmas.Bool.{cases_Bool, eqb-true}
 use Rattle.net_base.specs.declared.plan.Plan.{Plan}
 use Rattle.net_values.specs.declared.addr.Addr.{Addr}
 use Rattle.net_base.specs.declared.trace.event.Event.{Event}
-use Rattle.net_base.specs.declared.trace.event.Event.TheVariants.{Connect, Deliver, Lose, Restart, Tick, Frame, Arrive, Discard, Again, Wire, Circuit, Status, Priority}
+use Rattle.net_base.specs.declared.trace.event.Event.TheVariants.{Connect, Deliver, Lose, Restart, Tick, Frame, Arrive, Discard, Again, Wire, Circuit, Status, Priority, Ping}
 use Rattle.std.proofs.lemmas.List.Elements.{All-head, All-tail}
 use Rattle.std.specs.List.{All}
 use Rattle.label_space.specs.Labels.{numbers_end}
@@ -29,7 +29,7 @@ use Rattle.flight_model.specs.Messages.{octets_of_all}
 use Rattle.flight_model.specs.Pair.{ArePaired}
 use Rattle.flight_model.proofs.CircuitLemmas.{again_keeps, arrive_keeps, circuit_keeps, discard_keeps, frame_keeps, priority_keeps, status_keeps, wire_keeps}
 use Rattle.flight_model.proofs.ConnectLemmas.{connect_keeps}
-use Rattle.flight_model.proofs.EventLemmas.{deliver_keeps, lose_keeps, restart_keeps, tick_keeps}
+use Rattle.flight_model.proofs.EventLemmas.{deliver_keeps, idle_keeps, lose_keeps, restart_keeps, tick_keeps}
 use Rattle.flight_model.proofs.PipeLemmas.{good-append}
 use Rattle.flight_model.proofs.PlanLemmas.{row_holds}
 use Rattle.flight_model.proofs.RowLemmas.{clash, quiet}
@@ -50,7 +50,7 @@ brings_keeps plan (Priority me wire priority) network checked types planned orde
 brings_keeps plan (Arrive number) network checked types planned ordered = arrive_keeps plan (packet_at network number) network checked types ordered
 brings_keeps plan (Discard number) network checked types planned ordered = discard_keeps plan (packet_at network number) network ordered
 brings_keeps plan (Again number) network checked types planned ordered = again_keeps plan (packet_at network number) network ordered
-brings_keeps plan event network checked types planned ordered = record { ordered = ordered; good = tt }
+brings_keeps plan (Ping me wire) network checked types planned ordered = idle_keeps plan network ordered
 
 pub step_keeps : (plan : Plan) (event : Event) (network : NetworkState) → IsChecked plan → HasTypes plan → IsEventOf plan event → IsOrdered plan network → KeepsOrder plan (step plan network event)
 step_keeps plan event network checked types planned ordered =
