@@ -4,7 +4,7 @@ use Rattle.std.specs.List.{list_any}
 use Rattle.net_base.specs.declared.plan.Plan.{Plan}
 use Rattle.net_base.specs.declared.plan.places.ServiceId.{ServiceId}
 use Rattle.net_base.specs.declared.trace.event.Event.{Event}
-use Rattle.net_base.specs.declared.trace.event.Event.TheVariants.{Frame, Arrive, Discard, Again}
+use Rattle.net_base.specs.declared.trace.event.Event.TheVariants.{Connect, Deliver, Lose, Restart, Tick, Frame, Arrive, Discard, Again, Wire, Circuit, Status, Priority, Ping}
 use Rattle.net_base.specs.plan.Places.{wire_row}
 use Rattle.network_model.specs.declared.packet.Packet.{Packet}
 use Rattle.network_model.specs.Calm.{is_calm}
@@ -33,4 +33,13 @@ is_of_stretch (Frame circuit octets) = true
 is_of_stretch (Arrive number) = true
 is_of_stretch (Discard number) = true
 is_of_stretch (Again number) = true
-is_of_stretch event = false
+is_of_stretch (Connect from to) = false
+is_of_stretch (Deliver from to count) = false
+is_of_stretch (Lose me peer) = false
+is_of_stretch (Restart me) = false
+is_of_stretch Tick = false
+is_of_stretch (Wire me wire on) = false
+is_of_stretch (Circuit circuit on) = false
+is_of_stretch (Status me wire bits) = false
+is_of_stretch (Priority me wire priority) = false
+is_of_stretch (Ping me wire) = false
