@@ -29,7 +29,7 @@ use Rattle.net_base.specs.declared.plan.places.CircuitId.{CircuitId}
 use Rattle.net_base.specs.declared.plan.places.EdgeId.{EdgeId}
 use Rattle.net_base.specs.declared.plan.places.WireId.{WireId}
 use Rattle.net_base.specs.declared.plan.wire_plan.WirePlan.{WirePlan}
-use Rattle.net_base.specs.declared.trace.event.Event.TheVariants.{Again, Arrive, Circuit, Connect, Deliver, Discard, Frame, Lose, Priority, Restart, Status, Tick, Wire}
+use Rattle.net_base.specs.declared.trace.event.Event.TheVariants.{Again, Arrive, Circuit, Connect, Deliver, Discard, Frame, Lose, Ping, Priority, Restart, Status, Tick, Wire}
 use Rattle.net_base.specs.declared.trace.event.Event.{Event}
 use Rattle.net_base.specs.declared.trace.state_name.Reason.TheVariants as reason
 use Rattle.net_base.specs.plan.Accepted.{IsChecked}
@@ -324,7 +324,7 @@ module _ (plan : Plan) (checked : IsChecked plan) where
   event_holds (Arrive number) network holds = arrive_holds (packet_at network number) network holds
   event_holds (Discard number) network holds = discard_holds (packet_at network number) network holds
   event_holds (Again number) network holds = again_holds (packet_at network number) network holds
-  event_holds event network holds = holds
+  event_holds (Ping me wire) network holds = holds
 
   after_holds : (events : List Event) (network : NetworkState) → HoldsOfEach (IsOn plan) network → HoldsOfEach (IsOn plan) (state_after plan network events)
   after_holds [] network holds = holds
