@@ -28,7 +28,7 @@ use Rattle.network_model.proofs.RunLemmas.{after-append, along-append}
 use Rattle.flight_model.specs.Laws.{IsRun, network_after}
 use Rattle.flood_model.specs.Due.{awaits, has_short_paths}
 use Rattle.flood_model.specs.Laws.{RunsShareSites}
-use Rattle.flood_model.specs.Shares.{CopiesHavePassed, HasPassed, IsLeftOut, IsSharedOut, SharesSites, port_of, times_ahead}
+use Rattle.flood_model.specs.Shares.{CopiesHavePassed, HasPassed, IsLeftOut, IsSharedOut, SharesEach, SharesSites, port_of, times_ahead}
 use Rattle.flood_model.proofs.CountLemmas.{awaited}
 use Rattle.flood_model.proofs.ServeLemmas.{IsNear, IsNearCopy, Serves}
 use Rattle.flood_model.proofs.SoFarLemmas.{early, served_so_far}
@@ -153,3 +153,19 @@ module _ (plan : Plan) (events : List Event) (is_run : IsRun plan events) (short
 
 pub runs_share_sites : RunsShareSites
 runs_share_sites plan events run short before at octets so_far rest after service split window = shares plan events run short before at octets so_far rest after service split window
+
+-- ---- over wires of more segments
+
+passed_widens : (plan : Plan) (origin : ℕ) (packets : List Packet) → CopiesHavePassed 1 plan origin packets → CopiesHavePassed 4 plan origin packets
+passed_widens plan origin [] passed = tt
+passed_widens plan origin (packet ∷ packets) passed = (λ same row is. omega (arith, passed.0 same row is), passed_widens plan origin packets passed.1)
+
+-- where a wire has at most four segments, and so far it has one
+pub shares_widen : (plan : Plan) (events : List Event) → SharesEach 1 plan events → SharesEach 4 plan events
+shares_widen plan events each before sender octets so_far rest after service joined window =
+    let shares = each before sender octets so_far rest after service joined window in
+    record {
+      others = shares.others;
+      at_sender = shares.at_sender;
+      passed = passed_widens plan (next_origin (network_after plan before)) (network_after plan (before ++ Frame sender octets ∷ so_far)).under_way shares.passed;
+    }
