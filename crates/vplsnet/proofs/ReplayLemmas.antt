@@ -9,6 +9,7 @@ use Rattle.net_base.specs.plan.Planned.{IsEventOf}
 use Rattle.network_model.specs.State.{empty_network}
 use Rattle.flight_model.specs.Laws.{IsRun}
 use Rattle.flight_model.proofs.BoundRunLemmas.{runs_agree_after_flight, runs_settle}
+use Rattle.flight_model.proofs.ReleaseLemmas.{runs_await_releases, runs_release_unadvertised}
 use Rattle.flight_model.proofs.RuledRunLemmas.{runs_keep_label_rule, runs_keep_told_rule}
 use Rattle.flight_model.proofs.RunLemmas.{runs_come_up, runs_end_well, runs_follow_table}
 use Rattle.network_model.proofs.SplitLemmas.{run_split}
@@ -16,6 +17,7 @@ use Rattle.network_model.proofs.KnownLemmas.{run_serves_known_once}
 use Rattle.packet_model.proofs.RunLemmas.{runs_are_isolated, runs_keep_packet_rule}
 use Rattle.flood_model.specs.Due.{has_short_paths}
 use Rattle.flood_model.proofs.RunLemmas.{runs_serve_once}
+use Rattle.flood_model.proofs.ShareLemmas.{runs_share_sites, shares_widen}
 use Rattle.address_model.proofs.KnownLemmas.{runs_reach_known}
 use Rattle.address_model.proofs.PointsLemmas.{runs_keep_points}
 use Rattle.move_model.proofs.HealLemmas.{runs_heal_moves}
@@ -47,6 +49,7 @@ promises_kept plan events run short = record {
   split = run_split plan events run.checked;
   packets = λ before after joined. runs_keep_packet_rule plan before (first before after joined);
   once = once_widens 3 12 plan events (omega arith) (runs_serve_once plan events run short);
+  shared = shares_widen plan events (runs_share_sites plan events run short);
   known = run_serves_known_once plan events run.checked;
   points = runs_keep_points plan events run short;
   stations = known_widens 3 12 plan events (omega arith) (runs_reach_known plan events run short);
@@ -54,6 +57,8 @@ promises_kept plan events run short = record {
   table = λ before after joined a b. runs_follow_table plan before (first before after joined) a b;
   up = λ before after joined a b. runs_come_up plan before (first before after joined) a b;
   agree = λ before after joined a b. runs_agree_after_flight plan before (first before after joined) a b;
+  awaited = λ before after joined a b. runs_await_releases plan before (first before after joined) a b;
+  released = λ before after joined a b. runs_release_unadvertised plan before (first before after joined) a b;
   settled = λ before after joined service quiet a b. runs_settle plan before (first before after joined) service quiet a b;
   labels = λ before after joined. runs_keep_label_rule plan before (first before after joined);
   contents = λ before after joined. runs_keep_told_rule plan before (first before after joined);

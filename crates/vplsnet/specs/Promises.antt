@@ -12,7 +12,9 @@ use Rattle.network_model.specs.OnceEach.{OnceEach}
 use Rattle.network_model.specs.Run.{run}
 use Rattle.network_model.specs.State.{NetworkState}
 use Rattle.flight_model.specs.Endings.{TellGoodEnds}
+use Rattle.flight_model.specs.Releases.{AllAwaitReleases, AllReleaseUnadvertised}
 use Rattle.packet_model.specs.Carried.{KeepsPacketRule}
+use Rattle.flood_model.specs.Shares.{SharesEach}
 use Rattle.address_model.specs.Laws.{KnownAreReached, PointsLast}
 use Rattle.move_model.specs.Laws.{MovesHeal}
 use Rattle.flight_model.specs.Laws.{AgreesAfterFlight, AreSettled, BothStand, FollowsTable, IsStill, IsUp, KeepsLabelRule, KeepsToldRule, network_after}
@@ -51,6 +53,9 @@ pub record KeepsPromises (plan : Plan) (events : List Event) : Type 0 where
   pub packets : CarryFrames plan events
   -- each flooded frame reaches each site once, within twelve segments
   pub once : OnceEach 12 plan events
+  -- and at each moment before that each other site was served, or is ahead of one copy under way, which has passed four segments at
+  -- most for each wire that it crosses
+  pub shared : SharesEach 4 plan events
   -- each frame to a known station leaves by one port at most
   pub known : KnownOnce plan events
   -- learned addresses that point to the sites of their stations keep to it as frames and packets come
@@ -64,6 +69,10 @@ pub record KeepsPromises (plan : Plan) (events : List Event) : Type 0 where
   pub up : Throughout AreUpWhereStill plan events
   -- both ends of a wire come to know exactly what the other one advertises
   pub agree : Throughout (AgreeAfterFlight plan) plan events
+  -- of each label that an end withdraws the Label Withdraw is on its way, or the Label Release on its way back
+  pub awaited : Throughout (AllAwaitReleases plan) plan events
+  -- and no Label Release on its way names a label that its receiver advertises
+  pub released : Throughout (AllReleaseUnadvertised plan) plan events
   pub settled : Throughout (AreSettledWhereQuiet plan) plan events
   -- wherever a label is named it was given before, and whoever owns it is the end that it is named with
   pub labels : Throughout (KeepsLabelRule plan) plan events
