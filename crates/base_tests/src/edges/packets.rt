@@ -31,22 +31,22 @@ fn packs_a_frame(rt: HostRuntime) {
     is_packed(&rt, false, Some(9), &TAGGED);
 }
 
-// So many octets of the frame's front are packed into these octets, with VLAN ID 9 or in raw mode.
-fn is_front_packed(rt: &impl Abort, count: usize, vlan: Option<u16>, packet: &[u8]) {
+// What is no more than the frame's front is packed into these octets, with VLAN ID 9 or in raw mode.
+fn is_front_packed(rt: &impl Abort, front: &[u8], vlan: Option<u16>, packet: &[u8]) {
     let label = Label::new(16).expect(rt, "a label");
     let mut out = [0xee; 26];
-    let (front, _) = FRAME.split_at(count.min(14));
+    assert!(rt; front.len() <= 14);
     let size = pack(label, 255, false, vlan, front, &mut out);
     assert!(rt; size == packet.len() && is_front(&out, packet));
 }
 
 #[test]
 fn packs_a_frame_without_a_header(rt: HostRuntime) {
-    is_front_packed(&rt, 0, None, &[0, 1, 1, 0xff]);
-    is_front_packed(&rt, 0, Some(9), &[0, 1, 1, 0xff, 0x81, 0, 0, 9]);
-    is_front_packed(&rt, 1, Some(9), &[0, 1, 1, 0xff, 0xff, 0x81, 0, 0, 9]);
-    is_front_packed(&rt, 12, Some(9), &TAGGED[..20]);
-    is_front_packed(&rt, 13, Some(9), &TAGGED[..21]);
+    is_front_packed(&rt, &[], None, &[0, 1, 1, 0xff]);
+    is_front_packed(&rt, &[], Some(9), &[0, 1, 1, 0xff, 0x81, 0, 0, 9]);
+    is_front_packed(&rt, &[7], Some(9), &[0, 1, 1, 0xff, 7, 0x81, 0, 0, 9]);
+    is_front_packed(&rt, &FRAME[..12], Some(9), &TAGGED[..20]);
+    is_front_packed(&rt, &FRAME[..13], Some(9), &TAGGED[..21]);
 }
 
 #[test]
