@@ -1,5 +1,5 @@
 //! The shelf of the system's files.
-ghost use Rattle.std.specs.Prelude.{◌≡◌, ◌<◌, ◌≤◌, length, IfOk, IfSome};
+ghost use Rattle.std.specs.Prelude.{◌≡◌, ◌<◌, ◌≤◌, ◌↔◌, true, length, slice_get, string_bytes, IfOk, IfSome};
 ghost use Rattle.net_base.specs.outside.Outside.{HasCause, NeverFall};
 ghost use Rattle.vplsnet.specs.Files.{count_after};
 
@@ -10,7 +10,7 @@ use std::marker::Model;
 use std::rt::Files;
 use std::{fs, io};
 
-// A file that was opened, and the place of the octet that it reads next.
+// A file that was opened, the name under which it was, and the place of the octet that it reads next.
 #[derive(Drop)]
 struct Opened<F: Read + Seek + Drop> {
     name: String,
@@ -19,9 +19,19 @@ struct Opened<F: Read + Seek + Drop> {
 }
 
 impl<F: Read + Seek + Drop> Opened<F> {
-    // Reads once from the place on. What is read in order is not sought, so a pipe serves.
-    fn read_from(&mut self, from: u64, buf: &mut [u8]) -> io::Result<usize>
-        ensures { IfOk result (λ count. count ≤ length buf.new) }
+    // Whether it was opened under this name.
+    fn has_name(&self, name: &str) -> bool
+        ensures { (result ≡ true) ↔ (string_bytes self.now.name ≡ name.now) }
+    {
+        self.name.as_str() == name
+    }
+
+    // Reads once from the place on, where the file of this name is asked for. What is read in order is not sought, so a pipe
+    // serves.
+    fn read_from(&mut self, name: &str, from: u64, buf: &mut [u8]) -> io::Result<usize>
+        requires asked { string_bytes self.old.name ≡ name.now }
+        ensures bound { IfOk result (λ count. count ≤ length buf.new) }
+        ensures name { string_bytes self.new.name ≡ string_bytes self.old.name }
     {
         if from != self.at {
             self.file.seek(SeekFrom::Start(from))?;
@@ -46,15 +56,23 @@ fn read_again<F: Read>(file: &mut F, buf: &mut [u8]) -> io::Result<usize>
     Err(io::Error::from(ErrorKind::Interrupted))
 }
 
-// The place of a file among those that are open.
+// The place of the file of this name among those that are open.
 fn place_of<F: Read + Seek + Drop>(opened: &[Opened<F>], name: &str) -> Option<usize>
-    ensures { IfSome result (λ place. place < length opened.now) }
+    ensures within { IfSome result (λ place. place < length opened.now) }
+    ensures name { IfSome result (λ place. IfSome (slice_get opened.now place) (λ file. string_bytes file.name ≡ name.now)) }
 {
-    opened.iter().position(|file| file.name.as_str() == name)
+    for (place, file) in opened.iter().enumerate() {
+        if file.has_name(name) {
+            return Some(place);
+        }
+    }
+    None
 }
 
-// Opens a file, at its first octet.
-fn open_file<R: Files>(alloc: Global, files: &R, name: &str) -> io::Result<Opened<R::File>> {
+// Opens the file of this name, at its first octet.
+fn open_file<R: Files>(alloc: Global, files: &R, name: &str) -> io::Result<Opened<R::File>>
+    ensures { IfOk result (λ file. string_bytes file.name ≡ name.now) }
+{
     let file = fs::open(files, name)?;
     let name = String::from_str(alloc, name)?;
     Ok(Opened { name, file, at: 0 })
@@ -98,25 +116,27 @@ impl<R: Files> FileShelf<R> {
         ensures same { self.new ≡ self.old }
     {
         if let Some(place) = place_of(self.opened.as_slice(), name) {
-            return self.opened[place].read_from(from, buf);
+            return self.opened[place].read_from(name, from, buf);
         }
         match open_file(self.alloc, &self.files, name) {
-            Ok(file) => read_first(&mut self.opened, file, from, buf),
+            Ok(file) => read_first(&mut self.opened, file, name, from, buf),
             Err(error) => Err(error),
         }
     }
 }
 
-// Reads once from the place on, of a file that was opened just now, and keeps it open.
+// Reads once from the place on, of the file of this name, which was opened just now, and keeps it open.
 fn read_first<F: Read + Seek + Drop>(
     opened: &mut Vec<Opened<F>>,
     mut file: Opened<F>,
+    name: &str,
     from: u64,
     buf: &mut [u8],
 ) -> io::Result<usize>
+    requires asked { string_bytes file.name ≡ name.now }
     ensures { IfOk result (λ count. count ≤ length buf.new) }
 {
-    match file.read_from(from, buf) {
+    match file.read_from(name, from, buf) {
         Ok(count) => {
             opened.push(file)?;
             Ok(count)
