@@ -4,7 +4,7 @@ use Rattle.net_base.specs.declared.plan.Plan.{Plan}
 use Rattle.hvpls_spokes.specs.declared.port.Port.{Port}
 use Rattle.edge_model.specs.declared.effect.Effect.{Effect}
 use Rattle.edge_model.specs.declared.input.Input.{Input}
-use Rattle.edge_model.specs.declared.input.Input.TheVariants.{Frame, Packet, Status}
+use Rattle.edge_model.specs.declared.input.Input.TheVariants.{Connected, Octets, Lost, Restart, Tick, Frame, Packet, Wire, Circuit, Status, Priority, Ping}
 use Rattle.edge_model.specs.Local.{AllStayBehind, AllStayBeside}
 use Rattle.edge_model.specs.State.{EdgeState}
 use Rattle.edge_model.specs.Work.{Work}
@@ -18,7 +18,16 @@ IsInRange input = Unit {0}
 abbrev pub StaysLocal : Plan → EdgeState → Input → List Effect → Type 0
 StaysLocal plan edge (Frame circuit bytes) effects = AllStayBeside plan circuit bytes.now effects
 StaysLocal plan edge (Packet bytes) effects = AllStayBehind plan edge bytes.now effects
-StaysLocal plan edge input effects = Unit {0}
+StaysLocal plan edge (Connected peer) effects = Unit {0}
+StaysLocal plan edge (Octets peer bytes) effects = Unit {0}
+StaysLocal plan edge (Lost peer) effects = Unit {0}
+StaysLocal plan edge Restart effects = Unit {0}
+StaysLocal plan edge Tick effects = Unit {0}
+StaysLocal plan edge (Wire wire on) effects = Unit {0}
+StaysLocal plan edge (Circuit circuit on) effects = Unit {0}
+StaysLocal plan edge (Status wire bits) effects = Unit {0}
+StaysLocal plan edge (Priority wire priority) effects = Unit {0}
+StaysLocal plan edge (Ping wire) effects = Unit {0}
 
 -- the copy by a port, where there is one
 abbrev pub copied_by : (Port → Work → Work) → Option Port → Work → Work
