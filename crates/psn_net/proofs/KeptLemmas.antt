@@ -295,7 +295,7 @@ step_beside plan n (event.Priority me wire priority) = answer_beside me (priorit
 step_beside plan n (event.Arrive number) = arrive_beside (λ k. false) plan (packet_at n number) n
 step_beside plan n (event.Discard number) = discard_beside (λ k. false) (packet_at n number) n
 step_beside plan n (event.Again number) = again_beside (λ k. false) (packet_at n number) n
-step_beside plan n e = stays_beside (sets_to_work plan e) n
+step_beside plan n (event.Ping me wire) = stays_beside (λ k. false) n
 
 -- ---- so the index is right beside them
 

@@ -4,7 +4,7 @@ use Rattle.std.specs.Int.{bit_at}
 use Rattle.net_base.specs.declared.plan.Plan.{Plan}
 use Rattle.net_base.specs.declared.plan.circuit_plan.CircuitPlan.{CircuitPlan}
 use Rattle.net_base.specs.declared.trace.event.Event.{Event}
-use Rattle.net_base.specs.declared.trace.event.Event.TheVariants.{Connect, Deliver, Lose, Restart, Tick, Frame, Wire, Circuit, Status, Priority}
+use Rattle.net_base.specs.declared.trace.event.Event.TheVariants.{Connect, Deliver, Lose, Restart, Tick, Frame, Arrive, Discard, Again, Wire, Circuit, Status, Priority, Ping}
 use Rattle.net_base.specs.plan.Places.{circuit_row}
 use Rattle.network_model.specs.Connection.{is_deliverable}
 use Rattle.psn_net.specs.Lists.{NetLists, seen}
@@ -73,4 +73,7 @@ sets_to_work plan (Circuit circuit on) k = is_at_edge (circuit_row plan circuit)
 sets_to_work plan (Wire me wire on) k = k == me.0
 sets_to_work plan (Status me wire bits) k = k == me.0
 sets_to_work plan (Priority me wire priority) k = k == me.0
-sets_to_work plan event k = false
+sets_to_work plan (Arrive number) k = false
+sets_to_work plan (Discard number) k = false
+sets_to_work plan (Again number) k = false
+sets_to_work plan (Ping me wire) k = false

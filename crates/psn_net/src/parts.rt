@@ -6,7 +6,7 @@ ghost use Rattle.edge_model.specs.Step.{edge_step};
 ghost use Rattle.provider_edge.specs.Lists.{seen as seen_edge};
 ghost use Rattle.provider_edge.specs.Said.{AllFit};
 ghost use Rattle.provider_edge.specs.Taking.{IsInRange};
-ghost use Rattle.network_model.specs.Absorb.{begin_at, taken_all};
+ghost use Rattle.network_model.specs.Absorb.{begin_at, idle, taken_all};
 ghost use Rattle.network_model.specs.State.{at_edge, empty_network};
 ghost use Rattle.network_model.specs.Step.{brings, step};
 ghost use Rattle.psn_net.specs.Applying.{Stops};
@@ -91,7 +91,7 @@ impl Parts {
     }
 
     /// Does one event, and adds to the trace what it tells. The event names places of the plan, and its numbers are in
-    /// their ranges; a frame has at most 262,144 octets.
+    /// their ranges; a frame has at most 262,144 octets. A ping does not apply yet, and is told as idle.
     ///
     /// `TooMuch` exactly where the trace already weighs more than 268,435,456, and else `Crowded` exactly where the event may
     /// send a packet (a frame, an arrival, a repetition or a ping) and 65,536 or more are under way; network and trace are
@@ -182,8 +182,16 @@ impl Parts {
                 wire,
                 priority,
             } => self.priority(alloc, *edge, *wire, *priority),
-            _ => Ok(()),
+            Event::Ping { .. } => self.ping(),
         }
+    }
+
+    // No control channel is built yet, so a ping does not apply.
+    fn ping(&mut self) -> Result<(), NoMemory>
+        ensures keeps { Keeps self.old self.new }
+        ensures step { OnOk result (HasStepped self.old self.new (idle (seen self.old))) }
+    {
+        self.tell(Entry::Idle)
     }
 
     // Adds an entry to the trace.

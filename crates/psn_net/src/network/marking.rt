@@ -31,7 +31,8 @@ pub(crate) fn mark_after(index: &mut DeliveryIndex, parts: &Parts, event: &Event
         Event::Frame { circuit, .. } | Event::Circuit { circuit, .. } => {
             mark(index, parts, parts.edge_of(*circuit));
         }
-        _ => {}
+        Event::Arrive { .. } | Event::Discard { .. } | Event::Again { .. } => {}
+        Event::Ping { .. } => {}
     }
 }
 

@@ -36,3 +36,6 @@ returns-in-Status-clause-step c = brought _ _ _ _ _ c.in-Status.is c.status.ensu
 
 pub returns-in-Priority-clause-step : goal.returns-in-Priority-clause-step
 returns-in-Priority-clause-step c = brought _ _ _ _ _ c.in-Priority.is c.priority.ensures.step
+
+pub returns-in-Ping-clause-step : goal.returns-in-Ping-clause-step
+returns-in-Ping-clause-step c = brought _ _ _ _ _ c.in-Ping.is c.ping.ensures.step
