@@ -58,6 +58,8 @@ pub mod TalkLemmas
 pub mod TellLemmas
 pub mod ToldLemmas
 pub mod UniqueLemmas
+pub mod UpExamples
+pub mod WholeMessageLemmas
 pub mod WorkBindingLemmas
 pub mod WorkLemmas
 pub mod WorkingLemmas
