@@ -1,4 +1,5 @@
 pub mod BehindLemmas
+mod Examples
 pub mod HeardLemmas
 pub mod KnownArrivalLemmas
 pub mod KnownBridgeLemmas

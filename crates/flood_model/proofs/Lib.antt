@@ -6,6 +6,7 @@ pub mod CopyLemmas
 pub mod CountLemmas
 pub mod DueLemmas
 pub mod EntryLemmas
+mod Examples
 pub mod FarLemmas
 pub mod HomeLemmas
 pub mod HopLemmas

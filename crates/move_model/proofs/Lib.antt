@@ -19,3 +19,4 @@ pub mod MendedHealLemmas
 pub mod StartHealLemmas
 pub mod EndHealLemmas
 pub mod HealLemmas
+mod Examples
