@@ -1,7 +1,7 @@
 -- Learned addresses over a spoke and a mesh wire: a stretch may begin where all is up, and a frame to a station whose site is known
 -- enters in it, so it reaches its site once.
-use Rattle.std.proofs.Common.{◌≡◌, ◌++◌, ◌==◌, ◌≤◌, ◌∙◌, ℕ, suc, zero, Bool, true, false, List, [], ◌∷◌, Option, Some, Result, Ok, Err, refl, sym, ap, subst, arith}
-use Rattle.std.specs.Prelude.{◌&&◌, codes, if◌then◌else◌}
+use Rattle.std.proofs.Common.{◌≡◌, ◌++◌, ◌==◌, ◌≤◌, ◌∙◌, ℕ, suc, zero, Bool, true, false, List, [], ◌∷◌, Some, Result, Ok, Err, refl, sym, ap, subst, arith}
+use Rattle.std.specs.Prelude.{codes, if◌then◌else◌}
 use Rattle.std.specs.List.{AllByRecursion, list_all}
 use Rattle.std.specs.Str.{bytes_eq}
 use Rattle.net_base.specs.declared.plan.Plan.{Plan}
@@ -18,7 +18,6 @@ use Rattle.net_base.specs.trace.Isolated.{inner_at}
 use Rattle.net_values.specs.Mac.{is_group_address}
 use Rattle.edge_model.specs.State.{EdgeState}
 use Rattle.edge_model.proofs.LocalLemmas.{and_left, and_right}
-use Rattle.network_model.specs.Calm.{is_calm}
 use Rattle.network_model.specs.Frame.{next_origin}
 use Rattle.network_model.specs.KnownOnce.{known_to}
 use Rattle.network_model.specs.Reach.{is_circuit_on, is_site}
@@ -29,9 +28,9 @@ use Rattle.network_model.specs.Window.{all_spare, has_copies}
 use Rattle.flight_model.specs.Laws.{network_after}
 use Rattle.flight_model.proofs.NameLemmas.{same_number}
 use Rattle.flight_model.proofs.WholeMessageLemmas.{Moment, Happens, StandAll, along_is, are_right, events_of, stand-append, told_along}
-use Rattle.flight_model.proofs.UpExamples.{a_circuit, away_up, broadcast, calm_up, circuit, comes_up, comes_up_stands, evaluated, floods, is_flooded, is_run, is_up, one_service, reached, triangle}
+use Rattle.flight_model.proofs.UpExamples.{a_circuit, away_up, calm_up, circuit, comes_up, comes_up_stands, evaluated, floods, is_flooded, is_run, is_up, one_service, reached, triangle}
 use Rattle.address_model.specs.Known.{EntersForSite, ReachesSite}
-use Rattle.address_model.specs.Points.{Points, PointsToSite}
+use Rattle.address_model.specs.Points.{PointsToSite}
 use Rattle.address_model.specs.Sites.{CameFromSite, OneSite, Sites}
 use Rattle.address_model.specs.Stretch.{StartsRight, has_packets_of}
 use Rattle.address_model.proofs.KnownLemmas.{runs_reach_known}

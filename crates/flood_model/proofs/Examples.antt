@@ -1,18 +1,16 @@
 -- A broadcast over a spoke and a mesh wire: the premises of its window are met, and so each site gets it once.
-use Rattle.std.proofs.Common.{◌≡◌, ◌++◌, ◌&&◌, ◌==◌, ◌∙◌, ℕ, true, false, List, [], ◌∷◌, Some, Ok, not, refl, ap, subst, arith}
-use Rattle.std.specs.Prelude.{if◌then◌else◌}
+use Rattle.std.proofs.Common.{◌≡◌, ◌++◌, ◌∙◌, ℕ, true, false, List, [], ◌∷◌, Some, Ok, refl, ap, arith}
 use Rattle.net_base.specs.declared.plan.Plan.{Plan}
 use Rattle.net_base.specs.declared.plan.places.CircuitId.{CircuitId}
 use Rattle.net_base.specs.declared.plan.places.ServiceId.{ServiceId}
-use Rattle.net_base.specs.declared.trace.entry.Entry.{Entry}
 use Rattle.net_base.specs.declared.trace.event.Event.{Event}
 use Rattle.net_base.specs.declared.trace.event.Event.TheVariants.{Arrive, Frame}
 use Rattle.net_base.specs.plan.Places.{service_of}
 use Rattle.net_base.specs.trace.Isolated.{inner_at}
 use Rattle.network_model.specs.Calm.{is_calm}
 use Rattle.network_model.specs.Frame.{next_origin}
-use Rattle.network_model.specs.OnceEach.{LeftWithin, ServedOnce, times_left}
-use Rattle.network_model.specs.Reach.{is_circuit_on, is_site}
+use Rattle.network_model.specs.OnceEach.{ServedOnce}
+use Rattle.network_model.specs.Reach.{is_circuit_on}
 use Rattle.network_model.specs.Run.{run, state_after}
 use Rattle.network_model.specs.State.{NetworkState, empty_network}
 use Rattle.network_model.specs.Step.{step}

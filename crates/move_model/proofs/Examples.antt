@@ -1,11 +1,9 @@
 -- A move that heals: once a station behind a spoke is known, its edge moves to another spoke. What was learned points to its site
 -- before the move, and again once the service is calm.
-use Rattle.std.proofs.Common.{◌≡◌, ◌++◌, ◌∙◌, ◌≤◌, ◌<◌, ◌^◌, ℕ, suc, zero, true, false, List, [], ◌∷◌, Some, refl, sym, ap, subst, arith}
+use Rattle.std.proofs.Common.{◌≡◌, ◌++◌, ◌∙◌, ◌≤◌, ℕ, suc, zero, true, false, List, [], ◌∷◌, refl, sym, ap, subst, arith}
 use Rattle.std.specs.Prelude.{if◌then◌else◌}
 use Rattle.std.specs.List.{AllByRecursion}
 use Rattle.std.specs.Str.{bytes_eq}
-use Rattle.net_base.specs.declared.plan.places.EdgeId.{EdgeId}
-use Rattle.net_base.specs.declared.plan.places.WireId.{WireId}
 use Rattle.net_base.specs.declared.trace.event.Event.{Event}
 use Rattle.net_base.specs.declared.trace.event.Event.TheVariants.{Arrive, Frame, Priority}
 use Rattle.hvpls_spokes.specs.declared.port.Port.TheVariants as port
@@ -19,7 +17,6 @@ use Rattle.flight_model.proofs.UpExamples.{address, circuit, clearing_is, clears
 use Rattle.address_model.specs.Points.{Points, PointsToSite}
 use Rattle.address_model.specs.Sites.{Sites}
 use Rattle.address_model.specs.Stretch.{StartsRight, has_packets_of}
-use Rattle.move_model.specs.Moves.{is_delivery, is_move}
 use Rattle.move_model.proofs.HealLemmas.{runs_heal_moves}
 
 -- the station 2:0:0:0:0:1 is at the spoke edge, and every other one at the second core edge
