@@ -52,14 +52,16 @@ const LOSES_A_SPOKE: [Step; 6] = [
     Step::Over(0),
 ];
 
-// A priority applies at the spoke edge alone, and where it is another one. The answer is flooded from where the station was
-// forgotten, and finds it over the new spoke.
-const MOVES: [Step; 17] = [
+// The service is calm before the move, and nothing is under way. A priority applies at the spoke edge alone, and where it is another
+// one. The answer is flooded from where the station was forgotten, and finds it over the new spoke.
+const MOVES: [Step; 19] = [
     Step::Connect(4, 1),
     Step::Settle,
     Step::Frame(4, BROADCAST),
     Step::Flow(5),
     Step::Left(1, "/1/2/2/2//3"),
+    Step::UnderWay(0),
+    Step::Calm(true),
     Step::Priority(0, 20),
     Step::Idle(true),
     Step::Priority(4, 10),
