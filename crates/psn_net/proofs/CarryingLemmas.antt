@@ -1,5 +1,5 @@
 -- The ends of wires at their terminal edges, by the rows of the plan.
-use Rattle.std.proofs.Common.{◌≡◌, ◌<◌, ◌≤◌, ◌+◌, ◌++◌, ◌∙◌, ◌&&◌, ◌||◌, ℕ, zero, suc, Bool, true, false, List, [], ◌∷◌, Option, Some, None, IfSome, cond, get_or, length, slice_get, slice_index_or, nat_eq, nat_lt, refl, sym, ap, subst, arith, inl, inr}
+use Rattle.std.proofs.Common.{◌≡◌, ◌<◌, ◌≤◌, ◌+◌, ◌++◌, ◌∙◌, ◌&&◌, ◌||◌, Bor, ℕ, zero, suc, Bool, true, false, List, [], ◌∷◌, Option, Some, None, IfSome, cond, get_or, length, slice_get, slice_index_or, nat_eq, nat_lt, refl, sym, ap, subst, arith, inl, inr}
 use Rattle.std.specs.Prelude.{is_some}
 use Rattle.std.specs.List.{list_all, list_any}
 use Rattle.std.proofs.lemmas.Bool.{and_parts, and_from, cases_Bool, eq-eqb, or_left, or_right}
@@ -56,15 +56,31 @@ first_within plan wire row first checked is at = path_first plan row.path first 
 pub last_within : (plan : Plan) (wire : ℕ) (row : WirePlan) (last : EdgeId) → IsChecked plan → slice_get plan.wires wire ≡ Some row → last_edge row.path ≡ Some last → last.0 < length plan.edges
 last_within plan wire row last checked is at = path_last plan row.path last (row_of plan wire row checked is).edges at
 
+same_default : (xs : List EdgeLists) (i : ℕ) (d e : EdgeLists) → i < length xs → slice_index_or xs i d ≡ slice_index_or xs i e
+same_default [] i d e below = absurd (omega arith)
+same_default (x ∷ xs) zero d e below = refl
+same_default (x ∷ xs) (suc i) d e below = same_default xs i d e (omega arith)
+
 -- an edge of the network is over the plan of the network
 pub planned_at : (n : NetLists) (edge : ℕ) (found : EdgeLists) → IsNetwork n → edge < length n.plan.edges → found ≡ slice_index_or n.edges edge found → found.plan ≡ n.plan
 planned_at n edge found is within at =
     let below : edge < length n.edges = omega (arith, is.count) in
-    ap (λ (e : EdgeLists). e.plan) (at ∙ same_default n.edges edge found (no_edge n.plan edge) below) ∙ is.planned edge below where
-      same_default : (xs : List EdgeLists) (i : ℕ) (d e : EdgeLists) → i < length xs → slice_index_or xs i d ≡ slice_index_or xs i e
-      same_default [] i d e below = absurd (omega arith)
-      same_default (x ∷ xs) zero d e below = refl
-      same_default (x ∷ xs) (suc i) d e below = same_default xs i d e (omega arith)
+    ap (λ (e : EdgeLists). e.plan) (at ∙ same_default n.edges edge found (no_edge n.plan edge) below) ∙ is.planned edge below
+
+-- an edge that is lent is over the plan of the network, and has the place that was asked for
+pub lent_planned : (n : NetLists) (id : EdgeId) (lent : Option (Bor EdgeLists)) → IsNetwork n → is_some lent ≡ nat_lt id.0 (length n.edges)
+    → IfSome lent (λ edge. edge.now ≡ slice_index_or n.edges id.0 edge.now) → IfSome lent (λ edge. edge.now.plan ≡ n.plan)
+lent_planned n id None is some at = tt
+lent_planned n id (Some edge) is some at =
+    let below : id.0 < length n.edges = grind (arith, nat_tests, some) in
+    planned_at n id.0 edge.now is (omega (arith, below, is.count)) at
+
+pub lent_placed : (n : NetLists) (id : EdgeId) (lent : Option (Bor EdgeLists)) → IsNetwork n → is_some lent ≡ nat_lt id.0 (length n.edges)
+    → IfSome lent (λ edge. edge.now ≡ slice_index_or n.edges id.0 edge.now) → IfSome lent (λ edge. edge.now.me ≡ id)
+lent_placed n id None is some at = tt
+lent_placed n id (Some edge) is some at =
+    let below : id.0 < length n.edges = grind (arith, nat_tests, some) in
+    ap (λ (e : EdgeLists). e.me) (at ∙ same_default n.edges id.0 edge.now (no_edge n.plan id.0) below) ∙ is.placed id.0
 
 -- ---- the terminal edges of a path
 
