@@ -34,7 +34,6 @@ use Rattle.pw_ends.specs.Ends.{end_in, place_of}
 use Rattle.provider_edge.specs.Control.{ControlLists, IsControl, KeepsPlan, Rest, at_control, controlled}
 use Rattle.edge_forwarding.specs.Forwarding.{ForwardingLists, KeepsForwarding, domain_of, entries_of, open_ports, with_forwarding}
 use Rattle.peer_dialogue.specs.Peering.{at_edge}
-use Rattle.provider_edge.specs.Taking.{copied_by}
 use Rattle.provider_edge.proofs.ForwardLemmas.{controlled_forwarding, learned_read}
 use Rattle.edge_forwarding.proofs.OpenLemmas.{same_tests}
 use Rattle.peer_dialogue.proofs.SpeakerLemmas.{told_last}
@@ -107,12 +106,6 @@ copy_some c told came frame rest slot end calls out x some is =
     ∙ ap (λ (e : Option EndPlace). sends_copy c.plan told came frame e (at_control c rest calls out)) (sym some)))
 
 -- ---- the copy by a port
-
-pub copied_none : (plan : Plan) (told : Answers) (came : Arrival) (frame : List ℕ) (found : Option Port) (work : Work) → found ≡ None → work ≡ copied_by (copy_by plan told came frame) found work
-copied_none plan told came frame found work none = sym (ap (λ (x : Option Port). copied_by (copy_by plan told came frame) x work) none)
-
-pub copied_some : (plan : Plan) (told : Answers) (came : Arrival) (frame : List ℕ) (found : Option Port) (x : Port) (work next : Work) → found ≡ Some x → next ≡ copy_by plan told came frame x work → next ≡ copied_by (copy_by plan told came frame) found work
-copied_some plan told came frame found x work next some is = is ∙ ap (λ (o : Option Port). copied_by (copy_by plan told came frame) o work) (sym some)
 
 pub copied_circuit : (plan : Plan) (told : Answers) (came : Arrival) (frame : List ℕ) (x : Port) (circuit : CircuitId) (edge : EdgeState) (calls : List LinkCall) (out given : List Effect) → x ≡ port.Circuit circuit
     → given ≡ out ++ Left circuit (dress (tag_of plan circuit) frame) ∷ []

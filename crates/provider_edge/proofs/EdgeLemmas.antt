@@ -158,13 +158,13 @@ unheld xs k within = view_at [] xs k [] k within ∙ ap (λ (b : Bool). cond b [
 -- ---- inputs
 
 -- what was done before the edge mends
-pub mended : (e mid now : EdgeLists) (told : Answers) (mid_calls new : List LinkCall) (out list : List Effect) (idle : Bool) (work : Work) → idle ≡ false → Keeps e mid
+pub mended : (e mid now : EdgeLists) (told : Answers) (mid_calls new : List LinkCall) (out : List Effect) (effects : Effects) (work : Work) → effects.idle ≡ false → Keeps e mid
     → at_edge (seen mid) mid_calls out ≡ work
-    → at_edge (seen now) new list ≡ mends mid.plan told (at_edge (seen mid) mid_calls out)
-    → worked now new (record { idle = idle; list = list }) ≡ mends e.plan told work
+    → at_edge (seen now) new effects.list ≡ mends mid.plan told (at_edge (seen mid) mid_calls out)
+    → worked now new effects ≡ mends e.plan told work
 unfolding worked at_edge
-mended e mid now told mid_calls new out list idle work fresh keeps is mends_now =
-    ap (λ (b : Bool). record { edge = seen now; calls = new; effects = list; idle = b }) fresh
+mended e mid now told mid_calls new out effects work fresh keeps is mends_now =
+    ap (λ (b : Bool). record { edge = seen now; calls = new; effects = effects.list; idle = b }) fresh
     ∙ (mends_now
     ∙ (ap (λ (p : Plan). mends p told (record { edge = seen mid; calls = mid_calls; effects = out; idle = false })) keeps.plan
     ∙ ap (mends e.plan told) is))
@@ -173,9 +173,9 @@ pub begun : (edge : EdgeState) (calls : List LinkCall) → at_edge edge calls []
 unfolding at_edge
 begun edge calls = refl
 
-pub given_out : (e : EdgeLists) (calls : List LinkCall) (list : List Effect) (idle : Bool) → idle ≡ false → worked e calls (record { idle = idle; list = list }) ≡ at_edge (seen e) calls list
+pub given_out : (e : EdgeLists) (calls : List LinkCall) (effects : Effects) → effects.idle ≡ false → worked e calls effects ≡ at_edge (seen e) calls effects.list
 unfolding worked at_edge
-given_out e calls list idle fresh = ap (λ (b : Bool). record { edge = seen e; calls = calls; effects = list; idle = b }) fresh
+given_out e calls effects fresh = ap (λ (b : Bool). record { edge = seen e; calls = calls; effects = effects.list; idle = b }) fresh
 
 not_there : (e : EdgeLists) (calls : List LinkCall) → worked e calls (record { idle = true; list = [] }) ≡ idles (beginning (seen e) calls)
 unfolding worked idles

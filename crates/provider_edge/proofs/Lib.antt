@@ -1,4 +1,5 @@
 pub mod ActLemmas
+pub mod AtWorkLemmas
 pub mod BridgeLemmas
 pub mod ClearLemmas
 pub mod ControlLemmas

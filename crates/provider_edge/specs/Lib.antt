@@ -1,3 +1,4 @@
+pub mod AtWork
 pub mod Control
 pub mod EndOf
 pub mod Invariant

@@ -29,6 +29,7 @@ mod spokes;
 mod wire;
 mod withdraw;
 
+use crate::parts::Parts;
 use crate::spokes::{Spokes, priorities};
 use edge_forwarding::Forwarding;
 use net_base::{EdgeId, NoMemory, Plan, StateName};
@@ -116,22 +117,22 @@ impl Control {
         ensures { IfOk result (λ control. IsNewControl plan.value me control) }
     {
         match forwarding_over(alloc, &plan, me) {
-            Ok(forwarding) => Control::over(alloc, plan, me, ends, spokes, forwarding),
+            Ok(forwarding) => {
+                let parts = Parts {
+                    ends,
+                    spokes,
+                    forwarding,
+                };
+                Control::over(alloc, plan, me, parts)
+            }
             Err(fault) => Err(fault),
         }
     }
 
-    // The control of an edge over these ends, spokes and bridges, which have taken no input.
-    fn over(
-        alloc: Global,
-        plan: Rc<Plan>,
-        me: EdgeId,
-        ends: PwEnds,
-        spokes: Spokes,
-        forwarding: Forwarding,
-    ) -> Result<Control, NoMemory>
+    // The control of an edge over these parts, which have taken no input.
+    fn over(alloc: Global, plan: Rc<Plan>, me: EdgeId, parts: Parts) -> Result<Control, NoMemory>
         requires checked { IsChecked plan.value }
-        requires new { AreNewParts plan.value me ends spokes forwarding }
+        requires new { AreNewParts plan.value me parts.ends parts.spokes parts.forwarding }
         ensures { IfOk result (λ control. IsNewControl plan.value me control) }
     {
         match first_lists(alloc, &plan) {
@@ -139,12 +140,12 @@ impl Control {
                 plan,
                 me,
                 dialogues: lists.dialogues,
-                ends,
+                ends: parts.ends,
                 wires_on: lists.wires_on,
                 bits: lists.bits,
                 priorities: lists.priorities,
-                spokes,
-                forwarding,
+                spokes: parts.spokes,
+                forwarding: parts.forwarding,
             }),
             Err(fault) => Err(fault),
         }

@@ -1,7 +1,6 @@
 //! One provider edge.
-ghost use Rattle.std.specs.Prelude.{◌≡◌, ◌<◌, ◌≤◌, ◌↔◌, ◌⊎◌, List, Some, None, true, false, [], length, replicate, slice_index_or, IfOk, IfErr, IfSome, IsNone, IsErrOf, OnOk};
+ghost use Rattle.std.specs.Prelude.{◌≡◌, ◌<◌, ◌≤◌, ◌↔◌, ◌⊎◌, Some, None, true, false, [], length, replicate, slice_index_or, IfOk, IfErr, IfSome, IsNone, IsErrOf, OnOk};
 ghost use Rattle.std.specs.List.{find};
-ghost use Rattle.net_base.specs.declared.outside.link_call.LinkCall.{LinkCall};
 ghost use Rattle.net_base.specs.plan.Accepted.{IsChecked};
 ghost use Rattle.net_base.specs.plan.Places.{service_row};
 ghost use Rattle.hvpls_spokes.specs.Port.{ports_of};
@@ -13,6 +12,7 @@ ghost use Rattle.edge_model.specs.Step.{edge_step};
 ghost use Rattle.edge_model.specs.Synced.{InSync};
 ghost use Rattle.edge_model.specs.Work.{Agrees, Answers, GoesOn, beginning};
 ghost use Rattle.edge_forwarding.specs.Domain.{age_of};
+ghost use Rattle.provider_edge.specs.AtWork.{EdgeTakes, worked_at};
 ghost use Rattle.provider_edge.specs.EndOf.{is_of_segment};
 ghost use Rattle.provider_edge.specs.Lists.{Keeps, seen, worked};
 ghost use Rattle.peer_dialogue.specs.Peering.{held_of, session_name};
@@ -28,6 +28,7 @@ mod tick;
 mod wire;
 
 use crate::EdgeStop;
+use crate::at_work::AtWork;
 use crate::control::Control;
 use crate::quiet::nothing;
 use edge_model::{Effects, Input};
@@ -156,48 +157,46 @@ impl Edge {
             → worked self.new (L.calls link.new) effects ≡ edge_step self.old.plan told input.entry (beginning (seen self.old) (L.calls link.old))) }
     {
         let mut effects = nothing(alloc);
-        match self.work_into(alloc, input, link, &mut effects) {
-            Ok(()) => Ok(effects),
-            Err(fault) => Err(fault),
-        }
+        let mut work = AtWork {
+            alloc,
+            link,
+            effects: &mut effects,
+        };
+        self.work_into(input, &mut work)?;
+        Ok(effects)
     }
 
-    // The same, where nothing was given out on the input before.
+    // The same with what the edge works with, where nothing was given out on the input before.
     fn work_into<L: Link>(
         &mut self,
-        alloc: Global,
         input: Input<'_>,
-        link: &mut L,
-        effects: &mut Effects,
+        work: &mut AtWork<'_, L>,
     ) -> Result<(), NoMemory>
         requires range { IsInRange input }
         requires working { self.old.stopped ≡ true }
         requires synced { InSync self.old.plan (seen self.old) }
-        requires fresh { effects.old ≡ record { idle = false; list = [] } }
-        ensures keeps { Keeps self.old self.new }
-        ensures calls { GoesOn (L.calls link.old) (L.calls link.new) }
-        ensures step { OnOk result ((told : Answers) → Agrees told (L.calls link.new)
-            → worked self.new (L.calls link.new) effects.new ≡ edge_step self.old.plan told input.entry (beginning (seen self.old) (L.calls link.old))) }
+        requires fresh { work.old.effects.now ≡ record { idle = false; list = [] } }
+        ensures goes { EdgeTakes L.calls self.old work.old self.new work.new }
+        ensures step { OnOk result ((told : Answers) → Agrees told (L.calls work.new.link.now)
+            → worked_at L.calls self.new work.new ≡ edge_step self.old.plan told input.entry (beginning (seen self.old) (L.calls work.old.link.now))) }
     {
         match input {
-            Input::Connected { peer } => self.connected(alloc, peer, link, effects),
-            Input::Octets { peer, bytes } => self.octets(alloc, peer, bytes, link, effects),
-            Input::Lost { peer } => self.lost(alloc, peer, link, effects),
+            Input::Connected { peer } => self.connected(peer, work),
+            Input::Octets { peer, bytes } => self.octets(peer, bytes, work),
+            Input::Lost { peer } => self.lost(peer, work),
             Input::Restart => {
                 self.restart();
                 Ok(())
             }
-            Input::Tick => self.tick(alloc, link, effects),
-            Input::Frame { circuit, bytes } => self.frame(alloc, circuit, bytes, link, effects),
-            Input::Packet { bytes } => self.packet(alloc, bytes, link, effects),
-            Input::Circuit { circuit, on } => self.circuit(alloc, circuit, on, link, effects),
-            Input::Wire { wire, on } => self.wire(alloc, wire, on, link, effects),
-            Input::Status { wire, bits } => self.status(alloc, wire, bits, link, effects),
-            Input::Priority { wire, priority } => {
-                self.priority(alloc, wire, priority, link, effects)
-            }
+            Input::Tick => self.tick(work),
+            Input::Frame { circuit, bytes } => self.frame(circuit, bytes, work),
+            Input::Packet { bytes } => self.packet(bytes, work),
+            Input::Circuit { circuit, on } => self.circuit(circuit, on, work),
+            Input::Wire { wire, on } => self.wire(wire, on, work),
+            Input::Status { wire, bits } => self.status(wire, bits, work),
+            Input::Priority { wire, priority } => { self.priority(wire, priority, work) }
             Input::Ping { .. } => {
-                effects.idle = true;
+                work.effects.idle = true;
                 Ok(())
             }
         }

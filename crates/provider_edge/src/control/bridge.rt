@@ -13,11 +13,15 @@ ghost use Rattle.edge_model.specs.Send.{sends, sends_copy, sends_under};
 ghost use Rattle.edge_model.specs.Synced.{InSync};
 ghost use Rattle.edge_model.specs.Work.{Agrees, Answers, GoesOn};
 ghost use Rattle.pw_ends.specs.Ends.{end_in, place_of};
-ghost use Rattle.provider_edge.specs.Control.{KeepsPlan, Rest, at_control, controlled};
+ghost use Rattle.provider_edge.specs.AtWork.{WorkGoes, Works, at_work};
+ghost use Rattle.provider_edge.specs.Control.{KeepsPlan, Rest, controlled};
 ghost use Rattle.edge_forwarding.specs.Forwarding.{open_ports};
 ghost use Rattle.provider_edge.specs.Taking.{copied_by};
 
 use super::Control;
+use crate::at_work::AtWork;
+use crate::egress::Egress;
+use crate::ingress::Ingress;
 use crate::quiet::drop_for;
 use edge_forwarding::{dressed, packet_of};
 use edge_model::Effect;
@@ -31,57 +35,52 @@ use std::alloc::Global;
 
 impl Control {
     /// What came by a port of a service, and was read: what has a fault is dropped, and teaches nothing.
-    pub fn receive<L: Link>(
+    pub fn bridge_read<L: Link>(
         &mut self,
-        alloc: Global,
-        came: Arrival,
-        service: ServiceId,
-        port: Option<u16>,
+        ingress: Ingress,
         read: Result<Vec<u8>, FrameFault>,
-        link: &mut L,
-        out: &mut List<Effect>,
+        work: &mut AtWork<'_, L>,
     ) -> Result<(), NoMemory>
-        requires service { service.0 < length self.old.plan.services }
+        requires service { ingress.service.0 < length self.old.plan.services }
         requires synced { (rest : Rest) → InSync self.old.plan (controlled self.old rest) }
-        requires on { IfSome port (λ p. open_ports self.old.forwarding service p ≡ true) }
+        requires on { IfSome ingress.port (λ p. open_ports self.old.forwarding ingress.service p ≡ true) }
         requires header { IfOk read (λ frame. 14 ≤ length frame.items) }
-        ensures keeps { KeepsPlan self.old self.new }
-        ensures calls { GoesOn (L.calls link.old) (L.calls link.new) }
-        ensures step { OnOk result ((told : Answers) (rest : Rest) (formed : Result (List ℕ) Cause) → Agrees told (L.calls link.new)
+        ensures goes { Works L.calls self.old work.old self.new work.new }
+        ensures step { OnOk result ((told : Answers) (rest : Rest) (formed : Result (List ℕ) Cause) → Agrees told (L.calls work.new.link.now)
             → MatchResult read (λ frame. formed ≡ Ok frame.items) (λ fault. formed ≡ Err (cause_of fault))
-            → at_control self.new rest (L.calls link.new) out.new ≡ received self.old.plan told came service port formed (at_control self.old rest (L.calls link.old) out.old)) }
+            → at_work L.calls self.new rest work.new ≡ received self.old.plan told ingress.came ingress.service ingress.port formed (at_work L.calls self.old rest work.old)) }
     {
         match read {
-            Ok(frame) => self.bridge_frame(alloc, came, service, port, frame.as_slice(), link, out),
-            Err(fault) => drop_for(fault.cause(), out),
+            Ok(frame) => self.bridge_frame(ingress, frame.as_slice(), work),
+            Err(fault) => drop_for(fault.cause(), &mut work.effects.list),
         }
     }
 
     // The bridge of a service hears an inner frame by a port, and then its copies go out.
     fn bridge_frame<L: Link>(
         &mut self,
-        alloc: Global,
-        came: Arrival,
-        service: ServiceId,
-        port: Option<u16>,
+        ingress: Ingress,
         frame: &[u8],
-        link: &mut L,
-        out: &mut List<Effect>,
+        work: &mut AtWork<'_, L>,
     ) -> Result<(), NoMemory>
-        requires service { service.0 < length self.old.plan.services }
+        requires service { ingress.service.0 < length self.old.plan.services }
         requires synced { (rest : Rest) → InSync self.old.plan (controlled self.old rest) }
-        requires on { IfSome port (λ p. open_ports self.old.forwarding service p ≡ true) }
+        requires on { IfSome ingress.port (λ p. open_ports self.old.forwarding ingress.service p ≡ true) }
         requires header { 14 ≤ length frame.now }
-        ensures keeps { KeepsPlan self.old self.new }
-        ensures calls { GoesOn (L.calls link.old) (L.calls link.new) }
-        ensures step { OnOk result ((told : Answers) (rest : Rest) → Agrees told (L.calls link.new)
-            → at_control self.new rest (L.calls link.new) out.new ≡ forwarded self.old.plan told came service frame.now port (at_control self.old rest (L.calls link.old) out.old)) }
+        ensures goes { Works L.calls self.old work.old self.new work.new }
+        ensures step { OnOk result ((told : Answers) (rest : Rest) → Agrees told (L.calls work.new.link.now)
+            → at_work L.calls self.new rest work.new ≡ forwarded self.old.plan told ingress.came ingress.service frame.now ingress.port (at_work L.calls self.old rest work.old)) }
     {
-        let Some(arrival) = port else {
+        let Some(arrival) = ingress.port else {
             return Ok(());
         };
-        let targets = self.hear_frame(arrival, service, frame);
-        self.put_copies(alloc, came, service, &targets, frame, link, out)
+        let targets = self.hear_frame(arrival, ingress.service, frame);
+        let egress = Egress {
+            came: ingress.came,
+            targets: &targets,
+            frame,
+        };
+        self.put_copies(ingress.service, &egress, work)
     }
 
     // The bridge of a service hears an inner frame by a port that forwards, and decides on the targets.
@@ -100,23 +99,19 @@ impl Control {
     // The copies of an inner frame by those ports of a service that are targets, in port order.
     fn put_copies<L: Link>(
         &self,
-        alloc: Global,
-        came: Arrival,
         service: ServiceId,
-        targets: &PortSet,
-        frame: &[u8],
-        link: &mut L,
-        out: &mut List<Effect>,
+        egress: &Egress<'_>,
+        work: &mut AtWork<'_, L>,
     ) -> Result<(), NoMemory>
         requires service { service.0 < length self.now.plan.services }
-        requires header { 14 ≤ length frame.now }
-        ensures calls { GoesOn (L.calls link.old) (L.calls link.new) }
-        ensures step { OnOk result ((told : Answers) (rest : Rest) → Agrees told (L.calls link.new)
-            → at_control self.now rest (L.calls link.new) out.new
-            ≡ copies (has targets.now) (copy_by self.now.plan told came frame.now) 0 (ports_of self.now.plan service self.now.me) (at_control self.now rest (L.calls link.old) out.old)) }
+        requires header { 14 ≤ length egress.now.frame.now }
+        ensures goes { WorkGoes L.calls work.old work.new }
+        ensures step { OnOk result ((told : Answers) (rest : Rest) → Agrees told (L.calls work.new.link.now)
+            → at_work L.calls self.now rest work.new
+            ≡ copies (has egress.now.targets.now) (copy_by self.now.plan told egress.now.came egress.now.frame.now) 0 (ports_of self.now.plan service self.now.me) (at_work L.calls self.now rest work.old)) }
     {
         match self.ports(service) {
-            Some(ports) => self.put_each_copy(alloc, came, ports, targets, frame, link, out),
+            Some(ports) => self.put_each_copy(ports, egress, work),
             None => Ok(()),
         }
     }
@@ -133,22 +128,18 @@ impl Control {
     // The copies by those of the ports that are targets, in port order.
     fn put_each_copy<L: Link>(
         &self,
-        alloc: Global,
-        came: Arrival,
         ports: &Ports,
-        targets: &PortSet,
-        frame: &[u8],
-        link: &mut L,
-        out: &mut List<Effect>,
+        egress: &Egress<'_>,
+        work: &mut AtWork<'_, L>,
     ) -> Result<(), NoMemory>
-        requires header { 14 ≤ length frame.now }
-        ensures calls { GoesOn (L.calls link.old) (L.calls link.new) }
-        ensures step { OnOk result ((told : Answers) (rest : Rest) → Agrees told (L.calls link.new)
-            → at_control self.now rest (L.calls link.new) out.new
-            ≡ copies (has targets.now) (copy_by self.now.plan told came frame.now) 0 ports.now (at_control self.now rest (L.calls link.old) out.old)) }
+        requires header { 14 ≤ length egress.now.frame.now }
+        ensures goes { WorkGoes L.calls work.old work.new }
+        ensures step { OnOk result ((told : Answers) (rest : Rest) → Agrees told (L.calls work.new.link.now)
+            → at_work L.calls self.now rest work.new
+            ≡ copies (has egress.now.targets.now) (copy_by self.now.plan told egress.now.came egress.now.frame.now) 0 ports.now (at_work L.calls self.now rest work.old)) }
     {
         for port in 0..ports.len() {
-            self.put_copy_at(alloc, came, ports, targets, port, frame, link, out)?;
+            self.put_copy_at(ports, port, egress, work)?;
         }
         Ok(())
     }
@@ -156,68 +147,49 @@ impl Control {
     // The copy by the port of a number, where that is a target.
     fn put_copy_at<L: Link>(
         &self,
-        alloc: Global,
-        came: Arrival,
         ports: &Ports,
-        targets: &PortSet,
         port: u16,
-        frame: &[u8],
-        link: &mut L,
-        out: &mut List<Effect>,
+        egress: &Egress<'_>,
+        work: &mut AtWork<'_, L>,
     ) -> Result<(), NoMemory>
         requires port { port < 512 }
-        requires header { 14 ≤ length frame.now }
-        ensures calls { GoesOn (L.calls link.old) (L.calls link.new) }
-        ensures step { OnOk result ((told : Answers) (rest : Rest) → Agrees told (L.calls link.new)
-            → at_control self.now rest (L.calls link.new) out.new
-            ≡ (if has targets.now port then copied_by (copy_by self.now.plan told came frame.now) (slice_get ports.now port) (at_control self.now rest (L.calls link.old) out.old) else at_control self.now rest (L.calls link.old) out.old)) }
+        requires header { 14 ≤ length egress.now.frame.now }
+        ensures goes { WorkGoes L.calls work.old work.new }
+        ensures step { OnOk result ((told : Answers) (rest : Rest) → Agrees told (L.calls work.new.link.now)
+            → at_work L.calls self.now rest work.new
+            ≡ (if has egress.now.targets.now port then copied_by (copy_by self.now.plan told egress.now.came egress.now.frame.now) (slice_get ports.now port) (at_work L.calls self.now rest work.old) else at_work L.calls self.now rest work.old)) }
     {
-        if !targets.contains(port) {
+        if !egress.targets.contains(port) {
             return Ok(());
         }
-        self.put_copy(alloc, came, ports.get(port), frame, link, out)
+        match ports.get(port) {
+            Some(port) => self.put_copy(egress.came, port, egress.frame, work),
+            None => Ok(()),
+        }
     }
 
     // The copy by a port: at a circuit the frame with the circuit's tag, and on a wire a packet.
     fn put_copy<L: Link>(
         &self,
-        alloc: Global,
-        came: Arrival,
-        port: Option<Port>,
-        frame: &[u8],
-        link: &mut L,
-        out: &mut List<Effect>,
-    ) -> Result<(), NoMemory>
-        requires header { 14 ≤ length frame.now }
-        ensures calls { GoesOn (L.calls link.old) (L.calls link.new) }
-        ensures step { OnOk result ((told : Answers) (rest : Rest) → Agrees told (L.calls link.new)
-            → at_control self.now rest (L.calls link.new) out.new ≡ copied_by (copy_by self.now.plan told came frame.now) port (at_control self.now rest (L.calls link.old) out.old)) }
-    {
-        match port {
-            Some(port) => self.put_copy_by(alloc, came, port, frame, link, out),
-            None => Ok(()),
-        }
-    }
-
-    // The same by a port that is there.
-    fn put_copy_by<L: Link>(
-        &self,
-        alloc: Global,
         came: Arrival,
         port: Port,
         frame: &[u8],
-        link: &mut L,
-        out: &mut List<Effect>,
+        work: &mut AtWork<'_, L>,
     ) -> Result<(), NoMemory>
         requires header { 14 ≤ length frame.now }
-        ensures calls { GoesOn (L.calls link.old) (L.calls link.new) }
-        ensures step { OnOk result ((told : Answers) (rest : Rest) → Agrees told (L.calls link.new)
-            → at_control self.now rest (L.calls link.new) out.new ≡ copy_by self.now.plan told came frame.now port (at_control self.now rest (L.calls link.old) out.old)) }
+        ensures goes { WorkGoes L.calls work.old work.new }
+        ensures step { OnOk result ((told : Answers) (rest : Rest) → Agrees told (L.calls work.new.link.now)
+            → at_work L.calls self.now rest work.new ≡ copy_by self.now.plan told came frame.now port (at_work L.calls self.now rest work.old)) }
     {
         match port {
-            Port::Circuit(circuit) => self.leave(alloc, circuit, frame, out),
-            Port::Mesh(wire) => self.send_copy(alloc, came, wire, frame, link, out),
-            Port::Spoke(wire) => self.send_copy(alloc, came, wire, frame, link, out),
+            Port::Circuit(circuit) => self.leave(
+                work.alloc,
+                circuit,
+                frame,
+                &mut work.effects.list,
+            ),
+            Port::Mesh(wire) => self.send_copy(came, wire, frame, work),
+            Port::Spoke(wire) => self.send_copy(came, wire, frame, work),
         }
     }
 
@@ -249,21 +221,19 @@ impl Control {
     // A copy is sent on a wire of which the edge is a terminal edge.
     fn send_copy<L: Link>(
         &self,
-        alloc: Global,
         came: Arrival,
         wire: WireId,
         frame: &[u8],
-        link: &mut L,
-        out: &mut List<Effect>,
+        work: &mut AtWork<'_, L>,
     ) -> Result<(), NoMemory>
         requires header { 14 ≤ length frame.now }
-        ensures calls { GoesOn (L.calls link.old) (L.calls link.new) }
-        ensures step { OnOk result ((told : Answers) (rest : Rest) → Agrees told (L.calls link.new)
-            → at_control self.now rest (L.calls link.new) out.new
-            ≡ sends_copy self.now.plan told came frame.now (wire_end self.now.plan self.now.me wire) (at_control self.now rest (L.calls link.old) out.old)) }
+        ensures goes { WorkGoes L.calls work.old work.new }
+        ensures step { OnOk result ((told : Answers) (rest : Rest) → Agrees told (L.calls work.new.link.now)
+            → at_work L.calls self.now rest work.new
+            ≡ sends_copy self.now.plan told came frame.now (wire_end self.now.plan self.now.me wire) (at_work L.calls self.now rest work.old)) }
     {
         match self.ends.terminal(wire) {
-            Some(slot) => self.send_by(alloc, slot, came, frame, link, out),
+            Some(slot) => self.send_by(slot, came, frame, work),
             None => Ok(()),
         }
     }
@@ -271,19 +241,17 @@ impl Control {
     // A copy is sent by the end of a slot, under the label that the peer advertises; nothing is where the end holds none.
     fn send_by<L: Link>(
         &self,
-        alloc: Global,
         slot: usize,
         came: Arrival,
         frame: &[u8],
-        link: &mut L,
-        out: &mut List<Effect>,
+        work: &mut AtWork<'_, L>,
     ) -> Result<(), NoMemory>
         requires slot { slot < length self.now.ends.places }
         requires header { 14 ≤ length frame.now }
-        ensures calls { GoesOn (L.calls link.old) (L.calls link.new) }
-        ensures step { OnOk result ((told : Answers) (rest : Rest) → Agrees told (L.calls link.new)
-            → at_control self.now rest (L.calls link.new) out.new
-            ≡ sends_under told came frame.now self.now.me (place_of self.now.ends slot) (wire_row self.now.plan (place_of self.now.ends slot).wire) (end_in self.now.ends slot).remote (at_control self.now rest (L.calls link.old) out.old)) }
+        ensures goes { WorkGoes L.calls work.old work.new }
+        ensures step { OnOk result ((told : Answers) (rest : Rest) → Agrees told (L.calls work.new.link.now)
+            → at_work L.calls self.now rest work.new
+            ≡ sends_under told came frame.now self.now.me (place_of self.now.ends slot) (wire_row self.now.plan (place_of self.now.ends slot).wire) (end_in self.now.ends slot).remote (at_work L.calls self.now rest work.old)) }
     {
         let place = self.place_at(slot);
         let Some(row) = self.plan.wires.get(place.wire.0 as usize) else {
@@ -292,8 +260,8 @@ impl Control {
         let Some(binding) = self.end_in(slot).remote() else {
             return Ok(());
         };
-        let packet = packet_of(alloc, &row.offer_of(self.me), binding, frame)?;
-        self.send(slot, came, packet, link, out)
+        let packet = packet_of(work.alloc, &row.offer_of(self.me), binding, frame)?;
+        self.send(slot, came, packet, work)
     }
 
     // A packet is sent by the end of a slot: what the link does not take is dropped.
@@ -302,19 +270,18 @@ impl Control {
         slot: usize,
         came: Arrival,
         packet: Octets,
-        link: &mut L,
-        out: &mut List<Effect>,
+        work: &mut AtWork<'_, L>,
     ) -> Result<(), NoMemory>
         requires { slot < length self.now.ends.places }
-        ensures calls { GoesOn (L.calls link.old) (L.calls link.new) }
-        ensures step { OnOk result ((told : Answers) (rest : Rest) → Agrees told (L.calls link.new)
-            → at_control self.now rest (L.calls link.new) out.new ≡ sends told (place_of self.now.ends slot) came packet (at_control self.now rest (L.calls link.old) out.old)) }
+        ensures goes { WorkGoes L.calls work.old work.new }
+        ensures step { OnOk result ((told : Answers) (rest : Rest) → Agrees told (L.calls work.new.link.now)
+            → at_work L.calls self.now rest work.new ≡ sends told (place_of self.now.ends slot) came packet (at_work L.calls self.now rest work.old)) }
     {
         let place = self.place_at(slot);
-        if !send_bytes(place.peer, packet.as_slice(), link)? {
-            return drop_for(DropCause::LinkFault, out);
+        if !send_bytes(place.peer, packet.as_slice(), work.link)? {
+            return drop_for(DropCause::LinkFault, &mut work.effects.list);
         }
-        out.push(Effect::Sent {
+        work.effects.list.push(Effect::Sent {
             peer: place.peer,
             wire: place.wire,
             arrival: came,

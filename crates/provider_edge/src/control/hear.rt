@@ -1,20 +1,20 @@
 //! Octets of LDP are heard (RFC 5036 section 3.5.3): one PDU after another, and each message of a PDU in turn.
-ghost use Rattle.std.specs.Prelude.{◌≡◌, ◌≤◌, ◌<◌, ◌+◌, ◌++◌, List, ℕ, length, take, drop, true, Some, IfOk, OnOk, IfSome};
+ghost use Rattle.std.specs.Prelude.{◌≡◌, ◌≤◌, ◌<◌, ◌+◌, ◌++◌, List, ℕ, true, Some, OnOk};
 ghost use Rattle.std.specs.List.{AllByRecursion};
 ghost use Rattle.ldp_grammar.specs.Reading.{AreOctets};
 ghost use Rattle.edge_model.specs.Hear.{acts, acts_on, advice_of, advises, hears, hears_message, hears_messages, hears_one, hears_pdu};
 ghost use Rattle.edge_model.specs.State.{has_end};
-ghost use Rattle.edge_model.specs.Work.{Agrees, Answers, GoesOn};
-ghost use Rattle.provider_edge.specs.Control.{KeepsPlan, Rest, at_control, controlled, holding};
+ghost use Rattle.edge_model.specs.Work.{Agrees, Answers};
+ghost use Rattle.provider_edge.specs.AtWork.{Works, at_work};
+ghost use Rattle.provider_edge.specs.Control.{Rest, controlled, holding};
 ghost use Rattle.peer_dialogue.specs.Heard.{CanBeHeard};
 ghost use Rattle.peer_dialogue.specs.Hearing.{HearsOn, IsWaitingFor};
 
 use super::Control;
-use edge_model::Effect;
+use crate::at_work::AtWork;
 use ldp_grammar::{Message, Pdu};
-use net_base::{EdgeId, Link, List, NoMemory};
+use net_base::{EdgeId, Link, NoMemory};
 use peer_dialogue::{Event, Held, Next, advice_of, binding_in};
-use std::alloc::Global;
 
 impl Control {
     /// Octets are heard behind those that are held of a peer. PDUs are heard one after another, each within the maximum
@@ -23,20 +23,17 @@ impl Control {
     pub fn hear<L: Link>(
         &mut self,
         held: &mut Held,
-        alloc: Global,
         peer: EdgeId,
         octets: &[u8],
-        link: &mut L,
-        out: &mut List<Effect>,
+        work: &mut AtWork<'_, L>,
     ) -> Result<(), NoMemory>
-        ensures keeps { KeepsPlan self.old self.new }
-        ensures calls { GoesOn (L.calls link.old) (L.calls link.new) }
-        ensures step { OnOk result ((told : Answers) (rest : Rest) → Agrees told (L.calls link.new)
-            → at_control self.new (holding peer held.new rest) (L.calls link.new) out.new ≡ hears self.old.plan told peer (held.old ++ octets.now) (at_control self.old rest (L.calls link.old) out.old)) }
+        ensures goes { Works L.calls self.old work.old self.new work.new }
+        ensures step { OnOk result ((told : Answers) (rest : Rest) → Agrees told (L.calls work.new.link.now)
+            → at_work L.calls self.new (holding peer held.new rest) work.new ≡ hears self.old.plan told peer (held.old ++ octets.now) (at_work L.calls self.old rest work.old)) }
     {
         let mut at = 0;
         'hearing: loop {
-            self.hear_held(held, alloc, peer, link, out)?;
+            self.hear_held(held, peer, work)?;
             if !self.has_session(peer) {
                 held.clear();
                 return Ok(());
@@ -44,7 +41,7 @@ impl Control {
             if at == octets.len() {
                 return Ok(());
             }
-            at += held.feed_from(alloc, octets, at)?;
+            at += held.feed_from(work.alloc, octets, at)?;
         }
     }
 
@@ -52,27 +49,24 @@ impl Control {
     fn hear_held<L: Link>(
         &mut self,
         held: &mut Held,
-        alloc: Global,
         peer: EdgeId,
-        link: &mut L,
-        out: &mut List<Effect>,
+        work: &mut AtWork<'_, L>,
     ) -> Result<(), NoMemory>
-        ensures keeps { KeepsPlan self.old self.new }
+        ensures goes { Works L.calls self.old work.old self.new work.new }
         ensures waiting { OnOk result ((rest : Rest) → IsWaitingFor ((controlled self.new rest).peering peer.0) held.new) }
-        ensures calls { GoesOn (L.calls link.old) (L.calls link.new) }
-        ensures step { OnOk result ((told : Answers) (rest : Rest) (more : List ℕ) → Agrees told (L.calls link.new) → AreOctets more
-            → HearsOn self.old.plan told peer (held.old ++ more) (held.new ++ more) (at_control self.old rest (L.calls link.old) out.old) (at_control self.new rest (L.calls link.new) out.new)) }
+        ensures step { OnOk result ((told : Answers) (rest : Rest) (more : List ℕ) → Agrees told (L.calls work.new.link.now) → AreOctets more
+            → HearsOn self.old.plan told peer (held.old ++ more) (held.new ++ more) (at_work L.calls self.old rest work.old) (at_work L.calls self.new rest work.new)) }
     {
         'pdus: loop {
             let Some(dialogue) = self.dialogue(peer) else {
                 return Ok(());
             };
-            match held.next(alloc, dialogue.max_pdu())? {
+            match held.next(work.alloc, dialogue.max_pdu())? {
                 Next::More => return Ok(()),
                 Next::Fault(fault) => {
-                    return self.happens(alloc, peer, Event::Refused(fault), link, out);
+                    return self.happens(peer, Event::Refused(fault), work);
                 }
-                Next::Pdu(pdu) => self.hear_pdu(alloc, peer, &pdu, link, out)?,
+                Next::Pdu(pdu) => self.hear_pdu(peer, &pdu, work)?,
             }
         }
     }
@@ -80,39 +74,33 @@ impl Control {
     // A PDU is heard: its sender, and then its messages.
     fn hear_pdu<L: Link>(
         &mut self,
-        alloc: Global,
         peer: EdgeId,
         pdu: &Pdu,
-        link: &mut L,
-        out: &mut List<Effect>,
+        work: &mut AtWork<'_, L>,
     ) -> Result<(), NoMemory>
         requires { AllByRecursion CanBeHeard pdu.now.messages }
-        ensures keeps { KeepsPlan self.old self.new }
-        ensures calls { GoesOn (L.calls link.old) (L.calls link.new) }
-        ensures step { OnOk result ((told : Answers) (rest : Rest) → Agrees told (L.calls link.new)
-            → at_control self.new rest (L.calls link.new) out.new ≡ hears_pdu self.old.plan told peer pdu.now (at_control self.old rest (L.calls link.old) out.old)) }
+        ensures goes { Works L.calls self.old work.old self.new work.new }
+        ensures step { OnOk result ((told : Answers) (rest : Rest) → Agrees told (L.calls work.new.link.now)
+            → at_work L.calls self.new rest work.new ≡ hears_pdu self.old.plan told peer pdu.now (at_work L.calls self.old rest work.old)) }
     {
-        self.happens(alloc, peer, Event::Heard(pdu.id), link, out)?;
-        self.hear_messages(alloc, peer, pdu.messages.as_slice(), link, out)
+        self.happens(peer, Event::Heard(pdu.id), work)?;
+        self.hear_messages(peer, pdu.messages.as_slice(), work)
     }
 
     // Messages are heard in turn.
     fn hear_messages<L: Link>(
         &mut self,
-        alloc: Global,
         peer: EdgeId,
         messages: &[Message],
-        link: &mut L,
-        out: &mut List<Effect>,
+        work: &mut AtWork<'_, L>,
     ) -> Result<(), NoMemory>
         requires { AllByRecursion CanBeHeard messages.now }
-        ensures keeps { KeepsPlan self.old self.new }
-        ensures calls { GoesOn (L.calls link.old) (L.calls link.new) }
-        ensures step { OnOk result ((told : Answers) (rest : Rest) → Agrees told (L.calls link.new)
-            → at_control self.new rest (L.calls link.new) out.new ≡ hears_messages self.old.plan told peer messages.now (at_control self.old rest (L.calls link.old) out.old)) }
+        ensures goes { Works L.calls self.old work.old self.new work.new }
+        ensures step { OnOk result ((told : Answers) (rest : Rest) → Agrees told (L.calls work.new.link.now)
+            → at_work L.calls self.new rest work.new ≡ hears_messages self.old.plan told peer messages.now (at_work L.calls self.old rest work.old)) }
     {
         for place in 0..messages.len() {
-            self.hear_message(alloc, peer, &messages[place], link, out)?;
+            self.hear_message(peer, &messages[place], work)?;
         }
         Ok(())
     }
@@ -120,44 +108,38 @@ impl Control {
     // A message is heard, and the edge mends its ends; after the end of the session none is.
     fn hear_message<L: Link>(
         &mut self,
-        alloc: Global,
         peer: EdgeId,
         message: &Message,
-        link: &mut L,
-        out: &mut List<Effect>,
+        work: &mut AtWork<'_, L>,
     ) -> Result<(), NoMemory>
         requires { CanBeHeard message.now }
-        ensures keeps { KeepsPlan self.old self.new }
-        ensures calls { GoesOn (L.calls link.old) (L.calls link.new) }
-        ensures step { OnOk result ((told : Answers) (rest : Rest) → Agrees told (L.calls link.new)
-            → at_control self.new rest (L.calls link.new) out.new ≡ hears_message self.old.plan told peer message.now (at_control self.old rest (L.calls link.old) out.old)) }
+        ensures goes { Works L.calls self.old work.old self.new work.new }
+        ensures step { OnOk result ((told : Answers) (rest : Rest) → Agrees told (L.calls work.new.link.now)
+            → at_work L.calls self.new rest work.new ≡ hears_message self.old.plan told peer message.now (at_work L.calls self.old rest work.old)) }
     {
         if !self.has_session(peer) {
             return Ok(());
         }
-        self.hear_one(alloc, peer, message, link, out)?;
-        self.mend(alloc, link, out)
+        self.hear_one(peer, message, work)?;
+        self.mend(work)
     }
 
     // What a message makes of the session, and what the edge then does.
     fn hear_one<L: Link>(
         &mut self,
-        alloc: Global,
         peer: EdgeId,
         message: &Message,
-        link: &mut L,
-        out: &mut List<Effect>,
+        work: &mut AtWork<'_, L>,
     ) -> Result<(), NoMemory>
         requires { CanBeHeard message.now }
-        ensures keeps { KeepsPlan self.old self.new }
-        ensures calls { GoesOn (L.calls link.old) (L.calls link.new) }
-        ensures step { OnOk result ((told : Answers) (rest : Rest) → Agrees told (L.calls link.new)
-            → at_control self.new rest (L.calls link.new) out.new ≡ hears_one self.old.plan told peer message.now (at_control self.old rest (L.calls link.old) out.old)) }
+        ensures goes { Works L.calls self.old work.old self.new work.new }
+        ensures step { OnOk result ((told : Answers) (rest : Rest) → Agrees told (L.calls work.new.link.now)
+            → at_work L.calls self.new rest work.new ≡ hears_one self.old.plan told peer message.now (at_work L.calls self.old rest work.old)) }
     {
         let was_up = self.is_up(peer);
-        self.happens(alloc, peer, Event::Received(message), link, out)?;
+        self.happens(peer, Event::Received(message), work)?;
         if was_up {
-            return self.act(alloc, peer, message, link, out);
+            return self.act(peer, message, work);
         }
         Ok(())
     }
@@ -165,39 +147,33 @@ impl Control {
     // A session that was up, and still is, acts on a message.
     fn act<L: Link>(
         &mut self,
-        alloc: Global,
         peer: EdgeId,
         message: &Message,
-        link: &mut L,
-        out: &mut List<Effect>,
+        work: &mut AtWork<'_, L>,
     ) -> Result<(), NoMemory>
         requires { CanBeHeard message.now }
-        ensures keeps { KeepsPlan self.old self.new }
-        ensures calls { GoesOn (L.calls link.old) (L.calls link.new) }
-        ensures step { OnOk result ((told : Answers) (rest : Rest) → Agrees told (L.calls link.new)
-            → at_control self.new rest (L.calls link.new) out.new ≡ acts self.old.plan told peer message.now true (at_control self.old rest (L.calls link.old) out.old)) }
+        ensures goes { Works L.calls self.old work.old self.new work.new }
+        ensures step { OnOk result ((told : Answers) (rest : Rest) → Agrees told (L.calls work.new.link.now)
+            → at_work L.calls self.new rest work.new ≡ acts self.old.plan told peer message.now true (at_work L.calls self.old rest work.old)) }
     {
         if !self.has_session(peer) {
             return Ok(());
         }
-        self.act_on(alloc, peer, message, link, out)
+        self.act_on(peer, message, work)
     }
 
     // What the edge does on a message, one call each.
     fn act_on<L: Link>(
         &mut self,
-        alloc: Global,
         peer: EdgeId,
         message: &Message,
-        link: &mut L,
-        out: &mut List<Effect>,
+        work: &mut AtWork<'_, L>,
     ) -> Result<(), NoMemory>
         requires heard { CanBeHeard message.now }
         requires stands { (rest : Rest) → has_end (controlled self.old rest) peer ≡ true }
-        ensures keeps { KeepsPlan self.old self.new }
-        ensures calls { GoesOn (L.calls link.old) (L.calls link.new) }
-        ensures step { OnOk result ((told : Answers) (rest : Rest) → Agrees told (L.calls link.new)
-            → at_control self.new rest (L.calls link.new) out.new ≡ acts_on self.old.plan told peer message.now (at_control self.old rest (L.calls link.old) out.old)) }
+        ensures goes { Works L.calls self.old work.old self.new work.new }
+        ensures step { OnOk result ((told : Answers) (rest : Rest) → Agrees told (L.calls work.new.link.now)
+            → at_work L.calls self.new rest work.new ≡ acts_on self.old.plan told peer message.now (at_work L.calls self.old rest work.old)) }
     {
         match message {
             Message::LabelMapping {
@@ -208,10 +184,10 @@ impl Control {
                 ..
             } => {
                 let binding = binding_in(fec, *label, *pw_status, points);
-                self.hear_mapping(alloc, peer, fec, &binding, link, out)
+                self.hear_mapping(peer, fec, &binding, work)
             }
             Message::LabelWithdraw { fec, label, .. } => {
-                self.hear_withdraw(alloc, peer, fec, label, link, out)
+                self.hear_withdraw(peer, fec, label, work)
             }
             Message::LabelRelease { fec, label, .. } => {
                 self.hear_release(peer, fec, *label);
@@ -227,7 +203,7 @@ impl Control {
                 Ok(())
             }
             Message::AddressWithdraw { fec, macs, .. } => {
-                self.hear_mac_withdraw(alloc, peer, fec, macs, link, out)
+                self.hear_mac_withdraw(peer, fec, macs, work)
             }
             Message::Hello { .. }
             | Message::Initialization { .. }
@@ -236,27 +212,24 @@ impl Control {
             | Message::LabelRequest { .. }
             | Message::LabelAbort { .. }
             | Message::Other { .. }
-            | Message::Unprocessed { .. } => self.tell_advice(alloc, peer, message, link, out),
+            | Message::Unprocessed { .. } => self.tell_advice(peer, message, work),
         }
     }
 
     // What is told of a message that is not processed.
     fn tell_advice<L: Link>(
         &mut self,
-        alloc: Global,
         peer: EdgeId,
         message: &Message,
-        link: &mut L,
-        out: &mut List<Effect>,
+        work: &mut AtWork<'_, L>,
     ) -> Result<(), NoMemory>
         requires stands { (rest : Rest) → has_end (controlled self.old rest) peer ≡ true }
-        ensures keeps { KeepsPlan self.old self.new }
-        ensures calls { GoesOn (L.calls link.old) (L.calls link.new) }
-        ensures step { OnOk result ((told : Answers) (rest : Rest) → Agrees told (L.calls link.new)
-            → at_control self.new rest (L.calls link.new) out.new ≡ advises told peer (advice_of message.now) (at_control self.old rest (L.calls link.old) out.old)) }
+        ensures goes { Works L.calls self.old work.old self.new work.new }
+        ensures step { OnOk result ((told : Answers) (rest : Rest) → Agrees told (L.calls work.new.link.now)
+            → at_work L.calls self.new rest work.new ≡ advises told peer (advice_of message.now) (at_work L.calls self.old rest work.old)) }
     {
         match advice_of(message) {
-            Some(reply) => self.advise(alloc, peer, reply, link, out),
+            Some(reply) => self.advise(peer, reply, work),
             None => Ok(()),
         }
     }

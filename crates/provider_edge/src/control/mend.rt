@@ -4,32 +4,27 @@ ghost use Rattle.net_base.specs.declared.outside.link_call.LinkCall.{LinkCall};
 ghost use Rattle.pw_ends.specs.Ends.{place_of};
 ghost use Rattle.edge_model.specs.EndPlaces.{end_places};
 ghost use Rattle.edge_model.specs.Mend.{and_says, each_end, forgets_downs, mends, mends_choice, mends_end, mends_once, mends_status, tells_downs};
-ghost use Rattle.edge_model.specs.Work.{Agrees, Answers, GoesOn};
+ghost use Rattle.edge_model.specs.Work.{Agrees, Answers};
+ghost use Rattle.provider_edge.specs.AtWork.{Works, at_work};
 ghost use Rattle.provider_edge.specs.Control.{KeepsPlan, Rest, at_control, controlled};
 ghost use Rattle.edge_forwarding.specs.Views.{view};
 
 use super::Control;
+use crate::at_work::AtWork;
 use edge_model::Effect;
 use net_base::{Link, List, NoMemory, WireId};
-use std::alloc::Global;
 
 impl Control {
     /// What each end tells follows what it should tell by now. Where the link did not take a message the edge mends again; each
     /// such message ends a session, so there are no more rounds than edges.
-    pub fn mend<L: Link>(
-        &mut self,
-        alloc: Global,
-        link: &mut L,
-        out: &mut List<Effect>,
-    ) -> Result<(), NoMemory>
-        ensures keeps { KeepsPlan self.old self.new }
-        ensures calls { GoesOn (L.calls link.old) (L.calls link.new) }
-        ensures step { OnOk result ((told : Answers) (rest : Rest) → Agrees told (L.calls link.new)
-            → at_control self.new rest (L.calls link.new) out.new ≡ mends self.old.plan told (at_control self.old rest (L.calls link.old) out.old)) }
+    pub fn mend<L: Link>(&mut self, work: &mut AtWork<'_, L>) -> Result<(), NoMemory>
+        ensures goes { Works L.calls self.old work.old self.new work.new }
+        ensures step { OnOk result ((told : Answers) (rest : Rest) → Agrees told (L.calls work.new.link.now)
+            → at_work L.calls self.new rest work.new ≡ mends self.old.plan told (at_work L.calls self.old rest work.old)) }
     {
         let rounds = self.count_rounds();
         for _round in 0..rounds {
-            if !self.mend_once(alloc, link, out)? {
+            if !self.mend_once(work)? {
                 return Ok(());
             }
         }
@@ -44,60 +39,45 @@ impl Control {
     }
 
     // All steps once; answers whether the link did not take a message.
-    fn mend_once<L: Link>(
-        &mut self,
-        alloc: Global,
-        link: &mut L,
-        out: &mut List<Effect>,
-    ) -> Result<bool, NoMemory>
-        ensures keeps { KeepsPlan self.old self.new }
-        ensures calls { GoesOn (L.calls link.old) (L.calls link.new) }
-        ensures step { IfOk result (λ failed. (told : Answers) (rest : Rest) → Agrees told (L.calls link.new)
-            → record { work = at_control self.new rest (L.calls link.new) out.new; failed = failed } ≡ mends_once self.old.plan told (at_control self.old rest (L.calls link.old) out.old)) }
+    fn mend_once<L: Link>(&mut self, work: &mut AtWork<'_, L>) -> Result<bool, NoMemory>
+        ensures goes { Works L.calls self.old work.old self.new work.new }
+        ensures step { IfOk result (λ failed. (told : Answers) (rest : Rest) → Agrees told (L.calls work.new.link.now)
+            → record { work = at_work L.calls self.new rest work.new; failed = failed } ≡ mends_once self.old.plan told (at_work L.calls self.old rest work.old)) }
     {
-        let before = self.all_chosen(alloc)?;
-        self.mend_from(before.as_slice(), alloc, link, out)
+        let before = self.all_chosen(work.alloc)?;
+        self.mend_from(before.as_slice(), work)
     }
 
     // The same, where these spokes are chosen.
     fn mend_from<L: Link>(
         &mut self,
         before: &[Option<WireId>],
-        alloc: Global,
-        link: &mut L,
-        out: &mut List<Effect>,
+        work: &mut AtWork<'_, L>,
     ) -> Result<bool, NoMemory>
         requires { (rest : Rest) → view None before.now ≡ (controlled self.old rest).chosen }
-        ensures keeps { KeepsPlan self.old self.new }
-        ensures calls { GoesOn (L.calls link.old) (L.calls link.new) }
-        ensures step { IfOk result (λ failed. (told : Answers) (rest : Rest) → Agrees told (L.calls link.new)
-            → record { work = at_control self.new rest (L.calls link.new) out.new; failed = failed } ≡ mends_once self.old.plan told (at_control self.old rest (L.calls link.old) out.old)) }
+        ensures goes { Works L.calls self.old work.old self.new work.new }
+        ensures step { IfOk result (λ failed. (told : Answers) (rest : Rest) → Agrees told (L.calls work.new.link.now)
+            → record { work = at_work L.calls self.new rest work.new; failed = failed } ≡ mends_once self.old.plan told (at_work L.calls self.old rest work.old)) }
     {
-        let refused = self.mend_ends(alloc, link, out)?;
-        self.choose_spokes(alloc)?;
-        let untold = self.mend_statuses(refused, alloc, link, out)?;
-        let failed = self.mend_choices(before, untold, alloc, link, out)?;
+        let refused = self.mend_ends(work)?;
+        self.choose_spokes(work.alloc)?;
+        let untold = self.mend_statuses(refused, work)?;
+        let failed = self.mend_choices(before, untold, work)?;
         self.forget_downs();
-        self.tell_downs(out)?;
+        self.tell_downs(&mut work.effects.list)?;
         Ok(failed)
     }
 
     // Each end is advertised, withdrawn or left.
-    fn mend_ends<L: Link>(
-        &mut self,
-        alloc: Global,
-        link: &mut L,
-        out: &mut List<Effect>,
-    ) -> Result<bool, NoMemory>
-        ensures keeps { KeepsPlan self.old self.new }
-        ensures calls { GoesOn (L.calls link.old) (L.calls link.new) }
-        ensures step { IfOk result (λ failed. (told : Answers) (rest : Rest) → Agrees told (L.calls link.new)
-            → record { work = at_control self.new rest (L.calls link.new) out.new; failed = failed }
-            ≡ each_end (mends_end self.old.plan told) (end_places self.old.plan self.old.me) (record { work = at_control self.old rest (L.calls link.old) out.old; failed = false })) }
+    fn mend_ends<L: Link>(&mut self, work: &mut AtWork<'_, L>) -> Result<bool, NoMemory>
+        ensures goes { Works L.calls self.old work.old self.new work.new }
+        ensures step { IfOk result (λ failed. (told : Answers) (rest : Rest) → Agrees told (L.calls work.new.link.now)
+            → record { work = at_work L.calls self.new rest work.new; failed = failed }
+            ≡ each_end (mends_end self.old.plan told) (end_places self.old.plan self.old.me) (record { work = at_work L.calls self.old rest work.old; failed = false })) }
     {
         let mut failed = false;
         for slot in 0..self.count_ends() {
-            failed = self.and_mend_end(failed, alloc, slot, link, out)?;
+            failed = self.and_mend_end(failed, slot, work)?;
         }
         Ok(failed)
     }
@@ -106,19 +86,16 @@ impl Control {
     fn and_mend_end<L: Link>(
         &mut self,
         before: bool,
-        alloc: Global,
         slot: usize,
-        link: &mut L,
-        out: &mut List<Effect>,
+        work: &mut AtWork<'_, L>,
     ) -> Result<bool, NoMemory>
         requires { slot < length self.old.ends.places }
-        ensures keeps { KeepsPlan self.old self.new }
-        ensures calls { GoesOn (L.calls link.old) (L.calls link.new) }
-        ensures step { IfOk result (λ failed. (told : Answers) (rest : Rest) → Agrees told (L.calls link.new)
-            → record { work = at_control self.new rest (L.calls link.new) out.new; failed = failed }
-            ≡ and_says (record { work = at_control self.old rest (L.calls link.old) out.old; failed = before }) (mends_end self.old.plan told (place_of self.old.ends slot))) }
+        ensures goes { Works L.calls self.old work.old self.new work.new }
+        ensures step { IfOk result (λ failed. (told : Answers) (rest : Rest) → Agrees told (L.calls work.new.link.now)
+            → record { work = at_work L.calls self.new rest work.new; failed = failed }
+            ≡ and_says (record { work = at_work L.calls self.old rest work.old; failed = before }) (mends_end self.old.plan told (place_of self.old.ends slot))) }
     {
-        if self.mend_end(alloc, slot, link, out)? {
+        if self.mend_end(slot, work)? {
             return Ok(true);
         }
         Ok(before)
@@ -128,19 +105,16 @@ impl Control {
     fn mend_statuses<L: Link>(
         &mut self,
         before: bool,
-        alloc: Global,
-        link: &mut L,
-        out: &mut List<Effect>,
+        work: &mut AtWork<'_, L>,
     ) -> Result<bool, NoMemory>
-        ensures keeps { KeepsPlan self.old self.new }
-        ensures calls { GoesOn (L.calls link.old) (L.calls link.new) }
-        ensures step { IfOk result (λ failed. (told : Answers) (rest : Rest) → Agrees told (L.calls link.new)
-            → record { work = at_control self.new rest (L.calls link.new) out.new; failed = failed }
-            ≡ each_end (mends_status self.old.plan told) (end_places self.old.plan self.old.me) (record { work = at_control self.old rest (L.calls link.old) out.old; failed = before })) }
+        ensures goes { Works L.calls self.old work.old self.new work.new }
+        ensures step { IfOk result (λ failed. (told : Answers) (rest : Rest) → Agrees told (L.calls work.new.link.now)
+            → record { work = at_work L.calls self.new rest work.new; failed = failed }
+            ≡ each_end (mends_status self.old.plan told) (end_places self.old.plan self.old.me) (record { work = at_work L.calls self.old rest work.old; failed = before })) }
     {
         let mut failed = before;
         for slot in 0..self.count_ends() {
-            failed = self.and_mend_status(failed, alloc, slot, link, out)?;
+            failed = self.and_mend_status(failed, slot, work)?;
         }
         Ok(failed)
     }
@@ -149,19 +123,16 @@ impl Control {
     fn and_mend_status<L: Link>(
         &mut self,
         before: bool,
-        alloc: Global,
         slot: usize,
-        link: &mut L,
-        out: &mut List<Effect>,
+        work: &mut AtWork<'_, L>,
     ) -> Result<bool, NoMemory>
         requires { slot < length self.old.ends.places }
-        ensures keeps { KeepsPlan self.old self.new }
-        ensures calls { GoesOn (L.calls link.old) (L.calls link.new) }
-        ensures step { IfOk result (λ failed. (told : Answers) (rest : Rest) → Agrees told (L.calls link.new)
-            → record { work = at_control self.new rest (L.calls link.new) out.new; failed = failed }
-            ≡ and_says (record { work = at_control self.old rest (L.calls link.old) out.old; failed = before }) (mends_status self.old.plan told (place_of self.old.ends slot))) }
+        ensures goes { Works L.calls self.old work.old self.new work.new }
+        ensures step { IfOk result (λ failed. (told : Answers) (rest : Rest) → Agrees told (L.calls work.new.link.now)
+            → record { work = at_work L.calls self.new rest work.new; failed = failed }
+            ≡ and_says (record { work = at_work L.calls self.old rest work.old; failed = before }) (mends_status self.old.plan told (place_of self.old.ends slot))) }
     {
-        if self.mend_status(alloc, slot, link, out)? {
+        if self.mend_status(slot, work)? {
             return Ok(true);
         }
         Ok(before)
@@ -172,19 +143,16 @@ impl Control {
         &mut self,
         chosen: &[Option<WireId>],
         before: bool,
-        alloc: Global,
-        link: &mut L,
-        out: &mut List<Effect>,
+        work: &mut AtWork<'_, L>,
     ) -> Result<bool, NoMemory>
-        ensures keeps { KeepsPlan self.old self.new }
-        ensures calls { GoesOn (L.calls link.old) (L.calls link.new) }
-        ensures step { IfOk result (λ failed. (told : Answers) (rest : Rest) → Agrees told (L.calls link.new)
-            → record { work = at_control self.new rest (L.calls link.new) out.new; failed = failed }
-            ≡ each_end (mends_choice self.old.plan told (view None chosen.now)) (end_places self.old.plan self.old.me) (record { work = at_control self.old rest (L.calls link.old) out.old; failed = before })) }
+        ensures goes { Works L.calls self.old work.old self.new work.new }
+        ensures step { IfOk result (λ failed. (told : Answers) (rest : Rest) → Agrees told (L.calls work.new.link.now)
+            → record { work = at_work L.calls self.new rest work.new; failed = failed }
+            ≡ each_end (mends_choice self.old.plan told (view None chosen.now)) (end_places self.old.plan self.old.me) (record { work = at_work L.calls self.old rest work.old; failed = before })) }
     {
         let mut failed = before;
         for slot in 0..self.count_ends() {
-            failed = self.and_mend_choice(chosen, failed, alloc, slot, link, out)?;
+            failed = self.and_mend_choice(chosen, failed, slot, work)?;
         }
         Ok(failed)
     }
@@ -194,19 +162,16 @@ impl Control {
         &mut self,
         chosen: &[Option<WireId>],
         before: bool,
-        alloc: Global,
         slot: usize,
-        link: &mut L,
-        out: &mut List<Effect>,
+        work: &mut AtWork<'_, L>,
     ) -> Result<bool, NoMemory>
         requires { slot < length self.old.ends.places }
-        ensures keeps { KeepsPlan self.old self.new }
-        ensures calls { GoesOn (L.calls link.old) (L.calls link.new) }
-        ensures step { IfOk result (λ failed. (told : Answers) (rest : Rest) → Agrees told (L.calls link.new)
-            → record { work = at_control self.new rest (L.calls link.new) out.new; failed = failed }
-            ≡ and_says (record { work = at_control self.old rest (L.calls link.old) out.old; failed = before }) (mends_choice self.old.plan told (view None chosen.now) (place_of self.old.ends slot))) }
+        ensures goes { Works L.calls self.old work.old self.new work.new }
+        ensures step { IfOk result (λ failed. (told : Answers) (rest : Rest) → Agrees told (L.calls work.new.link.now)
+            → record { work = at_work L.calls self.new rest work.new; failed = failed }
+            ≡ and_says (record { work = at_work L.calls self.old rest work.old; failed = before }) (mends_choice self.old.plan told (view None chosen.now) (place_of self.old.ends slot))) }
     {
-        if self.mend_choice(chosen, alloc, slot, link, out)? {
+        if self.mend_choice(chosen, slot, work)? {
             return Ok(true);
         }
         Ok(before)

@@ -9,12 +9,14 @@ ghost use Rattle.pw_ends.specs.Ends.{HasKind, IsIdle, end_in, place_of};
 ghost use Rattle.edge_model.specs.Mend.{advertises, advertises_wish, cause_number, forgetting_wire, is_new_choice, mends_choice, mends_end, mends_status, tells_down, tells_new_status, tells_over, terminal_wish, wish, withdraws, withdraws_unless};
 ghost use Rattle.edge_model.specs.Role.{down_at, is_wire, role_at, status_to_tell};
 ghost use Rattle.edge_model.specs.State.{with_told_down};
-ghost use Rattle.edge_model.specs.Work.{Agrees, Answers, GoesOn};
+ghost use Rattle.edge_model.specs.Work.{Agrees, Answers};
+ghost use Rattle.provider_edge.specs.AtWork.{Works, at_work};
 ghost use Rattle.provider_edge.specs.Control.{KeepsPlan, Rest, at_control, controlled};
 ghost use Rattle.provider_edge.specs.Mending.{forgotten_down, may_tell, mended_down};
 ghost use Rattle.edge_forwarding.specs.Views.{view};
 
 use super::Control;
+use crate::at_work::AtWork;
 use edge_model::{Effect, EndPlace};
 use net_base::{Down, Label, Link, List, NoMemory, ServiceId, WireId, WirePlan};
 use peer_dialogue::{PwMessage, terminal_wish};
@@ -22,34 +24,30 @@ use pw_ends::role_of;
 use pw_signalling::{EndRole, PwEnd, Told};
 use pw_tlvs::PwStatus;
 use spoke_redundancy::status_to_tell;
-use std::alloc::Global;
 
 impl Control {
     // An end is advertised, withdrawn or left; answers whether the link did not take a message.
     pub(super) fn mend_end<L: Link>(
         &mut self,
-        alloc: Global,
         slot: usize,
-        link: &mut L,
-        out: &mut List<Effect>,
+        work: &mut AtWork<'_, L>,
     ) -> Result<bool, NoMemory>
         requires { slot < length self.old.ends.places }
-        ensures keeps { KeepsPlan self.old self.new }
-        ensures calls { GoesOn (L.calls link.old) (L.calls link.new) }
-        ensures step { IfOk result (λ failed. (told : Answers) (rest : Rest) → Agrees told (L.calls link.new)
-            → record { work = at_control self.new rest (L.calls link.new) out.new; failed = failed } ≡ mends_end self.old.plan told (place_of self.old.ends slot) (at_control self.old rest (L.calls link.old) out.old)) }
+        ensures goes { Works L.calls self.old work.old self.new work.new }
+        ensures step { IfOk result (λ failed. (told : Answers) (rest : Rest) → Agrees told (L.calls work.new.link.now)
+            → record { work = at_work L.calls self.new rest work.new; failed = failed } ≡ mends_end self.old.plan told (place_of self.old.ends slot) (at_work L.calls self.old rest work.old)) }
     {
         match self.end_in(slot) {
             PwEnd::Idle(end) => {
                 if end.is_declined() {
                     return Ok(false);
                 }
-                self.advertise_wish(alloc, slot, link, out)
+                self.advertise_wish(slot, work)
             }
             PwEnd::Advertised(end) => {
                 let label = end.label();
                 let content = *end.told();
-                self.withdraw_unless(alloc, slot, label, content, link, out)
+                self.withdraw_unless(slot, label, content, work)
             }
             PwEnd::Withdrawing(_) => Ok(false),
         }
@@ -58,21 +56,18 @@ impl Control {
     // An idle end advertises what it should tell.
     fn advertise_wish<L: Link>(
         &mut self,
-        alloc: Global,
         slot: usize,
-        link: &mut L,
-        out: &mut List<Effect>,
+        work: &mut AtWork<'_, L>,
     ) -> Result<bool, NoMemory>
         requires slot { slot < length self.old.ends.places }
         requires idle { IsIdle (end_in self.old.ends slot).local }
-        ensures keeps { KeepsPlan self.old self.new }
-        ensures calls { GoesOn (L.calls link.old) (L.calls link.new) }
-        ensures step { IfOk result (λ failed. (told : Answers) (rest : Rest) → Agrees told (L.calls link.new)
-            → record { work = at_control self.new rest (L.calls link.new) out.new; failed = failed }
-            ≡ advertises_wish told (place_of self.old.ends slot) (wish self.old.plan (controlled self.old rest) (place_of self.old.ends slot)) (at_control self.old rest (L.calls link.old) out.old)) }
+        ensures goes { Works L.calls self.old work.old self.new work.new }
+        ensures step { IfOk result (λ failed. (told : Answers) (rest : Rest) → Agrees told (L.calls work.new.link.now)
+            → record { work = at_work L.calls self.new rest work.new; failed = failed }
+            ≡ advertises_wish told (place_of self.old.ends slot) (wish self.old.plan (controlled self.old rest) (place_of self.old.ends slot)) (at_work L.calls self.old rest work.old)) }
     {
         match self.wish(slot) {
-            Some(told) => self.put_mapping(alloc, slot, told, link, out),
+            Some(told) => self.put_mapping(slot, told, work),
             None => Ok(false),
         }
     }
@@ -80,21 +75,18 @@ impl Control {
     // An idle end takes a label and puts a Label Mapping; where no label is left it stays idle.
     fn put_mapping<L: Link>(
         &mut self,
-        alloc: Global,
         slot: usize,
         content: Told,
-        link: &mut L,
-        out: &mut List<Effect>,
+        work: &mut AtWork<'_, L>,
     ) -> Result<bool, NoMemory>
         requires slot { slot < length self.old.ends.places }
         requires idle { IsIdle (end_in self.old.ends slot).local }
         requires kind { content.kind ≤ 0x7FFF }
         requires vlan { has_vlan content.vlan ≡ true }
-        ensures keeps { KeepsPlan self.old self.new }
-        ensures calls { GoesOn (L.calls link.old) (L.calls link.new) }
-        ensures step { IfOk result (λ failed. (told : Answers) (rest : Rest) → Agrees told (L.calls link.new)
-            → record { work = at_control self.new rest (L.calls link.new) out.new; failed = failed }
-            ≡ advertises told (place_of self.old.ends slot) content (at_control self.old rest (L.calls link.old) out.old)) }
+        ensures goes { Works L.calls self.old work.old self.new work.new }
+        ensures step { IfOk result (λ failed. (told : Answers) (rest : Rest) → Agrees told (L.calls work.new.link.now)
+            → record { work = at_work L.calls self.new rest work.new; failed = failed }
+            ≡ advertises told (place_of self.old.ends slot) content (at_work L.calls self.old rest work.old)) }
     {
         let place = self.place_at(slot);
         let Some(label) = self.advertise(slot, &content) else {
@@ -105,50 +97,44 @@ impl Control {
             label,
             told: content,
         };
-        self.say(alloc, place.peer, &message, link, out)
+        self.say(place.peer, &message, work)
     }
 
     // An end that advertises withdraws its label, where it should tell nothing by now.
     fn withdraw_unless<L: Link>(
         &mut self,
-        alloc: Global,
         slot: usize,
         label: Label,
         content: Told,
-        link: &mut L,
-        out: &mut List<Effect>,
+        work: &mut AtWork<'_, L>,
     ) -> Result<bool, NoMemory>
         requires slot { slot < length self.old.ends.places }
         requires kind { content.kind ≤ 0x7FFF }
-        ensures keeps { KeepsPlan self.old self.new }
-        ensures calls { GoesOn (L.calls link.old) (L.calls link.new) }
-        ensures step { IfOk result (λ failed. (told : Answers) (rest : Rest) → Agrees told (L.calls link.new)
-            → record { work = at_control self.new rest (L.calls link.new) out.new; failed = failed }
-            ≡ withdraws_unless told (place_of self.old.ends slot) label content (wish self.old.plan (controlled self.old rest) (place_of self.old.ends slot)) (at_control self.old rest (L.calls link.old) out.old)) }
+        ensures goes { Works L.calls self.old work.old self.new work.new }
+        ensures step { IfOk result (λ failed. (told : Answers) (rest : Rest) → Agrees told (L.calls work.new.link.now)
+            → record { work = at_work L.calls self.new rest work.new; failed = failed }
+            ≡ withdraws_unless told (place_of self.old.ends slot) label content (wish self.old.plan (controlled self.old rest) (place_of self.old.ends slot)) (at_work L.calls self.old rest work.old)) }
     {
         match self.wish(slot) {
             Some(_) => Ok(false),
-            None => self.put_withdrawal(alloc, slot, label, content, link, out),
+            None => self.put_withdrawal(slot, label, content, work),
         }
     }
 
     // An end withdraws its label, and puts that.
     fn put_withdrawal<L: Link>(
         &mut self,
-        alloc: Global,
         slot: usize,
         label: Label,
         content: Told,
-        link: &mut L,
-        out: &mut List<Effect>,
+        work: &mut AtWork<'_, L>,
     ) -> Result<bool, NoMemory>
         requires slot { slot < length self.old.ends.places }
         requires kind { content.kind ≤ 0x7FFF }
-        ensures keeps { KeepsPlan self.old self.new }
-        ensures calls { GoesOn (L.calls link.old) (L.calls link.new) }
-        ensures step { IfOk result (λ failed. (told : Answers) (rest : Rest) → Agrees told (L.calls link.new)
-            → record { work = at_control self.new rest (L.calls link.new) out.new; failed = failed }
-            ≡ withdraws told (place_of self.old.ends slot) label content (at_control self.old rest (L.calls link.old) out.old)) }
+        ensures goes { Works L.calls self.old work.old self.new work.new }
+        ensures step { IfOk result (λ failed. (told : Answers) (rest : Rest) → Agrees told (L.calls work.new.link.now)
+            → record { work = at_work L.calls self.new rest work.new; failed = failed }
+            ≡ withdraws told (place_of self.old.ends slot) label content (at_work L.calls self.old rest work.old)) }
     {
         let place = self.place_at(slot);
         self.withdraw(slot);
@@ -157,27 +143,24 @@ impl Control {
             label,
             told: content,
         };
-        self.say(alloc, place.peer, &message, link, out)
+        self.say(place.peer, &message, work)
     }
 
     // A status that has changed is told; answers whether the link did not take a message.
     pub(super) fn mend_status<L: Link>(
         &mut self,
-        alloc: Global,
         slot: usize,
-        link: &mut L,
-        out: &mut List<Effect>,
+        work: &mut AtWork<'_, L>,
     ) -> Result<bool, NoMemory>
         requires { slot < length self.old.ends.places }
-        ensures keeps { KeepsPlan self.old self.new }
-        ensures calls { GoesOn (L.calls link.old) (L.calls link.new) }
-        ensures step { IfOk result (λ failed. (told : Answers) (rest : Rest) → Agrees told (L.calls link.new)
-            → record { work = at_control self.new rest (L.calls link.new) out.new; failed = failed } ≡ mends_status self.old.plan told (place_of self.old.ends slot) (at_control self.old rest (L.calls link.old) out.old)) }
+        ensures goes { Works L.calls self.old work.old self.new work.new }
+        ensures step { IfOk result (λ failed. (told : Answers) (rest : Rest) → Agrees told (L.calls work.new.link.now)
+            → record { work = at_work L.calls self.new rest work.new; failed = failed } ≡ mends_status self.old.plan told (place_of self.old.ends slot) (at_work L.calls self.old rest work.old)) }
     {
         match self.end_in(slot) {
             PwEnd::Advertised(end) => {
                 let content = *end.told();
-                self.tell_over(alloc, slot, content, link, out)
+                self.tell_over(slot, content, work)
             }
             PwEnd::Idle(_) => Ok(false),
             PwEnd::Withdrawing(_) => Ok(false),
@@ -187,22 +170,19 @@ impl Control {
     // Only an end whose mapping carries a status tells a new one.
     fn tell_over<L: Link>(
         &mut self,
-        alloc: Global,
         slot: usize,
         content: Told,
-        link: &mut L,
-        out: &mut List<Effect>,
+        work: &mut AtWork<'_, L>,
     ) -> Result<bool, NoMemory>
         requires slot { slot < length self.old.ends.places }
         requires kind { content.kind ≤ 0x7FFF }
-        ensures keeps { KeepsPlan self.old self.new }
-        ensures calls { GoesOn (L.calls link.old) (L.calls link.new) }
-        ensures step { IfOk result (λ failed. (told : Answers) (rest : Rest) → Agrees told (L.calls link.new)
-            → record { work = at_control self.new rest (L.calls link.new) out.new; failed = failed }
-            ≡ tells_over told (place_of self.old.ends slot) content (status_to_tell self.old.plan (controlled self.old rest) (place_of self.old.ends slot)) content.status (at_control self.old rest (L.calls link.old) out.old)) }
+        ensures goes { Works L.calls self.old work.old self.new work.new }
+        ensures step { IfOk result (λ failed. (told : Answers) (rest : Rest) → Agrees told (L.calls work.new.link.now)
+            → record { work = at_work L.calls self.new rest work.new; failed = failed }
+            ≡ tells_over told (place_of self.old.ends slot) content (status_to_tell self.old.plan (controlled self.old rest) (place_of self.old.ends slot)) content.status (at_work L.calls self.old rest work.old)) }
     {
         match content.status {
-            Some(last) => self.tell_unless(alloc, slot, content, last, link, out),
+            Some(last) => self.tell_unless(slot, content, last, work),
             None => Ok(false),
         }
     }
@@ -210,45 +190,39 @@ impl Control {
     // A status other than the last one is told.
     fn tell_unless<L: Link>(
         &mut self,
-        alloc: Global,
         slot: usize,
         content: Told,
         last: PwStatus,
-        link: &mut L,
-        out: &mut List<Effect>,
+        work: &mut AtWork<'_, L>,
     ) -> Result<bool, NoMemory>
         requires slot { slot < length self.old.ends.places }
         requires kind { content.kind ≤ 0x7FFF }
-        ensures keeps { KeepsPlan self.old self.new }
-        ensures calls { GoesOn (L.calls link.old) (L.calls link.new) }
-        ensures step { IfOk result (λ failed. (told : Answers) (rest : Rest) → Agrees told (L.calls link.new)
-            → record { work = at_control self.new rest (L.calls link.new) out.new; failed = failed }
-            ≡ tells_over told (place_of self.old.ends slot) content (status_to_tell self.old.plan (controlled self.old rest) (place_of self.old.ends slot)) (Some last) (at_control self.old rest (L.calls link.old) out.old)) }
+        ensures goes { Works L.calls self.old work.old self.new work.new }
+        ensures step { IfOk result (λ failed. (told : Answers) (rest : Rest) → Agrees told (L.calls work.new.link.now)
+            → record { work = at_work L.calls self.new rest work.new; failed = failed }
+            ≡ tells_over told (place_of self.old.ends slot) content (status_to_tell self.old.plan (controlled self.old rest) (place_of self.old.ends slot)) (Some last) (at_work L.calls self.old rest work.old)) }
     {
         let status = self.status_to_tell(slot);
         if last.0 == status.0 {
             return Ok(false);
         }
-        self.put_status(alloc, slot, content, status, link, out)
+        self.put_status(slot, content, status, work)
     }
 
     // An end tells a new status, and puts that.
     fn put_status<L: Link>(
         &mut self,
-        alloc: Global,
         slot: usize,
         content: Told,
         status: PwStatus,
-        link: &mut L,
-        out: &mut List<Effect>,
+        work: &mut AtWork<'_, L>,
     ) -> Result<bool, NoMemory>
         requires slot { slot < length self.old.ends.places }
         requires kind { content.kind ≤ 0x7FFF }
-        ensures keeps { KeepsPlan self.old self.new }
-        ensures calls { GoesOn (L.calls link.old) (L.calls link.new) }
-        ensures step { IfOk result (λ failed. (told : Answers) (rest : Rest) → Agrees told (L.calls link.new)
-            → record { work = at_control self.new rest (L.calls link.new) out.new; failed = failed }
-            ≡ tells_new_status told (place_of self.old.ends slot) content status (at_control self.old rest (L.calls link.old) out.old)) }
+        ensures goes { Works L.calls self.old work.old self.new work.new }
+        ensures step { IfOk result (λ failed. (told : Answers) (rest : Rest) → Agrees told (L.calls work.new.link.now)
+            → record { work = at_work L.calls self.new rest work.new; failed = failed }
+            ≡ tells_new_status told (place_of self.old.ends slot) content status (at_work L.calls self.old rest work.old)) }
     {
         let place = self.place_at(slot);
         self.tell(slot, status);
@@ -257,7 +231,7 @@ impl Control {
             status,
             told: content,
         };
-        self.say(alloc, place.peer, &message, link, out)
+        self.say(place.peer, &message, work)
     }
 
     // A spoke that was chosen anew withdraws addresses; answers whether the link did not take that. Before this round the edge
@@ -265,22 +239,19 @@ impl Control {
     pub(super) fn mend_choice<L: Link>(
         &mut self,
         chosen: &[Option<WireId>],
-        alloc: Global,
         slot: usize,
-        link: &mut L,
-        out: &mut List<Effect>,
+        work: &mut AtWork<'_, L>,
     ) -> Result<bool, NoMemory>
         requires { slot < length self.old.ends.places }
-        ensures keeps { KeepsPlan self.old self.new }
-        ensures calls { GoesOn (L.calls link.old) (L.calls link.new) }
-        ensures step { IfOk result (λ failed. (told : Answers) (rest : Rest) → Agrees told (L.calls link.new)
-            → record { work = at_control self.new rest (L.calls link.new) out.new; failed = failed }
-            ≡ mends_choice self.old.plan told (view None chosen.now) (place_of self.old.ends slot) (at_control self.old rest (L.calls link.old) out.old)) }
+        ensures goes { Works L.calls self.old work.old self.new work.new }
+        ensures step { IfOk result (λ failed. (told : Answers) (rest : Rest) → Agrees told (L.calls work.new.link.now)
+            → record { work = at_work L.calls self.new rest work.new; failed = failed }
+            ≡ mends_choice self.old.plan told (view None chosen.now) (place_of self.old.ends slot) (at_work L.calls self.old rest work.old)) }
     {
         if !self.is_new_choice(chosen, slot) {
             return Ok(false);
         }
-        self.tell_piece(alloc, slot, &[], link, out)
+        self.tell_piece(slot, &[], work)
     }
 
     // Whether the spoke of an end is the one that is chosen now, and was not before.

@@ -14,12 +14,15 @@ ghost use Rattle.edge_model.specs.Packet.{advertiser, alerted, alerts_end, bridg
 ghost use Rattle.edge_model.specs.Role.{down_at};
 ghost use Rattle.edge_model.specs.Send.{drops};
 ghost use Rattle.edge_model.specs.Synced.{InSync};
-ghost use Rattle.edge_model.specs.Work.{Agrees, Answers, GoesOn, Work};
+ghost use Rattle.edge_model.specs.Work.{Agrees, Answers, Work};
 ghost use Rattle.pw_ends.specs.Ends.{end_in, place_of};
-ghost use Rattle.provider_edge.specs.Control.{KeepsPlan, Rest, at_control, controlled};
+ghost use Rattle.provider_edge.specs.AtWork.{Works, at_work};
+ghost use Rattle.provider_edge.specs.Control.{Rest, at_control, controlled};
 ghost use Rattle.edge_forwarding.specs.Forwarding.{open_ports};
 
 use super::Control;
+use crate::at_work::AtWork;
+use crate::ingress::Ingress;
 use crate::quiet::drop_for;
 use edge_forwarding::{read_payload, without_entry};
 use edge_model::Effect;
@@ -40,44 +43,38 @@ impl Control {
     /// A packet comes: its first entry is read.
     pub fn packet<L: Link>(
         &mut self,
-        alloc: Global,
         octets: &[u8],
-        link: &mut L,
-        out: &mut List<Effect>,
+        work: &mut AtWork<'_, L>,
     ) -> Result<(), NoMemory>
         requires synced { (rest : Rest) → InSync self.old.plan (controlled self.old rest) }
-        ensures keeps { KeepsPlan self.old self.new }
-        ensures calls { GoesOn (L.calls link.old) (L.calls link.new) }
-        ensures step { OnOk result ((told : Answers) (rest : Rest) → Agrees told (L.calls link.new)
-            → at_control self.new rest (L.calls link.new) out.new ≡ packet_input self.old.plan told octets.now (at_control self.old rest (L.calls link.old) out.old)) }
+        ensures goes { Works L.calls self.old work.old self.new work.new }
+        ensures step { OnOk result ((told : Answers) (rest : Rest) → Agrees told (L.calls work.new.link.now)
+            → at_work L.calls self.new rest work.new ≡ packet_input self.old.plan told octets.now (at_work L.calls self.old rest work.old)) }
     {
         match read_entry(octets) {
-            Ok(entry) => self.opened(alloc, octets, &entry, link, out),
-            Err(fault) => drop_for(fault.cause(), out),
+            Ok(entry) => self.opened(octets, &entry, work),
+            Err(fault) => drop_for(fault.cause(), &mut work.effects.list),
         }
     }
 
     // A packet with this first entry comes.
     fn opened<L: Link>(
         &mut self,
-        alloc: Global,
         octets: &[u8],
         entry: &StackEntry,
-        link: &mut L,
-        out: &mut List<Effect>,
+        work: &mut AtWork<'_, L>,
     ) -> Result<(), NoMemory>
         requires synced { (rest : Rest) → InSync self.old.plan (controlled self.old rest) }
         requires read { entry_of octets.now ≡ Ok entry.now }
-        ensures keeps { KeepsPlan self.old self.new }
-        ensures calls { GoesOn (L.calls link.old) (L.calls link.new) }
-        ensures step { OnOk result ((told : Answers) (rest : Rest) → Agrees told (L.calls link.new)
-            → at_control self.new rest (L.calls link.new) out.new ≡ opened_by self.old.plan told octets.now (Ok entry.now) (at_control self.old rest (L.calls link.old) out.old)) }
+        ensures goes { Works L.calls self.old work.old self.new work.new }
+        ensures step { OnOk result ((told : Answers) (rest : Rest) → Agrees told (L.calls work.new.link.now)
+            → at_work L.calls self.new rest work.new ≡ opened_by self.old.plan told octets.now (Ok entry.now) (at_work L.calls self.old rest work.old)) }
     {
         let behind = without_entry(octets);
         if is_alert(entry) {
-            return self.alerted(behind, out);
+            return self.alerted(behind, &mut work.effects.list);
         }
-        self.labelled(alloc, octets, entry, link, out)
+        self.labelled(octets, entry, work)
     }
 
     // 1. Behind a router alert a second entry is read. Connectivity verification is not offered yet.
@@ -137,69 +134,60 @@ impl Control {
     // 2. The label is one of the edge's own, at the bottom of the stack.
     fn labelled<L: Link>(
         &mut self,
-        alloc: Global,
         octets: &[u8],
         entry: &StackEntry,
-        link: &mut L,
-        out: &mut List<Effect>,
+        work: &mut AtWork<'_, L>,
     ) -> Result<(), NoMemory>
         requires synced { (rest : Rest) → InSync self.old.plan (controlled self.old rest) }
         requires long { 4 ≤ length octets.now }
-        ensures keeps { KeepsPlan self.old self.new }
-        ensures calls { GoesOn (L.calls link.old) (L.calls link.new) }
-        ensures step { OnOk result ((told : Answers) (rest : Rest) → Agrees told (L.calls link.new)
-            → at_control self.new rest (L.calls link.new) out.new ≡ labelled self.old.plan told octets.now entry.now (at_control self.old rest (L.calls link.old) out.old)) }
+        ensures goes { Works L.calls self.old work.old self.new work.new }
+        ensures step { OnOk result ((told : Answers) (rest : Rest) → Agrees told (L.calls work.new.link.now)
+            → at_work L.calls self.new rest work.new ≡ labelled self.old.plan told octets.now entry.now (at_work L.calls self.old rest work.old)) }
     {
         if entry.label < LEAST_LABEL {
-            return drop_for(DropCause::NoLabel, out);
+            return drop_for(DropCause::NoLabel, &mut work.effects.list);
         }
         if !entry.bottom {
-            return drop_for(DropCause::NotBottom, out);
+            return drop_for(DropCause::NotBottom, &mut work.effects.list);
         }
-        self.named(alloc, octets, entry, link, out)
+        self.named(octets, entry, work)
     }
 
     // The label is that of one end.
     fn named<L: Link>(
         &mut self,
-        alloc: Global,
         octets: &[u8],
         entry: &StackEntry,
-        link: &mut L,
-        out: &mut List<Effect>,
+        work: &mut AtWork<'_, L>,
     ) -> Result<(), NoMemory>
         requires synced { (rest : Rest) → InSync self.old.plan (controlled self.old rest) }
         requires long { 4 ≤ length octets.now }
-        ensures keeps { KeepsPlan self.old self.new }
-        ensures calls { GoesOn (L.calls link.old) (L.calls link.new) }
-        ensures step { OnOk result ((told : Answers) (rest : Rest) → Agrees told (L.calls link.new)
-            → at_control self.new rest (L.calls link.new) out.new
-            ≡ owned self.old.plan told octets.now entry.now (advertiser self.old.plan (controlled self.old rest) entry.now.label) (at_control self.old rest (L.calls link.old) out.old)) }
+        ensures goes { Works L.calls self.old work.old self.new work.new }
+        ensures step { OnOk result ((told : Answers) (rest : Rest) → Agrees told (L.calls work.new.link.now)
+            → at_work L.calls self.new rest work.new
+            ≡ owned self.old.plan told octets.now entry.now (advertiser self.old.plan (controlled self.old rest) entry.now.label) (at_work L.calls self.old rest work.old)) }
     {
         match self.advertiser(entry.label) {
-            Some(slot) => self.owned(alloc, octets, entry, slot, link, out),
-            None => drop_for(DropCause::NoLabel, out),
+            Some(slot) => self.owned(octets, entry, slot, work),
+            None => drop_for(DropCause::NoLabel, &mut work.effects.list),
         }
     }
 
     // The end of a slot advertises the label.
     fn owned<L: Link>(
         &mut self,
-        alloc: Global,
         octets: &[u8],
         entry: &StackEntry,
         slot: usize,
-        link: &mut L,
-        out: &mut List<Effect>,
+        work: &mut AtWork<'_, L>,
     ) -> Result<(), NoMemory>
         requires synced { (rest : Rest) → InSync self.old.plan (controlled self.old rest) }
         requires long { 4 ≤ length octets.now }
         requires slot { slot < length self.old.ends.places }
-        ensures keeps { KeepsPlan self.old self.new }
-        ensures calls { GoesOn (L.calls link.old) (L.calls link.new) }
-        ensures step { OnOk result ((told : Answers) (rest : Rest) → Agrees told (L.calls link.new)
-            → at_control self.new rest (L.calls link.new) out.new
-            ≡ owned self.old.plan told octets.now entry.now (Some (place_of self.old.ends slot)) (at_control self.old rest (L.calls link.old) out.old)) }
+        ensures goes { Works L.calls self.old work.old self.new work.new }
+        ensures step { OnOk result ((told : Answers) (rest : Rest) → Agrees told (L.calls work.new.link.now)
+            → at_work L.calls self.new rest work.new
+            ≡ owned self.old.plan told octets.now entry.now (Some (place_of self.old.ends slot)) (at_work L.calls self.old rest work.old)) }
     {
         let _ = entry;
         // 3. A switching point passes the packet on; that is to come.
@@ -207,35 +195,32 @@ impl Control {
         if !place.terminal {
             return Ok(());
         }
-        self.terminated(alloc, slot, without_entry(octets), link, out)
+        self.terminated(slot, without_entry(octets), work)
     }
 
     // 4. A terminal end takes what stands behind its label, where it is bound.
     fn terminated<L: Link>(
         &mut self,
-        alloc: Global,
         slot: usize,
         payload: &[u8],
-        link: &mut L,
-        out: &mut List<Effect>,
+        work: &mut AtWork<'_, L>,
     ) -> Result<(), NoMemory>
         requires synced { (rest : Rest) → InSync self.old.plan (controlled self.old rest) }
         requires slot { slot < length self.old.ends.places }
         requires terminal { (place_of self.old.ends slot).terminal ≡ true }
-        ensures keeps { KeepsPlan self.old self.new }
-        ensures calls { GoesOn (L.calls link.old) (L.calls link.new) }
-        ensures step { OnOk result ((told : Answers) (rest : Rest) → Agrees told (L.calls link.new)
-            → at_control self.new rest (L.calls link.new) out.new
-            ≡ terminated self.old.plan told (place_of self.old.ends slot) (wire_row self.old.plan (place_of self.old.ends slot).wire) (end_in self.old.ends slot).remote payload.now (at_control self.old rest (L.calls link.old) out.old)) }
+        ensures goes { Works L.calls self.old work.old self.new work.new }
+        ensures step { OnOk result ((told : Answers) (rest : Rest) → Agrees told (L.calls work.new.link.now)
+            → at_work L.calls self.new rest work.new
+            ≡ terminated self.old.plan told (place_of self.old.ends slot) (wire_row self.old.plan (place_of self.old.ends slot).wire) (end_in self.old.ends slot).remote payload.now (at_work L.calls self.old rest work.old)) }
     {
         if !self.is_bound(slot) {
-            return drop_for(DropCause::Down, out);
+            return drop_for(DropCause::Down, &mut work.effects.list);
         }
         let offer = self.offer_at(slot);
         if !offer.cword {
-            return self.enter(alloc, slot, payload, link, out);
+            return self.enter(slot, payload, work);
         }
-        self.by_control_word(alloc, slot, payload, link, out)
+        self.by_control_word(slot, payload, work)
     }
 
     // Whether the end of a slot holds a binding.
@@ -260,76 +245,71 @@ impl Control {
     // With a control word: an associated channel is connectivity verification, and else a frame stands behind it.
     fn by_control_word<L: Link>(
         &mut self,
-        alloc: Global,
         slot: usize,
         payload: &[u8],
-        link: &mut L,
-        out: &mut List<Effect>,
+        work: &mut AtWork<'_, L>,
     ) -> Result<(), NoMemory>
         requires synced { (rest : Rest) → InSync self.old.plan (controlled self.old rest) }
         requires slot { slot < length self.old.ends.places }
         requires terminal { (place_of self.old.ends slot).terminal ≡ true }
-        ensures keeps { KeepsPlan self.old self.new }
-        ensures calls { GoesOn (L.calls link.old) (L.calls link.new) }
-        ensures step { OnOk result ((told : Answers) (rest : Rest) (row : WirePlan) → Agrees told (L.calls link.new) → wire_row self.old.plan (place_of self.old.ends slot).wire ≡ Some row
-            → at_control self.new rest (L.calls link.new) out.new ≡ by_control_word self.old.plan told row (place_of self.old.ends slot) payload.now (at_control self.old rest (L.calls link.old) out.old)) }
+        ensures goes { Works L.calls self.old work.old self.new work.new }
+        ensures step { OnOk result ((told : Answers) (rest : Rest) (row : WirePlan) → Agrees told (L.calls work.new.link.now) → wire_row self.old.plan (place_of self.old.ends slot).wire ≡ Some row
+            → at_work L.calls self.new rest work.new ≡ by_control_word self.old.plan told row (place_of self.old.ends slot) payload.now (at_work L.calls self.old rest work.old)) }
     {
         if payload.is_empty() {
-            return drop_for(DropCause::Short, out);
+            return drop_for(DropCause::Short, &mut work.effects.list);
         }
         if is_channel(payload) {
-            return drop_for(DropCause::NotOffered, out);
+            return drop_for(DropCause::NotOffered, &mut work.effects.list);
         }
-        self.enter(alloc, slot, payload, link, out)
+        self.enter(slot, payload, work)
     }
 
     // 5. A frame comes by a wire whose end forwards, and is bridged.
     fn enter<L: Link>(
         &mut self,
-        alloc: Global,
         slot: usize,
         payload: &[u8],
-        link: &mut L,
-        out: &mut List<Effect>,
+        work: &mut AtWork<'_, L>,
     ) -> Result<(), NoMemory>
         requires synced { (rest : Rest) → InSync self.old.plan (controlled self.old rest) }
         requires slot { slot < length self.old.ends.places }
         requires terminal { (place_of self.old.ends slot).terminal ≡ true }
-        ensures keeps { KeepsPlan self.old self.new }
-        ensures calls { GoesOn (L.calls link.old) (L.calls link.new) }
-        ensures step { OnOk result ((told : Answers) (rest : Rest) (row : WirePlan) → Agrees told (L.calls link.new) → wire_row self.old.plan (place_of self.old.ends slot).wire ≡ Some row
-            → at_control self.new rest (L.calls link.new) out.new ≡ enters self.old.plan told row (place_of self.old.ends slot) payload.now (at_control self.old rest (L.calls link.old) out.old)) }
+        ensures goes { Works L.calls self.old work.old self.new work.new }
+        ensures step { OnOk result ((told : Answers) (rest : Rest) (row : WirePlan) → Agrees told (L.calls work.new.link.now) → wire_row self.old.plan (place_of self.old.ends slot).wire ≡ Some row
+            → at_work L.calls self.new rest work.new ≡ enters self.old.plan told row (place_of self.old.ends slot) payload.now (at_work L.calls self.old rest work.old)) }
     {
         if self.down_of(slot).is_some() {
-            return drop_for(DropCause::Down, out);
+            return drop_for(DropCause::Down, &mut work.effects.list);
         }
-        self.bridge_payload(alloc, slot, payload, link, out)
+        self.bridge_payload(slot, payload, work)
     }
 
     // A frame comes by a wire whose end forwards.
     fn bridge_payload<L: Link>(
         &mut self,
-        alloc: Global,
         slot: usize,
         payload: &[u8],
-        link: &mut L,
-        out: &mut List<Effect>,
+        work: &mut AtWork<'_, L>,
     ) -> Result<(), NoMemory>
         requires synced { (rest : Rest) → InSync self.old.plan (controlled self.old rest) }
         requires slot { slot < length self.old.ends.places }
         requires terminal { (place_of self.old.ends slot).terminal ≡ true }
         requires up { (rest : Rest) → is_up (down_at self.old.plan (controlled self.old rest) (place_of self.old.ends slot)) ≡ true }
-        ensures keeps { KeepsPlan self.old self.new }
-        ensures calls { GoesOn (L.calls link.old) (L.calls link.new) }
-        ensures step { OnOk result ((told : Answers) (rest : Rest) (row : WirePlan) → Agrees told (L.calls link.new) → wire_row self.old.plan (place_of self.old.ends slot).wire ≡ Some row
-            → at_control self.new rest (L.calls link.new) out.new ≡ bridges_frame self.old.plan told row (place_of self.old.ends slot) payload.now (at_control self.old rest (L.calls link.old) out.old)) }
+        ensures goes { Works L.calls self.old work.old self.new work.new }
+        ensures step { OnOk result ((told : Answers) (rest : Rest) (row : WirePlan) → Agrees told (L.calls work.new.link.now) → wire_row self.old.plan (place_of self.old.ends slot).wire ≡ Some row
+            → at_work L.calls self.new rest work.new ≡ bridges_frame self.old.plan told row (place_of self.old.ends slot) payload.now (at_work L.calls self.old rest work.old)) }
     {
         let place = self.place_at(slot);
-        let came = Arrival::Wire(place.wire);
         let service = self.service_at(slot);
         let port = self.port_at(slot, service);
-        let read = self.read_frame(alloc, slot, payload)?;
-        self.receive(alloc, came, service, port, read, link, out)
+        let read = self.read_frame(work.alloc, slot, payload)?;
+        let ingress = Ingress {
+            came: Arrival::Wire(place.wire),
+            service,
+            port,
+        };
+        self.bridge_read(ingress, read, work)
     }
 
     // The service of the wire of an end.

@@ -5,18 +5,18 @@ ghost use Rattle.net_base.specs.declared.outside.link_call.LinkCall.{LinkCall};
 ghost use Rattle.pw_signalling.specs.Rows.{group_stated, group_unbound, released, stated, unbound};
 ghost use Rattle.edge_model.specs.declared.effect.Effect.{Effect};
 ghost use Rattle.edge_model.specs.EndPlaces.{end_named};
-ghost use Rattle.edge_model.specs.Signal.{end_of_fec, hears_mapping, hears_release, hears_status, hears_withdraw, releases_label, with_end_changed, with_named};
-ghost use Rattle.edge_model.specs.Work.{Agrees, Answers, GoesOn};
+ghost use Rattle.edge_model.specs.Signal.{end_of_fec, hears_status, hears_withdraw, releases_label, with_end_changed, with_named};
+ghost use Rattle.edge_model.specs.Work.{Agrees, Answers};
+ghost use Rattle.provider_edge.specs.AtWork.{Works, at_work};
 ghost use Rattle.provider_edge.specs.Control.{KeepsPlan, Rest, at_control, binds_to, controlled};
 
 use super::Control;
-use edge_model::Effect;
+use crate::at_work::AtWork;
 use ldp_grammar::StatusCode;
-use net_base::{EdgeId, Label, Link, List, NoMemory};
-use peer_dialogue::{PwMessage, binding_in};
+use net_base::{EdgeId, Label, Link, NoMemory};
+use peer_dialogue::PwMessage;
 use pw_signalling::Binding;
 use pw_tlvs::{PwFec, PwStatus};
-use std::alloc::Global;
 
 /// The status data of a Notification that tells the status of a pseudowire (RFC 8077 section 6.3.2).
 const PW_STATUS_CODE: u32 = 0x28;
@@ -25,21 +25,18 @@ impl Control {
     /// Label Mapping: the binding of a known pseudowire is replaced; the label of an unknown one is released.
     pub fn hear_mapping<L: Link>(
         &mut self,
-        alloc: Global,
         peer: EdgeId,
         fec: &PwFec,
         binding: &Binding,
-        link: &mut L,
-        out: &mut List<Effect>,
+        work: &mut AtWork<'_, L>,
     ) -> Result<(), NoMemory>
         requires kind { fec.now.kind ≤ 0x7FFF }
-        ensures keeps { KeepsPlan self.old self.new }
-        ensures calls { GoesOn (L.calls link.old) (L.calls link.new) }
-        ensures step { OnOk result ((told : Answers) (rest : Rest) → Agrees told (L.calls link.new)
-            → at_control self.new rest (L.calls link.new) out.new ≡ binds_to told peer fec.now binding.now (end_of_fec self.old.plan (controlled self.old rest) peer fec.now) (at_control self.old rest (L.calls link.old) out.old)) }
+        ensures goes { Works L.calls self.old work.old self.new work.new }
+        ensures step { OnOk result ((told : Answers) (rest : Rest) → Agrees told (L.calls work.new.link.now)
+            → at_work L.calls self.new rest work.new ≡ binds_to told peer fec.now binding.now (end_of_fec self.old.plan (controlled self.old rest) peer fec.now) (at_work L.calls self.old rest work.old)) }
     {
         let Some(slot) = self.slot_of(peer, fec) else {
-            return self.release(alloc, peer, fec, Some(binding.label), link, out);
+            return self.release(peer, fec, Some(binding.label), work);
         };
         self.bind(slot, binding);
         Ok(())
@@ -48,21 +45,18 @@ impl Control {
     // A release is put, whatever it answers.
     fn release<L: Link>(
         &mut self,
-        alloc: Global,
         peer: EdgeId,
         fec: &PwFec,
         label: Option<Label>,
-        link: &mut L,
-        out: &mut List<Effect>,
+        work: &mut AtWork<'_, L>,
     ) -> Result<(), NoMemory>
         requires kind { fec.now.kind ≤ 0x7FFF }
-        ensures keeps { KeepsPlan self.old self.new }
-        ensures calls { GoesOn (L.calls link.old) (L.calls link.new) }
-        ensures step { OnOk result ((told : Answers) (rest : Rest) → Agrees told (L.calls link.new)
-            → at_control self.new rest (L.calls link.new) out.new ≡ releases_label told peer fec.now label (at_control self.old rest (L.calls link.old) out.old)) }
+        ensures goes { Works L.calls self.old work.old self.new work.new }
+        ensures step { OnOk result ((told : Answers) (rest : Rest) → Agrees told (L.calls work.new.link.now)
+            → at_work L.calls self.new rest work.new ≡ releases_label told peer fec.now label (at_work L.calls self.old rest work.old)) }
     {
         let message = PwMessage::Release { fec: *fec, label };
-        self.say(alloc, peer, &message, link, out)?;
+        self.say(peer, &message, work)?;
         Ok(())
     }
 
@@ -70,21 +64,18 @@ impl Control {
     /// always released.
     pub fn hear_withdraw<L: Link>(
         &mut self,
-        alloc: Global,
         peer: EdgeId,
         fec: &PwFec,
         label: &Option<Label>,
-        link: &mut L,
-        out: &mut List<Effect>,
+        work: &mut AtWork<'_, L>,
     ) -> Result<(), NoMemory>
         requires kind { fec.now.kind ≤ 0x7FFF }
-        ensures keeps { KeepsPlan self.old self.new }
-        ensures calls { GoesOn (L.calls link.old) (L.calls link.new) }
-        ensures step { OnOk result ((told : Answers) (rest : Rest) → Agrees told (L.calls link.new)
-            → at_control self.new rest (L.calls link.new) out.new ≡ hears_withdraw self.old.plan told peer fec.now label.now (at_control self.old rest (L.calls link.old) out.old)) }
+        ensures goes { Works L.calls self.old work.old self.new work.new }
+        ensures step { OnOk result ((told : Answers) (rest : Rest) → Agrees told (L.calls work.new.link.now)
+            → at_work L.calls self.new rest work.new ≡ hears_withdraw self.old.plan told peer fec.now label.now (at_work L.calls self.old rest work.old)) }
     {
         self.unbind_named(peer, fec, *label);
-        self.release(alloc, peer, fec, *label, link, out)
+        self.release(peer, fec, *label, work)
     }
 
     // The binding of the end that a FEC names goes, or each one of the peer's group.

@@ -1,68 +1,58 @@
 //! What is set of the wires of an edge, and what is asked of its ends.
-ghost use Rattle.std.specs.Prelude.{◌≡◌, ◌<◌, ◌≤◌, List, length, Some, true, OnOk, option_copied, option_map, position};
+ghost use Rattle.std.specs.Prelude.{◌≡◌, ◌<◌, ◌≤◌, length, Some, true, OnOk, option_copied, option_map, position};
 ghost use Rattle.std.specs.List.{find};
-ghost use Rattle.net_base.specs.declared.outside.link_call.LinkCall.{LinkCall};
 ghost use Rattle.session_core.specs.State.{IsProper, opened};
 ghost use Rattle.pw_signalling.specs.AnyEnd.{end_of};
 ghost use Rattle.edge_model.specs.Connection.{connects};
 ghost use Rattle.edge_model.specs.EndPlaces.{end_places, ends_here, is_end_of_wire, passes};
-ghost use Rattle.edge_model.specs.Mend.{mends};
 ghost use Rattle.edge_model.specs.Role.{down_at};
 ghost use Rattle.edge_model.specs.State.{end_at, with_bits, with_renewed, with_wire};
 ghost use Rattle.edge_model.specs.Tick.{ticks_sessions};
 ghost use Rattle.edge_model.specs.Wire.{turned_wire};
-ghost use Rattle.edge_model.specs.Work.{Agrees, Answers, GoesOn};
-ghost use Rattle.provider_edge.specs.Control.{KeepsPlan, Rest, at_control, controlled};
+ghost use Rattle.edge_model.specs.Work.{Agrees, Answers};
+ghost use Rattle.provider_edge.specs.AtWork.{Works, at_work};
+ghost use Rattle.provider_edge.specs.Control.{KeepsPlan, Rest, controlled};
 ghost use Rattle.provider_edge.specs.EndOf.{is_of_segment};
 
 use super::Control;
+use crate::at_work::AtWork;
 use edge_model::{Effect, EndPlace};
-use net_base::{Down, EdgeId, Link, List, NoMemory, SegKey, StateName, WireId};
+use net_base::{Down, EdgeId, Link, NoMemory, SegKey, StateName, WireId};
 use peer_dialogue::{Dialogue, Event};
 use pw_signalling::PwEnd;
 use session_core::Peers;
-use std::alloc::Global;
 
 impl Control {
     /// A connection with a peer stands, and its session begins (RFC 5036 section 2.5.3).
     pub fn connect<L: Link>(
         &mut self,
-        alloc: Global,
         peer: EdgeId,
         peers: Peers,
-        link: &mut L,
-        out: &mut List<Effect>,
+        work: &mut AtWork<'_, L>,
     ) -> Result<(), NoMemory>
         requires within { peer.0 < length self.old.plan.edges }
         requires proper { IsProper peers }
-        ensures keeps { KeepsPlan self.old self.new }
-        ensures calls { GoesOn (L.calls link.old) (L.calls link.new) }
-        ensures step { OnOk result ((told : Answers) (rest : Rest) → Agrees told (L.calls link.new)
-            → at_control self.new rest (L.calls link.new) out.new ≡ connects told peer (record { session = opened peers; held = rest.held peer.0; next_id = 1 }) (at_control self.old rest (L.calls link.old) out.old)) }
+        ensures goes { Works L.calls self.old work.old self.new work.new }
+        ensures step { OnOk result ((told : Answers) (rest : Rest) → Agrees told (L.calls work.new.link.now)
+            → at_work L.calls self.new rest work.new ≡ connects told peer (record { session = opened peers; held = rest.held peer.0; next_id = 1 }) (at_work L.calls self.old rest work.old)) }
     {
         self.put_dialogue(peer, Some(Dialogue::open(peers)));
-        out.push(Effect::Session {
+        work.effects.list.push(Effect::Session {
             peer,
             state: StateName::Initialized,
         })?;
-        self.happens(alloc, peer, Event::Start, link, out)
+        self.happens(peer, Event::Start, work)
     }
 
     /// The sessions have a tick, in the plan's order.
-    pub fn tick<L: Link>(
-        &mut self,
-        alloc: Global,
-        link: &mut L,
-        out: &mut List<Effect>,
-    ) -> Result<(), NoMemory>
-        ensures keeps { KeepsPlan self.old self.new }
-        ensures calls { GoesOn (L.calls link.old) (L.calls link.new) }
-        ensures step { OnOk result ((told : Answers) (rest : Rest) → Agrees told (L.calls link.new)
-            → at_control self.new rest (L.calls link.new) out.new ≡ ticks_sessions told 0 (length self.old.plan.edges) (at_control self.old rest (L.calls link.old) out.old)) }
+    pub fn tick<L: Link>(&mut self, work: &mut AtWork<'_, L>) -> Result<(), NoMemory>
+        ensures goes { Works L.calls self.old work.old self.new work.new }
+        ensures step { OnOk result ((told : Answers) (rest : Rest) → Agrees told (L.calls work.new.link.now)
+            → at_work L.calls self.new rest work.new ≡ ticks_sessions told 0 (length self.old.plan.edges) (at_work L.calls self.old rest work.old)) }
     {
         for place in 0..self.plan.edges.len() {
             let peer = EdgeId(place as u16);
-            self.happens(alloc, peer, Event::Ticked, link, out)?;
+            self.happens(peer, Event::Ticked, work)?;
         }
         Ok(())
     }

@@ -5,16 +5,16 @@ ghost use Rattle.pw_ends.specs.Ends.{place_of};
 ghost use Rattle.edge_model.specs.Withdraw.{tells_piece, tells_pieces};
 ghost use Rattle.edge_model.specs.Session.{says};
 ghost use Rattle.edge_model.specs.Content.{mac_withdrawal};
-ghost use Rattle.edge_model.specs.Work.{Agrees, Answers, GoesOn};
-ghost use Rattle.provider_edge.specs.Control.{KeepsPlan, Rest, at_control};
+ghost use Rattle.edge_model.specs.Work.{Agrees, Answers};
+ghost use Rattle.provider_edge.specs.AtWork.{Works, at_work};
+ghost use Rattle.provider_edge.specs.Control.{Rest};
 
 use super::Control;
-use edge_model::Effect;
+use crate::at_work::AtWork;
 use mac_withdraw::pieces;
-use net_base::{Link, List, Mac, NoMemory};
+use net_base::{Link, Mac, NoMemory};
 use peer_dialogue::PwMessage;
 use pw_signalling::{PwEnd, Told};
-use std::alloc::Global;
 
 /// The most addresses of one message.
 const MOST_IN_PIECE: usize = 30;
@@ -23,24 +23,21 @@ impl Control {
     // One piece is put by an end that advertises its label; answers whether the link did not take it.
     pub(super) fn tell_piece<L: Link>(
         &mut self,
-        alloc: Global,
         slot: usize,
         addresses: &[Mac],
-        link: &mut L,
-        out: &mut List<Effect>,
+        work: &mut AtWork<'_, L>,
     ) -> Result<bool, NoMemory>
         requires slot { slot < length self.old.ends.places }
         requires few { length addresses.now ≤ 30 }
-        ensures keeps { KeepsPlan self.old self.new }
-        ensures calls { GoesOn (L.calls link.old) (L.calls link.new) }
-        ensures step { IfOk result (λ failed. (told : Answers) (rest : Rest) → Agrees told (L.calls link.new)
-            → record { work = at_control self.new rest (L.calls link.new) out.new; failed = failed }
-            ≡ tells_piece told (place_of self.old.ends slot) addresses.now (at_control self.old rest (L.calls link.old) out.old)) }
+        ensures goes { Works L.calls self.old work.old self.new work.new }
+        ensures step { IfOk result (λ failed. (told : Answers) (rest : Rest) → Agrees told (L.calls work.new.link.now)
+            → record { work = at_work L.calls self.new rest work.new; failed = failed }
+            ≡ tells_piece told (place_of self.old.ends slot) addresses.now (at_work L.calls self.old rest work.old)) }
     {
         match self.end_in(slot) {
             PwEnd::Advertised(end) => {
                 let content = *end.told();
-                self.put_piece(alloc, slot, addresses, content, link, out)
+                self.put_piece(slot, addresses, content, work)
             }
             PwEnd::Idle(_) => Ok(false),
             PwEnd::Withdrawing(_) => Ok(false),
@@ -50,21 +47,18 @@ impl Control {
     // One piece is put by an end with this content.
     fn put_piece<L: Link>(
         &mut self,
-        alloc: Global,
         slot: usize,
         addresses: &[Mac],
         content: Told,
-        link: &mut L,
-        out: &mut List<Effect>,
+        work: &mut AtWork<'_, L>,
     ) -> Result<bool, NoMemory>
         requires slot { slot < length self.old.ends.places }
         requires few { length addresses.now ≤ 30 }
         requires kind { content.kind ≤ 0x7FFF }
-        ensures keeps { KeepsPlan self.old self.new }
-        ensures calls { GoesOn (L.calls link.old) (L.calls link.new) }
-        ensures step { IfOk result (λ failed. (told : Answers) (rest : Rest) → Agrees told (L.calls link.new)
-            → record { work = at_control self.new rest (L.calls link.new) out.new; failed = failed }
-            ≡ says told (place_of self.old.ends slot).peer (mac_withdrawal (place_of self.old.ends slot).pw_id addresses.now content) (at_control self.old rest (L.calls link.old) out.old)) }
+        ensures goes { Works L.calls self.old work.old self.new work.new }
+        ensures step { IfOk result (λ failed. (told : Answers) (rest : Rest) → Agrees told (L.calls work.new.link.now)
+            → record { work = at_work L.calls self.new rest work.new; failed = failed }
+            ≡ says told (place_of self.old.ends slot).peer (mac_withdrawal (place_of self.old.ends slot).pw_id addresses.now content) (at_work L.calls self.old rest work.old)) }
     {
         let place = self.place_at(slot);
         let message = PwMessage::MacWithdrawal {
@@ -72,28 +66,25 @@ impl Control {
             addresses,
             told: content,
         };
-        self.say(alloc, place.peer, &message, link, out)
+        self.say(place.peer, &message, work)
     }
 
     // The addresses are told in pieces, whatever becomes of each.
     pub(super) fn tell_pieces<L: Link>(
         &mut self,
-        alloc: Global,
         slot: usize,
         addresses: &[Mac],
-        link: &mut L,
-        out: &mut List<Effect>,
+        work: &mut AtWork<'_, L>,
     ) -> Result<(), NoMemory>
         requires slot { slot < length self.old.ends.places }
-        ensures keeps { KeepsPlan self.old self.new }
-        ensures calls { GoesOn (L.calls link.old) (L.calls link.new) }
-        ensures step { OnOk result ((told : Answers) (rest : Rest) → Agrees told (L.calls link.new)
-            → at_control self.new rest (L.calls link.new) out.new
-            ≡ tells_pieces told (place_of self.old.ends slot) (pieces_of addresses.now) (at_control self.old rest (L.calls link.old) out.old)) }
+        ensures goes { Works L.calls self.old work.old self.new work.new }
+        ensures step { OnOk result ((told : Answers) (rest : Rest) → Agrees told (L.calls work.new.link.now)
+            → at_work L.calls self.new rest work.new
+            ≡ tells_pieces told (place_of self.old.ends slot) (pieces_of addresses.now) (at_work L.calls self.old rest work.old)) }
     {
         for index in 0..pieces(addresses.len()) {
             let piece = piece_at(addresses, index);
-            self.tell_piece(alloc, slot, piece, link, out)?;
+            self.tell_piece(slot, piece, work)?;
         }
         Ok(())
     }

@@ -5,42 +5,39 @@ ghost use Rattle.net_base.specs.plan.Places.{circuit_row};
 ghost use Rattle.hvpls_spokes.specs.Port.{is_circuit_port, ports_of};
 ghost use Rattle.edge_model.specs.Circuit.{circuit_input, turned};
 ghost use Rattle.edge_model.specs.State.{addresses_of, with_addresses, with_circuit, without_port};
-ghost use Rattle.edge_model.specs.Work.{Agrees, Answers, GoesOn, beginning};
+ghost use Rattle.edge_model.specs.Work.{Agrees, Answers, beginning};
 ghost use Rattle.edge_forwarding.specs.Forwarding.{own_service};
-ghost use Rattle.provider_edge.specs.Lists.{Keeps, seen, worked};
+ghost use Rattle.provider_edge.specs.AtWork.{EdgeTakes, worked_at};
+ghost use Rattle.provider_edge.specs.Lists.{Keeps, seen};
 
 use crate::Edge;
-use edge_model::Effects;
+use crate::at_work::AtWork;
 use net_base::{CircuitId, Link, NoMemory, ServiceId};
-use std::alloc::Global;
 
 impl Edge {
     // The edge turns a circuit of its own that is not so already, and mends its ends.
     pub(crate) fn circuit<L: Link>(
         &mut self,
-        alloc: Global,
         circuit: CircuitId,
         on: bool,
-        link: &mut L,
-        effects: &mut Effects,
+        work: &mut AtWork<'_, L>,
     ) -> Result<(), NoMemory>
         requires working { self.old.stopped ≡ true }
-        requires fresh { effects.old ≡ record { idle = false; list = [] } }
-        ensures keeps { Keeps self.old self.new }
-        ensures calls { GoesOn (L.calls link.old) (L.calls link.new) }
-        ensures step { OnOk result ((told : Answers) → Agrees told (L.calls link.new)
-            → worked self.new (L.calls link.new) effects.new ≡ circuit_input self.old.plan told circuit on (circuit_row self.old.plan circuit) (beginning (seen self.old) (L.calls link.old))) }
+        requires fresh { work.old.effects.now ≡ record { idle = false; list = [] } }
+        ensures goes { EdgeTakes L.calls self.old work.old self.new work.new }
+        ensures step { OnOk result ((told : Answers) → Agrees told (L.calls work.new.link.now)
+            → worked_at L.calls self.new work.new ≡ circuit_input self.old.plan told circuit on (circuit_row self.old.plan circuit) (beginning (seen self.old) (L.calls work.old.link.now))) }
     {
         let Some(service) = self.own_service(circuit) else {
-            effects.idle = true;
+            work.effects.idle = true;
             return Ok(());
         };
         if self.is_on(circuit) == on {
-            effects.idle = true;
+            work.effects.idle = true;
             return Ok(());
         }
         self.turn_circuit(circuit, service, on);
-        self.mend(alloc, link, &mut effects.list)
+        self.mend(work)
     }
 
     // Turns a circuit of the edge; where it is off, the bridge forgets what it learned there.

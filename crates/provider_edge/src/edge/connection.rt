@@ -7,65 +7,60 @@ ghost use Rattle.edge_model.specs.Connection.{connected_input, connects, lost_in
 ghost use Rattle.edge_model.specs.Mend.{mends};
 ghost use Rattle.edge_model.specs.Session.{happens_with_ends};
 ghost use Rattle.edge_model.specs.State.{with_learned, without_ends, without_peerings};
-ghost use Rattle.edge_model.specs.Work.{Agrees, Answers, GoesOn, beginning};
+ghost use Rattle.edge_model.specs.Work.{Agrees, Answers, beginning};
 ghost use Rattle.net_base.specs.declared.outside.link_call.LinkCall.{LinkCall};
+ghost use Rattle.provider_edge.specs.AtWork.{EdgeTakes, EdgeWorks, edge_at_work, worked_at};
 ghost use Rattle.provider_edge.specs.Lists.{Keeps, seen, worked};
 ghost use Rattle.peer_dialogue.specs.Peering.{at_edge, connection_with, peers_between};
 
 use crate::Edge;
-use edge_model::{Effect, Effects};
+use crate::at_work::AtWork;
+use edge_model::Effect;
 use net_base::{EdgeId, Link, List, NoMemory};
 use session_core::Peers;
-use std::alloc::Global;
 
 impl Edge {
     // The edge's end of a connection with a peer stands, and its session begins.
     pub(crate) fn connected<L: Link>(
         &mut self,
-        alloc: Global,
         peer: EdgeId,
-        link: &mut L,
-        effects: &mut Effects,
+        work: &mut AtWork<'_, L>,
     ) -> Result<(), NoMemory>
         requires working { self.old.stopped ≡ true }
-        requires fresh { effects.old ≡ record { idle = false; list = [] } }
-        ensures keeps { Keeps self.old self.new }
-        ensures calls { GoesOn (L.calls link.old) (L.calls link.new) }
-        ensures step { OnOk result ((told : Answers) → Agrees told (L.calls link.new)
-            → worked self.new (L.calls link.new) effects.new ≡ connected_input self.old.plan told peer (beginning (seen self.old) (L.calls link.old))) }
+        requires fresh { work.old.effects.now ≡ record { idle = false; list = [] } }
+        ensures goes { EdgeTakes L.calls self.old work.old self.new work.new }
+        ensures step { OnOk result ((told : Answers) → Agrees told (L.calls work.new.link.now)
+            → worked_at L.calls self.new work.new ≡ connected_input self.old.plan told peer (beginning (seen self.old) (L.calls work.old.link.now))) }
     {
         if !self.plan.joined(self.me, peer) || self.has_end(peer) {
-            effects.idle = true;
+            work.effects.idle = true;
             return Ok(());
         }
         let Some(peers) = self.peers_with(peer) else {
-            effects.idle = true;
+            work.effects.idle = true;
             return Ok(());
         };
         self.forget_octets(peer);
-        self.connect(alloc, peer, peers, link, &mut effects.list)?;
-        self.mend(alloc, link, &mut effects.list)
+        self.connect(peer, peers, work)?;
+        self.mend(work)
     }
 
     // A connection stands, of which nothing came yet, and its session begins.
     fn connect<L: Link>(
         &mut self,
-        alloc: Global,
         peer: EdgeId,
         peers: Peers,
-        link: &mut L,
-        out: &mut List<Effect>,
+        work: &mut AtWork<'_, L>,
     ) -> Result<(), NoMemory>
         requires working { self.old.stopped ≡ true }
         requires within { peer.0 < length self.old.plan.edges }
         requires proper { IsProper peers }
         requires none { slice_index_or self.old.held peer.0 [] ≡ [] }
-        ensures keeps { Keeps self.old self.new }
-        ensures calls { GoesOn (L.calls link.old) (L.calls link.new) }
-        ensures step { OnOk result ((told : Answers) → Agrees told (L.calls link.new)
-            → at_edge (seen self.new) (L.calls link.new) out.new ≡ connects told peer (connection_with peers) (at_edge (seen self.old) (L.calls link.old) out.old)) }
+        ensures goes { EdgeWorks L.calls self.old work.old self.new work.new }
+        ensures step { OnOk result ((told : Answers) → Agrees told (L.calls work.new.link.now)
+            → edge_at_work L.calls self.new work.new ≡ connects told peer (connection_with peers) (edge_at_work L.calls self.old work.old)) }
     {
-        self.control.connect(alloc, peer, peers, link, out)
+        self.control.connect(peer, peers, work)
     }
 
     // The two ends of a session, as the plan has them.
@@ -98,24 +93,21 @@ impl Edge {
     // The edge's end of a connection with a peer is lost.
     pub(crate) fn lost<L: Link>(
         &mut self,
-        alloc: Global,
         peer: EdgeId,
-        link: &mut L,
-        effects: &mut Effects,
+        work: &mut AtWork<'_, L>,
     ) -> Result<(), NoMemory>
         requires working { self.old.stopped ≡ true }
-        requires fresh { effects.old ≡ record { idle = false; list = [] } }
-        ensures keeps { Keeps self.old self.new }
-        ensures calls { GoesOn (L.calls link.old) (L.calls link.new) }
-        ensures step { OnOk result ((told : Answers) → Agrees told (L.calls link.new)
-            → worked self.new (L.calls link.new) effects.new ≡ lost_input self.old.plan told peer (beginning (seen self.old) (L.calls link.old))) }
+        requires fresh { work.old.effects.now ≡ record { idle = false; list = [] } }
+        ensures goes { EdgeTakes L.calls self.old work.old self.new work.new }
+        ensures step { OnOk result ((told : Answers) → Agrees told (L.calls work.new.link.now)
+            → worked_at L.calls self.new work.new ≡ lost_input self.old.plan told peer (beginning (seen self.old) (L.calls work.old.link.now))) }
     {
         if !self.has_end(peer) {
-            effects.idle = true;
+            work.effects.idle = true;
             return Ok(());
         }
-        self.lose(peer, &mut effects.list)?;
-        self.mend(alloc, link, &mut effects.list)
+        self.lose(peer, &mut work.effects.list)?;
+        self.mend(work)
     }
 
     // The session with a peer ends, since the connection is lost.
@@ -129,19 +121,13 @@ impl Edge {
     }
 
     // What each end tells follows what it should tell by now.
-    pub(crate) fn mend<L: Link>(
-        &mut self,
-        alloc: Global,
-        link: &mut L,
-        out: &mut List<Effect>,
-    ) -> Result<(), NoMemory>
+    pub(crate) fn mend<L: Link>(&mut self, work: &mut AtWork<'_, L>) -> Result<(), NoMemory>
         requires working { self.old.stopped ≡ true }
-        ensures keeps { Keeps self.old self.new }
-        ensures calls { GoesOn (L.calls link.old) (L.calls link.new) }
-        ensures step { OnOk result ((told : Answers) → Agrees told (L.calls link.new)
-            → at_edge (seen self.new) (L.calls link.new) out.new ≡ mends self.old.plan told (at_edge (seen self.old) (L.calls link.old) out.old)) }
+        ensures goes { EdgeWorks L.calls self.old work.old self.new work.new }
+        ensures step { OnOk result ((told : Answers) → Agrees told (L.calls work.new.link.now)
+            → edge_at_work L.calls self.new work.new ≡ mends self.old.plan told (edge_at_work L.calls self.old work.old)) }
     {
-        self.control.mend(alloc, link, out)
+        self.control.mend(work)
     }
 
     // The edge restarts: it keeps its ticks, what was set of its circuits and wires, and the label that it gives next.

@@ -9,45 +9,42 @@ ghost use Rattle.hvpls_spokes.specs.Port.{is_circuit_port, ports_of};
 ghost use Rattle.edge_model.specs.Frame.{frame_input, received};
 ghost use Rattle.edge_model.specs.State.{is_on};
 ghost use Rattle.edge_model.specs.Synced.{InSync};
-ghost use Rattle.edge_model.specs.Work.{Agrees, Answers, GoesOn, beginning};
+ghost use Rattle.edge_model.specs.Work.{Agrees, Answers, beginning};
 ghost use Rattle.edge_forwarding.specs.Forwarding.{own_service};
-ghost use Rattle.provider_edge.specs.Lists.{Keeps, seen, worked};
-ghost use Rattle.peer_dialogue.specs.Peering.{at_edge};
+ghost use Rattle.provider_edge.specs.AtWork.{EdgeTakes, EdgeWorks, edge_at_work, worked_at};
+ghost use Rattle.provider_edge.specs.Lists.{seen};
 
 use crate::Edge;
+use crate::at_work::AtWork;
+use crate::ingress::Ingress;
 use edge_forwarding::read_inner;
-use edge_model::{Effect, Effects};
 use eth_encap::FrameFault;
-use net_base::{Arrival, CircuitId, CircuitPlan, EdgeId, Link, List, NoMemory, ServiceId};
-use std::alloc::Global;
+use net_base::{Arrival, CircuitId, CircuitPlan, EdgeId, Link, NoMemory, ServiceId};
 
 impl Edge {
     // A frame comes by a circuit of the edge that is on.
     pub(crate) fn frame<L: Link>(
         &mut self,
-        alloc: Global,
         circuit: CircuitId,
         octets: &[u8],
-        link: &mut L,
-        effects: &mut Effects,
+        work: &mut AtWork<'_, L>,
     ) -> Result<(), NoMemory>
         requires working { self.old.stopped ≡ true }
-        requires fresh { effects.old ≡ record { idle = false; list = [] } }
+        requires fresh { work.old.effects.now ≡ record { idle = false; list = [] } }
         requires synced { InSync self.old.plan (seen self.old) }
-        ensures keeps { Keeps self.old self.new }
-        ensures calls { GoesOn (L.calls link.old) (L.calls link.new) }
-        ensures step { OnOk result ((told : Answers) → Agrees told (L.calls link.new)
-            → worked self.new (L.calls link.new) effects.new ≡ frame_input self.old.plan told circuit octets.now (circuit_row self.old.plan circuit) (beginning (seen self.old) (L.calls link.old))) }
+        ensures goes { EdgeTakes L.calls self.old work.old self.new work.new }
+        ensures step { OnOk result ((told : Answers) → Agrees told (L.calls work.new.link.now)
+            → worked_at L.calls self.new work.new ≡ frame_input self.old.plan told circuit octets.now (circuit_row self.old.plan circuit) (beginning (seen self.old) (L.calls work.old.link.now))) }
     {
         let Some(service) = self.own_service(circuit) else {
-            effects.idle = true;
+            work.effects.idle = true;
             return Ok(());
         };
         if !self.is_on(circuit) {
-            effects.idle = true;
+            work.effects.idle = true;
             return Ok(());
         }
-        self.receive(alloc, circuit, service, octets, link, &mut effects.list)
+        self.bridge_octets(circuit, service, octets, work)
     }
 
     // The service of a circuit of the edge.
@@ -61,55 +58,52 @@ impl Edge {
     }
 
     // A frame comes by a circuit of the edge that is on: it is read before anything changes.
-    fn receive<L: Link>(
+    fn bridge_octets<L: Link>(
         &mut self,
-        alloc: Global,
         circuit: CircuitId,
         service: ServiceId,
         octets: &[u8],
-        link: &mut L,
-        out: &mut List<Effect>,
+        work: &mut AtWork<'_, L>,
     ) -> Result<(), NoMemory>
         requires working { self.old.stopped ≡ true }
         requires synced { InSync self.old.plan (seen self.old) }
         requires own { own_service self.old.me (circuit_row self.old.plan circuit) ≡ Some service }
         requires on { is_on (seen self.old) circuit ≡ true }
-        ensures keeps { Keeps self.old self.new }
-        ensures calls { GoesOn (L.calls link.old) (L.calls link.new) }
-        ensures step { OnOk result ((told : Answers) → Agrees told (L.calls link.new)
-            → at_edge (seen self.new) (L.calls link.new) out.new
-            ≡ received self.old.plan told (arrival.Circuit circuit) service (position (is_circuit_port circuit) (ports_of self.old.plan service self.old.me)) (inner_at self.old.plan circuit octets.now) (at_edge (seen self.old) (L.calls link.old) out.old)) }
+        ensures goes { EdgeWorks L.calls self.old work.old self.new work.new }
+        ensures step { OnOk result ((told : Answers) → Agrees told (L.calls work.new.link.now)
+            → edge_at_work L.calls self.new work.new
+            ≡ received self.old.plan told (arrival.Circuit circuit) service (position (is_circuit_port circuit) (ports_of self.old.plan service self.old.me)) (inner_at self.old.plan circuit octets.now) (edge_at_work L.calls self.old work.old)) }
     {
-        let read = read_inner(alloc, &self.plan, circuit, octets)?;
-        self.forward(alloc, circuit, service, read, link, out)
+        let read = read_inner(work.alloc, &self.plan, circuit, octets)?;
+        self.bridge_read(circuit, service, read, work)
     }
 
     // What came by a circuit of the edge that is on, and was read.
-    fn forward<L: Link>(
+    fn bridge_read<L: Link>(
         &mut self,
-        alloc: Global,
         circuit: CircuitId,
         service: ServiceId,
         read: Result<Vec<u8>, FrameFault>,
-        link: &mut L,
-        out: &mut List<Effect>,
+        work: &mut AtWork<'_, L>,
     ) -> Result<(), NoMemory>
         requires working { self.old.stopped ≡ true }
         requires synced { InSync self.old.plan (seen self.old) }
         requires own { own_service self.old.me (circuit_row self.old.plan circuit) ≡ Some service }
         requires on { is_on (seen self.old) circuit ≡ true }
         requires header { IfOk read (λ frame. 14 ≤ length frame.items) }
-        ensures keeps { Keeps self.old self.new }
-        ensures calls { GoesOn (L.calls link.old) (L.calls link.new) }
-        ensures step { OnOk result ((told : Answers) (formed : Result (List ℕ) DropCause) → Agrees told (L.calls link.new)
+        ensures goes { EdgeWorks L.calls self.old work.old self.new work.new }
+        ensures step { OnOk result ((told : Answers) (formed : Result (List ℕ) DropCause) → Agrees told (L.calls work.new.link.now)
             → MatchResult read (λ frame. formed ≡ Ok frame.items) (λ fault. formed ≡ Err (cause_of fault))
-            → at_edge (seen self.new) (L.calls link.new) out.new
-            ≡ received self.old.plan told (arrival.Circuit circuit) service (position (is_circuit_port circuit) (ports_of self.old.plan service self.old.me)) formed (at_edge (seen self.old) (L.calls link.old) out.old)) }
+            → edge_at_work L.calls self.new work.new
+            ≡ received self.old.plan told (arrival.Circuit circuit) service (position (is_circuit_port circuit) (ports_of self.old.plan service self.old.me)) formed (edge_at_work L.calls self.old work.old)) }
     {
-        let came = Arrival::Circuit(circuit);
         let port = self.control.port_of(circuit, service);
-        self.control
-            .receive(alloc, came, service, port, read, link, out)
+        let ingress = Ingress {
+            came: Arrival::Circuit(circuit),
+            service,
+            port,
+        };
+        self.control.bridge_read(ingress, read, work)
     }
 }
 

@@ -2,50 +2,37 @@
 ghost use Rattle.std.specs.Prelude.{◌≡◌, [], true, false, length, OnOk};
 ghost use Rattle.edge_model.specs.State.{later, with_ticks};
 ghost use Rattle.edge_model.specs.Tick.{forgetting, tick_input, ticks_sessions};
-ghost use Rattle.edge_model.specs.Work.{Agrees, Answers, GoesOn, beginning};
-ghost use Rattle.provider_edge.specs.Lists.{Keeps, seen, worked};
-ghost use Rattle.peer_dialogue.specs.Peering.{at_edge};
+ghost use Rattle.edge_model.specs.Work.{Agrees, Answers, beginning};
+ghost use Rattle.provider_edge.specs.AtWork.{EdgeTakes, EdgeWorks, edge_at_work, worked_at};
+ghost use Rattle.provider_edge.specs.Lists.{Keeps, seen};
 
 use crate::Edge;
-use edge_model::{Effect, Effects};
-use net_base::{Link, List, NoMemory};
-use std::alloc::Global;
+use crate::at_work::AtWork;
+use net_base::{Link, NoMemory};
 
 impl Edge {
     // The edge counts the tick, its sessions have it, its bridges forget, and then it mends its ends.
-    pub(crate) fn tick<L: Link>(
-        &mut self,
-        alloc: Global,
-        link: &mut L,
-        effects: &mut Effects,
-    ) -> Result<(), NoMemory>
+    pub(crate) fn tick<L: Link>(&mut self, work: &mut AtWork<'_, L>) -> Result<(), NoMemory>
         requires working { self.old.stopped ≡ true }
-        requires fresh { effects.old ≡ record { idle = false; list = [] } }
-        ensures keeps { Keeps self.old self.new }
-        ensures calls { GoesOn (L.calls link.old) (L.calls link.new) }
-        ensures step { OnOk result ((told : Answers) → Agrees told (L.calls link.new)
-            → worked self.new (L.calls link.new) effects.new ≡ tick_input self.old.plan told (beginning (seen self.old) (L.calls link.old))) }
+        requires fresh { work.old.effects.now ≡ record { idle = false; list = [] } }
+        ensures goes { EdgeTakes L.calls self.old work.old self.new work.new }
+        ensures step { OnOk result ((told : Answers) → Agrees told (L.calls work.new.link.now)
+            → worked_at L.calls self.new work.new ≡ tick_input self.old.plan told (beginning (seen self.old) (L.calls work.old.link.now))) }
     {
         self.count_tick();
-        self.tick_sessions(alloc, link, &mut effects.list)?;
+        self.tick_sessions(work)?;
         self.forget();
-        self.mend(alloc, link, &mut effects.list)
+        self.mend(work)
     }
 
     // The sessions have the tick, in the plan's order.
-    fn tick_sessions<L: Link>(
-        &mut self,
-        alloc: Global,
-        link: &mut L,
-        out: &mut List<Effect>,
-    ) -> Result<(), NoMemory>
+    fn tick_sessions<L: Link>(&mut self, work: &mut AtWork<'_, L>) -> Result<(), NoMemory>
         requires working { self.old.stopped ≡ true }
-        ensures keeps { Keeps self.old self.new }
-        ensures calls { GoesOn (L.calls link.old) (L.calls link.new) }
-        ensures step { OnOk result ((told : Answers) → Agrees told (L.calls link.new)
-            → at_edge (seen self.new) (L.calls link.new) out.new ≡ ticks_sessions told 0 (length self.old.plan.edges) (at_edge (seen self.old) (L.calls link.old) out.old)) }
+        ensures goes { EdgeWorks L.calls self.old work.old self.new work.new }
+        ensures step { OnOk result ((told : Answers) → Agrees told (L.calls work.new.link.now)
+            → edge_at_work L.calls self.new work.new ≡ ticks_sessions told 0 (length self.old.plan.edges) (edge_at_work L.calls self.old work.old)) }
     {
-        self.control.tick(alloc, link, out)
+        self.control.tick(work)
     }
 
     // One tick more.

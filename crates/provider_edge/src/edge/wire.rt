@@ -2,37 +2,34 @@
 ghost use Rattle.std.specs.Prelude.{◌≡◌, ◌<◌, ◌≤◌, [], true, false, length, OnOk};
 ghost use Rattle.edge_model.specs.State.{with_bits, with_priority};
 ghost use Rattle.edge_model.specs.Wire.{priority_input, status_input, turned_wire, wire_input};
-ghost use Rattle.edge_model.specs.Work.{Agrees, Answers, GoesOn, beginning};
-ghost use Rattle.provider_edge.specs.Lists.{Keeps, seen, worked};
+ghost use Rattle.edge_model.specs.Work.{Agrees, Answers, beginning};
+ghost use Rattle.provider_edge.specs.AtWork.{EdgeTakes, worked_at};
+ghost use Rattle.provider_edge.specs.Lists.{Keeps, seen};
 
 use crate::Edge;
-use edge_model::Effects;
+use crate::at_work::AtWork;
 use net_base::{Link, NoMemory, WireId};
-use std::alloc::Global;
 
 impl Edge {
     // A wire that passes the edge is put on or off, where it is not so already.
     pub(crate) fn wire<L: Link>(
         &mut self,
-        alloc: Global,
         wire: WireId,
         on: bool,
-        link: &mut L,
-        effects: &mut Effects,
+        work: &mut AtWork<'_, L>,
     ) -> Result<(), NoMemory>
         requires working { self.old.stopped ≡ true }
-        requires fresh { effects.old ≡ record { idle = false; list = [] } }
-        ensures keeps { Keeps self.old self.new }
-        ensures calls { GoesOn (L.calls link.old) (L.calls link.new) }
-        ensures step { OnOk result ((told : Answers) → Agrees told (L.calls link.new)
-            → worked self.new (L.calls link.new) effects.new ≡ wire_input self.old.plan told wire on (beginning (seen self.old) (L.calls link.old))) }
+        requires fresh { work.old.effects.now ≡ record { idle = false; list = [] } }
+        ensures goes { EdgeTakes L.calls self.old work.old self.new work.new }
+        ensures step { OnOk result ((told : Answers) → Agrees told (L.calls work.new.link.now)
+            → worked_at L.calls self.new work.new ≡ wire_input self.old.plan told wire on (beginning (seen self.old) (L.calls work.old.link.now))) }
     {
         if !self.control.passes(wire) || self.control.is_on(wire) == on {
-            effects.idle = true;
+            work.effects.idle = true;
             return Ok(());
         }
         self.turn_wire(wire, on);
-        self.mend(alloc, link, &mut effects.list)
+        self.mend(work)
     }
 
     // Puts a wire on or off.
@@ -48,26 +45,23 @@ impl Edge {
     // The failure bits of the edge's end of a wire are set, where they are others.
     pub(crate) fn status<L: Link>(
         &mut self,
-        alloc: Global,
         wire: WireId,
         bits: u8,
-        link: &mut L,
-        effects: &mut Effects,
+        work: &mut AtWork<'_, L>,
     ) -> Result<(), NoMemory>
         requires working { self.old.stopped ≡ true }
-        requires fresh { effects.old ≡ record { idle = false; list = [] } }
+        requires fresh { work.old.effects.now ≡ record { idle = false; list = [] } }
         requires small { bits ≤ 31 }
-        ensures keeps { Keeps self.old self.new }
-        ensures calls { GoesOn (L.calls link.old) (L.calls link.new) }
-        ensures step { OnOk result ((told : Answers) → Agrees told (L.calls link.new)
-            → worked self.new (L.calls link.new) effects.new ≡ status_input self.old.plan told wire bits (beginning (seen self.old) (L.calls link.old))) }
+        ensures goes { EdgeTakes L.calls self.old work.old self.new work.new }
+        ensures step { OnOk result ((told : Answers) → Agrees told (L.calls work.new.link.now)
+            → worked_at L.calls self.new work.new ≡ status_input self.old.plan told wire bits (beginning (seen self.old) (L.calls work.old.link.now))) }
     {
         if !self.control.ends_here(wire) || self.control.bits_of(wire) == bits {
-            effects.idle = true;
+            work.effects.idle = true;
             return Ok(());
         }
         self.set_bits(wire, bits);
-        self.mend(alloc, link, &mut effects.list)
+        self.mend(work)
     }
 
     // Sets the failure bits of the edge's end of a wire.
@@ -84,25 +78,22 @@ impl Edge {
     // The priority of a spoke that starts at the edge is set, where it is another one.
     pub(crate) fn priority<L: Link>(
         &mut self,
-        alloc: Global,
         wire: WireId,
         priority: u8,
-        link: &mut L,
-        effects: &mut Effects,
+        work: &mut AtWork<'_, L>,
     ) -> Result<(), NoMemory>
         requires working { self.old.stopped ≡ true }
-        requires fresh { effects.old ≡ record { idle = false; list = [] } }
-        ensures keeps { Keeps self.old self.new }
-        ensures calls { GoesOn (L.calls link.old) (L.calls link.new) }
-        ensures step { OnOk result ((told : Answers) → Agrees told (L.calls link.new)
-            → worked self.new (L.calls link.new) effects.new ≡ priority_input self.old.plan told wire priority (beginning (seen self.old) (L.calls link.old))) }
+        requires fresh { work.old.effects.now ≡ record { idle = false; list = [] } }
+        ensures goes { EdgeTakes L.calls self.old work.old self.new work.new }
+        ensures step { OnOk result ((told : Answers) → Agrees told (L.calls work.new.link.now)
+            → worked_at L.calls self.new work.new ≡ priority_input self.old.plan told wire priority (beginning (seen self.old) (L.calls work.old.link.now))) }
     {
         if !self.control.is_own_spoke(wire) || self.control.priority_of(wire) == priority {
-            effects.idle = true;
+            work.effects.idle = true;
             return Ok(());
         }
         self.set_priority(wire, priority);
-        self.mend(alloc, link, &mut effects.list)
+        self.mend(work)
     }
 
     // Sets the priority of a spoke.

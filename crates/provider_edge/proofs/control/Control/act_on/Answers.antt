@@ -1,7 +1,8 @@
 use Rattle.std.proofs.Common.{◌≡◌, ◌∙◌, refl}
 use Rattle.edge_model.specs.Hear.{acts_on, advice_of, advises}
 use Rattle.edge_model.specs.Work.{Answers, Work}
-use Rattle.provider_edge.specs.Control.{at_control, controlled}
+use Rattle.provider_edge.specs.AtWork.{at_work}
+use Rattle.provider_edge.specs.Control.{controlled}
 use Rattle.provider_edge.proofs.ActLemmas.{is_advised, mapping_acts, release_acts, split}
 use Rattle.provider_edge.proofs.ClearLemmas.{withdraw_acts}
 use Rattle.peer_dialogue.proofs.SettleLemmas.{map_on}
@@ -10,25 +11,25 @@ use Rattle.provider_edge.proofs.control.Control.act_on.Goals as goal
 pub returns-in-LabelMapping-clause-step : goal.returns-in-LabelMapping-clause-step
 returns-in-LabelMapping-clause-step g c = map_on _ _ c.hear_mapping.result
     (λ puts told rest agrees.
-    mapping_acts c.args.self.now.plan told c.args.peer c.args.message.now c.in-LabelMapping.id c.in-LabelMapping.fec c.in-LabelMapping.label c.in-LabelMapping.pw_status c.in-LabelMapping.points c.binding_in-binding.result (controlled c.args.self.now rest) (g.L.Link.calls c.args.link.now) c.args.out.now _
+    mapping_acts c.args.self.now.plan told c.args.peer c.args.message.now c.in-LabelMapping.id c.in-LabelMapping.fec c.in-LabelMapping.label c.in-LabelMapping.pw_status c.in-LabelMapping.points c.binding_in-binding.result (controlled c.args.self.now rest) (g.L.Link.calls c.args.work.now.link.now) c.args.work.now.effects.now.list _
     c.in-LabelMapping.is c.binding_in-binding.ensures.binding (puts told rest agrees))
     c.hear_mapping.ensures.step
 
 pub returns-in-LabelRelease-clause-step : goal.returns-in-LabelRelease-clause-step
 returns-in-LabelRelease-clause-step g c = λ told rest agrees.
-    release_acts c.args.self.now.plan told c.args.peer c.args.message.now c.in-LabelRelease.id c.in-LabelRelease.fec c.in-LabelRelease.label (controlled c.args.self.now rest) (controlled c.hear_release.new.self rest) (g.L.Link.calls c.args.link.now) c.args.out.now
+    release_acts c.args.self.now.plan told c.args.peer c.args.message.now c.in-LabelRelease.id c.in-LabelRelease.fec c.in-LabelRelease.label (controlled c.args.self.now rest) (controlled c.hear_release.new.self rest) (g.L.Link.calls c.args.work.now.link.now) c.args.work.now.effects.now.list
     c.in-LabelRelease.is (c.hear_release.ensures.step rest)
 
 pub returns-in-AddressWithdraw-clause-step : goal.returns-in-AddressWithdraw-clause-step
 returns-in-AddressWithdraw-clause-step g c = map_on _ _ c.hear_mac_withdraw.result
     (λ puts told rest agrees.
-    withdraw_acts c.args.self.now.plan told c.args.peer c.args.message.now c.in-AddressWithdraw.id c.in-AddressWithdraw.addresses c.in-AddressWithdraw.fec c.in-AddressWithdraw.macs (at_control c.args.self.now rest (g.L.Link.calls c.args.link.now) c.args.out.now) _
+    withdraw_acts c.args.self.now.plan told c.args.peer c.args.message.now c.in-AddressWithdraw.id c.in-AddressWithdraw.addresses c.in-AddressWithdraw.fec c.in-AddressWithdraw.macs (at_work g.L.Link.calls c.args.self.now rest c.args.work.now) _
     c.in-AddressWithdraw.is (puts told rest agrees))
     c.hear_mac_withdraw.ensures.step
 
 pub returns-in-Hello-clause-step : goal.returns-in-Hello-clause-step
 returns-in-Hello-clause-step g c = map_on _ _ c.tell_advice.result
-    (λ puts told rest agrees. puts told rest agrees ∙ advised told (at_control c.args.self.now rest (g.L.Link.calls c.args.link.now) c.args.out.now))
+    (λ puts told rest agrees. puts told rest agrees ∙ advised told (at_work g.L.Link.calls c.args.self.now rest c.args.work.now))
     c.tell_advice.ensures.step
   where
     advised : (told : Answers) (work : Work) → advises told c.args.peer (advice_of c.args.message.now) work ≡ acts_on c.args.self.now.plan told c.args.peer c.args.message.now work

@@ -4,13 +4,13 @@ use Rattle.net_base.specs.declared.plan.Plan.{Plan}
 use Rattle.net_base.specs.declared.plan.places.EdgeId.{EdgeId}
 use Rattle.hvpls_spokes.specs.Port.{ports_of}
 use Rattle.mac_withdraw.specs.Passing.{is_wire_at}
-use Rattle.provider_edge.specs.Control.{at_control}
+use Rattle.provider_edge.specs.AtWork.{at_work}
 use Rattle.provider_edge.proofs.ClearLemmas.{cleared_on, no_port_clears}
 use Rattle.peer_dialogue.proofs.SettleLemmas.{map_on}
 use Rattle.provider_edge.proofs.control.Control.clear_at.Goals as goal
 
 pub returns-in_default-clause-step : goal.returns-in_default-clause-step
-returns-in_default-clause-step g c = λ told rest agrees. no_port_clears c.args.self.now.plan told c.args.addresses.now c.args.service c.args.port (at_control c.args.self.now rest (g.L.Link.calls c.args.link.now) c.args.out.now) c.in_default.is
+returns-in_default-clause-step g c = λ told rest agrees. no_port_clears c.args.self.now.plan told c.args.addresses.now c.args.service c.args.port (at_work g.L.Link.calls c.args.self.now rest c.args.work.now) c.in_default.is
 
 pub pass_on-requires : goal.pass_on-requires
 pass_on-requires g c = record {
@@ -24,6 +24,6 @@ pass_on-requires g c = record {
 pub returns-clause-step : goal.returns-clause-step
 returns-clause-step g c = map_on _ _ c.pass_on.result
     (λ step. λ told rest agrees.
-    cleared_on c.args.self.now c.withdraw_at.new.self told c.args.addresses.now c.as_slice.result.now c.args.service c.in-Some.from c.args.port rest (g.L.Link.calls c.args.link.now) c.args.out.now _
+    cleared_on c.args.self.now c.withdraw_at.new.self told c.args.addresses.now c.as_slice.result.now c.args.service c.in-Some.from c.args.port rest (g.L.Link.calls c.args.work.now.link.now) c.args.work.now.effects.now.list _
     c.withdraw_at.ensures.keeps c.in-Some.is c.as_slice.ensures (c.withdraw_at.ensures.step rest) (step told rest agrees))
     c.pass_on.ensures.step

@@ -1,32 +1,32 @@
 use Rattle.std.proofs.Common.{◌∙◌, ◌+◌, ◌++◌, [], List, ℕ, drop, ap, sym, arith}
 use Rattle.ldp_grammar.specs.Reading.{AreOctets}
 use Rattle.ldp_grammar.proofs.OctetLemmas.{octets_drop}
-use Rattle.provider_edge.specs.Control.{at_control}
-use Rattle.provider_edge.proofs.ControlLemmas.{plan_both}
+use Rattle.provider_edge.proofs.AtWorkLemmas.{works_both}
+use Rattle.provider_edge.specs.AtWork.{at_work}
 use Rattle.peer_dialogue.proofs.HearLemmas.{drop_end, fed_on, on_both, on_same}
 use Rattle.provider_edge.proofs.MessageLemmas.{all_ended, all_held, on_plan, room_for}
-use Rattle.peer_dialogue.proofs.SpeakerLemmas.{agrees_before, goes_both}
+use Rattle.peer_dialogue.proofs.SpeakerLemmas.{agrees_before}
 use Rattle.provider_edge.proofs.control.Control.hear.Goals as goal
 
 pub returns-then-not-has_session-clause-step : goal.returns-then-not-has_session-clause-step
 returns-then-not-has_session-clause-step g c = λ told rest agrees.
     let octets : AreOctets c.args.octets.now = λ i. omega (arith, c.type_inv.octets i) in
-    all_ended c.hear_held.new.self c.args.self.now.plan told c.args.peer (c.args.held.now ++ c.args.octets.now) (c.hear_held.new.held ++ drop c.hearing.at c.args.octets.now) c.clear.new.self _ rest (g.L.Link.calls c.hear_held.new.link) c.hear_held.new.out
+    all_ended c.hear_held.new.self c.args.self.now.plan told c.args.peer (c.args.held.now ++ c.args.octets.now) (c.hear_held.new.held ++ drop c.hearing.at c.args.octets.now) c.clear.new.self _ rest (g.L.Link.calls c.hear_held.new.work.link.now) c.hear_held.new.work.effects.now.list
     (sym (c.has_session.ensures rest) ∙ c.if-not-has_session.true)
-    (on_both c.args.self.now.plan told c.args.peer _ (c.hearing.held ++ drop c.hearing.at c.args.octets.now) _ _ (at_control c.hearing.self rest (g.L.Link.calls c.hearing.link) c.hearing.out) _
-    (c.hearing.invariant.step told rest (agrees_before told _ _ c.in_ok-hear_held.ensures.calls agrees))
-    (on_plan c.args.self.now.plan c.hearing.self.plan told c.args.peer _ _ _ _ c.hearing.invariant.keeps.plan (c.in_ok-hear_held.ensures.step told rest (drop c.hearing.at c.args.octets.now) agrees (octets_drop c.hearing.at c.args.octets.now octets))))
+    (on_both c.args.self.now.plan told c.args.peer _ (c.hearing.held ++ drop c.hearing.at c.args.octets.now) _ _ (at_work g.L.Link.calls c.hearing.self rest c.hearing.work) _
+    (c.hearing.invariant.step told rest (agrees_before told _ _ c.in_ok-hear_held.ensures.goes.on.calls agrees))
+    (on_plan c.args.self.now.plan c.hearing.self.plan told c.args.peer _ _ _ _ c.hearing.invariant.goes.keeps.plan (c.in_ok-hear_held.ensures.step told rest (drop c.hearing.at c.args.octets.now) agrees (octets_drop c.hearing.at c.args.octets.now octets))))
 
 pub returns-then-at-octets-clause-step : goal.returns-then-at-octets-clause-step
 returns-then-at-octets-clause-step g c = λ told rest agrees.
     let octets : AreOctets c.args.octets.now = λ i. omega (arith, c.type_inv.octets i) in
-    all_held c.hear_held.new.self c.args.self.now.plan told c.args.peer (c.args.held.now ++ c.args.octets.now) c.hear_held.new.held _ rest (g.L.Link.calls c.hear_held.new.link) c.hear_held.new.out
+    all_held c.hear_held.new.self c.args.self.now.plan told c.args.peer (c.args.held.now ++ c.args.octets.now) c.hear_held.new.held _ rest (g.L.Link.calls c.hear_held.new.work.link.now) c.hear_held.new.work.effects.now.list
     (sym (c.has_session.ensures rest) ∙ c.if-not-has_session.false) (c.in_ok-hear_held.ensures.waiting rest)
-    (on_both c.args.self.now.plan told c.args.peer _ (c.hearing.held ++ drop c.hearing.at c.args.octets.now) _ _ (at_control c.hearing.self rest (g.L.Link.calls c.hearing.link) c.hearing.out) _
-    (c.hearing.invariant.step told rest (agrees_before told _ _ c.in_ok-hear_held.ensures.calls agrees))
+    (on_both c.args.self.now.plan told c.args.peer _ (c.hearing.held ++ drop c.hearing.at c.args.octets.now) _ _ (at_work g.L.Link.calls c.hearing.self rest c.hearing.work) _
+    (c.hearing.invariant.step told rest (agrees_before told _ _ c.in_ok-hear_held.ensures.goes.on.calls agrees))
     (on_same c.args.self.now.plan told c.args.peer _ (c.hear_held.new.held ++ drop c.hearing.at c.args.octets.now) (c.hear_held.new.held ++ []) _ _
     (ap (λ (l : List ℕ). c.hear_held.new.held ++ l) (drop_end c.hearing.at c.args.octets.now (omega (arith, c.if-at-octets.true))))
-    (on_plan c.args.self.now.plan c.hearing.self.plan told c.args.peer _ _ _ _ c.hearing.invariant.keeps.plan (c.in_ok-hear_held.ensures.step told rest (drop c.hearing.at c.args.octets.now) agrees (octets_drop c.hearing.at c.args.octets.now octets)))))
+    (on_plan c.args.self.now.plan c.hearing.self.plan told c.args.peer _ _ _ _ c.hearing.invariant.goes.keeps.plan (c.in_ok-hear_held.ensures.step told rest (drop c.hearing.at c.args.octets.now) agrees (octets_drop c.hearing.at c.args.octets.now octets)))))
 
 pub feed_from-requires-clause-room : goal.feed_from-requires-clause-room
 feed_from-requires-clause-room g c = room_for c.hear_held.new.self c.args.peer c.hear_held.new.held c.has_session.result c.has_session.ensures c.if-not-has_session.false c.in_ok-hear_held.ensures.waiting
@@ -34,37 +34,24 @@ feed_from-requires-clause-room g c = room_for c.hear_held.new.self c.args.peer c
 pub hearing-preserved : goal.hearing-preserved
 hearing-preserved g c = record {
   within = c.in_ok-at.ensures.within;
-  keeps = plan_both _ _ _ c.hearing.invariant.keeps c.in_ok-hear_held.ensures.keeps;
-  calls = goes_both _ _ _ c.hearing.invariant.calls c.in_ok-hear_held.ensures.calls;
+  goes = works_both g.L.Link.calls _ _ _ _ _ _ c.hearing.invariant.goes c.in_ok-hear_held.ensures.goes;
   step = λ told rest agrees.
       let octets : AreOctets c.args.octets.now = λ i. omega (arith, c.type_inv.octets i) in
       on_same c.args.self.now.plan told c.args.peer _ (c.hear_held.new.held ++ drop c.hearing.at c.args.octets.now) (c.feed_from.new.self ++ drop (c.hearing.at + c.in_ok-at.field-0) c.args.octets.now) _ _
       (fed_on c.hear_held.new.held c.feed_from.new.self c.args.octets.now c.hearing.at c.in_ok-at.field-0 c.in_ok-at.ensures.held)
-      (on_both c.args.self.now.plan told c.args.peer _ (c.hearing.held ++ drop c.hearing.at c.args.octets.now) _ _ (at_control c.hearing.self rest (g.L.Link.calls c.hearing.link) c.hearing.out) _
-      (c.hearing.invariant.step told rest (agrees_before told _ _ c.in_ok-hear_held.ensures.calls agrees))
-      (on_plan c.args.self.now.plan c.hearing.self.plan told c.args.peer _ _ _ _ c.hearing.invariant.keeps.plan (c.in_ok-hear_held.ensures.step told rest (drop c.hearing.at c.args.octets.now) agrees (octets_drop c.hearing.at c.args.octets.now octets))));
+      (on_both c.args.self.now.plan told c.args.peer _ (c.hearing.held ++ drop c.hearing.at c.args.octets.now) _ _ (at_work g.L.Link.calls c.hearing.self rest c.hearing.work) _
+      (c.hearing.invariant.step told rest (agrees_before told _ _ c.in_ok-hear_held.ensures.goes.on.calls agrees))
+      (on_plan c.args.self.now.plan c.hearing.self.plan told c.args.peer _ _ _ _ c.hearing.invariant.goes.keeps.plan (c.in_ok-hear_held.ensures.step told rest (drop c.hearing.at c.args.octets.now) agrees (octets_drop c.hearing.at c.args.octets.now octets))));
 }
 
-pub returns-in_err-hear_held-clause-keeps : goal.returns-in_err-hear_held-clause-keeps
-returns-in_err-hear_held-clause-keeps g c = plan_both _ _ _ c.hearing.invariant.keeps c.hear_held.ensures.keeps
+pub returns-in_err-hear_held-clause-goes : goal.returns-in_err-hear_held-clause-goes
+returns-in_err-hear_held-clause-goes g c = works_both g.L.Link.calls _ _ _ _ _ _ c.hearing.invariant.goes c.hear_held.ensures.goes
 
-pub returns-in_err-hear_held-clause-calls : goal.returns-in_err-hear_held-clause-calls
-returns-in_err-hear_held-clause-calls g c = goes_both _ _ _ c.hearing.invariant.calls c.hear_held.ensures.calls
+pub returns-then-not-has_session-clause-goes : goal.returns-then-not-has_session-clause-goes
+returns-then-not-has_session-clause-goes g c = works_both g.L.Link.calls _ _ _ _ _ _ c.hearing.invariant.goes c.in_ok-hear_held.ensures.goes
 
-pub returns-then-not-has_session-clause-keeps : goal.returns-then-not-has_session-clause-keeps
-returns-then-not-has_session-clause-keeps g c = plan_both _ _ _ c.hearing.invariant.keeps c.in_ok-hear_held.ensures.keeps
+pub returns-then-at-octets-clause-goes : goal.returns-then-at-octets-clause-goes
+returns-then-at-octets-clause-goes g c = works_both g.L.Link.calls _ _ _ _ _ _ c.hearing.invariant.goes c.in_ok-hear_held.ensures.goes
 
-pub returns-then-not-has_session-clause-calls : goal.returns-then-not-has_session-clause-calls
-returns-then-not-has_session-clause-calls g c = goes_both _ _ _ c.hearing.invariant.calls c.in_ok-hear_held.ensures.calls
-
-pub returns-then-at-octets-clause-keeps : goal.returns-then-at-octets-clause-keeps
-returns-then-at-octets-clause-keeps g c = plan_both _ _ _ c.hearing.invariant.keeps c.in_ok-hear_held.ensures.keeps
-
-pub returns-then-at-octets-clause-calls : goal.returns-then-at-octets-clause-calls
-returns-then-at-octets-clause-calls g c = goes_both _ _ _ c.hearing.invariant.calls c.in_ok-hear_held.ensures.calls
-
-pub returns-in_err-at-clause-keeps : goal.returns-in_err-at-clause-keeps
-returns-in_err-at-clause-keeps g c = plan_both _ _ _ c.hearing.invariant.keeps c.in_ok-hear_held.ensures.keeps
-
-pub returns-in_err-at-clause-calls : goal.returns-in_err-at-clause-calls
-returns-in_err-at-clause-calls g c = goes_both _ _ _ c.hearing.invariant.calls c.in_ok-hear_held.ensures.calls
+pub returns-in_err-at-clause-goes : goal.returns-in_err-at-clause-goes
+returns-in_err-at-clause-goes g c = works_both g.L.Link.calls _ _ _ _ _ _ c.hearing.invariant.goes c.in_ok-hear_held.ensures.goes

@@ -1,14 +1,14 @@
 use Rattle.std.proofs.Common.{◌≡◌, drop}
 use Rattle.edge_model.specs.Hear.{hears_messages}
-use Rattle.edge_model.specs.Work.{Agrees, Answers, GoesOn}
-use Rattle.provider_edge.specs.Control.{KeepsPlan, Rest, at_control}
+use Rattle.edge_model.specs.Work.{Agrees, Answers}
+use Rattle.provider_edge.specs.AtWork.{Works, at_work}
+use Rattle.provider_edge.specs.Control.{Rest}
 use Rattle.provider_edge.proofs.control.Control.hear_messages.Given as goal
 
 abbrev pub invariant-loop-place : goal.invariant-loop-place
 invariant-loop-place g l = record {
-  keeps : KeepsPlan l.fn.self l.self;
-  calls : GoesOn (g.L.Link.calls l.fn.link) (g.L.Link.calls l.link);
-  step : (told : Answers) (rest : Rest) → Agrees told (g.L.Link.calls l.link)
-      → hears_messages l.fn.self.plan told l.peer l.messages (at_control l.fn.self rest (g.L.Link.calls l.fn.link) l.fn.out)
-      ≡ hears_messages l.fn.self.plan told l.peer (drop l.place l.messages) (at_control l.self rest (g.L.Link.calls l.link) l.out);
+  goes : Works g.L.Link.calls l.fn.self l.fn.work l.self l.work;
+  step : (told : Answers) (rest : Rest) → Agrees told (g.L.Link.calls l.work.link.now)
+      → hears_messages l.fn.self.plan told l.peer l.messages (at_work g.L.Link.calls l.fn.self rest l.fn.work)
+      ≡ hears_messages l.fn.self.plan told l.peer (drop l.place l.messages) (at_work g.L.Link.calls l.self rest l.work);
 }

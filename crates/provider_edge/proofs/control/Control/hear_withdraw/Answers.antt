@@ -6,6 +6,6 @@ use Rattle.provider_edge.proofs.control.Control.hear_withdraw.Goals as goal
 pub returns-clause-step : goal.returns-clause-step
 returns-clause-step g c = map_on _ _ c.release.result
     (λ puts told rest agrees.
-    withdraw_heard c.args.self.now.plan told c.args.peer c.args.fec.now c.args.label.now (controlled c.args.self.now rest) (controlled c.unbind_named.new.self rest) (g.L.Link.calls c.args.link.now) c.args.out.now _
+    withdraw_heard c.args.self.now.plan told c.args.peer c.args.fec.now c.args.label.now (controlled c.args.self.now rest) (controlled c.unbind_named.new.self rest) (g.L.Link.calls c.args.work.now.link.now) c.args.work.now.effects.now.list _
     (c.unbind_named.ensures.step rest) (puts told rest agrees))
     c.release.ensures.step

@@ -5,15 +5,15 @@ use Rattle.provider_edge.proofs.control.Control.labelled.Goals as goal
 
 pub returns-then-entry-lt-LEAST_LABEL-clause-step : goal.returns-then-entry-lt-LEAST_LABEL-clause-step
 returns-then-entry-lt-LEAST_LABEL-clause-step g c = map_on _ _ c.drop_for.result
-    (λ gave. λ told rest agrees. reserved c.args.self.now.plan told c.args.octets.now c.args.entry.now (controlled c.args.self.now rest) (g.L.Link.calls c.args.link.now) c.args.out.now _ c.if-entry-lt-LEAST_LABEL.true gave)
+    (λ gave. λ told rest agrees. reserved c.args.self.now.plan told c.args.octets.now c.args.entry.now (controlled c.args.self.now rest) (g.L.Link.calls c.args.work.now.link.now) c.args.work.now.effects.now.list _ c.if-entry-lt-LEAST_LABEL.true gave)
     c.drop_for.ensures
 
 pub returns-then-not-entry-clause-step : goal.returns-then-not-entry-clause-step
 returns-then-not-entry-clause-step g c = map_on _ _ c.drop_for-then-not-entry.result
-    (λ gave. λ told rest agrees. above_bottom c.args.self.now.plan told c.args.octets.now c.args.entry.now (controlled c.args.self.now rest) (g.L.Link.calls c.args.link.now) c.args.out.now _ c.if-entry-lt-LEAST_LABEL.false c.if-not-entry.true gave)
+    (λ gave. λ told rest agrees. above_bottom c.args.self.now.plan told c.args.octets.now c.args.entry.now (controlled c.args.self.now rest) (g.L.Link.calls c.args.work.now.link.now) c.args.work.now.effects.now.list _ c.if-entry-lt-LEAST_LABEL.false c.if-not-entry.true gave)
     c.drop_for-then-not-entry.ensures
 
 pub returns-clause-step : goal.returns-clause-step
 returns-clause-step g c = map_on _ _ c.named.result
-    (λ step. λ told rest agrees. labelled_here c.args.self.now told c.args.octets.now c.args.entry.now rest (g.L.Link.calls c.args.link.now) c.args.out.now _ c.if-entry-lt-LEAST_LABEL.false c.if-not-entry.false (step told rest agrees))
+    (λ step. λ told rest agrees. labelled_here c.args.self.now told c.args.octets.now c.args.entry.now rest (g.L.Link.calls c.args.work.now.link.now) c.args.work.now.effects.now.list _ c.if-entry-lt-LEAST_LABEL.false c.if-not-entry.false (step told rest agrees))
     c.named.ensures.step

@@ -1,6 +1,7 @@
-use Rattle.std.proofs.Common.{◌∙◌, None}
+use Rattle.std.proofs.Common.{None}
 use Rattle.pw_ends.specs.Ends.{place_of}
-use Rattle.provider_edge.specs.Control.{at_control, controlled}
+use Rattle.provider_edge.specs.AtWork.{at_work}
+use Rattle.provider_edge.specs.Control.{controlled}
 use Rattle.edge_forwarding.specs.Views.{view}
 use Rattle.provider_edge.proofs.MendLemmas.{choice_stays, choice_tells}
 use Rattle.peer_dialogue.proofs.SettleLemmas.{map_ok}
@@ -8,13 +9,13 @@ use Rattle.provider_edge.proofs.control.Control.mend_choice.Goals as goal
 
 pub returns-then-not-is_new_choice-clause-step : goal.returns-then-not-is_new_choice-clause-step
 returns-then-not-is_new_choice-clause-step g c = λ told rest agrees.
-    choice_stays c.args.self.now.plan told (view None c.args.chosen.now) (place_of c.args.self.now.ends c.args.slot) (controlled c.args.self.now rest) (g.L.Link.calls c.args.link.now) c.args.out.now c.is_new_choice.result
+    choice_stays c.args.self.now.plan told (view None c.args.chosen.now) (place_of c.args.self.now.ends c.args.slot) (controlled c.args.self.now rest) (g.L.Link.calls c.args.work.now.link.now) c.args.work.now.effects.now.list c.is_new_choice.result
     (c.is_new_choice.ensures rest) c.if-not-is_new_choice.true
 
 pub returns-clause-step : goal.returns-clause-step
 returns-clause-step g c =
     map_ok _ _ c.tell_piece.result (λ failed said. λ told rest agrees.
-    choice_tells c.args.self.now.plan told (view None c.args.chosen.now) (place_of c.args.self.now.ends c.args.slot) (controlled c.args.self.now rest) (g.L.Link.calls c.args.link.now) c.args.out.now c.is_new_choice.result
-    (record { work = at_control c.tell_piece.new.self rest (g.L.Link.calls c.tell_piece.new.link) c.tell_piece.new.out; failed = failed })
+    choice_tells c.args.self.now.plan told (view None c.args.chosen.now) (place_of c.args.self.now.ends c.args.slot) (controlled c.args.self.now rest) (g.L.Link.calls c.args.work.now.link.now) c.args.work.now.effects.now.list c.is_new_choice.result
+    (record { work = at_work g.L.Link.calls c.tell_piece.new.self rest c.tell_piece.new.work; failed = failed })
     (c.is_new_choice.ensures rest) c.if-not-is_new_choice.false (said told rest agrees))
     c.tell_piece.ensures.step

@@ -1,16 +1,16 @@
 use Rattle.std.proofs.Common.{◌≡◌, false, drop}
 use Rattle.edge_model.specs.EndPlaces.{end_places}
 use Rattle.edge_model.specs.Mend.{each_end, mends_end}
-use Rattle.edge_model.specs.Work.{Agrees, Answers, GoesOn}
-use Rattle.provider_edge.specs.Control.{KeepsPlan, Rest, at_control}
+use Rattle.edge_model.specs.Work.{Agrees, Answers}
+use Rattle.provider_edge.specs.AtWork.{Works, at_work}
+use Rattle.provider_edge.specs.Control.{Rest}
 use Rattle.provider_edge.proofs.control.Control.mend_ends.Given as goal
 
 abbrev pub invariant-loop-slot : goal.invariant-loop-slot
 invariant-loop-slot g l = record {
-  keeps : KeepsPlan l.fn.self l.self;
+  goes : Works g.L.Link.calls l.fn.self l.fn.work l.self l.work;
   places : l.fn.self.ends.places ≡ end_places l.fn.self.plan l.fn.self.me;
-  calls : GoesOn (g.L.Link.calls l.fn.link) (g.L.Link.calls l.link);
-  step : (told : Answers) (rest : Rest) → Agrees told (g.L.Link.calls l.link)
-      → each_end (mends_end l.fn.self.plan told) (end_places l.fn.self.plan l.fn.self.me) (record { work = at_control l.fn.self rest (g.L.Link.calls l.fn.link) l.fn.out; failed = false })
-      ≡ each_end (mends_end l.fn.self.plan told) (drop l.slot (end_places l.fn.self.plan l.fn.self.me)) (record { work = at_control l.self rest (g.L.Link.calls l.link) l.out; failed = l.failed });
+  step : (told : Answers) (rest : Rest) → Agrees told (g.L.Link.calls l.work.link.now)
+      → each_end (mends_end l.fn.self.plan told) (end_places l.fn.self.plan l.fn.self.me) (record { work = at_work g.L.Link.calls l.fn.self rest l.fn.work; failed = false })
+      ≡ each_end (mends_end l.fn.self.plan told) (drop l.slot (end_places l.fn.self.plan l.fn.self.me)) (record { work = at_work g.L.Link.calls l.self rest l.work; failed = l.failed });
 }

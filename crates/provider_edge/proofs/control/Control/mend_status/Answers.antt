@@ -2,7 +2,7 @@ use Rattle.std.proofs.Common.{◌∙◌, ap, sym}
 use Rattle.pw_ends.specs.Ends.{place_of}
 use Rattle.pw_signalling.specs.End.{Advertised}
 use Rattle.pw_signalling.specs.declared.told.Told.{Told}
-use Rattle.provider_edge.specs.Control.{at_control}
+use Rattle.provider_edge.specs.AtWork.{at_work}
 use Rattle.peer_dialogue.specs.Peering.{at_edge}
 use Rattle.provider_edge.proofs.MendLemmas.{local_is, status_idle, status_over, status_withdrawing}
 use Rattle.peer_dialogue.proofs.SettleLemmas.{map_ok}
@@ -12,19 +12,19 @@ pub returns-in-Advertised-clause-step : goal.returns-in-Advertised-clause-step
 unfolding at_edge
 returns-in-Advertised-clause-step g c =
     map_ok _ _ c.tell_over.result (λ failed said. λ told rest agrees.
-    status_over c.args.self.now.plan told (place_of c.args.self.now.ends c.args.slot) (at_control c.args.self.now rest (g.L.Link.calls c.args.link.now) c.args.out.now) c.in-Advertised.end.label c.told-content.result.now
-    (record { work = at_control c.tell_over.new.self rest (g.L.Link.calls c.tell_over.new.link) c.tell_over.new.out; failed = failed })
-    (local_is c.args.self.now rest (g.L.Link.calls c.args.link.now) c.args.out.now c.args.slot c.end_in.result.now _ c.end_in.ensures.end c.in-Advertised.is
+    status_over c.args.self.now.plan told (place_of c.args.self.now.ends c.args.slot) (at_work g.L.Link.calls c.args.self.now rest c.args.work.now) c.in-Advertised.end.label c.told-content.result.now
+    (record { work = at_work g.L.Link.calls c.tell_over.new.self rest c.tell_over.new.work; failed = failed })
+    (local_is c.args.self.now rest (g.L.Link.calls c.args.work.now.link.now) c.args.work.now.effects.now.list c.args.slot c.end_in.result.now _ c.end_in.ensures.end c.in-Advertised.is
     ∙ ap (λ (t : Told). Advertised c.in-Advertised.end.label t) (sym c.told-content.ensures.told))
     (said told rest agrees))
     c.tell_over.ensures.step
 
 pub returns-in-Idle-clause-step : goal.returns-in-Idle-clause-step
 returns-in-Idle-clause-step g c = λ told rest agrees.
-    status_idle c.args.self.now.plan told (place_of c.args.self.now.ends c.args.slot) (at_control c.args.self.now rest (g.L.Link.calls c.args.link.now) c.args.out.now) c.in-Idle.field-0.declined
-    (local_is c.args.self.now rest (g.L.Link.calls c.args.link.now) c.args.out.now c.args.slot c.end_in.result.now _ c.end_in.ensures.end c.in-Idle.is)
+    status_idle c.args.self.now.plan told (place_of c.args.self.now.ends c.args.slot) (at_work g.L.Link.calls c.args.self.now rest c.args.work.now) c.in-Idle.field-0.declined
+    (local_is c.args.self.now rest (g.L.Link.calls c.args.work.now.link.now) c.args.work.now.effects.now.list c.args.slot c.end_in.result.now _ c.end_in.ensures.end c.in-Idle.is)
 
 pub returns-in-Withdrawing-clause-step : goal.returns-in-Withdrawing-clause-step
 returns-in-Withdrawing-clause-step g c = λ told rest agrees.
-    status_withdrawing c.args.self.now.plan told (place_of c.args.self.now.ends c.args.slot) (at_control c.args.self.now rest (g.L.Link.calls c.args.link.now) c.args.out.now) c.in-Withdrawing.field-0.label
-    (local_is c.args.self.now rest (g.L.Link.calls c.args.link.now) c.args.out.now c.args.slot c.end_in.result.now _ c.end_in.ensures.end c.in-Withdrawing.is)
+    status_withdrawing c.args.self.now.plan told (place_of c.args.self.now.ends c.args.slot) (at_work g.L.Link.calls c.args.self.now rest c.args.work.now) c.in-Withdrawing.field-0.label
+    (local_is c.args.self.now rest (g.L.Link.calls c.args.work.now.link.now) c.args.work.now.effects.now.list c.args.slot c.end_in.result.now _ c.end_in.ensures.end c.in-Withdrawing.is)

@@ -1,30 +1,26 @@
 use Rattle.std.proofs.Common.{◌<◌, length, arith}
 use Rattle.edge_model.specs.Mend.{mends_status}
-use Rattle.provider_edge.proofs.ControlLemmas.{plan_both}
+use Rattle.provider_edge.proofs.AtWorkLemmas.{works_both}
 use Rattle.provider_edge.proofs.MendLemmas.{ends_next, ends_past, within_kept}
-use Rattle.peer_dialogue.proofs.SpeakerLemmas.{agrees_before, goes_both}
+use Rattle.peer_dialogue.proofs.SpeakerLemmas.{agrees_before}
 use Rattle.provider_edge.proofs.control.Control.mend_statuses.Goals as goal
 
 pub and_mend_status-requires : goal.and_mend_status-requires
-and_mend_status-requires g c = within_kept c.args.self.now c.loop-slot.self c.loop-slot.slot c.loop-slot.invariant.keeps (omega (arith, c.loop-slot-test.true, c.count_ends-slot-end.ensures.count))
+and_mend_status-requires g c = within_kept c.args.self.now c.loop-slot.self c.loop-slot.slot c.loop-slot.invariant.goes.keeps (omega (arith, c.loop-slot-test.true, c.count_ends-slot-end.ensures.count))
 
 pub loop-slot-preserved : goal.loop-slot-preserved
 loop-slot-preserved g c = record {
-  keeps = plan_both _ _ _ c.loop-slot.invariant.keeps c.in_ok-failed.ensures.keeps;
+  goes = works_both g.L.Link.calls _ _ _ _ _ _ c.loop-slot.invariant.goes c.in_ok-failed.ensures.goes;
   places = c.loop-slot.invariant.places;
-  calls = goes_both _ _ _ c.loop-slot.invariant.calls c.in_ok-failed.ensures.calls;
   step = λ told rest agrees.
-      let below : c.loop-slot.slot < length c.loop-slot.self.ends.places = within_kept c.args.self.now c.loop-slot.self c.loop-slot.slot c.loop-slot.invariant.keeps (omega (arith, c.loop-slot-test.true, c.count_ends-slot-end.ensures.count)) in
-      ends_next (λ plan. mends_status plan told) c.args.self.now c.loop-slot.self c.loop-slot.slot _ _ _ c.loop-slot.invariant.keeps c.loop-slot.invariant.places below
-      (c.loop-slot.invariant.step told rest (agrees_before told _ _ c.in_ok-failed.ensures.calls agrees)) (c.in_ok-failed.ensures.step told rest agrees);
+      let below : c.loop-slot.slot < length c.loop-slot.self.ends.places = within_kept c.args.self.now c.loop-slot.self c.loop-slot.slot c.loop-slot.invariant.goes.keeps (omega (arith, c.loop-slot-test.true, c.count_ends-slot-end.ensures.count)) in
+      ends_next (λ plan. mends_status plan told) c.args.self.now c.loop-slot.self c.loop-slot.slot _ _ _ c.loop-slot.invariant.goes.keeps c.loop-slot.invariant.places below
+      (c.loop-slot.invariant.step told rest (agrees_before told _ _ c.in_ok-failed.ensures.goes.on.calls agrees)) (c.in_ok-failed.ensures.step told rest agrees);
 }
 
 pub returns-clause-step : goal.returns-clause-step
 returns-clause-step g c = λ told rest agrees.
     ends_past (λ plan. mends_status plan told) c.args.self.now c.loop-slot.slot _ _ c.loop-slot.invariant.places (omega (arith, c.loop-slot-test.false, c.count_ends-slot-end.ensures.count)) (c.loop-slot.invariant.step told rest agrees)
 
-pub returns-in_err-failed-clause-keeps : goal.returns-in_err-failed-clause-keeps
-returns-in_err-failed-clause-keeps g c = plan_both _ _ _ c.loop-slot.invariant.keeps c.and_mend_status.ensures.keeps
-
-pub returns-in_err-failed-clause-calls : goal.returns-in_err-failed-clause-calls
-returns-in_err-failed-clause-calls g c = goes_both _ _ _ c.loop-slot.invariant.calls c.and_mend_status.ensures.calls
+pub returns-in_err-failed-clause-goes : goal.returns-in_err-failed-clause-goes
+returns-in_err-failed-clause-goes g c = works_both g.L.Link.calls _ _ _ _ _ _ c.loop-slot.invariant.goes c.and_mend_status.ensures.goes

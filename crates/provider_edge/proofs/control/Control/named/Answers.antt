@@ -1,6 +1,7 @@
 use Rattle.edge_model.specs.Packet.{advertiser}
 use Rattle.pw_ends.specs.Ends.{place_of}
-use Rattle.provider_edge.specs.Control.{at_control, controlled}
+use Rattle.provider_edge.specs.AtWork.{at_work}
+use Rattle.provider_edge.specs.Control.{controlled}
 use Rattle.provider_edge.proofs.PacketLemmas.{named_none, named_some, owned_none, owned_some}
 use Rattle.peer_dialogue.proofs.SettleLemmas.{map_on}
 use Rattle.provider_edge.proofs.control.Control.named.Goals as goal
@@ -8,13 +9,13 @@ use Rattle.provider_edge.proofs.control.Control.named.Goals as goal
 pub returns-in-Some-clause-step : goal.returns-in-Some-clause-step
 returns-in-Some-clause-step g c = map_on _ _ c.owned.result
     (λ step. λ told rest agrees.
-    owned_some c.args.self.now.plan told c.args.octets.now c.args.entry.now (advertiser c.args.self.now.plan (controlled c.args.self.now rest) c.args.entry.now.label) (place_of c.args.self.now.ends c.in-Some.slot) (at_control c.args.self.now rest (g.L.Link.calls c.args.link.now) c.args.out.now) _
+    owned_some c.args.self.now.plan told c.args.octets.now c.args.entry.now (advertiser c.args.self.now.plan (controlled c.args.self.now rest) c.args.entry.now.label) (place_of c.args.self.now.ends c.in-Some.slot) (at_work g.L.Link.calls c.args.self.now rest c.args.work.now) _
     (named_some (place_of c.args.self.now.ends) c.advertiser.result c.in-Some.slot _ (c.advertiser.ensures.named rest) c.in-Some.is) (step told rest agrees))
     c.owned.ensures.step
 
 pub returns-in-None-clause-step : goal.returns-in-None-clause-step
 returns-in-None-clause-step g c = map_on _ _ c.drop_for.result
     (λ gave. λ told rest agrees.
-    owned_none c.args.self.now.plan told c.args.octets.now c.args.entry.now (advertiser c.args.self.now.plan (controlled c.args.self.now rest) c.args.entry.now.label) (controlled c.args.self.now rest) (g.L.Link.calls c.args.link.now) c.args.out.now _
+    owned_none c.args.self.now.plan told c.args.octets.now c.args.entry.now (advertiser c.args.self.now.plan (controlled c.args.self.now rest) c.args.entry.now.label) (controlled c.args.self.now rest) (g.L.Link.calls c.args.work.now.link.now) c.args.work.now.effects.now.list _
     (named_none (place_of c.args.self.now.ends) c.advertiser.result _ (c.advertiser.ensures.named rest) c.in-None.is) gave)
     c.drop_for.ensures

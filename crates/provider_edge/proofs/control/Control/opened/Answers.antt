@@ -1,5 +1,5 @@
 use Rattle.std.proofs.Common.{◌∙◌, sym}
-use Rattle.provider_edge.specs.Control.{at_control}
+use Rattle.provider_edge.specs.AtWork.{at_work}
 use Rattle.provider_edge.proofs.PacketLemmas.{entry_long, opened_alert, opened_label}
 use Rattle.peer_dialogue.proofs.SettleLemmas.{map_on}
 use Rattle.provider_edge.proofs.control.Control.opened.Goals as goal
@@ -10,7 +10,7 @@ without_entry-behind-requires g c = entry_long c.args.octets.now c.args.entry.no
 pub returns-then-is_alert-clause-step : goal.returns-then-is_alert-clause-step
 returns-then-is_alert-clause-step g c = map_on _ _ c.alerted.result
     (λ step. λ told rest agrees.
-    opened_alert c.args.self.now.plan told c.args.octets.now c.without_entry-behind.result.now c.args.entry.now (at_control c.args.self.now rest (g.L.Link.calls c.args.link.now) c.args.out.now) _ (sym c.is_alert.ensures ∙ c.if-is_alert.true) c.without_entry-behind.ensures (step rest (g.L.Link.calls c.args.link.now)))
+    opened_alert c.args.self.now.plan told c.args.octets.now c.without_entry-behind.result.now c.args.entry.now (at_work g.L.Link.calls c.args.self.now rest c.args.work.now) _ (sym c.is_alert.ensures ∙ c.if-is_alert.true) c.without_entry-behind.ensures (step rest (g.L.Link.calls c.args.work.now.link.now)))
     c.alerted.ensures
 
 pub labelled-requires-clause-long : goal.labelled-requires-clause-long
@@ -19,5 +19,5 @@ labelled-requires-clause-long g c = entry_long c.args.octets.now c.args.entry.no
 pub returns-clause-step : goal.returns-clause-step
 returns-clause-step g c = map_on _ _ c.labelled.result
     (λ step. λ told rest agrees.
-    opened_label c.args.self.now.plan told c.args.octets.now c.args.entry.now (at_control c.args.self.now rest (g.L.Link.calls c.args.link.now) c.args.out.now) _ (sym c.is_alert.ensures ∙ c.if-is_alert.false) (step told rest agrees))
+    opened_label c.args.self.now.plan told c.args.octets.now c.args.entry.now (at_work g.L.Link.calls c.args.self.now rest c.args.work.now) _ (sym c.is_alert.ensures ∙ c.if-is_alert.false) (step told rest agrees))
     c.labelled.ensures.step

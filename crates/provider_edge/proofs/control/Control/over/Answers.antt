@@ -8,7 +8,7 @@ use Rattle.provider_edge.proofs.control.Control.over.Goals as goal
 pub returns-in-Ok : goal.returns-in-Ok
 returns-in-Ok c =
     new_control c.args.plan.value c.args.me
-    (the_view (record { plan = c.args.plan; me = c.args.me; dialogues = c.in-Ok.lists.dialogues; ends = c.args.ends; wires_on = c.in-Ok.lists.wires_on; bits = c.in-Ok.lists.bits; priorities = c.in-Ok.lists.priorities; spokes = c.args.spokes; forwarding = c.args.forwarding }))
+    (the_view (record { plan = c.args.plan; me = c.args.me; dialogues = c.in-Ok.lists.dialogues; ends = c.args.parts.ends; wires_on = c.in-Ok.lists.wires_on; bits = c.in-Ok.lists.bits; priorities = c.in-Ok.lists.priorities; spokes = c.args.parts.spokes; forwarding = c.args.parts.forwarding }))
     (record {
       keeps = refl;
       here = refl;

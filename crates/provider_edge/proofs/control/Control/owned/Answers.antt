@@ -1,12 +1,12 @@
 use Rattle.pw_ends.specs.Ends.{place_of}
-use Rattle.provider_edge.specs.Control.{at_control}
+use Rattle.provider_edge.specs.AtWork.{at_work}
 use Rattle.provider_edge.proofs.PacketLemmas.{owned_between, owned_terminal, terminal_at}
 use Rattle.peer_dialogue.proofs.SettleLemmas.{map_on}
 use Rattle.provider_edge.proofs.control.Control.owned.Goals as goal
 
 pub returns-then-not-place-clause-step : goal.returns-then-not-place-clause-step
 returns-then-not-place-clause-step g c = λ told rest agrees.
-    owned_between c.args.self.now.plan told c.args.octets.now c.args.entry.now (place_of c.args.self.now.ends c.args.slot) c.place_at-place.result (at_control c.args.self.now rest (g.L.Link.calls c.args.link.now) c.args.out.now) c.place_at-place.ensures.place c.if-not-place.true
+    owned_between c.args.self.now.plan told c.args.octets.now c.args.entry.now (place_of c.args.self.now.ends c.args.slot) c.place_at-place.result (at_work g.L.Link.calls c.args.self.now rest c.args.work.now) c.place_at-place.ensures.place c.if-not-place.true
 
 pub terminated-requires-clause-terminal : goal.terminated-requires-clause-terminal
 terminated-requires-clause-terminal g c = terminal_at (place_of c.args.self.now.ends c.args.slot) c.place_at-place.result c.place_at-place.ensures.place c.if-not-place.false
@@ -14,5 +14,5 @@ terminated-requires-clause-terminal g c = terminal_at (place_of c.args.self.now.
 pub returns-clause-step : goal.returns-clause-step
 returns-clause-step g c = map_on _ _ c.terminated.result
     (λ step. λ told rest agrees.
-    owned_terminal c.args.self.now told c.args.octets.now c.without_entry.result.now c.args.entry.now c.args.slot c.place_at-place.result rest (g.L.Link.calls c.args.link.now) c.args.out.now _ c.place_at-place.ensures.place c.if-not-place.false c.without_entry.ensures (step told rest agrees))
+    owned_terminal c.args.self.now told c.args.octets.now c.without_entry.result.now c.args.entry.now c.args.slot c.place_at-place.result rest (g.L.Link.calls c.args.work.now.link.now) c.args.work.now.effects.now.list _ c.place_at-place.ensures.place c.if-not-place.false c.without_entry.ensures (step told rest agrees))
     c.terminated.ensures.step

@@ -1,6 +1,7 @@
 use Rattle.std.proofs.Common.{◌≡◌, ◌∙◌, Ok, Err, ap, sym}
 use Rattle.eth_encap.specs.Packet.{entry_of}
-use Rattle.provider_edge.specs.Control.{at_control, controlled}
+use Rattle.provider_edge.specs.AtWork.{at_work}
+use Rattle.provider_edge.specs.Control.{controlled}
 use Rattle.provider_edge.proofs.PacketLemmas.{packet_err, packet_ok}
 use Rattle.peer_dialogue.proofs.SettleLemmas.{map_on}
 use Rattle.provider_edge.proofs.control.Control.packet.Goals as goal
@@ -12,11 +13,11 @@ pub returns-in-Ok-clause-step : goal.returns-in-Ok-clause-step
 returns-in-Ok-clause-step g c = map_on _ _ c.opened.result
     (λ step. λ told rest agrees.
     let read : entry_of c.args.octets.now ≡ Ok c.in-Ok.entry = c.in-Ok.ensures.ok in
-    packet_ok c.args.self.now.plan told c.args.octets.now c.in-Ok.entry (at_control c.args.self.now rest (g.L.Link.calls c.args.link.now) c.args.out.now) _ read (step told rest agrees))
+    packet_ok c.args.self.now.plan told c.args.octets.now c.in-Ok.entry (at_work g.L.Link.calls c.args.self.now rest c.args.work.now) _ read (step told rest agrees))
     c.opened.ensures.step
 
 pub returns-in-Err-clause-step : goal.returns-in-Err-clause-step
 returns-in-Err-clause-step g c = map_on _ _ c.drop_for.result
     (λ gave. λ told rest agrees.
-    packet_err c.args.self.now.plan told c.args.octets.now c.cause.result (controlled c.args.self.now rest) (g.L.Link.calls c.args.link.now) c.args.out.now _ (c.in-Err.ensures.fault ∙ ap Err (sym c.cause.ensures)) gave)
+    packet_err c.args.self.now.plan told c.args.octets.now c.cause.result (controlled c.args.self.now rest) (g.L.Link.calls c.args.work.now.link.now) c.args.work.now.effects.now.list _ (c.in-Err.ensures.fault ∙ ap Err (sym c.cause.ensures)) gave)
     c.drop_for.ensures

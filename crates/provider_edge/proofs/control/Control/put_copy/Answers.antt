@@ -1,12 +1,19 @@
-use Rattle.provider_edge.specs.Control.{at_control}
-use Rattle.provider_edge.proofs.BridgeLemmas.{copied_none, copied_some}
+use Rattle.provider_edge.specs.Control.{controlled}
+use Rattle.provider_edge.proofs.BridgeLemmas.{copied_circuit, copied_mesh, copied_spoke}
 use Rattle.peer_dialogue.proofs.SettleLemmas.{map_on}
 use Rattle.provider_edge.proofs.control.Control.put_copy.Goals as goal
 
-pub returns-in-Some-clause-step : goal.returns-in-Some-clause-step
-returns-in-Some-clause-step g c = map_on _ _ c.put_copy_by.result
-    (λ step. λ told rest agrees. copied_some c.args.self.now.plan told c.args.came c.args.frame.now c.args.port c.in-Some.port (at_control c.args.self.now rest (g.L.Link.calls c.args.link.now) c.args.out.now) _ c.in-Some.is (step told rest agrees))
-    c.put_copy_by.ensures.step
+pub returns-in-Circuit-clause-step : goal.returns-in-Circuit-clause-step
+returns-in-Circuit-clause-step g c = map_on _ _ c.leave.result
+    (λ gave. λ told rest agrees. copied_circuit c.args.self.now.plan told c.args.came c.args.frame.now c.args.port c.in-Circuit.circuit (controlled c.args.self.now rest) (g.L.Link.calls c.args.work.now.link.now) c.args.work.now.effects.now.list _ c.in-Circuit.is gave)
+    c.leave.ensures
 
-pub returns-in-None-clause-step : goal.returns-in-None-clause-step
-returns-in-None-clause-step g c = λ told rest agrees. copied_none c.args.self.now.plan told c.args.came c.args.frame.now c.args.port (at_control c.args.self.now rest (g.L.Link.calls c.args.link.now) c.args.out.now) c.in-None.is
+pub returns-in-Mesh-clause-step : goal.returns-in-Mesh-clause-step
+returns-in-Mesh-clause-step g c = map_on _ _ c.send_copy.result
+    (λ step. λ told rest agrees. copied_mesh c.args.self.now told c.args.came c.args.frame.now c.args.port c.in-Mesh.wire rest (g.L.Link.calls c.args.work.now.link.now) c.args.work.now.effects.now.list _ c.in-Mesh.is (step told rest agrees))
+    c.send_copy.ensures.step
+
+pub returns-in-Spoke-clause-step : goal.returns-in-Spoke-clause-step
+returns-in-Spoke-clause-step g c = map_on _ _ c.send_copy-in-Spoke.result
+    (λ step. λ told rest agrees. copied_spoke c.args.self.now told c.args.came c.args.frame.now c.args.port c.in-Spoke.wire rest (g.L.Link.calls c.args.work.now.link.now) c.args.work.now.effects.now.list _ c.in-Spoke.is (step told rest agrees))
+    c.send_copy-in-Spoke.ensures.step

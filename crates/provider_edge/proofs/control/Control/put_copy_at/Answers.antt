@@ -1,20 +1,25 @@
-use Rattle.std.proofs.Common.{◌∙◌, Option, ap, sym}
-use Rattle.hvpls_spokes.specs.declared.port.Port.{Port}
+use Rattle.std.proofs.Common.{◌∙◌, sym, slice_get}
 use Rattle.hvpls_spokes.specs.PortSet.{has}
 use Rattle.edge_model.specs.Frame.{copy_by}
-use Rattle.provider_edge.specs.Control.{at_control}
-use Rattle.provider_edge.specs.Taking.{copied_by}
+use Rattle.provider_edge.proofs.ClearLemmas.{told_by_none, told_by_some}
+use Rattle.provider_edge.specs.AtWork.{at_work}
 use Rattle.provider_edge.proofs.BridgeLemmas.{copied_else, copied_if}
 use Rattle.peer_dialogue.proofs.SettleLemmas.{map_on}
 use Rattle.provider_edge.proofs.control.Control.put_copy_at.Goals as goal
 
 pub returns-then-not-contains-clause-step : goal.returns-then-not-contains-clause-step
 returns-then-not-contains-clause-step g c = λ told rest agrees.
-    copied_else (has c.args.targets.now c.args.port) (at_control c.args.self.now rest (g.L.Link.calls c.args.link.now) c.args.out.now) _ (sym c.contains.ensures ∙ c.if-not-contains.true)
+    copied_else (has c.args.egress.now.targets.now c.args.port) (at_work g.L.Link.calls c.args.self.now rest c.args.work.now) _ (sym c.contains.ensures ∙ c.if-not-contains.true)
 
-pub returns-clause-step : goal.returns-clause-step
-returns-clause-step g c = map_on _ _ c.put_copy.result
+pub returns-in-Some-clause-step : goal.returns-in-Some-clause-step
+returns-in-Some-clause-step g c = map_on _ _ c.put_copy.result
     (λ step. λ told rest agrees.
-    copied_if (has c.args.targets.now c.args.port) (at_control c.args.self.now rest (g.L.Link.calls c.args.link.now) c.args.out.now) _ _ (sym c.contains.ensures ∙ c.if-not-contains.false)
-    (step told rest agrees ∙ ap (λ (x : Option Port). copied_by (copy_by c.args.self.now.plan told c.args.came c.args.frame.now) x (at_control c.args.self.now rest (g.L.Link.calls c.args.link.now) c.args.out.now)) c.get.ensures))
+    copied_if (has c.args.egress.now.targets.now c.args.port) (at_work g.L.Link.calls c.args.self.now rest c.args.work.now) _ _ (sym c.contains.ensures ∙ c.if-not-contains.false)
+    (told_by_some (copy_by c.args.self.now.plan told c.args.egress.now.came c.args.egress.now.frame.now) c.get.result (slice_get c.args.ports.now c.args.port) c.in-Some.port (at_work g.L.Link.calls c.args.self.now rest c.args.work.now) _
+    c.get.ensures c.in-Some.is (step told rest agrees)))
     c.put_copy.ensures.step
+
+pub returns-in-None-clause-step : goal.returns-in-None-clause-step
+returns-in-None-clause-step g c = λ told rest agrees.
+    copied_if (has c.args.egress.now.targets.now c.args.port) (at_work g.L.Link.calls c.args.self.now rest c.args.work.now) _ _ (sym c.contains.ensures ∙ c.if-not-contains.false)
+    (told_by_none (copy_by c.args.self.now.plan told c.args.egress.now.came c.args.egress.now.frame.now) c.get.result (slice_get c.args.ports.now c.args.port) (at_work g.L.Link.calls c.args.self.now rest c.args.work.now) c.get.ensures c.in-None.is)

@@ -1,20 +1,20 @@
 use Rattle.std.proofs.Common.{refl}
 use Rattle.hvpls_spokes.specs.declared.port.Port.TheVariants as port
-use Rattle.provider_edge.specs.Control.{at_control}
+use Rattle.provider_edge.specs.AtWork.{at_work}
 use Rattle.provider_edge.proofs.ClearLemmas.{told_circuit, told_mesh, told_spoke}
 use Rattle.peer_dialogue.proofs.SettleLemmas.{map_on}
 use Rattle.provider_edge.proofs.control.Control.tell_at.Goals as goal
 
 pub returns-in-Circuit-clause-step : goal.returns-in-Circuit-clause-step
 returns-in-Circuit-clause-step g c = λ told rest agrees.
-    told_circuit c.args.self.now.plan told c.args.addresses.now c.args.port (port.Circuit c.in-Circuit.field-0) (at_control c.args.self.now rest (g.L.Link.calls c.args.link.now) c.args.out.now) c.in-Circuit.is (λ w. refl)
+    told_circuit c.args.self.now.plan told c.args.addresses.now c.args.port (port.Circuit c.in-Circuit.field-0) (at_work g.L.Link.calls c.args.self.now rest c.args.work.now) c.in-Circuit.is (λ w. refl)
 
 pub returns-in-Mesh-clause-step : goal.returns-in-Mesh-clause-step
 returns-in-Mesh-clause-step g c = map_on _ _ c.tell_wire.result
-    (λ step. λ told rest agrees. told_mesh c.args.self.now told c.args.addresses.now c.args.port c.in-Mesh.wire rest (g.L.Link.calls c.args.link.now) c.args.out.now _ c.in-Mesh.is (step told rest agrees))
+    (λ step. λ told rest agrees. told_mesh c.args.self.now told c.args.addresses.now c.args.port c.in-Mesh.wire rest (g.L.Link.calls c.args.work.now.link.now) c.args.work.now.effects.now.list _ c.in-Mesh.is (step told rest agrees))
     c.tell_wire.ensures.step
 
 pub returns-in-Spoke-clause-step : goal.returns-in-Spoke-clause-step
 returns-in-Spoke-clause-step g c = map_on _ _ c.tell_wire-in-Spoke.result
-    (λ step. λ told rest agrees. told_spoke c.args.self.now told c.args.addresses.now c.args.port c.in-Spoke.wire rest (g.L.Link.calls c.args.link.now) c.args.out.now _ c.in-Spoke.is (step told rest agrees))
+    (λ step. λ told rest agrees. told_spoke c.args.self.now told c.args.addresses.now c.args.port c.in-Spoke.wire rest (g.L.Link.calls c.args.work.now.link.now) c.args.work.now.effects.now.list _ c.in-Spoke.is (step told rest agrees))
     c.tell_wire-in-Spoke.ensures.step

@@ -3,36 +3,32 @@ use Rattle.net_base.specs.declared.plan.Plan.{Plan}
 use Rattle.hvpls_spokes.specs.Port.{ports_of}
 use Rattle.hvpls_spokes.specs.PortSet.{has}
 use Rattle.edge_model.specs.Clear.{tells_at}
+use Rattle.provider_edge.proofs.AtWorkLemmas.{works_both}
 use Rattle.provider_edge.proofs.ClearLemmas.{where_kept}
-use Rattle.provider_edge.proofs.ControlLemmas.{plan_both}
 use Rattle.provider_edge.proofs.CopyLemmas.{copied_next, copies_end}
-use Rattle.peer_dialogue.proofs.SpeakerLemmas.{agrees_before, goes_both}
+use Rattle.peer_dialogue.proofs.SpeakerLemmas.{agrees_before}
 use Rattle.provider_edge.proofs.control.Control.tell_passed.Goals as goal
 
 pub tell_where-requires : goal.tell_where-requires
 tell_where-requires g c = record {
-  service = subst (λ (p : Plan). c.args.service.0 < length p.services) (sym c.loop-port.invariant.keeps.plan) c.requires.service;
+  service = subst (λ (p : Plan). c.args.passing.now.service.0 < length p.services) (sym c.loop-port.invariant.goes.keeps.plan) c.requires.service;
   port = omega (arith, c.requires.most, c.loop-port-test.true);
 }
 
 pub loop-port-preserved : goal.loop-port-preserved
 loop-port-preserved g c = record {
-  keeps = plan_both _ _ _ c.loop-port.invariant.keeps c.in_ok-tell_where.ensures.keeps;
-  calls = goes_both _ _ _ c.loop-port.invariant.calls c.in_ok-tell_where.ensures.calls;
+  goes = works_both g.L.Link.calls _ _ _ _ _ _ c.loop-port.invariant.goes c.in_ok-tell_where.ensures.goes;
   step = λ told rest agrees.
-      let within : c.loop-port.port < length (ports_of c.args.self.now.plan c.args.service c.args.self.now.me) = omega (arith, c.requires.count, c.loop-port-test.true) in
-      copied_next (has c.args.passed.now) (tells_at c.args.self.now.plan told c.args.addresses.now) c.loop-port.port (ports_of c.args.self.now.plan c.args.service c.args.self.now.me) _ _ _ within
-      (where_kept c.args.self.now c.loop-port.self told c.args.addresses.now c.args.service c.loop-port.port (has c.args.passed.now c.loop-port.port) _ _ c.loop-port.invariant.keeps (c.in_ok-tell_where.ensures.step told rest agrees))
-      (c.loop-port.invariant.step told rest (agrees_before told _ _ c.in_ok-tell_where.ensures.calls agrees));
+      let within : c.loop-port.port < length (ports_of c.args.self.now.plan c.args.passing.now.service c.args.self.now.me) = omega (arith, c.requires.count, c.loop-port-test.true) in
+      copied_next (has c.args.passing.now.ports.now) (tells_at c.args.self.now.plan told c.args.passing.now.addresses.now) c.loop-port.port (ports_of c.args.self.now.plan c.args.passing.now.service c.args.self.now.me) _ _ _ within
+      (where_kept c.args.self.now c.loop-port.self told c.args.passing.now.addresses.now c.args.passing.now.service c.loop-port.port (has c.args.passing.now.ports.now c.loop-port.port) _ _ c.loop-port.invariant.goes.keeps (c.in_ok-tell_where.ensures.step told rest agrees))
+      (c.loop-port.invariant.step told rest (agrees_before told _ _ c.in_ok-tell_where.ensures.goes.on.calls agrees));
 }
 
 pub returns-clause-step : goal.returns-clause-step
 returns-clause-step g c = λ told rest agrees.
-    let past : length (ports_of c.args.self.now.plan c.args.service c.args.self.now.me) ≤ c.loop-port.port = omega (arith, c.requires.count, c.loop-port-test.false) in
-    sym (copies_end (has c.args.passed.now) (tells_at c.args.self.now.plan told c.args.addresses.now) c.loop-port.port c.loop-port.port (ports_of c.args.self.now.plan c.args.service c.args.self.now.me) _ past) ∙ c.loop-port.invariant.step told rest agrees
+    let past : length (ports_of c.args.self.now.plan c.args.passing.now.service c.args.self.now.me) ≤ c.loop-port.port = omega (arith, c.requires.count, c.loop-port-test.false) in
+    sym (copies_end (has c.args.passing.now.ports.now) (tells_at c.args.self.now.plan told c.args.passing.now.addresses.now) c.loop-port.port c.loop-port.port (ports_of c.args.self.now.plan c.args.passing.now.service c.args.self.now.me) _ past) ∙ c.loop-port.invariant.step told rest agrees
 
-pub returns-in_err-tell_where-clause-keeps : goal.returns-in_err-tell_where-clause-keeps
-returns-in_err-tell_where-clause-keeps g c = plan_both _ _ _ c.loop-port.invariant.keeps c.tell_where.ensures.keeps
-
-pub returns-in_err-tell_where-clause-calls : goal.returns-in_err-tell_where-clause-calls
-returns-in_err-tell_where-clause-calls g c = goes_both _ _ _ c.loop-port.invariant.calls c.tell_where.ensures.calls
+pub returns-in_err-tell_where-clause-goes : goal.returns-in_err-tell_where-clause-goes
+returns-in_err-tell_where-clause-goes g c = works_both g.L.Link.calls _ _ _ _ _ _ c.loop-port.invariant.goes c.tell_where.ensures.goes

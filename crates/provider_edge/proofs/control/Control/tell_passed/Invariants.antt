@@ -3,15 +3,15 @@ use Rattle.hvpls_spokes.specs.Port.{ports_of}
 use Rattle.hvpls_spokes.specs.PortSet.{has}
 use Rattle.edge_model.specs.Clear.{tells_at}
 use Rattle.edge_model.specs.Frame.{copies}
-use Rattle.edge_model.specs.Work.{Agrees, Answers, GoesOn}
-use Rattle.provider_edge.specs.Control.{KeepsPlan, Rest, at_control}
+use Rattle.edge_model.specs.Work.{Agrees, Answers}
+use Rattle.provider_edge.specs.AtWork.{Works, at_work}
+use Rattle.provider_edge.specs.Control.{Rest}
 use Rattle.provider_edge.proofs.control.Control.tell_passed.Given as goal
 
 abbrev pub invariant-loop-port : goal.invariant-loop-port
 invariant-loop-port g l = record {
-  keeps : KeepsPlan l.fn.self l.self;
-  calls : GoesOn (g.L.Link.calls l.fn.link) (g.L.Link.calls l.link);
-  step : (told : Answers) (rest : Rest) → Agrees told (g.L.Link.calls l.link)
-      → copies (has l.passed) (tells_at l.fn.self.plan told l.addresses) l.port (drop l.port (ports_of l.fn.self.plan l.service l.fn.self.me)) (at_control l.self rest (g.L.Link.calls l.link) l.out)
-      ≡ copies (has l.passed) (tells_at l.fn.self.plan told l.addresses) 0 (ports_of l.fn.self.plan l.service l.fn.self.me) (at_control l.fn.self rest (g.L.Link.calls l.fn.link) l.fn.out);
+  goes : Works g.L.Link.calls l.fn.self l.fn.work l.self l.work;
+  step : (told : Answers) (rest : Rest) → Agrees told (g.L.Link.calls l.work.link.now)
+      → copies (has l.passing.ports.now) (tells_at l.fn.self.plan told l.passing.addresses.now) l.port (drop l.port (ports_of l.fn.self.plan l.passing.service l.fn.self.me)) (at_work g.L.Link.calls l.self rest l.work)
+      ≡ copies (has l.passing.ports.now) (tells_at l.fn.self.plan told l.passing.addresses.now) 0 (ports_of l.fn.self.plan l.passing.service l.fn.self.me) (at_work g.L.Link.calls l.fn.self rest l.fn.work);
 }

@@ -1,7 +1,8 @@
 use Rattle.std.proofs.lemmas.Bool.{eq-eqb, ne_eqb}
 use Rattle.edge_model.specs.Role.{status_to_tell}
 use Rattle.pw_ends.specs.Ends.{place_of}
-use Rattle.provider_edge.specs.Control.{at_control, controlled}
+use Rattle.provider_edge.specs.AtWork.{at_work}
+use Rattle.provider_edge.specs.Control.{controlled}
 use Rattle.provider_edge.proofs.MendLemmas.{over_new, over_same}
 use Rattle.peer_dialogue.proofs.SettleLemmas.{map_ok}
 use Rattle.provider_edge.proofs.control.Control.tell_unless.Goals as goal
@@ -9,13 +10,13 @@ use Rattle.provider_edge.proofs.control.Control.tell_unless.Goals as goal
 pub returns-then-last-status-clause-step : goal.returns-then-last-status-clause-step
 returns-then-last-status-clause-step g c = λ told rest agrees.
     over_same told (place_of c.args.self.now.ends c.args.slot) c.args.content c.status_to_tell-status.result (status_to_tell c.args.self.now.plan (controlled c.args.self.now rest) (place_of c.args.self.now.ends c.args.slot)) c.args.last
-    (at_control c.args.self.now rest (g.L.Link.calls c.args.link.now) c.args.out.now) (c.status_to_tell-status.ensures rest) (eq-eqb c.args.last.0 c.status_to_tell-status.result.0 c.if-last-status.true)
+    (at_work g.L.Link.calls c.args.self.now rest c.args.work.now) (c.status_to_tell-status.ensures rest) (eq-eqb c.args.last.0 c.status_to_tell-status.result.0 c.if-last-status.true)
 
 pub returns-clause-step : goal.returns-clause-step
 returns-clause-step g c =
     map_ok _ _ c.put_status.result (λ failed said. λ told rest agrees.
     over_new told (place_of c.args.self.now.ends c.args.slot) c.args.content c.status_to_tell-status.result (status_to_tell c.args.self.now.plan (controlled c.args.self.now rest) (place_of c.args.self.now.ends c.args.slot)) c.args.last
-    (at_control c.args.self.now rest (g.L.Link.calls c.args.link.now) c.args.out.now)
-    (record { work = at_control c.put_status.new.self rest (g.L.Link.calls c.put_status.new.link) c.put_status.new.out; failed = failed })
+    (at_work g.L.Link.calls c.args.self.now rest c.args.work.now)
+    (record { work = at_work g.L.Link.calls c.put_status.new.self rest c.put_status.new.work; failed = failed })
     (c.status_to_tell-status.ensures rest) (ne_eqb c.args.last.0 c.status_to_tell-status.result.0 c.if-last-status.false) (said told rest agrees))
     c.put_status.ensures.step

@@ -1,4 +1,4 @@
-use Rattle.std.proofs.Common.{◌≡◌, ◌∙◌, ◌<◌, [], length, ap, sym, subst, true}
+use Rattle.std.proofs.Common.{◌≡◌, ◌∙◌, ◌<◌, [], length, ap, sym, subst, true, refl}
 use Rattle.net_base.specs.declared.plan.Plan.{Plan}
 use Rattle.net_base.specs.plan.Accepted.{IsChecked}
 use Rattle.net_base.specs.plan.Paths.{are_joined}
@@ -6,11 +6,13 @@ use Rattle.edge_model.specs.declared.effects.Effects.{Effects}
 use Rattle.edge_model.specs.Connection.{connected_input, connects}
 use Rattle.edge_model.specs.State.{EdgeState, has_end}
 use Rattle.edge_model.specs.Work.{beginning}
+use Rattle.provider_edge.proofs.AtWorkLemmas.{work_both, takes_by}
+use Rattle.provider_edge.specs.AtWork.{edge_at_work}
 use Rattle.provider_edge.specs.Lists.{EdgeLists, seen, worked}
 use Rattle.peer_dialogue.specs.Peering.{at_edge, connection_with}
 use Rattle.provider_edge.proofs.EdgeLemmas.{apart_test, begun, connected_done, connected_idle, connected_none, joined_test, mended, none_by, peer_within, stands_test}
 use Rattle.provider_edge.proofs.ProperLemmas.{proper_between}
-use Rattle.peer_dialogue.proofs.SpeakerLemmas.{agrees_before, goes_both}
+use Rattle.peer_dialogue.proofs.SpeakerLemmas.{agrees_before}
 use Rattle.provider_edge.proofs.EffectLemmas.{goes_nowhere}
 use Rattle.provider_edge.proofs.WorkLemmas.{keeps_both, keeps_same}
 use Rattle.peer_dialogue.proofs.SettleLemmas.{map_on}
@@ -21,8 +23,8 @@ pub returns-then-not-joined-clause-step : goal.returns-then-not-joined-clause-st
 returns-then-not-joined-clause-step g c = λ told agrees.
     let joined : c.joined.result ≡ are_joined c.args.self.now.plan c.args.self.now.me.0 c.args.peer.0 =
     c.joined.ensures ∙ (ap (λ (p : Plan). are_joined p c.self.inside.me.0 c.args.peer.0) c.deref.ensures ∙ ap (λ (e : EdgeLists). are_joined e.plan e.me.0 c.args.peer.0) c.self.view_is) in
-    subst (λ (e : Effects). worked c.args.self.now (g.L.Link.calls c.args.link.now) (record e { idle = true }) ≡ connected_input c.args.self.now.plan told c.args.peer (beginning (seen c.args.self.now) (g.L.Link.calls c.args.link.now))) (sym c.requires.fresh)
-    (connected_idle c.args.self.now told c.args.peer (g.L.Link.calls c.args.link.now) (elim c.then-not-joined.branch [
+    subst (λ (e : Effects). worked c.args.self.now (g.L.Link.calls c.args.work.now.link.now) (record e { idle = true }) ≡ connected_input c.args.self.now.plan told c.args.peer (beginning (seen c.args.self.now) (g.L.Link.calls c.args.work.now.link.now))) (sym c.requires.fresh)
+    (connected_idle c.args.self.now told c.args.peer (g.L.Link.calls c.args.work.now.link.now) (elim c.then-not-joined.branch [
       | then-not-joined-via-then-not-joined w ↦ apart_test (are_joined c.args.self.now.plan c.args.self.now.me.0 c.args.peer.0) (has_end (seen c.args.self.now) c.args.peer) (sym joined ∙ w.if-not-joined.true)
       | then-not-joined-via-else-not-joined+then-has_end w ↦ stands_test (are_joined c.args.self.now.plan c.args.self.now.me.0 c.args.peer.0) (has_end (seen c.args.self.now) c.args.peer) (sym w.has_end.ensures ∙ w.if-has_end.true)
     ]))
@@ -31,8 +33,8 @@ pub returns-in_default-clause-step : goal.returns-in_default-clause-step
 returns-in_default-clause-step g c = λ told agrees.
     let joined : c.joined.result ≡ are_joined c.args.self.now.plan c.args.self.now.me.0 c.args.peer.0 =
     c.joined.ensures ∙ (ap (λ (p : Plan). are_joined p c.self.inside.me.0 c.args.peer.0) c.deref.ensures ∙ ap (λ (e : EdgeLists). are_joined e.plan e.me.0 c.args.peer.0) c.self.view_is) in
-    subst (λ (e : Effects). worked c.args.self.now (g.L.Link.calls c.args.link.now) (record e { idle = true }) ≡ connected_input c.args.self.now.plan told c.args.peer (beginning (seen c.args.self.now) (g.L.Link.calls c.args.link.now))) (sym c.requires.fresh)
-    (connected_none c.args.self.now told c.args.peer c.peers_with.result (g.L.Link.calls c.args.link.now) (joined_test (are_joined c.args.self.now.plan c.args.self.now.me.0 c.args.peer.0) (has_end (seen c.args.self.now) c.args.peer) (sym joined ∙ c.if-not-joined.false) (sym c.has_end.ensures ∙ c.if-has_end.false)) c.peers_with.ensures c.in_default.is)
+    subst (λ (e : Effects). worked c.args.self.now (g.L.Link.calls c.args.work.now.link.now) (record e { idle = true }) ≡ connected_input c.args.self.now.plan told c.args.peer (beginning (seen c.args.self.now) (g.L.Link.calls c.args.work.now.link.now))) (sym c.requires.fresh)
+    (connected_none c.args.self.now told c.args.peer c.peers_with.result (g.L.Link.calls c.args.work.now.link.now) (joined_test (are_joined c.args.self.now.plan c.args.self.now.me.0 c.args.peer.0) (has_end (seen c.args.self.now) c.args.peer) (sym joined ∙ c.if-not-joined.false) (sym c.has_end.ensures ∙ c.if-has_end.false)) c.peers_with.ensures c.in_default.is)
 
 pub forget_octets-requires-clause-within : goal.forget_octets-requires-clause-within
 forget_octets-requires-clause-within g c = peer_within c.args.self.now.plan _ c.args.peer c.in-Some.peers (sym c.peers_with.ensures ∙ c.in-Some.is)
@@ -51,46 +53,33 @@ connect-requires-clause-proper g c =
     c.joined.ensures ∙ (ap (λ (p : Plan). are_joined p c.self.inside.me.0 c.args.peer.0) c.deref.ensures ∙ ap (λ (e : EdgeLists). are_joined e.plan e.me.0 c.args.peer.0) c.self.view_is) in
     proper_between c.args.self.now.plan c.args.self.now.me.0 c.args.peer.0 c.peers_with.result c.in-Some.peers (subst (λ (e : EdgeLists). IsChecked e.plan) c.self.view_is c.self.invariant.checked) (sym joined ∙ c.if-not-joined.false) c.peers_with.ensures c.in-Some.is
 
-pub returns-clause-calls : goal.returns-clause-calls
-returns-clause-calls g c = goes_both _ _ _ c.in_ok-connect.ensures.calls c.mend.ensures.calls
+pub returns-clause-goes : goal.returns-clause-goes
+returns-clause-goes g c = takes_by g.L.Link.calls _ _ _ _ (keeps_both c.args.self.now c.connect.new.self c.mend.new.self (keeps_both c.args.self.now c.forget_octets.new.self c.connect.new.self c.forget_octets.ensures.keeps c.in_ok-connect.ensures.goes.keeps) c.mend.ensures.goes.keeps) (work_both g.L.Link.calls _ _ _ c.in_ok-connect.ensures.goes.on c.mend.ensures.goes.on)
 
 pub returns-clause-step : goal.returns-clause-step
 returns-clause-step g c = map_on _ _ c.mend.result
     (λ step told agrees.
     let joined : c.joined.result ≡ are_joined c.args.self.now.plan c.args.self.now.me.0 c.args.peer.0 =
     c.joined.ensures ∙ (ap (λ (p : Plan). are_joined p c.self.inside.me.0 c.args.peer.0) c.deref.ensures ∙ ap (λ (e : EdgeLists). are_joined e.plan e.me.0 c.args.peer.0) c.self.view_is) in
-    connected_done c.args.self.now told c.args.peer c.peers_with.result c.in-Some.peers (g.L.Link.calls c.args.link.now) _
+    connected_done c.args.self.now told c.args.peer c.peers_with.result c.in-Some.peers (g.L.Link.calls c.args.work.now.link.now) _
     (joined_test (are_joined c.args.self.now.plan c.args.self.now.me.0 c.args.peer.0) (has_end (seen c.args.self.now) c.args.peer) (sym joined ∙ c.if-not-joined.false) (sym c.has_end.ensures ∙ c.if-has_end.false))
     c.peers_with.ensures c.in-Some.is
-    (mended c.args.self.now c.connect.new.self c.mend.new.self told (g.L.Link.calls c.connect.new.link) (g.L.Link.calls c.mend.new.link) c.connect.new.out c.mend.new.out c.args.effects.now.idle
-    (connects told c.args.peer (connection_with c.in-Some.peers) (beginning (seen c.args.self.now) (g.L.Link.calls c.args.link.now)))
-    (ap (λ (e : Effects). e.idle) c.requires.fresh)
-    (keeps_both c.args.self.now c.forget_octets.new.self c.connect.new.self c.forget_octets.ensures.keeps c.in_ok-connect.ensures.keeps)
-    (subst (λ (e : Effects). at_edge (seen c.connect.new.self) (g.L.Link.calls c.connect.new.link) c.connect.new.out ≡ connects told c.args.peer (connection_with c.in-Some.peers) (at_edge (seen c.forget_octets.new.self) (g.L.Link.calls c.args.link.now) e.list)) c.requires.fresh
-    (c.in_ok-connect.ensures.step told (agrees_before told _ _ c.mend.ensures.calls agrees))
-    ∙ (ap (λ (s : EdgeState). connects told c.args.peer (connection_with c.in-Some.peers) (at_edge s (g.L.Link.calls c.args.link.now) [])) c.forget_octets.ensures.step
-    ∙ ap (connects told c.args.peer (connection_with c.in-Some.peers)) (begun (seen c.args.self.now) (g.L.Link.calls c.args.link.now))))
+    (mended c.args.self.now c.connect.new.self c.mend.new.self told (g.L.Link.calls c.connect.new.work.link.now) (g.L.Link.calls c.mend.new.work.link.now) c.connect.new.work.effects.now.list c.mend.new.work.effects.now
+    (connects told c.args.peer (connection_with c.in-Some.peers) (beginning (seen c.args.self.now) (g.L.Link.calls c.args.work.now.link.now)))
+    (c.mend.ensures.goes.on.idle ∙ (c.in_ok-connect.ensures.goes.on.idle ∙ ap (λ (e : Effects). e.idle) c.requires.fresh))
+    (keeps_both c.args.self.now c.forget_octets.new.self c.connect.new.self c.forget_octets.ensures.keeps c.in_ok-connect.ensures.goes.keeps)
+    (subst (λ (e : Effects). edge_at_work g.L.Link.calls c.connect.new.self c.connect.new.work ≡ connects told c.args.peer (connection_with c.in-Some.peers) (at_edge (seen c.forget_octets.new.self) (g.L.Link.calls c.args.work.now.link.now) e.list)) c.requires.fresh
+    (c.in_ok-connect.ensures.step told (agrees_before told _ _ c.mend.ensures.goes.on.calls agrees))
+    ∙ (ap (λ (s : EdgeState). connects told c.args.peer (connection_with c.in-Some.peers) (at_edge s (g.L.Link.calls c.args.work.now.link.now) [])) c.forget_octets.ensures.step
+    ∙ ap (connects told c.args.peer (connection_with c.in-Some.peers)) (begun (seen c.args.self.now) (g.L.Link.calls c.args.work.now.link.now))))
     (step told agrees)))
     c.mend.ensures.step
 
-pub returns-then-not-joined-clause-keeps : goal.returns-then-not-joined-clause-keeps
-returns-then-not-joined-clause-keeps g c = keeps_same c.args.self.now
+pub returns-then-not-joined-clause-goes : goal.returns-then-not-joined-clause-goes
+returns-then-not-joined-clause-goes g c = record { keeps = keeps_same c.args.self.now; link = refl; effects = refl; calls = goes_nowhere (g.L.Link.calls c.args.work.now.link.now) }
 
-pub returns-then-not-joined-clause-calls : goal.returns-then-not-joined-clause-calls
-returns-then-not-joined-clause-calls g c = goes_nowhere (g.L.Link.calls c.args.link.now)
+pub returns-in_default-clause-goes : goal.returns-in_default-clause-goes
+returns-in_default-clause-goes g c = record { keeps = keeps_same c.args.self.now; link = refl; effects = refl; calls = goes_nowhere (g.L.Link.calls c.args.work.now.link.now) }
 
-pub returns-in_default-clause-keeps : goal.returns-in_default-clause-keeps
-returns-in_default-clause-keeps g c = keeps_same c.args.self.now
-
-pub returns-in_default-clause-calls : goal.returns-in_default-clause-calls
-returns-in_default-clause-calls g c = goes_nowhere (g.L.Link.calls c.args.link.now)
-
-pub returns-clause-keeps : goal.returns-clause-keeps
-returns-clause-keeps g c =
-    keeps_both c.args.self.now c.connect.new.self c.mend.new.self (keeps_both c.args.self.now c.forget_octets.new.self c.connect.new.self c.forget_octets.ensures.keeps c.in_ok-connect.ensures.keeps) c.mend.ensures.keeps
-
-pub returns-in_err-connect-clause-keeps : goal.returns-in_err-connect-clause-keeps
-returns-in_err-connect-clause-keeps g c = keeps_both c.args.self.now c.forget_octets.new.self c.connect.new.self c.forget_octets.ensures.keeps c.connect.ensures.keeps
-
-pub returns-in_err-connect-clause-calls : goal.returns-in_err-connect-clause-calls
-returns-in_err-connect-clause-calls g c = c.connect.ensures.calls
+pub returns-in_err-connect-clause-goes : goal.returns-in_err-connect-clause-goes
+returns-in_err-connect-clause-goes g c = takes_by g.L.Link.calls _ _ _ _ (keeps_both c.args.self.now c.forget_octets.new.self c.connect.new.self c.forget_octets.ensures.keeps c.connect.ensures.goes.keeps) c.connect.ensures.goes.on

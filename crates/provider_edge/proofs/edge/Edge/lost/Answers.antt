@@ -1,4 +1,4 @@
-use Rattle.std.proofs.Common.{◌≡◌, ◌∙◌, ap, sym, subst, true}
+use Rattle.std.proofs.Common.{◌≡◌, ◌∙◌, ap, sym, subst, true, refl}
 use Rattle.net_base.specs.declared.trace.state_name.Reason.TheVariants as reason
 use Rattle.session_core.specs.Table.{Closed}
 use Rattle.edge_model.specs.declared.effects.Effects.{Effects}
@@ -15,35 +15,26 @@ use Rattle.provider_edge.proofs.edge.Edge.lost.Goals as goal
 
 pub returns-then-not-has_end-clause-step : goal.returns-then-not-has_end-clause-step
 returns-then-not-has_end-clause-step g c = λ told agrees.
-    subst (λ (e : Effects). worked c.args.self.now (g.L.Link.calls c.args.link.now) (record e { idle = true }) ≡ lost_input c.args.self.now.plan told c.args.peer (beginning (seen c.args.self.now) (g.L.Link.calls c.args.link.now))) (sym c.requires.fresh)
-    (lost_idle c.args.self.now told c.args.peer (g.L.Link.calls c.args.link.now) (sym c.has_end.ensures ∙ c.if-not-has_end.true))
+    subst (λ (e : Effects). worked c.args.self.now (g.L.Link.calls c.args.work.now.link.now) (record e { idle = true }) ≡ lost_input c.args.self.now.plan told c.args.peer (beginning (seen c.args.self.now) (g.L.Link.calls c.args.work.now.link.now))) (sym c.requires.fresh)
+    (lost_idle c.args.self.now told c.args.peer (g.L.Link.calls c.args.work.now.link.now) (sym c.has_end.ensures ∙ c.if-not-has_end.true))
 
 pub returns-clause-step : goal.returns-clause-step
 returns-clause-step g c = map_on _ _ c.mend.result
     (λ step told agrees.
-    lost_done c.args.self.now told c.args.peer (g.L.Link.calls c.args.link.now) _ (sym c.has_end.ensures ∙ c.if-not-has_end.false)
-    (mended c.args.self.now c.lose.new.self c.mend.new.self told (g.L.Link.calls c.args.link.now) (g.L.Link.calls c.mend.new.link) c.lose.new.out c.mend.new.out c.args.effects.now.idle
-    (happens_with_ends told c.args.peer (Closed reason.Closed) (beginning (seen c.args.self.now) (g.L.Link.calls c.args.link.now))) (ap (λ (e : Effects). e.idle) c.requires.fresh) c.in_ok-lose.ensures.keeps
-    (subst (λ (e : Effects). at_edge (seen c.lose.new.self) (g.L.Link.calls c.args.link.now) c.lose.new.out ≡ happens_with_ends told c.args.peer (Closed reason.Closed) (at_edge (seen c.args.self.now) (g.L.Link.calls c.args.link.now) e.list)) c.requires.fresh
-    (c.in_ok-lose.ensures.step told (g.L.Link.calls c.args.link.now))
-    ∙ ap (happens_with_ends told c.args.peer (Closed reason.Closed)) (begun (seen c.args.self.now) (g.L.Link.calls c.args.link.now)))
+    lost_done c.args.self.now told c.args.peer (g.L.Link.calls c.args.work.now.link.now) _ (sym c.has_end.ensures ∙ c.if-not-has_end.false)
+    (mended c.args.self.now c.lose.new.self c.mend.new.self told (g.L.Link.calls c.args.work.now.link.now) (g.L.Link.calls c.mend.new.work.link.now) c.lose.new.out c.mend.new.work.effects.now
+    (happens_with_ends told c.args.peer (Closed reason.Closed) (beginning (seen c.args.self.now) (g.L.Link.calls c.args.work.now.link.now))) (c.mend.ensures.goes.on.idle ∙ ap (λ (e : Effects). e.idle) c.requires.fresh) c.in_ok-lose.ensures.keeps
+    (subst (λ (e : Effects). at_edge (seen c.lose.new.self) (g.L.Link.calls c.args.work.now.link.now) c.lose.new.out ≡ happens_with_ends told c.args.peer (Closed reason.Closed) (at_edge (seen c.args.self.now) (g.L.Link.calls c.args.work.now.link.now) e.list)) c.requires.fresh
+    (c.in_ok-lose.ensures.step told (g.L.Link.calls c.args.work.now.link.now))
+    ∙ ap (happens_with_ends told c.args.peer (Closed reason.Closed)) (begun (seen c.args.self.now) (g.L.Link.calls c.args.work.now.link.now)))
     (step told agrees)))
     c.mend.ensures.step
 
-pub returns-then-not-has_end-clause-keeps : goal.returns-then-not-has_end-clause-keeps
-returns-then-not-has_end-clause-keeps g c = keeps_same c.args.self.now
+pub returns-then-not-has_end-clause-goes : goal.returns-then-not-has_end-clause-goes
+returns-then-not-has_end-clause-goes g c = record { keeps = keeps_same c.args.self.now; link = refl; effects = refl; calls = goes_nowhere (g.L.Link.calls c.args.work.now.link.now) }
 
-pub returns-then-not-has_end-clause-calls : goal.returns-then-not-has_end-clause-calls
-returns-then-not-has_end-clause-calls g c = goes_nowhere (g.L.Link.calls c.args.link.now)
+pub returns-clause-goes : goal.returns-clause-goes
+returns-clause-goes g c = record { keeps = keeps_both c.args.self.now c.lose.new.self c.mend.new.self c.in_ok-lose.ensures.keeps c.mend.ensures.goes.keeps; link = c.mend.ensures.goes.on.link; effects = c.mend.ensures.goes.on.effects; calls = c.mend.ensures.goes.on.calls }
 
-pub returns-clause-keeps : goal.returns-clause-keeps
-returns-clause-keeps g c = keeps_both c.args.self.now c.lose.new.self c.mend.new.self c.in_ok-lose.ensures.keeps c.mend.ensures.keeps
-
-pub returns-clause-calls : goal.returns-clause-calls
-returns-clause-calls g c = c.mend.ensures.calls
-
-pub returns-in_err-lose-clause-keeps : goal.returns-in_err-lose-clause-keeps
-returns-in_err-lose-clause-keeps g c = c.lose.ensures.keeps
-
-pub returns-in_err-lose-clause-calls : goal.returns-in_err-lose-clause-calls
-returns-in_err-lose-clause-calls g c = goes_nowhere (g.L.Link.calls c.args.link.now)
+pub returns-in_err-lose-clause-goes : goal.returns-in_err-lose-clause-goes
+returns-in_err-lose-clause-goes g c = record { keeps = c.lose.ensures.keeps; link = refl; effects = refl; calls = goes_nowhere (g.L.Link.calls c.args.work.now.link.now) }
