@@ -27,6 +27,7 @@ mod pw_status;
 mod registry;
 mod row;
 mod sub_tlv;
+mod sub_tlv_place;
 mod told;
 
 pub use fec_reading::read_fec;

@@ -8,6 +8,7 @@ ghost use Rattle.pw_tlvs.specs.Fec.{AreParameters};
 use crate::found_params::FoundParams;
 use crate::registry::Registry;
 use crate::sub_tlv::first_sub_tlv;
+use crate::sub_tlv_place::SubTlvPlace;
 use crate::{FieldFault, IfParams};
 
 /// The interface parameters that the octets are, or their first fault (RFC 8077 section 6.4). Twelve octets of the
@@ -21,13 +22,11 @@ pub fn read_parameters(octets: &[u8]) -> Result<IfParams, FieldFault>
     let mut at = 0;
     'reading: while at < octets.len() {
         let (_, rest) = octets.split_at(at);
-        let again = found.has(rest[0]);
-        let (kind, value) = first_sub_tlv(
-            Registry::InterfaceParameter,
-            12 + at as u16,
-            again,
-            rest,
-        )?;
+        let place = SubTlvPlace {
+            at: 12 + at as u16,
+            again: found.has(rest[0]),
+        };
+        let (kind, value) = first_sub_tlv(Registry::InterfaceParameter, place, rest)?;
         found = found.with(kind, value);
         at += 2 + value.len();
     }

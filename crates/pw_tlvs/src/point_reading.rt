@@ -10,6 +10,7 @@ ghost use Rattle.pw_tlvs.specs.Found.{PointSays};
 
 use crate::registry::Registry;
 use crate::sub_tlv::first_sub_tlv;
+use crate::sub_tlv_place::SubTlvPlace;
 use crate::{FieldFault, Point};
 use byteorder::{BigEndian, ByteOrder};
 use net_values::Addr;
@@ -71,8 +72,11 @@ fn point_of(value: &[u8]) -> Result<Point, FieldFault>
     let mut at = 0;
     'reading: while at < value.len() {
         let (_, rest) = value.split_at(at);
-        let again = has(&point, rest[0]);
-        let (kind, octets) = first_sub_tlv(Registry::SwitchingPointPart, at as u16, again, rest)?;
+        let place = SubTlvPlace {
+            at: at as u16,
+            again: has(&point, rest[0]),
+        };
+        let (kind, octets) = first_sub_tlv(Registry::SwitchingPointPart, place, rest)?;
         point = with(point, kind, octets);
         at += 2 + octets.len();
     }

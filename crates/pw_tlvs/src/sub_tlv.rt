@@ -6,6 +6,7 @@ ghost use Rattle.pw_tlvs.specs.SubTlvs.{SubTlv, counted as counted_in, spell, ro
 use crate::FieldFault;
 use crate::registry::Registry;
 use crate::row::{Row, row_of};
+use crate::sub_tlv_place::SubTlvPlace;
 use byteorder::{BigEndian, ByteOrder};
 use net_values::Field;
 
@@ -84,29 +85,27 @@ fn is_allowed(registry: Registry, kind: u8, value: &[u8]) -> bool
     }
 }
 
-// The first fault of a sub-TLV of a known type. `again` says whether one of the type stands before, and
-// `outside` whether its length counts too little or too much.
+// The first fault of a sub-TLV of a known type. `outside` says whether its length counts too little or too much.
 fn known_fault(
     registry: Registry,
-    at: u16,
+    place: SubTlvPlace,
     row: Row,
-    again: bool,
     outside: bool,
     rest: &[u8],
 ) -> Option<FieldFault>
     requires header { 2 ≤ length rest.now }
-    requires within { at + 2 < 65536 }
+    requires within { place.at + 2 < 65536 }
     requires row { the_row registry (slice_index rest.now 0) ≡ Some row }
     requires yes { outside ≡ true → IsOutside registry rest.now }
     requires no { outside ≡ false → IsOutside registry rest.now → ⊥ }
     requires part { (registry ≡ SwitchingPointPart) → outside ≡ false }
-    ensures first { IfSome result (λ fault. (before : List SubTlv) → Stood registry before (slice_index rest.now 0) again → IsFirstWrong registry before rest.now at fault) }
-    ensures fresh { IfNone result (again ≡ false) }
+    ensures first { IfSome result (λ fault. (before : List SubTlv) → Stood registry before (slice_index rest.now 0) place.again → IsFirstWrong registry before rest.now place.at fault) }
+    ensures fresh { IfNone result (place.again ≡ false) }
     ensures inside { IfNone result (outside ≡ false) }
     ensures good { IfNone result ((s : SubTlv) (more : List ℕ) → rest.now ≡ spell registry s ++ more → IsGood registry s) }
 {
-    let field = row.field;
-    if again {
+    let (at, field) = (place.at, row.field);
+    if place.again {
         return Some(FieldFault::Repeated { at, field });
     }
     if outside {
@@ -121,47 +120,45 @@ fn known_fault(
     None
 }
 
-// The first fault of the sub-TLV at the front. `again` says whether one of its type stands before.
-fn fault_at(registry: Registry, at: u16, again: bool, rest: &[u8]) -> Option<FieldFault>
+// The first fault of the sub-TLV at the front.
+fn fault_at(registry: Registry, place: SubTlvPlace, rest: &[u8]) -> Option<FieldFault>
     requires some { 1 ≤ length rest.now }
-    requires within { at + length rest.now < 65536 }
-    ensures first { IfSome result (λ fault. (before : List SubTlv) → Stood registry before (slice_index rest.now 0) again → IsFirstWrong registry before rest.now at fault) }
+    requires within { place.at + length rest.now < 65536 }
+    ensures first { IfSome result (λ fault. (before : List SubTlv) → Stood registry before (slice_index rest.now 0) place.again → IsFirstWrong registry before rest.now place.at fault) }
     ensures header { IfNone result (2 ≤ length rest.now) }
     ensures inside { IfNone result (IsOutside registry rest.now → ⊥) }
-    ensures fresh { IfNone result (IsSome (the_row registry (slice_index rest.now 0)) → again ≡ false) }
+    ensures fresh { IfNone result (IsSome (the_row registry (slice_index rest.now 0)) → place.again ≡ false) }
     ensures good { IfNone result ((s : SubTlv) (more : List ℕ) → rest.now ≡ spell registry s ++ more → IsGood registry s) }
 {
     if rest.len() == 1 {
-        return Some(lone_fault(registry, at));
+        return Some(lone_fault(registry, place.at));
     }
     let outside = is_outside(registry, rest);
     if outside && matches!(registry, Registry::SwitchingPointPart) {
-        return Some(outside_fault(registry, at));
+        return Some(outside_fault(registry, place.at));
     }
     match row_of(registry, rest[0]) {
-        Some(row) => known_fault(registry, at, row, again, outside, rest),
-        None if outside => Some(outside_fault(registry, at)),
+        Some(row) => known_fault(registry, place, row, outside, rest),
+        None if outside => Some(outside_fault(registry, place.at)),
         None => None,
     }
 }
 
-/// The type and the value of the sub-TLV at the front, or its first fault. The octets begin at a place of the
-/// value, and `again` says whether a sub-TLV of the type of the first octet stands before.
+/// The type and the value of the sub-TLV at the front, or its first fault. The octets begin at the place.
 pub fn first_sub_tlv(
     registry: Registry,
-    at: u16,
-    again: bool,
+    place: SubTlvPlace,
     rest: &[u8],
 ) -> Result<(u8, &[u8]), FieldFault>
     requires some { 1 ≤ length rest.now }
-    requires within { at + length rest.now < 65536 }
+    requires within { place.at + length rest.now < 65536 }
     ensures spelled { IfOk result (λ s. rest.now ≡ spell registry (record { kind = s.0; value = s.1.now }) ++ drop (2 + length s.1.now) rest.now) }
     ensures good { IfOk result (λ s. IsGood registry (record { kind = s.0; value = s.1.now })) }
     ensures kind { IfOk result (λ s. s.0 ≡ slice_index rest.now 0) }
-    ensures fresh { IfOk result (λ s. IsSome (the_row registry s.0) → again ≡ false) }
-    ensures fault { IfErr result (λ fault. (before : List SubTlv) → Stood registry before (slice_index rest.now 0) again → IsFirstWrong registry before rest.now at fault) }
+    ensures fresh { IfOk result (λ s. IsSome (the_row registry s.0) → place.again ≡ false) }
+    ensures fault { IfErr result (λ fault. (before : List SubTlv) → Stood registry before (slice_index rest.now 0) place.again → IsFirstWrong registry before rest.now place.at fault) }
 {
-    match fault_at(registry, at, again, rest) {
+    match fault_at(registry, place, rest) {
         Some(fault) => Err(fault),
         None => Ok((rest[0], value_at(registry, rest))),
     }
