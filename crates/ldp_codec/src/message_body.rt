@@ -111,6 +111,7 @@ fn reason_of_fec(kind: MessageKind, fec: Option<FecValue>) -> Option<Why>
 pub fn reason_not(unknown: Option<u16>, kind: MessageKind, body: &[u8]) -> Option<Why>
     ensures first { (ts : List Tlv) → IsJoined body.now ts → IsFaultless (row_of kind) body.now ts → unknown ≡ first_unknown (row_of kind) ts → IsReason kind ts result }
 {
+    // Read first, though it is looked at last: each reason is one beside what the FEC is.
     let fec = fec_of(kind, body);
     if let Some(tlv) = unknown {
         return Some(Why::UnknownTlv(tlv));

@@ -8,6 +8,7 @@ ghost use Rattle.ldp_codec.specs.Walk.{IsWalked, IsWalkedAs, IsFirstAs, IsMessag
 
 use crate::message_body::{processed, reason_not};
 use crate::message_head::split_message;
+use crate::raw_message::RawMessage;
 use crate::stop::Stop;
 use crate::tlv_walk::walk_tlvs;
 use ldp_grammar::{Fault, MESSAGE_HEADER, Message, MessageKind, U_BIT};
@@ -50,20 +51,18 @@ fn read_message(
     alloc: Global,
     kind: Option<MessageKind>,
     unknown: Option<u16>,
-    word: u16,
-    id: u32,
-    body: &[u8],
+    raw: RawMessage<'_>,
 ) -> Result<Message, NoMemory>
-    requires kind { kind ≡ kind_of (word % 2 ^ 15) }
-    requires walked { IsWalkedAs kind body.now unknown }
-    ensures stands { IfOk result (StandsFor (record { word = word; id = id; body = body.now })) }
+    requires kind { kind ≡ kind_of (raw.word % 2 ^ 15) }
+    requires walked { IsWalkedAs kind raw.body.now unknown }
+    ensures stands { IfOk result (StandsFor (record { word = raw.entry.word; id = raw.entry.id; body = raw.entry.body.now })) }
 {
     match kind {
-        Some(kind) => read_body(alloc, kind, unknown, id, body),
+        Some(kind) => read_body(alloc, kind, unknown, raw.id, raw.body),
         None => Ok(Message::Other {
-            id,
-            u: word >= U_BIT,
-            kind: word % U_BIT,
+            id: raw.id,
+            u: raw.word >= U_BIT,
+            kind: raw.word % U_BIT,
         }),
     }
 }
@@ -77,14 +76,14 @@ fn take_message(alloc: Global, rest: &[u8]) -> Result<(Message, usize), Stop>
     ensures fault { (before : Items Spelling) → IfErr result (StopsAt (IsFirstMessageFault before rest.now)) }
     ensures near { IfErr result (StopsAt (λ fault. fault.place < length rest.now)) }
 {
-    let (word, id, body) = split_message(rest)?;
-    let kind = MessageKind::of(word % U_BIT);
-    let unknown = match walk_body(kind, body) {
+    let raw = split_message(rest)?;
+    let kind = MessageKind::of(raw.word % U_BIT);
+    let unknown = match walk_body(kind, raw.body) {
         Ok(unknown) => unknown,
         Err(fault) => return Err(Stop::At(fault.behind(MESSAGE_HEADER as u16))),
     };
-    let message = read_message(alloc, kind, unknown, word, id, body)?;
-    Ok((message, MESSAGE_HEADER + body.len()))
+    let message = read_message(alloc, kind, unknown, raw)?;
+    Ok((message, MESSAGE_HEADER + raw.body.len()))
 }
 
 /// The messages that the octets spell, one after another.

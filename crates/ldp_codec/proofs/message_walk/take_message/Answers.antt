@@ -5,4 +5,4 @@ use Rattle.ldp_codec.proofs.MessageWalkLemmas.{fault_as}
 use Rattle.ldp_codec.proofs.message_walk.take_message.Goals as goal
 
 pub returns-in-Err-clause-fault : goal.returns-in-Err-clause-fault
-returns-in-Err-clause-fault c = λ before. subst (IsFirstMessageFault before c.args.rest.now) (sym c.behind.ensures) (fault_as c.of-kind.result before c.args.rest.now c.in_ok-word.body.now c.in_ok-word.word c.in_ok-word.id c.in-Err.fault c.of-kind.ensures c.in_ok-word.ensures.whole c.in-Err.ensures.fault c.in-Err.ensures.near)
+returns-in-Err-clause-fault c = λ before. subst (IsFirstMessageFault before c.args.rest.now) (sym c.behind.ensures) (fault_as c.of-kind.result before c.args.rest.now c.in_ok-raw.raw.body.now c.in_ok-raw.raw.word c.in_ok-raw.raw.id c.in-Err.fault c.of-kind.ensures c.in_ok-raw.ensures.whole c.in-Err.ensures.fault c.in-Err.ensures.near)
