@@ -1,5 +1,6 @@
 -- What has become of a flooded frame at each moment of its window: each other site of the service was served, or is still ahead of
--- one copy under way, and not both.
+-- one copy under way, and not both. So a full mesh with split horizon and its spokes give it to each site once (RFC 4762 sections
+-- 4.4 and 10).
 use Rattle.std.specs.Prelude.{◌≡◌, ◌≤◌, ◌+◌, ◌*◌, ◌++◌, ◌==◌, ◌&&◌, ◌⊎◌, ℕ, Bool, true, false, List, [], ◌∷◌, Some, if◌then◌else◌}
 use Rattle.net_base.specs.declared.plan.Plan.{Plan}
 use Rattle.net_base.specs.declared.plan.wire_plan.WirePlan.{WirePlan}

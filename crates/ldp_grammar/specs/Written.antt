@@ -29,19 +29,24 @@ use Rattle.ldp_grammar.specs.Spells.{Spelling, spell, Spells}
 abbrev pub bit_as : ℕ → Bool → ℕ
 bit_as place set = if set then 2 ^ place else 0
 
--- the values of the TLVs
+-- the value of a Status TLV: the E and the F bit, the status code, the Message ID and the type of the message that it is
+-- about (RFC 5036 section 3.4.6)
 abbrev pub status_octets : StatusCode → List ℕ
 status_octets s = four (bit_as 31 s.fatal + bit_as 30 s.forward + s.code) ++ four s.message ++ two s.kind
 
+-- the value of a Common Hello Parameters TLV: the hold time, and the bits T and R (RFC 5036 section 3.5.2)
 abbrev pub hello_octets : ℕ → Bool → Bool → List ℕ
 hello_octets hold targeted request = two hold ++ two (bit_as 15 targeted + bit_as 14 request)
 
+-- an LDP Identifier: the LSR ID and the label space (RFC 5036 section 2.2.2)
 abbrev pub id_octets : LdpId → List ℕ
 id_octets id = id.router.0 ++ two id.space
 
+-- the value of a Common Session Parameters TLV, with the bits A and D and the path vector limit (RFC 5036 section 3.5.3)
 abbrev pub session_octets : SessionParams → List ℕ
 session_octets p = two p.version ++ two p.keepalive ++ ((bit_as 7 p.demand + bit_as 6 p.loops) ∷ p.limit ∷ []) ++ two p.max_pdu ++ id_octets p.receiver
 
+-- the value of an Address List TLV: the address family and the addresses (RFC 5036 section 3.4.3)
 abbrev pub addresses_octets : ℕ → List ℕ → List ℕ
 addresses_octets family octets = two family ++ octets
 
@@ -53,35 +58,42 @@ tlv number value = record { word = number; value = value }
 abbrev pub ignorable : ℕ → List ℕ → Tlv
 ignorable number value = record { word = 0x8000 + number; value = value }
 
+-- the TLV of a part that a message may lack, where it is told: the transport address of a Hello (RFC 5036 section 3.5.2)
 abbrev pub transport_tlvs : Option Addr → List Tlv
 transport_tlvs None = []
 transport_tlvs (Some a) = tlv transport_address a.0 ∷ []
 
+-- the addresses that are withdrawn (RFC 5036 section 3.5.6)
 abbrev pub withdrawn_tlvs : Option AddressList → List Tlv
 withdrawn_tlvs None = []
 withdrawn_tlvs (Some a) = tlv address_list (addresses_octets a.family a.octets) ∷ []
 
+-- the FEC (RFC 5036 section 3.4.1, RFC 8077 section 6.1)
 abbrev pub fec_tlvs : Option PwFec → List Tlv
 fec_tlvs None = []
 fec_tlvs (Some pw) = tlv fec (written_fec pw) ∷ []
 
+-- the label (RFC 5036 section 3.4.2.1)
 abbrev pub label_tlvs : Option ℕ → List Tlv
 label_tlvs None = []
 label_tlvs (Some given) = tlv label (four given) ∷ []
 
+-- the PW status (RFC 8077 section 6.3.2)
 abbrev pub status_tlvs : Option PwStatus → List Tlv
 status_tlvs None = []
 status_tlvs (Some state) = ignorable pw_status (written_status state) ∷ []
 
+-- the MAC List (RFC 4762 section 6.2)
 abbrev pub mac_tlvs : Option (List Mac) → List Tlv
 mac_tlvs None = []
 mac_tlvs (Some macs) = ignorable mac_list (mac_octets macs) ∷ []
 
+-- a Switching Point PE TLV for each switching point, in order (RFC 6073 section 7.4)
 abbrev pub point_tlvs : List Point → List Tlv
 point_tlvs [] = []
 point_tlvs (point ∷ points) = ignorable switching_point (written_point point) ∷ point_tlvs points
 
--- the TLVs of a message in the order of its row
+-- the TLVs of a message in the order of its row (RFC 5036 section 3.5)
 abbrev pub written_tlvs : Message → List Tlv
 written_tlvs (Notification id code state pw) = tlv status (status_octets code) ∷ (status_tlvs state ++ fec_tlvs pw)
 written_tlvs (Hello id hold targeted request transport) = tlv hello_parameters (hello_octets hold targeted request) ∷ transport_tlvs transport
@@ -97,6 +109,7 @@ written_tlvs (LabelAbort id pw request) = tlv fec (written_fec pw) ∷ tlv reque
 written_tlvs (Other id u number) = []
 written_tlvs (Unprocessed id number why) = []
 
+-- the type of a message (RFC 5036 section 3.7)
 abbrev pub written_type : Message → ℕ
 written_type (Notification id code state pw) = type_of kind.Notification
 written_type (Hello id hold targeted request transport) = type_of kind.Hello
@@ -112,6 +125,7 @@ written_type (LabelAbort id pw request) = type_of kind.LabelAbort
 written_type (Other id u number) = number
 written_type (Unprocessed id number why) = number
 
+-- the Message ID
 abbrev pub id_of : Message → ℕ
 id_of (Notification id code state pw) = id
 id_of (Hello id hold targeted request transport) = id
@@ -127,23 +141,29 @@ id_of (LabelAbort id pw request) = id
 id_of (Other id u number) = id
 id_of (Unprocessed id number why) = id
 
+-- the header of a message and the octets of its TLVs (RFC 5036 section 3.5)
 abbrev pub written_spelling : Message → Spelling
 written_spelling m = record { word = written_type m; id = id_of m; body = flat_map spell_tlv (written_tlvs m) }
 
--- the octets of a message, and of a PDU with that message alone
+-- the octets of a message
 abbrev pub message_octets : Message → List ℕ
 message_octets m = spell (written_spelling m)
 
+-- the header of a PDU with so many octets of messages: the version, the PDU Length, which counts what follows it, and the LDP
+-- Identifier (RFC 5036 section 3.1)
 abbrev pub header_octets : ℕ → LdpId → List ℕ
 header_octets size id = two 1 ++ two (6 + size) ++ id_octets id
 
+-- the octets of a PDU with this message alone
 abbrev pub written : Message → LdpId → List ℕ
 written m id = header_octets (length (message_octets m)) id ++ message_octets m
 
--- the octets of addresses of this family are whole addresses; those of other families are not looked at
+-- the octets of addresses of this family are whole addresses, of four octets each for IPv4; those of other families are not
+-- looked at
 abbrev pub are_whole : ℕ → List ℕ → Bool
 are_whole family octets = not (family == 1 && not (length octets % 4 == 0))
 
+-- a FEC that is told can be written
 abbrev pub writable_fecs : Option PwFec → Bool
 writable_fecs None = true
 writable_fecs (Some pw) = writable_fec pw
@@ -171,47 +191,53 @@ writable (LabelAbort id pw request) = writable_fec pw
 writable (Other id u number) = false
 writable (Unprocessed id number why) = false
 
--- how many octets of addresses a message has
+-- how many octets a list of addresses has, where there is one
 abbrev pub list_length : Option AddressList → ℕ
 list_length None = 0
 list_length (Some a) = length a.octets
 
+-- how many octets of addresses a message has
 abbrev pub address_octets : Message → ℕ
 address_octets (Address id family octets) = length octets
 address_octets (AddressWithdraw id addresses pw macs) = list_length addresses
 address_octets other = 0
 
--- how many MAC addresses a message has
+-- how many MAC addresses a list has, where there is one
 abbrev pub macs_length : Option (List Mac) → ℕ
 macs_length None = 0
 macs_length (Some macs) = length macs
 
+-- how many MAC addresses a message has
 abbrev pub mac_count : Message → ℕ
 mac_count (AddressWithdraw id addresses pw macs) = macs_length macs
 mac_count other = 0
 
--- the numbers of a message fit the fields that they are written in, its addresses have four octets, and its MAC addresses
--- six
+-- an address that is told has four octets
 abbrev pub IsAddress4 : Option Addr → Type 0
 IsAddress4 None = Unit {0}
 IsAddress4 (Some a) = length a.0 ≡ 4
 
+-- an address family has 16 bits (RFC 5036 section 3.4.3)
 abbrev pub HasFamily : Option AddressList → Type 0
 HasFamily None = Unit {0}
 HasFamily (Some a) = a.family < 2 ^ 16
 
+-- a PW status has 32 bits (RFC 8077 section 6.3.2)
 abbrev pub IsState : Option PwStatus → Type 0
 IsState None = Unit {0}
 IsState (Some state) = state.0 < 2 ^ 32
 
+-- MAC addresses have six octets
 abbrev pub AreSixOctets : Option (List Mac) → Type 0
 AreSixOctets None = Unit {0}
 AreSixOctets (Some macs) = AllByRecursion (λ mac. length mac.0 ≡ 6) macs
 
+-- the parts of an LDP Identifier fit their fields (RFC 5036 section 2.2.2)
 pub record IsId (id : LdpId) : Type 0 where
   pub router : length id.router.0 ≡ 4
   pub space : id.space < 2 ^ 16
 
+-- session parameters fit their fields (RFC 5036 section 3.5.3)
 pub record AreParams (p : SessionParams) : Type 0 where
   pub version : p.version < 2 ^ 16
   pub keepalive : p.keepalive < 2 ^ 16
@@ -219,6 +245,8 @@ pub record AreParams (p : SessionParams) : Type 0 where
   pub max_pdu : p.max_pdu < 2 ^ 16
   pub receiver : IsId p.receiver
 
+-- the numbers of a message fit the fields that they are written in, its addresses have four octets, and its MAC addresses
+-- six
 abbrev pub Fits : Message → Type 0
 Fits (Notification id code state pw) = (id < 2 ^ 32) × (code.message < 2 ^ 32) × (code.kind < 2 ^ 16) × IsState state × IfSome pw IsFecInRange
 Fits (Hello id hold targeted request transport) = (id < 2 ^ 32) × (hold < 2 ^ 16) × IsAddress4 transport

@@ -18,15 +18,18 @@ abbrev pub description_value : List ℕ → Option (List ℕ)
 description_value [] = None
 description_value (octet ∷ octets) = Some (octet ∷ octets)
 
+-- the CC and the CV types of VCCV, an octet each (RFC 5085 section 4)
 abbrev pub pair_octets : ℕ × ℕ → List ℕ
 pair_octets pair = pair.0 ∷ pair.1 ∷ []
 
--- the known parameters by rising type
+-- the known parameters by rising type: Interface MTU, Interface Description, Requested VLAN ID and VCCV (RFC 8077 section 6.4,
+-- RFC 5085 section 4)
 abbrev pub parameter_sub_tlvs : IfParams → List SubTlv
 parameter_sub_tlvs params =
     ((told 0x01 (option_map (λ mtu. big_bytes 2 mtu) params.mtu) ++ told 0x03 (description_value params.description))
     ++ told 0x06 (option_map (λ vlan. big_bytes 2 vlan) params.vlan)) ++ told 0x0C (option_map pair_octets params.vccv)
 
+-- the octets of the known parameters
 abbrev pub written_parameters : IfParams → List ℕ
 written_parameters params = flat_map (spell InterfaceParameter) (parameter_sub_tlvs params)
 
@@ -64,7 +67,7 @@ may_tell (Some pw_id) params = true
 abbrev pub writable_fec : PwFec → Bool
 writable_fec fec = nat_le fec.kind 0x7FFF && (has_vlan fec.params.vlan && may_tell fec.pw_id fec.params)
 
--- the parts that are told by rising type
+-- the parts that are told by rising type: the PW ID, the local and the remote address (RFC 6073 section 7.4.1)
 abbrev pub part_sub_tlvs : Point → List SubTlv
 part_sub_tlvs point =
     (told 0x01 (option_map (λ pw_id. big_bytes 4 pw_id) point.pw_id) ++ told 0x03 (option_map (λ address. address.0) point.local))
