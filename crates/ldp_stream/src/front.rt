@@ -1,6 +1,5 @@
 //! What stands in front of the octets held.
-ghost use Rattle.std.specs.Prelude.{◌≡◌, ◌≤◌, ◌+◌, Ok, None, IfErr, IfOk, IfSome, length};
-ghost use Rattle.ldp_grammar.specs.Octets.{two_at};
+ghost use Rattle.std.specs.Prelude.{◌≡◌, ◌≤◌, Ok, None, IfErr, IfOk, IfSome};
 ghost use Rattle.ldp_stream.specs.Front.{HasHeader, HasPdu, IsFrontFault, IsPending, size_of};
 ghost use Rattle.ldp_stream.specs.Halt.{Halts, IsSpelledBy};
 
@@ -8,15 +7,6 @@ use byteorder::{BigEndian, ByteOrder};
 use ldp_codec::{Stop, read_pdu};
 use ldp_grammar::{Cause, Fault, LEAST_LENGTH, LENGTH_HEADER, Pdu, VERSION};
 use std::alloc::Global;
-
-// The number in the two octets at a place.
-fn two(octets: &[u8], place: usize) -> u16
-    requires { place + 2 ≤ length octets.now }
-    ensures { result ≡ two_at place octets.now }
-{
-    let (_, rest) = octets.split_at(place);
-    BigEndian::read_u16(rest)
-}
 
 // The size of the PDU in front where its header is there, in octets, or the fault of the header.
 fn read_size(held: &[u8], max: u16) -> Result<Option<usize>, Fault>
@@ -28,7 +18,7 @@ fn read_size(held: &[u8], max: u16) -> Result<Option<usize>, Fault>
     if held.len() < 2 {
         return Ok(None);
     }
-    if two(held, 0) != VERSION {
+    if BigEndian::read_u16(held) != VERSION {
         return Err(Fault {
             place: 0,
             cause: Cause::Version,
@@ -37,7 +27,8 @@ fn read_size(held: &[u8], max: u16) -> Result<Option<usize>, Fault>
     if held.len() < LENGTH_HEADER {
         return Ok(None);
     }
-    let len = two(held, 2);
+    let (_, behind) = held.split_at(2);
+    let len = BigEndian::read_u16(behind);
     if len < LEAST_LENGTH || max < len {
         return Err(Fault {
             place: 2,
