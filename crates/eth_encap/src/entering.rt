@@ -4,8 +4,9 @@ ghost use Rattle.net_base.specs.trace.Frame.{inner as inner_of, untagged};
 ghost use Rattle.eth_encap.specs.Fault.{cause_of};
 
 use crate::FrameFault;
-use crate::octets::{join, pair};
+use crate::octets::join;
 use crate::tag::TAG_PROTOCOL;
+use net_base::pair;
 
 // The octets of a frame and header that every frame has.
 const HEADER: usize = 14;

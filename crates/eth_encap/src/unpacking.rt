@@ -4,10 +4,11 @@ ghost use Rattle.net_base.specs.trace.Frame.{of_size};
 ghost use Rattle.eth_encap.specs.Fault.{cause_of};
 ghost use Rattle.eth_encap.specs.Packet.{behind_control, entry_in, entry_of, unpacked, without_tag};
 
-use crate::octets::{join, pair};
+use crate::octets::join;
 use crate::tag::TAG_PROTOCOL;
 use crate::{FrameFault, StackEntry};
 use byteorder::{BigEndian, ByteOrder};
+use net_base::pair;
 
 /// The entry of the label stack in front of a packet (RFC 3032 section 2.1). `Short` comes exactly where there are fewer than
 /// four octets, and `Ttl` exactly where its TTL is 0.

@@ -7,8 +7,8 @@ ghost use Rattle.vccv_channel.specs.Reading.{IsRequest};
 use crate::Cc;
 use crate::channel::put_channel;
 use crate::checksum::put_summed;
-use crate::octets::{four_at, joined, put};
-use net_base::Label;
+use crate::octets::{four_at, joined};
+use net_base::{Label, put};
 
 // The TTL of an answer.
 const TTL: u8 = 255;

@@ -4,8 +4,8 @@ ghost use Rattle.vccv_channel.specs.LabelStack.{stack_entry};
 ghost use Rattle.vccv_channel.specs.Channel.{label_stack, channel_header};
 
 use crate::Cc;
-use crate::octets::{joined, put};
-use net_base::Label;
+use crate::octets::joined;
+use net_base::{Label, put};
 
 // The label of Router Alert (RFC 3032 section 2.1).
 const ROUTER_ALERT: u32 = 1;

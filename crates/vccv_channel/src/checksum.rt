@@ -3,7 +3,7 @@ ghost use Rattle.std.specs.Prelude.{◌≡◌, ◌≤◌, ◌<◌, ◌+◌, ◌-
 ghost use Rattle.byteorder.specs.Endian.{big_bytes};
 ghost use Rattle.vccv_channel.specs.Checksum.{words, ones_plus, ones_sum as sum_of, summed};
 
-use crate::octets::{pair, put};
+use net_base::{pair, put};
 
 // The sum of two words in ones' complement.
 #[tactic(auto, unfolding(crate::specs::Checksum::ones_plus))]

@@ -6,9 +6,9 @@ ghost use Rattle.vccv_channel.specs.declared.vccv_fault.VccvFault.TheVariants.{V
 ghost use Rattle.vccv_channel.specs.Reading.{has_fault, is_whole_icmp as whole_icmp_in, is_ip_packet as ip_packet_in, has_sums as sums_in, is_echo as echo_message_in, echo_in as echo_of, behind_header, total_length, reading, IsRequest};
 
 use crate::checksum::ones_sum;
-use crate::octets::{four_at, pair};
+use crate::octets::four_at;
 use crate::{Echo, VccvFault};
-use net_base::Addr;
+use net_base::{Addr, pair};
 
 // The channel type of IPv4 (RFC 4385 section 5).
 const IPV4_CHANNEL: u16 = 0x0021;
