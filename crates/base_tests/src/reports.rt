@@ -95,16 +95,7 @@ fn events_of_wires(rt: &impl Abort, trace: &mut Trace) {
     tell(rt, trace, Event::Ping { edge: A, wire: W });
 }
 
-fn entries_of_frames(rt: &impl Abort, alloc: Global, trace: &mut Trace) {
-    add(
-        rt,
-        trace,
-        Entry::In {
-            circuit: CA,
-            number: 1,
-            bytes: List::new(alloc),
-        },
-    );
+fn entries_of_packets(rt: &impl Abort, alloc: Global, trace: &mut Trace) {
     add(
         rt,
         trace,
@@ -134,6 +125,19 @@ fn entries_of_frames(rt: &impl Abort, alloc: Global, trace: &mut Trace) {
         },
     );
     add(rt, trace, Entry::Copied { packet: 6, of: 2 });
+}
+
+fn entries_of_frames(rt: &impl Abort, alloc: Global, trace: &mut Trace) {
+    add(
+        rt,
+        trace,
+        Entry::In {
+            circuit: CA,
+            number: 1,
+            bytes: List::new(alloc),
+        },
+    );
+    entries_of_packets(rt, alloc, trace);
     add(
         rt,
         trace,
@@ -151,6 +155,36 @@ fn entries_of_frames(rt: &impl Abort, alloc: Global, trace: &mut Trace) {
             edge: B,
             origin: 1,
             cause: DropCause::NoLabel,
+        },
+    );
+}
+
+fn entries_of_wires(rt: &impl Abort, trace: &mut Trace) {
+    add(
+        rt,
+        trace,
+        Entry::Wire {
+            edge: A,
+            wire: W,
+            down: None,
+        },
+    );
+    add(
+        rt,
+        trace,
+        Entry::Wire {
+            edge: B,
+            wire: W,
+            down: Some(Down::NoRemote),
+        },
+    );
+    add(
+        rt,
+        trace,
+        Entry::Pong {
+            edge: A,
+            wire: W,
+            sequence: 513,
         },
     );
 }
@@ -184,33 +218,7 @@ fn entries_of_sessions(rt: &impl Abort, alloc: Global, trace: &mut Trace) {
             state: StateName::Ended(Reason::PeerFatal),
         },
     );
-    add(
-        rt,
-        trace,
-        Entry::Wire {
-            edge: A,
-            wire: W,
-            down: None,
-        },
-    );
-    add(
-        rt,
-        trace,
-        Entry::Wire {
-            edge: B,
-            wire: W,
-            down: Some(Down::NoRemote),
-        },
-    );
-    add(
-        rt,
-        trace,
-        Entry::Pong {
-            edge: A,
-            wire: W,
-            sequence: 513,
-        },
-    );
+    entries_of_wires(rt, trace);
 }
 
 // The report of a trace that ended so is this text.
