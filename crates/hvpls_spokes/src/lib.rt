@@ -20,4 +20,4 @@ pub use port_kind::PortKind;
 pub use port_set::PortSet;
 pub use ports::Ports;
 pub use roles::role;
-pub use terminal::{is_mesh_between, is_terminal, starts_spoke};
+pub use terminal::{is_last, is_mesh_between, is_terminal, starts_spoke};

@@ -1,10 +1,10 @@
 //! Terminal edges of wires.
 ghost use Rattle.std.specs.Prelude.{◌≡◌, ◌&&◌, ◌||◌, not};
-ghost use Rattle.net_base.specs.plan.Paths.{is_first, is_last, last_edge};
+ghost use Rattle.net_base.specs.plan.Paths.{is_first, is_last};
 ghost use Rattle.net_base.specs.plan.Places.{is_mesh_class};
 ghost use Rattle.net_base.specs.plan.Roles.{ends_at, is_mesh_of, is_spoke_from};
 
-use net_base::{Class, EdgeId, ServiceId, WirePlan};
+use net_base::{Class, EdgeId, ServiceId, WirePlan, first_of, last_of};
 
 /// Whether the wire is one of the service, and the edge a terminal edge of it: the first of its path, or the last
 /// (RFC 6073 section 4).
@@ -62,27 +62,19 @@ pub fn is_terminal(path: &[EdgeId], edge: EdgeId) -> bool
 fn is_first(path: &[EdgeId], edge: EdgeId) -> bool
     ensures { result ≡ is_first edge.0 path.now }
 {
-    match path {
-        [first, ..] => edge == *first,
-        [] => false,
+    match first_of(path) {
+        Some(first) => edge == first,
+        None => false,
     }
 }
 
-// Whether the edge is the last of the path.
+/// Whether the edge is the last of the path.
 #[tactic(auto, using(net_base::proofs::PathLemmas::is_last_edge))]
-fn is_last(path: &[EdgeId], edge: EdgeId) -> bool
+pub fn is_last(path: &[EdgeId], edge: EdgeId) -> bool
     ensures { result ≡ is_last edge.0 path.now }
 {
     match last_of(path) {
         Some(last) => edge == last,
         None => false,
     }
-}
-
-// The last edge of a path.
-#[tactic(auto, using(net_base::proofs::PathLemmas::last_edge_is))]
-fn last_of(path: &[EdgeId]) -> Option<EdgeId>
-    ensures { result ≡ last_edge path.now }
-{
-    path.last().copied()
 }

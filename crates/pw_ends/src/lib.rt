@@ -8,11 +8,11 @@
 mod end_change;
 mod end_slots;
 mod owned_labels;
-mod path_ends;
 mod place_list;
 mod plan_places;
 mod pw_ends;
 mod role;
+mod segment;
 mod which_ends;
 
 pub use pw_ends::PwEnds;

@@ -1,11 +1,12 @@
 //! Where a plan has ends of an edge.
 ghost use Rattle.std.specs.Prelude.{◌≡◌, ◌≤◌, ◌++◌, length, IfOk, OnOk};
 ghost use Rattle.net_base.specs.plan.Accepted.{IsChecked};
-ghost use Rattle.edge_model.specs.EndPlaces.{end_places, is_terminal, place_at, places_along, places_at};
+ghost use Rattle.edge_model.specs.EndPlaces.{end_places, place_at, places_along, places_at};
 
-use crate::path_ends::{is_first, is_last};
+use crate::segment::Segment;
 use edge_model::EndPlace;
-use net_base::{EdgeId, List, NoMemory, Plan, WireId, WirePlan};
+use hvpls_spokes::is_terminal;
+use net_base::{EdgeId, List, NoMemory, Plan, SegKey, WireId, WirePlan};
 use std::alloc::Global;
 
 /// The places of the ends of an edge, in the order of the wires, and of the segments of each.
@@ -34,57 +35,48 @@ fn push_places(
         return Ok(());
     };
     let mut before = *first;
-    for (segment, next) in rest.iter().enumerate() {
-        push_place(places, wire, row, me, segment as u8, before, *next)?;
+    for (number, next) in rest.iter().enumerate() {
+        let segment = Segment {
+            key: SegKey {
+                wire,
+                segment: number as u8,
+            },
+            first: before,
+            next: *next,
+        };
+        push_place(places, row, me, segment)?;
         before = *next;
     }
     Ok(())
 }
 
-// Adds the end of the edge at a segment between two edges, where it is one of them.
+// Adds the end of the edge at a segment, where it is one of the edges that the segment joins.
 fn push_place(
     places: &mut List<EndPlace>,
-    wire: WireId,
     row: &WirePlan,
     me: EdgeId,
-    segment: u8,
-    first: EdgeId,
-    next: EdgeId,
+    segment: Segment,
 ) -> Result<(), NoMemory>
-    ensures { OnOk result (places.new ≡ places.old ++ places_at wire row.now me segment first next) }
+    ensures { OnOk result (places.new ≡ places.old ++ places_at segment.key.wire row.now me segment.key.segment segment.first segment.next) }
 {
-    if me == first {
-        places.push(place_at(wire, row, me, segment, 0, next))?;
-    } else if me == next {
-        places.push(place_at(wire, row, me, segment, 1, first))?;
+    if me == segment.first {
+        places.push(place_at(segment.key, row, me, 0, segment.next))?;
+    } else if me == segment.next {
+        places.push(place_at(segment.key, row, me, 1, segment.first))?;
     }
     Ok(())
 }
 
 // The end at one side of a segment, beside the edge at its other side.
-fn place_at(
-    wire: WireId,
-    row: &WirePlan,
-    me: EdgeId,
-    segment: u8,
-    side: u8,
-    peer: EdgeId,
-) -> EndPlace
-    ensures { result ≡ place_at wire row.now me segment side peer }
+fn place_at(key: SegKey, row: &WirePlan, me: EdgeId, side: u8, peer: EdgeId) -> EndPlace
+    ensures { result ≡ place_at key.wire row.now me key.segment side peer }
 {
     EndPlace {
-        wire,
+        wire: key.wire,
         peer,
         pw_id: row.pw_id,
-        segment,
+        segment: key.segment,
         side,
-        terminal: is_terminal(row, me),
+        terminal: is_terminal(row.path.as_slice(), me),
     }
-}
-
-// Whether the edge is a terminal edge of the wire.
-fn is_terminal(row: &WirePlan, me: EdgeId) -> bool
-    ensures { result ≡ is_terminal row.now me }
-{
-    is_first(row.path.as_slice(), me) || is_last(row.path.as_slice(), me)
 }

@@ -4,7 +4,7 @@ ghost use Rattle.net_base.specs.plan.Paths.{is_last};
 ghost use Rattle.pw_signalling.specs.declared.end_role.EndRole.TheVariants as role;
 ghost use Rattle.edge_model.specs.Role.{role_of};
 
-use crate::path_ends::is_last;
+use hvpls_spokes::is_last;
 use net_base::{Class, EdgeId, WirePlan};
 use pw_signalling::EndRole;
 
