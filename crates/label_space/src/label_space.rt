@@ -59,6 +59,7 @@ impl LabelSpace {
         let Some(label) = Label::new(self.next) else {
             return Err(NoLabel);
         };
+        // The memory for it was taken where the label space was opened.
         self.owners.push(LabelOwner { label, key, side }).unwrap();
         self.next += 1;
         Ok(label)

@@ -189,6 +189,7 @@ fn state_in(value: &[u8]) -> PwStatus
 {
     match read_status(value) {
         Ok(status) => status,
+        // Four octets are a status, whatever they are.
         Err(_) => unreachable!(),
     }
 }
@@ -290,6 +291,7 @@ fn macs_in(alloc: Global, value: &[u8]) -> Result<Items<Mac>, NoMemory>
     match read_macs(alloc, value) {
         Ok(list) => Ok(list),
         Err(MacsFault::NoMemory) => Err(NoMemory),
+        // Whole addresses have no fault.
         Err(MacsFault::Field(_)) => unreachable!(),
     }
 }

@@ -127,6 +127,7 @@ impl Stream {
         ensures { self.new ≡ record self.old { held = drop count self.old.held; base = place_behind self.old.base count } }
     {
         self.buffer.pass(count);
+        // Behind 2^64 - 1 octets the place is counted no further.
         self.base = self.base.saturating_add(count as u64);
     }
 }

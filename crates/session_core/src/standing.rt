@@ -88,6 +88,7 @@ impl Standing {
         if self.hold as u64 <= wait {
             return None;
         }
+        // It stays at its limit, which is far above the third of each hold time.
         let silence = self.silence.saturating_add(1);
         Some(Standing {
             wait,

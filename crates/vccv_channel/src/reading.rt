@@ -57,6 +57,7 @@ fn is_whole_icmp(octets: &[u8]) -> bool
     requires { 28 ≤ length octets.now }
     ensures { result ≡ whole_icmp_in octets.now }
 {
+    // No more fragments come and the fragment offset is 0; the flag that forbids fragments may be set.
     octets[0] == VERSION_AND_LENGTH && pair(octets, 6) % 0x4000 == 0 && octets[9] == ICMP
 }
 

@@ -85,6 +85,7 @@ fn read_pieces<F: Shelf>(
 {
     let mut piece = [0u8; PIECE];
     'reading: while octets.len() <= limit {
+        // One octet beyond the limit tells a file that is too long from one that just fits.
         let room = (limit + 1 - octets.len()).min(PIECE);
         let count = shelf.read_at(name, octets.len() as u64, &mut piece[..room])?;
         if count == 0 {
