@@ -10,10 +10,11 @@ use Rattle.eth_encap.specs.declared.stack_entry.StackEntry.{StackEntry}
 
 -- ---- what is written
 
--- 20 bits of label, three of traffic class, which are 0, the bottom bit, and 8 bits of TTL
+-- the number of an entry: 20 bits of label, three of traffic class, which are 0, the bottom bit, and 8 bits of TTL
 abbrev pub entry_number : ℕ → Bool → ℕ → ℕ
 entry_number label bottom ttl = label * 4096 + ((if bottom then 256 else 0) + ttl)
 
+-- the octets of an entry of a label stack (RFC 3032 section 2.1)
 abbrev pub entry_octets : ℕ → Bool → ℕ → List ℕ
 entry_octets label bottom ttl = big_bytes 4 (entry_number label bottom ttl)
 
@@ -26,6 +27,7 @@ control_word false = []
 abbrev pub payload_of : Bool → Option ℕ → List ℕ → List ℕ
 payload_of cword vlan frame = control_word cword ++ dress vlan frame
 
+-- a packet of a pseudowire (RFC 4448 section 4)
 abbrev pub packed : ℕ → ℕ → Bool → Option ℕ → List ℕ → List ℕ
 packed label ttl cword vlan frame = entry_octets label true ttl ++ payload_of cword vlan frame
 
@@ -35,9 +37,11 @@ packed label ttl cword vlan frame = entry_octets label true ttl ++ payload_of cw
 abbrev pub entry_in : ℕ → StackEntry
 entry_in number = record { label = number / 4096; bottom = number / 256 % 2 == 1; ttl = number % 256 }
 
+-- an entry with TTL 0 goes no further (RFC 3032 section 2.4.1)
 abbrev pub live_entry : StackEntry → Result StackEntry DropCause
 live_entry entry = if entry.ttl == 0 then Err Ttl else Ok entry
 
+-- the entry at the top of a packet's label stack, or its first fault
 abbrev pub entry_of : List ℕ → Result StackEntry DropCause
 entry_of packet = if nat_lt (length packet) 4 then Err Short else live_entry (entry_in (big_number 4 packet))
 
@@ -57,9 +61,11 @@ without_tag true frame =
     else if nat_lt (length frame) 18 then Err Short
     else Ok (take 12 frame ++ drop 16 frame)
 
+-- the inner frame of what stands behind the control word, or its first fault
 abbrev pub frame_in : Bool → ℕ → List ℕ → Result (List ℕ) DropCause
 frame_in tagged mtu rest = if nat_lt (length rest) 14 then Err Short else of_size mtu (without_tag tagged rest)
 
+-- the same, where there was no fault before
 abbrev pub frame_behind : Bool → ℕ → Result (List ℕ) DropCause → Result (List ℕ) DropCause
 frame_behind tagged mtu (Ok rest) = frame_in tagged mtu rest
 frame_behind tagged mtu (Err cause) = Err cause

@@ -86,6 +86,7 @@ pub record IsMisfit (row : Row) (rest : List ℕ) (field : Field) : Type 0 where
   pub is_listed : listed row (type_in tlv.word) ≡ Some field
   pub misfits : fits field tlv.value ≡ false
 
+-- the fault of the TLV here that its word, its Length and the TLVs before it show
 abbrev pub TlvFault : Row → List Tlv → List ℕ → Cause → ℕ → Type 0
 TlvFault row before rest cause.TlvLength place = CutsTlv rest place
 TlvFault row before rest (cause.Repeated field) place = (place ≡ 0) × IsRepeated row before rest field
@@ -122,6 +123,7 @@ pub record IsWrongContent (row : Row) (body rest : List ℕ) (fault : Fault) : T
 abbrev pub IsTlvFault : Row → List ℕ → List Tlv → List ℕ → Fault → Type 0
 IsTlvFault row body before rest f = TlvFault row before rest f.cause f.place ⊎ IsWrongContent row body rest f
 
+-- the first of the faults that are named there
 abbrev pub IsFirstTlvFault : Row → List ℕ → List Tlv → List ℕ → Fault → Type 0
 IsFirstTlvFault row body = IsFirstHere spell_tlv IsTlv (IsTlvFault row body)
 
@@ -135,6 +137,7 @@ CutsMessage rest place =
     ((0 < length rest) × (length rest < 4) × (place ≡ 0))
     ⊎ ((4 ≤ length rest) × ((two_at 2 rest < 4) ⊎ (length rest < 4 + two_at 2 rest)) × (place ≡ 2))
 
+-- the fault of the message here that its Message Length shows
 abbrev pub LengthFault : List ℕ → Cause → ℕ → Type 0
 LengthFault rest cause.MessageLength place = CutsMessage rest place
 LengthFault rest other place = ⊥
@@ -151,9 +154,11 @@ pub record IsWithin (rest : List ℕ) (fault : Fault) : Type 0 where
   pub names : NamesTlvs (row_of kind) message.body here
   pub is : fault ≡ moved 8 here
 
+-- the faults that are named behind some messages of a PDU
 abbrev pub IsMessageFault : List Spelling → List ℕ → Fault → Type 0
 IsMessageFault before rest f = LengthFault rest f.cause f.place ⊎ IsWithin rest f
 
+-- the first of the faults that are named there
 abbrev pub IsFirstMessageFault : List Spelling → List ℕ → Fault → Type 0
 IsFirstMessageFault = IsFirstHere spell IsSpelling IsMessageFault
 
@@ -180,6 +185,7 @@ pub record IsInside (bytes : List ℕ) (max : ℕ) (fault : Fault) : Type 0 wher
   pub names : NamesMessages body here
   pub is : fault ≡ moved 10 here
 
+-- the faults of octets that should spell a PDU whose PDU Length is at most this maximum
 abbrev pub Names : List ℕ → ℕ → Fault → Type 0
 Names bytes max f = HeaderFault bytes max f.cause f.place ⊎ IsInside bytes max f
 

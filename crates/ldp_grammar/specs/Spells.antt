@@ -25,6 +25,7 @@ pub record Spelling : Type 0 where
 abbrev pub spell : Spelling → List ℕ
 spell m = two m.word ++ two (4 + length m.body) ++ four m.id ++ m.body
 
+-- the parts of a message fit their fields (RFC 5036 section 3.5)
 abbrev pub IsSpelling : Spelling → Type 0
 IsSpelling m = (m.word < 2 ^ 16) × (4 + length m.body < 2 ^ 16) × (m.id < 2 ^ 32)
 

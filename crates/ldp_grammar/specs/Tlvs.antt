@@ -25,6 +25,7 @@ pub record Tlv : Type 0 where
   pub word : ℕ
   pub value : List ℕ
 
+-- the type in the word of a TLV, without U bit and F bit (RFC 5036 section 3.3)
 abbrev pub type_in : ℕ → ℕ
 type_in word = word % 0x4000
 
@@ -32,6 +33,7 @@ type_in word = word % 0x4000
 abbrev pub spell_tlv : Tlv → List ℕ
 spell_tlv t = two t.word ++ two (length t.value) ++ t.value
 
+-- the parts of a TLV fit their fields (RFC 5036 section 3.3)
 abbrev pub IsTlv : Tlv → Type 0
 IsTlv t = (t.word < 2 ^ 16) × (length t.value < 2 ^ 16)
 
@@ -74,11 +76,12 @@ pub record IsForeign (body : List ℕ) : Type 0 where
   pub stands : StandsFirst fec body value
   pub foreign : IsFecValue value (Foreign first)
 
--- the value of a FEC TLV is one, and that of a Switching Point PE TLV
+-- the value is that of a FEC TLV (RFC 8077 section 6.1)
 pub record IsFec (value : List ℕ) : Type 0 where
   pub told : FecValue
   pub is : IsFecValue value told
 
+-- the value is that of a Switching Point PE TLV (RFC 6073 section 7.4)
 pub record IsSwitchingPoint (value : List ℕ) : Type 0 where
   pub point : Point
   pub is : IsPoint value point
@@ -96,6 +99,7 @@ abbrev pub HasValue : List ℕ → Option Field → List ℕ → Type 0
 HasValue body (Some field) value = (fits field value ≡ true) × HasContent body field value
 HasValue body None value = Unit {0}
 
+-- the value of the TLV fits in a message with this row and these octets
 abbrev pub IsFitting : Row → List ℕ → Tlv → Type 0
 IsFitting row body t = HasValue body (listed row (type_in t.word)) t.value
 
@@ -114,13 +118,14 @@ pub record IsFaultless (row : Row) (body : List ℕ) (tlvs : List Tlv) : Type 0 
   pub values : AllByRecursion (IsFitting row body) tlvs
   pub counts : (kind : ℕ) → KeepsTo (listed row kind) (count_of kind tlvs)
 
--- the type in the word of a TLV, where it is unknown in a message with this row and has U = 0
+-- the type in the word of a TLV that is this part of its message, where it is unknown and has U = 0
 abbrev pub unknown_as : TlvPart → ℕ → Option ℕ
 unknown_as Unknown word = if bit 15 word then None else Some (type_in word)
 unknown_as Needed word = None
 unknown_as Further word = None
 unknown_as PassedOver word = None
 
+-- the same in a message with this row
 abbrev pub unknown_in : Row → ℕ → Option ℕ
 unknown_in row word = unknown_as (part_of row (type_in word)) word
 
@@ -134,11 +139,12 @@ abbrev pub first_absent : List ℕ → List Tlv → Option Field
 first_absent [] ts = None
 first_absent (kind ∷ kinds) ts = if count_of kind ts == 0 then field_of kind else first_absent kinds ts
 
--- whether there is a list of types, and TLVs of all of them
+-- whether there are TLVs of all these types
 abbrev pub all_there : List ℕ → List Tlv → Bool
 all_there [] ts = true
 all_there (kind ∷ kinds) ts = not (count_of kind ts == 0) && all_there kinds ts
 
+-- whether there are types that may stand instead, and TLVs of all of them
 abbrev pub stands_instead : List ℕ → List Tlv → Bool
 stands_instead [] ts = false
 stands_instead (kind ∷ kinds) ts = all_there (kind ∷ kinds) ts
@@ -147,11 +153,12 @@ stands_instead (kind ∷ kinds) ts = all_there (kind ∷ kinds) ts
 abbrev pub missing : Row → List Tlv → Option Field
 missing row ts = if stands_instead row.instead ts then None else first_absent row.needed ts
 
--- the value of the FEC TLV of a message that lists one
+-- a value, where its TLV is listed
 abbrev pub where_listed : Option Field → Option (List ℕ) → Option (List ℕ)
 where_listed None value = None
 where_listed (Some field) value = value
 
+-- the value of the FEC TLV of a message that lists one
 abbrev pub fec_value : Row → List Tlv → Option (List ℕ)
 fec_value row ts = where_listed (listed row fec) (value_of fec ts)
 

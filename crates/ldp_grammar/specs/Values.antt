@@ -39,6 +39,7 @@ pub record IsAddresses (value : List ℕ) (family : ℕ) (octets : List ℕ) : T
   pub number : family ≡ two_at 0 value
   pub addresses : octets ≡ drop 2 value
 
+-- the same as one value
 abbrev pub IsAddressList : List ℕ → AddressList → Type 0
 IsAddressList value a = IsAddresses value a.family a.octets
 

@@ -21,19 +21,23 @@ fresh = record { local = Idle false; remote = None }
 
 -- ---- an end of one state
 
+-- an end that advertises nothing, with whether its peer has declined what it advertised
 pub record IdleEnd : Type 0 where
   pub declined : Bool
   pub remote : Option Binding
 
+-- an end that advertises a label with this content
 pub record AdvertisedEnd : Type 0 where
   pub label : ℕ
   pub told : Told
   pub remote : Option Binding
 
+-- an end that has withdrawn its label, and waits for the release
 pub record WithdrawingEnd : Type 0 where
   pub label : ℕ
   pub remote : Option Binding
 
+-- each of the three as an end of any state
 abbrev pub idle_end : IdleEnd → EndState
 idle_end e = record { local = Idle e.declined; remote = e.remote }
 

@@ -10,6 +10,7 @@ use Rattle.pw_tlvs.specs.declared.registry.Registry.TheVariants.{InterfaceParame
 use Rattle.pw_tlvs.specs.declared.row.Row.{Row}
 use Rattle.pw_tlvs.specs.Faults.{Precedes, place_of}
 
+-- a sub-TLV by its type and its value
 pub record SubTlv : Type 0 where
   pub kind : ℕ
   pub value : List ℕ

@@ -22,8 +22,8 @@ description_value (octet ∷ octets) = Some (octet ∷ octets)
 abbrev pub pair_octets : ℕ × ℕ → List ℕ
 pair_octets pair = pair.0 ∷ pair.1 ∷ []
 
--- the known parameters by rising type: Interface MTU, Interface Description, Requested VLAN ID and VCCV (RFC 8077 section 6.4,
--- RFC 5085 section 4)
+-- the known parameters by rising type: Interface MTU, Interface Description, Requested VLAN ID and VCCV (RFC 4446 section 3.3,
+-- RFC 4448 section 4.3, RFC 5085 section 5.3.1)
 abbrev pub parameter_sub_tlvs : IfParams → List SubTlv
 parameter_sub_tlvs params =
     ((told 0x01 (option_map (λ mtu. big_bytes 2 mtu) params.mtu) ++ told 0x03 (description_value params.description))
