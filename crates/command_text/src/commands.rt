@@ -2,10 +2,12 @@
 ghost use Rattle.std.specs.Prelude.{◌≡◌, ◌≤◌, ◌+◌, length, IfOk};
 ghost use Rattle.std.specs.List.{All};
 ghost use Rattle.toml.specs.View.{view, items_view};
+ghost use Rattle.command_text.specs.declared.plan_names.PlanNames.{PlanNames};
 ghost use Rattle.command_text.specs.Events.{most_events, repeats_in, tick_in, play_in, one, many_of, part_of, packet_of, command_of, command_in, event_in, plays_after, commands_in};
 ghost use Rattle.command_text.specs.Reading.{Gives};
 ghost use Rattle.command_text.specs.Planned.{IsCount, IsAmong, IsNamed};
 
+use crate::event_place::EventPlace;
 use crate::events::{
     circuit_switch, connect, deliver, frame, lose, packet, ping, priority, restart, status,
     wire_switch,
@@ -48,32 +50,26 @@ fn tick(names: &PlanNames<'_>, event: u32, text: &str) -> Result<Command, Scenar
 fn play(
     alloc: Global,
     names: &PlanNames<'_>,
-    event: u32,
-    plays: u32,
+    place: EventPlace,
     text: &str,
 ) -> Result<Command, ScenarioFault>
-    ensures exact { Gives result (play_in names.now event plays text.now) }
+    ensures exact { Gives result (play_in names.now place.event place.plays text.now) }
     ensures named { IfOk result (IsNamed names.now) }
 {
-    if plays >= 4 {
-        return Err(bad_word(event, 1));
+    if place.plays >= 4 {
+        return Err(bad_word(place.event, 1));
     }
-    let circuit = name_word(&names.circuits, event, 2, text)?;
-    let file = file_word(alloc, event, 3, text)?;
-    no_word(event, 4, text)?;
+    let circuit = name_word(&names.circuits, place.event, 2, text)?;
+    let file = file_word(alloc, place.event, 3, text)?;
+    no_word(place.event, 4, text)?;
     Ok(Command::Play(CircuitId(circuit), file))
 }
 
 // The command of one event.
-fn one_event(
-    names: &PlanNames<'_>,
-    read: Result<Event, ScenarioFault>,
-) -> Result<Command, ScenarioFault>
-    requires { IfOk read (IsAmong names.now) }
+fn one_event(read: Result<Event, ScenarioFault>) -> Result<Command, ScenarioFault>
     ensures exact { result ≡ one read }
-    ensures named { IfOk result (IsNamed names.now) }
+    ensures named { (names : PlanNames) → IfOk read (IsAmong names) → IfOk result (IsNamed names) }
 {
-    let _names = names;
     match read {
         Ok(event) => Ok(Command::One(event)),
         Err(fault) => Err(fault),
@@ -85,19 +81,18 @@ fn one_event(
 fn many_of_word(
     alloc: Global,
     names: &PlanNames<'_>,
-    event: u32,
-    plays: u32,
+    place: EventPlace,
     word: &str,
     text: &str,
 ) -> Result<Command, ScenarioFault>
-    ensures exact { Gives result (many_of names.now event plays word.now text.now) }
+    ensures exact { Gives result (many_of names.now place.event place.plays word.now text.now) }
     ensures named { IfOk result (IsNamed names.now) }
 {
     match word {
-        "settle" => Ok(Command::Settle(repeats(event, text)?)),
-        "flow" => Ok(Command::Flow(repeats(event, text)?)),
-        "play" => play(alloc, names, event, plays, text),
-        _ => Err(bad_word(event, 1)),
+        "settle" => Ok(Command::Settle(repeats(place.event, text)?)),
+        "flow" => Ok(Command::Flow(repeats(place.event, text)?)),
+        "play" => play(alloc, names, place, text),
+        _ => Err(bad_word(place.event, 1)),
     }
 }
 
@@ -106,21 +101,20 @@ fn many_of_word(
 fn part_of_word(
     alloc: Global,
     names: &PlanNames<'_>,
-    event: u32,
-    plays: u32,
+    place: EventPlace,
     word: &str,
     text: &str,
 ) -> Result<Command, ScenarioFault>
-    ensures exact { Gives result (part_of names.now event plays word.now text.now) }
+    ensures exact { Gives result (part_of names.now place.event place.plays word.now text.now) }
     ensures named { IfOk result (IsNamed names.now) }
 {
     match word {
-        "wire" => one_event(names, wire_switch(names, event, text)),
-        "circuit" => one_event(names, circuit_switch(names, event, text)),
-        "status" => one_event(names, status(names, event, text)),
-        "priority" => one_event(names, priority(names, event, text)),
-        "ping" => one_event(names, ping(names, event, text)),
-        _ => many_of_word(alloc, names, event, plays, word, text),
+        "wire" => one_event(wire_switch(names, place.event, text)),
+        "circuit" => one_event(circuit_switch(names, place.event, text)),
+        "status" => one_event(status(names, place.event, text)),
+        "priority" => one_event(priority(names, place.event, text)),
+        "ping" => one_event(ping(names, place.event, text)),
+        _ => many_of_word(alloc, names, place, word, text),
     }
 }
 
@@ -129,26 +123,25 @@ fn part_of_word(
 fn packet_of_word(
     alloc: Global,
     names: &PlanNames<'_>,
-    event: u32,
-    plays: u32,
+    place: EventPlace,
     word: &str,
     text: &str,
 ) -> Result<Command, ScenarioFault>
-    ensures exact { Gives result (packet_of names.now event plays word.now text.now) }
+    ensures exact { Gives result (packet_of names.now place.event place.plays word.now text.now) }
     ensures named { IfOk result (IsNamed names.now) }
 {
     match word {
-        "frame" => Ok(Command::One(frame(alloc, names, event, text)?)),
+        "frame" => Ok(Command::One(frame(alloc, names, place.event, text)?)),
         "arrive" => Ok(Command::One(Event::Arrive {
-            packet: packet(event, text)?,
+            packet: packet(place.event, text)?,
         })),
         "drop" => Ok(Command::One(Event::Discard {
-            packet: packet(event, text)?,
+            packet: packet(place.event, text)?,
         })),
         "again" => Ok(Command::One(Event::Again {
-            packet: packet(event, text)?,
+            packet: packet(place.event, text)?,
         })),
-        _ => part_of_word(alloc, names, event, plays, word, text),
+        _ => part_of_word(alloc, names, place, word, text),
     }
 }
 
@@ -158,21 +151,20 @@ fn packet_of_word(
 fn command_of_word(
     alloc: Global,
     names: &PlanNames<'_>,
-    event: u32,
-    plays: u32,
+    place: EventPlace,
     word: &str,
     text: &str,
 ) -> Result<Command, ScenarioFault>
-    ensures exact { Gives result (command_of names.now event plays word.now text.now) }
+    ensures exact { Gives result (command_of names.now place.event place.plays word.now text.now) }
     ensures named { IfOk result (IsNamed names.now) }
 {
     match word {
-        "connect" => one_event(names, connect(names, event, text)),
-        "deliver" => one_event(names, deliver(names, event, text)),
-        "lose" => one_event(names, lose(names, event, text)),
-        "restart" => one_event(names, restart(names, event, text)),
-        "tick" => tick(names, event, text),
-        _ => packet_of_word(alloc, names, event, plays, word, text),
+        "connect" => one_event(connect(names, place.event, text)),
+        "deliver" => one_event(deliver(names, place.event, text)),
+        "lose" => one_event(lose(names, place.event, text)),
+        "restart" => one_event(restart(names, place.event, text)),
+        "tick" => tick(names, place.event, text),
+        _ => packet_of_word(alloc, names, place, word, text),
     }
 }
 
@@ -180,15 +172,14 @@ fn command_of_word(
 fn item(
     alloc: Global,
     names: &PlanNames<'_>,
-    event: u32,
-    plays: u32,
+    place: EventPlace,
     value: &Value,
 ) -> Result<Command, ScenarioFault>
-    ensures exact { Gives result (event_in names.now event plays (view value.now)) }
+    ensures exact { Gives result (event_in names.now place.event place.plays (view value.now)) }
     ensures named { IfOk result (IsNamed names.now) }
 {
     match value.as_str() {
-        Some(text) => command_of_word(alloc, names, event, plays, first(text), text),
+        Some(text) => command_of_word(alloc, names, place, first(text), text),
         None => Err(RowPlace::top().wrong_kind("events")),
     }
 }
@@ -220,7 +211,11 @@ pub fn read_commands(
     let mut commands = List::new(alloc);
     let mut plays = 0;
     for (i, value) in array.iter().enumerate() {
-        let command = item(alloc, names, i as u32 + 1, plays, value)?;
+        let place = EventPlace {
+            event: i as u32 + 1,
+            plays,
+        };
+        let command = item(alloc, names, place, value)?;
         plays = plays_with(plays, &command);
         commands.push(command)?;
     }

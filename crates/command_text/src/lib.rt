@@ -7,6 +7,7 @@
 mod command;
 mod commands;
 mod decimal;
+mod event_place;
 mod events;
 mod hex;
 mod key;
