@@ -1,7 +1,7 @@
 //! The line of an entry.
 ghost use Rattle.std.specs.Prelude.{◌≡◌, ◌++◌, ◌∷◌, [], codes, OnOk};
 ghost use Rattle.std.specs.Fmt.{decimal};
-ghost use Rattle.report_text.specs.Words.{line_of, line_end, edge_name, circuit_name, wire_name, cause_name, state_name};
+ghost use Rattle.report_text.specs.Words.{line_of, line_end, edge_name, circuit_name, wire_name, cause_name, state_name, wire_end_name};
 ghost use Rattle.text_pieces.specs.Pieces.{hex};
 ghost use Rattle.report_text.specs.Report.{entry_line};
 
@@ -11,7 +11,9 @@ use crate::lines::{
     put_end_line, put_end_number_line, put_numbers_line,
 };
 use crate::names::{cause_text, put_arrival, put_edge, put_wire, state_text, wire_end_text};
-use net_base::{CircuitId, DropCause, EdgeId, Entry, NoMemory, Plan, StateName, WireId};
+use crate::origin::Origin;
+use crate::wire_end::WireEnd;
+use net_base::{CircuitId, Down, DropCause, EdgeId, Entry, NoMemory, Plan, StateName};
 use text_pieces::{put_number_word, put_text};
 
 // Adds the line of octets that an edge put towards a peer.
@@ -43,30 +45,30 @@ fn put_in(
     end_with_octets(text, octets)
 }
 
-// Adds the front of the line of a packet that was sent: its number, its edges and its wire.
+// Adds the front of the line of a packet that was sent: its number, the edge that sent it, and the end of the wire to which it
+// goes.
 fn put_packet(
     text: &mut Vec<u8>,
     plan: &Plan,
     packet: u64,
     from: EdgeId,
-    to: EdgeId,
-    wire: WireId,
+    to: WireEnd,
 ) -> Result<(), NoMemory>
-    ensures { OnOk result (text.new.items ≡ text.old.items ++ ((((codes "sent" ++ (codes " " ++ decimal packet)) ++ (codes " " ++ edge_name plan.now from)) ++ (codes " " ++ edge_name plan.now to)) ++ (codes " " ++ wire_name plan.now wire))) }
+    ensures { OnOk result (text.new.items ≡ text.old.items ++ ((((codes "sent" ++ (codes " " ++ decimal packet)) ++ (codes " " ++ edge_name plan.now from)) ++ (codes " " ++ edge_name plan.now to.edge)) ++ (codes " " ++ wire_name plan.now to.wire))) }
 {
     put_text(text, b"sent")?;
     put_number_word(text, packet)?;
     put_edge(text, plan, from)?;
-    put_edge(text, plan, to)?;
-    put_wire(text, plan, wire)
+    put_edge(text, plan, to.edge)?;
+    put_wire(text, plan, to.wire)
 }
 
 // Ends a line with the origin of a frame, its hops and its octets.
-fn put_origin(text: &mut Vec<u8>, origin: u64, hops: u64, octets: &[u8]) -> Result<(), NoMemory>
-    ensures { OnOk result (text.new.items ≡ text.old.items ++ line_end (decimal origin ∷ decimal hops ∷ hex octets.now ∷ [])) }
+fn put_origin(text: &mut Vec<u8>, origin: Origin, octets: &[u8]) -> Result<(), NoMemory>
+    ensures { OnOk result (text.new.items ≡ text.old.items ++ line_end (decimal origin.number ∷ decimal origin.hops ∷ hex octets.now ∷ [])) }
 {
-    put_number_word(text, origin)?;
-    put_number_word(text, hops)?;
+    put_number_word(text, origin.number)?;
+    put_number_word(text, origin.hops)?;
     end_with_octets(text, octets)
 }
 
@@ -75,14 +77,13 @@ fn put_left(
     text: &mut Vec<u8>,
     plan: &Plan,
     circuit: CircuitId,
-    origin: u64,
-    hops: u64,
+    origin: Origin,
     octets: &[u8],
 ) -> Result<(), NoMemory>
-    ensures { OnOk result (text.new.items ≡ text.old.items ++ line_of (codes "left" ∷ circuit_name plan.now circuit ∷ decimal origin ∷ decimal hops ∷ hex octets.now ∷ [])) }
+    ensures { OnOk result (text.new.items ≡ text.old.items ++ line_of (codes "left" ∷ circuit_name plan.now circuit ∷ decimal origin.number ∷ decimal origin.hops ∷ hex octets.now ∷ [])) }
 {
     begin_with_circuit(text, plan, b"left", circuit)?;
-    put_origin(text, origin, hops, octets)
+    put_origin(text, origin, octets)
 }
 
 // Adds the line of a drop.
@@ -114,6 +115,25 @@ fn put_session(
     end_with_word(text, state_text(state).as_bytes())
 }
 
+// Adds the line of an end that has come up, or is down for a cause.
+fn put_down(
+    text: &mut Vec<u8>,
+    plan: &Plan,
+    end: WireEnd,
+    down: Option<Down>,
+) -> Result<(), NoMemory>
+    ensures { OnOk result (text.new.items ≡ text.old.items ++ line_of (codes "wire" ∷ edge_name plan.now end.edge ∷ wire_name plan.now end.wire ∷ wire_end_name down ∷ [])) }
+{
+    put_end_line(text, plan, b"wire", end, wire_end_text(down).as_bytes())
+}
+
+// Adds the line of an answer to a ping.
+fn put_pong(text: &mut Vec<u8>, plan: &Plan, end: WireEnd, sequence: u16) -> Result<(), NoMemory>
+    ensures { OnOk result (text.new.items ≡ text.old.items ++ line_of (codes "pong" ∷ edge_name plan.now end.edge ∷ wire_name plan.now end.wire ∷ decimal sequence ∷ [])) }
+{
+    put_end_number_line(text, plan, b"pong", end, u64::from(sequence))
+}
+
 /// Adds the line of an entry.
 pub fn put_entry(text: &mut Vec<u8>, plan: &Plan, entry: &Entry) -> Result<(), NoMemory>
     ensures { OnOk result (text.new.items ≡ text.old.items ++ entry_line plan.now entry.now) }
@@ -137,39 +157,38 @@ pub fn put_entry(text: &mut Vec<u8>, plan: &Plan, entry: &Entry) -> Result<(), N
             to,
             wire,
             arrival,
-            origin,
+            origin: number,
             hops,
             ref bytes,
         } => {
-            put_packet(text, plan, packet, from, to, wire)?;
+            put_packet(text, plan, packet, from, WireEnd { edge: to, wire })?;
             put_arrival(text, plan, arrival)?;
-            put_origin(text, origin, hops, bytes.as_slice())
+            put_origin(text, Origin { number, hops }, bytes.as_slice())
         }
         Entry::Copied { packet, of } => put_numbers_line(text, b"copied", packet, of),
         Entry::Left {
             circuit,
-            origin,
+            origin: number,
             hops,
             ref bytes,
-        } => put_left(text, plan, circuit, origin, hops, bytes.as_slice()),
+        } => put_left(
+            text,
+            plan,
+            circuit,
+            Origin { number, hops },
+            bytes.as_slice(),
+        ),
         Entry::Dropped {
             edge,
             origin,
             cause,
         } => put_dropped(text, plan, edge, origin, cause),
         Entry::Session { edge, peer, state } => put_session(text, plan, edge, peer, state),
-        Entry::Wire { edge, wire, down } => put_end_line(
-            text,
-            plan,
-            b"wire",
-            edge,
-            wire,
-            wire_end_text(down).as_bytes(),
-        ),
+        Entry::Wire { edge, wire, down } => put_down(text, plan, WireEnd { edge, wire }, down),
         Entry::Pong {
             edge,
             wire,
             sequence,
-        } => put_end_number_line(text, plan, b"pong", edge, wire, u64::from(sequence)),
+        } => put_pong(text, plan, WireEnd { edge, wire }, sequence),
     }
 }

@@ -10,7 +10,8 @@ use crate::lines::{
     put_number_line,
 };
 use crate::names::switch_text;
-use net_base::{CircuitId, EdgeId, Event, NoMemory, Plan, WireId};
+use crate::wire_end::WireEnd;
+use net_base::{CircuitId, EdgeId, Event, NoMemory, Plan};
 use text_pieces::put_text;
 
 // Adds the line of a delivery.
@@ -54,10 +55,10 @@ fn put_circuit_switch(
 }
 
 // Adds the line of a ping.
-fn put_ping(text: &mut Vec<u8>, plan: &Plan, edge: EdgeId, wire: WireId) -> Result<(), NoMemory>
-    ensures { OnOk result (text.new.items ≡ text.old.items ++ line_of (codes ">" ∷ codes "ping" ∷ edge_name plan.now edge ∷ wire_name plan.now wire ∷ [])) }
+fn put_ping(text: &mut Vec<u8>, plan: &Plan, end: WireEnd) -> Result<(), NoMemory>
+    ensures { OnOk result (text.new.items ≡ text.old.items ++ line_of (codes ">" ∷ codes "ping" ∷ edge_name plan.now end.edge ∷ wire_name plan.now end.wire ∷ [])) }
 {
-    begin_with_end(text, plan, b"> ping", edge, wire)?;
+    begin_with_end(text, plan, b"> ping", end)?;
     put_text(text, b"\n")
 }
 
@@ -79,8 +80,7 @@ pub fn put_event(text: &mut Vec<u8>, plan: &Plan, event: &Event) -> Result<(), N
             text,
             plan,
             b"> wire",
-            edge,
-            wire,
+            WireEnd { edge, wire },
             switch_text(on).as_bytes(),
         ),
         Event::Circuit { circuit, on } => put_circuit_switch(text, plan, circuit, on),
@@ -88,15 +88,20 @@ pub fn put_event(text: &mut Vec<u8>, plan: &Plan, event: &Event) -> Result<(), N
             text,
             plan,
             b"> status",
-            edge,
-            wire,
+            WireEnd { edge, wire },
             u64::from(bits),
         ),
         Event::Priority {
             edge,
             wire,
             priority,
-        } => put_end_number_line(text, plan, b"> priority", edge, wire, u64::from(priority)),
-        Event::Ping { edge, wire } => put_ping(text, plan, edge, wire),
+        } => put_end_number_line(
+            text,
+            plan,
+            b"> priority",
+            WireEnd { edge, wire },
+            u64::from(priority),
+        ),
+        Event::Ping { edge, wire } => put_ping(text, plan, WireEnd { edge, wire }),
     }
 }

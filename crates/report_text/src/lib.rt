@@ -10,7 +10,9 @@ mod event;
 mod last_line;
 mod lines;
 mod names;
+mod origin;
 mod report;
+mod wire_end;
 
 pub use ending::Ending;
 pub use last_line::Counted;

@@ -6,7 +6,8 @@ ghost use Rattle.text_pieces.specs.Pieces.{hex};
 ghost use Rattle.report_text.specs.Words.{line_of, line_end, circuit_name, edge_name, wire_name};
 
 use crate::names::{put_circuit, put_edge, put_wire};
-use net_base::{CircuitId, EdgeId, NoMemory, Plan, WireId};
+use crate::wire_end::WireEnd;
+use net_base::{CircuitId, EdgeId, NoMemory, Plan};
 use text_pieces::{put_hex_word, put_number_word, put_text, put_word};
 
 /// Ends a line with a number.
@@ -65,13 +66,12 @@ pub fn begin_with_end(
     text: &mut Vec<u8>,
     plan: &Plan,
     first: &[u8],
-    edge: EdgeId,
-    wire: WireId,
+    end: WireEnd,
 ) -> Result<(), NoMemory>
-    ensures { OnOk result (text.new.items ≡ text.old.items ++ ((first.now ++ (codes " " ++ edge_name plan.now edge)) ++ (codes " " ++ wire_name plan.now wire))) }
+    ensures { OnOk result (text.new.items ≡ text.old.items ++ ((first.now ++ (codes " " ++ edge_name plan.now end.edge)) ++ (codes " " ++ wire_name plan.now end.wire))) }
 {
-    begin_with_edge(text, plan, first, edge)?;
-    put_wire(text, plan, wire)
+    begin_with_edge(text, plan, first, end.edge)?;
+    put_wire(text, plan, end.wire)
 }
 
 /// Begins a line with a circuit.
@@ -141,13 +141,12 @@ pub fn put_end_line(
     text: &mut Vec<u8>,
     plan: &Plan,
     first: &[u8],
-    edge: EdgeId,
-    wire: WireId,
+    end: WireEnd,
     word: &[u8],
 ) -> Result<(), NoMemory>
-    ensures { OnOk result (text.new.items ≡ text.old.items ++ line_of (first.now ∷ edge_name plan.now edge ∷ wire_name plan.now wire ∷ word.now ∷ [])) }
+    ensures { OnOk result (text.new.items ≡ text.old.items ++ line_of (first.now ∷ edge_name plan.now end.edge ∷ wire_name plan.now end.wire ∷ word.now ∷ [])) }
 {
-    begin_with_end(text, plan, first, edge, wire)?;
+    begin_with_end(text, plan, first, end)?;
     end_with_word(text, word)
 }
 
@@ -156,12 +155,11 @@ pub fn put_end_number_line(
     text: &mut Vec<u8>,
     plan: &Plan,
     first: &[u8],
-    edge: EdgeId,
-    wire: WireId,
+    end: WireEnd,
     number: u64,
 ) -> Result<(), NoMemory>
-    ensures { OnOk result (text.new.items ≡ text.old.items ++ line_of (first.now ∷ edge_name plan.now edge ∷ wire_name plan.now wire ∷ decimal number ∷ [])) }
+    ensures { OnOk result (text.new.items ≡ text.old.items ++ line_of (first.now ∷ edge_name plan.now end.edge ∷ wire_name plan.now end.wire ∷ decimal number ∷ [])) }
 {
-    begin_with_end(text, plan, first, edge, wire)?;
+    begin_with_end(text, plan, first, end)?;
     end_with_number(text, number)
 }
