@@ -12,6 +12,7 @@ ghost use Rattle.scenario_text.specs.Arrays.{arrays_of, HasLimits};
 use crate::keys::only_known_keys;
 use crate::limits::{MOST_CIRCUITS, MOST_EDGES, MOST_EVENTS, MOST_SERVICES, MOST_WIRES};
 use crate::members::{member, needed_member};
+use crate::table_row::TableRow;
 use crate::values::strings;
 use command_text::{RowPlace, ScenarioFault};
 use net_base::Table as TableKind;
@@ -31,12 +32,12 @@ pub struct Arrays<'a> {
 fn version(table: &Table) -> Result<(), ScenarioFault>
     ensures { MapsTo (λ _. true) result (needed a_version top_row (codes "version") (table_view table.now)) }
 {
-    let row = RowPlace::top();
-    match needed_member(row, table, "version") {
+    let place = RowPlace::top();
+    match needed_member(TableRow { place, table }, "version") {
         Ok(value) => match value.as_integer() {
             Some(1) => Ok(()),
             Some(_) => Err(ScenarioFault::Version),
-            None => Err(row.wrong_kind("version")),
+            None => Err(place.wrong_kind("version")),
         },
         Err(fault) => Err(fault),
     }

@@ -2,12 +2,11 @@
 ghost use Rattle.std.specs.Prelude.{◌≡◌, ◌≤◌, length, IfOk};
 ghost use Rattle.std.specs.List.{All};
 ghost use Rattle.net_base.specs.plan.Accepted.{IsWithinLimits, IsChecked};
-ghost use Rattle.net_base.specs.plan.NameFaults.{edge_names, circuit_names, wire_names};
 ghost use Rattle.toml.specs.Parse.{parse_document};
 ghost use Rattle.toml.specs.View.{items_view, table_view};
 ghost use Rattle.command_text.specs.Events.{commands_in, most_events};
 ghost use Rattle.command_text.specs.Reading.{Gives};
-ghost use Rattle.command_text.specs.Planned.{names_of, IsPlanned};
+ghost use Rattle.command_text.specs.Planned.{names_of, IsNamed, IsPlanned};
 ghost use Rattle.scenario_text.specs.Arrays.{arrays_of, HasLimits};
 ghost use Rattle.scenario_text.specs.Document.{plan_in, scenario_with, scenario_in, scenario_or, document};
 
@@ -23,44 +22,25 @@ use net_base::{EdgePlan, List, Name, NoMemory, Plan, ServicePlan, Table as Table
 use std::alloc::{AllocError, Global};
 use toml::{Table, Value};
 
-// The commands at the rows of a plan, whose names these are.
-fn planned_commands(
-    alloc: Global,
-    plan: &Plan,
-    names: &PlanNames<'_>,
-    events: &[Value],
-) -> Result<List<Command>, ScenarioFault>
-    requires names { names.now ≡ names_of plan.now }
-    requires few { length events.now ≤ most_events }
-    ensures exact { Gives result (commands_in (names_of plan.now) 1 0 (items_view events.now)) }
-    ensures many { IfOk result (λ commands. length commands ≡ length events.now) }
-    ensures planned { IfOk result (λ commands. All (IsPlanned plan.now) commands) }
-{
-    let _plan = plan;
-    read_commands(alloc, names, events)
-}
-
-// The commands at the rows of a plan, which have these names in order.
+// The commands over these names.
 fn named_commands(
     alloc: Global,
-    plan: &Plan,
     edges: &[Name],
     circuits: &[Name],
     wires: &[Name],
     events: &[Value],
 ) -> Result<List<Command>, ScenarioFault>
-    requires limits { IsWithinLimits plan.now }
-    requires edges { edges.now ≡ edge_names plan.now.edges }
-    requires circuits { circuits.now ≡ circuit_names plan.now.circuits }
-    requires wires { wires.now ≡ wire_names plan.now.wires }
+    requires few_edges { length edges.now ≤ 1664 }
+    requires few_circuits { length circuits.now ≤ 1664 }
+    requires few_wires { length wires.now ≤ 1664 }
     requires few { length events.now ≤ most_events }
-    ensures exact { Gives result (commands_in (names_of plan.now) 1 0 (items_view events.now)) }
+    ensures exact { Gives result (commands_in (record { edges = edges.now; circuits = circuits.now; wires = wires.now }) 1 0 (items_view events.now)) }
     ensures many { IfOk result (λ commands. length commands ≡ length events.now) }
-    ensures planned { IfOk result (λ commands. All (IsPlanned plan.now) commands) }
+    ensures named { IfOk result (λ commands. All (IsNamed (record { edges = edges.now; circuits = circuits.now; wires = wires.now })) commands) }
 {
     match plan_names(alloc, edges, circuits, wires) {
         Ok(names) => {
-            let commands = planned_commands(alloc, plan, &names, events);
+            let commands = read_commands(alloc, &names, events);
             drop(names);
             commands
         }
@@ -116,6 +96,7 @@ fn names_with_wires<'a>(
 }
 
 // The commands at a plan.
+#[tactic(auto, using(crate::proofs::DocumentLemmas::planned_all))]
 fn plan_commands(
     alloc: Global,
     plan: &Plan,
@@ -132,7 +113,6 @@ fn plan_commands(
     match names_of_wires(alloc, plan.wires.as_slice()) {
         Ok(wires) => named_commands(
             alloc,
-            plan,
             edges.as_slice(),
             circuits.as_slice(),
             wires.as_slice(),

@@ -18,6 +18,8 @@ mod plan;
 mod row;
 mod rows;
 mod scenario;
+mod service_rows;
+mod table_row;
 mod values;
 mod wire_row;
 mod wires;

@@ -6,8 +6,9 @@ ghost use Rattle.command_text.specs.Places.{place_at};
 ghost use Rattle.command_text.specs.Reading.{Gives, MapsTo, found};
 ghost use Rattle.scenario_text.specs.Values.{a_name, an_address, a_number, a_boolean, a_class, a_mode, a_description, a_path, needed, defaulted, optional};
 
+use crate::table_row::TableRow;
 use crate::values::{address, boolean, class, description, mode, name, number, path};
-use command_text::{RowPlace, ScenarioFault};
+use command_text::ScenarioFault;
 use net_base::{Addr, Class, List, Name, Text};
 use std::alloc::Global;
 use toml::{Table, Value};
@@ -20,77 +21,62 @@ pub fn member<'a>(table: &'a Table, key: &str) -> Option<&'a Value>
 }
 
 /// The value at a key that the row has to have.
-pub fn needed_member<'a>(
-    row: RowPlace,
-    table: &'a Table,
-    key: &str,
-) -> Result<&'a Value, ScenarioFault>
-    ensures { MapsTo (λ v. view v.now) result (found (ScenarioFault.Missing (place_at row key.now)) (get_member key.now (table_view table.now))) }
+pub fn needed_member<'a>(row: TableRow<'a>, key: &str) -> Result<&'a Value, ScenarioFault>
+    ensures { MapsTo (λ v. view v.now) result (found (ScenarioFault.Missing (place_at row.entry.place key.now)) (get_member key.now (table_view row.entry.table.now))) }
 {
-    match member(table, key) {
+    match member(row.table, key) {
         Some(value) => Ok(value),
-        None => Err(row.missing(key)),
+        None => Err(row.place.missing(key)),
     }
 }
 
 /// The name at a key.
-pub fn name_at(row: RowPlace, table: &Table, key: &str) -> Result<Name, ScenarioFault>
-    ensures { result ≡ needed a_name row key.now (table_view table.now) }
+pub fn name_at(row: TableRow<'_>, key: &str) -> Result<Name, ScenarioFault>
+    ensures { result ≡ needed a_name row.entry.place key.now (table_view row.entry.table.now) }
 {
-    match needed_member(row, table, key) {
-        Ok(value) => name(row, key, value),
+    match needed_member(row, key) {
+        Ok(value) => name(row.place, key, value),
         Err(fault) => Err(fault),
     }
 }
 
 /// The address at a key.
-pub fn address_at(row: RowPlace, table: &Table, key: &str) -> Result<Addr, ScenarioFault>
-    ensures { result ≡ needed an_address row key.now (table_view table.now) }
+pub fn address_at(row: TableRow<'_>, key: &str) -> Result<Addr, ScenarioFault>
+    ensures { result ≡ needed an_address row.entry.place key.now (table_view row.entry.table.now) }
 {
-    match needed_member(row, table, key) {
-        Ok(value) => address(row, key, value),
+    match needed_member(row, key) {
+        Ok(value) => address(row.place, key, value),
         Err(fault) => Err(fault),
     }
 }
 
 /// The class at a key.
-pub fn class_at(row: RowPlace, table: &Table, key: &str) -> Result<Class, ScenarioFault>
-    ensures { result ≡ needed a_class row key.now (table_view table.now) }
+pub fn class_at(row: TableRow<'_>, key: &str) -> Result<Class, ScenarioFault>
+    ensures { result ≡ needed a_class row.entry.place key.now (table_view row.entry.table.now) }
 {
-    match needed_member(row, table, key) {
-        Ok(value) => class(row, key, value),
+    match needed_member(row, key) {
+        Ok(value) => class(row.place, key, value),
         Err(fault) => Err(fault),
     }
 }
 
 /// The names of edges at a key.
-pub fn path_at(
-    alloc: Global,
-    row: RowPlace,
-    table: &Table,
-    key: &str,
-) -> Result<List<Name>, ScenarioFault>
-    ensures { Gives result (needed a_path row key.now (table_view table.now)) }
+pub fn path_at(alloc: Global, row: TableRow<'_>, key: &str) -> Result<List<Name>, ScenarioFault>
+    ensures { Gives result (needed a_path row.entry.place key.now (table_view row.entry.table.now)) }
 {
-    match needed_member(row, table, key) {
-        Ok(value) => path(alloc, row, key, value),
+    match needed_member(row, key) {
+        Ok(value) => path(alloc, row.place, key, value),
         Err(fault) => Err(fault),
     }
 }
 
 /// The number at a key that the row has to have.
-pub fn number_at(
-    row: RowPlace,
-    table: &Table,
-    key: &str,
-    low: u32,
-    high: u32,
-) -> Result<u32, ScenarioFault>
-    ensures exact { result ≡ needed (a_number low high) row key.now (table_view table.now) }
+pub fn number_at(row: TableRow<'_>, key: &str, low: u32, high: u32) -> Result<u32, ScenarioFault>
+    ensures exact { result ≡ needed (a_number low high) row.entry.place key.now (table_view row.entry.table.now) }
     ensures within { IfOk result (λ n. (low ≤ n) × (n ≤ high)) }
 {
-    match needed_member(row, table, key) {
-        Ok(value) => number(row, key, value, low, high),
+    match needed_member(row, key) {
+        Ok(value) => number(row.place, key, value, low, high),
         Err(fault) => Err(fault),
     }
 }
@@ -98,19 +84,18 @@ pub fn number_at(
 /// The number at a key, or the default.
 pub fn number_or(
     default: u32,
-    row: RowPlace,
-    table: &Table,
+    row: TableRow<'_>,
     key: &str,
     low: u32,
     high: u32,
 ) -> Result<u32, ScenarioFault>
     requires reaches { low ≤ default }
     requires fits { default ≤ high }
-    ensures exact { result ≡ defaulted default (a_number low high) row key.now (table_view table.now) }
+    ensures exact { result ≡ defaulted default (a_number low high) row.entry.place key.now (table_view row.entry.table.now) }
     ensures within { IfOk result (λ n. (low ≤ n) × (n ≤ high)) }
 {
-    match member(table, key) {
-        Some(value) => number(row, key, value, low, high),
+    match member(row.table, key) {
+        Some(value) => number(row.place, key, value, low, high),
         None => Ok(default),
     }
 }
@@ -118,19 +103,18 @@ pub fn number_or(
 /// The number at a key that may be left out.
 pub fn optional_number(
     default: Option<u16>,
-    row: RowPlace,
-    table: &Table,
+    row: TableRow<'_>,
     key: &str,
     low: u32,
     high: u32,
 ) -> Result<Option<u16>, ScenarioFault>
     requires short { high ≤ 65535 }
     requires within { IfSome default (λ n. (low ≤ n) × (n ≤ high)) }
-    ensures exact { result ≡ optional default (a_number low high) row key.now (table_view table.now) }
+    ensures exact { result ≡ optional default (a_number low high) row.entry.place key.now (table_view row.entry.table.now) }
     ensures within { IfOk result (λ o. IfSome o (λ n. (low ≤ n) × (n ≤ high))) }
 {
-    match member(table, key) {
-        Some(value) => match number(row, key, value, low, high) {
+    match member(row.table, key) {
+        Some(value) => match number(row.place, key, value, low, high) {
             Ok(number) => Ok(Some(number as u16)),
             Err(fault) => Err(fault),
         },
@@ -139,31 +123,21 @@ pub fn optional_number(
 }
 
 /// The boolean at a key, or the default.
-pub fn boolean_or(
-    default: bool,
-    row: RowPlace,
-    table: &Table,
-    key: &str,
-) -> Result<bool, ScenarioFault>
-    ensures { result ≡ defaulted default a_boolean row key.now (table_view table.now) }
+pub fn boolean_or(default: bool, row: TableRow<'_>, key: &str) -> Result<bool, ScenarioFault>
+    ensures { result ≡ defaulted default a_boolean row.entry.place key.now (table_view row.entry.table.now) }
 {
-    match member(table, key) {
-        Some(value) => boolean(row, key, value),
+    match member(row.table, key) {
+        Some(value) => boolean(row.place, key, value),
         None => Ok(default),
     }
 }
 
 /// Whether the mode at a key is tagged mode, or the default.
-pub fn mode_or(
-    default: bool,
-    row: RowPlace,
-    table: &Table,
-    key: &str,
-) -> Result<bool, ScenarioFault>
-    ensures { result ≡ defaulted default a_mode row key.now (table_view table.now) }
+pub fn mode_or(default: bool, row: TableRow<'_>, key: &str) -> Result<bool, ScenarioFault>
+    ensures { result ≡ defaulted default a_mode row.entry.place key.now (table_view row.entry.table.now) }
 {
-    match member(table, key) {
-        Some(value) => mode(row, key, value),
+    match member(row.table, key) {
+        Some(value) => mode(row.place, key, value),
         None => Ok(default),
     }
 }
@@ -171,14 +145,13 @@ pub fn mode_or(
 /// The description at a key, or the default.
 pub fn description_or(
     default: &Text<80>,
-    row: RowPlace,
-    table: &Table,
+    row: TableRow<'_>,
     key: &str,
 ) -> Result<Text<80>, ScenarioFault>
-    ensures { result ≡ defaulted default.now a_description row key.now (table_view table.now) }
+    ensures { result ≡ defaulted default.now a_description row.entry.place key.now (table_view row.entry.table.now) }
 {
-    match member(table, key) {
-        Some(value) => description(row, key, value),
+    match member(row.table, key) {
+        Some(value) => description(row.place, key, value),
         None => Ok(*default),
     }
 }

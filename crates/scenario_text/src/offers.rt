@@ -6,9 +6,9 @@ ghost use Rattle.scenario_text.specs.Offers.{HasRanges};
 
 use crate::members::{boolean_or, description_or, mode_or, number_or, optional_number};
 use crate::offer_row::OfferRow;
-use command_text::{RowPlace, ScenarioFault};
+use crate::table_row::TableRow;
+use command_text::ScenarioFault;
 use net_base::Text;
-use toml::Table;
 
 // No octets.
 fn no_description() -> Text<80>
@@ -24,18 +24,17 @@ fn near_rest(
     cword: bool,
     mtu: Option<u16>,
     vlan: Option<u16>,
-    row: RowPlace,
-    table: &Table,
+    row: TableRow<'_>,
 ) -> Result<OfferRow, ScenarioFault>
     requires mtu { IfSome mtu (λ n. (0 ≤ n) × (n ≤ 65535)) }
     requires vlan { IfSome vlan (λ n. (0 ≤ n) × (n ≤ 4095)) }
-    ensures exact { result ≡ near_rest_in tagged cword mtu vlan row (table_view table.now) }
+    ensures exact { result ≡ near_rest_in tagged cword mtu vlan row.entry.place (table_view row.entry.table.now) }
     ensures ranges { IfOk result HasRanges }
 {
-    let vccv = number_or(0, row, table, "vccv", 0, 7)? as u8;
-    let status = boolean_or(true, row, table, "status")?;
-    let group = number_or(0, row, table, "group", 0, 4294967295)?;
-    match description_or(&no_description(), row, table, "description") {
+    let vccv = number_or(0, row, "vccv", 0, 7)? as u8;
+    let status = boolean_or(true, row, "status")?;
+    let group = number_or(0, row, "group", 0, 4294967295)?;
+    match description_or(&no_description(), row, "description") {
         Ok(description) => Ok(OfferRow {
             tagged,
             cword,
@@ -52,30 +51,30 @@ fn near_rest(
 
 /// What the near end of a wire offers.
 #[tactic(auto, unfolding(crate::specs::Rows::near_in, crate::specs::Rows::near_rest_in))]
-pub fn near_offer(row: RowPlace, table: &Table) -> Result<OfferRow, ScenarioFault>
-    ensures exact { result ≡ near_in row (table_view table.now) }
+pub fn near_offer(row: TableRow<'_>) -> Result<OfferRow, ScenarioFault>
+    ensures exact { result ≡ near_in row.entry.place (table_view row.entry.table.now) }
     ensures ranges { IfOk result HasRanges }
 {
-    let tagged = mode_or(false, row, table, "mode")?;
-    let cword = boolean_or(true, row, table, "control_word")?;
-    let mtu = optional_number(None, row, table, "mtu", 0, 65535)?;
-    match optional_number(None, row, table, "vlan", 0, 4095) {
-        Ok(vlan) => near_rest(tagged, cword, mtu, vlan, row, table),
+    let tagged = mode_or(false, row, "mode")?;
+    let cword = boolean_or(true, row, "control_word")?;
+    let mtu = optional_number(None, row, "mtu", 0, 65535)?;
+    match optional_number(None, row, "vlan", 0, 4095) {
+        Ok(vlan) => near_rest(tagged, cword, mtu, vlan, row),
         Err(fault) => Err(fault),
     }
 }
 
 // What the far end of a wire offers, where its first keys say this of an offer whose other parts are the near end's.
 #[tactic(auto, unfolding(crate::specs::Rows::far_rest_in))]
-fn far_rest(offer: OfferRow, row: RowPlace, table: &Table) -> Result<OfferRow, ScenarioFault>
+fn far_rest(offer: OfferRow, row: TableRow<'_>) -> Result<OfferRow, ScenarioFault>
     requires { HasRanges offer }
-    ensures exact { result ≡ far_rest_in offer row (table_view table.now) }
+    ensures exact { result ≡ far_rest_in offer row.entry.place (table_view row.entry.table.now) }
     ensures ranges { IfOk result HasRanges }
 {
-    let vccv = number_or(offer.vccv as u32, row, table, "far_vccv", 0, 7)? as u8;
-    let status = boolean_or(offer.status, row, table, "far_status")?;
-    let group = number_or(offer.group, row, table, "far_group", 0, 4294967295)?;
-    match description_or(&offer.description, row, table, "far_description") {
+    let vccv = number_or(offer.vccv as u32, row, "far_vccv", 0, 7)? as u8;
+    let status = boolean_or(offer.status, row, "far_status")?;
+    let group = number_or(offer.group, row, "far_group", 0, 4294967295)?;
+    match description_or(&offer.description, row, "far_description") {
         Ok(description) => Ok(OfferRow {
             vccv,
             status,
@@ -89,15 +88,15 @@ fn far_rest(offer: OfferRow, row: RowPlace, table: &Table) -> Result<OfferRow, S
 
 /// What the far end of a wire offers, which is the same as the near one where nothing else is said.
 #[tactic(auto, unfolding(crate::specs::Rows::far_in, crate::specs::Rows::far_rest_in))]
-pub fn far_offer(near: &OfferRow, row: RowPlace, table: &Table) -> Result<OfferRow, ScenarioFault>
+pub fn far_offer(near: &OfferRow, row: TableRow<'_>) -> Result<OfferRow, ScenarioFault>
     requires { HasRanges near.now }
-    ensures exact { result ≡ far_in near.now row (table_view table.now) }
+    ensures exact { result ≡ far_in near.now row.entry.place (table_view row.entry.table.now) }
     ensures ranges { IfOk result HasRanges }
 {
-    let tagged = mode_or(near.tagged, row, table, "far_mode")?;
-    let cword = boolean_or(near.cword, row, table, "far_control_word")?;
-    let mtu = optional_number(near.mtu, row, table, "far_mtu", 0, 65535)?;
-    match optional_number(near.vlan, row, table, "far_vlan", 0, 4095) {
+    let tagged = mode_or(near.tagged, row, "far_mode")?;
+    let cword = boolean_or(near.cword, row, "far_control_word")?;
+    let mtu = optional_number(near.mtu, row, "far_mtu", 0, 65535)?;
+    match optional_number(near.vlan, row, "far_vlan", 0, 4095) {
         Ok(vlan) => {
             let offer = OfferRow {
                 tagged,
@@ -106,7 +105,7 @@ pub fn far_offer(near: &OfferRow, row: RowPlace, table: &Table) -> Result<OfferR
                 vlan,
                 ..*near
             };
-            far_rest(offer, row, table)
+            far_rest(offer, row)
         }
         Err(fault) => Err(fault),
     }

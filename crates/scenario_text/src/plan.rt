@@ -10,6 +10,7 @@ ghost use Rattle.scenario_text.specs.Top.{most_edges, most_services, most_circui
 use crate::circuit_row::CircuitRow;
 use crate::circuits::circuits;
 use crate::names::{names_of_edges, names_of_plan, names_of_services};
+use crate::service_rows::ServiceRows;
 use crate::wire_row::WireRow;
 use crate::wires::wires;
 use command_text::{NameIndex, ScenarioFault};
@@ -78,25 +79,24 @@ struct PlacedRows {
     wires: List<WirePlan>,
 }
 
-// The circuits and the wires of these rows, where edges and services are found by these indices.
+// The circuits and the wires of these rows, where edges are found by this index.
 #[tactic(auto, unfolding(crate::specs::References::placed_rows))]
 fn placed_rows(
     alloc: Global,
     edges: &NameIndex<'_>,
-    service_index: &NameIndex<'_>,
-    services: &[ServicePlan],
+    services: ServiceRows<'_, '_>,
     circuit_rows: &[CircuitRow],
     wire_rows: &[WireRow],
 ) -> Result<PlacedRows, ScenarioFault>
     requires few_circuits { length circuit_rows.now ≤ most_circuits }
     requires few_wires { length wire_rows.now ≤ most_wires }
-    requires same { service_index.now ≡ service_names services.now }
-    ensures exact { Gives result (placed_rows edges.now services.now circuit_rows.now wire_rows.now) }
+    requires same { services.index.now ≡ service_names services.rows.now }
+    ensures exact { Gives result (placed_rows edges.now services.entry.rows.now circuit_rows.now wire_rows.now) }
     ensures circuits { IfOk result (λ rows. length rows.circuits ≡ length circuit_rows.now) }
     ensures wires { IfOk result (λ rows. length rows.wires ≡ length wire_rows.now) }
 {
-    let circuits = circuits(alloc, edges, service_index, circuit_rows)?;
-    match wires(alloc, edges, service_index, services, wire_rows) {
+    let circuits = circuits(alloc, edges, services.index, circuit_rows)?;
+    match wires(alloc, edges, services, wire_rows) {
         Ok(wires) => Ok(PlacedRows { circuits, wires }),
         Err(fault) => Err(fault),
     }
@@ -120,7 +120,11 @@ fn rows_over_services(
     let names = names_of_services(alloc, services)?;
     match NameIndex::of(alloc, names.as_slice()) {
         Ok(index) => {
-            let rows = placed_rows(alloc, edges, &index, services, circuit_rows, wire_rows);
+            let services = ServiceRows {
+                index: &index,
+                rows: services,
+            };
+            let rows = placed_rows(alloc, edges, services, circuit_rows, wire_rows);
             drop(index);
             rows
         }

@@ -10,11 +10,11 @@ use crate::members::{
     address_at, class_at, name_at, number_at, number_or, optional_number, path_at,
 };
 use crate::offers::{far_offer, near_offer};
+use crate::table_row::TableRow;
 use crate::wire_row::WireRow;
-use command_text::{RowPlace, ScenarioFault};
+use command_text::ScenarioFault;
 use net_base::{Addr, Class, EdgePlan, List, Name, ServicePlan, Table as TableKind};
 use std::alloc::Global;
-use toml::Table;
 
 /// What a row of a table is read as.
 pub trait Row: Sized + Drop {
@@ -27,8 +27,8 @@ pub trait Row: Sized + Drop {
     ghost row_of: { RowPlace → Members → Result Self ScenarioFault };
 
     /// The row that a table is.
-    fn read(alloc: Global, row: RowPlace, table: &Table) -> Result<Self, ScenarioFault>
-        ensures { Gives result (row_of row (table_view table.now)) };
+    fn read(alloc: Global, row: TableRow<'_>) -> Result<Self, ScenarioFault>
+        ensures { Gives result (row_of row.entry.place (table_view row.entry.table.now)) };
 }
 
 impl Row for EdgePlan {
@@ -37,10 +37,10 @@ impl Row for EdgePlan {
     ghost row_of = { edge_in };
 
     #[tactic(auto, unfolding(crate::specs::Rows::edge_in, crate::specs::Rows::edge_with))]
-    fn read(_alloc: Global, row: RowPlace, table: &Table) -> Result<EdgePlan, ScenarioFault> {
-        let name = name_at(row, table, "name")?;
-        match address_at(row, table, "address") {
-            Ok(address) => edge_with(name, address, row, table),
+    fn read(_alloc: Global, row: TableRow<'_>) -> Result<EdgePlan, ScenarioFault> {
+        let name = name_at(row, "name")?;
+        match address_at(row, "address") {
+            Ok(address) => edge_with(name, address, row),
             Err(fault) => Err(fault),
         }
     }
@@ -48,18 +48,13 @@ impl Row for EdgePlan {
 
 // A row of `edge` whose first keys say this.
 #[tactic(auto, unfolding(crate::specs::Rows::edge_with))]
-fn edge_with(
-    name: Name,
-    address: Addr,
-    row: RowPlace,
-    table: &Table,
-) -> Result<EdgePlan, ScenarioFault>
-    ensures { result ≡ edge_with name address row (table_view table.now) }
+fn edge_with(name: Name, address: Addr, row: TableRow<'_>) -> Result<EdgePlan, ScenarioFault>
+    ensures { result ≡ edge_with name address row.entry.place (table_view row.entry.table.now) }
 {
-    let first_label = number_or(16, row, table, "first_label", 16, 1048575)?;
-    let keepalive = number_or(180, row, table, "keepalive", 3, 65535)? as u16;
-    let max_pdu = number_or(4096, row, table, "max_pdu", 256, 4096)? as u16;
-    match only_known_keys(TableKind::Edge, row, table) {
+    let first_label = number_or(16, row, "first_label", 16, 1048575)?;
+    let keepalive = number_or(180, row, "keepalive", 3, 65535)? as u16;
+    let max_pdu = number_or(4096, row, "max_pdu", 256, 4096)? as u16;
+    match only_known_keys(TableKind::Edge, row.place, row.table) {
         Ok(()) => Ok(EdgePlan {
             name,
             address,
@@ -77,11 +72,11 @@ impl Row for ServicePlan {
     ghost row_of = { service_in };
 
     #[tactic(auto, unfolding(crate::specs::Rows::service_in))]
-    fn read(_alloc: Global, row: RowPlace, table: &Table) -> Result<ServicePlan, ScenarioFault> {
-        let name = name_at(row, table, "name")?;
-        let mtu = number_or(1500, row, table, "mtu", 64, 9198)? as u16;
-        let age = number_or(300, row, table, "age", 1, 1000000)?;
-        match only_known_keys(TableKind::Service, row, table) {
+    fn read(_alloc: Global, row: TableRow<'_>) -> Result<ServicePlan, ScenarioFault> {
+        let name = name_at(row, "name")?;
+        let mtu = number_or(1500, row, "mtu", 64, 9198)? as u16;
+        let age = number_or(300, row, "age", 1, 1000000)?;
+        match only_known_keys(TableKind::Service, row.place, row.table) {
             Ok(()) => Ok(ServicePlan { name, mtu, age }),
             Err(fault) => Err(fault),
         }
@@ -94,12 +89,12 @@ impl Row for CircuitRow {
     ghost row_of = { circuit_row_in };
 
     #[tactic(auto, unfolding(crate::specs::Rows::circuit_row_in))]
-    fn read(_alloc: Global, row: RowPlace, table: &Table) -> Result<CircuitRow, ScenarioFault> {
-        let name = name_at(row, table, "name")?;
-        let edge = name_at(row, table, "edge")?;
-        let service = name_at(row, table, "service")?;
-        let tag = optional_number(None, row, table, "tag", 1, 4094)?;
-        match only_known_keys(TableKind::Circuit, row, table) {
+    fn read(_alloc: Global, row: TableRow<'_>) -> Result<CircuitRow, ScenarioFault> {
+        let name = name_at(row, "name")?;
+        let edge = name_at(row, "edge")?;
+        let service = name_at(row, "service")?;
+        let tag = optional_number(None, row, "tag", 1, 4094)?;
+        match only_known_keys(TableKind::Circuit, row.place, row.table) {
             Ok(()) => Ok(CircuitRow {
                 name,
                 edge,
@@ -117,12 +112,12 @@ impl Row for WireRow {
     ghost row_of = { wire_row_in };
 
     #[tactic(auto, unfolding(crate::specs::Rows::wire_row_in, crate::specs::Rows::wire_row_with))]
-    fn read(alloc: Global, row: RowPlace, table: &Table) -> Result<WireRow, ScenarioFault> {
-        let name = name_at(row, table, "name")?;
-        let service = name_at(row, table, "service")?;
-        let class = class_at(row, table, "class")?;
-        match path_at(alloc, row, table, "path") {
-            Ok(path) => wire_row_with(name, service, class, path, row, table),
+    fn read(alloc: Global, row: TableRow<'_>) -> Result<WireRow, ScenarioFault> {
+        let name = name_at(row, "name")?;
+        let service = name_at(row, "service")?;
+        let class = class_at(row, "class")?;
+        match path_at(alloc, row, "path") {
+            Ok(path) => wire_row_with(name, service, class, path, row),
             Err(fault) => Err(fault),
         }
     }
@@ -135,16 +130,15 @@ fn wire_row_with(
     service: Name,
     class: Class,
     path: List<Name>,
-    row: RowPlace,
-    table: &Table,
+    row: TableRow<'_>,
 ) -> Result<WireRow, ScenarioFault>
-    ensures { result ≡ wire_row_with name service class path row (table_view table.now) }
+    ensures { result ≡ wire_row_with name service class path row.entry.place (table_view row.entry.table.now) }
 {
-    let pw_id = number_at(row, table, "pw_id", 1, 4294967295)?;
-    let priority = number_or(100, row, table, "priority", 0, 255)? as u8;
-    let near = near_offer(row, table)?;
-    let far = far_offer(&near, row, table)?;
-    match only_known_keys(TableKind::Wire, row, table) {
+    let pw_id = number_at(row, "pw_id", 1, 4294967295)?;
+    let priority = number_or(100, row, "priority", 0, 255)? as u8;
+    let near = near_offer(row)?;
+    let far = far_offer(&near, row)?;
+    match only_known_keys(TableKind::Wire, row.place, row.table) {
         Ok(()) => Ok(WireRow {
             name,
             service,

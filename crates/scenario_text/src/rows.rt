@@ -6,6 +6,7 @@ ghost use Rattle.scenario_text.specs.Rows.{row_members, row_in, rows_in};
 ghost use Rattle.scenario_text.specs.Top.{most_wires};
 
 use crate::row::Row;
+use crate::table_row::TableRow;
 use command_text::{RowPlace, ScenarioFault};
 use net_base::{List, Table as TableKind};
 use std::alloc::Global;
@@ -26,7 +27,7 @@ fn row_at<T: Row>(alloc: Global, place: RowPlace, value: &Value) -> Result<T, Sc
     ensures { Gives result (row_in T.row_of place (view value.now)) }
 {
     match row_table(place, value) {
-        Ok(table) => T::read(alloc, place, table),
+        Ok(table) => T::read(alloc, TableRow { place, table }),
         Err(fault) => Err(fault),
     }
 }

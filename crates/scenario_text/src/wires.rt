@@ -7,6 +7,7 @@ ghost use Rattle.scenario_text.specs.References.{told, offer_from, mtu_at, path_
 
 use crate::named::named_place;
 use crate::offer_row::OfferRow;
+use crate::service_rows::ServiceRows;
 use crate::wire_row::WireRow;
 use command_text::{NameIndex, RowPlace, ScenarioFault};
 use net_base::{EdgeId, List, Name, Offer, ServiceId, ServicePlan, Table as TableKind, WirePlan};
@@ -74,17 +75,16 @@ fn path(
 fn wire(
     alloc: Global,
     edges: &NameIndex<'_>,
-    service_index: &NameIndex<'_>,
-    services: &[ServicePlan],
+    services: ServiceRows<'_, '_>,
     place: RowPlace,
     row: &WireRow,
 ) -> Result<WirePlan, ScenarioFault>
-    requires { service_index.now ≡ service_names services.now }
-    ensures { Gives result (wire_in edges.now services.now place row.now) }
+    requires { services.index.now ≡ service_names services.rows.now }
+    ensures { Gives result (wire_in edges.now services.entry.rows.now place row.now) }
 {
-    let service = named_place(place, "service", service_index, &row.service)?;
+    let service = named_place(place, "service", services.index, &row.service)?;
     let path = path(alloc, edges, place, row.path.as_slice())?;
-    let mtu = service_mtu(services, service);
+    let mtu = service_mtu(services.rows, service);
     Ok(WirePlan {
         name: row.name,
         service: ServiceId(service),
@@ -102,13 +102,12 @@ fn wire(
 pub fn wires(
     alloc: Global,
     edges: &NameIndex<'_>,
-    service_index: &NameIndex<'_>,
-    services: &[ServicePlan],
+    services: ServiceRows<'_, '_>,
     rows: &[WireRow],
 ) -> Result<List<WirePlan>, ScenarioFault>
     requires few { length rows.now ≤ most_wires }
-    requires same { service_index.now ≡ service_names services.now }
-    ensures exact { Gives result (wires_in edges.now services.now 1 rows.now) }
+    requires same { services.index.now ≡ service_names services.rows.now }
+    ensures exact { Gives result (wires_in edges.now services.entry.rows.now 1 rows.now) }
     ensures many { IfOk result (λ wires. length wires ≡ length rows.now) }
 {
     let mut wires = List::new(alloc);
@@ -117,7 +116,7 @@ pub fn wires(
             table: TableKind::Wire,
             index: i as u32 + 1,
         };
-        let wire = wire(alloc, edges, service_index, services, place, row)?;
+        let wire = wire(alloc, edges, services, place, row)?;
         wires.push(wire)?;
     }
     Ok(wires)
