@@ -107,6 +107,7 @@ impl MacTable {
         ensures count { result ≡ length self.now.entries }
         ensures within { result ≤ self.now.capacity }
     {
+        // Named so that what always holds of both fields is at hand for the proof.
         let _capacity = self.capacity;
         self.entries.len()
     }

@@ -186,7 +186,7 @@ impl PwEnds {
         ensures place { option_map (place_of self.now) result ≡ find (λ place. advertises_label number (end_there self.now place).local) self.now.places }
         ensures slot { IfSome result (λ slot. slot < length self.now.places) }
     {
-        // No step of its own: what is always true of the places and ends is at hand for the proof once a field is named.
+        // Named so that what always holds of the fields is at hand for the proof.
         let _ = &self.places;
         match self.owner_of(number) {
             Some(slot) if self.advertises(slot, number) => Some(slot),
@@ -374,7 +374,7 @@ impl PwEnds {
         ensures next { self.new.labels.next ≡ self.old.labels.next }
         ensures ends { self.new.ends ≡ changed_each which (changed change.now) self.old.places self.old.ends }
     {
-        // No step of its own: what is always true of the places and ends is at hand for the proof once a field is named.
+        // Named so that what always holds of the fields is at hand for the proof.
         let _ = &self.places;
         for slot in 0..self.len() {
             if which.has(&self.place(slot)) {

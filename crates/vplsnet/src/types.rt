@@ -1,4 +1,4 @@
-//! What the types of a plan say of it.
+//! What the types of a plan say of it. Nothing is worked out here: where a value is named, its type tells the proof its range.
 ghost use Rattle.std.specs.Prelude.{◌≤◌, ◌<◌, ◌^◌, IfSome, length};
 ghost use Rattle.std.specs.List.{All, AllByRecursion};
 ghost use Rattle.ldp_grammar.specs.Reading.{AreOctets};
