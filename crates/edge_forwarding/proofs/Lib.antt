@@ -3,3 +3,4 @@ pub mod ForwardingLemmas
 pub mod EachLemmas
 pub mod OpenLemmas
 pub mod Views
+pub mod CopyLemmas

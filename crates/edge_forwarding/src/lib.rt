@@ -5,6 +5,7 @@
 mod domain;
 mod forwarding;
 mod inner_frame;
+mod octets;
 mod packet;
 mod tagged;
 

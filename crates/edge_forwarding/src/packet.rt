@@ -5,15 +5,18 @@ ghost use Rattle.eth_encap.specs.Packet.{unpacked};
 ghost use Rattle.edge_model.specs.Packet.{behind_entry};
 ghost use Rattle.edge_model.specs.Send.{packet_of, pushed_vlan};
 
+use crate::octets::{join, split_addresses};
 use eth_encap::{FrameFault, pack, unpack};
-use net_base::{List, NoMemory, Octets, Offer};
+use net_base::{NoMemory, Octets, Offer};
 use pw_signalling::Binding;
 use std::alloc::Global;
 
 /// The TTL with which a packet begins its way (RFC 3032 section 2.4 leaves it open; 255 is own).
 const FULL_TTL: u8 = 255;
 
-/// The octets of an inner frame as a terminal edge with this offer sends it under a binding.
+/// The octets of an inner frame as a terminal edge with this offer sends it under a binding. The frame is copied once, into the
+/// one buffer that is taken for them.
+#[tactic(auto, using(crate::proofs::CopyLemmas::packed_whole))]
 pub fn packet_of(
     alloc: Global,
     offer: &Offer,
@@ -22,18 +25,19 @@ pub fn packet_of(
 ) -> Result<Octets, NoMemory>
     ensures { IfOk result (λ octets. octets ≡ packet_of offer.now binding.now frame.now) }
 {
-    let mut out = vec![in alloc; 0u8; frame.len() + 12]?;
+    let (addresses, rest) = split_addresses(frame);
     let vlan = pushed_vlan(offer.tagged, binding.told.vlan);
+    let mut out = [0u8; 24];
     let count = pack(
         binding.label,
         FULL_TTL,
         offer.cword,
         vlan,
-        frame,
-        out.as_mut_slice(),
+        addresses,
+        &mut out,
     );
-    let (octets, _) = out.as_slice().split_at(count);
-    List::from_bytes(alloc, octets)
+    let (front, _) = out.split_at(count);
+    join(alloc, front, rest)
 }
 
 // The VLAN ID of the tag that tagged mode puts on: the one that the peer requests, or 0 (RFC 4448 sections 4.3 and 4.4).

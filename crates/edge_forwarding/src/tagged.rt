@@ -2,19 +2,19 @@
 ghost use Rattle.std.specs.Prelude.{◌≡◌, IfOk, IfSome};
 ghost use Rattle.net_base.specs.trace.Frame.{dress as dressed_frame};
 
+use crate::octets::{join, split_addresses};
 use eth_encap::dress;
-use net_base::{List, NoMemory, Octets};
+use net_base::{NoMemory, Octets};
 use std::alloc::Global;
 
-/// The inner frame with the tag, where there is one.
+/// The inner frame with the tag, where there is one. The frame is copied once, into the one buffer that is taken for it.
+#[tactic(auto, using(crate::proofs::CopyLemmas::dressed_whole))]
 pub fn dressed(alloc: Global, tag: Option<u16>, frame: &[u8]) -> Result<Octets, NoMemory>
     ensures { IfOk result (λ octets. octets ≡ dressed_frame tag frame.now) }
 {
-    if tag.is_none() {
-        return List::from_bytes(alloc, frame);
-    }
-    let mut out = vec![in alloc; 0u8; frame.len() + 4]?;
-    let count = dress(tag, frame, out.as_mut_slice());
-    let (octets, _) = out.as_slice().split_at(count);
-    List::from_bytes(alloc, octets)
+    let (addresses, rest) = split_addresses(frame);
+    let mut out = [0u8; 16];
+    let count = dress(tag, addresses, &mut out);
+    let (front, _) = out.split_at(count);
+    join(alloc, front, rest)
 }
