@@ -17,3 +17,4 @@ pub mod TickLemmas
 pub mod UnderWayLemmas
 pub mod WeightLemmas
 pub mod WordLemmas
+pub mod CallLogWalks

@@ -1,5 +1,5 @@
 -- A link that takes every call.
-use Rattle.std.proofs.Common.{◌≡◌, ◌<◌, ◌++◌, ◌∷◌, [], ℕ, suc, zero, List, true, refl, arith, length, slice_index_or}
+use Rattle.std.proofs.Common.{◌≡◌, ◌<◌, ◌++◌, ◌∷◌, [], ℕ, suc, zero, List, true, arith, length, slice_index_or}
 use Rattle.net_base.specs.declared.outside.link_call.LinkCall.{LinkCall}
 use Rattle.edge_model.specs.Work.{Agrees}
 use Rattle.network_model.specs.Absorb.{taken_all}

@@ -1,6 +1,8 @@
 //! The network of a run: edges, what is on its way between them, and the trace.
 #![tactic(auto)]
 
+mod call;
+mod call_log;
 mod delivery_index;
 mod ledger;
 mod net_stop;

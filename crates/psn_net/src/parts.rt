@@ -231,7 +231,7 @@ impl Parts {
         ensures driven { IfOk result (HasDriven me self.old self.new (edge_step self.old.plan taken_all input.entry (begin_at (seen self.old) me))) }
         ensures fit { IfOk result (λ effects. AllFit self.old.plan effects.list) }
     {
-        let mut link = PsnLink::new(alloc);
+        let mut link = PsnLink::new();
         match self.edges[me.0 as usize].take(alloc, input, &mut link) {
             Ok(effects) => Ok(effects),
             Err(_) => Err(NoMemory),

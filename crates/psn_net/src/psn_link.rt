@@ -1,16 +1,17 @@
 //! The link of an edge in the network.
-ghost use Rattle.std.specs.Prelude.{◌≡◌, ◌++◌, ◌∷◌, [], true, false, OnErr, OnOk};
+ghost use Rattle.std.specs.Prelude.{◌≡◌, ◌++◌, ◌∷◌, [], true, false};
 ghost use Rattle.net_base.specs.outside.Link.{Answers, Counts, call_of};
 
-use net_base::{EdgeId, Link, LinkCall, LinkStop, List, NoMemory};
-use std::alloc::Global;
+use crate::call::Call;
+use crate::call_log::CallLog;
+use net_base::{EdgeId, Link, LinkStop};
 use std::marker::Model;
 
-/// Takes every call. It is made empty for each input of an edge.
+/// Takes every call. It is made anew for each input of an edge, and keeps nothing: the edge gives out what the link took, and the
+/// network takes it from there. Contracts see the calls all the same.
 #[derive(Drop)]
 pub struct PsnLink {
-    calls: List<LinkCall>,
-    alloc: Global,
+    log: CallLog,
 }
 
 impl Model for PsnLink {
@@ -21,36 +22,32 @@ impl Model for PsnLink {
 
     ghost Value = { List LinkCall };
 
-    ghost view = { λ l. l.calls };
+    ghost view = { λ l. l.log.calls };
 
-    ghost invariant = { λ l. Agrees taken_all l.calls };
+    ghost invariant = { λ l. Agrees taken_all l.log.calls };
 }
 
 impl PsnLink {
     /// A link without calls.
     #[tactic(auto, using(crate::proofs::LinkLemmas::agrees_none))]
-    pub fn new(alloc: Global) -> PsnLink
+    pub fn new() -> PsnLink
         ensures { result ≡ [] }
     {
         PsnLink {
-            calls: List::new(alloc),
-            alloc,
+            log: CallLog::new(),
         }
     }
 
     // Takes a call.
     #[tactic(auto, using(crate::proofs::LinkLemmas::agrees_more))]
-    fn take(&mut self, peer: EdgeId, packet: bool, bytes: &[u8]) -> Result<(), NoMemory>
-        ensures ok { OnOk result (self.new ≡ self.old ++ call_of peer packet bytes.now true ∷ []) }
-        ensures err { OnErr result (self.new ≡ self.old) }
+    fn take(&mut self, peer: EdgeId, packet: bool, bytes: &[u8])
+        ensures { self.new ≡ self.old ++ call_of peer packet bytes.now true ∷ [] }
     {
-        let bytes = List::from_bytes(self.alloc, bytes)?;
-        self.calls.push(LinkCall {
+        self.log = self.log.with_call(&Call {
             peer,
             packet,
             bytes,
-            taken: true,
-        })
+        });
     }
 }
 
@@ -60,11 +57,13 @@ impl Link for PsnLink {
     ghost faults = { λ _. 0 };
 
     fn put(&mut self, peer: EdgeId, bytes: &[u8]) -> Result<(), LinkStop> {
-        Ok(self.take(peer, false, bytes)?)
+        self.take(peer, false, bytes);
+        Ok(())
     }
 
     fn send(&mut self, peer: EdgeId, packet: &[u8]) -> Result<(), LinkStop> {
-        Ok(self.take(peer, true, packet)?)
+        self.take(peer, true, packet);
+        Ok(())
     }
 
     fn faults(&self) -> u64 {

@@ -107,7 +107,7 @@ impl Parts {
         ensures fit { IfOk result (λ effects. AllFit self.old.plan effects.list) }
     {
         let bytes = self.pipes.front(from, to, count as usize);
-        let mut link = PsnLink::new(alloc);
+        let mut link = PsnLink::new();
         match self.edges[to.0 as usize].take(
             alloc,
             Input::Octets { peer: from, bytes },
