@@ -1,0 +1,9 @@
+pub mod Accepting
+pub mod Change
+pub mod Drop
+pub mod Laws
+pub mod Passing
+pub mod Relabel
+pub mod Side
+pub mod Stitch
+pub mod Swap
