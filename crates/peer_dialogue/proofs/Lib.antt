@@ -1,3 +1,4 @@
+pub mod AtWorkLemmas
 pub mod HearLemmas
 pub mod HeardLemmas
 pub mod SettleLemmas

@@ -25,7 +25,7 @@ use Rattle.edge_model.specs.Put.{Spoken, put_replies}
 use Rattle.edge_model.specs.Session.{comes_of, ends, happens, happens_to, is_same_phase, tells_change, went_on}
 use Rattle.edge_model.specs.State.{EdgeState, Peering}
 use Rattle.edge_model.specs.Work.{Answers, Work, changes, gives}
-use Rattle.peer_dialogue.specs.Peering.{Dialogue, IsBetween, StandsBetween, at_peer, had_spoken, having_put, kept_with, next_state, reason_in, settled, state_of}
+use Rattle.peer_dialogue.specs.Peering.{IsBetween, StandsBetween, at_peer, had_spoken, having_put, next_state, reason_in, settled, state_of}
 use Rattle.peer_dialogue.proofs.SpeakerLemmas.{changed_at, peer_of, put_twice}
 
 -- ---- what is known of every outcome
@@ -54,6 +54,10 @@ pub ended_at : (peer : EdgeId) (why : Reason) (kept : Option Peering) (edge : Ed
 unfolding at_peer changes gives
 ended_at peer why kept edge calls out =
     ap (λ (e : EdgeState). record { edge = e; calls = calls; effects = (out ++ Session peer (name.Ended why) ∷ []) ++ Gone peer ∷ []; idle = false }) (put_twice peer kept None edge)
+
+-- the link is not called
+uncalled_at : (peer : EdgeId) (kept : Option Peering) (edge : EdgeState) (calls now : List LinkCall) (out given : List Effect) → now ≡ calls → given ≡ out → at_peer peer kept edge now given ≡ at_peer peer kept edge calls out
+uncalled_at peer kept edge calls now out given same gave = ap (λ (c : List LinkCall). at_peer peer kept edge c given) same ∙ ap (at_peer peer kept edge calls) gave
 
 pub same_names : (old new : Phase) → phase_name old ≡ phase_name new → is_same_phase old new ≡ true
 same_names phase.Initialized phase.Initialized is = refl
@@ -92,24 +96,24 @@ names_other old new other same = absurd (cc (sym other ∙ same_names old new sa
 
 -- what comes of an outcome is what is settled, once the session is as it is now and everything was put
 comes_by : (told : Answers) (peer : EdgeId) (held : List ℕ) (s : SessionState) (id : ℕ) (outcome : Outcome) (edge : EdgeState) (calls : List LinkCall) (out : List Effect)
-    → comes_of told peer (record { session = s; held = held; next_id = id }) outcome (at_peer peer (kept_with held (Some (record { session = s; next_id = id }))) edge calls out)
+    → comes_of told peer (record { session = s; held = held; next_id = id }) outcome (at_peer peer (Some (record { session = s; held = held; next_id = id })) edge calls out)
     ≡ settled peer s.phase (view_after s outcome)
-    (put_replies told peer (replies_of outcome) (at_peer peer (kept_with held (Some (record { session = next_state s (view_after s outcome); next_id = id }))) edge calls out))
+    (put_replies told peer (replies_of outcome) (at_peer peer (Some (record { session = next_state s (view_after s outcome); held = held; next_id = id })) edge calls out))
 comes_by told peer held s id Stay edge calls out =
-    sym (ap (λ (b : Bool). cond b (at_peer peer (kept_with held (Some (record { session = s; next_id = id }))) edge calls out)
-    (gives (Session peer (phase_name s.phase)) (at_peer peer (kept_with held (Some (record { session = s; next_id = id }))) edge calls out))) (same_itself s.phase))
+    sym (ap (λ (b : Bool). cond b (at_peer peer (Some (record { session = s; held = held; next_id = id })) edge calls out)
+    (gives (Session peer (phase_name s.phase)) (at_peer peer (Some (record { session = s; held = held; next_id = id })) edge calls out))) (same_itself s.phase))
 comes_by told peer held s id (Goes next replies) edge calls out =
     ap (λ (w : Work). went_on peer s.phase next.phase (put_replies told peer replies w))
     (changed_at peer (Some (record { session = s; held = held; next_id = id })) (Some (record { session = next; held = held; next_id = id })) edge calls out)
 comes_by told peer held s id (Ends why replies) edge calls out = refl
 
 happens_at : (told : Answers) (peer : EdgeId) (held : List ℕ) (s : SessionState) (id : ℕ) (event : SessionEvent) (edge : EdgeState) (calls : List LinkCall) (out : List Effect)
-    → happens told peer event (at_peer peer (kept_with held (Some (record { session = s; next_id = id }))) edge calls out)
+    → happens told peer event (at_peer peer (Some (record { session = s; held = held; next_id = id })) edge calls out)
     ≡ settled peer s.phase (next_of s event)
-    (put_replies told peer (replies_of (outcome_of s event)) (at_peer peer (kept_with held (Some (record { session = next_state s (next_of s event); next_id = id }))) edge calls out))
+    (put_replies told peer (replies_of (outcome_of s event)) (at_peer peer (Some (record { session = next_state s (next_of s event); held = held; next_id = id })) edge calls out))
 happens_at told peer held s id event edge calls out =
-    ap (λ (x : Option Peering). happens_to told peer event x (at_peer peer (kept_with held (Some (record { session = s; next_id = id }))) edge calls out))
-    (peer_of peer (kept_with held (Some (record { session = s; next_id = id }))) edge calls out)
+    ap (λ (x : Option Peering). happens_to told peer event x (at_peer peer (Some (record { session = s; held = held; next_id = id })) edge calls out))
+    (peer_of peer (Some (record { session = s; held = held; next_id = id })) edge calls out)
     ∙ comes_by told peer held s id (outcome_of s event) edge calls out
 
 -- where a session goes on, it is still between its ends
@@ -119,36 +123,36 @@ next_between between s (EndedBy why) here stands = here
 
 pub happened : (told : Answers) (peer : EdgeId) (held : List ℕ) (between : Peers) (view next : SessionView) (old : StateName) (id after : ℕ) (spoke failed : Bool) (event : SessionEvent) (replies : List Reply) (edge : EdgeState) (calls now : List LinkCall) (out given : List Effect) (work : Work)
     → StandsBetween between view → old ≡ name_of view → next ≡ view_next view event → replies ≡ view_said view event
-    → ((s : SessionState) → s.peers ≡ between → put_replies told peer replies (at_peer peer (kept_with held (Some (record { session = s; next_id = id }))) edge calls out)
-    ≡ record { work = at_peer peer (kept_with held (Some (record { session = having_put spoke s; next_id = after }))) edge now given; failed = failed })
-    → ((before : SessionState) → phase_name before.phase ≡ old → work ≡ settled peer before.phase next (record { work = at_peer peer (kept_with held (Some (record { session = having_put spoke (next_state before next); next_id = after }))) edge now given; failed = failed }))
-    → work ≡ happens told peer event (at_peer peer (kept_with held (Some (record { session = state_of between view; next_id = id }))) edge calls out)
+    → ((s : SessionState) → s.peers ≡ between → put_replies told peer replies (at_peer peer (Some (record { session = s; held = held; next_id = id })) edge calls out)
+    ≡ record { work = at_peer peer (Some (record { session = having_put spoke s; held = held; next_id = after })) edge now given; failed = failed })
+    → ((before : SessionState) → phase_name before.phase ≡ old → work ≡ settled peer before.phase next (record { work = at_peer peer (Some (record { session = having_put spoke (next_state before next); held = held; next_id = after })) edge now given; failed = failed }))
+    → work ≡ happens told peer event (at_peer peer (Some (record { session = state_of between view; held = held; next_id = id })) edge calls out)
 happened told peer held between (EndedBy why) next old id after spoke failed event replies edge calls now out given work stands named is said put settles = absurd stands
 happened told peer held between (Stands s) next old id after spoke failed event replies edge calls now out given work stands named is said put settles =
     settles s (sym named)
     ∙ (ap (settled peer s.phase next) (sym (put (next_state s next) (next_between between s next stands (stays_between between (Stands s) next event stands is))))
-    ∙ (ap (λ (rs : List Reply). settled peer s.phase next (put_replies told peer rs (at_peer peer (kept_with held (Some (record { session = next_state s next; next_id = id }))) edge calls out))) said
-    ∙ (ap (λ (v : SessionView). settled peer s.phase v (put_replies told peer (replies_of (outcome_of s event)) (at_peer peer (kept_with held (Some (record { session = next_state s v; next_id = id }))) edge calls out))) is
+    ∙ (ap (λ (rs : List Reply). settled peer s.phase next (put_replies told peer rs (at_peer peer (Some (record { session = next_state s next; held = held; next_id = id })) edge calls out))) said
+    ∙ (ap (λ (v : SessionView). settled peer s.phase v (put_replies told peer (replies_of (outcome_of s event)) (at_peer peer (Some (record { session = next_state s v; held = held; next_id = id })) edge calls out))) is
     ∙ sym (happens_at told peer held s id event edge calls out))))
 
 -- ---- the exits of what is settled
 
-pub settled_end : (peer : EdgeId) (held : List ℕ) (before : SessionState) (view : SessionView) (why : Reason) (put : Spoken) (edge : EdgeState) (calls : List LinkCall) (out given : List Effect) (kept : Option Peering)
-    → view ≡ EndedBy why → put.work ≡ at_peer peer kept edge calls out → given ≡ (out ++ Session peer (name.Ended why) ∷ []) ++ Gone peer ∷ []
-    → at_peer peer None edge calls given ≡ settled peer before.phase view put
-settled_end peer held before (Stands s) why put edge calls out given kept ended is gave = absurd (cc (ended))
-settled_end peer held before (EndedBy other) why put edge calls out given kept ended is gave =
-    let same : other ≡ why = cc (ended) in
-    ap (at_peer peer None edge calls) gave
+pub settled_end : (peer : EdgeId) (before : SessionState) (view : SessionView) (why : Reason) (put : Spoken) (edge : EdgeState) (calls now : List LinkCall) (out given : List Effect) (kept : Option Peering)
+    → view ≡ EndedBy why → put.work ≡ at_peer peer kept edge calls out → now ≡ calls → given ≡ (out ++ Session peer (name.Ended why) ∷ []) ++ Gone peer ∷ []
+    → at_peer peer None edge now given ≡ settled peer before.phase view put
+settled_end peer before (Stands s) why put edge calls now out given kept ended is same gave = absurd (cc (ended))
+settled_end peer before (EndedBy other) why put edge calls now out given kept ended is same gave =
+    let alike : other ≡ why = cc (ended) in
+    uncalled_at peer None edge calls now _ given same gave
     ∙ (sym (ended_at peer why kept edge calls out)
-    ∙ (ap (ends peer why) (sym is) ∙ ap (λ (r : Reason). ends peer r put.work) (sym same)))
+    ∙ (ap (ends peer why) (sym is) ∙ ap (λ (r : Reason). ends peer r put.work) (sym alike)))
 
-pub settled_fault : (peer : EdgeId) (before s : SessionState) (view : SessionView) (put : Spoken) (edge : EdgeState) (calls : List LinkCall) (out given : List Effect) (kept : Option Peering)
-    → view ≡ Stands s → put.failed ≡ true → put.work ≡ at_peer peer kept edge calls out → given ≡ (out ++ Session peer (name.Ended reason.LinkFault) ∷ []) ++ Gone peer ∷ []
-    → at_peer peer None edge calls given ≡ settled peer before.phase view put
-settled_fault peer before s view put edge calls out given kept stands failed is gave =
+pub settled_fault : (peer : EdgeId) (before s : SessionState) (view : SessionView) (put : Spoken) (edge : EdgeState) (calls now : List LinkCall) (out given : List Effect) (kept : Option Peering)
+    → view ≡ Stands s → put.failed ≡ true → put.work ≡ at_peer peer kept edge calls out → now ≡ calls → given ≡ (out ++ Session peer (name.Ended reason.LinkFault) ∷ []) ++ Gone peer ∷ []
+    → at_peer peer None edge now given ≡ settled peer before.phase view put
+settled_fault peer before s view put edge calls now out given kept stands failed is same gave =
     rw (stands, failed)
-    (ap (at_peer peer None edge calls) gave
+    (uncalled_at peer None edge calls now _ given same gave
     ∙ (sym (ended_at peer reason.LinkFault kept edge calls out) ∙ ap (ends peer reason.LinkFault) (sym is)))
 
 -- what is told of two states
@@ -162,12 +166,12 @@ unfolding at_peer gives
 told_at peer true new kept edge calls out = refl
 told_at peer false new kept edge calls out = refl
 
-pub settled_on : (peer : EdgeId) (before s : SessionState) (view : SessionView) (put : Spoken) (edge : EdgeState) (calls : List LinkCall) (out given : List Effect) (kept : Option Peering)
-    → view ≡ Stands s → put.failed ≡ false → put.work ≡ at_peer peer kept edge calls out → given ≡ telling peer (is_same_phase before.phase s.phase) (phase_name s.phase) out
-    → at_peer peer kept edge calls given ≡ settled peer before.phase view put
-settled_on peer before s view put edge calls out given kept stands failed is gave =
+pub settled_on : (peer : EdgeId) (before s : SessionState) (view : SessionView) (put : Spoken) (edge : EdgeState) (calls now : List LinkCall) (out given : List Effect) (kept : Option Peering)
+    → view ≡ Stands s → put.failed ≡ false → put.work ≡ at_peer peer kept edge calls out → now ≡ calls → given ≡ telling peer (is_same_phase before.phase s.phase) (phase_name s.phase) out
+    → at_peer peer kept edge now given ≡ settled peer before.phase view put
+settled_on peer before s view put edge calls now out given kept stands failed is same gave =
     rw (stands, failed)
-    (ap (at_peer peer kept edge calls) gave
+    (uncalled_at peer kept edge calls now _ given same gave
     ∙ (told_at peer (is_same_phase before.phase s.phase) s.phase kept edge calls out
     ∙ ap (tells_change peer before.phase s.phase) (sym is)))
 
@@ -225,28 +229,28 @@ map_ok P Q (Err stop) more here = tt
 
 pub put_on : (does : Work → Spoken) (peer : EdgeId) (held : List ℕ) (between other : Peers) (view now : SessionView) (id after : ℕ) (taken : Bool) (edge : EdgeState) (calls new : List LinkCall) (out given : List Effect)
     → StandsBetween between view → now ≡ view_next view Spoke → taken ≡ true
-    → ((s : SessionState) → s.peers ≡ between → does (at_peer peer (kept_with held (Some (record { session = s; next_id = id }))) edge calls out)
-    ≡ record { work = at_peer peer (kept_with held (Some (record { session = having_put taken s; next_id = after }))) edge new given; failed = not taken })
-    → record { work = at_peer peer (kept_with held (Some (record { session = state_of other now; next_id = after }))) edge new given; failed = false }
-    ≡ had_spoken peer (does (at_peer peer (kept_with held (Some (record { session = state_of between view; next_id = id }))) edge calls out))
+    → ((s : SessionState) → s.peers ≡ between → does (at_peer peer (Some (record { session = s; held = held; next_id = id })) edge calls out)
+    ≡ record { work = at_peer peer (Some (record { session = having_put taken s; held = held; next_id = after })) edge new given; failed = not taken })
+    → record { work = at_peer peer (Some (record { session = state_of other now; held = held; next_id = after })) edge new given; failed = false }
+    ≡ had_spoken peer (does (at_peer peer (Some (record { session = state_of between view; held = held; next_id = id })) edge calls out))
 put_on does peer held between other (EndedBy why) now id after taken edge calls new out given stands is took put = absurd stands
 put_on does peer held between other (Stands s) now id after false edge calls new out given stands is took put = absurd (cc (took))
 put_on does peer held between other (Stands s) now id after true edge calls new out given stands is took put =
-    ap (λ (v : SessionView). record { work = at_peer peer (kept_with held (Some (record { session = state_of other v; next_id = after }))) edge new given; failed = false }) (spoken_is (Stands s) now s refl is)
+    ap (λ (v : SessionView). record { work = at_peer peer (Some (record { session = state_of other v; held = held; next_id = after })) edge new given; failed = false }) (spoken_is (Stands s) now s refl is)
     ∙ ap (had_spoken peer) (sym (put s stands))
 
-pub put_off : (does : Work → Spoken) (peer : EdgeId) (held : List ℕ) (between : Peers) (view : SessionView) (id after : ℕ) (taken : Bool) (edge : EdgeState) (calls new : List LinkCall) (out mid given : List Effect)
+pub put_off : (does : Work → Spoken) (peer : EdgeId) (held : List ℕ) (between : Peers) (view : SessionView) (id after : ℕ) (taken : Bool) (edge : EdgeState) (calls new now : List LinkCall) (out mid given : List Effect)
     → StandsBetween between view → taken ≡ false
-    → ((s : SessionState) → s.peers ≡ between → does (at_peer peer (kept_with held (Some (record { session = s; next_id = id }))) edge calls out)
-    ≡ record { work = at_peer peer (kept_with held (Some (record { session = having_put taken s; next_id = after }))) edge new mid; failed = not taken })
-    → given ≡ (mid ++ Session peer (name.Ended reason.LinkFault) ∷ []) ++ Gone peer ∷ []
-    → record { work = at_peer peer None edge new given; failed = true }
-    ≡ had_spoken peer (does (at_peer peer (kept_with held (Some (record { session = state_of between view; next_id = id }))) edge calls out))
-put_off does peer held between (EndedBy why) id after taken edge calls new out mid given stands refused put gave = absurd stands
-put_off does peer held between (Stands s) id after true edge calls new out mid given stands refused put gave = absurd (cc (refused))
-put_off does peer held between (Stands s) id after false edge calls new out mid given stands refused put gave =
-    ap (λ (l : List Effect). record { work = at_peer peer None edge new l; failed = true }) gave
-    ∙ (ap (λ (w : Work). record { work = w; failed = true }) (sym (ended_at peer reason.LinkFault (kept_with held (Some (record { session = s; next_id = after }))) edge new mid))
+    → ((s : SessionState) → s.peers ≡ between → does (at_peer peer (Some (record { session = s; held = held; next_id = id })) edge calls out)
+    ≡ record { work = at_peer peer (Some (record { session = having_put taken s; held = held; next_id = after })) edge new mid; failed = not taken })
+    → now ≡ new → given ≡ (mid ++ Session peer (name.Ended reason.LinkFault) ∷ []) ++ Gone peer ∷ []
+    → record { work = at_peer peer None edge now given; failed = true }
+    ≡ had_spoken peer (does (at_peer peer (Some (record { session = state_of between view; held = held; next_id = id })) edge calls out))
+put_off does peer held between (EndedBy why) id after taken edge calls new now out mid given stands refused put same gave = absurd stands
+put_off does peer held between (Stands s) id after true edge calls new now out mid given stands refused put same gave = absurd (cc (refused))
+put_off does peer held between (Stands s) id after false edge calls new now out mid given stands refused put same gave =
+    ap (λ (w : Work). record { work = w; failed = true }) (uncalled_at peer None edge new now _ given same gave)
+    ∙ (ap (λ (w : Work). record { work = w; failed = true }) (sym (ended_at peer reason.LinkFault (Some (record { session = s; held = held; next_id = after })) edge new mid))
     ∙ ap (had_spoken peer) (sym (put s stands)))
 
 -- ---- the connection is lost
@@ -259,15 +263,15 @@ closed_is s why = by s.phase (is_active s.peers) where
   by phase.OpenRec active = refl
   by phase.Operational active = refl
 
-pub lost_at : (told : Answers) (peer : EdgeId) (held : List ℕ) (s : SessionState) (id : ℕ) (why : Reason) (edge : EdgeState) (calls : List LinkCall) (out given : List Effect)
-    → given ≡ (out ++ Session peer (name.Ended why) ∷ []) ++ Gone peer ∷ []
-    → at_peer peer None edge calls given ≡ happens told peer (Closed why) (at_peer peer (kept_with held (Some (record { session = s; next_id = id }))) edge calls out)
-lost_at told peer held s id why edge calls out given gave =
-    ap (at_peer peer None edge calls) gave
-    ∙ (sym (ended_at peer why (kept_with held (Some (record { session = s; next_id = id }))) edge calls out)
-    ∙ (ap (λ (o : Outcome). comes_of told peer (record { session = s; held = held; next_id = id }) o (at_peer peer (kept_with held (Some (record { session = s; next_id = id }))) edge calls out)) (sym (closed_is s why))
-    ∙ ap (λ (x : Option Peering). happens_to told peer (Closed why) x (at_peer peer (kept_with held (Some (record { session = s; next_id = id }))) edge calls out))
-    (sym (peer_of peer (kept_with held (Some (record { session = s; next_id = id }))) edge calls out))))
+pub lost_at : (told : Answers) (peer : EdgeId) (kept : Peering) (why : Reason) (edge : EdgeState) (calls now : List LinkCall) (out given : List Effect)
+    → now ≡ calls → given ≡ (out ++ Session peer (name.Ended why) ∷ []) ++ Gone peer ∷ []
+    → at_peer peer None edge now given ≡ happens told peer (Closed why) (at_peer peer (Some kept) edge calls out)
+lost_at told peer kept why edge calls now out given same gave =
+    uncalled_at peer None edge calls now _ given same gave
+    ∙ (sym (ended_at peer why (Some kept) edge calls out)
+    ∙ (ap (λ (o : Outcome). comes_of told peer kept o (at_peer peer (Some kept) edge calls out)) (sym (closed_is kept.session why))
+    ∙ ap (λ (x : Option Peering). happens_to told peer (Closed why) x (at_peer peer (Some kept) edge calls out))
+    (sym (peer_of peer (Some kept) edge calls out))))
 
 pub not_ended : (view : SessionView) (why : Reason) → reason_in view ≡ None → view ≡ EndedBy why → ⊥
 not_ended (Stands s) why none ended = absurd (cc (ended))
@@ -282,7 +286,7 @@ refused_is s wrong = ap (view_after s) (by s.phase (is_active s.peers)) where
   by phase.Operational active = refl
 
 -- what is refused ends the session
-pub refused_none : (between : Peers) (view next : SessionView) (event : SessionEvent) (wrong : DecodeFault) (left : Option Dialogue) → StandsBetween between view → next ≡ view_next view event → event ≡ Refused wrong
+pub refused_none : (between : Peers) (view next : SessionView) (event : SessionEvent) (wrong : DecodeFault) (left : Option Peering) → StandsBetween between view → next ≡ view_next view event → event ≡ Refused wrong
     → ((why : Reason) → next ≡ EndedBy why → left ≡ None) → left ≡ None
 refused_none between (Stands s) next event wrong left stands is refused ended = ended reason.Decode (is ∙ (ap (next_of s) refused ∙ refused_is s wrong))
 refused_none between (EndedBy why) next event wrong left stands is refused ended = absurd stands

@@ -16,7 +16,7 @@ use Rattle.edge_model.specs.declared.effect.Effect.TheVariants.{Said}
 use Rattle.edge_model.specs.Put.{Spoken, following, having_spoken, message_octets_of, octets_of, platform_of, put_octets, put_replies, put_reply, put_reply_to, puts_on, with_spoken}
 use Rattle.edge_model.specs.State.{EdgeState, Peering, with_peering}
 use Rattle.edge_model.specs.Work.{Agrees, Answers, GoesOn, Work, changes, gives, puts}
-use Rattle.peer_dialogue.specs.Peering.{at_peer, having_put, kept_with, put_message, put_message_to}
+use Rattle.peer_dialogue.specs.Peering.{at_peer, having_put, put_message, put_message_to}
 
 -- ---- what is kept for one neighbour
 
@@ -92,8 +92,8 @@ same_octets peers reply next bytes held s is between = ap (λ (p : Peers). writt
 
 pub reply_by_octets : (told : Answers) (peer : EdgeId) (peers : Peers) (reply : Reply) (next : ℕ) (bytes held : List ℕ) (s : SessionState) (edge : EdgeState) (calls : List LinkCall) (out : List Effect) (put : Spoken)
     → bytes ≡ written (message_of reply next peers) (platform_of peers.me) → s.peers ≡ peers
-    → put_octets peer bytes (told (length calls)) (at_peer peer (kept_with held (Some (record { session = s; next_id = next }))) edge calls out) ≡ put
-    → put_reply told peer reply (at_peer peer (kept_with held (Some (record { session = s; next_id = next }))) edge calls out) ≡ put
+    → put_octets peer bytes (told (length calls)) (at_peer peer (Some (record { session = s; held = held; next_id = next })) edge calls out) ≡ put
+    → put_reply told peer reply (at_peer peer (Some (record { session = s; held = held; next_id = next })) edge calls out) ≡ put
 reply_by_octets told peer peers reply next bytes held s edge calls out put octets between is =
     let kept : Peering = record { session = s; held = held; next_id = next } in
     reply_at told peer reply kept edge calls out
@@ -109,8 +109,8 @@ message_at told peer message kept edge calls out = ap (λ (x : Option Peering). 
 
 pub message_by_octets : (told : Answers) (peer : EdgeId) (peers : Peers) (message : ℕ → Message) (next : ℕ) (bytes held : List ℕ) (s : SessionState) (edge : EdgeState) (calls : List LinkCall) (out : List Effect) (put : Spoken)
     → bytes ≡ written (message next) (platform_of peers.me) → s.peers ≡ peers
-    → put_octets peer bytes (told (length calls)) (at_peer peer (kept_with held (Some (record { session = s; next_id = next }))) edge calls out) ≡ put
-    → put_message told peer message (at_peer peer (kept_with held (Some (record { session = s; next_id = next }))) edge calls out) ≡ put
+    → put_octets peer bytes (told (length calls)) (at_peer peer (Some (record { session = s; held = held; next_id = next })) edge calls out) ≡ put
+    → put_message told peer message (at_peer peer (Some (record { session = s; held = held; next_id = next })) edge calls out) ≡ put
 message_by_octets told peer peers message next bytes held s edge calls out put octets between is =
     let kept : Peering = record { session = s; held = held; next_id = next } in
     message_at told peer message kept edge calls out
@@ -208,8 +208,8 @@ data_at (x ∷ replies) (suc place) reply all at = data_at replies place reply a
 
 pub was_failed : (told : Answers) (peer : EdgeId) (next : ℕ) (bytes slice held : List ℕ) (taken : Bool) (s : SessionState) (edge : EdgeState) (calls now : List LinkCall) (out : List Effect)
     → slice ≡ bytes → taken ≡ false → now ≡ calls ++ call_of peer false slice taken ∷ [] → Agrees told now
-    → put_octets peer bytes (told (length calls)) (at_peer peer (kept_with held (Some (record { session = s; next_id = next }))) edge calls out)
-    ≡ record { work = at_peer peer (kept_with held (Some (record { session = s; next_id = next }))) edge now out; failed = true }
+    → put_octets peer bytes (told (length calls)) (at_peer peer (Some (record { session = s; held = held; next_id = next })) edge calls out)
+    ≡ record { work = at_peer peer (Some (record { session = s; held = held; next_id = next })) edge now out; failed = true }
 was_failed told peer next bytes slice held true s edge calls now out same refused called agrees = absurd (cc (refused))
 was_failed told peer next bytes slice held false s edge calls now out same refused called agrees =
     let kept : Peering = record { session = s; held = held; next_id = next } in
@@ -220,8 +220,8 @@ was_failed told peer next bytes slice held false s edge calls now out same refus
 
 pub was_taken : (told : Answers) (peer : EdgeId) (next after : ℕ) (bytes slice held : List ℕ) (taken : Bool) (s : SessionState) (edge : EdgeState) (calls now : List LinkCall) (out given : List Effect)
     → slice ≡ bytes → taken ≡ true → now ≡ calls ++ call_of peer false slice taken ∷ [] → given ≡ out ++ Said peer bytes ∷ [] → after ≡ following next → Agrees told now
-    → put_octets peer bytes (told (length calls)) (at_peer peer (kept_with held (Some (record { session = s; next_id = next }))) edge calls out)
-    ≡ record { work = at_peer peer (kept_with held (Some (record { session = having_put true s; next_id = after }))) edge now given; failed = false }
+    → put_octets peer bytes (told (length calls)) (at_peer peer (Some (record { session = s; held = held; next_id = next })) edge calls out)
+    ≡ record { work = at_peer peer (Some (record { session = having_put true s; held = held; next_id = after })) edge now given; failed = false }
 was_taken told peer next after bytes slice held false s edge calls now out given same refused called gave counted agrees = absurd (cc (refused))
 was_taken told peer next after bytes slice held true s edge calls now out given same refused called gave counted agrees =
     let kept : Peering = record { session = s; held = held; next_id = next } in
@@ -230,7 +230,7 @@ was_taken told peer next after bytes slice held true s edge calls now out given 
     ∙ (said_at peer kept bytes edge calls out
     ∙ (ap (λ (c : List LinkCall). record { work = at_peer peer (Some (having_spoken kept)) edge c (out ++ Said peer bytes ∷ []); failed = false }) (sym here)
     ∙ (ap (λ (l : List Effect). record { work = at_peer peer (Some (having_spoken kept)) edge now l; failed = false }) (sym gave)
-    ∙ ap (λ (n : ℕ). record { work = at_peer peer (kept_with held (Some (record { session = having_put true s; next_id = n }))) edge now given; failed = false }) (sym counted))))
+    ∙ ap (λ (n : ℕ). record { work = at_peer peer (Some (record { session = having_put true s; held = held; next_id = n })) edge now given; failed = false }) (sym counted))))
 
 -- ---- replies at the turns of the loop
 
@@ -240,28 +240,28 @@ same_peers false s peers between = between
 
 pub next_put : (told : Answers) (peer : EdgeId) (replies : List Reply) (reply : Reply) (place : ℕ) (spoke taken : Bool) (s : SessionState) (held : List ℕ) (edge : EdgeState) (id after : ℕ) (calls now : List LinkCall) (out given : List Effect) (whole : Spoken)
     → slice_get replies place ≡ Some reply → taken ≡ true
-    → whole ≡ put_replies told peer (drop place replies) (at_peer peer (kept_with held (Some (record { session = having_put spoke s; next_id = id }))) edge calls out)
-    → put_reply told peer reply (at_peer peer (kept_with held (Some (record { session = having_put spoke s; next_id = id }))) edge calls out)
-    ≡ record { work = at_peer peer (kept_with held (Some (record { session = having_put taken (having_put spoke s); next_id = after }))) edge now given; failed = not taken }
-    → whole ≡ put_replies told peer (drop (place + 1) replies) (at_peer peer (kept_with held (Some (record { session = having_put true s; next_id = after }))) edge now given)
+    → whole ≡ put_replies told peer (drop place replies) (at_peer peer (Some (record { session = having_put spoke s; held = held; next_id = id })) edge calls out)
+    → put_reply told peer reply (at_peer peer (Some (record { session = having_put spoke s; held = held; next_id = id })) edge calls out)
+    ≡ record { work = at_peer peer (Some (record { session = having_put taken (having_put spoke s); held = held; next_id = after })) edge now given; failed = not taken }
+    → whole ≡ put_replies told peer (drop (place + 1) replies) (at_peer peer (Some (record { session = having_put true s; held = held; next_id = after })) edge now given)
 next_put told peer replies reply place spoke false s held edge id after calls now out given whole at took so_far put = absurd (cc (took))
 next_put told peer replies reply place true true s held edge id after calls now out given whole at took so_far put =
-    so_far ∙ replies_more told peer replies reply place (at_peer peer (kept_with held (Some (record { session = having_put true s; next_id = id }))) edge calls out)
-    (at_peer peer (kept_with held (Some (record { session = having_put true s; next_id = after }))) edge now given) at put
+    so_far ∙ replies_more told peer replies reply place (at_peer peer (Some (record { session = having_put true s; held = held; next_id = id })) edge calls out)
+    (at_peer peer (Some (record { session = having_put true s; held = held; next_id = after })) edge now given) at put
 next_put told peer replies reply place false true s held edge id after calls now out given whole at took so_far put =
-    so_far ∙ replies_more told peer replies reply place (at_peer peer (kept_with held (Some (record { session = s; next_id = id }))) edge calls out)
-    (at_peer peer (kept_with held (Some (record { session = having_put true s; next_id = after }))) edge now given) at put
+    so_far ∙ replies_more told peer replies reply place (at_peer peer (Some (record { session = s; held = held; next_id = id })) edge calls out)
+    (at_peer peer (Some (record { session = having_put true s; held = held; next_id = after })) edge now given) at put
 
 pub last_put : (told : Answers) (peer : EdgeId) (replies : List Reply) (reply : Reply) (place : ℕ) (spoke taken : Bool) (s : SessionState) (held : List ℕ) (edge : EdgeState) (id after : ℕ) (calls now : List LinkCall) (out given : List Effect) (whole : Spoken)
     → slice_get replies place ≡ Some reply → taken ≡ false
-    → whole ≡ put_replies told peer (drop place replies) (at_peer peer (kept_with held (Some (record { session = having_put spoke s; next_id = id }))) edge calls out)
-    → put_reply told peer reply (at_peer peer (kept_with held (Some (record { session = having_put spoke s; next_id = id }))) edge calls out)
-    ≡ record { work = at_peer peer (kept_with held (Some (record { session = having_put taken (having_put spoke s); next_id = after }))) edge now given; failed = not taken }
-    → whole ≡ record { work = at_peer peer (kept_with held (Some (record { session = having_put spoke s; next_id = after }))) edge now given; failed = true }
+    → whole ≡ put_replies told peer (drop place replies) (at_peer peer (Some (record { session = having_put spoke s; held = held; next_id = id })) edge calls out)
+    → put_reply told peer reply (at_peer peer (Some (record { session = having_put spoke s; held = held; next_id = id })) edge calls out)
+    ≡ record { work = at_peer peer (Some (record { session = having_put taken (having_put spoke s); held = held; next_id = after })) edge now given; failed = not taken }
+    → whole ≡ record { work = at_peer peer (Some (record { session = having_put spoke s; held = held; next_id = after })) edge now given; failed = true }
 last_put told peer replies reply place spoke true s held edge id after calls now out given whole at refused so_far put = absurd (cc (refused))
 last_put told peer replies reply place spoke false s held edge id after calls now out given whole at refused so_far put =
-    so_far ∙ replies_failed told peer replies reply place (at_peer peer (kept_with held (Some (record { session = having_put spoke s; next_id = id }))) edge calls out)
-    (at_peer peer (kept_with held (Some (record { session = having_put spoke s; next_id = after }))) edge now given) at put
+    so_far ∙ replies_failed told peer replies reply place (at_peer peer (Some (record { session = having_put spoke s; held = held; next_id = id })) edge calls out)
+    (at_peer peer (Some (record { session = having_put spoke s; held = held; next_id = after })) edge now given) at put
 
 none_left : (replies : List Reply) (place : ℕ) → slice_get replies place ≡ None → length replies ≤ place
 none_left [] place none = omega arith

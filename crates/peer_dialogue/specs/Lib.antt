@@ -1,3 +1,4 @@
+pub mod AtWork
 pub mod Event
 pub mod Heard
 pub mod Hearing

@@ -39,16 +39,11 @@ peers_between own other = None
 abbrev pub connection_with : Peers → Peering
 connection_with peers = record { session = opened peers; held = []; next_id = 1 }
 
--- ---- a session, and the octets beside it
-
--- a session that stands, and the number of the next message
-pub record Dialogue : Type 0 where
-  pub session : SessionState
-  pub next_id : ℕ
-
 -- no session stands any more
-abbrev pub gone : Option Dialogue → Option Dialogue
+abbrev pub gone : Option Peering → Option Peering
 gone kept = None
+
+-- ---- a session
 
 -- the session stands between these ends
 abbrev pub StandsBetween : Peers → SessionView → Type 0
@@ -64,11 +59,6 @@ IsBetween between (EndedBy why) = Unit {0}
 abbrev pub state_of : Peers → SessionView → SessionState
 state_of between (Stands s) = s
 state_of between (EndedBy why) = opened between
-
--- what is kept, where these octets are held
-abbrev pub kept_with : List ℕ → Option Dialogue → Option Peering
-kept_with held None = None
-kept_with held (Some d) = Some (record { session = d.session; held = held; next_id = d.next_id })
 
 -- ---- work
 
@@ -115,6 +105,6 @@ abbrev pub had_spoken : EdgeId → Spoken → Spoken
 had_spoken peer put = record { work = had_put peer put; failed = put.failed }
 
 -- no session is left
-abbrev pub is_over : Option Dialogue → Bool
+abbrev pub is_over : Option Peering → Bool
 is_over None = true
-is_over (Some d) = false
+is_over (Some kept) = false

@@ -9,9 +9,11 @@ ghost use Rattle.session_core.specs.State.{SessionState};
 ghost use Rattle.edge_model.specs.Put.{following, platform_of, put_octets, put_replies, put_reply};
 ghost use Rattle.edge_model.specs.State.{EdgeState};
 ghost use Rattle.edge_model.specs.Work.{Agrees, Answers, GoesOn};
-ghost use Rattle.peer_dialogue.specs.Peering.{at_peer, having_put, kept_with, put_message};
+ghost use Rattle.peer_dialogue.specs.AtWork.{WorkGoes};
+ghost use Rattle.peer_dialogue.specs.Peering.{at_peer, having_put, put_message};
 ghost use Rattle.peer_dialogue.specs.PwMessage.{CanBeSaid, numbered};
 
+use crate::at_work::AtWork;
 use crate::pw_message::PwMessage;
 use edge_model::Effect;
 use ldp_codec::encode_into;
@@ -41,21 +43,19 @@ pub struct Put {
 
 impl Speaker {
     /// Puts replies in order, until the link does not take one.
-    #[tactic(auto, using(crate::proofs::SpeakerLemmas::goes_both, crate::proofs::SpeakerLemmas::data_at))]
+    #[tactic(auto, using(crate::proofs::AtWorkLemmas::work_both, crate::proofs::SpeakerLemmas::data_at))]
     pub fn put_replies<L: Link>(
         &mut self,
-        alloc: Global,
         peer: EdgeId,
         replies: &Replies,
-        link: &mut L,
-        out: &mut List<Effect>,
+        work: &mut AtWork<'_, L>,
     ) -> Result<Put, NoMemory>
         requires { AllByRecursion HasData replies.now }
         ensures peers { self.new.peers ≡ self.old.peers }
-        ensures calls { GoesOn (L.calls link.old) (L.calls link.new) }
-        ensures step { IfOk result (λ put. (told : Answers) (s : SessionState) (held : List ℕ) (edge : EdgeState) → Agrees told (L.calls link.new) → s.peers ≡ self.old.peers
-            → put_replies told peer replies.now (at_peer peer (kept_with held (Some (record { session = s; next_id = self.old.next_id }))) edge (L.calls link.old) out.old)
-            ≡ record { work = at_peer peer (kept_with held (Some (record { session = having_put put.spoke s; next_id = self.new.next_id }))) edge (L.calls link.new) out.new; failed = put.failed }) }
+        ensures goes { WorkGoes L.calls work.old work.new }
+        ensures step { IfOk result (λ put. (told : Answers) (s : SessionState) (held : List ℕ) (edge : EdgeState) → Agrees told (L.calls work.new.link.now) → s.peers ≡ self.old.peers
+            → put_replies told peer replies.now (at_peer peer (Some (record { session = s; held = held; next_id = self.old.next_id })) edge (L.calls work.old.link.now) work.old.effects.now.list)
+            ≡ record { work = at_peer peer (Some (record { session = having_put put.spoke s; held = held; next_id = self.new.next_id })) edge (L.calls work.new.link.now) work.new.effects.now.list; failed = put.failed }) }
     {
         let mut spoke = false;
         for place in 0..replies.len() {
@@ -65,7 +65,7 @@ impl Speaker {
                     failed: false,
                 });
             };
-            if !self.put_reply(alloc, peer, reply, link, out)? {
+            if !self.put_reply(peer, reply, work)? {
                 return Ok(Put {
                     spoke,
                     failed: true,
@@ -82,41 +82,37 @@ impl Speaker {
     /// Puts a reply, and answers whether the link took it; what it takes is said.
     pub fn put_reply<L: Link>(
         &mut self,
-        alloc: Global,
         peer: EdgeId,
         reply: Reply,
-        link: &mut L,
-        out: &mut List<Effect>,
+        work: &mut AtWork<'_, L>,
     ) -> Result<bool, NoMemory>
         requires { HasData reply }
         ensures peers { self.new.peers ≡ self.old.peers }
-        ensures calls { GoesOn (L.calls link.old) (L.calls link.new) }
-        ensures step { IfOk result (λ taken. (told : Answers) (s : SessionState) (held : List ℕ) (edge : EdgeState) → Agrees told (L.calls link.new) → s.peers ≡ self.old.peers
-            → put_reply told peer reply (at_peer peer (kept_with held (Some (record { session = s; next_id = self.old.next_id }))) edge (L.calls link.old) out.old)
-            ≡ record { work = at_peer peer (kept_with held (Some (record { session = having_put taken s; next_id = self.new.next_id }))) edge (L.calls link.new) out.new; failed = not taken }) }
+        ensures goes { WorkGoes L.calls work.old work.new }
+        ensures step { IfOk result (λ taken. (told : Answers) (s : SessionState) (held : List ℕ) (edge : EdgeState) → Agrees told (L.calls work.new.link.now) → s.peers ≡ self.old.peers
+            → put_reply told peer reply (at_peer peer (Some (record { session = s; held = held; next_id = self.old.next_id })) edge (L.calls work.old.link.now) work.old.effects.now.list)
+            ≡ record { work = at_peer peer (Some (record { session = having_put taken s; held = held; next_id = self.new.next_id })) edge (L.calls work.new.link.now) work.new.effects.now.list; failed = not taken }) }
     {
-        let octets = self.octets_of(alloc, reply)?;
-        self.put_octets(peer, octets, link, out)
+        let octets = self.octets_of(work.alloc, reply)?;
+        self.put_octets(peer, octets, work)
     }
 
     /// Puts a message about a pseudowire, and answers whether the link took it; what it takes is said.
     pub fn say<L: Link>(
         &mut self,
-        alloc: Global,
         peer: EdgeId,
         message: &PwMessage<'_>,
-        link: &mut L,
-        out: &mut List<Effect>,
+        work: &mut AtWork<'_, L>,
     ) -> Result<bool, NoMemory>
         requires { CanBeSaid message.now }
         ensures peers { self.new.peers ≡ self.old.peers }
-        ensures calls { GoesOn (L.calls link.old) (L.calls link.new) }
-        ensures step { IfOk result (λ taken. (told : Answers) (s : SessionState) (held : List ℕ) (edge : EdgeState) → Agrees told (L.calls link.new) → s.peers ≡ self.old.peers
-            → put_message told peer (numbered message.now) (at_peer peer (kept_with held (Some (record { session = s; next_id = self.old.next_id }))) edge (L.calls link.old) out.old)
-            ≡ record { work = at_peer peer (kept_with held (Some (record { session = having_put taken s; next_id = self.new.next_id }))) edge (L.calls link.new) out.new; failed = not taken }) }
+        ensures goes { WorkGoes L.calls work.old work.new }
+        ensures step { IfOk result (λ taken. (told : Answers) (s : SessionState) (held : List ℕ) (edge : EdgeState) → Agrees told (L.calls work.new.link.now) → s.peers ≡ self.old.peers
+            → put_message told peer (numbered message.now) (at_peer peer (Some (record { session = s; held = held; next_id = self.old.next_id })) edge (L.calls work.old.link.now) work.old.effects.now.list)
+            ≡ record { work = at_peer peer (Some (record { session = having_put taken s; held = held; next_id = self.new.next_id })) edge (L.calls work.new.link.now) work.new.effects.now.list; failed = not taken }) }
     {
-        let octets = self.message_octets_of(alloc, message)?;
-        self.put_octets(peer, octets, link, out)
+        let octets = self.message_octets_of(work.alloc, message)?;
+        self.put_octets(peer, octets, work)
     }
 
     // Puts octets, and answers whether the link took them; what it takes is said.
@@ -124,19 +120,18 @@ impl Speaker {
         &mut self,
         peer: EdgeId,
         octets: Octets,
-        link: &mut L,
-        out: &mut List<Effect>,
+        work: &mut AtWork<'_, L>,
     ) -> Result<bool, NoMemory>
         ensures peers { self.new.peers ≡ self.old.peers }
-        ensures calls { GoesOn (L.calls link.old) (L.calls link.new) }
-        ensures step { IfOk result (λ taken. (told : Answers) (s : SessionState) (held : List ℕ) (edge : EdgeState) → Agrees told (L.calls link.new)
-            → put_octets peer octets (told (length (L.calls link.old))) (at_peer peer (kept_with held (Some (record { session = s; next_id = self.old.next_id }))) edge (L.calls link.old) out.old)
-            ≡ record { work = at_peer peer (kept_with held (Some (record { session = having_put taken s; next_id = self.new.next_id }))) edge (L.calls link.new) out.new; failed = not taken }) }
+        ensures goes { WorkGoes L.calls work.old work.new }
+        ensures step { IfOk result (λ taken. (told : Answers) (s : SessionState) (held : List ℕ) (edge : EdgeState) → Agrees told (L.calls work.new.link.now)
+            → put_octets peer octets (told (length (L.calls work.old.link.now))) (at_peer peer (Some (record { session = s; held = held; next_id = self.old.next_id })) edge (L.calls work.old.link.now) work.old.effects.now.list)
+            ≡ record { work = at_peer peer (Some (record { session = having_put taken s; held = held; next_id = self.new.next_id })) edge (L.calls work.new.link.now) work.new.effects.now.list; failed = not taken }) }
     {
-        if !put_bytes(peer, octets.as_slice(), link)? {
+        if !put_bytes(peer, octets.as_slice(), work.link)? {
             return Ok(false);
         }
-        out.push(Effect::Said {
+        work.effects.list.push(Effect::Said {
             peer,
             bytes: octets,
         })?;
