@@ -1,15 +1,9 @@
 -- What an edge works with, from one call to the next.
-use Rattle.std.proofs.Common.{◌∙◌, List, [], refl, sym}
-use Rattle.std.proofs.lemmas.List.{append-nil}
+use Rattle.std.proofs.Common.{◌∙◌, List, refl}
 use Rattle.net_base.specs.declared.outside.link_call.LinkCall.{LinkCall}
-use Rattle.edge_model.specs.Work.{GoesOn}
 use Rattle.peer_dialogue.specs.AtWork.{WorkGoes}
 use Rattle.peer_dialogue.specs.declared.at_work.AtWork.{AtWork}
-use Rattle.peer_dialogue.proofs.SpeakerLemmas.{goes_both}
-
--- the link is not called
-pub goes_nowhere : (calls : List LinkCall) → GoesOn calls calls
-goes_nowhere calls = record { more = []; joined = sym (append-nil calls) }
+use Rattle.peer_dialogue.proofs.SpeakerLemmas.{goes_both, goes_nowhere}
 
 module _ {L : Type 0} (link_calls : L → List LinkCall) where
   pub work_same : (a : AtWork L) → WorkGoes link_calls a a

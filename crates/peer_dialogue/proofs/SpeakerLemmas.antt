@@ -1,6 +1,7 @@
 -- What an edge puts to a neighbour, one message after another.
 use Rattle.std.proofs.Common.{◌≡◌, ◌<◌, ◌≤◌, ◌+◌, ◌-◌, ◌++◌, ◌∙◌, ℕ, zero, suc, Bool, true, false, List, [], ◌∷◌, Option, Some, None, cond, not, length, take, drop, slice_get, slice_index_or, nat_eq, option_map, refl, ap, sym, subst, arith, append_assoc}
 use Rattle.std.proofs.lemmas.Bool.{eq-eqb, eqb-true}
+use Rattle.std.proofs.lemmas.List.{append-nil}
 use Rattle.std.specs.List.{AllByRecursion}
 use Rattle.net_base.specs.declared.outside.link_call.LinkCall.{LinkCall}
 use Rattle.net_base.specs.declared.plan.places.EdgeId.{EdgeId}
@@ -137,6 +138,10 @@ front_is w old now front count is long within taken =
     taken ∙ (ap (take count) is ∙ (ap (λ (n : ℕ). take n (w ++ drop count old)) count_is ∙ take_front w (drop count old)))
 
 -- ---- calls that go on
+
+-- the link is not called
+pub goes_nowhere : (calls : List LinkCall) → GoesOn calls calls
+goes_nowhere calls = record { more = []; joined = sym (append-nil calls) }
 
 pub goes_both : (a b c : List LinkCall) → GoesOn a b → GoesOn b c → GoesOn a c
 goes_both a b c first next = record {
