@@ -22,9 +22,3 @@ returns-in_default-clause-step g c = λ told s held edge agrees between. all_put
 
 pub returns-clause-step : goal.returns-clause-step
 returns-clause-step g c = λ told s held edge agrees between. c.loop-place.invariant.step told s held edge agrees between ∙ replies_end told c.args.peer c.args.replies.now c.loop-place.place _ (omega (arith, c.loop-place-test.false, c.len-place-end.ensures.count))
-
-pub returns-in_err-put_reply-clause-goes : goal.returns-in_err-put_reply-clause-goes
-returns-in_err-put_reply-clause-goes g c = work_both g.L.Link.calls _ _ _ c.loop-place.invariant.goes c.put_reply.ensures.goes
-
-pub returns-then-not-branch-clause-goes : goal.returns-then-not-branch-clause-goes
-returns-then-not-branch-clause-goes g c = work_both g.L.Link.calls _ _ _ c.loop-place.invariant.goes c.in_ok-put_reply.ensures.goes
