@@ -9,7 +9,7 @@ use Rattle.net_base.specs.declared.plan.places.ServiceId.{ServiceId}
 use Rattle.net_base.specs.plan.Accepted.{IsChecked}
 use Rattle.net_base.specs.plan.Paths.{is_first, is_last, joins}
 use Rattle.net_base.specs.plan.Places.{is_mesh_class}
-use Rattle.net_base.specs.plan.Roles.{ends_at, is_spoke_edge, is_spoke_from, is_wire_of}
+use Rattle.net_base.specs.plan.Roles.{is_spoke_edge, is_spoke_from, is_wire_of, wire_ends_at}
 use Rattle.net_base.proofs.PathLemmas.{joins_turned}
 use Rattle.hvpls_spokes.specs.Port.{wire_port}
 use Rattle.edge_model.proofs.LocalLemmas.{and_left, and_right}
@@ -86,7 +86,7 @@ module _ (plan : Plan) (calm : NetworkState) (service : ServiceId) (circuit : Ci
       ]
 
   -- a copy that came by a mesh wire goes on by a spoke
-  pub from_mesh : (j : ℕ) (v : WirePlan) → slice_get plan.wires j ≡ Some v → is_mesh_class v.class ≡ true → ends_at service me v ≡ true
+  pub from_mesh : (j : ℕ) (v : WirePlan) → slice_get plan.wires j ≡ Some v → is_mesh_class v.class ≡ true → wire_ends_at service me v ≡ true
       → reach plan calm service me (wire_port j v) circuit ≡ true
       → is_mesh_class w.class ≡ false → reach plan calm service peer (wire_port k w) circuit ≡ true
   from_mesh j v came_is came_mesh ends reached spoke = reaches_on
@@ -131,7 +131,7 @@ module _ (plan : Plan) (calm : NetworkState) (service : ServiceId) (circuit : Ci
               (neither _ (is_spoke_edge plan service link.near.0) _ away not_home)
 
   -- one that came by a spoke goes on by another wire
-  pub from_spoke : (j : ℕ) (v : WirePlan) → slice_get plan.wires j ≡ Some v → is_mesh_class v.class ≡ false → ends_at service me v ≡ true
+  pub from_spoke : (j : ℕ) (v : WirePlan) → slice_get plan.wires j ≡ Some v → is_mesh_class v.class ≡ false → wire_ends_at service me v ≡ true
       → reach plan calm service me (wire_port j v) circuit ≡ true
       → nat_eq k j ≡ false → reach plan calm service peer (wire_port k w) circuit ≡ true
   from_spoke j v came_is came_spoke ends reached other = elim (sides_ended plan service v came me ends) [

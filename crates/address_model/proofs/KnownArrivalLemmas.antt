@@ -12,7 +12,7 @@ use Rattle.net_base.specs.declared.trace.drop_cause.DropCause.{DropCause}
 use Rattle.net_base.specs.declared.trace.entry.Entry.{Entry}
 use Rattle.net_base.specs.plan.Accepted.{IsChecked}
 use Rattle.net_base.specs.plan.Places.{mtu_of}
-use Rattle.net_base.specs.plan.Roles.{are_joined_by, ends_at, has_port}
+use Rattle.net_base.specs.plan.Roles.{are_joined_by, has_port, wire_ends_at}
 use Rattle.net_base.specs.trace.Frame.{destination_of}
 use Rattle.hvpls_spokes.specs.Port.{is_wire_port, ports_of}
 use Rattle.vsi_bridge.specs.Targets.{known_port}
@@ -83,7 +83,7 @@ module _ (plan : Plan) (calm network : NetworkState) (trace : List Entry) (servi
   placed : (network.edges packet.to.0).me ≡ packet.to
   placed = (ruled.edges packet.to.0).place
 
-  ends : ends_at service packet.to.0 copy.row ≡ true
+  ends : wire_ends_at service packet.to.0 copy.row ≡ true
   ends = ends_two service packet.from.0 packet.to.0 copy.row copy.of_service two copy.joined
 
   far : far_of packet.to.0 copy.row.path ≡ Some packet.from.0
@@ -163,7 +163,7 @@ module _ (plan : Plan) (calm network : NetworkState) (trace : List Entry) (servi
         let me : EdgeId = (network.edges packet.to.0).me in
         let back : packet.to ≡ me = sym placed in
         packet_serves plan (arrival.Wire packet.wire) calm (network.edges packet.to.0) service packet.wire copy.row target frame checked short calmed copy.is
-        (ap (λ (m : EdgeId). ends_at service m.0 copy.row) placed ∙ ends)
+        (ap (λ (m : EdgeId). wire_ends_at service m.0 copy.row) placed ∙ ends)
         (subst (λ (m : EdgeId). IsStillEdge (calm.edges m.0) (network.edges packet.to.0)) back (still.edges packet.to.0)) (site_of plan calm service target on)
         (subst (λ (m : EdgeId). m.0 < length plan.edges) back (carried_within plan network trace packet checked rule_here))
         (subst (λ (m : EdgeId). has_port plan service m.0 ≡ true) back (port_at plan service packet.to.0 packet.wire.0 copy.row copy.is ends))

@@ -11,7 +11,7 @@ use Rattle.net_base.specs.declared.plan.places.WireId.{WireId}
 use Rattle.net_base.specs.declared.trace.arrival.Arrival.{Arrival}
 use Rattle.net_base.specs.plan.Accepted.{IsChecked}
 use Rattle.net_base.specs.plan.Places.{circuit_row, wire_row}
-use Rattle.net_base.specs.plan.Roles.{ends_at, has_port, is_circuit_at}
+use Rattle.net_base.specs.plan.Roles.{has_port, is_circuit_at, wire_ends_at}
 use Rattle.hvpls_spokes.specs.declared.port.Port.{Port}
 use Rattle.hvpls_spokes.specs.declared.port.Port.TheVariants as port
 use Rattle.hvpls_spokes.specs.Port.{circuit_ports, is_wire_port, ports_of, wire_ports}
@@ -214,7 +214,7 @@ frame_serves plan came calm edge at target frame row checked short calmed is me 
 
 -- a frame that came by a wire
 pub packet_serves : (plan : Plan) (came : Arrival) (calm : NetworkState) (edge : EdgeState) (service : ServiceId) (wire : WireId) (w : WirePlan) (target : CircuitId) (frame : List ℕ)
-    → IsChecked plan → has_short_paths plan ≡ true → is_calm plan calm service ≡ true → wire_row plan wire ≡ Some w → ends_at service edge.me.0 w ≡ true → IsStillEdge (calm.edges edge.me.0) edge
+    → IsChecked plan → has_short_paths plan ≡ true → is_calm plan calm service ≡ true → wire_row plan wire ≡ Some w → wire_ends_at service edge.me.0 w ≡ true → IsStillEdge (calm.edges edge.me.0) edge
     → IsSiteOf plan calm service target → edge.me.0 < length plan.edges → has_port plan service edge.me.0 ≡ true
     → ((arrival q : ℕ) → position (is_wire_port wire) (ports_of plan service edge.me) ≡ Some arrival → known_port (addresses_of (hearing service frame arrival edge) service) (destination frame) ≡ Some q
     → LeadsToSite plan calm service target edge.me q)

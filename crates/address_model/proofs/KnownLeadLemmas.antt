@@ -19,7 +19,7 @@ use Rattle.hvpls_spokes.specs.declared.port.Port.{Port}
 use Rattle.hvpls_spokes.specs.declared.port.Port.TheVariants as port
 use Rattle.hvpls_spokes.specs.Port.{ports_of}
 use Rattle.hvpls_spokes.proofs.PortsLemmas.{IsServed, IsServedBy, IsWired, served_at}
-use Rattle.mac_table.specs.Addresses.{entry_of, is_of, port_of}
+use Rattle.mac_table.specs.Addresses.{is_of, mac_entry_of, port_of}
 use Rattle.mac_table.specs.declared.mac_entry.MacEntry.{MacEntry}
 use Rattle.mac_table.proofs.AddressLemmas.{address_of}
 use Rattle.vsi_bridge.specs.Targets.{known_port}
@@ -52,11 +52,11 @@ pub record LeadsToSite (plan : Plan) (network : NetworkState) (service : Service
 
 module _ (plan : Plan) (network : NetworkState) (service : ServiceId) (site : Sites) (edge : EdgeId) where
   entry_leads : (entries : List MacEntry) (station : Mac) (place : ℕ) → AllByRecursion (PointsToSite plan network service site edge.0) entries
-      → option_map (λ (e : MacEntry). e.port) (entry_of entries station) ≡ Some place → LeadsToSite plan network service (site station.0) edge place
+      → option_map (λ (e : MacEntry). e.port) (mac_entry_of entries station) ≡ Some place → LeadsToSite plan network service (site station.0) edge place
   entry_leads [] station place all known = absurd (cc (known))
   entry_leads (e ∷ es) station place all known = by (is_of station e) refl known (entry_leads es station place all.1) where
-    by : (b : Bool) → is_of station e ≡ b → option_map (λ (e : MacEntry). e.port) (cond b (Some e) (entry_of es station)) ≡ Some place
-        → (option_map (λ (e : MacEntry). e.port) (entry_of es station) ≡ Some place → LeadsToSite plan network service (site station.0) edge place) → LeadsToSite plan network service (site station.0) edge place
+    by : (b : Bool) → is_of station e ≡ b → option_map (λ (e : MacEntry). e.port) (cond b (Some e) (mac_entry_of es station)) ≡ Some place
+        → (option_map (λ (e : MacEntry). e.port) (mac_entry_of es station) ≡ Some place → LeadsToSite plan network service (site station.0) edge place) → LeadsToSite plan network service (site station.0) edge place
     by true here known later =
         let same : e.port ≡ place = cc (known) in
         record {

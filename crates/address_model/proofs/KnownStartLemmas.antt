@@ -26,7 +26,7 @@ use Rattle.network_model.specs.Calm.{has_live_spokes, is_calm, is_full, is_quiet
 use Rattle.network_model.specs.Frame.{entering, frame_event, frame_work, next_origin}
 use Rattle.network_model.specs.OnceEach.{times_left}
 use Rattle.network_model.specs.Reach.{is_site}
-use Rattle.network_model.specs.State.{NetworkState, at_edge, with_frame}
+use Rattle.network_model.specs.State.{NetworkState, edge_at, with_frame}
 use Rattle.network_model.proofs.AbsorbLemmas.{of_origin}
 use Rattle.network_model.proofs.PacketListLemmas.{both_hold, packets_of}
 use Rattle.flight_model.specs.Laws.{AreSettled}
@@ -53,7 +53,7 @@ module _ (plan : Plan) (calm network : NetworkState) (site : Sites) (at : Circui
     (checked : IsChecked plan) (short : has_short_paths plan ≡ true) (calmed : is_calm plan calm row.service ≡ true)
     (settled : (a b : ℕ) → are_joined_by plan row.service a b ≡ true → AreSettled plan calm a b) (sized : IsSized (mtu_of plan row.service) frame)
     (ruled : IsRuledNetwork plan network) (still : IsStill calm network)
-    (is : circuit_row plan at ≡ Some row) (on : is_on (at_edge network row.edge) at ≡ true) (formed : inner_at plan at octets ≡ Ok frame)
+    (is : circuit_row plan at ≡ Some row) (on : is_on (edge_at network row.edge) at ≡ true) (formed : inner_at plan at octets ≡ Ok frame)
     (receives : is_site plan calm row.service (site (destination_of frame)) ≡ true)
     (points : Points plan (frame_event plan at octets (Some row) network).state row.service site)
     (none_before : of_origin (next_origin network) network.under_way ≡ []) where
@@ -67,12 +67,12 @@ module _ (plan : Plan) (calm network : NetworkState) (site : Sites) (at : Circui
   work = frame_work plan network at octets row
 
   abbrev port : Option ℕ
-  port = port_at plan (at_edge network row.edge) at row
+  port = port_at plan (edge_at network row.edge) at row
 
   quiet : is_quiet plan calm row.service ≡ true
   quiet = and_left (is_quiet plan calm row.service) (is_full plan calm row.service) (and_left (is_quiet plan calm row.service && is_full plan calm row.service) (has_live_spokes plan calm row.service) calmed)
 
-  placed : (at_edge network row.edge).me ≡ row.edge
+  placed : (edge_at network row.edge).me ≡ row.edge
   placed = (ruled.edges row.edge.0).place
 
   own_service : nat_eq row.service.0 row.service.0 ≡ true
@@ -81,8 +81,8 @@ module _ (plan : Plan) (calm network : NetworkState) (site : Sites) (at : Circui
   -- its edge takes the frame
   taken : work ≡ received plan taken_all (arrival.Circuit at) row.service port (inner_at plan at octets) (begin_at network row.edge)
   taken =
-      let own : is_own (at_edge network row.edge) row ≡ true = eq-eqb row.edge.0 (at_edge network row.edge).me.0 (ap (λ (e : EdgeId). e.0) (sym placed)) in
-      let both : is_own (at_edge network row.edge) row && is_on (at_edge network row.edge) at ≡ true = rw (own, on) refl in
+      let own : is_own (edge_at network row.edge) row ≡ true = eq-eqb row.edge.0 (edge_at network row.edge).me.0 (ap (λ (e : EdgeId). e.0) (sym placed)) in
+      let both : is_own (edge_at network row.edge) row && is_on (edge_at network row.edge) at ≡ true = rw (own, on) refl in
       ap (λ (b : Bool). cond b (received plan taken_all (arrival.Circuit at) row.service port (inner_at plan at octets) (begin_at network row.edge)) (idles (begin_at network row.edge))) both
 
   bridged : work ≡ forwarded plan taken_all (arrival.Circuit at) row.service frame port (begin_at network row.edge)
@@ -98,7 +98,7 @@ module _ (plan : Plan) (calm network : NetworkState) (site : Sites) (at : Circui
   -- ---- what its copies serve
 
   -- the port that the bridge knows for the station leads to its site
-  leads : (from q : ℕ) → port ≡ Some from → known_port (addresses_of (hearing row.service frame from (at_edge network row.edge)) row.service) (destination frame) ≡ Some q
+  leads : (from q : ℕ) → port ≡ Some from → known_port (addresses_of (hearing row.service frame from (edge_at network row.edge)) row.service) (destination frame) ≡ Some q
       → LeadsToSite plan calm row.service target row.edge q
   leads from q there known =
       entering_leads plan calm network row.service site at octets row frame from q
@@ -118,12 +118,12 @@ module _ (plan : Plan) (calm network : NetworkState) (site : Sites) (at : Circui
 
   -- what a flood would serve
   abbrev flood : CircuitId → ℕ
-  flood circuit = cond (serves_here plan row.service (at_edge network row.edge) circuit && not (nat_eq circuit.0 at.0)) 1 0 + wires_due plan calm row.service circuit row.edge.0 None
+  flood circuit = cond (serves_here plan row.service (edge_at network row.edge) circuit && not (nat_eq circuit.0 at.0)) 1 0 + wires_due plan calm row.service circuit row.edge.0 None
 
   served : ServesAsFlood target flood (λ circuit. meets plan calm row.service circuit work.effects)
   served =
       subst (λ (w : Work). ServesAsFlood target flood (λ circuit. meets plan calm row.service circuit w.effects)) (sym bridged)
-      (frame_serves plan (arrival.Circuit at) calm (at_edge network row.edge) at target frame row checked short calmed is placed (still.edges row.edge.0) (site_of plan calm row.service target receives)
+      (frame_serves plan (arrival.Circuit at) calm (edge_at network row.edge) at target frame row checked short calmed is placed (still.edges row.edge.0) (site_of plan calm row.service target receives)
       (circuit_within plan at row checked is) (circuit_port plan row.service at row is own_service) leads)
 
   -- which is what is owed
@@ -132,9 +132,9 @@ module _ (plan : Plan) (calm network : NetworkState) (site : Sites) (at : Circui
       let there = site_of plan calm row.service circuit here in
       let none : due plan calm row.service circuit origin base ≡ 0 = ap (awaited plan calm row.service circuit) none_there in
       let law = entry_law plan calm row.service circuit at there.row row checked short calmed there.is there.of_service is own_service in
-      let one : cond {A = ℕ} (serves_here plan row.service (at_edge network row.edge) circuit && not (nat_eq circuit.0 at.0)) 1 0 ≡ cond (nat_eq there.row.edge.0 row.edge.0 && not (nat_eq circuit.0 at.0)) 1 0 =
+      let one : cond {A = ℕ} (serves_here plan row.service (edge_at network row.edge) circuit && not (nat_eq circuit.0 at.0)) 1 0 ≡ cond (nat_eq there.row.edge.0 row.edge.0 && not (nat_eq circuit.0 at.0)) 1 0 =
       ap (λ (b : Bool). cond {A = ℕ} (b && not (nat_eq circuit.0 at.0)) 1 0)
-      (site_serves plan calm row.service circuit (at_edge network row.edge) row.edge.0 there (ap (λ (m : EdgeId). m.0) placed) (still.edges row.edge.0)) in
+      (site_serves plan calm row.service circuit (edge_at network row.edge) row.edge.0 there (ap (λ (m : EdgeId). m.0) placed) (still.edges row.edge.0)) in
       omega (arith, none, one, law, owed_by (nat_eq there.row.edge.0 row.edge.0) (nat_eq circuit.0 at.0) (beside there.row there.is))
     where
       beside : (other : CircuitPlan) → circuit_row plan circuit ≡ Some other → nat_eq circuit.0 at.0 ≡ true → nat_eq other.edge.0 row.edge.0 ≡ true
@@ -144,18 +144,18 @@ module _ (plan : Plan) (calm network : NetworkState) (site : Sites) (at : Circui
           let equal : other ≡ row = cc (rows) in
           eq-eqb other.edge.0 row.edge.0 (ap (λ (r : CircuitPlan). r.edge.0) equal)
 
-  gives_copies : Floods plan (at_edge network row.edge) (arrival.Circuit at) row.service frame port work.effects
-  gives_copies = subst (λ (w : Work). Floods plan (at_edge network row.edge) (arrival.Circuit at) row.service frame port w.effects) (sym bridged) (floods plan (arrival.Circuit at) row.service frame port (at_edge network row.edge))
+  gives_copies : Floods plan (edge_at network row.edge) (arrival.Circuit at) row.service frame port work.effects
+  gives_copies = subst (λ (w : Work). Floods plan (edge_at network row.edge) (arrival.Circuit at) row.service frame port w.effects) (sym bridged) (floods plan (arrival.Circuit at) row.service frame port (edge_at network row.edge))
 
-  sends : (sent : ℕ) → Floods plan (at_edge network row.edge) (arrival.Circuit at) row.service frame port work.effects → AllByRecursion (IsNearCopy plan calm row.service frame) (packets_of row.edge origin 0 sent work.effects)
+  sends : (sent : ℕ) → Floods plan (edge_at network row.edge) (arrival.Circuit at) row.service frame port work.effects → AllByRecursion (IsNearCopy plan calm row.service frame) (packets_of row.edge origin 0 sent work.effects)
   sends sent (FloodsNot none) = subst (λ (es : List Effect). AllByRecursion (IsNearCopy plan calm row.service frame) (packets_of row.edge origin 0 sent es)) (sym none) tt
   sends sent (FloodsBy from found all) =
       both_hold (CarriesCopy plan calm row.service frame) (IsNear plan) (packets_of row.edge origin 0 sent work.effects)
       (copies_carry plan calm network row.edge origin 0 sent (arrival.Circuit at) row.service frame from work.effects checked ruled still quiet settled sized all)
-      (copies_near plan (at_edge network row.edge) row.edge origin 0 sent (arrival.Circuit at) row.service frame from work.effects
+      (copies_near plan (edge_at network row.edge) row.edge origin 0 sent (arrival.Circuit at) row.service frame from work.effects
       (λ peer wire of_arrival bytes copy r r_is. first_hop peer.0 r) all)
 
-  nowhere_else : (circuit : CircuitId) (other : NetworkState) → is_site plan calm row.service circuit ≡ false → Floods plan (at_edge network row.edge) (arrival.Circuit at) row.service frame port work.effects
+  nowhere_else : (circuit : CircuitId) (other : NetworkState) → is_site plan calm row.service circuit ≡ false → Floods plan (edge_at network row.edge) (arrival.Circuit at) row.service frame port work.effects
       → times_left origin circuit (all_entries_of row.edge origin 0 work.effects other) ≡ 0
   nowhere_else circuit other away (FloodsNot none) = ap (λ (es : List Effect). times_left origin circuit (all_entries_of row.edge origin 0 es other)) none
   nowhere_else circuit other away (FloodsBy from found all) =

@@ -7,7 +7,7 @@ use Rattle.net_base.specs.declared.plan.places.ServiceId.{ServiceId}
 use Rattle.net_base.specs.plan.Accepted.{IsChecked}
 use Rattle.net_base.specs.plan.Paths.{is_first, is_last, joins}
 use Rattle.net_base.specs.plan.Places.{is_mesh_class}
-use Rattle.net_base.specs.plan.Roles.{ends_at, is_spoke_edge, is_spoke_from, is_wire_of}
+use Rattle.net_base.specs.plan.Roles.{is_spoke_edge, is_spoke_from, is_wire_of, wire_ends_at}
 use Rattle.edge_model.proofs.LocalLemmas.{and_left, and_right}
 use Rattle.network_model.specs.Reach.{far_of}
 use Rattle.network_model.proofs.CalmLemmas.{any_at}
@@ -48,7 +48,7 @@ sides_joined plan w link me peer joined = by link.near.0 link.far.0 (rw link.pat
       last true q none is = absurd (cc (none))
 
 -- an edge where a wire ends is one of them
-pub sides_ended : (plan : Plan) (service : ServiceId) (w : WirePlan) (link : IsLink plan w) (me : ℕ) → ends_at service me w ≡ true
+pub sides_ended : (plan : Plan) (service : ServiceId) (w : WirePlan) (link : IsLink plan w) (me : ℕ) → wire_ends_at service me w ≡ true
     → (me ≡ link.near.0) ⊎ (me ≡ link.far.0)
 sides_ended plan service w link me ends = by link.near.0 link.far.0 (and_right _ _ (rw link.path at ends)) where
   by : (a b : ℕ) → nat_eq me a || nat_eq me b ≡ true → (me ≡ a) ⊎ (me ≡ b)
@@ -93,7 +93,7 @@ pub record HasMeshPeer (plan : Plan) (service : ServiceId) (v : WirePlan) (me : 
   pub apart : nat_eq me other ≡ false
 
 pub mesh_peer : (plan : Plan) (service : ServiceId) (j : ℕ) (v : WirePlan) (me : ℕ) → IsChecked plan → has_short_paths plan ≡ true → slice_get plan.wires j ≡ Some v
-    → is_mesh_class v.class ≡ true → ends_at service me v ≡ true → HasMeshPeer plan service v me
+    → is_mesh_class v.class ≡ true → wire_ends_at service me v ≡ true → HasMeshPeer plan service v me
 mesh_peer plan service j v me checked short is mesh ends = elim (sides_ended plan service v link me ends) [
   | inl near ↦ subst (HasMeshPeer plan service v) (sym near) (record {
     other = link.far.0;

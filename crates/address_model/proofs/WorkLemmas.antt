@@ -36,7 +36,7 @@ use Rattle.network_model.specs.Calm.{is_calm}
 use Rattle.network_model.specs.Frame.{frame_work}
 use Rattle.network_model.specs.Packet.{packet_work}
 use Rattle.network_model.specs.Reach.{is_circuit_of, reach}
-use Rattle.network_model.specs.State.{NetworkState, at_edge}
+use Rattle.network_model.specs.State.{NetworkState, edge_at}
 use Rattle.network_model.specs.Window.{carried}
 use Rattle.network_model.proofs.PacketListLemmas.{packets_of}
 use Rattle.flight_model.proofs.RuledNetworkLemmas.{IsRuledNetwork}
@@ -160,7 +160,7 @@ module _ (plan : Plan) (calm network : NetworkState) (service : ServiceId) (site
   })
 
   -- it came by its circuit
-  frame_behind : (frame : List ℕ) (p : ℕ) → inner_at plan circuit octets ≡ Ok frame → port_at plan (at_edge network row.edge) circuit row ≡ Some p
+  frame_behind : (frame : List ℕ) (p : ℕ) → inner_at plan circuit octets ≡ Ok frame → port_at plan (edge_at network row.edge) circuit row ≡ Some p
       → nat_eq row.service.0 service.0 ≡ true
       → ComesBehind plan calm service told row.edge origin frame p
   frame_behind frame p formed found same = record {
@@ -186,13 +186,13 @@ module _ (plan : Plan) (calm network : NetworkState) (service : ServiceId) (site
 
   -- where its edge takes it
   abbrev taken : Work
-  taken = received plan taken_all (arrival.Circuit circuit) row.service (port_at plan (at_edge network row.edge) circuit row) (inner_at plan circuit octets) (begin_at network row.edge)
+  taken = received plan taken_all (arrival.Circuit circuit) row.service (port_at plan (edge_at network row.edge) circuit row) (inner_at plan circuit octets) (begin_at network row.edge)
 
   pub frame_right : WorksRight plan calm service site told row.edge origin (frame_work plan network circuit octets row)
-  frame_right = by (is_own (at_edge network row.edge) row && is_on (at_edge network row.edge) circuit) where
+  frame_right = by (is_own (edge_at network row.edge) row && is_on (edge_at network row.edge) circuit) where
     by : (applies : Bool) → WorksRight plan calm service site told row.edge origin (cond applies taken (idles (begin_at network row.edge)))
     by true = right_received plan calm network service site told row.edge origin checked short calmed one ruled still before (arrival.Circuit circuit) row.service
-        (port_at plan (at_edge network row.edge) circuit row) (inner_at plan circuit octets) frame_sized frame_behind
+        (port_at plan (edge_at network row.edge) circuit row) (inner_at plan circuit octets) frame_sized frame_behind
     by false = right_idle plan calm network service site told row.edge origin checked short calmed one ruled still before
 
 -- ---- on a packet

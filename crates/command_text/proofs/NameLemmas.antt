@@ -12,7 +12,7 @@ use Rattle.std.specs.Str.{bytes_eq}
 use Rattle.std.specs.Cmp.Lexicographic.{nat_list_eq_equiv}
 use Rattle.net_base.specs.plan.Faults.{clash_after}
 use Rattle.net_base.proofs.ClashLemmas.{clash_passed}
-use Rattle.command_text.specs.Names.{place_in, Finds}
+use Rattle.command_text.specs.Names.{place_in, FindsNames}
 use denote.Ref.{Bor}
 
 -- the first place that passes, of places from i on
@@ -59,7 +59,7 @@ finds_more i j names x old new within next at finds updates = record {
 }
 
 -- all names
-pub finds_all : (i : ℕ) (names : List (List ℕ)) (entries : List (Bor (List ℕ) × ℕ)) → i ≤ 0 → FindsFrom i names entries → Finds names entries
+pub finds_all : (i : ℕ) (names : List (List ℕ)) (entries : List (Bor (List ℕ) × ℕ)) → i ≤ 0 → FindsFrom i names entries → FindsNames names entries
 finds_all zero names entries none finds = record { place = λ q. finds.place q ∙ place_from_start (bytes_eq q.now) names }
 finds_all (suc i) names entries none finds = absurd (omega arith)
 

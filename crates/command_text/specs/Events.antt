@@ -12,7 +12,7 @@ use Rattle.command_text.specs.declared.scenario_fault.ScenarioFault.TheVariants.
 use Rattle.command_text.specs.Reading.{◌>>=◌, checked, found}
 use Rattle.command_text.specs.Places.{place_at, top_row}
 use Rattle.command_text.specs.Names.{place_in}
-use Rattle.command_text.specs.Words.{word_at, first_word, said, ends, decimal_from, switch_of, some_word}
+use Rattle.command_text.specs.Words.{word_at, first_word, said_word, ends_before, decimal_from, switch_of, some_word}
 use Rattle.command_text.specs.Hex.{frame_of}
 
 -- the most events of a document
@@ -22,98 +22,98 @@ most_events = 100000
 -- connect E P
 unfoldable pub connect_in : PlanNames → ℕ → List ℕ → Result Event ScenarioFault
 connect_in names event text = do
-  from ← said (place_in names.edges) event 2 text
-  to ← said (place_in names.edges) event 3 text
-  end ← ends event 4 text
+  from ← said_word (place_in names.edges) event 2 text
+  to ← said_word (place_in names.edges) event 3 text
+  end ← ends_before event 4 text
   Ok (Connect (record { 0 = from }) (record { 0 = to }))
 
 -- deliver E P N
 unfoldable pub deliver_in : PlanNames → ℕ → List ℕ → Result Event ScenarioFault
 deliver_in names event text = do
-  from ← said (place_in names.edges) event 2 text
-  to ← said (place_in names.edges) event 3 text
-  count ← said (decimal_from 1 65535) event 4 text
-  end ← ends event 5 text
+  from ← said_word (place_in names.edges) event 2 text
+  to ← said_word (place_in names.edges) event 3 text
+  count ← said_word (decimal_from 1 65535) event 4 text
+  end ← ends_before event 5 text
   Ok (Deliver (record { 0 = from }) (record { 0 = to }) count)
 
 -- lose E P
 unfoldable pub lose_in : PlanNames → ℕ → List ℕ → Result Event ScenarioFault
 lose_in names event text = do
-  edge ← said (place_in names.edges) event 2 text
-  peer ← said (place_in names.edges) event 3 text
-  end ← ends event 4 text
+  edge ← said_word (place_in names.edges) event 2 text
+  peer ← said_word (place_in names.edges) event 3 text
+  end ← ends_before event 4 text
   Ok (Lose (record { 0 = edge }) (record { 0 = peer }))
 
 -- restart E
 unfoldable pub restart_in : PlanNames → ℕ → List ℕ → Result Event ScenarioFault
 restart_in names event text = do
-  edge ← said (place_in names.edges) event 2 text
-  end ← ends event 3 text
+  edge ← said_word (place_in names.edges) event 2 text
+  end ← ends_before event 3 text
   Ok (Restart (record { 0 = edge }))
 
 -- frame C HEX
-unfoldable pub frame_in : PlanNames → ℕ → List ℕ → Result Event ScenarioFault
-frame_in names event text = do
-  circuit ← said (place_in names.circuits) event 2 text
-  octets ← said frame_of event 3 text
-  end ← ends event 4 text
+unfoldable pub frame_event_in : PlanNames → ℕ → List ℕ → Result Event ScenarioFault
+frame_event_in names event text = do
+  circuit ← said_word (place_in names.circuits) event 2 text
+  octets ← said_word frame_of event 3 text
+  end ← ends_before event 4 text
   Ok (Frame (record { 0 = circuit }) octets)
 
 -- K, the number of a packet
 unfoldable pub packet_in : ℕ → List ℕ → Result ℕ ScenarioFault
 packet_in event text = do
-  packet ← said (decimal_from 1 (2 ^ 64 - 1)) event 2 text
-  end ← ends event 3 text
+  packet ← said_word (decimal_from 1 (2 ^ 64 - 1)) event 2 text
+  end ← ends_before event 3 text
   Ok packet
 
 -- wire E W on, wire E W off
 unfoldable pub wire_switch_in : PlanNames → ℕ → List ℕ → Result Event ScenarioFault
 wire_switch_in names event text = do
-  edge ← said (place_in names.edges) event 2 text
-  wire ← said (place_in names.wires) event 3 text
-  on ← said switch_of event 4 text
-  end ← ends event 5 text
+  edge ← said_word (place_in names.edges) event 2 text
+  wire ← said_word (place_in names.wires) event 3 text
+  on ← said_word switch_of event 4 text
+  end ← ends_before event 5 text
   Ok (Wire (record { 0 = edge }) (record { 0 = wire }) on)
 
 -- circuit C on, circuit C off
 unfoldable pub circuit_switch_in : PlanNames → ℕ → List ℕ → Result Event ScenarioFault
 circuit_switch_in names event text = do
-  circuit ← said (place_in names.circuits) event 2 text
-  on ← said switch_of event 3 text
-  end ← ends event 4 text
+  circuit ← said_word (place_in names.circuits) event 2 text
+  on ← said_word switch_of event 3 text
+  end ← ends_before event 4 text
   Ok (Circuit (record { 0 = circuit }) on)
 
 -- status E W N
 unfoldable pub status_in : PlanNames → ℕ → List ℕ → Result Event ScenarioFault
 status_in names event text = do
-  edge ← said (place_in names.edges) event 2 text
-  wire ← said (place_in names.wires) event 3 text
-  bits ← said (decimal_from 0 31) event 4 text
-  end ← ends event 5 text
+  edge ← said_word (place_in names.edges) event 2 text
+  wire ← said_word (place_in names.wires) event 3 text
+  bits ← said_word (decimal_from 0 31) event 4 text
+  end ← ends_before event 5 text
   Ok (Status (record { 0 = edge }) (record { 0 = wire }) bits)
 
 -- priority E W N
-unfoldable pub priority_in : PlanNames → ℕ → List ℕ → Result Event ScenarioFault
-priority_in names event text = do
-  edge ← said (place_in names.edges) event 2 text
-  wire ← said (place_in names.wires) event 3 text
-  priority ← said (decimal_from 0 255) event 4 text
-  end ← ends event 5 text
+unfoldable pub priority_event_in : PlanNames → ℕ → List ℕ → Result Event ScenarioFault
+priority_event_in names event text = do
+  edge ← said_word (place_in names.edges) event 2 text
+  wire ← said_word (place_in names.wires) event 3 text
+  priority ← said_word (decimal_from 0 255) event 4 text
+  end ← ends_before event 5 text
   Ok (Priority (record { 0 = edge }) (record { 0 = wire }) priority)
 
 -- ping E W
 unfoldable pub ping_in : PlanNames → ℕ → List ℕ → Result Event ScenarioFault
 ping_in names event text = do
-  edge ← said (place_in names.edges) event 2 text
-  wire ← said (place_in names.wires) event 3 text
-  end ← ends event 4 text
+  edge ← said_word (place_in names.edges) event 2 text
+  wire ← said_word (place_in names.wires) event 3 text
+  end ← ends_before event 4 text
   Ok (Ping (record { 0 = edge }) (record { 0 = wire }))
 
 -- N of settle, flow and tick
 unfoldable pub repeats_in : ℕ → List ℕ → Result ℕ ScenarioFault
 repeats_in event text = do
-  count ← said (decimal_from 1 10000) event 2 text
-  end ← ends event 3 text
+  count ← said_word (decimal_from 1 10000) event 2 text
+  end ← ends_before event 3 text
   Ok count
 
 -- tick alone, or tick N
@@ -124,9 +124,9 @@ tick_in event text = if is_some (word_at 2 text) then repeats_in event text >>= 
 unfoldable pub play_in : PlanNames → ℕ → ℕ → List ℕ → Result Command ScenarioFault
 play_in names event plays text = do
   few ← checked (BadWord event 1) (nat_lt plays 4)
-  circuit ← said (place_in names.circuits) event 2 text
-  file ← said some_word event 3 text
-  end ← ends event 4 text
+  circuit ← said_word (place_in names.circuits) event 2 text
+  file ← said_word some_word event 3 text
+  end ← ends_before event 4 text
   Ok (Play (record { 0 = circuit }) file)
 
 -- one event
@@ -142,23 +142,23 @@ many_of names event plays word text =
     else Err (BadWord event 1)
 
 -- or one that names a part of the plan
-unfoldable pub part_of : PlanNames → ℕ → ℕ → List ℕ → List ℕ → Result Command ScenarioFault
-part_of names event plays word text =
+unfoldable pub part_command : PlanNames → ℕ → ℕ → List ℕ → List ℕ → Result Command ScenarioFault
+part_command names event plays word text =
     if bytes_eq word (codes "wire") then one (wire_switch_in names event text)
     else if bytes_eq word (codes "circuit") then one (circuit_switch_in names event text)
     else if bytes_eq word (codes "status") then one (status_in names event text)
-    else if bytes_eq word (codes "priority") then one (priority_in names event text)
+    else if bytes_eq word (codes "priority") then one (priority_event_in names event text)
     else if bytes_eq word (codes "ping") then one (ping_in names event text)
     else many_of names event plays word text
 
 -- or one that speaks of a frame or a packet
-unfoldable pub packet_of : PlanNames → ℕ → ℕ → List ℕ → List ℕ → Result Command ScenarioFault
-packet_of names event plays word text =
-    if bytes_eq word (codes "frame") then one (frame_in names event text)
+unfoldable pub packet_command : PlanNames → ℕ → ℕ → List ℕ → List ℕ → Result Command ScenarioFault
+packet_command names event plays word text =
+    if bytes_eq word (codes "frame") then one (frame_event_in names event text)
     else if bytes_eq word (codes "arrive") then packet_in event text >>= (λ packet. Ok (One (Arrive packet)))
     else if bytes_eq word (codes "drop") then packet_in event text >>= (λ packet. Ok (One (Discard packet)))
     else if bytes_eq word (codes "again") then packet_in event text >>= (λ packet. Ok (One (Again packet)))
-    else part_of names event plays word text
+    else part_command names event plays word text
 
 -- or one that speaks of connections or of time
 unfoldable pub command_of : PlanNames → ℕ → ℕ → List ℕ → List ℕ → Result Command ScenarioFault
@@ -168,7 +168,7 @@ command_of names event plays word text =
     else if bytes_eq word (codes "lose") then one (lose_in names event text)
     else if bytes_eq word (codes "restart") then one (restart_in names event text)
     else if bytes_eq word (codes "tick") then tick_in event text
-    else packet_of names event plays word text
+    else packet_command names event plays word text
 
 -- the command that a text is, after so many commands `play`
 abbrev pub command_in : PlanNames → ℕ → ℕ → List ℕ → Result Command ScenarioFault

@@ -11,7 +11,7 @@ abbrev pub place_in : List (List ℕ) → List ℕ → Option ℕ
 place_in names name = position (bytes_eq name) names
 
 -- the entries give each name its place
-pub record Finds (names : List (List ℕ)) (entries : List (Bor (List ℕ) × ℕ)) : Type 0 where
+pub record FindsNames (names : List (List ℕ)) (entries : List (Bor (List ℕ) × ℕ)) : Type 0 where
   pub place : (name : Bor (List ℕ)) → lookup (λ k. bytes_eq name.now k.now) entries ≡ place_in names name.now
 
 -- each name stands once

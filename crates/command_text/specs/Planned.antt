@@ -32,5 +32,5 @@ IsPlanned plan command = IsInRows (length plan.edges) (length plan.circuits) (le
 abbrev pub IsAmong : PlanNames → Event → Type 0
 IsAmong names event = IsInPlan (length names.edges) (length names.circuits) (length names.wires) event
 
-abbrev pub IsNamed : PlanNames → Command → Type 0
-IsNamed names command = IsInRows (length names.edges) (length names.circuits) (length names.wires) command
+abbrev pub IsInPlanNames : PlanNames → Command → Type 0
+IsInPlanNames names command = IsInRows (length names.edges) (length names.circuits) (length names.wires) command

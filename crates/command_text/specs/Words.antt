@@ -27,12 +27,12 @@ unfoldable pub word_at : ℕ → List ℕ → Option (List ℕ)
 word_at number text = word_after (number - 1) text
 
 -- what the word of this number says
-abbrev pub said : {A : Type 0} → (List ℕ → Option A) → ℕ → ℕ → List ℕ → Result A ScenarioFault
-said reader event number text = found (BadWord event number) (option_and_then reader (word_at number text))
+abbrev pub said_word : {A : Type 0} → (List ℕ → Option A) → ℕ → ℕ → List ℕ → Result A ScenarioFault
+said_word reader event number text = found (BadWord event number) (option_and_then reader (word_at number text))
 
 -- no word of this number
-abbrev pub ends : ℕ → ℕ → List ℕ → Result Bool ScenarioFault
-ends event number text = checked (BadWord event number) (not (is_some (word_at number text)))
+abbrev pub ends_before : ℕ → ℕ → List ℕ → Result Bool ScenarioFault
+ends_before event number text = checked (BadWord event number) (not (is_some (word_at number text)))
 
 abbrev pub is_digit_of : ℕ → Bool
 is_digit_of octet = nat_le 48 octet && nat_le octet 57

@@ -3,9 +3,9 @@ ghost use Rattle.std.specs.Prelude.{◌≡◌, ◌≤◌, ◌+◌, length, IfOk}
 ghost use Rattle.std.specs.List.{All};
 ghost use Rattle.toml.specs.View.{view, items_view};
 ghost use Rattle.command_text.specs.declared.plan_names.PlanNames.{PlanNames};
-ghost use Rattle.command_text.specs.Events.{most_events, repeats_in, tick_in, play_in, one, many_of, part_of, packet_of, command_of, command_in, event_in, plays_after, commands_in};
+ghost use Rattle.command_text.specs.Events.{most_events, repeats_in, tick_in, play_in, one, many_of, part_command, packet_command, command_of, command_in, event_in, plays_after, commands_in};
 ghost use Rattle.command_text.specs.Reading.{Gives};
-ghost use Rattle.command_text.specs.Planned.{IsCount, IsAmong, IsNamed};
+ghost use Rattle.command_text.specs.Planned.{IsCount, IsAmong, IsInPlanNames};
 
 use crate::event_place::EventPlace;
 use crate::events::{
@@ -37,7 +37,7 @@ fn repeats(event: u32, text: &str) -> Result<u32, ScenarioFault>
 // `tick` and `tick N`.
 fn tick(names: &PlanNames<'_>, event: u32, text: &str) -> Result<Command, ScenarioFault>
     ensures exact { result ≡ tick_in event text.now }
-    ensures named { IfOk result (IsNamed names.now) }
+    ensures named { IfOk result (IsInPlanNames names.now) }
 {
     match word(text, 2) {
         Some(_) => Ok(Command::Ticks(repeats(event, text)?)),
@@ -54,7 +54,7 @@ fn play(
     text: &str,
 ) -> Result<Command, ScenarioFault>
     ensures exact { Gives result (play_in names.now place.event place.plays text.now) }
-    ensures named { IfOk result (IsNamed names.now) }
+    ensures named { IfOk result (IsInPlanNames names.now) }
 {
     if place.plays >= 4 {
         return Err(bad_word(place.event, 1));
@@ -68,7 +68,7 @@ fn play(
 // The command of one event.
 fn one_event(read: Result<Event, ScenarioFault>) -> Result<Command, ScenarioFault>
     ensures exact { result ≡ one read }
-    ensures named { (names : PlanNames) → IfOk read (IsAmong names) → IfOk result (IsNamed names) }
+    ensures named { (names : PlanNames) → IfOk read (IsAmong names) → IfOk result (IsInPlanNames names) }
 {
     match read {
         Ok(event) => Ok(Command::One(event)),
@@ -86,7 +86,7 @@ fn many_of_word(
     text: &str,
 ) -> Result<Command, ScenarioFault>
     ensures exact { Gives result (many_of names.now place.event place.plays word.now text.now) }
-    ensures named { IfOk result (IsNamed names.now) }
+    ensures named { IfOk result (IsInPlanNames names.now) }
 {
     match word {
         "settle" => Ok(Command::Settle(repeats(place.event, text)?)),
@@ -97,7 +97,7 @@ fn many_of_word(
 }
 
 // The command of a first word that names a part of the plan, or of a later group.
-#[tactic(auto, unfolding(crate::specs::Events::part_of))]
+#[tactic(auto, unfolding(crate::specs::Events::part_command))]
 fn part_of_word(
     alloc: Global,
     names: &PlanNames<'_>,
@@ -105,8 +105,8 @@ fn part_of_word(
     word: &str,
     text: &str,
 ) -> Result<Command, ScenarioFault>
-    ensures exact { Gives result (part_of names.now place.event place.plays word.now text.now) }
-    ensures named { IfOk result (IsNamed names.now) }
+    ensures exact { Gives result (part_command names.now place.event place.plays word.now text.now) }
+    ensures named { IfOk result (IsInPlanNames names.now) }
 {
     match word {
         "wire" => one_event(wire_switch(names, place.event, text)),
@@ -119,7 +119,7 @@ fn part_of_word(
 }
 
 // The command of a first word that speaks of a frame or a packet, or of a later group.
-#[tactic(auto, unfolding(crate::specs::Events::packet_of))]
+#[tactic(auto, unfolding(crate::specs::Events::packet_command))]
 fn packet_of_word(
     alloc: Global,
     names: &PlanNames<'_>,
@@ -127,8 +127,8 @@ fn packet_of_word(
     word: &str,
     text: &str,
 ) -> Result<Command, ScenarioFault>
-    ensures exact { Gives result (packet_of names.now place.event place.plays word.now text.now) }
-    ensures named { IfOk result (IsNamed names.now) }
+    ensures exact { Gives result (packet_command names.now place.event place.plays word.now text.now) }
+    ensures named { IfOk result (IsInPlanNames names.now) }
 {
     match word {
         "frame" => Ok(Command::One(frame(alloc, names, place.event, text)?)),
@@ -156,7 +156,7 @@ fn command_of_word(
     text: &str,
 ) -> Result<Command, ScenarioFault>
     ensures exact { Gives result (command_of names.now place.event place.plays word.now text.now) }
-    ensures named { IfOk result (IsNamed names.now) }
+    ensures named { IfOk result (IsInPlanNames names.now) }
 {
     match word {
         "connect" => one_event(connect(names, place.event, text)),
@@ -176,7 +176,7 @@ fn item(
     value: &Value,
 ) -> Result<Command, ScenarioFault>
     ensures exact { Gives result (event_in names.now place.event place.plays (view value.now)) }
-    ensures named { IfOk result (IsNamed names.now) }
+    ensures named { IfOk result (IsInPlanNames names.now) }
 {
     match value.as_str() {
         Some(text) => command_of_word(alloc, names, place, first(text), text),
@@ -206,7 +206,7 @@ pub fn read_commands(
     requires { length array.now ≤ most_events }
     ensures exact { Gives result (commands_in names.now 1 0 (items_view array.now)) }
     ensures many { IfOk result (λ commands. length commands ≡ length array.now) }
-    ensures named { IfOk result (λ commands. All (IsNamed names.now) commands) }
+    ensures named { IfOk result (λ commands. All (IsInPlanNames names.now) commands) }
 {
     let mut commands = List::new(alloc);
     let mut plays = 0;

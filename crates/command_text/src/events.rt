@@ -1,6 +1,6 @@
 //! The events of a document.
 ghost use Rattle.std.specs.Prelude.{◌≡◌, ◌≤◌, length, IfOk};
-ghost use Rattle.command_text.specs.Events.{connect_in, deliver_in, lose_in, restart_in, frame_in, packet_in, wire_switch_in, circuit_switch_in, status_in, priority_in, ping_in};
+ghost use Rattle.command_text.specs.Events.{connect_in, deliver_in, lose_in, restart_in, frame_event_in, packet_in, wire_switch_in, circuit_switch_in, status_in, priority_event_in, ping_in};
 ghost use Rattle.command_text.specs.Reading.{Gives};
 ghost use Rattle.command_text.specs.Planned.{IsAmong};
 
@@ -72,14 +72,14 @@ pub fn restart(names: &PlanNames<'_>, event: u32, text: &str) -> Result<Event, S
 }
 
 /// `frame C HEX`, with 1 to 9216 octets. These are long, so the text is walked once.
-#[tactic(auto, unfolding(crate::specs::Events::frame_in))]
+#[tactic(auto, unfolding(crate::specs::Events::frame_event_in))]
 pub fn frame(
     alloc: Global,
     names: &PlanNames<'_>,
     event: u32,
     text: &str,
 ) -> Result<Event, ScenarioFault>
-    ensures exact { Gives result (frame_in names.now event text.now) }
+    ensures exact { Gives result (frame_event_in names.now event text.now) }
     ensures among { IfOk result (IsAmong names.now) }
 {
     let (second, third, fourth) = second_and_third(text);
@@ -154,9 +154,9 @@ pub fn status(names: &PlanNames<'_>, event: u32, text: &str) -> Result<Event, Sc
 }
 
 /// `priority E W N`, with N from 0 to 255.
-#[tactic(auto, unfolding(crate::specs::Events::priority_in))]
+#[tactic(auto, unfolding(crate::specs::Events::priority_event_in))]
 pub fn priority(names: &PlanNames<'_>, event: u32, text: &str) -> Result<Event, ScenarioFault>
-    ensures exact { result ≡ priority_in names.now event text.now }
+    ensures exact { result ≡ priority_event_in names.now event text.now }
     ensures among { IfOk result (IsAmong names.now) }
 {
     let edge = name_word(&names.edges, event, 2, text)?;

@@ -2,7 +2,7 @@
 ghost use Rattle.std.specs.Prelude.{◌≡◌, ◌<◌, ◌≤◌, [], not, length, take, get_or, IfOk, IfSome};
 ghost use Rattle.std.specs.List.{list_any};
 ghost use Rattle.std.specs.Str.{bytes_eq};
-ghost use Rattle.command_text.specs.Names.{place_in, are_distinct, Finds};
+ghost use Rattle.command_text.specs.Names.{place_in, are_distinct, FindsNames};
 
 use indexmap::IndexMap;
 use net_base::{Name, NoMemory};
@@ -19,13 +19,13 @@ pub struct NameIndex<'a> {
 
 impl<'a> Model for NameIndex<'a> {
     ghost use Rattle.std.specs.Prelude.{List, ℕ};
-    ghost use Rattle.command_text.specs.Names.{Finds};
+    ghost use Rattle.command_text.specs.Names.{FindsNames};
 
     ghost Value = { List (List ℕ) };
 
     ghost view = { λ i. i.names.now };
 
-    ghost invariant = { λ i. Finds i.names.now i.places.entries };
+    ghost invariant = { λ i. FindsNames i.names.now i.places.entries };
 }
 
 impl<'a> NameIndex<'a> {
@@ -67,7 +67,7 @@ impl<'a> NameIndex<'a> {
 // The first place of each name. A later place is put in first, and gives way.
 fn places_of<'a>(alloc: Global, names: &'a [Name]) -> Result<IndexMap<&'a [u8], u16>, NoMemory>
     requires { length names.now ≤ 1664 }
-    ensures { IfOk result (λ places. Finds names.now places.entries) }
+    ensures { IfOk result (λ places. FindsNames names.now places.entries) }
 {
     let mut places = IndexMap::with_capacity(alloc, names.len())?;
     let mut at = names.len();
@@ -80,7 +80,7 @@ fn places_of<'a>(alloc: Global, names: &'a [Name]) -> Result<IndexMap<&'a [u8], 
 
 // Whether each name stands once, where the map gives each its first place.
 fn stand_once(names: &[Name], places: &IndexMap<&[u8], u16>) -> bool
-    requires { Finds names.now places.now.entries }
+    requires { FindsNames names.now places.now.entries }
     ensures { result ≡ are_distinct names.now }
 {
     for (at, _name) in names.iter().enumerate() {
@@ -93,7 +93,7 @@ fn stand_once(names: &[Name], places: &IndexMap<&[u8], u16>) -> bool
 
 // Whether the name at a place stands nowhere before it.
 fn is_first(names: &[Name], places: &IndexMap<&[u8], u16>, at: usize) -> bool
-    requires finds { Finds names.now places.now.entries }
+    requires finds { FindsNames names.now places.now.entries }
     requires within { at < length names.now }
     ensures { result ≡ not (list_any (λ old. bytes_eq old (get_or names.now at [])) (take at names.now)) }
 {

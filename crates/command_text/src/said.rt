@@ -4,7 +4,7 @@ ghost use Rattle.command_text.specs.Hex.{frame_of, of_frame_size};
 ghost use Rattle.command_text.specs.Names.{place_in};
 ghost use Rattle.command_text.specs.Reading.{Gives, MapsTo, checked, found};
 ghost use Rattle.net_base.specs.plan.Planned.{IsFrame};
-ghost use Rattle.command_text.specs.Words.{said, ends, decimal_from, switch_of, some_word};
+ghost use Rattle.command_text.specs.Words.{said_word, ends_before, decimal_from, switch_of, some_word};
 
 use crate::ScenarioFault;
 use crate::decimal::decimal;
@@ -52,7 +52,7 @@ pub fn name_word(
     text: &str,
 ) -> Result<u16, ScenarioFault>
     requires { 1 ≤ number }
-    ensures exact { result ≡ said (place_in names.now) event number text.now }
+    ensures exact { result ≡ said_word (place_in names.now) event number text.now }
     ensures within { IfOk result (λ place. place < length names.now) }
 {
     word_place(names, event, number, word(text, number))
@@ -67,7 +67,7 @@ pub fn number_word(
     text: &str,
 ) -> Result<u64, ScenarioFault>
     requires { 1 ≤ number }
-    ensures exact { result ≡ said (decimal_from low high) event number text.now }
+    ensures exact { result ≡ said_word (decimal_from low high) event number text.now }
     ensures within { IfOk result (λ n. (low ≤ n) × (n ≤ high)) }
 {
     match word(text, number) {
@@ -95,7 +95,7 @@ fn switch(word: &str) -> Option<bool>
 /// Whether a word is `on`; it is `on` or `off`.
 pub fn switch_word(event: u32, number: u32, text: &str) -> Result<bool, ScenarioFault>
     requires { 1 ≤ number }
-    ensures { result ≡ said switch_of event number text.now }
+    ensures { result ≡ said_word switch_of event number text.now }
 {
     match word(text, number) {
         Some(word) => match switch(word) {
@@ -157,7 +157,7 @@ fn nonempty(word: &str) -> Option<&str>
 /// The name of a file, a word that is not empty.
 pub fn file_word(alloc: Global, event: u32, number: u32, text: &str) -> Result<Word, ScenarioFault>
     requires { 1 ≤ number }
-    ensures { Gives result (said some_word event number text.now) }
+    ensures { Gives result (said_word some_word event number text.now) }
 {
     match word(text, number) {
         Some(word) => match nonempty(word) {
@@ -181,7 +181,7 @@ pub fn no_more(event: u32, number: u32, more: bool) -> Result<(), ScenarioFault>
 /// Refuses a word of this number.
 pub fn no_word(event: u32, number: u32, text: &str) -> Result<(), ScenarioFault>
     requires { 1 ≤ number }
-    ensures { MapsTo (λ _. true) result (ends event number text.now) }
+    ensures { MapsTo (λ _. true) result (ends_before event number text.now) }
 {
     no_more(event, number, word(text, number).is_some())
 }

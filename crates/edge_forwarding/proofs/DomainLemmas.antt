@@ -10,7 +10,8 @@ use Rattle.edge_forwarding.specs.declared.domain.Domain.{Domain}
 use Rattle.hvpls_spokes.specs.declared.port.Port.{Port}
 use Rattle.mac_table.specs.declared.mac_entry.MacEntry.{MacEntry}
 use Rattle.edge_model.specs.State.{without_port}
-use Rattle.edge_forwarding.specs.Domain.{AreClosed, AreNew, IsKeptClosed, IsNew, forgot_domain, is_wire}
+use Rattle.edge_forwarding.specs.Domain.{AreClosed, AreNew, IsKeptClosed, IsNew, forgot_domain}
+use Rattle.hvpls_spokes.specs.Port.{is_wire}
 use Rattle.edge_forwarding.proofs.EachLemmas.{before_push, long_push, past_push}
 use Rattle.edge_forwarding.proofs.Views.{past_end, same_read, view_at}
 

@@ -19,9 +19,9 @@ use Rattle.net_values.specs.declared.mac.Mac.{Mac}
 use Rattle.net_base.specs.plan.Accepted.{IsChecked, IsCircuitOf, IsWireOf}
 use Rattle.net_base.specs.plan.Places.{circuit_row, service_row, wire_row}
 use Rattle.hvpls_spokes.specs.declared.port.Port.{Port}
-use Rattle.hvpls_spokes.specs.Port.{is_circuit_port, is_wire_port, ports_of}
+use Rattle.hvpls_spokes.specs.Port.{is_circuit_port, is_wire_port, ports_of, is_wire}
 use Rattle.hvpls_spokes.specs.PortSet.{has}
-use Rattle.mac_table.specs.Addresses.{NoneAfter, is_young, stays}
+use Rattle.mac_table.specs.Addresses.{NoneAfter, entry_stays, is_young}
 use Rattle.mac_table.specs.declared.mac_entry.MacEntry.{MacEntry}
 use Rattle.mac_table.proofs.AddressLemmas.{none_after_filtered, none_after_later}
 use Rattle.vsi_bridge.specs.BridgeState.{BridgeState}
@@ -33,7 +33,7 @@ use Rattle.edge_model.specs.Mend.{forgetting_wire}
 use Rattle.edge_model.specs.State.{EdgeState, addresses_of, put_at, with_addresses, with_circuit, with_learned, with_ticks, with_told_down, without_port}
 use Rattle.edge_model.specs.Tick.{aged, forgetting}
 use Rattle.edge_forwarding.specs.declared.domain.Domain.{Domain}
-use Rattle.edge_forwarding.specs.Domain.{AreClosed, AreNew, IsDomain, IsKept, IsKeptClosed, IsKeptTurned, IsNew, KeptNotAfter, age_of, aged_kept, all_on, cleared_kept, forgot_kept, is_found, is_wire, nothing_told, port_opens, withdrawn_kept}
+use Rattle.edge_forwarding.specs.Domain.{AreClosed, AreNew, IsDomain, IsDomainKept, IsKeptClosed, IsKeptTurned, IsNew, KeptNotAfter, age_of, aged_kept, all_on, cleared_kept, forgot_kept, is_found, nothing_told, port_opens, withdrawn_kept}
 use Rattle.edge_forwarding.specs.Forwarding.{ForwardingLists, IsForwarding, IsNewForwarding, circuits_in, domain_of, entries_of, forgotten, open_ports, opened_forwarding, own_service, told_in, with_forwarding, without_told}
 use Rattle.edge_forwarding.specs.Views.{view}
 use Rattle.edge_forwarding.proofs.OpenLemmas.{closed_port, opens_within, same_tests, told_elsewhere, told_ports, turned_elsewhere, turned_ports}
@@ -60,7 +60,7 @@ read_is : (f : ForwardingLists) (service : ServiceId) (kept : Option Domain) →
 read_is f service kept was = same_read f.domains service.0 None kept (place_of f service was.is was.within) ∙ sym was.read
 
 abbrev pub IsKeptIn : ForwardingLists → ServiceId → Option Domain → Type 0
-IsKeptIn f service kept = IsKept f.plan f.me (circuits_in f) (told_in f) f.ticks service kept
+IsKeptIn f service kept = IsDomainKept f.plan f.me (circuits_in f) (told_in f) f.ticks service kept
 
 pub the_kept : (f : ForwardingLists) (service : ServiceId) (kept : Option Domain) → WasRead f service kept → IsKeptIn f service kept
 the_kept f service kept was = subst (IsKeptIn f service) (read_is f service kept was) (was.is.domains service.0 was.within)
@@ -178,7 +178,7 @@ none_after_port : (now : ℕ) (found : Option ℕ) (entries : List MacEntry) →
 none_after_port now None entries none = none
 none_after_port now (Some p) entries none = none_after_filtered (λ e. not (nat_eq e.port p)) now entries _ none refl
 
-kept_forgot : (plan : Plan) (me : EdgeId) (on : ℕ → Bool) (told : ℕ → Option Down) (ticks : ℕ) (service : ServiceId) (test : Port → Bool) (kept : Option Domain) → IsKept plan me on told ticks service kept → IsKept plan me on told ticks service (forgot_kept test kept)
+kept_forgot : (plan : Plan) (me : EdgeId) (on : ℕ → Bool) (told : ℕ → Option Down) (ticks : ℕ) (service : ServiceId) (test : Port → Bool) (kept : Option Domain) → IsDomainKept plan me on told ticks service kept → IsDomainKept plan me on told ticks service (forgot_kept test kept)
 kept_forgot plan me on told ticks service test None is = is
 kept_forgot plan me on told ticks service test (Some domain) is = record {
   ports = is.ports;
@@ -192,7 +192,7 @@ nothing_forgot : (found : Option ℕ) → without_port found [] ≡ []
 nothing_forgot None = refl
 nothing_forgot (Some p) = refl
 
-entries_forgot : (plan : Plan) (me : EdgeId) (on : ℕ → Bool) (told : ℕ → Option Down) (ticks : ℕ) (service : ServiceId) (test : Port → Bool) (kept : Option Domain) → IsKept plan me on told ticks service kept
+entries_forgot : (plan : Plan) (me : EdgeId) (on : ℕ → Bool) (told : ℕ → Option Down) (ticks : ℕ) (service : ServiceId) (test : Port → Bool) (kept : Option Domain) → IsDomainKept plan me on told ticks service kept
     → entries_of (forgot_kept test kept) ≡ without_port (position test (ports_of plan service me)) (entries_of kept)
 entries_forgot plan me on told ticks service test None is = sym (nothing_forgot (position test (ports_of plan service me)))
 entries_forgot plan me on told ticks service test (Some domain) is = ap (λ (ports : List Port). without_port (position test ports) domain.bridge.entries) is.ports
@@ -224,17 +224,17 @@ wire_forgot f service wire row after edge at of is_now =
 -- ---- what a MAC withdraw names is forgotten
 
 kept_withdrew : (plan : Plan) (me : EdgeId) (on : ℕ → Bool) (told : ℕ → Option Down) (ticks : ℕ) (service : ServiceId) (from : ℕ) (addresses : List Mac) (kept : Option Domain)
-    → IsKept plan me on told ticks service kept → IsKept plan me on told ticks service (withdrawn_kept from addresses kept)
+    → IsDomainKept plan me on told ticks service kept → IsDomainKept plan me on told ticks service (withdrawn_kept from addresses kept)
 kept_withdrew plan me on told ticks service from addresses None is = is
 kept_withdrew plan me on told ticks service from addresses (Some domain) is = record {
   ports = is.ports;
   some = is.some;
   age = is.age;
   forwarding = is.forwarding;
-  ticks = none_after_filtered (stays from addresses) ticks domain.bridge.entries _ is.ticks refl;
+  ticks = none_after_filtered (entry_stays from addresses) ticks domain.bridge.entries _ is.ticks refl;
 }
 
-entries_withdrew : (from : ℕ) (addresses : List Mac) (kept : Option Domain) → entries_of (withdrawn_kept from addresses kept) ≡ filter (stays from addresses) (entries_of kept)
+entries_withdrew : (from : ℕ) (addresses : List Mac) (kept : Option Domain) → entries_of (withdrawn_kept from addresses kept) ≡ filter (entry_stays from addresses) (entries_of kept)
 entries_withdrew from addresses None = refl
 entries_withdrew from addresses (Some domain) = refl
 
@@ -250,7 +250,7 @@ withdrew_seen f service from addresses kept after edge was is =
     ∙ ap (λ (es : List MacEntry). with_addresses service es (with_forwarding f edge))
     (ap entries_of is
     ∙ (entries_withdrew from addresses kept
-    ∙ ap (filter (stays from addresses)) (sym (learned_in f service edge ∙ ap entries_of (read_is f service kept was)))))
+    ∙ ap (filter (entry_stays from addresses)) (sym (learned_in f service edge ∙ ap entries_of (read_is f service kept was)))))
 
 -- ---- a circuit is turned
 
@@ -269,7 +269,7 @@ same_learned f service kept after was same k = ap entries_of (view_at None f.dom
 -- the domain whose port is turned, where the port that is found is the one that is turned
 kept_turned : (plan : Plan) (me : EdgeId) (on next : ℕ → Bool) (told then : ℕ → Option Down) (ticks : ℕ) (service : ServiceId) (test : Port → Bool) (turned : Bool) (kept after : Option Domain)
     → ((p : ℕ) → cond (is_found (position test (ports_of plan service me)) p) turned (port_opens on told (ports_of plan service me) p) ≡ port_opens next then (ports_of plan service me) p)
-    → IsKept plan me on told ticks service kept → IsKeptTurned test turned kept after → IsKept plan me next then ticks service after
+    → IsDomainKept plan me on told ticks service kept → IsKeptTurned test turned kept after → IsDomainKept plan me next then ticks service after
 kept_turned plan me on next told then ticks service test turned None None one is turns = is
 kept_turned plan me on next told then ticks service test turned None (Some after) one is turns = absurd turns
 kept_turned plan me on next told then ticks service test turned (Some domain) None one is turns = absurd turns
@@ -290,7 +290,7 @@ kept_turned plan me on next told then ticks service test turned (Some domain) (S
 -- a domain whose ports are open as they were
 kept_opens : (plan : Plan) (me : EdgeId) (on next : ℕ → Bool) (told then : ℕ → Option Down) (ticks : ℕ) (service : ServiceId) (kept : Option Domain)
     → ((p : ℕ) → port_opens on told (ports_of plan service me) p ≡ port_opens next then (ports_of plan service me) p)
-    → IsKept plan me on told ticks service kept → IsKept plan me next then ticks service kept
+    → IsDomainKept plan me on told ticks service kept → IsDomainKept plan me next then ticks service kept
 kept_opens plan me on next told then ticks service None same is = is
 kept_opens plan me on next told then ticks service (Some domain) same is = record {
   ports = is.ports;
@@ -314,8 +314,8 @@ turned_is f circuit row service kept after turned was at of turns = record {
   each_told = was.is.each_told;
   services = length-set f.domains service.0 after ∙ was.is.services;
   domains = λ k below.
-      subst (λ (on : ℕ → Bool). IsKept f.plan f.me on (told_in f) f.ticks (record { 0 = k }) (view None (slice_set f.domains service.0 after) k)) (sym map_is)
-      (all_put (IsKept f.plan f.me next (told_in f) f.ticks) f.domains service after (length f.plan.services) (place_of f service was.is was.within)
+      subst (λ (on : ℕ → Bool). IsDomainKept f.plan f.me on (told_in f) f.ticks (record { 0 = k }) (view None (slice_set f.domains service.0 after) k)) (sym map_is)
+      (all_put (IsDomainKept f.plan f.me next (told_in f) f.ticks) f.domains service after (length f.plan.services) (place_of f service was.is was.within)
       (kept_turned f.plan f.me (circuits_in f) next (told_in f) (told_in f) f.ticks service (is_circuit_port circuit) turned kept after
       (λ p. turned_ports f.plan service f.me (circuits_in f) (told_in f) circuit turned (position (is_circuit_port circuit) (ports_of f.plan service f.me)) p refl) (the_kept f service kept was) turns)
       (λ j apart within. kept_opens f.plan f.me (circuits_in f) next (told_in f) (told_in f) f.ticks (record { 0 = j }) (view None f.domains j)
@@ -355,8 +355,8 @@ told_is f wire row service kept after down up was at of none turns = record {
   each_told = length-set f.told_down wire.0 down ∙ was.is.each_told;
   services = length-set f.domains service.0 after ∙ was.is.services;
   domains = λ k below.
-      subst (λ (told : ℕ → Option Down). IsKept f.plan f.me (circuits_in f) told f.ticks (record { 0 = k }) (view None (slice_set f.domains service.0 after) k)) (sym map_is)
-      (all_put (IsKept f.plan f.me (circuits_in f) then f.ticks) f.domains service after (length f.plan.services) (place_of f service was.is was.within)
+      subst (λ (told : ℕ → Option Down). IsDomainKept f.plan f.me (circuits_in f) told f.ticks (record { 0 = k }) (view None (slice_set f.domains service.0 after) k)) (sym map_is)
+      (all_put (IsDomainKept f.plan f.me (circuits_in f) then f.ticks) f.domains service after (length f.plan.services) (place_of f service was.is was.within)
       (kept_turned f.plan f.me (circuits_in f) (circuits_in f) (told_in f) then f.ticks service (is_wire_port wire) up kept after
       (λ p. ap (λ (b : Bool). cond (is_found (position (is_wire_port wire) (ports_of f.plan service f.me)) p) b (port_opens (circuits_in f) (told_in f) (ports_of f.plan service f.me) p)) none
       ∙ told_ports f.plan service f.me (circuits_in f) (told_in f) wire down (position (is_wire_port wire) (ports_of f.plan service f.me)) p refl) (the_kept f service kept was) turns)
@@ -399,8 +399,8 @@ view_forgotten (x ∷ xs) (suc k) = view_forgotten xs k
 told_none : (xs : List (Option Down)) → view (Some NoLocal) (map forgotten xs) ≡ nothing_told
 told_none xs = λ i k. view_forgotten xs k i
 
-kept_closed : (plan : Plan) (me : EdgeId) (on : ℕ → Bool) (told : ℕ → Option Down) (ticks : ℕ) (service : ServiceId) (kept after : Option Domain) → IsKept plan me on told ticks service kept → IsKeptClosed kept after
-    → IsKept plan me on nothing_told ticks service after
+kept_closed : (plan : Plan) (me : EdgeId) (on : ℕ → Bool) (told : ℕ → Option Down) (ticks : ℕ) (service : ServiceId) (kept after : Option Domain) → IsDomainKept plan me on told ticks service kept → IsKeptClosed kept after
+    → IsDomainKept plan me on nothing_told ticks service after
 kept_closed plan me on told ticks service None None is closed = is
 kept_closed plan me on told ticks service None (Some after) is closed = absurd closed
 kept_closed plan me on told ticks service (Some domain) None is closed = absurd closed
@@ -429,7 +429,7 @@ closed_is f domains told is closed forgot = record {
   each_told = ap (λ (l : List (Option Down)). length l) forgot ∙ (length-map f.told_down forgotten ∙ is.each_told);
   services = closed.len ∙ is.services;
   domains = λ k below.
-      subst (λ (t : ℕ → Option Down). IsKept f.plan f.me (circuits_in f) t f.ticks (record { 0 = k }) (view None domains k)) (sym (ap (view (Some NoLocal)) forgot ∙ told_none f.told_down))
+      subst (λ (t : ℕ → Option Down). IsDomainKept f.plan f.me (circuits_in f) t f.ticks (record { 0 = k }) (view None domains k)) (sym (ap (view (Some NoLocal)) forgot ∙ told_none f.told_down))
       (kept_closed f.plan f.me (circuits_in f) (told_in f) f.ticks (record { 0 = k }) (view None f.domains k) (view None domains k) (is.domains k below) (closed.each k));
 }
 
@@ -452,7 +452,7 @@ none_known : (kept : Option Domain) → entries_of (cleared_kept kept) ≡ []
 none_known None = refl
 none_known (Some domain) = refl
 
-kept_cleared : (plan : Plan) (me : EdgeId) (on : ℕ → Bool) (told : ℕ → Option Down) (ticks : ℕ) (service : ServiceId) (kept : Option Domain) → IsKept plan me on told ticks service kept → IsKept plan me on told ticks service (cleared_kept kept)
+kept_cleared : (plan : Plan) (me : EdgeId) (on : ℕ → Bool) (told : ℕ → Option Down) (ticks : ℕ) (service : ServiceId) (kept : Option Domain) → IsDomainKept plan me on told ticks service kept → IsDomainKept plan me on told ticks service (cleared_kept kept)
 kept_cleared plan me on told ticks service None is = is
 kept_cleared plan me on told ticks service (Some domain) is = record {
   ports = is.ports;
@@ -479,7 +479,7 @@ cleared_seen f edge = λ i. record (with_forwarding f edge) { learned = λ k. (a
 
 -- ---- a tick is counted
 
-kept_later : (plan : Plan) (me : EdgeId) (on : ℕ → Bool) (told : ℕ → Option Down) (ticks now : ℕ) (service : ServiceId) (kept : Option Domain) → ticks ≤ now → IsKept plan me on told ticks service kept → IsKept plan me on told now service kept
+kept_later : (plan : Plan) (me : EdgeId) (on : ℕ → Bool) (told : ℕ → Option Down) (ticks now : ℕ) (service : ServiceId) (kept : Option Domain) → ticks ≤ now → IsDomainKept plan me on told ticks service kept → IsDomainKept plan me on told now service kept
 kept_later plan me on told ticks now service None time is = is
 kept_later plan me on told ticks now service (Some domain) time is = record {
   ports = is.ports;
@@ -509,7 +509,7 @@ view_aged now [] k = refl
 view_aged now (x ∷ kept) zero = refl
 view_aged now (x ∷ kept) (suc k) = view_aged now kept k
 
-kept_aged : (plan : Plan) (me : EdgeId) (on : ℕ → Bool) (told : ℕ → Option Down) (ticks : ℕ) (service : ServiceId) (kept : Option Domain) → IsKept plan me on told ticks service kept → IsKept plan me on told ticks service (aged_kept ticks kept)
+kept_aged : (plan : Plan) (me : EdgeId) (on : ℕ → Bool) (told : ℕ → Option Down) (ticks : ℕ) (service : ServiceId) (kept : Option Domain) → IsDomainKept plan me on told ticks service kept → IsDomainKept plan me on told ticks service (aged_kept ticks kept)
 kept_aged plan me on told ticks service None is = is
 kept_aged plan me on told ticks service (Some domain) is = record {
   ports = is.ports;
@@ -530,7 +530,7 @@ aged_is f is = record {
       (kept_aged f.plan f.me (circuits_in f) (told_in f) f.ticks (record { 0 = k }) (view None f.domains k) (is.domains k below));
 }
 
-entries_aged : (plan : Plan) (me : EdgeId) (on : ℕ → Bool) (told : ℕ → Option Down) (ticks : ℕ) (service : ServiceId) (kept : Option Domain) (row : Option ServicePlan) → service_row plan service ≡ row → (row ≡ None → kept ≡ None) → IsKept plan me on told ticks service kept
+entries_aged : (plan : Plan) (me : EdgeId) (on : ℕ → Bool) (told : ℕ → Option Down) (ticks : ℕ) (service : ServiceId) (kept : Option Domain) (row : Option ServicePlan) → service_row plan service ≡ row → (row ≡ None → kept ≡ None) → IsDomainKept plan me on told ticks service kept
     → entries_of (aged_kept ticks kept) ≡ aged ticks row (entries_of kept)
 entries_aged plan me on told ticks service None None at past is = refl
 entries_aged plan me on told ticks service None (Some row) at past is = refl
@@ -581,7 +581,7 @@ learned_none plan me domains k None at are =
     rw past refl
 learned_none plan me domains k (Some row) at are = nothing_learned plan me (record { 0 = k }) row.age (view None domains k) (are.each k row (slice_get_within plan.services k row at) at)
 
-kept_new : (plan : Plan) (me : EdgeId) (service : ServiceId) (row : ServicePlan) (kept : Option Domain) → service_row plan service ≡ Some row → IsNew plan me service row.age kept → IsKept plan me all_on nothing_told 0 service kept
+kept_new : (plan : Plan) (me : EdgeId) (service : ServiceId) (row : ServicePlan) (kept : Option Domain) → service_row plan service ≡ Some row → IsNew plan me service row.age kept → IsDomainKept plan me all_on nothing_told 0 service kept
 kept_new plan me service row None at is = is
 kept_new plan me service row (Some domain) at is =
     let ports : domain.bridge.ports ≡ ports_of plan service me = ap (λ (b : BridgeState). b.ports) is.bridge in
@@ -617,11 +617,11 @@ new_is plan me on told domains checked are = record {
   each_told = ap (λ (l : List (Option Down)). length l) are.wires ∙ long_same (length plan.wires) (Some NoLocal);
   services = are.services.len;
   domains = λ k below.
-      subst (λ (o : ℕ → Bool). IsKept plan me o (view (Some NoLocal) told) 0 (record { 0 = k }) (view None domains k)) (sym (first_on plan me on told domains are))
-      (subst (λ (t : ℕ → Option Down). IsKept plan me all_on t 0 (record { 0 = k }) (view None domains k)) (sym (first_told plan me on told domains are)) (of k (slice_get plan.services k) refl below));
+      subst (λ (o : ℕ → Bool). IsDomainKept plan me o (view (Some NoLocal) told) 0 (record { 0 = k }) (view None domains k)) (sym (first_on plan me on told domains are))
+      (subst (λ (t : ℕ → Option Down). IsDomainKept plan me all_on t 0 (record { 0 = k }) (view None domains k)) (sym (first_told plan me on told domains are)) (of k (slice_get plan.services k) refl below));
 }
   where
-    of : (k : ℕ) (row : Option ServicePlan) → slice_get plan.services k ≡ row → k < length plan.services → IsKept plan me all_on nothing_told 0 (record { 0 = k }) (view None domains k)
+    of : (k : ℕ) (row : Option ServicePlan) → slice_get plan.services k ≡ row → k < length plan.services → IsDomainKept plan me all_on nothing_told 0 (record { 0 = k }) (view None domains k)
     of k None at below = absurd (omega (arith, none_past plan.services k at))
     of k (Some row) at below = kept_new plan me (record { 0 = k }) row (view None domains k) at (are.services.each k row below at)
 

@@ -14,13 +14,13 @@ use Rattle.net_base.specs.plan.Places.{circuit_row, wire_row}
 use Rattle.net_base.specs.plan.Roles.{is_circuit_at}
 use Rattle.hvpls_spokes.specs.declared.port.Port.{Port}
 use Rattle.hvpls_spokes.specs.declared.port.Port.TheVariants as port
-use Rattle.hvpls_spokes.specs.Port.{is_circuit_port, is_wire_port, ports_of}
+use Rattle.hvpls_spokes.specs.Port.{is_circuit_port, is_wire_port, ports_of, is_wire}
 use Rattle.hvpls_spokes.proofs.PortsLemmas.{LeadsTo, IsServed, finds_port, found_port, has_circuit_port, same_circuit_port, served_at}
 use Rattle.hvpls_spokes.proofs.RowPortLemmas.{wire_behind}
 use Rattle.hvpls_spokes.proofs.WirePortLemmas.{LeadsToWire, finds_wire_port, found_wire_port, leads_by_mesh, leads_by_spoke, same_wire_port, wired_at}
 use Rattle.edge_model.specs.Ends.{is_up}
 use Rattle.edge_model.specs.State.{put_at}
-use Rattle.edge_forwarding.specs.Domain.{is_found, is_wire, nothing_told, opens, port_opens}
+use Rattle.edge_forwarding.specs.Domain.{is_found, nothing_told, opens, port_opens}
 
 -- only ports are open
 pub opens_within : (on : ℕ → Bool) (told : ℕ → Option Down) (ports : List Port) (p : ℕ) → port_opens on told ports p ≡ true → p < length ports

@@ -10,9 +10,9 @@ use Rattle.net_values.specs.declared.mac.Mac.{Mac}
 use Rattle.net_base.specs.plan.Places.{service_row}
 use Rattle.hvpls_spokes.specs.declared.port.Port.{Port}
 use Rattle.hvpls_spokes.specs.declared.port.Port.TheVariants as port
-use Rattle.hvpls_spokes.specs.Port.{ports_of}
+use Rattle.hvpls_spokes.specs.Port.{is_wire, ports_of}
 use Rattle.hvpls_spokes.specs.PortSet.{has}
-use Rattle.mac_table.specs.Addresses.{NoneAfter, is_young, stays}
+use Rattle.mac_table.specs.Addresses.{NoneAfter, entry_stays, is_young}
 use Rattle.edge_model.specs.Ends.{is_up}
 use Rattle.edge_model.specs.State.{without_port}
 use Rattle.edge_forwarding.specs.declared.domain.Domain.{Domain}
@@ -52,9 +52,9 @@ abbrev pub age_of : Plan → ServiceId → Option ℕ
 age_of plan service = option_map (λ (row : ServicePlan). row.age) (service_row plan service)
 
 -- there is a domain exactly where the service has a port at the edge
-abbrev pub IsKept : Plan → EdgeId → (ℕ → Bool) → (ℕ → Option Down) → ℕ → ServiceId → Option Domain → Type 0
-IsKept plan me on told now service None = ports_of plan service me ≡ []
-IsKept plan me on told now service (Some domain) = IsDomain plan me on told now service domain
+abbrev pub IsDomainKept : Plan → EdgeId → (ℕ → Bool) → (ℕ → Option Down) → ℕ → ServiceId → Option Domain → Type 0
+IsDomainKept plan me on told now service None = ports_of plan service me ≡ []
+IsDomainKept plan me on told now service (Some domain) = IsDomain plan me on told now service domain
 
 -- the domain after its bridge forgot what it has not heard for long
 abbrev pub aged_domain : ℕ → Domain → Domain
@@ -100,18 +100,12 @@ forgot_kept test kept = option_map (forgot_domain test) kept
 
 -- the bridge forgot what a MAC withdraw by a port names
 abbrev pub withdrawn_domain : ℕ → List Mac → Domain → Domain
-withdrawn_domain from addresses domain = record domain { bridge = record domain.bridge { entries = filter (stays from addresses) domain.bridge.entries } }
+withdrawn_domain from addresses domain = record domain { bridge = record domain.bridge { entries = filter (entry_stays from addresses) domain.bridge.entries } }
 
 abbrev pub withdrawn_kept : ℕ → List Mac → Option Domain → Option Domain
 withdrawn_kept from addresses kept = option_map (withdrawn_domain from addresses) kept
 
 -- ---- no wire's port is open
-
-abbrev pub is_wire : Option Port → Bool
-is_wire None = false
-is_wire (Some (port.Circuit circuit)) = false
-is_wire (Some (port.Mesh wire)) = true
-is_wire (Some (port.Spoke wire)) = true
 
 -- the domain with no wire's port open
 pub record IsClosed (old new : Domain) : Type 0 where

@@ -15,7 +15,7 @@ use Rattle.mac_table.specs.declared.mac_entry.MacEntry.{MacEntry}
 use Rattle.edge_model.specs.State.{EdgeState, empty_edge}
 use Rattle.edge_forwarding.specs.declared.domain.Domain.{Domain}
 use Rattle.hvpls_spokes.specs.Port.{ports_of}
-use Rattle.edge_forwarding.specs.Domain.{IsKept, nothing_told, port_opens}
+use Rattle.edge_forwarding.specs.Domain.{IsDomainKept, nothing_told, port_opens}
 use Rattle.edge_forwarding.specs.Views.{view}
 
 pub record ForwardingLists : Type 0 where
@@ -87,7 +87,7 @@ pub record IsForwarding (f : ForwardingLists) : Type 0 where
   pub each_told : length f.told_down ≡ length f.plan.wires
   pub services : length f.domains ≡ length f.plan.services
   pub domains : (service : ℕ) → service < length f.plan.services
-      → IsKept f.plan f.me (circuits_in f) (told_in f) f.ticks (record { 0 = service }) (domain_of f service)
+      → IsDomainKept f.plan f.me (circuits_in f) (told_in f) f.ticks (record { 0 = service }) (domain_of f service)
 
 -- what an edge forwards by before its first input
 unfoldable pub opened_forwarding : Plan → EdgeId → EdgeState → EdgeState

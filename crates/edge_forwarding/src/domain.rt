@@ -1,12 +1,12 @@
 //! A bridged domain: one service at an edge.
 ghost use Rattle.std.specs.Prelude.{◌≡◌, ◌≤◌, ◌<◌, ◌+◌, ◌==◌, ◌&&◌, not, map, ℕ, true, length, take, drop, slice_get, position, All, IfOk, if◌then◌else◌};
 ghost use Rattle.net_base.specs.plan.Accepted.{IsChecked};
-ghost use Rattle.hvpls_spokes.specs.Port.{is_circuit_port, is_wire_port};
+ghost use Rattle.hvpls_spokes.specs.Port.{is_circuit_port, is_wire_port, is_wire};
 ghost use Rattle.hvpls_spokes.specs.PortSet.{has};
 ghost use Rattle.mac_table.specs.Addresses.{NoneAfter};
 ghost use Rattle.vsi_bridge.specs.Targets.{heard, is_target, known_port};
 ghost use Rattle.edge_model.specs.Frame.{destination, source};
-ghost use Rattle.edge_forwarding.specs.Domain.{AreClosed, AreNew, IsClosed, IsKeptClosed, IsKeptTurned, IsNew, IsTurned, KeptNotAfter, aged_domain, aged_kept, all_on, cleared_domain, cleared_kept, forgot_domain, forgot_kept, is_wire, nothing_told, port_opens, withdrawn_domain, withdrawn_kept};
+ghost use Rattle.edge_forwarding.specs.Domain.{AreClosed, AreNew, IsClosed, IsKeptClosed, IsKeptTurned, IsNew, IsTurned, KeptNotAfter, aged_domain, aged_kept, all_on, cleared_domain, cleared_kept, forgot_domain, forgot_kept, nothing_told, port_opens, withdrawn_domain, withdrawn_kept};
 
 use hvpls_spokes::{Port, PortKind, PortSet, Ports};
 use net_base::{CircuitId, EdgeId, List, Mac, NoMemory, Plan, ServiceId, WireId};

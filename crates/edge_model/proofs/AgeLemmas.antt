@@ -20,7 +20,7 @@ use Rattle.hvpls_spokes.proofs.WirePortLemmas.{LeadsToWire, found_wire_port, lea
 use Rattle.label_space.specs.Labels.{numbers_end}
 use Rattle.ldp_grammar.specs.declared.message.Message.{Message}
 use Rattle.mac_table.specs.declared.mac_entry.MacEntry.{MacEntry}
-use Rattle.mac_table.specs.Addresses.{AreDistinct, entry_of, is_young}
+use Rattle.mac_table.specs.Addresses.{AreDistinctAddresses, is_young, mac_entry_of}
 use Rattle.mac_table.proofs.AddressLemmas.{distinct-filter, entry_of-filter}
 use Rattle.mac_table.proofs.AgeLemmas.{stays_young}
 use Rattle.pw_tlvs.specs.declared.pw_status.PwStatus.{PwStatus}
@@ -149,7 +149,7 @@ module _ (plan : Plan) (fit : HasFitPaths plan) (service : ServiceId) (address :
   -- at one edge, the entry is found, and the end of its wire forwards
   record IsFound (me : EdgeId) (edge : EdgeState) : Type 0 where
     same_me : edge.me ≡ me
-    distinct : AreDistinct (addresses_of edge service)
+    distinct : AreDistinctAddresses (addresses_of edge service)
     found : entry_at edge service address ≡ Some entry
     forwards : down_at plan edge place ≡ None
 
@@ -172,8 +172,8 @@ module _ (plan : Plan) (fit : HasFitPaths plan) (service : ServiceId) (address :
     ]
 
     -- so its port is another one
-    without_other : (q : EndPlace) → nat_eq place.wire.0 q.wire.0 ≡ false → (xs : List MacEntry) → AreDistinct xs → entry_of xs address ≡ Some entry
-        → (p : Option ℕ) → position (is_wire_port q.wire) (ports_of plan service me) ≡ p → entry_of (without_port p xs) address ≡ Some entry
+    without_other : (q : EndPlace) → nat_eq place.wire.0 q.wire.0 ≡ false → (xs : List MacEntry) → AreDistinctAddresses xs → mac_entry_of xs address ≡ Some entry
+        → (p : Option ℕ) → position (is_wire_port q.wire) (ports_of plan service me) ≡ p → mac_entry_of (without_port p xs) address ≡ Some entry
     without_other q other xs distinct found None is = found
     without_other q other xs distinct found (Some p) is =
         entry_of-filter (λ e. not (e.port == p)) xs address distinct ∙ (ap (option_filter (λ e. not (e.port == p))) found ∙ ap (λ (b : Bool). cond (not b) (Some entry) None)
@@ -186,10 +186,10 @@ module _ (plan : Plan) (fit : HasFitPaths plan) (service : ServiceId) (address :
       gone : ServiceId → List MacEntry
       gone s = without_port (position (is_wire_port q.wire) (ports_of plan s edge.me)) (addresses_of edge s)
 
-      by : (b : Bool) → nat_eq service.0 row.service.0 ≡ b → entry_of (cond b (gone row.service) (addresses_of edge service)) address ≡ Some entry
+      by : (b : Bool) → nat_eq service.0 row.service.0 ≡ b → mac_entry_of (cond b (gone row.service) (addresses_of edge service)) address ≡ Some entry
       by true same =
-          ap (λ (k : ℕ). entry_of (gone (record { 0 = k })) address) (sym (eqb-true service.0 row.service.0 same))
-          ∙ (ap (λ (k : EdgeId). entry_of (without_port (position (is_wire_port q.wire) (ports_of plan service k)) (addresses_of edge service)) address) is.same_me
+          ap (λ (k : ℕ). mac_entry_of (gone (record { 0 = k })) address) (sym (eqb-true service.0 row.service.0 same))
+          ∙ (ap (λ (k : EdgeId). mac_entry_of (without_port (position (is_wire_port q.wire) (ports_of plan service k)) (addresses_of edge service)) address) is.same_me
           ∙ without_other q other (addresses_of edge service) is.distinct is.found (position (is_wire_port q.wire) (ports_of plan service me)) refl)
       by false away = is.found
 
@@ -217,7 +217,7 @@ module _ (plan : Plan) (fit : HasFitPaths plan) (service : ServiceId) (address :
     all_stand (q ∷ list) all work is = all_stand list all.1 (cond q.terminal (forgets_down plan q (down_at plan work.edge q) work) work) (one_stands q all.0 work is)
 
     -- a round of mending after which the end forwards
-    mends_stand : (told : Answers) → ((k : ℕ) → told k ≡ true) → (work : Work) → work.edge.me ≡ me → AreDistinct (addresses_of work.edge service) → entry_at work.edge service address ≡ Some entry
+    mends_stand : (told : Answers) → ((k : ℕ) → told k ≡ true) → (work : Work) → work.edge.me ≡ me → AreDistinctAddresses (addresses_of work.edge service) → entry_at work.edge service address ≡ Some entry
         → down_at plan (mends plan told work).edge place ≡ None → entry_at (mends plan told work).edge service address ≡ Some entry
     mends_stand told takes work same distinct found up =
         ap (λ (w : Work). entry_at w.edge service address) once
@@ -265,22 +265,22 @@ module _ (plan : Plan) (fit : HasFitPaths plan) (service : ServiceId) (address :
             all_stand places (subst (λ (k : EdgeId). AllByRecursion (IsEndOf plan k) places) same all) third
             (record {
               same_me = third_me ∙ same;
-              distinct = subst (λ (xs : List MacEntry). AreDistinct xs) (sym learned) distinct;
-              found = ap (λ (xs : List MacEntry). entry_of xs address) learned ∙ found;
+              distinct = subst (λ (xs : List MacEntry). AreDistinctAddresses xs) (sym learned) distinct;
+              found = ap (λ (xs : List MacEntry). mac_entry_of xs address) learned ∙ found;
               forwards = third_up;
             })
 
-    tick_stands : (told : Answers) → ((k : ℕ) → told k ≡ true) → (row : ServicePlan) → slice_get plan.services service.0 ≡ Some row → (work : Work) → work.edge.me ≡ me → AreDistinct (addresses_of work.edge service)
+    tick_stands : (told : Answers) → ((k : ℕ) → told k ≡ true) → (row : ServicePlan) → slice_get plan.services service.0 ≡ Some row → (work : Work) → work.edge.me ≡ me → AreDistinctAddresses (addresses_of work.edge service)
         → entry_at work.edge service address ≡ Some entry → is_young (later work.edge.ticks) row.age entry ≡ true → down_at plan (tick_input plan told work).edge place ≡ None
         → entry_at (tick_input plan told work).edge service address ≡ Some entry
     tick_stands told takes row is work same distinct found young up =
         let forgot : Work = changes (forgetting plan) (ticks_sessions told 0 (length plan.edges) (changes counted work)) in
         let now : addresses_of forgot.edge service ≡ filter (is_young (later work.edge.ticks) row.age) (addresses_of work.edge service) = at_forgot_is plan service address told row is work in
         mends_stand told takes forgot (forgot_me plan told work ∙ same)
-        (subst (λ (xs : List MacEntry). AreDistinct xs) (sym now) (distinct-filter (is_young (later work.edge.ticks) row.age) (addresses_of work.edge service) distinct))
-        (ap (λ (xs : List MacEntry). entry_of xs address) now ∙ stays_young (later work.edge.ticks) row.age (addresses_of work.edge service) address entry distinct found young) up
+        (subst (λ (xs : List MacEntry). AreDistinctAddresses xs) (sym now) (distinct-filter (is_young (later work.edge.ticks) row.age) (addresses_of work.edge service) distinct))
+        (ap (λ (xs : List MacEntry). mac_entry_of xs address) now ∙ stays_young (later work.edge.ticks) row.age (addresses_of work.edge service) address entry distinct found young) up
 
-    ticking_stands_by : (told : Answers) → ((k : ℕ) → told k ≡ true) → (row : ServicePlan) → slice_get plan.services service.0 ≡ Some row → (n : ℕ) (work : Work) → work.edge.me ≡ me → AreDistinct (addresses_of work.edge service)
+    ticking_stands_by : (told : Answers) → ((k : ℕ) → told k ≡ true) → (row : ServicePlan) → slice_get plan.services service.0 ≡ Some row → (n : ℕ) (work : Work) → work.edge.me ≡ me → AreDistinctAddresses (addresses_of work.edge service)
         → entry_at work.edge service address ≡ Some entry → entry.tick ≤ work.edge.ticks → work.edge.ticks + n < entry.tick + row.age → work.edge.ticks + n ≤ 2 ^ 64 - 1
         → ((k : ℕ) → 1 ≤ k → k ≤ n → down_at plan (ticking plan told k work).edge place ≡ None)
         → entry_at (ticking plan told n work).edge service address ≡ Some entry

@@ -18,7 +18,7 @@ use Rattle.hvpls_spokes.specs.Port.{is_wire_port, ports_of}
 use Rattle.hvpls_spokes.proofs.WirePortLemmas.{found_wire_port, ports_apart}
 use Rattle.ldp_grammar.specs.declared.message.Message.{Message}
 use Rattle.mac_table.specs.declared.mac_entry.MacEntry.{MacEntry}
-use Rattle.mac_table.specs.Addresses.{AreDistinct, entry_of, is_young}
+use Rattle.mac_table.specs.Addresses.{AreDistinctAddresses, is_young, mac_entry_of}
 use Rattle.mac_table.proofs.AddressLemmas.{distinct-filter, entry_of-filter}
 use Rattle.mac_table.proofs.AgeLemmas.{goes_old, none_comes, old, stays_young, young}
 use Rattle.edge_model.specs.Aging.{IsAtCircuit, entry_at, ticking}
@@ -40,9 +40,9 @@ use Rattle.edge_model.proofs.WalkLemmas.{MendSteps, mends_holds}
 pub record KeepsAddress (plan : Plan) (service : ServiceId) (address : Mac) (old new : EdgeState) : Type 0 where
   pub me : new.me ≡ old.me
   pub ticks : new.ticks ≡ old.ticks
-  pub distinct : AreDistinct (addresses_of old service) → AreDistinct (addresses_of new service)
-  pub less : AreDistinct (addresses_of old service) → (entry_at new service address ≡ entry_at old service address) ⊎ (entry_at new service address ≡ None)
-  pub kept : AreDistinct (addresses_of old service) → (entry : MacEntry) → entry_at old service address ≡ Some entry → IsAtCircuit plan old service entry
+  pub distinct : AreDistinctAddresses (addresses_of old service) → AreDistinctAddresses (addresses_of new service)
+  pub less : AreDistinctAddresses (addresses_of old service) → (entry_at new service address ≡ entry_at old service address) ⊎ (entry_at new service address ≡ None)
+  pub kept : AreDistinctAddresses (addresses_of old service) → (entry : MacEntry) → entry_at old service address ≡ Some entry → IsAtCircuit plan old service entry
       → entry_at new service address ≡ Some entry
 
 at_same : (plan : Plan) (service : ServiceId) (entry : MacEntry) (old new : EdgeState) → new.me ≡ old.me → IsAtCircuit plan old service entry → IsAtCircuit plan new service entry
@@ -55,9 +55,9 @@ module _ (plan : Plan) (service : ServiceId) (address : Mac) where
   keeps_same old new me ticks learned = record {
     me = me;
     ticks = ticks;
-    distinct = subst (λ (xs : List MacEntry). AreDistinct xs) (sym addresses);
-    less = λ distinct. inl (ap (λ (xs : List MacEntry). entry_of xs address) addresses);
-    kept = λ distinct entry found here. ap (λ (xs : List MacEntry). entry_of xs address) addresses ∙ found;
+    distinct = subst (λ (xs : List MacEntry). AreDistinctAddresses xs) (sym addresses);
+    less = λ distinct. inl (ap (λ (xs : List MacEntry). mac_entry_of xs address) addresses);
+    kept = λ distinct entry found here. ap (λ (xs : List MacEntry). mac_entry_of xs address) addresses ∙ found;
   }
     where
       addresses : addresses_of new service ≡ addresses_of old service
@@ -80,10 +80,10 @@ module _ (plan : Plan) (service : ServiceId) (address : Mac) where
 
   -- the addresses of the service are less
   record KeepsEntries (me : EdgeId) (xs ys : List MacEntry) : Type 0 where
-    distinct : AreDistinct xs → AreDistinct ys
-    less : AreDistinct xs → (entry_of ys address ≡ entry_of xs address) ⊎ (entry_of ys address ≡ None)
-    kept : AreDistinct xs → (entry : MacEntry) → entry_of xs address ≡ Some entry → (circuit : CircuitId) → slice_get (ports_of plan service me) entry.port ≡ Some (port.Circuit circuit)
-        → entry_of ys address ≡ Some entry
+    distinct : AreDistinctAddresses xs → AreDistinctAddresses ys
+    less : AreDistinctAddresses xs → (mac_entry_of ys address ≡ mac_entry_of xs address) ⊎ (mac_entry_of ys address ≡ None)
+    kept : AreDistinctAddresses xs → (entry : MacEntry) → mac_entry_of xs address ≡ Some entry → (circuit : CircuitId) → slice_get (ports_of plan service me) entry.port ≡ Some (port.Circuit circuit)
+        → mac_entry_of ys address ≡ Some entry
 
   entries_not : (me : EdgeId) (xs : List MacEntry) → KeepsEntries me xs xs
   entries_not me xs = record { distinct = λ distinct. distinct; less = λ distinct. inl refl; kept = λ distinct entry found circuit at. found }
@@ -93,7 +93,7 @@ module _ (plan : Plan) (service : ServiceId) (address : Mac) where
   without_wire me wire xs None is = entries_not me xs
   without_wire me wire xs (Some p) is = record {
     distinct = distinct-filter stays xs;
-    less = λ distinct. by (entry_of xs address) refl distinct;
+    less = λ distinct. by (mac_entry_of xs address) refl distinct;
     kept = λ distinct entry found circuit at.
         entry_of-filter stays xs address distinct ∙ (ap (option_filter stays) found ∙ ap (λ (b : Bool). cond (not b) (Some entry) None)
         (ports_apart (ports_of plan service me) entry.port p circuit.0 wire.0 (record { is = at }) (found_wire_port wire (ports_of plan service me) p is)));
@@ -106,7 +106,7 @@ module _ (plan : Plan) (service : ServiceId) (address : Mac) where
       one entry true = inl refl
       one entry false = inr refl
 
-      by : (found : Option MacEntry) → entry_of xs address ≡ found → AreDistinct xs → (entry_of (filter stays xs) address ≡ found) ⊎ (entry_of (filter stays xs) address ≡ None)
+      by : (found : Option MacEntry) → mac_entry_of xs address ≡ found → AreDistinctAddresses xs → (mac_entry_of (filter stays xs) address ≡ found) ⊎ (mac_entry_of (filter stays xs) address ≡ None)
       by None is distinct = inr (none_comes stays xs address distinct is)
       by (Some entry) is distinct = elim (one entry (stays entry)) [
         | inl same ↦ inl (entry_of-filter stays xs address distinct ∙ (ap (option_filter stays) is ∙ same))
@@ -178,13 +178,13 @@ module _ (plan : Plan) (service : ServiceId) (address : Mac) where
   pub record TicksOnce (row : ServicePlan) (old new : EdgeState) : Type 0 where
     pub me : new.me ≡ old.me
     pub ticks : new.ticks ≡ later old.ticks
-    pub distinct : AreDistinct (addresses_of old service) → AreDistinct (addresses_of new service)
-    pub none : AreDistinct (addresses_of old service) → entry_at old service address ≡ None → entry_at new service address ≡ None
-    pub stands : AreDistinct (addresses_of old service) → (entry : MacEntry) → entry_at old service address ≡ Some entry → IsAtCircuit plan old service entry
+    pub distinct : AreDistinctAddresses (addresses_of old service) → AreDistinctAddresses (addresses_of new service)
+    pub none : AreDistinctAddresses (addresses_of old service) → entry_at old service address ≡ None → entry_at new service address ≡ None
+    pub stands : AreDistinctAddresses (addresses_of old service) → (entry : MacEntry) → entry_at old service address ≡ Some entry → IsAtCircuit plan old service entry
         → is_young (later old.ticks) row.age entry ≡ true → entry_at new service address ≡ Some entry
-    pub fades : AreDistinct (addresses_of old service) → (entry : MacEntry) → entry_at old service address ≡ Some entry → is_young (later old.ticks) row.age entry ≡ true
+    pub fades : AreDistinctAddresses (addresses_of old service) → (entry : MacEntry) → entry_at old service address ≡ Some entry → is_young (later old.ticks) row.age entry ≡ true
         → (entry_at new service address ≡ Some entry) ⊎ (entry_at new service address ≡ None)
-    pub goes : AreDistinct (addresses_of old service) → (entry : MacEntry) → entry_at old service address ≡ Some entry → is_young (later old.ticks) row.age entry ≡ false
+    pub goes : AreDistinctAddresses (addresses_of old service) → (entry : MacEntry) → entry_at old service address ≡ Some entry → is_young (later old.ticks) row.age entry ≡ false
         → entry_at new service address ≡ None
 
   -- what each bridge forgets at a tick
@@ -238,13 +238,13 @@ module _ (plan : Plan) (service : ServiceId) (address : Mac) where
       forgotten : addresses_of forgot.edge service ≡ filter young_now before
       forgotten = at_forgot_is told row is work
 
-      at_forgot : entry_at forgot.edge service address ≡ entry_of (filter young_now before) address
-      at_forgot = ap (λ (xs : List MacEntry). entry_of xs address) forgotten
+      at_forgot : entry_at forgot.edge service address ≡ mac_entry_of (filter young_now before) address
+      at_forgot = ap (λ (xs : List MacEntry). mac_entry_of xs address) forgotten
 
-      young_distinct : AreDistinct before → AreDistinct (addresses_of forgot.edge service)
-      young_distinct distinct = subst (λ (xs : List MacEntry). AreDistinct xs) (sym forgotten) (distinct-filter young_now before distinct)
+      young_distinct : AreDistinctAddresses before → AreDistinctAddresses (addresses_of forgot.edge service)
+      young_distinct distinct = subst (λ (xs : List MacEntry). AreDistinctAddresses xs) (sym forgotten) (distinct-filter young_now before distinct)
 
-      gone_still : AreDistinct before → entry_at forgot.edge service address ≡ None → entry_at (tick_input plan told work).edge service address ≡ None
+      gone_still : AreDistinctAddresses before → entry_at forgot.edge service address ≡ None → entry_at (tick_input plan told work).edge service address ≡ None
       gone_still distinct none = elim (last.less (young_distinct distinct)) [
         | inl same ↦ same ∙ none
         | inr gone ↦ gone
@@ -271,7 +271,7 @@ module _ (plan : Plan) (service : ServiceId) (address : Mac) where
   pub rest_of : (t now n limit : ℕ) → now ≡ t + 1 → t + suc n ≤ limit → now + n ≤ limit
   rest_of t now n limit is within = omega (arith, is, within)
 
-  ticking_none : (told : Answers) (row : ServicePlan) → slice_get plan.services service.0 ≡ Some row → (n : ℕ) (work : Work) → AreDistinct (addresses_of work.edge service) → entry_at work.edge service address ≡ None
+  ticking_none : (told : Answers) (row : ServicePlan) → slice_get plan.services service.0 ≡ Some row → (n : ℕ) (work : Work) → AreDistinctAddresses (addresses_of work.edge service) → entry_at work.edge service address ≡ None
       → entry_at (ticking plan told n work).edge service address ≡ None
   ticking_none told row is zero work distinct none = none
   ticking_none told row is (suc n) work distinct none =
@@ -279,7 +279,7 @@ module _ (plan : Plan) (service : ServiceId) (address : Mac) where
       let tick : TicksOnce row work.edge (tick_input plan told begun).edge = one_tick told row is begun in
       ticking_none told row is n (tick_input plan told begun) (tick.distinct distinct) (tick.none distinct none)
 
-  pub ticking_stands : (told : Answers) (row : ServicePlan) → slice_get plan.services service.0 ≡ Some row → (n : ℕ) (work : Work) (entry : MacEntry) → AreDistinct (addresses_of work.edge service)
+  pub ticking_stands : (told : Answers) (row : ServicePlan) → slice_get plan.services service.0 ≡ Some row → (n : ℕ) (work : Work) (entry : MacEntry) → AreDistinctAddresses (addresses_of work.edge service)
       → entry_at work.edge service address ≡ Some entry → IsAtCircuit plan work.edge service entry → entry.tick ≤ work.edge.ticks → work.edge.ticks + n < entry.tick + row.age → work.edge.ticks + n ≤ 2 ^ 64 - 1
       → entry_at (ticking plan told n work).edge service address ≡ Some entry
   ticking_stands told row is zero work entry distinct found here past within counts = found
@@ -302,7 +302,7 @@ module _ (plan : Plan) (service : ServiceId) (address : Mac) where
       next_within : (t now n limit : ℕ) → now ≡ t + 1 → t + suc n < limit → now + n < limit
       next_within t now n limit is within = omega (arith, is, within)
 
-  pub ticking_goes : (told : Answers) (row : ServicePlan) → slice_get plan.services service.0 ≡ Some row → (n : ℕ) (work : Work) (entry : MacEntry) → AreDistinct (addresses_of work.edge service)
+  pub ticking_goes : (told : Answers) (row : ServicePlan) → slice_get plan.services service.0 ≡ Some row → (n : ℕ) (work : Work) (entry : MacEntry) → AreDistinctAddresses (addresses_of work.edge service)
       → entry_at work.edge service address ≡ Some entry → entry.tick ≤ work.edge.ticks → work.edge.ticks < entry.tick + row.age → entry.tick + row.age ≤ work.edge.ticks + n → work.edge.ticks + n ≤ 2 ^ 64 - 1
       → entry_at (ticking plan told n work).edge service address ≡ None
   ticking_goes told row is zero work entry distinct found past young_yet due counts = absurd (clash work.edge.ticks (entry.tick + row.age) young_yet due) where

@@ -16,7 +16,7 @@ use Rattle.net_base.specs.declared.trace.down.Down.{Down}
 use Rattle.net_base.specs.declared.trace.drop_cause.DropCause.TheVariants as cause
 use Rattle.net_base.specs.plan.Paths.{is_first, is_last, offer_of}
 use Rattle.net_base.specs.plan.Places.{circuit_row, is_mesh_class, service_of, wire_row}
-use Rattle.net_base.specs.plan.Roles.{ends_at, is_circuit_at, is_wire_of}
+use Rattle.net_base.specs.plan.Roles.{is_circuit_at, is_wire_of, wire_ends_at}
 use Rattle.net_base.specs.trace.Frame.{dress}
 use Rattle.hvpls_spokes.specs.declared.port.Port.{Port}
 use Rattle.hvpls_spokes.specs.declared.port.Port.TheVariants as port
@@ -77,7 +77,7 @@ row_service plan service edge circuit row is serve =
     ap (λ (r : Option CircuitPlan). option_map (λ (row : CircuitPlan). row.service) r) is ∙ ap (λ (n : ℕ). Some (record { 0 = n })) same
 
 -- a wire that ends at an edge of a service is one of the service
-pub wire_service : (service : ServiceId) (edge : ℕ) (row : WirePlan) → ends_at service edge row ≡ true → row.service ≡ service
+pub wire_service : (service : ServiceId) (edge : ℕ) (row : WirePlan) → wire_ends_at service edge row ≡ true → row.service ≡ service
 wire_service service edge row ends =
     ap (λ (n : ℕ). record { 0 = n }) (eqb-true row.service.0 service.0 (and_parts (is_wire_of service row) (is_first edge row.path || is_last edge row.path) ends).0)
 
@@ -224,7 +224,7 @@ module _ (plan : Plan) (told : Answers) (edge : EdgeState) (came : Arrival) (ser
           forwards = up_is_none (down_at plan edge place) forwards;
           row = row;
           is = is;
-          same_service = wire_service service edge.me.0 row (ap (ends_at service edge.me.0) (sym same_row) ∙ wired.ends);
+          same_service = wire_service service edge.me.0 row (ap (wire_ends_at service edge.me.0) (sym same_row) ∙ wired.ends);
           binding = binding;
           bound = sym (ap (λ (e : EdgeState). (end_at e place).remote) heard) ∙ bound;
           packed = ap (λ (m : EdgeId). packet_of (offer_of row m.0) binding frame) me;

@@ -27,7 +27,7 @@ use Rattle.session_core.specs.Phase as phase
 use Rattle.session_core.specs.Session.{phase_name}
 use Rattle.session_core.specs.State.{SessionState, is_active}
 use Rattle.session_core.specs.StatusCodes.{about_none, bad_ldp_identifier, keep_alive_timer_expired}
-use Rattle.session_core.specs.Table.{SessionEvent, Outcome, Stay, Goes, Ends, Start, Heard, Received, Refused, Spoke, Ticked, Closed, is_expired, is_quiet, judged, later, notified, outcome_of, reason_in, table, ticked}
+use Rattle.session_core.specs.Table.{SessionEvent, Outcome, Stay, Goes, Ends, Start, Heard, Received, Refused, Spoke, Ticked, Closed, is_expired, is_keep_alive_due, judged, a_tick_later, notified, outcome_of, reason_in, table, ticked}
 use Rattle.edge_model.specs.Circuit.{turned}
 use Rattle.edge_model.specs.Clear.{withdrawing_at}
 use Rattle.edge_model.specs.Connection.{opened_with}
@@ -80,14 +80,14 @@ either_fits false why s replies last fits = tt
 
 ticked_fits : (s : SessionState) → s.max_pdu ≤ 4096 → FitsAfter (ticked s)
 ticked_fits s fits = by (is_expired s) where
-  by : (expired : Bool) → FitsAfter (cond expired (Ends reason.Expired (about_none keep_alive_timer_expired ∷ [])) (Goes s (cond (is_quiet s) (reply.KeepAlive ∷ []) [])))
+  by : (expired : Bool) → FitsAfter (cond expired (Ends reason.Expired (about_none keep_alive_timer_expired ∷ [])) (Goes s (cond (is_keep_alive_due s) (reply.KeepAlive ∷ []) [])))
   by true = tt
   by false = fits
 
 table_fits : (state : Phase) (event : SessionEvent) (active : Bool) (s : SessionState) → s.max_pdu ≤ 4096 → FitsAfter (table state event active s)
 table_fits phase.Initialized Start true s fits = fits
-table_fits phase.Initialized (Received (Initialization id params)) false s fits = judged_fits (parameters.refusal_of s.peers params) s (Initialization id params) params _
-table_fits phase.OpenSent (Received (Initialization id params)) active s fits = judged_fits (parameters.refusal_of s.peers params) s (Initialization id params) params _
+table_fits phase.Initialized (Received (Initialization id params)) false s fits = judged_fits (parameters.proposal_refusal s.peers params) s (Initialization id params) params _
+table_fits phase.OpenSent (Received (Initialization id params)) active s fits = judged_fits (parameters.proposal_refusal s.peers params) s (Initialization id params) params _
 table_fits phase.OpenRec (Received (KeepAlive id)) active s fits = fits
 table_fits state (Received (Notification id status pw_status fec)) active s fits = notified_fits (reason_in status) s (Notification id status pw_status fec)
 table_fits phase.Operational (Received message) active s fits = tt
@@ -95,7 +95,7 @@ table_fits state (Received message) active s fits = tt
 table_fits state (Heard sender) active s fits = either_fits (is_platform s.peers.peer sender) reason.BadIdentifier (record s { wait = 0 }) [] (about_none bad_ldp_identifier ∷ []) fits
 table_fits state (Refused fault) active s fits = tt
 table_fits state Spoke active s fits = fits
-table_fits state Ticked active s fits = ticked_fits (later s) fits
+table_fits state Ticked active s fits = ticked_fits (a_tick_later s) fits
 table_fits state (Closed why) active s fits = tt
 table_fits state Start active s fits = tt
 

@@ -12,7 +12,7 @@ use Rattle.net_base.specs.declared.trace.drop_cause.DropCause.{DropCause}
 use Rattle.net_base.specs.declared.trace.drop_cause.DropCause.TheVariants as cause
 use Rattle.net_base.specs.plan.Paths.{offer_of}
 use Rattle.net_base.specs.plan.Places.{is_mesh_class, mtu_of, wire_row}
-use Rattle.net_base.specs.plan.Roles.{ends_at}
+use Rattle.net_base.specs.plan.Roles.{wire_ends_at}
 use Rattle.hvpls_spokes.specs.declared.port.Port.{Port}
 use Rattle.hvpls_spokes.specs.Port.{is_mesh, is_mesh_port, is_wire_port, ports_of, wire_port}
 use Rattle.hvpls_spokes.proofs.RowPortLemmas.{wire_behind, wire_leads}
@@ -306,5 +306,5 @@ wire_found plan me place row of_plan terminal is =
     let rows : Some of_plan.row ≡ Some row = sym of_plan.is ∙ is in
     let same : of_plan.row ≡ row = cc (rows) in
     let ends : is_terminal row me ≡ true = ap (λ (r : WirePlan). is_terminal r me) (sym same) ∙ (sym of_plan.terminal ∙ terminal) in
-    let at : ends_at row.service me.0 row ≡ true = and_from (nat_eq row.service.0 row.service.0) (is_terminal row me) (eq-eqb row.service.0 row.service.0 refl) ends in
+    let at : wire_ends_at row.service me.0 row ≡ true = and_from (nat_eq row.service.0 row.service.0) (is_terminal row me) (eq-eqb row.service.0 row.service.0 refl) ends in
     finds_wire_port place.wire (ports_of plan row.service me) (has_wire_port plan row.service me place.wire.0 row is at)

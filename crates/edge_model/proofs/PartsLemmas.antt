@@ -3,13 +3,13 @@ use Rattle.std.proofs.Common.{◌≡◌, ◌≤◌, ◌++◌, ◌∙◌, ℕ, ze
 use Rattle.net_base.specs.declared.plan.Plan.{Plan}
 use Rattle.net_base.specs.declared.plan.places.EdgeId.{EdgeId}
 use Rattle.ldp_codec.specs.Decoded.{refusal_of}
-use Rattle.ldp_grammar.specs.Reading.{AreOctets}
+use Rattle.net_values.specs.Octets.{AreOctets}
 use Rattle.ldp_stream.specs.FrontOf.{Front, More, Got, Bad, front_of}
 use Rattle.ldp_stream.specs.Hearing.{Hearer, Left, hear, hear_few, hear_front, hear_within}
 use Rattle.ldp_stream.proofs.HearingLemmas.{in_parts}
 use Rattle.session_core.specs.Table.{Refused}
 use Rattle.edge_model.specs.Hear.{hears, hears_few, hears_front, hears_on, hears_pdu, hears_within, holds}
-use Rattle.edge_model.specs.Parts.{HasFitMaximum, HeardInParts}
+use Rattle.edge_model.specs.Parts.{EdgeHearsInParts, HasFitMaximum}
 use Rattle.edge_model.specs.Session.{happens_with_ends}
 use Rattle.edge_model.specs.State.{Peering, has_end, is_there, with_peering}
 use Rattle.edge_model.specs.Work.{Work, Answers, changes}
@@ -137,7 +137,7 @@ gives_up plan told peer octets more work are fits ended =
     let first : hears plan told peer octets work ≡ settled peer left = as_hearer plan told peer (suc (length octets)) octets work fits in
     rest_first plan told peer octets more work are fits ∙ (settled_none plan told peer more left (subst (λ (w : Work). has_end w.edge peer ≡ false) first ended) ∙ sym first)
 
-pub heard_in_parts : HeardInParts
+pub heard_in_parts : EdgeHearsInParts
 heard_in_parts = record {
   goes_on = λ plan told peer octets more work are fits stands. goes_on plan told peer octets more work are fits stands;
   gives_up = λ plan told peer octets more work are fits ended. gives_up plan told peer octets more work are fits ended;

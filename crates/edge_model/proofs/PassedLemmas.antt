@@ -16,10 +16,10 @@ use Rattle.hvpls_spokes.specs.declared.edge_role.Role.{Role}
 use Rattle.hvpls_spokes.specs.declared.edge_role.Role.TheVariants as role
 use Rattle.hvpls_spokes.specs.declared.port.Port.{Port}
 use Rattle.hvpls_spokes.specs.declared.port.Port.TheVariants as port
-use Rattle.hvpls_spokes.specs.Port.{is_mesh, is_mesh_port, is_wire_port, ports_of}
+use Rattle.hvpls_spokes.specs.Port.{is_mesh, is_mesh_port, is_wire_port, ports_of, is_wire}
 use Rattle.ldp_grammar.specs.declared.message.Message.{Message}
 use Rattle.ldp_grammar.specs.Written.{written}
-use Rattle.mac_withdraw.specs.Passing.{is_passed_to, is_wire}
+use Rattle.mac_withdraw.specs.Passing.{is_passed_to}
 use Rattle.mac_withdraw.specs.Pieces.{pieces_of}
 use Rattle.pw_signalling.specs.declared.told.Told.{Told}
 use Rattle.pw_signalling.specs.Rows.{lost}
@@ -33,7 +33,7 @@ use Rattle.edge_model.specs.declared.effect.Effect.TheVariants.{Said, Session, C
 use Rattle.edge_model.specs.declared.end_place.EndPlace.{EndPlace}
 use Rattle.edge_model.specs.Ends.{wire_end}
 use Rattle.edge_model.specs.Frame.{copies}
-use Rattle.edge_model.specs.Passed.{ComesToCore, GoesOnBy, IsOfPassing, MayGoOnBy, Tells, WasTold, WithdrawalsGoOn, piece_octets}
+use Rattle.edge_model.specs.Passed.{ComesToCore, GivesMore, GoesOnBy, IsOfPassing, MayGoOnBy, WasTold, WithdrawalsGoOn, piece_octets}
 use Rattle.edge_model.specs.Put.{Spoken, having_spoken, message_octets_of, platform_of, put_octets, stays, with_spoken}
 use Rattle.edge_model.specs.Session.{ends, had_said, says, says_to}
 use Rattle.edge_model.specs.State.{EdgeState, Peering, end_at, has_end, is_there, with_addresses, with_ends_beside, with_peering}
@@ -163,7 +163,7 @@ end_wire plan me wire place found = eqb-true place.wire.0 wire.0 (of place.wire.
 
 -- ---- what is given out
 
-told_none : {So : List Effect → Type 0} (es : List Effect) → So [] → Tells es es So
+told_none : {So : List Effect → Type 0} (es : List Effect) → So [] → GivesMore es es So
 told_none es so = record { more = []; given = sym (append-nil es); so = so }
 
 was_told_more : (place : EndPlace) (content : Told) (kept : Peering) (front es back : List Effect) (piece : List Mac) → WasTold place content kept es piece → WasTold place content kept (front ++ (es ++ back)) piece
@@ -181,7 +181,7 @@ module _ (plan : Plan) (first : EdgeState) (service : ServiceId) (from : ℕ) (a
   -- sessions stood, and what is given out is of the passing
   record Passes (old new : Work) : Type 0 where
     since : Since old.edge new.edge
-    alone : Tells old.effects new.effects (AllByRecursion (IsOfPassing plan first service from (pieces_of addresses)))
+    alone : GivesMore old.effects new.effects (AllByRecursion (IsOfPassing plan first service from (pieces_of addresses)))
 
   passes_not : (work : Work) → Passes work work
   passes_not work = record { since = since_not work.edge; alone = told_none work.effects tt }
@@ -210,10 +210,10 @@ module _ (plan : Plan) (first : EdgeState) (service : ServiceId) (from : ℕ) (a
       IsIt : List Effect → Type 0
       IsIt es = AllByRecursion (IsOfPassing plan first service from (pieces_of addresses)) es
 
-      at_work : (new : Work) → (says told place.peer message work).work ≡ new → Tells work.effects new.effects IsIt → Tells work.effects (says told place.peer message work).work.effects IsIt
-      at_work new is tells = subst (λ (w : Work). Tells work.effects w.effects IsIt) (sym is) tells
+      at_work : (new : Work) → (says told place.peer message work).work ≡ new → GivesMore work.effects new.effects IsIt → GivesMore work.effects (says told place.peer message work).work.effects IsIt
+      at_work new is tells = subst (λ (w : Work). GivesMore work.effects w.effects IsIt) (sym is) tells
 
-      of : Saying told place.peer message work → Tells work.effects (says told place.peer message work).work.effects IsIt
+      of : Saying told place.peer message work → GivesMore work.effects (says told place.peer message work).work.effects IsIt
       of (Quiet none all) = at_work work (ap (λ (s : Spoken). s.work) all) (told_none work.effects tt)
       of (Taken kept is all) =
           let stood : Stood first work.edge place.peer.0 kept = since.stood place.peer.0 kept is in
@@ -326,7 +326,7 @@ module _ (plan : Plan) (first : EdgeState) (service : ServiceId) (from : ℕ) (a
 
   module _ (place : EndPlace) (content : Told) (kept : Peering) (by : GoesOnBy plan first service from place content kept) where
     abbrev Reaches : List (List Mac) → Work → Work → Type 0
-    Reaches pieces old new = Tells old.effects new.effects (λ more. AllByRecursion (WasTold place content kept more) pieces)
+    Reaches pieces old new = GivesMore old.effects new.effects (λ more. AllByRecursion (WasTold place content kept more) pieces)
 
     -- more is given out behind it and in front
     reaches_then : (pieces : List (List Mac)) (a b c : Work) → Reaches pieces a b → Passes b c → Reaches pieces a c
@@ -499,10 +499,10 @@ from_first i = omega arith
 reaches : (plan : Plan) (told : Answers) (peer : EdgeId) (fec : PwFec) (addresses : List Mac) (service : ServiceId) (from : ℕ) (place : EndPlace) (content : Told) (kept : Peering) (work : Work)
     → ComesToCore plan work.edge peer fec service from → GoesOnBy plan work.edge service from place content kept
     → has_end (hears_mac_withdraw plan told peer (Some fec) (Some addresses) work).edge place.peer ≡ true
-    → Tells work.effects (hears_mac_withdraw plan told peer (Some fec) (Some addresses) work).effects (λ more. AllByRecursion (WasTold place content kept more) (pieces_of addresses))
+    → GivesMore work.effects (hears_mac_withdraw plan told peer (Some fec) (Some addresses) work).effects (λ more. AllByRecursion (WasTold place content kept more) (pieces_of addresses))
 unfolding changes
 reaches plan told peer fec addresses service from place content kept work comes by stands =
-    subst (λ (w : Work). (has_end w.edge place.peer ≡ true) → Tells work.effects w.effects (λ more. AllByRecursion (WasTold place content kept more) (pieces_of addresses))) (sym (hears_is plan told peer fec addresses service from work comes))
+    subst (λ (w : Work). (has_end w.edge place.peer ≡ true) → GivesMore work.effects w.effects (λ more. AllByRecursion (WasTold place content kept more) (pieces_of addresses))) (sym (hears_is plan told peer fec addresses service from work comes))
     (λ there.
     ports_reach plan work.edge service from addresses told place content kept by 0 (ports_of plan service work.edge.me) (λ i x at. ap (slice_get (ports_of plan service work.edge.me)) (from_first i) ∙ at)
     by.may.p by.may.x by.may.at by.may.to_wire (ap (is_passed_to role.Core (ports_of plan service work.edge.me) from) (from_first by.may.p) ∙ by.may.passed)
@@ -510,10 +510,10 @@ reaches plan told peer fec addresses service from place content kept work comes 
 
 alone : (plan : Plan) (told : Answers) (peer : EdgeId) (fec : PwFec) (addresses : List Mac) (service : ServiceId) (from : ℕ) (work : Work)
     → ComesToCore plan work.edge peer fec service from
-    → Tells work.effects (hears_mac_withdraw plan told peer (Some fec) (Some addresses) work).effects (AllByRecursion (IsOfPassing plan work.edge service from (pieces_of addresses)))
+    → GivesMore work.effects (hears_mac_withdraw plan told peer (Some fec) (Some addresses) work).effects (AllByRecursion (IsOfPassing plan work.edge service from (pieces_of addresses)))
 unfolding changes
 alone plan told peer fec addresses service from work comes =
-    subst (λ (w : Work). Tells work.effects w.effects (AllByRecursion (IsOfPassing plan work.edge service from (pieces_of addresses)))) (sym (hears_is plan told peer fec addresses service from work comes))
+    subst (λ (w : Work). GivesMore work.effects w.effects (AllByRecursion (IsOfPassing plan work.edge service from (pieces_of addresses)))) (sym (hears_is plan told peer fec addresses service from work comes))
     (ports_pass plan work.edge service from addresses told 0 (ports_of plan service work.edge.me) (λ i x at. ap (slice_get (ports_of plan service work.edge.me)) (from_first i) ∙ at) (begun service addresses from work) (begun_since service addresses from work)).alone
 
 -- what came by a spoke goes to a mesh wire

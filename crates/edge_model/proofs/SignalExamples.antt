@@ -22,7 +22,8 @@ use Rattle.pw_signalling.specs.declared.told.Told.{Told}
 use Rattle.pw_signalling.specs.Down.{down}
 use Rattle.session_core.specs.Parameters.{proposal}
 use Rattle.edge_model.specs.Connection.{connected_input, lost_input}
-use Rattle.edge_model.specs.Content.{bare_fec_of, fec_of, no_params, pw_status_notice}
+use Rattle.edge_model.specs.Content.{bare_fec_of, fec_of, pw_status_notice}
+use Rattle.pw_tlvs.specs.Fec.{no_params}
 use Rattle.edge_model.specs.declared.effect.Effect.{Effect}
 use Rattle.edge_model.specs.declared.effect.Effect.TheVariants.{Said, Session, Wire, Closed}
 use Rattle.edge_model.specs.Hear.{hears_messages}

@@ -9,7 +9,7 @@ use Rattle.hvpls_spokes.specs.declared.port.Port.{Port}
 use Rattle.hvpls_spokes.specs.declared.port.Port.TheVariants as port
 use Rattle.hvpls_spokes.specs.Port.{is_wire_port, ports_of}
 use Rattle.mac_table.specs.declared.mac_entry.MacEntry.{MacEntry}
-use Rattle.mac_table.specs.Addresses.{AreDistinct, entry_of}
+use Rattle.mac_table.specs.Addresses.{AreDistinctAddresses, mac_entry_of}
 use Rattle.edge_model.specs.declared.end_place.EndPlace.{EndPlace}
 use Rattle.edge_model.specs.declared.input.Input.TheVariants.{Tick}
 use Rattle.edge_model.specs.Ends.{wire_end}
@@ -26,12 +26,12 @@ ticking plan told (suc n) work = ticking plan told n (edge_step plan told Tick (
 
 -- the entry under which the bridge of a service finds an address
 abbrev pub entry_at : EdgeState → ServiceId → Mac → Option MacEntry
-entry_at edge service address = entry_of (addresses_of edge service) address
+entry_at edge service address = mac_entry_of (addresses_of edge service) address
 
 -- the last frame from the address came in the tick of now, no address of the service stands twice, and this is the service
 pub record IsHeardNow (plan : Plan) (edge : EdgeState) (service : ServiceId) (row : ServicePlan) (address : Mac) (entry : MacEntry) : Type 0 where
   pub is : slice_get plan.services service.0 ≡ Some row
-  pub distinct : AreDistinct (addresses_of edge service)
+  pub distinct : AreDistinctAddresses (addresses_of edge service)
   pub found : entry_at edge service address ≡ Some entry
   pub now : entry.tick ≡ edge.ticks
 

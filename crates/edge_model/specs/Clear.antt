@@ -12,7 +12,7 @@ use Rattle.hvpls_spokes.specs.declared.port.Port.{Port}
 use Rattle.hvpls_spokes.specs.declared.port.Port.TheVariants as port
 use Rattle.hvpls_spokes.specs.Port.{ports_of}
 use Rattle.hvpls_spokes.specs.Role as roles
-use Rattle.mac_table.specs.Addresses.{stays}
+use Rattle.mac_table.specs.Addresses.{entry_stays}
 use Rattle.mac_withdraw.specs.Passing.{is_passed_to}
 use Rattle.mac_withdraw.specs.Pieces.{pieces_of}
 use Rattle.edge_model.specs.declared.end_place.EndPlace.{EndPlace}
@@ -46,7 +46,7 @@ passes_on plan told addresses service from (Some role) work =
 
 -- the bridge of a service forgets what a MAC withdraw by a port names
 abbrev pub withdrawing_at : ServiceId → List Mac → ℕ → EdgeState → EdgeState
-withdrawing_at service addresses from edge = with_addresses service (filter (stays from addresses) (addresses_of edge service)) edge
+withdrawing_at service addresses from edge = with_addresses service (filter (entry_stays from addresses) (addresses_of edge service)) edge
 
 abbrev pub clears_at : Plan → Answers → List Mac → ServiceId → Option ℕ → Work → Work
 clears_at plan told addresses service None work = work

@@ -6,6 +6,7 @@ use Rattle.pw_tlvs.specs.declared.if_params.IfParams.{IfParams}
 use Rattle.pw_tlvs.specs.declared.point.Point.{Point}
 use Rattle.pw_tlvs.specs.declared.pw_fec.PwFec.{PwFec}
 use Rattle.pw_tlvs.specs.declared.pw_status.PwStatus.{PwStatus}
+use Rattle.pw_tlvs.specs.Fec.{no_params}
 use Rattle.ldp_grammar.specs.declared.message.Message.{Message}
 use Rattle.ldp_grammar.specs.declared.message.Message.TheVariants.{Notification, AddressWithdraw, LabelMapping, LabelWithdraw, LabelRelease}
 use Rattle.ldp_grammar.specs.declared.status_code.StatusCode.{StatusCode}
@@ -13,10 +14,6 @@ use Rattle.pw_signalling.specs.declared.binding.Binding.{Binding}
 use Rattle.pw_signalling.specs.declared.told.Told.{Told}
 
 -- ---- PWid FEC elements
-
--- no interface parameter is told
-abbrev pub no_params : IfParams
-no_params = record { mtu = None; description = []; vlan = None; vccv = None }
 
 abbrev pub params_of : Told → IfParams
 params_of told = record { mtu = told.mtu; description = told.description; vlan = told.vlan; vccv = told.vccv }
@@ -35,8 +32,8 @@ bare fec = record fec { params = no_params }
 
 -- ---- what a Label Mapping tells
 
-abbrev pub told_in : PwFec → Option PwStatus → List Point → Told
-told_in fec status points = record {
+abbrev pub told_with : PwFec → Option PwStatus → List Point → Told
+told_with fec status points = record {
   c = fec.c;
   kind = fec.kind;
   group = fec.group;
@@ -49,7 +46,7 @@ told_in fec status points = record {
 }
 
 abbrev pub binding_in : PwFec → ℕ → Option PwStatus → List Point → Binding
-binding_in fec label status points = record { label = label; told = told_in fec status points }
+binding_in fec label status points = record { label = label; told = told_with fec status points }
 
 -- ---- what an offer tells
 

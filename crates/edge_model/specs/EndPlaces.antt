@@ -13,14 +13,14 @@ abbrev pub is_terminal : WirePlan → EdgeId → Bool
 is_terminal row me = is_first me.0 row.path || is_last me.0 row.path
 
 -- the end at one side of a segment, beside the edge at its other side
-abbrev pub place_at : WireId → WirePlan → EdgeId → ℕ → ℕ → EdgeId → EndPlace
-place_at wire row me segment side peer = record { wire = wire; peer = peer; pw_id = row.pw_id; segment = segment; side = side; terminal = is_terminal row me }
+abbrev pub end_place_at : WireId → WirePlan → EdgeId → ℕ → ℕ → EdgeId → EndPlace
+end_place_at wire row me segment side peer = record { wire = wire; peer = peer; pw_id = row.pw_id; segment = segment; side = side; terminal = is_terminal row me }
 
 -- the ends of the edge at a segment between two edges
 abbrev pub places_at : WireId → WirePlan → EdgeId → ℕ → EdgeId → EdgeId → List EndPlace
 places_at wire row me segment first next =
-    if me.0 == first.0 then place_at wire row me segment 0 next ∷ []
-    else if me.0 == next.0 then place_at wire row me segment 1 first ∷ []
+    if me.0 == first.0 then end_place_at wire row me segment 0 next ∷ []
+    else if me.0 == next.0 then end_place_at wire row me segment 1 first ∷ []
     else []
 
 -- those at the segments of the rest of a path, of which the first one has this number

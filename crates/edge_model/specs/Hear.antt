@@ -76,13 +76,13 @@ abbrev pub acts : Plan → Answers → EdgeId → Message → Bool → Work → 
 acts plan told peer message false work = work
 acts plan told peer message true work = if has_end work.edge peer then acts_on plan told peer message work else work
 
-abbrev pub is_up : Phase → Bool
-is_up phase.Operational = true
-is_up state = false
+abbrev pub is_up_phase : Phase → Bool
+is_up_phase phase.Operational = true
+is_up_phase state = false
 
 abbrev pub was_up : Option Peering → Bool
 was_up None = false
-was_up (Some kept) = is_up kept.session.phase
+was_up (Some kept) = is_up_phase kept.session.phase
 
 -- what a message makes of the session, and what the edge then does
 abbrev pub hears_one : Plan → Answers → EdgeId → Message → Work → Work

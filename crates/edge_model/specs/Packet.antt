@@ -11,6 +11,7 @@ use Rattle.net_base.specs.declared.trace.drop_cause.DropCause.{DropCause}
 use Rattle.net_base.specs.declared.trace.drop_cause.DropCause.TheVariants as cause
 use Rattle.net_base.specs.plan.Paths.{offer_of}
 use Rattle.net_base.specs.plan.Places.{mtu_of, wire_row}
+use Rattle.net_values.specs.Label.{router_alert}
 use Rattle.eth_encap.specs.declared.stack_entry.StackEntry.{StackEntry}
 use Rattle.eth_encap.specs.Packet.{entry_of, unpacked}
 use Rattle.pw_signalling.specs.declared.binding.Binding.{Binding}
@@ -51,9 +52,6 @@ abbrev pub unpacked_at : Plan → WirePlan → EdgeId → List ℕ → Result (L
 unpacked_at plan row me payload = unpacked_by (offer_of row me.0) (mtu_of plan row.service) payload
 
 -- ---- 1. a router alert label in front (RFC 3032 section 2.1, RFC 5085 section 5.1.2)
-
-abbrev pub router_alert : ℕ
-router_alert = 1
 
 abbrev pub is_alert : StackEntry → Bool
 is_alert entry = entry.label == router_alert && not entry.bottom

@@ -3,7 +3,7 @@
 use Rattle.std.specs.Prelude.{◌≡◌, ◌≤◌, ◌++◌, ℕ, true, false, List, Option, Some, None}
 use Rattle.net_base.specs.declared.plan.Plan.{Plan}
 use Rattle.net_base.specs.declared.plan.places.EdgeId.{EdgeId}
-use Rattle.ldp_grammar.specs.Reading.{AreOctets}
+use Rattle.net_values.specs.Octets.{AreOctets}
 use Rattle.edge_model.specs.declared.input.Input.{Input}
 use Rattle.edge_model.specs.Hear.{hears, hears_on}
 use Rattle.edge_model.specs.State.{EdgeState, Peering, empty_edge, has_end}
@@ -20,7 +20,7 @@ abbrev pub SessionsFit : EdgeState → Type 0
 SessionsFit edge = (k : ℕ) → HasFitMaximum (edge.peering k)
 
 -- Whatever the link answers, and whatever the maximum becomes between two PDUs.
-pub record HeardInParts : Type 0 where
+pub record EdgeHearsInParts : Type 0 where
   -- what is left of the first part is held, and stands in front of the second
   pub goes_on : (plan : Plan) (told : Answers) (peer : EdgeId) (octets more : List ℕ) (work : Work) → AreOctets (octets ++ more) → HasFitMaximum (work.edge.peering peer.0)
       → has_end (hears plan told peer octets work).edge peer ≡ true

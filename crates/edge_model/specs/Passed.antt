@@ -66,7 +66,7 @@ pub record GoesOnBy (plan : Plan) (edge : EdgeState) (service : ServiceId) (from
 -- ---- what is given out
 
 -- more was given out, of which this holds
-pub record Tells (old new : List Effect) (So : List Effect → Type 0) : Type 0 where
+pub record GivesMore (old new : List Effect) (So : List Effect → Type 0) : Type 0 where
   pub more : List Effect
   pub given : new ≡ old ++ more
   pub so : So more
@@ -109,11 +109,11 @@ pub record WithdrawalsGoOn : Type 0 where
   pub reaches : (plan : Plan) (told : Answers) (peer : EdgeId) (fec : PwFec) (addresses : List Mac) (service : ServiceId) (from : ℕ) (place : EndPlace) (content : Told) (kept : Peering) (work : Work)
       → ComesToCore plan work.edge peer fec service from → GoesOnBy plan work.edge service from place content kept
       → has_end (hears_mac_withdraw plan told peer (Some fec) (Some addresses) work).edge place.peer ≡ true
-      → Tells work.effects (hears_mac_withdraw plan told peer (Some fec) (Some addresses) work).effects (λ more. AllByRecursion (WasTold place content kept more) (pieces_of addresses))
+      → GivesMore work.effects (hears_mac_withdraw plan told peer (Some fec) (Some addresses) work).effects (λ more. AllByRecursion (WasTold place content kept more) (pieces_of addresses))
   -- and by no other one
   pub alone : (plan : Plan) (told : Answers) (peer : EdgeId) (fec : PwFec) (addresses : List Mac) (service : ServiceId) (from : ℕ) (work : Work)
       → ComesToCore plan work.edge peer fec service from
-      → Tells work.effects (hears_mac_withdraw plan told peer (Some fec) (Some addresses) work).effects (AllByRecursion (IsOfPassing plan work.edge service from (pieces_of addresses)))
+      → GivesMore work.effects (hears_mac_withdraw plan told peer (Some fec) (Some addresses) work).effects (AllByRecursion (IsOfPassing plan work.edge service from (pieces_of addresses)))
   -- what came by a spoke may go on by each mesh wire
   pub to_mesh : (plan : Plan) (edge : EdgeState) (service : ServiceId) (from p : ℕ) (spoke mesh : WireId) (place : EndPlace)
       → slice_get (ports_of plan service edge.me) from ≡ Some (port.Spoke spoke) → slice_get (ports_of plan service edge.me) p ≡ Some (port.Mesh mesh)

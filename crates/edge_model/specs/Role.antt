@@ -17,18 +17,18 @@ use Rattle.edge_model.specs.declared.end_place.EndPlace.{EndPlace}
 use Rattle.edge_model.specs.State.{EdgeState, end_at}
 
 -- the wire is the one that is chosen
-abbrev pub is_wire : WireId → Option WireId → Bool
-is_wire wire None = false
-is_wire wire (Some chosen) = chosen.0 == wire.0
+abbrev pub is_chosen_wire : WireId → Option WireId → Bool
+is_chosen_wire wire None = false
+is_chosen_wire wire (Some chosen) = chosen.0 == wire.0
 
 -- the spoke is the one that is chosen for its service
 abbrev pub is_chosen : (ℕ → Option WireId) → WireId → WirePlan → Bool
-is_chosen chosen wire row = is_wire wire (chosen row.service.0)
+is_chosen chosen wire row = is_chosen_wire wire (chosen row.service.0)
 
 -- A mesh wire has two equal ends. A spoke ends at its spoke edge, the first of its path, and at its core edge, the last (RFC
 -- 4762 section 10.1); a spoke edge forwards by the spoke that it has chosen (RFC 6870)
-abbrev pub role_of : WirePlan → EdgeId → Bool → EndRole
-role_of row me chosen =
+abbrev pub end_role_of : WirePlan → EdgeId → Bool → EndRole
+end_role_of row me chosen =
     if is_mesh_class row.class then role.Mesh
     else if is_last me.0 row.path then role.Core
     else if chosen then role.Chosen
@@ -36,7 +36,7 @@ role_of row me chosen =
 
 abbrev pub role_in : Option WirePlan → EdgeId → (ℕ → Option WireId) → WireId → EndRole
 role_in None me chosen wire = role.Mesh
-role_in (Some row) me chosen wire = role_of row me (is_chosen chosen wire row)
+role_in (Some row) me chosen wire = end_role_of row me (is_chosen chosen wire row)
 
 abbrev pub role_at : Plan → EdgeState → EndPlace → EndRole
 role_at plan edge place = role_in (wire_row plan place.wire) edge.me edge.chosen place.wire

@@ -2,7 +2,7 @@
 ghost use Rattle.edge_model.specs.Aging.{AddressesLastTheirAge};
 ghost use Rattle.edge_model.specs.Local.{FramesStayLocal, PacketsStayLocal};
 ghost use Rattle.edge_model.specs.Mended.{MendsAtOnce};
-ghost use Rattle.edge_model.specs.Parts.{HeardInParts};
+ghost use Rattle.edge_model.specs.Parts.{EdgeHearsInParts};
 ghost use Rattle.edge_model.specs.Passed.{WithdrawalsGoOn};
 ghost use Rattle.edge_model.specs.Released.{MindsOwnReleases};
 ghost use Rattle.edge_model.specs.StandbyBit.{SpokesAloneStandBy};
@@ -29,7 +29,7 @@ pub fn packets_stay_local()
 /// section 3.5.3).
 #[tactic(auto, using(crate::proofs::PartsLemmas::heard_in_parts))]
 pub fn heard_in_parts()
-    ensures { HeardInParts }
+    ensures { EdgeHearsInParts }
 {}
 
 /// A Label Release of another label than that of the end which its FEC names, or whose FEC names none, changes nothing: the

@@ -15,10 +15,10 @@ use Rattle.command_text.specs.Events.{command_in}
 use Rattle.command_text.specs.declared.command.Command.TheVariants.{One}
 
 -- words, parted by one blank
-abbrev pub text_of : List (List ℕ) → List ℕ
-text_of [] = []
-text_of (word ∷ []) = word
-text_of (word ∷ next ∷ words) = word ++ (codes " " ++ text_of (next ∷ words))
+abbrev pub joined_words : List (List ℕ) → List ℕ
+joined_words [] = []
+joined_words (word ∷ []) = word
+joined_words (word ∷ next ∷ words) = word ++ (codes " " ++ joined_words (next ∷ words))
 
 -- names, of which each stands once
 pub record AreNames (names : List (List ℕ)) : Type 0 where
@@ -42,23 +42,23 @@ pub record IsWritable (octets : List ℕ) : Type 0 where
   pub few : length octets ≤ 9216
 
 -- the numbers of an event are in the ranges in which a scenario writes them
-abbrev pub IsInRange : Event → Type 0
-IsInRange (Connect from to) = Unit {0}
-IsInRange (Deliver from to count) = (1 ≤ count) × (count ≤ 65535)
-IsInRange (Lose edge peer) = Unit {0}
-IsInRange (Restart edge) = Unit {0}
-IsInRange Tick = Unit {0}
-IsInRange (Frame circuit octets) = IsWritable octets
-IsInRange (Arrive packet) = IsPacket packet
-IsInRange (Discard packet) = IsPacket packet
-IsInRange (Again packet) = IsPacket packet
-IsInRange (Wire edge wire on) = Unit {0}
-IsInRange (Circuit circuit on) = Unit {0}
-IsInRange (Status edge wire bits) = Unit {0}
-IsInRange (Priority edge wire priority) = priority ≤ 255
-IsInRange (Ping edge wire) = Unit {0}
+abbrev pub IsEventInRange : Event → Type 0
+IsEventInRange (Connect from to) = Unit {0}
+IsEventInRange (Deliver from to count) = (1 ≤ count) × (count ≤ 65535)
+IsEventInRange (Lose edge peer) = Unit {0}
+IsEventInRange (Restart edge) = Unit {0}
+IsEventInRange Tick = Unit {0}
+IsEventInRange (Frame circuit octets) = IsWritable octets
+IsEventInRange (Arrive packet) = IsPacket packet
+IsEventInRange (Discard packet) = IsPacket packet
+IsEventInRange (Again packet) = IsPacket packet
+IsEventInRange (Wire edge wire on) = Unit {0}
+IsEventInRange (Circuit circuit on) = Unit {0}
+IsEventInRange (Status edge wire bits) = Unit {0}
+IsEventInRange (Priority edge wire priority) = priority ≤ 255
+IsEventInRange (Ping edge wire) = Unit {0}
 
 -- the words of an event are read as the event
 abbrev pub ReadsWhatIsWritten : Type 0
-ReadsWhatIsWritten = (plan : Plan) (event : Event) (number plays : ℕ) → HasNames plan → IsEventOf plan event → IsInRange event
-    → command_in (names_of plan) number plays (text_of (event_words plan event)) ≡ Ok (One event)
+ReadsWhatIsWritten = (plan : Plan) (event : Event) (number plays : ℕ) → HasNames plan → IsEventOf plan event → IsEventInRange event
+    → command_in (names_of plan) number plays (joined_words (event_words plan event)) ≡ Ok (One event)

@@ -10,8 +10,8 @@ use Rattle.pw_signalling.specs.declared.told.Told.{Told}
 use Rattle.pw_signalling.specs.End.{LocalPart, Idle, Advertised, Withdrawing}
 use Rattle.pw_signalling.specs.Rows.{release_part, status_part, unless_named, with_status}
 use Rattle.edge_model.specs.Content.{mapping, pw_status_code, status_notification, withdrawal}
-use Rattle.flight_model.specs.Binding.{advertised_by, after, heard_of, where_named}
-use Rattle.flight_model.specs.Bound.{IsBoundBy, advertises, answered, is_old, is_release_of, is_silent, is_waited_for, is_withdrawal_of, names_label, names_old, names_other, released_by, releases_old, some_message, withdraws_old}
+use Rattle.flight_model.specs.Binding.{advertised_by, bound_after, heard_of, where_named}
+use Rattle.flight_model.specs.Bound.{IsBoundBy, answered_part, has_advertised, is_old, is_release_of, is_silent, is_waited_for, is_withdrawal_of, names_label, names_old, names_other, released_by, releases_old, some_message, withdraws_old}
 use Rattle.flight_model.specs.Flight.{all_messages}
 
 clash : {P : Type 0} → false ≡ true → P
@@ -31,7 +31,7 @@ and_both false b h k = clash h
 
 -- ---- lists of messages
 
-pub after-append : (pw_id : ℕ) (xs ys : List Message) (held : Option Binding) → after pw_id (xs ++ ys) held ≡ after pw_id ys (after pw_id xs held)
+pub after-append : (pw_id : ℕ) (xs ys : List Message) (held : Option Binding) → bound_after pw_id (xs ++ ys) held ≡ bound_after pw_id ys (bound_after pw_id xs held)
 after-append pw_id [] ys held = refl
 after-append pw_id (x ∷ xs) ys held = after-append pw_id xs ys (heard_of pw_id x held)
 
@@ -115,7 +115,7 @@ status_heard_is pw_id label status told told2 id = rw (itself pw_id) refl
 pub binding_advertises : (pw_id next : ℕ) (declined : Bool) (told : Told) (id : ℕ) (far : Option Binding) (out back : List Message)
     → IsBoundBy pw_id next (Idle declined) far out back → IsBoundBy pw_id (next + 1) (Advertised next told) far (out ++ mapping pw_id next told id ∷ []) back
 binding_advertises pw_id next declined told id far out back is = record {
-  agrees = after-append pw_id out (mapping pw_id next told id ∷ []) far ∙ mapping_heard pw_id next told id (after pw_id out far);
+  agrees = after-append pw_id out (mapping pw_id next told id ∷ []) far ∙ mapping_heard pw_id next told id (bound_after pw_id out far);
   withdrawn = all_more (withdraws_old pw_id (next + 1) (Advertised next told)) out (mapping pw_id next told id)
       (all_weaker (withdraws_old pw_id next (Idle declined)) (withdraws_old pw_id (next + 1) (Advertised next told)) out
       (withdraws_older pw_id next (next + 1) (Idle declined) (Advertised next told) (still next declined told)) is.withdrawn) refl;
@@ -252,7 +252,7 @@ silent_releases pw_id next near m silent = refl
 pub binding_says_other : (pw_id next : ℕ) (near : LocalPart) (far : Option Binding) (out back : List Message) (m : Message) → is_silent pw_id m ≡ true
     → IsBoundBy pw_id next near far out back → IsBoundBy pw_id next near far (out ++ m ∷ []) back
 binding_says_other pw_id next near far out back m silent is = record {
-  agrees = after-append pw_id out (m ∷ []) far ∙ (silent_heard pw_id m (after pw_id out far) silent ∙ is.agrees);
+  agrees = after-append pw_id out (m ∷ []) far ∙ (silent_heard pw_id m (bound_after pw_id out far) silent ∙ is.agrees);
   withdrawn = all_more (withdraws_old pw_id next near) out m is.withdrawn (silent_withdraws pw_id next near m silent);
   released = is.released;
   waits = waits_out pw_id next near out back m is.waits;
@@ -291,7 +291,7 @@ binding_goes_on pw_id next near far out back is = record {
     further a b h = grind (arith, nat_tests)
 
     still : (next : ℕ) (near : LocalPart) (label : ℕ) → is_old next near label ≡ true → is_old (next + 1) near label ≡ true
-    still next near label old = and_both (nat_lt label (next + 1)) (not (advertises near label)) (further label next (and_left (nat_lt label next) (not (advertises near label)) old)) (and_right (nat_lt label next) (not (advertises near label)) old)
+    still next near label old = and_both (nat_lt label (next + 1)) (not (has_advertised near label)) (further label next (and_left (nat_lt label next) (not (has_advertised near label)) old)) (and_right (nat_lt label next) (not (has_advertised near label)) old)
 
     waits : (near : LocalPart) → is_waited_for pw_id next near out back ≡ true → is_waited_for pw_id (next + 1) near out back ≡ true
     waits (Idle declined) h = refl
@@ -415,7 +415,7 @@ same_number : (m n : ℕ) → (m == n) ≡ true → m ≡ n
 same_number m n is = grind (arith, nat_tests)
 
 -- the end hears the next message of its neighbour
-pub binding_hears : (pw_id next : ℕ) (near : LocalPart) (far : Option Binding) (m : Message) (out back : List Message) → IsBoundBy pw_id next near far out (m ∷ back) → IsBoundBy pw_id next (answered pw_id m near) far out back
+pub binding_hears : (pw_id next : ℕ) (near : LocalPart) (far : Option Binding) (m : Message) (out back : List Message) → IsBoundBy pw_id next near far out (m ∷ back) → IsBoundBy pw_id next (answered_part pw_id m near) far out back
 binding_hears pw_id next near far (LabelRelease id fec label) out back is = by_name fec.pw_id label refl refl (and_left (names_old pw_id next near fec.pw_id label) (all_messages (releases_old pw_id next near) back) is.released)
   where
     by_name : (named given : Option ℕ) → fec.pw_id ≡ named → label ≡ given → names_old pw_id next near named given ≡ true → IsBoundBy pw_id next (released_by pw_id named given near) far out back

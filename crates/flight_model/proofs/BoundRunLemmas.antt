@@ -29,7 +29,7 @@ use Rattle.flight_model.specs.Binding.{is_withdrawing}
 use Rattle.flight_model.specs.Bound.{AreBound, IsBoundBy, is_waited_for}
 use Rattle.flight_model.specs.Ends.{HasTypes, IsOrdered, ends_at}
 use Rattle.flight_model.specs.Facts.{flight}
-use Rattle.flight_model.specs.Laws.{BothStand, HasAgreed, IsRun, IsStill, IsUnbound, OfWires, RunsAgreeAfterFlight, RunsSettle, network_after}
+use Rattle.flight_model.specs.Laws.{BothStand, HasAgreed, IsRun, IsStillBetween, IsUnbound, OfWires, RunsAgreeAfterFlight, RunsSettle, network_after}
 use Rattle.flight_model.specs.Pair.{ArePaired}
 use Rattle.flight_model.proofs.BoundConnectLemmas.{connect_bounds, low_end}
 use Rattle.flight_model.proofs.BoundEventLemmas.{Bounds, again_bounds, arrive_bounds, circuit_bounds, deliver_bounds, discard_bounds, frame_bounds, lose_bounds, restart_bounds, priority_bounds, status_bounds, tick_bounds, wire_bounds}
@@ -168,7 +168,7 @@ drained_flight network from to drained =
     rw (none_of (held network to from) (and_right (nat_eq (length (network.pipes from to)) 0) (nat_eq (length (held network to from)) 0) drained))
     (none_of (network.pipes from to) (and_left (nat_eq (length (network.pipes from to)) 0) (nat_eq (length (held network to from)) 0) drained))
 
-still : (network : NetworkState) (a b : ℕ) → is_settled network a b ≡ true → BothStand network a b → IsStill network a b
+still : (network : NetworkState) (a b : ℕ) → is_settled network a b ≡ true → BothStand network a b → IsStillBetween network a b
 still network a b is both =
     let drained : is_drained network a b && is_drained network b a ≡ true = rw (both.one, both.other) at is in
     record {
@@ -183,7 +183,7 @@ waits_not pw_id next (Idle declined) waits = refl
 waits_not pw_id next (Advertised label told) waits = refl
 waits_not pw_id next (Withdrawing label) waits = clash (and_right (nat_lt label next) false waits)
 
-agreed : (plan : Plan) (network : NetworkState) (a b : ℕ) → IsStill network a b → AreBoundNow plan network a b → OfWires plan network a b HasAgreed
+agreed : (plan : Plan) (network : NetworkState) (a b : ℕ) → IsStillBetween network a b → AreBoundNow plan network a b → OfWires plan network a b HasAgreed
 agreed plan network a b quiet now wire row is joined =
     let out : now.pair.messages ≡ [] = none_said (ends_at plan a b).me now.pair.messages (sym quiet.out ∙ now.pair.out_is) in
     let back : now.pair.answers ≡ [] = none_said (ends_at plan b a).me now.pair.answers (sym quiet.back ∙ now.pair.back_is) in
@@ -214,7 +214,7 @@ runs_settle plan events run service quiet a b joined =
     let ordered : IsOrdered plan network = run_ordered plan events run in
     let is : is_settled network a b ≡ true = settled plan network service a b run.checked quiet joined in
     record {
-      up = λ both. (let rest : IsStill network a b = still network a b is both in
+      up = λ both. (let rest : IsStillBetween network a b = still network a b is both in
           let up = runs_come_up plan events run a b rest in
           (up.0, (up.1, agreed plan network a b rest (bound_now plan network a b ordered (run_bounds plan events run) both))));
       apart = λ gone gone'. unbound plan network a b ordered gone gone';

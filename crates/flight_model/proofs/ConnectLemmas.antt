@@ -15,7 +15,7 @@ use Rattle.session_core.specs.Parameters.{proposal}
 use Rattle.session_core.specs.Phase.{Phase}
 use Rattle.session_core.specs.Phase as phase
 use Rattle.session_core.specs.State.{is_active, opened}
-use Rattle.session_core.specs.Table.{Goes, Start, Stay, enters, outcome_of}
+use Rattle.session_core.specs.Table.{Goes, Start, Stay, enters_phase, outcome_of}
 use Rattle.session_core.proofs.LawLemmas.{ends_agree}
 use Rattle.edge_model.specs.Connection.{connects, connects_between, opened_with, peers_of}
 use Rattle.edge_model.specs.declared.effect.Effect.TheVariants.{Session}
@@ -64,7 +64,7 @@ pub record HasOpened (own other : Peers) (me peer : EdgeId) (work : Work) : Type
   pub speaks : is_active own ≡ true → (kept.session.phase ≡ phase.OpenSent) × (messages ≡ Initialization 1 (proposal own) ∷ [])
   pub waits : is_active own ≡ false → (kept.session.phase ≡ phase.Initialized) × (messages ≡ [])
 
-starts : (own : Peers) → is_active own ≡ true → outcome_of (opened own) Start ≡ Goes (enters phase.OpenSent (opened own)) (reply.Init ∷ [])
+starts : (own : Peers) → is_active own ≡ true → outcome_of (opened own) Start ≡ Goes (enters_phase phase.OpenSent (opened own)) (reply.Init ∷ [])
 starts own active = rw active refl
 
 rests : (own : Peers) → is_active own ≡ false → outcome_of (opened own) Start ≡ Stay
@@ -91,14 +91,14 @@ starts_opens : (me peer : EdgeId) (one other : EdgePlan) (work : Work) → AreEn
     → HasOpened (peers_of one other) (peers_of other one) me peer (started peer one other work)
 unfolding started
 starts_opens me peer one other work ends none fine = elim (cases_Bool (is_active own)) [
-  | inl active ↦ (let said = goes_shows me peer kept (enters phase.OpenSent (opened own)) (reply.Init ∷ []) [] begun opening.0 opening.1 in
+  | inl active ↦ (let said = goes_shows me peer kept (enters_phase phase.OpenSent (opened own)) (reply.Init ∷ []) [] begun opening.0 opening.1 in
       rw (opening.0.keeps, starts own active) (record {
-        kept = having_spoken (with_session (enters phase.OpenSent (opened own)) kept);
+        kept = having_spoken (with_session (enters_phase phase.OpenSent (opened own)) kept);
         messages = Initialization 1 (proposal own) ∷ [];
         shows = said.0;
         fine = said.1;
         nothing = refl;
-        stands = stands_open one other (having_spoken (with_session (enters phase.OpenSent (opened own)) kept)) ends refl refl (omega arith) (λ e. absurd (no e));
+        stands = stands_open one other (having_spoken (with_session (enters_phase phase.OpenSent (opened own)) kept)) ends refl refl (omega arith) (λ e. absurd (no e));
         said = ((omega arith, refl), tt);
         speaks = λ e. (refl, refl);
         waits = λ e. clash (sym e ∙ active);

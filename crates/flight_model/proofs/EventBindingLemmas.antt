@@ -21,7 +21,7 @@ use Rattle.flight_model.specs.Bound.{AreBound, HasSaid, LeavesBound, is_silent}
 use Rattle.flight_model.specs.Ends.{ends_at}
 use Rattle.flight_model.specs.Meeting.{IsFine, Shows, closes, said_to}
 use Rattle.flight_model.specs.Messages.{AreSaid, octets_of_all}
-use Rattle.flight_model.specs.Pair.{StayInStep, having_put, messages_put, octets_put}
+use Rattle.flight_model.specs.Pair.{StayInStep, having_put_all, messages_put, octets_put}
 use Rattle.flight_model.proofs.ActBindingLemmas.{SparesWires}
 use Rattle.flight_model.proofs.BindingLemmas.{binding_answers, binding_says_other, silent_releases}
 use Rattle.flight_model.proofs.EdgeBindingLemmas.{bound_same, clash}
@@ -108,7 +108,7 @@ ended_none peer why work = rw (same_place peer.0) refl
 pub no_far : (plan : Plan) (me : EdgeId) (place : ℕ) (far : EdgeState) (out : List ℕ) (answers : List Message) (work : Work) → far.peering me.0 ≡ None → LeavesBound plan me place far out answers work
 no_far plan me place far out answers work none = record { bound = λ messages are is near other. clash (sym (ap is_there none) ∙ other) }
 
-put_peers : (rs : List Reply) (kept : Peering) → (having_put rs kept).session.peers ≡ kept.session.peers
+put_peers : (rs : List Reply) (kept : Peering) → (having_put_all rs kept).session.peers ≡ kept.session.peers
 put_peers [] kept = refl
 put_peers (r ∷ rs) kept = put_peers rs (having_spoken kept)
 
@@ -134,7 +134,7 @@ leaves_event plan me peer far out before after answers event kept work has fine 
   went next replies far_end there is =
       let now : Peering = with_session next kept in
       let goes : StayInStep own other kept (Some far_end) has.messages answers (Goes next replies) = rw (there, is) at step in
-      let shows : Shows peer.0 new (Some (having_put replies now)) (said_to peer.0 work.effects ++ octets_put replies now) false =
+      let shows : Shows peer.0 new (Some (having_put_all replies now)) (said_to peer.0 work.effects ++ octets_put replies now) false =
       rw (happens_is peer event kept (Goes next replies) work at is) (goes_shows me peer kept next replies (said_to peer.0 work.effects) work (record { keeps = at; says = refl; ended = unclosed }) fine).0 in
       let keeps : KeepsEnds work.edge new.edge = happens_keeps taken_all peer event work in
       let peers : next.peers ≡ own = sym (put_peers replies now) ∙ goes.here.peers in

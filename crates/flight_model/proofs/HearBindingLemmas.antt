@@ -19,7 +19,7 @@ use Rattle.session_core.specs.Reasons.{is_fatal}
 use Rattle.session_core.specs.State.{SessionState}
 use Rattle.session_core.specs.Table.{SessionEvent, Heard, Received, outcome_of}
 use Rattle.edge_model.specs.Content.{pw_status_code}
-use Rattle.edge_model.specs.Hear.{acts_on, is_up}
+use Rattle.edge_model.specs.Hear.{acts_on, is_up_phase}
 use Rattle.edge_model.specs.Mend.{is_operational, is_up_with}
 use Rattle.edge_model.specs.Put.{platform_of}
 use Rattle.edge_model.specs.Session.{happens_with_ends}
@@ -56,30 +56,30 @@ is_session (Notification id code status fec) = true
 is_session m = false
 
 -- it is no message of labels
-pub session_goes : (s : SessionState) (other : Peers) (m : Message) → is_up s.phase ≡ false → IsSaid other m → goes_on (outcome_of s (Received m)) ≡ true → is_session m ≡ true
+pub session_goes : (s : SessionState) (other : Peers) (m : Message) → is_up_phase s.phase ≡ false → IsSaid other m → goes_on (outcome_of s (Received m)) ≡ true → is_session m ≡ true
 session_goes s other (Initialization id params) up said goes = refl
 session_goes s other (KeepAlive id) up said goes = refl
 session_goes s other (Notification id code status fec) up said goes = refl
 session_goes s other (AddressWithdraw id addresses fec macs) up said goes = by_phase s.phase refl up where
-  by_phase : (p : Phase) → s.phase ≡ p → is_up p ≡ false → false ≡ true
+  by_phase : (p : Phase) → s.phase ≡ p → is_up_phase p ≡ false → false ≡ true
   by_phase phase.Initialized at up = rw at at goes
   by_phase phase.OpenSent at up = rw at at goes
   by_phase phase.OpenRec at up = rw at at goes
   by_phase phase.Operational at up = sym up
 session_goes s other (LabelMapping id fec label status points) up said goes = by_phase s.phase refl up where
-  by_phase : (p : Phase) → s.phase ≡ p → is_up p ≡ false → false ≡ true
+  by_phase : (p : Phase) → s.phase ≡ p → is_up_phase p ≡ false → false ≡ true
   by_phase phase.Initialized at up = rw at at goes
   by_phase phase.OpenSent at up = rw at at goes
   by_phase phase.OpenRec at up = rw at at goes
   by_phase phase.Operational at up = sym up
 session_goes s other (LabelWithdraw id fec label) up said goes = by_phase s.phase refl up where
-  by_phase : (p : Phase) → s.phase ≡ p → is_up p ≡ false → false ≡ true
+  by_phase : (p : Phase) → s.phase ≡ p → is_up_phase p ≡ false → false ≡ true
   by_phase phase.Initialized at up = rw at at goes
   by_phase phase.OpenSent at up = rw at at goes
   by_phase phase.OpenRec at up = rw at at goes
   by_phase phase.Operational at up = sym up
 session_goes s other (LabelRelease id fec label) up said goes = by_phase s.phase refl up where
-  by_phase : (p : Phase) → s.phase ≡ p → is_up p ≡ false → false ≡ true
+  by_phase : (p : Phase) → s.phase ≡ p → is_up_phase p ≡ false → false ≡ true
   by_phase phase.Initialized at up = rw at at goes
   by_phase phase.OpenSent at up = rw at at goes
   by_phase phase.OpenRec at up = rw at at goes
@@ -179,7 +179,7 @@ module _ (plan : Plan) (network : NetworkState) (me peer : EdgeId) (apart : nat_
           (record { messages = hears.meets.messages; answers = before; out_is = hears.meets.out_is; talk = rw at talk }) hears.meets.fine at (hears.meets.ended ∙ ap (λ (o : Option Peering). not (is_there o)) at)
           (step kept hears.meets.messages talk) (follows kept at) bound
 
-  not_up : (phase : Phase) → is_up phase ≡ false → is_operational phase ≡ false
+  not_up : (phase : Phase) → is_up_phase phase ≡ false → is_operational phase ≡ false
   not_up phase.Initialized up = refl
   not_up phase.OpenSent up = refl
   not_up phase.OpenRec up = refl
@@ -189,7 +189,7 @@ module _ (plan : Plan) (network : NetworkState) (me peer : EdgeId) (apart : nat_
   none_held true e is sound = clash (sym is)
   none_held false e is sound = sound.1
 
-  received_leaves : (m : Message) (messages : List Message) (kept : Peering) (work : Work) → work.edge.peering peer.0 ≡ Some kept → IsSaid (ends_at plan peer.0 me.0) m → (is_up kept.session.phase ≡ false) ⊎ (is_fatal m ≡ true)
+  received_leaves : (m : Message) (messages : List Message) (kept : Peering) (work : Work) → work.edge.peering peer.0 ≡ Some kept → IsSaid (ends_at plan peer.0 me.0) m → (is_up_phase kept.session.phase ≡ false) ⊎ (is_fatal m ≡ true)
       → HearsBound (m ∷ messages) work → LeavesFor messages (happens_with_ends taken_all peer (Received m) work)
   received_leaves m messages kept work at said ends hears =
       event_leaves (m ∷ messages) messages (Received m) work (λ k ms t. received_in_step (ends_at plan me.0 peer.0) (ends_at plan peer.0 me.0) k ((network.edges peer.0).peering me.0) ms messages m t)
@@ -202,10 +202,10 @@ module _ (plan : Plan) (network : NetworkState) (me peer : EdgeId) (apart : nat_
           same e = cc
 
       follows : (k : Peering) → work.edge.peering peer.0 ≡ Some k → goes_on (outcome_of k.session (Received m)) ≡ true → (ms : List Message) → AreBound plan me.0 peer.0 work.edge (network.edges peer.0) ms (m ∷ messages)
-          → (is_up kept.session.phase ≡ false) ⊎ (is_fatal m ≡ true) → AreBound plan me.0 peer.0 work.edge (network.edges peer.0) ms messages
+          → (is_up_phase kept.session.phase ≡ false) ⊎ (is_fatal m ≡ true) → AreBound plan me.0 peer.0 work.edge (network.edges peer.0) ms messages
       follows k there goes ms bound (inr fatal) = clash (sym (ap goes_on (fatal_ends k.session (ends_at plan peer.0 me.0) m said fatal)) ∙ goes)
       follows k there goes ms bound (inl up) =
-          let is : is_session m ≡ true = session_goes k.session (ends_at plan peer.0 me.0) m (ap (λ (p : Peering). is_up p.session.phase) (sym (same_kept k there)) ∙ up) said goes in
+          let is : is_session m ≡ true = session_goes k.session (ends_at plan peer.0 me.0) m (ap (λ (p : Peering). is_up_phase p.session.phase) (sym (same_kept k there)) ∙ up) said goes in
           bound_hears plan me peer m work.edge work.edge (network.edges peer.0) ms messages (λ pw_id own. session_says_none m pw_id own is)
           (session_heard_as plan me peer m work.edge is (λ wire. none_held (is_up_with (work.edge.peering peer.0)) (work.edge.ends wire peer.0) (ap is_up_with at ∙ not_up kept.session.phase up) (hears.0.sound.ends wire peer.0))) bound
 

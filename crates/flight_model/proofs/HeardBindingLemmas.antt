@@ -23,7 +23,7 @@ use Rattle.edge_model.specs.EndPlaces.{end_named}
 use Rattle.edge_model.specs.Signal.{end_of_fec, with_end_changed, with_named}
 use Rattle.edge_model.specs.State.{EdgeState, end_at, with_end, with_ends_beside}
 use Rattle.flight_model.specs.Binding.{heard_of, where_named}
-use Rattle.flight_model.specs.Bound.{AreBound, IsBoundBy, answered, is_withdrawal_of, names_old, withdraws_old}
+use Rattle.flight_model.specs.Bound.{AreBound, IsBoundBy, answered_part, is_withdrawal_of, names_old, withdraws_old}
 use Rattle.flight_model.specs.Flight.{all_messages}
 use Rattle.flight_model.proofs.BindingLemmas.{binding_answers, binding_heard, binding_hears, binding_hears_withdrawal, binding_says_release}
 use Rattle.flight_model.proofs.EdgeBindingLemmas.{clash, end_label, end_of_other, end_there, itself, same_number}
@@ -33,7 +33,7 @@ use Rattle.flight_model.proofs.PlaceLemmas.{IsNamed, named_is, not_named, wire_b
 
 pub record HearsAs (plan : Plan) (me peer : EdgeId) (m : Message) (old new : EdgeState) : Type 0 where
   pub label : new.next_label ≡ old.next_label
-  pub local : (wire : WireId) (row : WirePlan) → wire_row plan wire ≡ Some row → joins me.0 peer.0 row.path ≡ true → (new.ends wire.0 peer.0).local ≡ answered row.pw_id m (old.ends wire.0 peer.0).local
+  pub local : (wire : WireId) (row : WirePlan) → wire_row plan wire ≡ Some row → joins me.0 peer.0 row.path ≡ true → (new.ends wire.0 peer.0).local ≡ answered_part row.pw_id m (old.ends wire.0 peer.0).local
   -- the message names its wire
   pub remote : (wire : WireId) (row : WirePlan) (next : ℕ) (near : LocalPart) → wire_row plan wire ≡ Some row → joins me.0 peer.0 row.path ≡ true → withdraws_old row.pw_id next near m ≡ true
       → (new.ends wire.0 peer.0).remote ≡ heard_of row.pw_id m (old.ends wire.0 peer.0).remote

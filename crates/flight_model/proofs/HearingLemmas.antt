@@ -13,7 +13,7 @@ use Rattle.session_core.specs.Phase.{Phase}
 use Rattle.session_core.specs.Phase as phase
 use Rattle.session_core.specs.Reasons.{is_fatal}
 use Rattle.session_core.specs.Table.{Heard, Received}
-use Rattle.edge_model.specs.Hear.{acts, acts_on, hears_few, hears_message, hears_one, hears_pdu, hears_within, holds, is_up, was_up}
+use Rattle.edge_model.specs.Hear.{acts, acts_on, hears_few, hears_message, hears_one, hears_pdu, hears_within, holds, is_up_phase, was_up}
 use Rattle.edge_model.specs.Mend.{mends}
 use Rattle.edge_model.specs.Put.{platform_of}
 use Rattle.edge_model.specs.Session.{clears_ends, ends, happens_with_ends}
@@ -89,7 +89,7 @@ pub record KeptByHearing (plan : Plan) (me peer : EdgeId) (other : Peers) (J : L
   -- nothing is heard any more where the end is gone
   pub gone : (m : Message) (messages : List Message) (work : Work) → work.edge.peering peer.0 ≡ None → J (m ∷ messages) work → J messages work
   -- a session that is not up has it, or one that ends by it
-  pub event : (m : Message) (messages : List Message) (kept : Peering) (work : Work) → work.edge.peering peer.0 ≡ Some kept → IsSaid other m → (is_up kept.session.phase ≡ false) ⊎ (is_fatal m ≡ true) → J (m ∷ messages) work
+  pub event : (m : Message) (messages : List Message) (kept : Peering) (work : Work) → work.edge.peering peer.0 ≡ Some kept → IsSaid other m → (is_up_phase kept.session.phase ≡ false) ⊎ (is_fatal m ≡ true) → J (m ∷ messages) work
       → J messages (happens_with_ends taken_all peer (Received m) work)
   -- a session that is up, and stays so
   pub acts : (m : Message) (messages : List Message) (kept : Peering) (work : Work) → work.edge.peering peer.0 ≡ Some kept → kept.session.phase ≡ phase.Operational → IsSaid other m → is_fatal m ≡ false → withdraws_addresses m ≡ false
@@ -136,7 +136,7 @@ up_heard plan other peer m kept work at up said plain =
     act false e f = clash e
 
 -- a session that is not up has what it hears, and nothing else
-pub session_heard : (plan : Plan) (peer : EdgeId) (m : Message) (kept : Peering) (work : Work) → work.edge.peering peer.0 ≡ Some kept → is_up kept.session.phase ≡ false
+pub session_heard : (plan : Plan) (peer : EdgeId) (m : Message) (kept : Peering) (work : Work) → work.edge.peering peer.0 ≡ Some kept → is_up_phase kept.session.phase ≡ false
     → hears_one plan taken_all peer m work ≡ happens_with_ends taken_all peer (Received m) work
 session_heard plan peer m kept work at up = no_act (happens_with_ends taken_all peer (Received m) work) (was_up (work.edge.peering peer.0)) (rw at up) where
   no_act : (next : Work) (b : Bool) → b ≡ false → acts plan taken_all peer m b next ≡ next
@@ -164,13 +164,13 @@ one_heard plan me peer other J keeps m messages kept work at said j = elim (case
   | inr plain ↦ by_phase plain kept.session.phase refl
 ]
   where
-    not_up : is_up kept.session.phase ≡ false → J messages (hears_one plan taken_all peer m work)
+    not_up : is_up_phase kept.session.phase ≡ false → J messages (hears_one plan taken_all peer m work)
     not_up up = subst (J messages) (sym (session_heard plan peer m kept work at up)) (keeps.event m messages kept work at said (inl up) j)
 
     by_phase : is_fatal m ≡ false → (p : Phase) → kept.session.phase ≡ p → J messages (hears_one plan taken_all peer m work)
-    by_phase plain phase.Initialized is = not_up (ap is_up is)
-    by_phase plain phase.OpenSent is = not_up (ap is_up is)
-    by_phase plain phase.OpenRec is = not_up (ap is_up is)
+    by_phase plain phase.Initialized is = not_up (ap is_up_phase is)
+    by_phase plain phase.OpenSent is = not_up (ap is_up_phase is)
+    by_phase plain phase.OpenRec is = not_up (ap is_up_phase is)
     by_phase plain phase.Operational is = subst (J messages) (sym (up_heard plan other peer m kept work at is said plain)) (acts_kept plan me peer other J keeps m messages kept work at is said plain j)
 
 pub message_heard : (plan : Plan) (me peer : EdgeId) (other : Peers) (J : List Message → Work → Type 0) → KeptByHearing plan me peer other J → KeptByMessages plan peer other J

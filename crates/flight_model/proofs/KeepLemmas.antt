@@ -14,7 +14,7 @@ use Rattle.session_core.specs.Phase.{Phase}
 use Rattle.session_core.specs.Phase as phase
 use Rattle.session_core.specs.Session.{phase_name}
 use Rattle.session_core.specs.State.{SessionState}
-use Rattle.session_core.specs.Table.{SessionEvent, Outcome, Stay, Goes, Ends, Start, Heard, Received, Refused, Spoke, Ticked, Closed, heard, is_expired, is_quiet, later, notified, outcome_of, reason_in, ticked}
+use Rattle.session_core.specs.Table.{SessionEvent, Outcome, Stay, Goes, Ends, Start, Heard, Received, Refused, Spoke, Ticked, Closed, heard_sender, is_expired, is_keep_alive_due, a_tick_later, notified, outcome_of, reason_in, ticked}
 use Rattle.edge_model.specs.declared.effect.Effect.TheVariants as effect
 use Rattle.edge_model.specs.Put.{Spoken, having_spoken, octets_of, put_octets, put_replies, put_reply, put_reply_to, puts_on, with_spoken}
 use Rattle.edge_model.specs.Session.{comes_of, ends, happens, happens_to, is_same_phase, tells_change, with_session}
@@ -169,7 +169,7 @@ notified_up : (why : Option Reason) (s : SessionState) (m : Message) → phase_a
 notified_up None s m = refl
 notified_up (Some why) s m = refl
 
-heard_up : (s : SessionState) (sender : LdpId) → s.phase ≡ phase.Operational → phase_after phase.Operational (heard sender s) ≡ phase.Operational
+heard_up : (s : SessionState) (sender : LdpId) → s.phase ≡ phase.Operational → phase_after phase.Operational (heard_sender sender s) ≡ phase.Operational
 heard_up s sender up = by_sender (is_platform s.peers.peer sender) where
   by_sender : (b : Bool) → phase_after phase.Operational (cond b (Goes (record s { wait = 0 }) []) (Ends reason.BadIdentifier (about_none bad_ldp_identifier ∷ []))) ≡ phase.Operational
   by_sender true = up
@@ -177,7 +177,7 @@ heard_up s sender up = by_sender (is_platform s.peers.peer sender) where
 
 ticked_up : (s : SessionState) → s.phase ≡ phase.Operational → phase_after phase.Operational (ticked s) ≡ phase.Operational
 ticked_up s up = by_time (is_expired s) where
-  by_time : (b : Bool) → phase_after phase.Operational (cond b (Ends reason.Expired (about_none keep_alive_timer_expired ∷ [])) (Goes s (cond (is_quiet s) (reply.KeepAlive ∷ []) []))) ≡ phase.Operational
+  by_time : (b : Bool) → phase_after phase.Operational (cond b (Ends reason.Expired (about_none keep_alive_timer_expired ∷ [])) (Goes s (cond (is_keep_alive_due s) (reply.KeepAlive ∷ []) []))) ≡ phase.Operational
   by_time true = refl
   by_time false = up
 
@@ -188,5 +188,5 @@ up_after s (Received (Notification id status pw fec)) up = rw up (notified_up (r
 up_after s (Received m) up = rw up refl
 up_after s (Refused fault) up = refl
 up_after s Spoke up = rw up refl
-up_after s Ticked up = ticked_up (later s) up
+up_after s Ticked up = ticked_up (a_tick_later s) up
 up_after s (Closed why) up = refl

@@ -19,7 +19,7 @@ use Rattle.network_model.specs.Absorb.{taken_all}
 use Rattle.flight_model.specs.Coming.{and_more}
 use Rattle.flight_model.specs.Meeting.{IsFine, Meets, Shows, said_to}
 use Rattle.flight_model.specs.Messages.{octets_of_all}
-use Rattle.flight_model.specs.Pair.{AreTalking, StayInStep, having_put, messages_put, octets_put}
+use Rattle.flight_model.specs.Pair.{AreTalking, StayInStep, having_put_all, messages_put, octets_put}
 use Rattle.flight_model.proofs.ReactLemmas.{put_octets_are}
 use Rattle.flight_model.proofs.SaidLemmas.{all_joined}
 use Rattle.flight_model.proofs.WorkLemmas.{HasPut, all_put, ends_shows, same_place, session_spares, well-append}
@@ -43,7 +43,7 @@ more_octets router None out said more messages new is more_is = is
 more_octets router (Some y) out said more messages new is more_is =
     sym (append_assoc out said more) ∙ ap (λ (l : List ℕ). l ++ more) is ∙ ap (λ (l : List ℕ). octets_of_all router messages ++ l) more_is ∙ sym (all_joined router messages new)
 
-put_peers : (rs : List Reply) (kept : Peering) → (having_put rs kept).session.peers ≡ kept.session.peers
+put_peers : (rs : List Reply) (kept : Peering) → (having_put_all rs kept).session.peers ≡ kept.session.peers
 put_peers [] kept = refl
 put_peers (r ∷ rs) kept = put_peers rs (having_spoken kept)
 
@@ -81,18 +81,18 @@ comes_meets own other me peer kept far out said messages answers work (Goes next
     let now : Peering = with_session next kept in
     let moved = moved_shows me peer kept now said false work shows fine in
     let put : Spoken = put_replies taken_all peer replies (changes (with_peering peer (Some now)) work) in
-    let all : HasPut me peer (Some (having_put replies now)) (said ++ octets_put replies now) false put = all_put me peer replies now (changes (with_peering peer (Some now)) work) said false moved.0 moved.1 in
-    let told = told_shows me peer (is_same_phase kept.session.phase next.phase) next.phase (Some (having_put replies now)) (said ++ octets_put replies now) false put.work all.shows all.fine in
+    let all : HasPut me peer (Some (having_put_all replies now)) (said ++ octets_put replies now) false put = all_put me peer replies now (changes (with_peering peer (Some now)) work) said false moved.0 moved.1 in
+    let told = told_shows me peer (is_same_phase kept.session.phase next.phase) next.phase (Some (having_put_all replies now)) (said ++ octets_put replies now) false put.work all.shows all.fine in
     let same : next.peers ≡ own = sym (put_peers replies now) ∙ step.here.peers in
     rw all.taken
-    (meets_shown own other me peer far (Some (having_put replies now)) out (said ++ octets_put replies now) (and_more far messages (messages_put replies now)) answers
+    (meets_shown own other me peer far (Some (having_put_all replies now)) out (said ++ octets_put replies now) (and_more far messages (messages_put replies now)) answers
     (tells_change peer kept.session.phase next.phase put.work) told.0 told.1
     (more_octets own.me far out said (octets_put replies now) messages (messages_put replies now) is
     (put_octets_are replies now ∙ ap (λ (p : Peers). octets_of_all p.me (messages_put replies now)) same)) step)
 comes_meets own other me peer kept far out said messages answers work (Ends why replies) peers shows fine is step =
     let put : Spoken = put_replies taken_all peer replies work in
-    let all : HasPut me peer (Some (having_put replies kept)) (said ++ octets_put replies kept) false put = all_put me peer replies kept work said false shows fine in
-    let ended = ends_shows me peer why (Some (having_put replies kept)) put.work (said ++ octets_put replies kept) false step.0 all.shows all.fine in
+    let all : HasPut me peer (Some (having_put_all replies kept)) (said ++ octets_put replies kept) false put = all_put me peer replies kept work said false shows fine in
+    let ended = ends_shows me peer why (Some (having_put_all replies kept)) put.work (said ++ octets_put replies kept) false step.0 all.shows all.fine in
     meets_shown own other me peer far None out (said ++ octets_put replies kept) (and_more far messages (messages_put replies kept)) answers (ends peer why put.work) ended.0 ended.1
     (more_octets own.me far out said (octets_put replies kept) messages (messages_put replies kept) is
     (put_octets_are replies kept ∙ ap (λ (p : Peers). octets_of_all p.me (messages_put replies kept)) peers)) step.1
@@ -120,11 +120,11 @@ happens_meets own other me peer far out before answers event work step meets = b
 
 -- what comes of an event after which the session goes on
 pub goes_shows : (me peer : EdgeId) (kept : Peering) (next : SessionState) (replies : List Reply) (said : List ℕ) (work : Work) → Shows peer.0 work (Some kept) said false → IsFine me work
-    → Shows peer.0 (comes_of taken_all peer kept (Goes next replies) work) (Some (having_put replies (with_session next kept))) (said ++ octets_put replies (with_session next kept)) false
+    → Shows peer.0 (comes_of taken_all peer kept (Goes next replies) work) (Some (having_put_all replies (with_session next kept))) (said ++ octets_put replies (with_session next kept)) false
     × IsFine me (comes_of taken_all peer kept (Goes next replies) work)
 goes_shows me peer kept next replies said work shows fine =
     let now : Peering = with_session next kept in
     let begun = moved_shows me peer kept now said false work shows fine in
     let put : Spoken = put_replies taken_all peer replies (changes (with_peering peer (Some now)) work) in
-    let all : HasPut me peer (Some (having_put replies now)) (said ++ octets_put replies now) false put = all_put me peer replies now (changes (with_peering peer (Some now)) work) said false begun.0 begun.1 in
-    rw all.taken (told_shows me peer (is_same_phase kept.session.phase next.phase) next.phase (Some (having_put replies now)) (said ++ octets_put replies now) false put.work all.shows all.fine)
+    let all : HasPut me peer (Some (having_put_all replies now)) (said ++ octets_put replies now) false put = all_put me peer replies now (changes (with_peering peer (Some now)) work) said false begun.0 begun.1 in
+    rw all.taken (told_shows me peer (is_same_phase kept.session.phase next.phase) next.phase (Some (having_put_all replies now)) (said ++ octets_put replies now) false put.work all.shows all.fine)

@@ -11,7 +11,7 @@ use Rattle.edge_model.specs.declared.end_place.EndPlace.{EndPlace}
 use Rattle.edge_model.specs.Connection.{restarted}
 use Rattle.edge_model.specs.Mend.{advertising, telling_status, withdrawing}
 use Rattle.edge_model.specs.State.{EdgeState, end_at, put_at, with_end, with_ends_beside, with_learned, with_next_label, with_renewed, without_ends, without_peerings}
-use Rattle.flight_model.specs.Rules.{MayName, OwnsItsLabels, owns}
+use Rattle.flight_model.specs.Rules.{MayName, OwnsItsLabels, part_owns}
 
 pub split : {P : Type 0} (b : Bool) → (b ≡ true → P) → (b ≡ false → P) → P
 split true f g = f refl
@@ -54,7 +54,7 @@ renewed_fact P of edge wire peer changed else = split {P = P wire peer ((with_re
 -- no label of the edge, nor the next one, is below this one
 pub record HasLeast (least : ℕ) (edge : EdgeState) : Type 0 where
   pub next : least ≤ edge.next_label
-  pub owned : (wire peer label : ℕ) → owns (edge.ends wire peer).local label ≡ true → least ≤ label
+  pub owned : (wire peer label : ℕ) → part_owns (edge.ends wire peer).local label ≡ true → least ≤ label
 
 -- what becomes of an edge's labels: those that may be named with an end go on so
 pub record KeepsNames (old new : EdgeState) : Type 0 where
@@ -74,7 +74,7 @@ names_then a b c one next = record {
 
 -- an edge that owns no more than before, and whose next label is the same
 pub names_less : (old new : EdgeState) → new.next_label ≡ old.next_label
-    → ((wire peer label : ℕ) → owns (new.ends wire peer).local label ≡ true → owns (old.ends wire peer).local label ≡ true) → KeepsNames old new
+    → ((wire peer label : ℕ) → part_owns (new.ends wire peer).local label ≡ true → part_owns (old.ends wire peer).local label ≡ true) → KeepsNames old new
 names_less old new next less = record {
   names = λ wire peer label may. record { below = below label may.below; owner = λ w k owned. may.owner w k (less w k label owned) };
   owned = λ own wire peer label owned.
@@ -90,27 +90,27 @@ names_less old new next less = record {
 pub names_still : (old new : EdgeState) → new.ends ≡ old.ends → new.next_label ≡ old.next_label → KeepsNames old new
 names_still old new ends next =
     names_less old new next
-    (λ wire peer label owned. subst (λ (f : ℕ → ℕ → EndState). owns (f wire peer).local label ≡ true) ends owned)
+    (λ wire peer label owned. subst (λ (f : ℕ → ℕ → EndState). part_owns (f wire peer).local label ≡ true) ends owned)
 
 -- ---- one end is another
 
 -- an end that owns no more than the one before
 abbrev pub OwnsLess : EndState → EndState → Type 0
-OwnsLess new old = (label : ℕ) → owns new.local label ≡ true → owns old.local label ≡ true
+OwnsLess new old = (label : ℕ) → part_owns new.local label ≡ true → part_owns old.local label ≡ true
 
 pub names_end : (place : EndPlace) (end : EndState) (edge : EdgeState) → OwnsLess end (end_at edge place) → KeepsNames edge (with_end place end edge)
 unfolding with_end
 names_end place end edge less =
     names_less edge (with_end place end edge) refl
-    (λ wire peer label. end_fact (λ w k e. owns e.local label ≡ true → owns (edge.ends w k).local label ≡ true) place end edge wire peer (λ owned. less label owned) (λ owned. owned))
+    (λ wire peer label. end_fact (λ w k e. part_owns e.local label ≡ true → part_owns (edge.ends w k).local label ≡ true) place end edge wire peer (λ owned. less label owned) (λ owned. owned))
 
 pub names_beside : (peer : EdgeId) (change : EndState → EndState) (edge : EdgeState) → ((end : EndState) → OwnsLess (change end) end) → KeepsNames edge (with_ends_beside peer change edge)
 unfolding with_ends_beside
 names_beside peer change edge less =
     names_less edge (with_ends_beside peer change edge) refl
-    (λ wire k label. beside_fact (λ w k e. owns e.local label ≡ true → owns (edge.ends w k).local label ≡ true) peer change edge wire k (λ same owned. less (edge.ends wire k) label owned) (λ owned. owned))
+    (λ wire k label. beside_fact (λ w k e. part_owns e.local label ≡ true → part_owns (edge.ends w k).local label ≡ true) peer change edge wire k (λ same owned. less (edge.ends wire k) label owned) (λ owned. owned))
 
-owns_renewed : (local : LocalPart) (label : ℕ) → owns (renew_part local) label ≡ owns local label
+owns_renewed : (local : LocalPart) (label : ℕ) → part_owns (renew_part local) label ≡ part_owns local label
 owns_renewed (Idle declined) label = refl
 owns_renewed (Advertised own told) label = refl
 owns_renewed (Withdrawing own) label = refl
@@ -119,7 +119,7 @@ pub names_renewed : (wire : WireId) (edge : EdgeState) → KeepsNames edge (with
 unfolding with_renewed
 names_renewed wire edge =
     names_less edge (with_renewed wire edge) refl
-    (λ w k label. renewed_fact (λ w k e. owns e.local label ≡ true → owns (edge.ends w k).local label ≡ true) wire edge w k (λ owned. sym (owns_renewed (edge.ends w k).local label) ∙ owned) (λ owned. owned))
+    (λ w k label. renewed_fact (λ w k e. part_owns e.local label ≡ true → part_owns (edge.ends w k).local label ≡ true) wire edge w k (λ owned. sym (owns_renewed (edge.ends w k).local label) ∙ owned) (λ owned. owned))
 
 nothing_owned : {P : Type 0} → false ≡ true → P
 nothing_owned e = absurd (cc)
@@ -132,25 +132,25 @@ names_restarted edge = names_less edge (restarted edge) refl (λ wire peer label
 
 pub owns_told : (status : PwStatus) (end : EndState) → OwnsLess (telling status end) end
 owns_told status end label owned = by_local end.local owned where
-  by_local : (local : LocalPart) → owns (tell_part status local) label ≡ true → owns local label ≡ true
+  by_local : (local : LocalPart) → part_owns (tell_part status local) label ≡ true → part_owns local label ≡ true
   by_local (Idle declined) owned = owned
   by_local (Advertised own told) owned = owned
   by_local (Withdrawing own) owned = owned
 
 pub owns_withdrawn : (end : EndState) → OwnsLess (withdrawn end) end
 owns_withdrawn end label owned = by_local end.local owned where
-  by_local : (local : LocalPart) → owns (withdraw_part local) label ≡ true → owns local label ≡ true
+  by_local : (local : LocalPart) → part_owns (withdraw_part local) label ≡ true → part_owns local label ≡ true
   by_local (Idle declined) owned = owned
   by_local (Advertised own told) owned = owned
   by_local (Withdrawing own) owned = owned
 
 pub owns_released : (given : Option ℕ) (end : EndState) → OwnsLess (released given end) end
 owns_released given end label owned = by_local end.local owned where
-  by_name : (named : Bool) (other kept : LocalPart) → (owns other label ≡ false) → owns (cond named other kept) label ≡ true → owns kept label ≡ true
+  by_name : (named : Bool) (other kept : LocalPart) → (part_owns other label ≡ false) → part_owns (cond named other kept) label ≡ true → part_owns kept label ≡ true
   by_name true other kept none owned = nothing_owned (sym none ∙ owned)
   by_name false other kept none owned = owned
 
-  by_local : (local : LocalPart) → owns (release_part given local) label ≡ true → owns local label ≡ true
+  by_local : (local : LocalPart) → part_owns (release_part given local) label ≡ true → part_owns local label ≡ true
   by_local (Idle declined) owned = owned
   by_local (Advertised own told) owned = by_name (names given own) (Idle true) (Advertised own told) refl owned
   by_local (Withdrawing own) owned = by_name (names given own) (Idle false) (Withdrawing own) refl owned
@@ -160,13 +160,13 @@ owns_lost end label owned = nothing_owned owned
 
 pub owns_group_unbound : (group : ℕ) (end : EndState) → OwnsLess (group_unbound group end) end
 owns_group_unbound group end label = by_group (is_in_group group end.remote) where
-  by_group : (b : Bool) → owns (cond b (Rattle.pw_signalling.specs.Rows.unbound None end) end).local label ≡ true → owns end.local label ≡ true
+  by_group : (b : Bool) → part_owns (cond b (Rattle.pw_signalling.specs.Rows.unbound None end) end).local label ≡ true → part_owns end.local label ≡ true
   by_group true owned = owned
   by_group false owned = owned
 
 pub owns_group_stated : (group : ℕ) (status : PwStatus) (end : EndState) → OwnsLess (group_stated group status end) end
 owns_group_stated group status end label = by_group (is_in_group group end.remote) where
-  by_group : (b : Bool) → owns (cond b (Rattle.pw_signalling.specs.Rows.stated status end) end).local label ≡ true → owns end.local label ≡ true
+  by_group : (b : Bool) → part_owns (cond b (Rattle.pw_signalling.specs.Rows.stated status end) end).local label ≡ true → part_owns end.local label ≡ true
   by_group true owned = owned
   by_group false owned = owned
 
@@ -197,10 +197,10 @@ record IsNewOwner (place : EndPlace) (edge : EdgeState) (wire peer label : ℕ) 
   pub label_is : label ≡ edge.next_label
 
 owner_of : (place : EndPlace) (content : Told) (edge : EdgeState) (declined : Bool) (wire peer label : ℕ) → (end_at edge place).local ≡ Idle declined
-    → owns ((advertising place edge.next_label content edge).ends wire peer).local label ≡ true → IsNewOwner place edge wire peer label ⊎ (owns (edge.ends wire peer).local label ≡ true)
+    → part_owns ((advertising place edge.next_label content edge).ends wire peer).local label ≡ true → IsNewOwner place edge wire peer label ⊎ (part_owns (edge.ends wire peer).local label ≡ true)
 unfolding with_next_label
 owner_of place content edge declined wire peer label idle =
-    end_fact (λ w k e. owns e.local label ≡ true → IsNewOwner place edge w k label ⊎ (owns (edge.ends w k).local label ≡ true)) place (advertised edge.next_label content (end_at edge place)) edge wire peer
+    end_fact (λ w k e. part_owns e.local label ≡ true → IsNewOwner place edge w k label ⊎ (part_owns (edge.ends w k).local label ≡ true)) place (advertised edge.next_label content (end_at edge place)) edge wire peer
     (λ owned. inl (record { wire_is = refl; peer_is = refl; label_is = sym (same_number edge.next_label label (rw idle at owned)) }))
     (λ owned. inr owned)
 
@@ -215,7 +215,7 @@ names_new place content edge declined idle own = record {
   below = subst (λ (n : ℕ). edge.next_label < n) (sym (advertised_next place content edge)) (next_below edge.next_label);
   owner = λ w k owned. ⊎_elim
       (λ (new : IsNewOwner place edge w k edge.next_label). (new.wire_is, new.peer_is))
-      (λ (old : owns (edge.ends w k).local edge.next_label ≡ true). absurd (not_below edge.next_label (own w k edge.next_label old).below))
+      (λ (old : part_owns (edge.ends w k).local edge.next_label ≡ true). absurd (not_below edge.next_label (own w k edge.next_label old).below))
       (owner_of place content edge declined w k edge.next_label idle owned);
 }
 
@@ -226,14 +226,14 @@ names_advertising place content edge declined idle = record {
     next = subst (λ (n : ℕ). least ≤ n) (sym (advertised_next place content edge)) (up_to_more least edge.next_label has.next);
     owned = λ wire peer label owned. ⊎_elim
         (λ (new : IsNewOwner place edge wire peer label). subst (λ (l : ℕ). least ≤ l) (sym new.label_is) has.next)
-        (λ (old : owns (edge.ends wire peer).local label ≡ true). has.owned wire peer label old)
+        (λ (old : part_owns (edge.ends wire peer).local label ≡ true). has.owned wire peer label old)
         (owner_of place content edge declined wire peer label idle owned);
   };
   owned = λ own wire peer label owned. ⊎_elim
       (λ (new : IsNewOwner place edge wire peer label). subst (λ (l : ℕ). MayName (advertising place edge.next_label content edge) wire peer l) (sym new.label_is)
       (subst (λ (k : ℕ). MayName (advertising place edge.next_label content edge) wire k edge.next_label) (sym new.peer_is)
       (subst (λ (w : ℕ). MayName (advertising place edge.next_label content edge) w place.peer.0 edge.next_label) (sym new.wire_is) (names_new place content edge declined idle own))))
-      (λ (old : owns (edge.ends wire peer).local label ≡ true). kept wire peer label (own wire peer label old))
+      (λ (old : part_owns (edge.ends wire peer).local label ≡ true). kept wire peer label (own wire peer label old))
       (owner_of place content edge declined wire peer label idle owned);
 }
   where
@@ -242,6 +242,6 @@ names_advertising place content edge declined idle = record {
       below = subst (λ (n : ℕ). label < n) (sym (advertised_next place content edge)) (below_more label edge.next_label may.below);
       owner = λ w k owned. ⊎_elim
           (λ (new : IsNewOwner place edge w k label). absurd (not_below edge.next_label (subst (λ (l : ℕ). l < edge.next_label) new.label_is may.below)))
-          (λ (old : owns (edge.ends w k).local label ≡ true). may.owner w k old)
+          (λ (old : part_owns (edge.ends w k).local label ≡ true). may.owner w k old)
           (owner_of place content edge declined w k label idle owned);
     }

@@ -21,7 +21,8 @@ use Rattle.ldp_grammar.specs.Written.{IsState, label_tlvs, status_tlvs}
 use Rattle.ldp_grammar.proofs.OctetLemmas.{AreOctets, octet_front}
 use Rattle.ldp_grammar.proofs.WrittenOctets.{four_octets, no_octets, octets_append, status_are, two_octets}
 use Rattle.session_core.specs.declared.peers.Peers.{Peers}
-use Rattle.edge_model.specs.Content.{bare, bare_fec_of, content_of, fec_of, mac_withdrawal, mapping, no_params, params_of, pw_status_notice, release, status_notification, withdrawal}
+use Rattle.edge_model.specs.Content.{bare, bare_fec_of, content_of, fec_of, mac_withdrawal, mapping, params_of, pw_status_notice, release, status_notification, withdrawal}
+use Rattle.pw_tlvs.specs.Fec.{no_params}
 use Rattle.ldp_grammar.specs.declared.message.Message.{Message}
 use Rattle.flight_model.specs.Ends.{IsFieldOffer}
 use Rattle.flight_model.specs.Flight.{is_initialization}

@@ -14,13 +14,13 @@ use Rattle.session_core.specs.declared.refusal.Refusal.{Refusal}
 use Rattle.session_core.specs.declared.refusal.Refusal.TheVariants as refusal
 use Rattle.session_core.specs.declared.reply.Reply.{Reply}
 use Rattle.session_core.specs.declared.reply.Reply.TheVariants as reply
-use Rattle.session_core.specs.Parameters.{longest, refusal_of}
+use Rattle.session_core.specs.Parameters.{longest, proposal_refusal}
 use Rattle.session_core.specs.Phase.{Phase}
 use Rattle.session_core.specs.Phase as phase
 use Rattle.session_core.specs.Parameters.{is_platform}
 use Rattle.session_core.specs.State.{SessionState, is_active}
 use Rattle.session_core.specs.StatusCodes.{about, about_none, data_of, shutdown}
-use Rattle.session_core.specs.Table.{SessionEvent, Start, Heard, Received, Refused, Spoke, Ticked, Closed, Outcome, Stay, Goes, Ends, data_refusing, farewell, is_expired, is_quiet, judged, later, notified, outcome_of, reason_in, table, ticked}
+use Rattle.session_core.specs.Table.{SessionEvent, Start, Heard, Received, Refused, Spoke, Ticked, Closed, Outcome, Stay, Goes, Ends, data_refusing, farewell, is_expired, is_keep_alive_due, judged, a_tick_later, notified, outcome_of, reason_in, table, ticked}
 use Rattle.flight_model.specs.Pair.{AreFit}
 
 -- ---- what fits
@@ -124,10 +124,10 @@ received_fits own s phase.OpenSent active (Notification id code status fec) fit 
 received_fits own s phase.OpenRec active (Notification id code status fec) fit session fits can = notified_fits own (reason_in code) s (Notification id code status fec) fits can
 received_fits own s phase.Operational active (Notification id code status fec) fit session fits can = notified_fits own (reason_in code) s (Notification id code status fec) fits can
 received_fits own s phase.Initialized false (Initialization id params) fit session fits can =
-    judged_fits own (refusal_of s.peers params) s (Initialization id params) params (reply.Init ∷ reply.KeepAlive ∷ []) fit session fits can (tt, (tt, tt))
+    judged_fits own (proposal_refusal s.peers params) s (Initialization id params) params (reply.Init ∷ reply.KeepAlive ∷ []) fit session fits can (tt, (tt, tt))
 received_fits own s phase.Initialized true (Initialization id params) fit session fits can = refused (Initialization id params) fits can
 received_fits own s phase.OpenSent active (Initialization id params) fit session fits can =
-    judged_fits own (refusal_of s.peers params) s (Initialization id params) params (reply.KeepAlive ∷ []) fit session fits can (tt, tt)
+    judged_fits own (proposal_refusal s.peers params) s (Initialization id params) params (reply.KeepAlive ∷ []) fit session fits can (tt, tt)
 received_fits own s phase.OpenRec active (KeepAlive id) fit session fits can = (record { peers = session.peers; least = session.least; most = session.most }, tt)
 received_fits own s phase.Operational active m fit session fits can = tt
 received_fits own s phase.Initialized active m fit session fits can = refused m fits can
@@ -142,14 +142,14 @@ heard_fits own s true session = (record { peers = session.peers; least = session
 heard_fits own s false session = (none_fits Rattle.session_core.specs.StatusCodes.bad_ldp_identifier (omega arith), tt)
 
 ticked_fits : (own : Peers) (s : SessionState) → IsFitSession own s → FitOutcome own (ticked s)
-ticked_fits own s session = by_wait (is_expired s) (is_quiet s)
+ticked_fits own s session = by_wait (is_expired s) (is_keep_alive_due s)
   where
     by_wait : (over quiet : Bool) → FitOutcome own (cond over (Ends reason.Expired (about_none Rattle.session_core.specs.StatusCodes.keep_alive_timer_expired ∷ [])) (Goes s (cond quiet (reply.KeepAlive ∷ []) [])))
     by_wait true quiet = (none_fits Rattle.session_core.specs.StatusCodes.keep_alive_timer_expired (omega arith), tt)
     by_wait false true = (session, (tt, tt))
     by_wait false false = (session, tt)
 
-later_fits : (own : Peers) (s : SessionState) → IsFitSession own s → IsFitSession own (later s)
+later_fits : (own : Peers) (s : SessionState) → IsFitSession own s → IsFitSession own (a_tick_later s)
 later_fits own s session = record { peers = session.peers; least = session.least; most = session.most }
 
 event_fits : (own : Peers) (s : SessionState) (p : Phase) (active : Bool) (event : SessionEvent) → AreFit own → IsFitSession own s → FitEvent event → FitOutcome own (table p event active s)
@@ -171,10 +171,10 @@ event_fits own s phase.Initialized active Spoke fit session is = (record { peers
 event_fits own s phase.OpenSent active Spoke fit session is = (record { peers = session.peers; least = session.least; most = session.most }, tt)
 event_fits own s phase.OpenRec active Spoke fit session is = (record { peers = session.peers; least = session.least; most = session.most }, tt)
 event_fits own s phase.Operational active Spoke fit session is = (record { peers = session.peers; least = session.least; most = session.most }, tt)
-event_fits own s phase.Initialized active Ticked fit session is = ticked_fits own (later s) (later_fits own s session)
-event_fits own s phase.OpenSent active Ticked fit session is = ticked_fits own (later s) (later_fits own s session)
-event_fits own s phase.OpenRec active Ticked fit session is = ticked_fits own (later s) (later_fits own s session)
-event_fits own s phase.Operational active Ticked fit session is = ticked_fits own (later s) (later_fits own s session)
+event_fits own s phase.Initialized active Ticked fit session is = ticked_fits own (a_tick_later s) (later_fits own s session)
+event_fits own s phase.OpenSent active Ticked fit session is = ticked_fits own (a_tick_later s) (later_fits own s session)
+event_fits own s phase.OpenRec active Ticked fit session is = ticked_fits own (a_tick_later s) (later_fits own s session)
+event_fits own s phase.Operational active Ticked fit session is = ticked_fits own (a_tick_later s) (later_fits own s session)
 event_fits own s phase.Initialized active (Closed why) fit session is = tt
 event_fits own s phase.OpenSent active (Closed why) fit session is = tt
 event_fits own s phase.OpenRec active (Closed why) fit session is = tt

@@ -12,7 +12,7 @@ use Rattle.ldp_grammar.specs.Tlvs.{Tlv, spell_tlv}
 use Rattle.ldp_grammar.specs.Written.{ignorable, mac_tlvs, message_octets, tlv}
 use Rattle.ldp_grammar.proofs.OctetLemmas.{AreOctets, octets_before}
 use Rattle.ldp_grammar.proofs.WrittenOctets.{no_octets, octets_append}
-use Rattle.edge_model.specs.Content.{no_params}
+use Rattle.pw_tlvs.specs.Fec.{no_params}
 use Rattle.flight_model.specs.Messages.{IsSound}
 
 -- ---- addresses

@@ -15,7 +15,7 @@ use Rattle.net_base.specs.plan.Paths.{has_repeat, joins, share_segment}
 use Rattle.net_base.specs.plan.Places.{wire_row}
 use Rattle.net_base.specs.plan.WireFaults.{repeats_pw_id}
 use Rattle.net_base.proofs.PathLemmas.{joins_apart, joins_turned}
-use Rattle.edge_model.specs.EndPlaces.{end_named, end_places, is_named, is_terminal, place_at, places_along, places_at, places_from}
+use Rattle.edge_model.specs.EndPlaces.{end_named, end_place_at, end_places, is_named, is_terminal, places_along, places_at, places_from}
 use Rattle.edge_model.specs.declared.end_place.EndPlace.{EndPlace}
 
 pub all-append : {A : Type 0} (P : A → Type 0) (xs ys : List A) → AllByRecursion P xs → AllByRecursion P ys → AllByRecursion P (xs ++ ys)
@@ -48,7 +48,7 @@ joined_later false is = is
 
 -- at each segment of a path
 pub along_are : (P : EndPlace → Type 0) (wire : WireId) (row : WirePlan) (me : EdgeId) (segment : ℕ) (path : List EdgeId)
-    → ((segment side : ℕ) (peer : EdgeId) → joins me.0 peer.0 path ≡ true → P (place_at wire row me segment side peer)) → AllByRecursion P (places_along wire row me segment path)
+    → ((segment side : ℕ) (peer : EdgeId) → joins me.0 peer.0 path ≡ true → P (end_place_at wire row me segment side peer)) → AllByRecursion P (places_along wire row me segment path)
 along_are P wire row me segment [] each = tt
 along_are P wire row me segment (last ∷ []) each = tt
 along_are P wire row me segment (first ∷ next ∷ rest) each = all-append P (places_at wire row me segment first next) (places_along wire row me (segment + 1) (next ∷ rest))
@@ -57,8 +57,8 @@ along_are P wire row me segment (first ∷ next ∷ rest) each = all-append P (p
     (λ same. each segment 1 first (joined_next me.0 first.0 next.0 (joins me.0 first.0 (next ∷ rest)) same)))
     (along_are P wire row me (segment + 1) (next ∷ rest) (λ number side peer joined. each number side peer (joined_later ((me.0 == first.0 && peer.0 == next.0) || (peer.0 == first.0 && me.0 == next.0)) joined)))
   where
-    here : (p q : Bool) → (p ≡ true → P (place_at wire row me segment 0 next)) → (q ≡ true → P (place_at wire row me segment 1 first))
-        → AllByRecursion P (if p then place_at wire row me segment 0 next ∷ [] else if q then place_at wire row me segment 1 first ∷ [] else [])
+    here : (p q : Bool) → (p ≡ true → P (end_place_at wire row me segment 0 next)) → (q ≡ true → P (end_place_at wire row me segment 1 first))
+        → AllByRecursion P (if p then end_place_at wire row me segment 0 next ∷ [] else if q then end_place_at wire row me segment 1 first ∷ [] else [])
     here true q one other = (one refl, tt)
     here false true one other = (other refl, tt)
     here false false one other = tt
@@ -139,7 +139,7 @@ named_along wire row me peer segment (first ∷ next ∷ rest) apart joined =
     (λ later. any_later (is_named peer row.pw_id) (places_at wire row me segment first next) (places_along wire row me (segment + 1) (next ∷ rest)) (named_along wire row me peer (segment + 1) (next ∷ rest) apart later))
   where
     chosen : (p q : Bool) → (p ≡ true → (next.0 == peer.0 && row.pw_id == row.pw_id) || false ≡ true) → (p ≡ false → q ≡ true) → (p ≡ false → (first.0 == peer.0 && row.pw_id == row.pw_id) || false ≡ true)
-        → list_any (is_named peer row.pw_id) (if p then place_at wire row me segment 0 next ∷ [] else if q then place_at wire row me segment 1 first ∷ [] else []) ≡ true
+        → list_any (is_named peer row.pw_id) (if p then end_place_at wire row me segment 0 next ∷ [] else if q then end_place_at wire row me segment 1 first ∷ [] else []) ≡ true
     chosen true q one is other = one refl
     chosen false true one is other = other refl
     chosen false false one is other = absurd (clash (is refl))
@@ -379,19 +379,19 @@ along_apart wire row me segment (first ∷ next ∷ rest) once =
     let parts = or_parts (list_any (λ (edge : EdgeId). edge.0 == first.0) (next ∷ rest)) (has_repeat (next ∷ rest)) once in
     apart_joined (places_at wire row me segment first next) (places_along wire row me (segment + 1) (next ∷ rest)) (one_only (me.0 == first.0) (me.0 == next.0)) (along_apart wire row me (segment + 1) (next ∷ rest) parts.1)
     (cross (me.0 == first.0) (me.0 == next.0)
-    (λ same. along_are (λ (other : EndPlace). is_same_place (place_at wire row me segment 0 next) other ≡ false) wire row me (segment + 1) (next ∷ rest)
+    (λ same. along_are (λ (other : EndPlace). is_same_place (end_place_at wire row me segment 0 next) other ≡ false) wire row me (segment + 1) (next ∷ rest)
     (λ number side peer joined. clash (sym (not_there (next ∷ rest) first.0 me.0 parts.0 (joined_there (next ∷ rest) me.0 peer.0 joined)) ∙ turned me.0 first.0 same)))
-    (along_are (λ (other : EndPlace). is_same_place (place_at wire row me segment 1 first) other ≡ false) wire row me (segment + 1) (next ∷ rest)
+    (along_are (λ (other : EndPlace). is_same_place (end_place_at wire row me segment 1 first) other ≡ false) wire row me (segment + 1) (next ∷ rest)
     (λ number side peer joined. and_false (wire.0 == wire.0) (not_there (next ∷ rest) first.0 peer.0 parts.0 (joined_there (next ∷ rest) peer.0 me.0 (sym (joins_turned (next ∷ rest) me.0 peer.0) ∙ joined))))))
   where
-    one_only : (p q : Bool) → AreApart (if p then place_at wire row me segment 0 next ∷ [] else if q then place_at wire row me segment 1 first ∷ [] else [])
+    one_only : (p q : Bool) → AreApart (if p then end_place_at wire row me segment 0 next ∷ [] else if q then end_place_at wire row me segment 1 first ∷ [] else [])
     one_only true q = (tt, tt)
     one_only false true = (tt, tt)
     one_only false false = tt
 
-    cross : (p q : Bool) → (p ≡ true → AllByRecursion (λ (other : EndPlace). is_same_place (place_at wire row me segment 0 next) other ≡ false) (places_along wire row me (segment + 1) (next ∷ rest)))
-        → AllByRecursion (λ (other : EndPlace). is_same_place (place_at wire row me segment 1 first) other ≡ false) (places_along wire row me (segment + 1) (next ∷ rest))
-        → AllByRecursion (λ (x : EndPlace). AllByRecursion (λ other. is_same_place x other ≡ false) (places_along wire row me (segment + 1) (next ∷ rest))) (if p then place_at wire row me segment 0 next ∷ [] else if q then place_at wire row me segment 1 first ∷ [] else [])
+    cross : (p q : Bool) → (p ≡ true → AllByRecursion (λ (other : EndPlace). is_same_place (end_place_at wire row me segment 0 next) other ≡ false) (places_along wire row me (segment + 1) (next ∷ rest)))
+        → AllByRecursion (λ (other : EndPlace). is_same_place (end_place_at wire row me segment 1 first) other ≡ false) (places_along wire row me (segment + 1) (next ∷ rest))
+        → AllByRecursion (λ (x : EndPlace). AllByRecursion (λ other. is_same_place x other ≡ false) (places_along wire row me (segment + 1) (next ∷ rest))) (if p then end_place_at wire row me segment 0 next ∷ [] else if q then end_place_at wire row me segment 1 first ∷ [] else [])
     cross true q one other = (one refl, tt)
     cross false true one other = (other, tt)
     cross false false one other = tt
@@ -409,8 +409,8 @@ from_apart me start (row ∷ rows) once = apart_joined (places_along (record { 0
     (along_apart (record { 0 = start }) row me 0 row.path (once zero row refl))
     (from_apart me (start + 1) rows (λ k later is. once (suc k) later is))
     (along_are (λ (x : EndPlace). AllByRecursion (λ other. is_same_place x other ≡ false) (places_from me (start + 1) rows)) (record { 0 = start }) row me 0 row.path
-    (λ segment side peer joined. from_are (λ (other : EndPlace). is_same_place (place_at (record { 0 = start }) row me segment side peer) other ≡ false) me (start + 1) rows
-    (λ k later is. along_are (λ (other : EndPlace). is_same_place (place_at (record { 0 = start }) row me segment side peer) other ≡ false) (record { 0 = (start + 1) + k }) later me 0 later.path
+    (λ segment side peer joined. from_are (λ (other : EndPlace). is_same_place (end_place_at (record { 0 = start }) row me segment side peer) other ≡ false) me (start + 1) rows
+    (λ k later is. along_are (λ (other : EndPlace). is_same_place (end_place_at (record { 0 = start }) row me segment side peer) other ≡ false) (record { 0 = (start + 1) + k }) later me 0 later.path
     (λ number back far there. behind start k (peer.0 == far.0)))))
   where
     behind : (n k : ℕ) (q : Bool) → n == (n + 1) + k && q ≡ false

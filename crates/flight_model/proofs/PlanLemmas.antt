@@ -10,7 +10,7 @@ use Rattle.std.specs.Str.{bytes_eq}
 use Rattle.net_base.specs.declared.plan.Plan.{Plan}
 use Rattle.net_base.specs.declared.plan.edge_plan.EdgePlan.{EdgePlan}
 use Rattle.net_base.specs.declared.plan.wire_plan.WirePlan.{WirePlan}
-use Rattle.net_base.specs.plan.Accepted.{IsChecked, IsEdge, IsWireOf}
+use Rattle.net_base.specs.plan.Accepted.{IsChecked, IsEdgePlan, IsWireOf}
 use Rattle.net_base.specs.plan.Paths.{are_joined, joins}
 use Rattle.net_base.proofs.PathLemmas.{joins_apart, joins_turned}
 use Rattle.session_core.specs.Laws.{IsAddress}
@@ -49,7 +49,7 @@ addresses_apart plan a b one other checked first second apart = elim (one_before
   | inr behind ↦ turned other.address.0 one.address.0 (before_apart plan b a other one checked second first behind)
 ]
 
-ends_fit : (one other : EdgePlan) → IsEdge one → IsAddress one.address → IsAddress other.address → bytes_eq one.address.0 other.address.0 ≡ false → AreFit (peers_of one other)
+ends_fit : (one other : EdgePlan) → IsEdgePlan one → IsAddress one.address → IsAddress other.address → bytes_eq one.address.0 other.address.0 ≡ false → AreFit (peers_of one other)
 ends_fit one other edge me peer apart = record {
   proper = record { apart = apart; keepalive = edge.keepalive.0; least = edge.max_pdu.0; most = edge.max_pdu.1 };
   me = me;
@@ -61,8 +61,8 @@ ends_fit one other edge me peer apart = record {
 pub ends_are : (plan : Plan) (a b : ℕ) (one other : EdgePlan) → IsChecked plan → HasTypes plan → slice_get plan.edges a ≡ Some one → slice_get plan.edges b ≡ Some other → nat_eq a b ≡ false
     → AreEnds (peers_of one other) (peers_of other one)
 ends_are plan a b one other checked types first second apart =
-    let edge : IsEdge one = row_holds IsEdge plan.edges a one first checked.edges in
-    let far : IsEdge other = row_holds IsEdge plan.edges b other second checked.edges in
+    let edge : IsEdgePlan one = row_holds IsEdgePlan plan.edges a one first checked.edges in
+    let far : IsEdgePlan other = row_holds IsEdgePlan plan.edges b other second checked.edges in
     let me : IsAddress one.address = row_holds (λ (row : EdgePlan). IsAddress row.address) plan.edges a one first types.addresses in
     let peer : IsAddress other.address = row_holds (λ (row : EdgePlan). IsAddress row.address) plan.edges b other second types.addresses in
     let differ : bytes_eq one.address.0 other.address.0 ≡ false = addresses_apart plan a b one other checked first second apart in

@@ -11,12 +11,12 @@ use Rattle.ldp_grammar.proofs.WrittenOctets.{status_are}
 use Rattle.session_core.specs.declared.peers.Peers.{Peers}
 use Rattle.session_core.specs.declared.reply.Reply.{Reply}
 use Rattle.session_core.specs.declared.reply.Reply.TheVariants as reply
-use Rattle.session_core.specs.Parameters.{agreed, is_platform, longest, proposal, refusal_of}
+use Rattle.session_core.specs.Parameters.{agreed, is_platform, longest, proposal, proposal_refusal}
 use Rattle.session_core.specs.Phase.{Phase, is_agreed}
 use Rattle.session_core.specs.Phase as phase
 use Rattle.session_core.specs.Reasons.{is_fatal}
 use Rattle.session_core.specs.State.{SessionState, is_active}
-use Rattle.session_core.specs.Table.{Heard, Received, Ticked, Closed, Goes, Ends, enters, later, outcome_of, is_expired, is_quiet, ticked}
+use Rattle.session_core.specs.Table.{Heard, Received, Ticked, Closed, Goes, Ends, enters_phase, a_tick_later, outcome_of, is_expired, is_keep_alive_due, ticked}
 use Rattle.session_core.specs.StatusCodes.{about_none, keep_alive_timer_expired}
 use Rattle.session_core.proofs.LawLemmas.{ends_agree}
 use Rattle.edge_model.specs.Put.{following, having_spoken, octets_of, platform_of}
@@ -116,7 +116,7 @@ agreed_stands own other kept is =
     no : phase.OpenRec ≡ phase.Initialized → ⊥
     no e = cc
 
-acceptable : (own other : Peers) (kept : Peering) → IsStanding own other kept → refusal_of kept.session.peers (proposal other) ≡ None
+acceptable : (own other : Peers) (kept : Peering) → IsStanding own other kept → proposal_refusal kept.session.peers (proposal other) ≡ None
 acceptable own other kept is = rw is.peers (ends_agree.acceptable other own is.between.back is.between.two.proper)
 
 -- what a session that goes on says once it has taken a message
@@ -158,7 +158,7 @@ received_open_sent own other kept far out back m plain at t =
     (sym (ap (λ (x : Message). outcome_of kept.session (Received x)) form.is ∙ active_init kept.session form.id (proposal other) at (acceptable own other kept t.here)))
     (said_on own other kept (having_spoken now) far out back (alive ∷ []) m (spoken_stands own other now stands) (t.here.numbered, tt) t (right _ _ both))
 
-entered_stands : (own other : Peers) (kept : Peering) → IsStanding own other kept → IsStanding own other (with_session (enters phase.Operational kept.session) kept)
+entered_stands : (own other : Peers) (kept : Peering) → IsStanding own other kept → IsStanding own other (with_session (enters_phase phase.Operational kept.session) kept)
 entered_stands own other kept is = record { peers = is.peers; between = is.between; least = is.least; most = is.most; numbered = is.numbered; passive = λ e. absurd (no e) }
   where
     no : phase.Operational ≡ phase.Initialized → ⊥
@@ -169,7 +169,7 @@ received_open_rec : (own other : Peers) (kept : Peering) (far : Option Peering) 
 received_open_rec own other kept far out back m plain at t =
     let both = rises (is_active own) (option_map phase_of far) out back m plain (rw at at t.steps) in
     let form = keeping_form m (left _ _ both) in
-    let now : Peering = with_session (enters phase.Operational kept.session) kept in
+    let now : Peering = with_session (enters_phase phase.Operational kept.session) kept in
     subst (StayInStep own other kept far out back)
     (sym (ap (λ (x : Message). outcome_of kept.session (Received x)) form.is ∙ keep_alive kept.session form.id at))
     (said_on own other kept now far out back [] m (entered_stands own other kept t.here) tt t (rw (more_none (option_map phase_of far) out) (right _ _ both)))
@@ -233,10 +233,10 @@ closed_in_step own other kept far out back t = subst (StayInStep own other kept 
 
 -- ---- a tick
 
-tick_is : (s : SessionState) → outcome_of s Ticked ≡ ticked (later s)
+tick_is : (s : SessionState) → outcome_of s Ticked ≡ ticked (a_tick_later s)
 tick_is s = refl
 
-later_stands : (own other : Peers) (kept : Peering) → IsStanding own other kept → IsStanding own other (with_session (later kept.session) kept)
+later_stands : (own other : Peers) (kept : Peering) → IsStanding own other kept → IsStanding own other (with_session (a_tick_later kept.session) kept)
 later_stands own other kept is = record { peers = is.peers; between = is.between; least = is.least; most = is.most; numbered = is.numbered; passive = is.passive }
 
 -- the Notification of an end that leaves
@@ -261,13 +261,13 @@ expires own other kept far out back t =
 
 -- it is time for a KeepAlive
 keeps : (own other : Peers) (kept : Peering) (far : Option Peering) (out back : List Message) → is_agreed kept.session.phase ≡ true → AreTalking own other (Some kept) far out back
-    → StayInStep own other kept far out back (Goes (later kept.session) (reply.KeepAlive ∷ []))
+    → StayInStep own other kept far out back (Goes (a_tick_later kept.session) (reply.KeepAlive ∷ []))
 keeps own other kept far out back up t =
     let alive : Message = KeepAlive kept.next_id in
     record {
       said = more_said own far out (alive ∷ []) t.said (t.here.numbered, tt);
       answered = t.answered;
-      here = spoken_stands own other (with_session (later kept.session) kept) (later_stands own other kept t.here);
+      here = spoken_stands own other (with_session (a_tick_later kept.session) kept) (later_stands own other kept t.here);
       there = t.there;
       steps = rw (← more_by_phase far out (alive ∷ [])) (by_phase kept.session.phase up t.steps);
     }
@@ -281,10 +281,10 @@ keeps own other kept far out back up t =
 
 pub ticked_in_step : (own other : Peers) (kept : Peering) (far : Option Peering) (out back : List Message) → AreTalking own other (Some kept) far out back
     → StayInStep own other kept far out back (outcome_of kept.session Ticked)
-ticked_in_step own other kept far out back t = subst (StayInStep own other kept far out back) (sym (tick_is kept.session)) (elim (cases_Bool (is_expired (later kept.session))) [
+ticked_in_step own other kept far out back t = subst (StayInStep own other kept far out back) (sym (tick_is kept.session)) (elim (cases_Bool (is_expired (a_tick_later kept.session))) [
   | inl over ↦ rw over (expires own other kept far out back t)
-  | inr waits ↦ rw waits (elim (cases_Bool (is_quiet (later kept.session))) [
+  | inr waits ↦ rw waits (elim (cases_Bool (is_keep_alive_due (a_tick_later kept.session))) [
     | inl quiet ↦ rw quiet (keeps own other kept far out back (left _ _ quiet) t)
-    | inr spoken ↦ rw (spoken, no_more far out) (same_phase own other kept (with_session (later kept.session) kept) far out back (later_stands own other kept t.here) refl t)
+    | inr spoken ↦ rw (spoken, no_more far out) (same_phase own other kept (with_session (a_tick_later kept.session) kept) far out back (later_stands own other kept t.here) refl t)
   ])
 ])

@@ -17,14 +17,14 @@ use Rattle.edge_model.specs.EndPlaces.{end_named}
 use Rattle.edge_model.specs.Signal.{end_of_fec}
 use Rattle.edge_model.specs.State.{EdgeState}
 use Rattle.network_model.specs.State.{NetworkState}
-use Rattle.flight_model.specs.Bound.{AreBound, advertises, is_old, is_release_of, is_waited_for, is_withdrawal_of, names_old, releases_old, some_message}
+use Rattle.flight_model.specs.Bound.{AreBound, has_advertised, is_old, is_release_of, is_waited_for, is_withdrawal_of, names_old, releases_old, some_message}
 use Rattle.flight_model.specs.Ends.{IsOrdered, ends_at}
 use Rattle.flight_model.specs.Facts.{flight}
 use Rattle.flight_model.specs.Flight.{all_messages}
 use Rattle.flight_model.specs.Laws.{AreOnWay, network_after}
 use Rattle.flight_model.specs.Pair.{ArePaired}
 use Rattle.flight_model.specs.Releases.{AwaitsRelease, NamesUnadvertised, RunsAwaitReleases, RunsReleaseUnadvertised}
-use Rattle.flight_model.specs.Rules.{AllMessages, MayNameAt, NamesTold, owns}
+use Rattle.flight_model.specs.Rules.{AllMessages, MayNameAt, NamesTold, part_owns}
 use Rattle.flight_model.proofs.BoundRunLemmas.{AreBoundNow, bound_now, run_bounds}
 use Rattle.flight_model.proofs.EdgeBindingLemmas.{clash, itself}
 use Rattle.flight_model.proofs.PlaceLemmas.{wire_named}
@@ -74,16 +74,16 @@ runs_await_releases plan events run a b both =
 -- ---- a label that is released
 
 -- an end owns the label that it advertises
-advertised_owned : (near : LocalPart) (label : ℕ) → advertises near label ≡ true → owns near label ≡ true
+advertised_owned : (near : LocalPart) (label : ℕ) → has_advertised near label ≡ true → part_owns near label ≡ true
 advertised_owned (Idle declined) label is = clash is
 advertised_owned (Advertised own told) label is = is
 advertised_owned (Withdrawing own) label is = clash is
 
 -- a label that is named with the wire itself is old
-old_label : (pw_id next : ℕ) (near : LocalPart) (named : Option ℕ) (label : ℕ) → named ≡ Some pw_id → names_old pw_id next near named (Some label) ≡ true → advertises near label ≡ false
+old_label : (pw_id next : ℕ) (near : LocalPart) (named : Option ℕ) (label : ℕ) → named ≡ Some pw_id → names_old pw_id next near named (Some label) ≡ true → has_advertised near label ≡ false
 old_label pw_id next near named label is old =
     let own : not (nat_eq pw_id pw_id) || is_old next near label ≡ true = rw is at old in
-    is_not (advertises near label) (and_right (nat_lt label next) (not (advertises near label)) (rw (itself pw_id) at own))
+    is_not (has_advertised near label) (and_right (nat_lt label next) (not (has_advertised near label)) (rw (itself pw_id) at own))
   where
     is_not : (b : Bool) → not b ≡ true → b ≡ false
     is_not true e = clash e
@@ -105,20 +105,20 @@ module _ (plan : Plan) (checked : IsChecked plan) (a b : ℕ) (one other : EdgeS
     named : fec.pw_id ≡ Some told.row.pw_id
     named = ap (λ (f : PwFec). f.pw_id) told.bare
 
-    by_place : (found : Option EndPlace) → end_named plan one.me (record { 0 = b }) told.row.pw_id ≡ found → MayNameAt one b found label → (wire peer : ℕ) → advertises (one.ends wire peer).local label ≡ false
+    by_place : (found : Option EndPlace) → end_named plan one.me (record { 0 = b }) told.row.pw_id ≡ found → MayNameAt one b found label → (wire peer : ℕ) → has_advertised (one.ends wire peer).local label ≡ false
     by_place None is may wire peer = absurd may
-    by_place (Some place) is may wire peer = elim (cases_Bool (advertises (one.ends wire peer).local label)) [
+    by_place (Some place) is may wire peer = elim (cases_Bool (has_advertised (one.ends wire peer).local label)) [
       | inl so ↦
           (let at = may.owner wire peer (advertised_owned (one.ends wire peer).local label so) in
           let same : place.wire ≡ told.wire = wire_named plan (record { 0 = a }) (record { 0 = b }) told.row.pw_id place told.wire told.row checked told.is told.joined (sym (ap (λ (m : EdgeId). end_named plan m (record { 0 = b }) told.row.pw_id) placed) ∙ is) (itself told.row.pw_id) in
-          let there : advertises (one.ends told.wire.0 b).local label ≡ true =
-          subst (λ (k : ℕ). advertises (one.ends told.wire.0 k).local label ≡ true) at.1
-          (subst (λ (w : ℕ). advertises (one.ends w peer).local label ≡ true) (at.0 ∙ ap (λ (w : WireId). w.0) same) so) in
-          never (advertises (one.ends told.wire.0 b).local label) there (old_label told.row.pw_id one.next_label (one.ends told.wire.0 b).local fec.pw_id label named old))
+          let there : has_advertised (one.ends told.wire.0 b).local label ≡ true =
+          subst (λ (k : ℕ). has_advertised (one.ends told.wire.0 k).local label ≡ true) at.1
+          (subst (λ (w : ℕ). has_advertised (one.ends w peer).local label ≡ true) (at.0 ∙ ap (λ (w : WireId). w.0) same) so) in
+          never (has_advertised (one.ends told.wire.0 b).local label) there (old_label told.row.pw_id one.next_label (one.ends told.wire.0 b).local fec.pw_id label named old))
       | inr not_so ↦ not_so
     ]
 
-    unadvertised : MayNameAt one b (end_of_fec plan one (record { 0 = b }) fec) label → (wire peer : ℕ) → advertises (one.ends wire peer).local label ≡ false
+    unadvertised : MayNameAt one b (end_of_fec plan one (record { 0 = b }) fec) label → (wire peer : ℕ) → has_advertised (one.ends wire peer).local label ≡ false
     unadvertised may =
         by_place (end_named plan one.me (record { 0 = b }) told.row.pw_id) refl
         (subst (λ (n : Option ℕ). MayNameAt one b (option_and_then (end_named plan one.me (record { 0 = b })) n) label) named may)

@@ -24,7 +24,7 @@ use Rattle.pw_signalling.specs.Rows.{bound, group_stated, group_unbound, release
 use Rattle.session_core.specs.declared.peers.Peers.{Peers}
 use Rattle.session_core.specs.Table.{Heard, Received}
 use Rattle.edge_model.specs.declared.end_place.EndPlace.{EndPlace}
-use Rattle.edge_model.specs.Content.{bare_fec_of, binding_in, pw_status_code, release, told_in}
+use Rattle.edge_model.specs.Content.{bare_fec_of, binding_in, pw_status_code, release, told_with}
 use Rattle.edge_model.specs.EndPlaces.{end_named}
 use Rattle.edge_model.specs.Hear.{acts_on}
 use Rattle.edge_model.specs.Put.{platform_of}
@@ -101,7 +101,7 @@ module _ (plan : Plan) (checked : IsChecked plan) (types : HasTypes plan) (other
   }
 
   -- an end that owns no more is another one, and tells and holds what is planned
-  end_changes : (place : EndPlace) (end : EndState) (work : Work) → ((label : ℕ) → Rattle.flight_model.specs.Rules.owns end.local label ≡ true → Rattle.flight_model.specs.Rules.owns (end_at work.edge place).local label ≡ true)
+  end_changes : (place : EndPlace) (end : EndState) (work : Work) → ((label : ℕ) → Rattle.flight_model.specs.Rules.part_owns end.local label ≡ true → Rattle.flight_model.specs.Rules.part_owns (end_at work.edge place).local label ≡ true)
       → TellsAt plan me.0 place.wire.0 place.peer.0 end → (nat_eq place.peer.0 me.0 ≡ false → BindsGiven (others place.peer.0) place.wire.0 me.0 end.remote) → At work → ChangesEnds plan others me.0 work.edge (with_end place end work.edge)
   unfolding with_end
   end_changes place end work less tells given works = record {
@@ -175,7 +175,7 @@ module _ (plan : Plan) (checked : IsChecked plan) (types : HasTypes plan) (other
   mapping_heard : (id : ℕ) (fec : PwFec) (label : ℕ) (status : Option PwStatus) (points : List Point) (work : Work) → Ruled (LabelMapping id fec label status points) → At work
       → At (maps_to taken_all peer fec label status points (end_of_fec plan work.edge peer fec) work)
   mapping_heard id fec label status points work ruled works =
-      let tells : TellsOfWire plan peer.0 me.0 fec (told_in fec status points) = ruled.tells in
+      let tells : TellsOfWire plan peer.0 me.0 fec (told_with fec status points) = ruled.tells in
       let near : NamedEnd plan me peer tells.wire tells.row = end_of plan me peer tells.wire tells.row checked tells.is (turned tells.row tells.joined) in
       let far : NamedEnd plan peer me tells.wire tells.row = end_of plan peer me tells.wire tells.row checked tells.is tells.joined in
       let binding : Binding = binding_in fec label status points in

@@ -32,7 +32,7 @@ use Rattle.edge_model.specs.State.{EdgeState, end_at, with_end, with_next_label,
 use Rattle.edge_model.specs.Work.{Work, changes, gives}
 use Rattle.network_model.specs.Absorb.{taken_all}
 use Rattle.flight_model.specs.Ends.{AreFieldOffers, HasTypes, IsFieldOffer, ends_at}
-use Rattle.flight_model.specs.Rules.{BindsGiven, MayName, NearTells, TellsExpected, owns}
+use Rattle.flight_model.specs.Rules.{BindsGiven, MayName, NearTells, TellsExpected, part_owns}
 use Rattle.flight_model.specs.Sound.{CanBeTold}
 use Rattle.flight_model.proofs.KeepLemmas.{KeepsEnds}
 use Rattle.flight_model.proofs.MendingLemmas.{KeptByRows}
@@ -225,12 +225,12 @@ module _ (plan : Plan) (checked : IsChecked plan) (types : HasTypes plan) (other
   near_is place label content work end_is at works = subst (NearTells plan end_is.row me.0 place.peer.0) at ((works.edge.tells place.wire.0 place.peer.0).near end_is.row end_is.is end_is.joined)
 
   -- its label is its own, and one
-  owned_is : (place : EndPlace) (label : ℕ) (content : Told) (work : Work) → (end_at work.edge place).local ≡ Advertised label content → owns (end_at work.edge place).local label ≡ true
+  owned_is : (place : EndPlace) (label : ℕ) (content : Told) (work : Work) → (end_at work.edge place).local ≡ Advertised label content → part_owns (end_at work.edge place).local label ≡ true
   owned_is place label content work at = rw at (is_same label)
 
   label_is : (place : EndPlace) (label : ℕ) (content : Told) (work : Work) → (end_at work.edge place).local ≡ Advertised label content → At work → IsLabel label
   label_is place label content work at works =
-      let own : owns (end_at work.edge place).local label ≡ true = owned_is place label content work at in
+      let own : part_owns (end_at work.edge place).local label ≡ true = owned_is place label content work at in
       record {
         above = works.edge.least.owned place.wire.0 place.peer.0 label own;
         below = label_below_next label work.edge.next_label (works.edge.owned place.wire.0 place.peer.0 label own).below works.edge.most;

@@ -6,7 +6,7 @@ use Rattle.net_base.specs.declared.plan.Plan.{Plan}
 use Rattle.net_base.specs.declared.plan.edge_plan.EdgePlan.{EdgePlan}
 use Rattle.net_base.specs.declared.trace.event.Event.{Event}
 use Rattle.net_base.specs.declared.trace.event.Event.TheVariants.{Connect, Deliver, Lose, Restart, Tick, Frame, Arrive, Discard, Again, Wire, Circuit, Status, Priority, Ping}
-use Rattle.net_base.specs.plan.Accepted.{IsChecked, IsEdge}
+use Rattle.net_base.specs.plan.Accepted.{IsChecked, IsEdgePlan}
 use Rattle.net_base.specs.plan.Places.{circuit_row}
 use Rattle.net_base.specs.plan.Planned.{IsEventOf}
 use Rattle.label_space.specs.Labels.{numbers_end}
@@ -55,7 +55,7 @@ brings_ruled plan event network checked types planned ordered ruled = (brings_st
 label_least : (plan : Plan) (row : Option EdgePlan) (place : ℕ) → slice_get plan.edges place ≡ row → IsChecked plan → (16 ≤ label_of row) × (label_of row ≤ numbers_end)
 label_least plan None place is checked = (omega arith, omega arith)
 label_least plan (Some row) place is checked =
-    let edge : IsEdge row = row_holds IsEdge plan.edges place row is checked.edges in
+    let edge : IsEdgePlan row = row_holds IsEdgePlan plan.edges place row is checked.edges in
     (edge.first_label.0, below row.first_label edge.first_label.1)
   where
     below : (n : ℕ) → n ≤ 1048575 → n ≤ numbers_end

@@ -25,7 +25,7 @@ use Rattle.edge_model.specs.Work.{Work, changes, gives, puts}
 use Rattle.network_model.specs.Absorb.{taken_all}
 use Rattle.flight_model.specs.Ends.{ends_at}
 use Rattle.flight_model.specs.Meeting.{closes, said_to}
-use Rattle.flight_model.specs.Pair.{AreFit, having_put}
+use Rattle.flight_model.specs.Pair.{AreFit, having_put_all}
 use Rattle.flight_model.specs.Rules.{BindsGiven}
 use Rattle.flight_model.proofs.MentionLemmas.{reply_far, reply_own}
 use Rattle.flight_model.proofs.NameLemmas.{beside_fact, names_beside, names_still, owns_lost, split}
@@ -147,7 +147,7 @@ module _ (plan : Plan) (others : ℕ → EdgeState) (me : ℕ) (first : EdgeStat
       (message_put peer kept (message_of r kept.next_id (ends_at plan me peer.0)) work at (λ away. reply_ruled plan me peer.0 work.edge (others peer.0) r kept.next_id fit.fit is fit.numbered) works))
 
   pub replies_put : (peer : EdgeId) (rs : List Reply) (kept : Peering) (work : Work) → work.edge.peering peer.0 ≡ Some kept → AllByRecursion IsFitReply rs → WorksRuled plan others me first held work
-      → ArePut peer (having_put rs kept) (put_replies taken_all peer rs work)
+      → ArePut peer (having_put_all rs kept) (put_replies taken_all peer rs work)
   replies_put peer [] kept work at all works = record { works = works; stands = at; taken = refl }
   replies_put peer (r ∷ rs) kept work at all works =
       let one : IsPut peer kept (put_reply taken_all peer r work) = one_put peer kept r work at all.0 works in
@@ -203,7 +203,7 @@ module _ (plan : Plan) (others : ℕ → EdgeState) (me : ℕ) (first : EdgeStat
       let moved : Work = changes (with_peering peer (Some now)) work in
       let moved_works : WorksRuled plan others me first held moved =
       still_stands plan others me first held peer kept now work at refl (record { session = fits.0; fit = fit.fit; numbered = fit.numbered }) works in
-      let put : ArePut peer (having_put replies now) (put_replies taken_all peer replies moved) = replies_put peer replies now moved (now_kept peer now work) fits.1 moved_works in
+      let put : ArePut peer (having_put_all replies now) (put_replies taken_all peer replies moved) = replies_put peer replies now moved (now_kept peer now work) fits.1 moved_works in
       rw put.taken (told_ruled peer kept.session.phase next.phase (put_replies taken_all peer replies moved).work put.works)
   comes_ruled peer kept (Ends why replies) work at fits works =
       end_ruled peer why (put_replies taken_all peer replies work).work (replies_put peer replies kept work at fits works).works

@@ -9,7 +9,7 @@ use Rattle.std.proofs.lemmas.List.Elements.{All-head, All-tail}
 use Rattle.std.specs.List.{All}
 use Rattle.label_space.specs.Labels.{numbers_end}
 use Rattle.net_base.specs.declared.plan.edge_plan.EdgePlan.{EdgePlan}
-use Rattle.net_base.specs.plan.Accepted.{IsChecked, IsEdge}
+use Rattle.net_base.specs.plan.Accepted.{IsChecked, IsEdgePlan}
 use Rattle.net_base.specs.plan.Planned.{IsEventOf}
 use Rattle.net_base.specs.plan.Places.{circuit_row}
 use Rattle.ldp_grammar.specs.declared.message.Message.{Message}
@@ -24,7 +24,7 @@ use Rattle.flight_model.specs.Endings.{TellGoodEnds}
 use Rattle.flight_model.specs.Ends.{HasTypes, IsOrdered, KeepsOrder, ends_at}
 use Rattle.flight_model.specs.Facts.{flight}
 use Rattle.flight_model.specs.Flight.{is_row}
-use Rattle.flight_model.specs.Laws.{BothStand, FollowsTable, HasRow, IsRun, IsStill, IsUp, RunsComeUp, RunsEndWell, RunsFollowTable, network_after}
+use Rattle.flight_model.specs.Laws.{BothStand, FollowsTable, HasRow, IsRun, IsStillBetween, IsUp, RunsComeUp, RunsEndWell, RunsFollowTable, network_after}
 use Rattle.flight_model.specs.Messages.{octets_of_all}
 use Rattle.flight_model.specs.Pair.{ArePaired}
 use Rattle.flight_model.proofs.CircuitLemmas.{again_keeps, arrive_keeps, circuit_keeps, discard_keeps, frame_keeps, priority_keeps, status_keeps, wire_keeps}
@@ -73,7 +73,7 @@ along_good plan (e ∷ es) network checked types planned ordered =
 first_fits : (plan : Plan) (row : Option EdgePlan) (place : ℕ) → slice_get plan.edges place ≡ row → IsChecked plan → (16 ≤ label_of row) × (label_of row ≤ numbers_end)
 first_fits plan None place at checked = (omega arith, omega arith)
 first_fits plan (Some row) place at checked =
-    let edge : IsEdge row = row_holds IsEdge plan.edges place row at checked.edges in
+    let edge : IsEdgePlan row = row_holds IsEdgePlan plan.edges place row at checked.edges in
     (edge.first_label.0, omega (arith, edge.first_label.1))
 
 pub empty_ordered : (plan : Plan) → IsChecked plan → IsOrdered plan (empty_network plan)
@@ -131,7 +131,7 @@ pub none_said : (router : Addr) (ms : List Message) → [] ≡ octets_of_all rou
 none_said router [] e = refl
 none_said router (m ∷ ms) e = absurd (cc)
 
-row_up : (plan : Plan) (network : NetworkState) (a b : ℕ) → IsStill network a b → HasRow plan network a b → IsUp network a b × IsUp network b a
+row_up : (plan : Plan) (network : NetworkState) (a b : ℕ) → IsStillBetween network a b → HasRow plan network a b → IsUp network a b × IsUp network b a
 row_up plan network a b still has =
     let out : has.out ≡ [] = none_said (ends_at plan a b).me has.out (sym still.out ∙ has.out_is) in
     let back : has.back ≡ [] = none_said (ends_at plan b a).me has.back (sym still.back ∙ has.back_is) in
@@ -147,7 +147,7 @@ runs_come_up plan events run a b still = by_side (is_active (ends_at plan a b)) 
   one : FollowsTable plan network a b
   one = runs_follow_table plan events run a b still.both
 
-  turned_still : IsStill network b a
+  turned_still : IsStillBetween network b a
   turned_still = record { both = record { one = still.both.other; other = still.both.one }; out = still.back; back = still.out }
 
   other : FollowsTable plan network b a

@@ -19,14 +19,14 @@ use Rattle.session_core.specs.declared.peers.Peers.{Peers}
 use Rattle.session_core.specs.declared.reply.Reply.{Reply}
 use Rattle.session_core.specs.declared.reply.Reply.TheVariants as reply
 use Rattle.session_core.specs.Messages.{HasData, message_of}
-use Rattle.session_core.specs.Parameters.{agreed, is_platform, proposal, refusal_of}
+use Rattle.session_core.specs.Parameters.{agreed, is_platform, proposal, proposal_refusal}
 use Rattle.session_core.specs.Phase.{Phase, is_agreed}
 use Rattle.session_core.specs.Phase as phase
 use Rattle.session_core.specs.Reasons.{is_fatal, is_keep_alive}
 use Rattle.session_core.specs.State.{SessionState, is_active}
-use Rattle.session_core.specs.Table.{Heard, Received, Stay, Goes, Ends, enters, outcome_of}
+use Rattle.session_core.specs.Table.{Heard, Received, Stay, Goes, Ends, enters_phase, outcome_of}
 use Rattle.session_core.proofs.PutLemmas.{replies_are_put}
-use Rattle.edge_model.specs.Content.{no_params}
+use Rattle.pw_tlvs.specs.Fec.{no_params}
 use Rattle.edge_model.specs.Put.{platform_of}
 use Rattle.flight_model.specs.Flight.{is_initialization}
 use Rattle.flight_model.specs.Messages.{IsLeaving, IsSaid, IsSound, IsStatusNotice, AreSaid, expiry, octets_of_all}
@@ -37,15 +37,15 @@ use Rattle.flight_model.proofs.RowLemmas.{clash}
 -- ---- outcomes
 
 -- the proposal of the other end opens a session
-pub passive_init : (s : SessionState) (id : ℕ) (params : SessionParams) → s.phase ≡ phase.Initialized → is_active s.peers ≡ false → refusal_of s.peers params ≡ None
+pub passive_init : (s : SessionState) (id : ℕ) (params : SessionParams) → s.phase ≡ phase.Initialized → is_active s.peers ≡ false → proposal_refusal s.peers params ≡ None
     → outcome_of s (Received (Initialization id params)) ≡ Goes (agreed s params) (reply.Init ∷ reply.KeepAlive ∷ [])
 passive_init s id params at passive right = rw (at, passive, right) refl
 
-pub active_init : (s : SessionState) (id : ℕ) (params : SessionParams) → s.phase ≡ phase.OpenSent → refusal_of s.peers params ≡ None
+pub active_init : (s : SessionState) (id : ℕ) (params : SessionParams) → s.phase ≡ phase.OpenSent → proposal_refusal s.peers params ≡ None
     → outcome_of s (Received (Initialization id params)) ≡ Goes (agreed s params) (reply.KeepAlive ∷ [])
 active_init s id params at right = rw (at, right) refl
 
-pub keep_alive : (s : SessionState) (id : ℕ) → s.phase ≡ phase.OpenRec → outcome_of s (Received (KeepAlive id)) ≡ Goes (enters phase.Operational s) []
+pub keep_alive : (s : SessionState) (id : ℕ) → s.phase ≡ phase.OpenRec → outcome_of s (Received (KeepAlive id)) ≡ Goes (enters_phase phase.Operational s) []
 keep_alive s id at = rw at refl
 
 pub leaving : (s : SessionState) (id : ℕ) → outcome_of s (Received (Notification id expiry None None)) ≡ Ends reason.PeerFatal []

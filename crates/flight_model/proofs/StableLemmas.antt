@@ -19,7 +19,7 @@ use Rattle.edge_model.specs.EndPlaces.{is_terminal}
 use Rattle.network_model.specs.State.{NetworkState}
 use Rattle.network_model.specs.Step.{brings}
 use Rattle.flight_model.specs.Ends.{HasTypes, IsOrdered}
-use Rattle.flight_model.specs.Rules.{BindsGiven, FarTells, MayName, NearTells, TellsExpected, owns}
+use Rattle.flight_model.specs.Rules.{BindsGiven, FarTells, MayName, NearTells, TellsExpected, part_owns}
 use Rattle.flight_model.proofs.NameLemmas.{KeepsNames, is_same}
 use Rattle.flight_model.proofs.PlaceLemmas.{wire_apart}
 use Rattle.flight_model.proofs.RuledLemmas.{IsRuledEdge}
@@ -72,7 +72,7 @@ end_is_planned plan network checked ruled me peer wire row is joined = record {
     tells = subst (FarTells plan row peer me) at (tells.far row is (sym (joins_turned row.path me peer) ∙ joined));
   };
   advertises = λ label told at.
-      let own : owns ((network.edges me).ends wire.0 peer).local label ≡ true = rw at (is_same label) in
+      let own : part_owns ((network.edges me).ends wire.0 peer).local label ≡ true = rw at (is_same label) in
       let may : MayName (network.edges me) wire.0 peer label = edge.owned wire.0 peer label own in
       record {
         may = may;

@@ -22,7 +22,7 @@ use Rattle.session_core.specs.declared.peers.Peers.{Peers}
 use Rattle.session_core.specs.declared.reply.Reply.{Reply}
 use Rattle.session_core.specs.declared.reply.Reply.TheVariants as reply
 use Rattle.session_core.specs.Messages.{message_of}
-use Rattle.edge_model.specs.Content.{bare, bare_fec_of, content_of, mac_withdrawal, mapping, release, status_notification, told_in, withdrawal}
+use Rattle.edge_model.specs.Content.{bare, bare_fec_of, content_of, mac_withdrawal, mapping, release, status_notification, told_with, withdrawal}
 use Rattle.edge_model.specs.State.{EdgeState}
 use Rattle.flight_model.specs.Rules.{FarTells, NamesTold, NearTells, TellsExpected, TellsOfWire, TellsPlan, told_of}
 use Rattle.flight_model.proofs.NameLemmas.{split}
@@ -44,7 +44,7 @@ names_told plan from to fec names = record { wire = names.wire; row = names.row;
 
 -- a message tells what the plan has the two edges tell, and a status only where the offer has one
 abbrev pub TellsFirm : Plan → ℕ → ℕ → Message → Type 0
-TellsFirm plan from to (LabelMapping id fec label status points) = TellsOfWire plan from to fec (told_in fec status points)
+TellsFirm plan from to (LabelMapping id fec label status points) = TellsOfWire plan from to fec (told_with fec status points)
 TellsFirm plan from to (LabelWithdraw id fec label) = NamesTold plan from to fec
 TellsFirm plan from to (LabelRelease id fec label) = NamesTold plan to from fec
 TellsFirm plan from to (Notification id code status (Some fec)) = NamesStatus plan from to fec
@@ -119,13 +119,13 @@ pub clearance_tells : (plan : Plan) (wire : WireId) (row : WirePlan) (from to pw
 clearance_tells plan wire row from to pw_id id addresses told is joined same tells = record { wire = wire; row = row; is = is; joined = joined; bare = bare_named plan row from to pw_id told same tells }
 
 -- a release tells what the message told that it answers
-bare_in : (e : Expected) (fec : PwFec) (status : Option PwStatus) (points : List Point) (pw_id : ℕ) → fec.pw_id ≡ Some pw_id → told_in fec status points ≡ told_of e status → bare fec ≡ bare_fec_of pw_id (told_of e None)
+bare_in : (e : Expected) (fec : PwFec) (status : Option PwStatus) (points : List Point) (pw_id : ℕ) → fec.pw_id ≡ Some pw_id → told_with fec status points ≡ told_of e status → bare fec ≡ bare_fec_of pw_id (told_of e None)
 bare_in e fec status points pw_id named is = bare_again fec status points pw_id named ∙ ap (λ (t : Told). bare_fec_of pw_id t) is
   where
-    bare_again : (fec : PwFec) (status : Option PwStatus) (points : List Point) (pw_id : ℕ) → fec.pw_id ≡ Some pw_id → bare fec ≡ bare_fec_of pw_id (told_in fec status points)
+    bare_again : (fec : PwFec) (status : Option PwStatus) (points : List Point) (pw_id : ℕ) → fec.pw_id ≡ Some pw_id → bare fec ≡ bare_fec_of pw_id (told_with fec status points)
     bare_again fec status points pw_id named = rw named refl
 
-pub release_of_mapping_tells : (plan : Plan) (from to id : ℕ) (fec : PwFec) (label : Option ℕ) (status : Option PwStatus) (points : List Point) → TellsOfWire plan from to fec (told_in fec status points)
+pub release_of_mapping_tells : (plan : Plan) (from to id : ℕ) (fec : PwFec) (label : Option ℕ) (status : Option PwStatus) (points : List Point) → TellsOfWire plan from to fec (told_with fec status points)
     → TellsFirm plan to from (release fec label id)
 release_of_mapping_tells plan from to id fec label status points tells = record {
   wire = tells.wire;

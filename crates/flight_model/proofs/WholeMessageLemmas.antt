@@ -37,7 +37,7 @@ use Rattle.network_model.specs.declared.packet.Packet.{Packet}
 use Rattle.network_model.specs.Frame.{entering, frame_event, frame_work, next_origin}
 use Rattle.network_model.specs.Packet.{arrive_event, packet_at, packet_work}
 use Rattle.network_model.specs.Run.{entries_along, state_after}
-use Rattle.network_model.specs.State.{NetworkState, at_edge, with_edge, with_frame, with_pipe, without_packet}
+use Rattle.network_model.specs.State.{NetworkState, edge_at, with_edge, with_frame, with_pipe, without_packet}
 use Rattle.network_model.specs.Step.{step}
 use Rattle.network_model.proofs.AbsorbLemmas.{all_keep}
 use Rattle.flight_model.specs.Messages.{octets_of_all}
@@ -130,7 +130,7 @@ hands_over plan from to id messages network =
 -- these messages are all that is on its way there
 abbrev pub are_next : Plan → ℕ → EdgeId → EdgeId → Addr → List Message → NetworkState → Bool
 are_next plan count from to router messages network =
-    (is_bare ((at_edge network to).peering from.0) && (is_deliverable network from.0 to.0 && not (is_drained_pipe network from.0 to.0)))
+    (is_bare ((edge_at network to).peering from.0) && (is_deliverable network from.0 to.0 && not (is_drained_pipe network from.0 to.0)))
     && ((bytes_eq (take count (network.pipes from.0 to.0)) (octets_of_all router messages) && bytes_eq (drop count (network.pipes from.0 to.0)) [])
     && (nat_le (length messages) (length (octets_of_all router messages)) && are_wide plan from (platform_of router) messages (begin_at network to)))
 
@@ -159,10 +159,10 @@ delivered_each plan count from to router messages network stand next =
       pipe : List ℕ
       pipe = network.pipes from.0 to.0
 
-      given : take count pipe ≡ octets_of_all router messages → drop count pipe ≡ [] → is_bare ((at_edge network to).peering from.0) ≡ true → length messages ≤ length (octets_of_all router messages)
+      given : take count pipe ≡ octets_of_all router messages → drop count pipe ≡ [] → is_bare ((edge_at network to).peering from.0) ≡ true → length messages ≤ length (octets_of_all router messages)
           → are_wide plan from (platform_of router) messages (begin_at network to) ≡ true → delivering plan from to count network ≡ hands_over plan from to (platform_of router) messages network
       given all none bare few wide =
-          ap (λ (w : Work). absorb to 0 0 w (with_pipe from to (drop count pipe) network)) (octets_each plan from router messages (take count pipe) ((at_edge network to).peering from.0) (begin_at network to) all bare stand wide few)
+          ap (λ (w : Work). absorb to 0 0 w (with_pipe from to (drop count pipe) network)) (octets_each plan from router messages (take count pipe) ((edge_at network to).peering from.0) (begin_at network to) all bare stand wide few)
           ∙ ap (λ (l : List ℕ). absorb to 0 0 (mends plan taken_all (hears_each plan from (platform_of router) messages (begin_at network to))) (with_pipe from to l network)) none
 
 -- ---- a run

@@ -27,7 +27,7 @@ use Rattle.flight_model.specs.Ends.{HasTypes, WorksOn, ends_at}
 use Rattle.flight_model.specs.Facts.{LeavesFor, flight}
 use Rattle.flight_model.specs.Meeting.{IsFine, Shows, closes, said_to}
 use Rattle.flight_model.specs.Messages.{AreSaid, octets_of_all}
-use Rattle.flight_model.specs.Pair.{AreTalking, IsStanding, StayInStep, having_put}
+use Rattle.flight_model.specs.Pair.{AreTalking, IsStanding, StayInStep, having_put_all}
 use Rattle.flight_model.proofs.BindingLemmas.{binding_renews}
 use Rattle.flight_model.proofs.ActBindingLemmas.{spared_leaves}
 use Rattle.flight_model.proofs.EdgeBindingLemmas.{clash}
@@ -80,7 +80,7 @@ held_steady me I besides held steady = record {
   says = λ peer message work up is i. (steady.says peer message work up is i.0, λ place here. says_holds place (held place) peer message work (i.1 place here));
 }
 
-put_held : (rs : List Reply) (kept : Peering) → (having_put rs kept).held ≡ kept.held
+put_held : (rs : List Reply) (kept : Peering) → (having_put_all rs kept).held ≡ kept.held
 put_held [] kept = refl
 put_held (r ∷ rs) kept = put_held rs (having_spoken kept)
 

@@ -19,7 +19,7 @@ use Rattle.edge_model.specs.Work.{Work, Answers, changes, gives, next_answer, pu
 use Rattle.network_model.specs.Absorb.{taken_all}
 use Rattle.flight_model.specs.Endings.{is_no_refusal}
 use Rattle.flight_model.specs.Meeting.{IsFine, Shows, Spares, TellWell, TellsWell, closes, said_to}
-use Rattle.flight_model.specs.Pair.{having_put, octets_put}
+use Rattle.flight_model.specs.Pair.{having_put_all, octets_put}
 
 cond_append : (b : Bool) (x y z : List ℕ) → cond b (x ++ (y ++ z)) (y ++ z) ≡ cond b (x ++ y) y ++ z
 cond_append true x y z = sym (append_assoc x y z)
@@ -202,7 +202,7 @@ pub record HasPut (me peer : EdgeId) (kept : Option Peering) (said : List ℕ) (
   pub fine : IsFine me put.work
 
 pub all_put : (me peer : EdgeId) (rs : List Reply) (kept : Peering) (work : Work) (said : List ℕ) (closed : Bool) → Shows peer.0 work (Some kept) said closed → IsFine me work
-    → HasPut me peer (Some (having_put rs kept)) (said ++ octets_put rs kept) closed (put_replies taken_all peer rs work)
+    → HasPut me peer (Some (having_put_all rs kept)) (said ++ octets_put rs kept) closed (put_replies taken_all peer rs work)
 all_put me peer [] kept work said closed shows fine = record { taken = refl; shows = record { keeps = shows.keeps; says = shows.says ∙ sym (same_end said); ended = shows.ended }; fine = fine }
 all_put me peer (r ∷ rs) kept work said closed shows fine =
     rw (one_put peer kept r work shows.keeps, ← append_assoc said (octets_of kept r) (octets_put rs (having_spoken kept)))

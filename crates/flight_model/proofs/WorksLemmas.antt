@@ -32,7 +32,7 @@ use Rattle.flight_model.specs.Sound.{TellsSoundly}
 use Rattle.flight_model.specs.Facts.{HoldsBut, Turns, flight}
 use Rattle.flight_model.specs.Meeting.{IsFine, Leaves, Meets, Shows, Spares, closes, said_to}
 use Rattle.flight_model.specs.Messages.{octets_of_all}
-use Rattle.flight_model.specs.Pair.{ArePaired, AreTalking, StandsIf, StayInStep, having_put, is_in_step}
+use Rattle.flight_model.specs.Pair.{ArePaired, AreTalking, StandsIf, StayInStep, having_put_all, is_in_step}
 use Rattle.flight_model.proofs.BridgeLemmas.{bridged_fine, bridged_spares}
 use Rattle.flight_model.proofs.MeetLemmas.{happens_meets, moved_shows}
 use Rattle.flight_model.proofs.OfferLemmas.{IsOfWires}
@@ -162,7 +162,7 @@ abbrev KeepsHeld : List ℕ → Option Peering → Type 0
 KeepsHeld held None = Unit {0}
 KeepsHeld held (Some kept) = kept.held ≡ held
 
-put_held : (rs : List Reply) (kept : Peering) → (having_put rs kept).held ≡ kept.held
+put_held : (rs : List Reply) (kept : Peering) → (having_put_all rs kept).held ≡ kept.held
 put_held [] kept = refl
 put_held (r ∷ rs) kept = put_held rs (having_spoken kept)
 

@@ -29,9 +29,9 @@ heard_of pw_id (Notification id code status fec) held = status_heard pw_id code 
 heard_of pw_id message held = held
 
 -- once all of them were heard, in order
-abbrev pub after : ℕ → List Message → Option Binding → Option Binding
-after pw_id [] held = held
-after pw_id (message ∷ messages) held = after pw_id messages (heard_of pw_id message held)
+abbrev pub bound_after : ℕ → List Message → Option Binding → Option Binding
+bound_after pw_id [] held = held
+bound_after pw_id (message ∷ messages) held = bound_after pw_id messages (heard_of pw_id message held)
 
 -- what an end advertises: its label and its content, or nothing
 abbrev pub advertised_by : LocalPart → Option Binding

@@ -14,7 +14,7 @@ use Rattle.pw_signalling.specs.Rows.{release_part}
 use Rattle.edge_model.specs.State.{EdgeState, is_there}
 use Rattle.edge_model.specs.Work.{Work}
 use Rattle.network_model.specs.State.{NetworkState}
-use Rattle.flight_model.specs.Binding.{advertised_by, after}
+use Rattle.flight_model.specs.Binding.{advertised_by, bound_after}
 use Rattle.flight_model.specs.Coming.{and_more}
 use Rattle.flight_model.specs.Ends.{ends_at}
 use Rattle.flight_model.specs.Flight.{all_messages}
@@ -28,14 +28,14 @@ some_message test [] = false
 some_message test (message ∷ messages) = test message || some_message test messages
 
 -- the end advertises this label
-abbrev pub advertises : LocalPart → ℕ → Bool
-advertises (Idle declined) label = false
-advertises (Advertised own told) label = own == label
-advertises (Withdrawing own) label = false
+abbrev pub has_advertised : LocalPart → ℕ → Bool
+has_advertised (Idle declined) label = false
+has_advertised (Advertised own told) label = own == label
+has_advertised (Withdrawing own) label = false
 
 -- the label was given before, and the end does not advertise it now
 abbrev pub is_old : ℕ → LocalPart → ℕ → Bool
-is_old next near label = nat_lt label next && not (advertises near label)
+is_old next near label = nat_lt label next && not (has_advertised near label)
 
 -- what is said of a label: it names a PW ID and the label, and where the PW ID is the wire's the label is old
 abbrev pub names_old : ℕ → ℕ → LocalPart → (named label : Option ℕ) → Bool
@@ -76,7 +76,7 @@ is_waited_for pw_id next (Withdrawing label) out back = nat_lt label next && (so
 -- the end of the wire with this PW ID at an edge that gives this label next, what its neighbour holds of it, and the messages on
 -- their way from the edge and to it
 pub record IsBoundBy (pw_id next : ℕ) (near : LocalPart) (far : Option Binding) (out back : List Message) : Type 0 where
-  pub agrees : after pw_id out far ≡ advertised_by near
+  pub agrees : bound_after pw_id out far ≡ advertised_by near
   pub withdrawn : all_messages (withdraws_old pw_id next near) out ≡ true
   pub released : all_messages (releases_old pw_id next near) back ≡ true
   pub waits : is_waited_for pw_id next near out back ≡ true
@@ -101,9 +101,9 @@ abbrev pub released_by : ℕ → Option ℕ → Option ℕ → LocalPart → Loc
 released_by pw_id None label near = near
 released_by pw_id (Some other) label near = if other == pw_id then release_part label near else near
 
-abbrev pub answered : ℕ → Message → LocalPart → LocalPart
-answered pw_id (LabelRelease id fec label) near = released_by pw_id fec.pw_id label near
-answered pw_id message near = near
+abbrev pub answered_part : ℕ → Message → LocalPart → LocalPart
+answered_part pw_id (LabelRelease id fec label) near = released_by pw_id fec.pw_id label near
+answered_part pw_id message near = near
 
 -- ---- all wires between two edges
 

@@ -20,7 +20,7 @@ use Rattle.edge_model.specs.State.{Peering}
 use Rattle.network_model.specs.Run.{run, state_after}
 use Rattle.network_model.specs.State.{NetworkState, empty_network, stands}
 use Rattle.flight_model.specs.Endings.{TellGoodEnds}
-use Rattle.flight_model.specs.Binding.{advertised_by, after, is_idle, is_withdrawing}
+use Rattle.flight_model.specs.Binding.{advertised_by, bound_after, is_idle, is_withdrawing}
 use Rattle.flight_model.specs.Ends.{HasTypes, ends_at}
 use Rattle.flight_model.specs.Facts.{flight}
 use Rattle.flight_model.specs.Flight.{is_row}
@@ -71,7 +71,7 @@ abbrev pub RunsEndWell : Type 0
 RunsEndWell = (plan : Plan) (events : List Event) → IsRun plan events → TellGoodEnds (run plan events).entries
 
 -- nothing is held or on its way between two ends that stand
-pub record IsStill (network : NetworkState) (a b : ℕ) : Type 0 where
+pub record IsStillBetween (network : NetworkState) (a b : ℕ) : Type 0 where
   pub both : BothStand network a b
   pub out : flight network a b ≡ []
   pub back : flight network b a ≡ []
@@ -84,7 +84,7 @@ pub record IsUp (network : NetworkState) (a b : ℕ) : Type 0 where
 
 -- two ends between which nothing is held or on its way are both up
 abbrev pub RunsComeUp : Type 0
-RunsComeUp = (plan : Plan) (events : List Event) → IsRun plan events → (a b : ℕ) → IsStill (network_after plan events) a b → IsUp (network_after plan events) a b × IsUp (network_after plan events) b a
+RunsComeUp = (plan : Plan) (events : List Event) → IsRun plan events → (a b : ℕ) → IsStillBetween (network_after plan events) a b → IsUp (network_after plan events) a b × IsUp (network_after plan events) b a
 
 -- ---- pseudowires
 
@@ -99,7 +99,7 @@ pub record AgreesAfterFlight (plan : Plan) (network : NetworkState) (a b : ℕ) 
   pub messages : List Message
   pub on_way : AreOnWay plan network b a messages
   pub binds : (wire : WireId) (row : WirePlan) → wire_row plan wire ≡ Some row → joins a b row.path ≡ true
-      → after row.pw_id messages ((network.edges a).ends wire.0 b).remote ≡ advertised_by ((network.edges b).ends wire.0 a).local
+      → bound_after row.pw_id messages ((network.edges a).ends wire.0 b).remote ≡ advertised_by ((network.edges b).ends wire.0 a).local
 
 abbrev pub RunsAgreeAfterFlight : Type 0
 RunsAgreeAfterFlight = (plan : Plan) (events : List Event) → IsRun plan events → (a b : ℕ) → BothStand (network_after plan events) a b → AgreesAfterFlight plan (network_after plan events) a b

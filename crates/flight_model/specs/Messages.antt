@@ -7,7 +7,7 @@ use Rattle.ldp_grammar.specs.declared.address_list.AddressList.{AddressList}
 use Rattle.ldp_grammar.specs.declared.message.Message.{Message}
 use Rattle.ldp_grammar.specs.declared.message.Message.TheVariants.{Notification, Initialization, KeepAlive, AddressWithdraw, LabelMapping, LabelWithdraw, LabelRelease}
 use Rattle.ldp_grammar.specs.declared.status_code.StatusCode.{StatusCode}
-use Rattle.ldp_grammar.specs.Reading.{AreOctets}
+use Rattle.net_values.specs.Octets.{AreOctets}
 use Rattle.ldp_grammar.specs.Tlvs.{Tlv}
 use Rattle.ldp_grammar.specs.Written.{Fits, writable, written, written_tlvs}
 use Rattle.pw_tlvs.specs.declared.pw_fec.PwFec.{PwFec}
@@ -16,7 +16,8 @@ use Rattle.mac_withdraw.specs.Pieces.{most_in_piece}
 use Rattle.session_core.specs.declared.peers.Peers.{Peers}
 use Rattle.session_core.specs.Parameters.{proposal}
 use Rattle.session_core.specs.StatusCodes.{keep_alive_timer_expired}
-use Rattle.edge_model.specs.Content.{no_params, pw_status_notice}
+use Rattle.edge_model.specs.Content.{pw_status_notice}
+use Rattle.pw_tlvs.specs.Fec.{no_params}
 use Rattle.edge_model.specs.Put.{platform_of}
 
 -- the octets of messages of one router, each in a PDU of its own

@@ -70,9 +70,9 @@ pub record ArePaired (own other : Peers) (near far : Option Peering) (out back :
 -- ---- what comes of an event
 
 -- replies that are put, one after another: what is kept then, the messages and the octets
-abbrev pub having_put : List Reply → Peering → Peering
-having_put [] kept = kept
-having_put (reply ∷ replies) kept = having_put replies (having_spoken kept)
+abbrev pub having_put_all : List Reply → Peering → Peering
+having_put_all [] kept = kept
+having_put_all (reply ∷ replies) kept = having_put_all replies (having_spoken kept)
 
 abbrev pub messages_put : List Reply → Peering → List Message
 messages_put [] kept = []
@@ -86,6 +86,6 @@ octets_put (reply ∷ replies) kept = octets_of kept reply ++ octets_put replies
 abbrev pub StayInStep : Peers → Peers → Peering → Option Peering → (out back : List Message) → Outcome → Type 0
 StayInStep own other kept far out back Stay = AreTalking own other (Some kept) far out back
 StayInStep own other kept far out back (Goes next replies) =
-    AreTalking own other (Some (having_put replies (with_session next kept))) far (and_more far out (messages_put replies (with_session next kept))) back
+    AreTalking own other (Some (having_put_all replies (with_session next kept))) far (and_more far out (messages_put replies (with_session next kept))) back
 StayInStep own other kept far out back (Ends why replies) =
     (is_no_refusal why ≡ true) × AreTalking own other None far (and_more far out (messages_put replies kept)) []

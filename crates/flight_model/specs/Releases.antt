@@ -12,7 +12,7 @@ use Rattle.ldp_grammar.specs.declared.message.Message.TheVariants.{LabelRelease}
 use Rattle.pw_signalling.specs.End.{LocalPart, Idle, Advertised, Withdrawing}
 use Rattle.edge_model.specs.State.{EdgeState}
 use Rattle.network_model.specs.State.{NetworkState}
-use Rattle.flight_model.specs.Bound.{advertises, is_release_of, is_withdrawal_of, some_message}
+use Rattle.flight_model.specs.Bound.{has_advertised, is_release_of, is_withdrawal_of, some_message}
 use Rattle.flight_model.specs.Laws.{AreOnWay, BothStand, IsRun, network_after}
 use Rattle.flight_model.specs.Rules.{AllMessages}
 
@@ -34,7 +34,7 @@ pub record AwaitsReleases (plan : Plan) (network : NetworkState) (a b : ℕ) : T
 -- a Label Release names a label, and no end of its receiver advertises that label
 abbrev pub NamesUnadvertised : EdgeState → Message → Type 0
 NamesUnadvertised receiver (LabelRelease id fec None) = ⊥
-NamesUnadvertised receiver (LabelRelease id fec (Some label)) = (wire peer : ℕ) → advertises (receiver.ends wire peer).local label ≡ false
+NamesUnadvertised receiver (LabelRelease id fec (Some label)) = (wire peer : ℕ) → has_advertised (receiver.ends wire peer).local label ≡ false
 NamesUnadvertised receiver message = Unit {0}
 
 -- and so it is with each one on its way to an edge from a peer

@@ -14,7 +14,7 @@ use Rattle.ldp_grammar.specs.declared.message.Message.TheVariants.{Notification,
 use Rattle.pw_signalling.specs.declared.binding.Binding.{Binding}
 use Rattle.pw_signalling.specs.declared.told.Told.{Told}
 use Rattle.pw_signalling.specs.End.{LocalPart, Idle, Advertised, Withdrawing}
-use Rattle.edge_model.specs.Content.{bare_fec_of, content_of, told_in}
+use Rattle.edge_model.specs.Content.{bare_fec_of, content_of, told_with}
 use Rattle.edge_model.specs.declared.end_place.EndPlace.{EndPlace}
 use Rattle.edge_model.specs.Signal.{end_of_fec}
 use Rattle.edge_model.specs.State.{EdgeState}
@@ -27,15 +27,15 @@ AllMessages P (message ∷ messages) = P message × AllMessages P messages
 -- ---- labels
 
 -- an end owns its label from the advertisement until it is idle
-abbrev pub owns : LocalPart → ℕ → Bool
-owns (Idle declined) label = false
-owns (Advertised own told) label = own == label
-owns (Withdrawing own) label = own == label
+abbrev pub part_owns : LocalPart → ℕ → Bool
+part_owns (Idle declined) label = false
+part_owns (Advertised own told) label = own == label
+part_owns (Withdrawing own) label = own == label
 
 -- a label of this edge may be named with its end of a wire beside a peer: it was given before, and no other end owns it
 pub record MayName (edge : EdgeState) (wire peer label : ℕ) : Type 0 where
   pub below : label < edge.next_label
-  pub owner : (w k : ℕ) → owns (edge.ends w k).local label ≡ true → (w ≡ wire) × (k ≡ peer)
+  pub owner : (w k : ℕ) → part_owns (edge.ends w k).local label ≡ true → (w ≡ wire) × (k ≡ peer)
 
 abbrev pub MayNameAt : EdgeState → ℕ → Option EndPlace → ℕ → Type 0
 MayNameAt edge peer None label = ⊥
@@ -65,7 +65,7 @@ pub record NamesGiven (plan : Plan) (a b : ℕ) (one other : EdgeState) (out : L
 
 -- each label that an end owns may be named with it: it was given before, and no other end owns it
 abbrev pub OwnsItsLabels : EdgeState → Type 0
-OwnsItsLabels edge = (wire peer label : ℕ) → owns (edge.ends wire peer).local label ≡ true → MayName edge wire peer label
+OwnsItsLabels edge = (wire peer label : ℕ) → part_owns (edge.ends wire peer).local label ≡ true → MayName edge wire peer label
 
 -- ---- told contents
 
@@ -100,7 +100,7 @@ pub record NamesTold (plan : Plan) (from to : ℕ) (fec : PwFec) : Type 0 where
 
 -- a message tells, on its way from an edge to a peer, what the plan has them tell
 abbrev pub TellsPlan : Plan → ℕ → ℕ → Message → Type 0
-TellsPlan plan from to (LabelMapping id fec label status points) = TellsOfWire plan from to fec (told_in fec status points)
+TellsPlan plan from to (LabelMapping id fec label status points) = TellsOfWire plan from to fec (told_with fec status points)
 TellsPlan plan from to (LabelWithdraw id fec label) = NamesTold plan from to fec
 TellsPlan plan from to (LabelRelease id fec label) = NamesTold plan to from fec
 TellsPlan plan from to (Notification id code status (Some fec)) = NamesTold plan from to fec

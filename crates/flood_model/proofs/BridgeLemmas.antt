@@ -11,7 +11,7 @@ use Rattle.net_base.specs.declared.plan.places.WireId.{WireId}
 use Rattle.net_base.specs.declared.trace.arrival.Arrival.{Arrival}
 use Rattle.net_base.specs.plan.Accepted.{IsChecked}
 use Rattle.net_base.specs.plan.Places.{circuit_row, is_mesh_class, is_mesh_row, is_mesh_wire, wire_row}
-use Rattle.net_base.specs.plan.Roles.{ends_at, is_circuit_at}
+use Rattle.net_base.specs.plan.Roles.{is_circuit_at, wire_ends_at}
 use Rattle.net_base.specs.trace.Frame.{dress}
 use Rattle.hvpls_spokes.specs.declared.port.Port.{Port}
 use Rattle.hvpls_spokes.specs.declared.port.Port.TheVariants as port
@@ -167,17 +167,17 @@ module _ (plan : Plan) (came : Arrival) (calm : NetworkState) (service : Service
     unfolding with_addresses
     wires_serve =
         tally_wires count 0 plan.wires service edge.me
-        ∙ same_sums (λ place row. cond (ends_at service edge.me.0 row) (count (wire_port place row)) 0) (due_by plan calm service circuit edge.me.0 from) plan.wires each
+        ∙ same_sums (λ place row. cond (wire_ends_at service edge.me.0 row) (count (wire_port place row)) 0) (due_by plan calm service circuit edge.me.0 from) plan.wires each
       where
-        each : (place : ℕ) (row : WirePlan) → slice_get plan.wires place ≡ Some row → cond (ends_at service edge.me.0 row) (count (wire_port place row)) 0 ≡ due_by plan calm service circuit edge.me.0 from place row
+        each : (place : ℕ) (row : WirePlan) → slice_get plan.wires place ≡ Some row → cond (wire_ends_at service edge.me.0 row) (count (wire_port place row)) 0 ≡ due_by plan calm service circuit edge.me.0 from place row
         each place row is =
             let wire : WireId = record { 0 = place } in
             let forward : end_forwards plan after wire ≡ end_forwards plan (calm.edges edge.me.0) wire = still_forwards plan service frame arrival (calm.edges edge.me.0) edge wire still in
             let counted = wire_port_counts place row in
             let serves : ℕ = end_serves plan calm service circuit (wire_end plan edge.me wire) in
             let towards : ℕ = due_towards plan calm service circuit place (far_of edge.me.0 row.path) in
-            ap (λ (n : ℕ). cond (ends_at service edge.me.0 row) n 0) (counted ∙ ap (λ (up : Bool). cond (up && may_flood plan from place row) serves 0) forward)
-            ∙ wire_counts (ends_at service edge.me.0 row) (end_forwards plan (calm.edges edge.me.0) wire) (may_flood plan from place row) serves towards
+            ap (λ (n : ℕ). cond (wire_ends_at service edge.me.0 row) n 0) (counted ∙ ap (λ (up : Bool). cond (up && may_flood plan from place row) serves 0) forward)
+            ∙ wire_counts (wire_ends_at service edge.me.0 row) (end_forwards plan (calm.edges edge.me.0) wire) (may_flood plan from place row) serves towards
             (λ up. end_is_due plan calm service circuit after wire row short is (forward ∙ up))
 
     -- the copies of a frame that goes by each port that it should
@@ -306,7 +306,7 @@ and_all false = refl
 
 -- a frame that came by a wire that forwards
 pub packet_meets : (plan : Plan) (came : Arrival) (calm : NetworkState) (edge : EdgeState) (service : ServiceId) (wire : WireId) (w : WirePlan) (circuit : CircuitId) (frame : List ℕ)
-    → IsChecked plan → has_short_paths plan ≡ true → wire_row plan wire ≡ Some w → ends_at service edge.me.0 w ≡ true → IsStillEdge (calm.edges edge.me.0) edge
+    → IsChecked plan → has_short_paths plan ≡ true → wire_row plan wire ≡ Some w → wire_ends_at service edge.me.0 w ≡ true → IsStillEdge (calm.edges edge.me.0) edge
     → ((arrival : ℕ) → known_port (addresses_of (hearing service frame arrival edge) service) (destination frame) ≡ None)
     → meets plan calm service circuit (forwarded plan taken_all came service frame (position (is_wire_port wire) (ports_of plan service edge.me)) (beginning edge [])).effects
     ≡ cond (serves_here plan service edge circuit) 1 0 + wires_due plan calm service circuit edge.me.0 (Some wire.0)

@@ -15,12 +15,12 @@ use Rattle.net_base.specs.plan.Roles.{is_wire_of}
 use Rattle.pw_signalling.proofs.LawLemmas.{forwards_where_both_agree}
 use Rattle.pw_signalling.specs.declared.end_role.EndRole.{EndRole}
 use Rattle.pw_signalling.specs.declared.end_role.EndRole.TheVariants as role
-use Rattle.pw_signalling.specs.Down.{causes, down, far_told, holds, of_both, own_told}
+use Rattle.pw_signalling.specs.Down.{causes, down, far_told, holds_cause, of_both, own_told}
 use Rattle.pw_signalling.specs.End.{EndState}
 use Rattle.pw_signalling.specs.Laws.{BothAgree}
 use Rattle.edge_model.specs.declared.end_place.EndPlace.{EndPlace}
 use Rattle.edge_model.specs.Ends.{end_forwards, forwards_at, is_up, wire_end}
-use Rattle.edge_model.specs.Role.{down_at, is_chosen, is_wire, role_at, role_in}
+use Rattle.edge_model.specs.Role.{down_at, is_chosen, is_chosen_wire, role_at, role_in}
 use Rattle.edge_model.specs.State.{EdgeState, end_at}
 use Rattle.edge_model.proofs.CopyLemmas.{found_end}
 
@@ -37,7 +37,7 @@ none_passes test (y ∷ ys) i x none at = by (test y) refl i at (λ j later rest
 not_chosen_down : {P : Type 0} (bits : ℕ) (e : EndState) → down role.NotChosen bits e ≡ None → P
 unfolding down
 not_chosen_down {P} bits e up =
-    both (forwards_where_both_agree role.NotChosen bits e up) (none_passes (holds role.NotChosen bits (own_told e.local) (far_told e.remote)) causes 7 cause.Standby up refl)
+    both (forwards_where_both_agree role.NotChosen bits e up) (none_passes (holds_cause role.NotChosen bits (own_told e.local) (far_told e.remote)) causes 7 cause.Standby up refl)
   where
     both : BothAgree e → of_both (λ a b. true) (own_told e.local) (far_told e.remote) ≡ false → P
     both agree none = (let wrong : true ≡ false = rw (agree.advertises, agree.bound) at none in absurd (cc (wrong)))
@@ -46,7 +46,7 @@ up_is_none : (o : Option Down) → is_up o ≡ true → o ≡ None
 up_is_none None up = refl
 up_is_none (Some why) up = absurd (cc (up))
 
-some_wire : (wire : WireId) (o : Option WireId) → is_wire wire o ≡ true → o ≡ Some wire
+some_wire : (wire : WireId) (o : Option WireId) → is_chosen_wire wire o ≡ true → o ≡ Some wire
 some_wire wire None is = absurd (cc (is))
 some_wire wire (Some other) is = ap (λ (n : ℕ). Some (record { 0 = n })) (eqb-true other.0 wire.0 is)
 

@@ -8,7 +8,7 @@ use Rattle.net_base.specs.declared.plan.places.ServiceId.{ServiceId}
 use Rattle.edge_model.specs.declared.effect.Effect.{Effect}
 use Rattle.edge_model.specs.declared.effect.Effect.TheVariants as effect
 use Rattle.network_model.specs.declared.packet.Packet.{Packet}
-use Rattle.network_model.specs.Absorb.{absorb_all, absorb_one, all_entries_of, entries_of}
+use Rattle.network_model.specs.Absorb.{absorb_all, absorb_one, all_entries_of, entries_told}
 use Rattle.network_model.specs.OnceEach.{times_left}
 use Rattle.network_model.proofs.AbsorbLemmas.{of_origin, pipe_leaves, times_left-append}
 use Rattle.flood_model.specs.Due.{awaits}
@@ -49,7 +49,7 @@ awaited-last plan calm service circuit origin p (q ∷ ps) same = kept (nat_eq q
   kept false rest = rest
 
 one_due : (plan : Plan) (calm : NetworkState) (service : ServiceId) (circuit : CircuitId) (origin : ℕ) (me : EdgeId) (hops : ℕ) (e : Effect) (network : NetworkState)
-    → times_left origin circuit (entries_of me origin hops e network) + due plan calm service circuit origin (absorb_one me origin hops e network)
+    → times_left origin circuit (entries_told me origin hops e network) + due plan calm service circuit origin (absorb_one me origin hops e network)
     ≡ due plan calm service circuit origin network + meets plan calm service circuit (e ∷ [])
 unfolding with_packet
 one_due plan calm service circuit origin me hops (effect.Left at octets) network = rw (eq-eqb origin origin refl) (omega arith)
@@ -67,7 +67,7 @@ all_due plan calm service circuit origin me hops (e ∷ es) network =
     let next : NetworkState = absorb_one me origin hops e network in
     omega (
       arith,
-      times_left-append origin circuit (entries_of me origin hops e network) (all_entries_of me origin hops es next),
+      times_left-append origin circuit (entries_told me origin hops e network) (all_entries_of me origin hops es next),
       one_due plan calm service circuit origin me hops e network,
       all_due plan calm service circuit origin me hops es next,
       meets-append plan calm service circuit (e ∷ []) es,

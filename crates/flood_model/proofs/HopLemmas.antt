@@ -12,7 +12,7 @@ use Rattle.net_base.specs.declared.plan.places.WireId.{WireId}
 use Rattle.net_base.specs.plan.Accepted.{IsChecked}
 use Rattle.net_base.specs.plan.Paths.{first_edge, has_repeat, is_first, is_last, is_same_edge, joins, last_edge}
 use Rattle.net_base.specs.plan.Places.{is_mesh_class, wire_row}
-use Rattle.net_base.specs.plan.Roles.{ends_at, is_wire_of}
+use Rattle.net_base.specs.plan.Roles.{is_wire_of, wire_ends_at}
 use Rattle.net_base.specs.plan.WireFaults.{have_same_service, is_spoke_in_mesh, starts_in_mesh}
 use Rattle.edge_model.specs.Ends.{end_forwards}
 use Rattle.edge_model.proofs.LocalLemmas.{and_left, and_right}
@@ -91,7 +91,7 @@ far_two from to path two joined = ap (far_of to) two.is ∙ by (two_ends from to
   by (GoBack there here) = rw (eq-eqb to two.first.0 there) (ap (λ (n : ℕ). Some n) (sym here))
 
 -- the wire ends at both
-pub ends_two : (service : ServiceId) (from to : ℕ) (row : WirePlan) → is_wire_of service row ≡ true → IsOfTwo row.path → joins from to row.path ≡ true → ends_at service to row ≡ true
+pub ends_two : (service : ServiceId) (from to : ℕ) (row : WirePlan) → is_wire_of service row ≡ true → IsOfTwo row.path → joins from to row.path ≡ true → wire_ends_at service to row ≡ true
 ends_two service from to row of_service two joined = both (is_wire_of service row) (is_first to row.path) (is_last to row.path) of_service (by (two_ends from to row.path two joined)) where
   both : (a f l : Bool) → a ≡ true → (f ≡ true) ⊎ (l ≡ true) → a && (f || l) ≡ true
   both a f l of end = elim end [

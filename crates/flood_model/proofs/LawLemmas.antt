@@ -14,7 +14,7 @@ use Rattle.net_base.specs.declared.plan.places.WireId.{WireId}
 use Rattle.net_base.specs.plan.Accepted.{IsChecked, IsCircuitOf, IsWireOf}
 use Rattle.net_base.specs.plan.Paths.{is_first, is_last}
 use Rattle.net_base.specs.plan.Places.{circuit_row, is_mesh_class, wire_row}
-use Rattle.net_base.specs.plan.Roles.{ends_at, has_port, is_circuit_at, is_spoke_edge, is_spoke_from, is_wire_of}
+use Rattle.net_base.specs.plan.Roles.{has_port, is_circuit_at, is_spoke_edge, is_spoke_from, is_wire_of, wire_ends_at}
 use Rattle.net_base.specs.plan.RowFaults.{is_edge_of}
 use Rattle.edge_model.specs.Ends.{end_forwards}
 use Rattle.edge_model.proofs.LocalLemmas.{and_left, and_right}
@@ -33,7 +33,7 @@ use Rattle.flood_model.proofs.SumLemmas.{one_of_count, sum-add, sum-at, sum-same
 -- an edge with a circuit of the service has a port of it
 pub circuit_port : (plan : Plan) (service : ServiceId) (at : CircuitId) (row : CircuitPlan) → circuit_row plan at ≡ Some row → nat_eq row.service.0 service.0 ≡ true → has_port plan service row.edge.0 ≡ true
 circuit_port plan service at row is of_service =
-    or_left (list_any (is_circuit_at service row.edge.0) plan.circuits) (list_any (ends_at service row.edge.0) plan.wires)
+    or_left (list_any (is_circuit_at service row.edge.0) plan.circuits) (list_any (wire_ends_at service row.edge.0) plan.wires)
     (any_at (is_circuit_at service row.edge.0) plan.circuits at.0 row is (rw (of_service, eq-eqb row.edge.0 row.edge.0 refl) refl))
 
 pub circuit_within : (plan : Plan) (at : CircuitId) (row : CircuitPlan) → IsChecked plan → circuit_row plan at ≡ Some row → row.edge.0 < length plan.edges
@@ -132,7 +132,7 @@ spoke_arrives plan calm service circuit site came v to a b checked short calmed 
     joins false true false sum rest turned total back = omega arith
 
 -- the edge that it came from is the other terminal edge
-sides : (plan : Plan) (service : ServiceId) (w : WirePlan) (to from : ℕ) (link : IsLink plan w) → ends_at service to w ≡ true → far_of to w.path ≡ Some from
+sides : (plan : Plan) (service : ServiceId) (w : WirePlan) (to from : ℕ) (link : IsLink plan w) → wire_ends_at service to w ≡ true → far_of to w.path ≡ Some from
     → ((to ≡ link.near.0) × (from ≡ link.far.0)) ⊎ ((to ≡ link.far.0) × (from ≡ link.near.0))
 sides plan service w to from link ends far = elim (cases_Bool (nat_eq to link.near.0)) [
   | inl near ↦
@@ -190,7 +190,7 @@ module _ (plan : Plan) (calm : NetworkState) (service : ServiceId) (circuit : Ci
 pub arrival_law : (plan : Plan) (calm : NetworkState) (service : ServiceId) (circuit : CircuitId) (row : CircuitPlan) (wire : WireId) (w : WirePlan) (to from : ℕ)
     → IsChecked plan → has_short_paths plan ≡ true → is_calm plan calm service ≡ true
     → circuit_row plan circuit ≡ Some row → nat_eq row.service.0 service.0 ≡ true
-    → wire_row plan wire ≡ Some w → ends_at service to w ≡ true → far_of to w.path ≡ Some from
+    → wire_row plan wire ≡ Some w → wire_ends_at service to w ≡ true → far_of to w.path ≡ Some from
     → end_forwards plan (calm.edges to) wire ≡ true → end_forwards plan (calm.edges from) wire ≡ true
     → cond {A = ℕ} (awaits plan calm service circuit (record { 0 = to }) wire) 1 0 ≡ cond (nat_eq row.edge.0 to) 1 0 + wires_due plan calm service circuit to (Some wire.0)
 arrival_law plan calm service circuit row wire w to from checked short calmed is of_service wire_is ends far there here =
@@ -224,7 +224,7 @@ arrival_law plan calm service circuit row wire w to from checked short calmed is
 -- a copy that arrives by a wire whose end there does not forward has nothing to serve
 pub down_law : (plan : Plan) (calm : NetworkState) (service : ServiceId) (circuit : CircuitId) (wire : WireId) (w : WirePlan) (to from : ℕ)
     → IsChecked plan → has_short_paths plan ≡ true → is_calm plan calm service ≡ true
-    → wire_row plan wire ≡ Some w → ends_at service to w ≡ true → far_of to w.path ≡ Some from
+    → wire_row plan wire ≡ Some w → wire_ends_at service to w ≡ true → far_of to w.path ≡ Some from
     → end_forwards plan (calm.edges to) wire ≡ false → end_forwards plan (calm.edges from) wire ≡ true
     → awaits plan calm service circuit (record { 0 = to }) wire ≡ false
 down_law plan calm service circuit wire w to from checked short calmed wire_is ends far there here =

@@ -8,7 +8,7 @@ use Rattle.net_base.specs.declared.plan.wire_plan.WirePlan.{WirePlan}
 use Rattle.net_base.specs.declared.plan.places.ServiceId.{ServiceId}
 use Rattle.net_base.specs.plan.Accepted.{IsChecked}
 use Rattle.net_base.specs.plan.Places.{is_mesh_class}
-use Rattle.net_base.specs.plan.Roles.{all_below, any_wire, ends_at, has_port, is_circuit_at, is_core_edge, is_mesh_of, is_spoke_edge, is_wire_of}
+use Rattle.net_base.specs.plan.Roles.{all_below, any_wire, has_port, is_circuit_at, is_core_edge, is_mesh_of, is_spoke_edge, is_wire_of, wire_ends_at}
 use Rattle.edge_model.proofs.LocalLemmas.{and_left, and_right}
 use Rattle.network_model.specs.Calm.{carries, has_live_spokes, is_calm, is_full, is_quiet, meshes}
 use Rattle.network_model.specs.State.{NetworkState}
@@ -22,8 +22,8 @@ pub core_edge : (plan : Plan) (service : ServiceId) (e : ℕ) → has_port plan 
 core_edge plan service e port none = rw (port, none) refl
 
 -- a terminal edge of a wire of the service has a port of it
-pub port_at : (plan : Plan) (service : ServiceId) (e k : ℕ) (row : WirePlan) → slice_get plan.wires k ≡ Some row → ends_at service e row ≡ true → has_port plan service e ≡ true
-port_at plan service e k row is ends = or_right (list_any (is_circuit_at service e) plan.circuits) (list_any (ends_at service e) plan.wires) (any_at (ends_at service e) plan.wires k row is ends)
+pub port_at : (plan : Plan) (service : ServiceId) (e k : ℕ) (row : WirePlan) → slice_get plan.wires k ≡ Some row → wire_ends_at service e row ≡ true → has_port plan service e ≡ true
+port_at plan service e k row is ends = or_right (list_any (is_circuit_at service e) plan.circuits) (list_any (wire_ends_at service e) plan.wires) (any_at (wire_ends_at service e) plan.wires k row is ends)
 
 -- a mesh wire between two edges that carries frames
 pub record MeshWire (plan : Plan) (calm : NetworkState) (service : ServiceId) (a b : ℕ) : Type 0 where

@@ -16,7 +16,7 @@ use Rattle.net_base.specs.declared.trace.entry.Entry.{Entry}
 use Rattle.net_base.specs.plan.Accepted.{IsChecked}
 use Rattle.net_base.specs.plan.Paths.{joins}
 use Rattle.net_base.specs.plan.Places.{is_mesh_class, mtu_of, wire_row}
-use Rattle.net_base.specs.plan.Roles.{are_joined_by, ends_at}
+use Rattle.net_base.specs.plan.Roles.{are_joined_by, wire_ends_at}
 use Rattle.net_base.specs.trace.Frame.{destination_of, goes_to_group, source_of}
 use Rattle.hvpls_spokes.specs.Port.{is_mesh_port, is_wire_port, ports_of}
 use Rattle.hvpls_spokes.proofs.RowPortLemmas.{wire_behind, wire_leads}
@@ -99,7 +99,7 @@ module _ (plan : Plan) (calm network : NetworkState) (trace : List Entry) (servi
   placed : (network.edges packet.to.0).me ≡ packet.to
   placed = (ruled.edges packet.to.0).place
 
-  ends : ends_at service packet.to.0 copy.row ≡ true
+  ends : wire_ends_at service packet.to.0 copy.row ≡ true
   ends = ends_two service packet.from.0 packet.to.0 copy.row copy.of_service two copy.joined
 
   far : far_of packet.to.0 copy.row.path ≡ Some packet.from.0
@@ -178,7 +178,7 @@ module _ (plan : Plan) (calm network : NetworkState) (trace : List Entry) (servi
     met circuit =
         ap (λ (w : Work). meets plan calm service circuit w.effects) bridged
         ∙ (ap (λ (m : EdgeId). meets plan calm service circuit (forwarded plan taken_all (arrival.Wire packet.wire) service frame (position (is_wire_port packet.wire) (ports_of plan service m)) (begin_at network packet.to)).effects) (sym placed)
-        ∙ (packet_meets plan (arrival.Wire packet.wire) calm (network.edges packet.to.0) service packet.wire copy.row circuit frame checked short copy.is (ap (λ (m : EdgeId). ends_at service m.0 copy.row) placed ∙ ends)
+        ∙ (packet_meets plan (arrival.Wire packet.wire) calm (network.edges packet.to.0) service packet.wire copy.row circuit frame checked short copy.is (ap (λ (m : EdgeId). wire_ends_at service m.0 copy.row) placed ∙ ends)
         (subst (λ (m : EdgeId). IsStillEdge (calm.edges m.0) (network.edges packet.to.0)) (sym placed) (still.edges packet.to.0)) unknown
         ∙ ap (λ (m : EdgeId). cond {A = ℕ} (serves_here plan service (network.edges packet.to.0) circuit) 1 0 + wires_due plan calm service circuit m.0 (Some packet.wire.0)) placed))
 

@@ -28,7 +28,7 @@ use Rattle.network_model.proofs.RunLemmas.{after-append, along-append}
 use Rattle.flight_model.specs.Laws.{IsRun, network_after}
 use Rattle.flood_model.specs.Due.{awaits, has_short_paths}
 use Rattle.flood_model.specs.Laws.{RunsShareSites}
-use Rattle.flood_model.specs.Shares.{CopiesHavePassed, HasPassed, IsLeftOut, IsSharedOut, SharesEach, SharesSites, port_of, times_ahead}
+use Rattle.flood_model.specs.Shares.{CopiesHavePassed, HasPassed, IsLeftOut, IsSharedOut, SharesEach, SharesSites, arrival_port, times_ahead}
 use Rattle.flood_model.proofs.CountLemmas.{awaited}
 use Rattle.flood_model.proofs.ServeLemmas.{IsNear, IsNearCopy, Serves}
 use Rattle.flood_model.proofs.SoFarLemmas.{early, served_so_far}
@@ -36,7 +36,7 @@ use Rattle.flood_model.proofs.StartLemmas.{owed_to}
 
 -- ---- what is due is what is ahead
 
-ahead_awaited : (plan : Plan) (calm : NetworkState) (service : ServiceId) (circuit : CircuitId) (to : EdgeId) (wire : WireId) → awaits plan calm service circuit to wire ≡ ahead plan calm service to.0 (port_of plan wire) circuit
+ahead_awaited : (plan : Plan) (calm : NetworkState) (service : ServiceId) (circuit : CircuitId) (to : EdgeId) (wire : WireId) → awaits plan calm service circuit to wire ≡ ahead plan calm service to.0 (arrival_port plan wire) circuit
 ahead_awaited plan calm service circuit to wire = by (is_mesh_wire plan wire) where
   by : (mesh : Bool) → ahead_wire plan calm service to.0 wire.0 mesh (wire_row plan wire) circuit ≡ ahead plan calm service to.0 (cond mesh (port.Mesh wire) (port.Spoke wire)) circuit
   by true = refl
@@ -45,7 +45,7 @@ ahead_awaited plan calm service circuit to wire = by (is_mesh_wire plan wire) wh
 ahead_due : (plan : Plan) (calm : NetworkState) (service : ServiceId) (origin : ℕ) (circuit : CircuitId) (packets : List Packet) → awaited plan calm service circuit (of_origin origin packets) ≡ times_ahead plan calm service origin circuit packets
 ahead_due plan calm service origin circuit [] = refl
 ahead_due plan calm service origin circuit (p ∷ ps) =
-    by (nat_eq p.origin origin) (awaits plan calm service circuit p.to p.wire) (ahead plan calm service p.to.0 (port_of plan p.wire) circuit) (ahead_awaited plan calm service circuit p.to p.wire) refl (ahead_due plan calm service origin circuit ps)
+    by (nat_eq p.origin origin) (awaits plan calm service circuit p.to p.wire) (ahead plan calm service p.to.0 (arrival_port plan p.wire) circuit) (ahead_awaited plan calm service circuit p.to p.wire) refl (ahead_due plan calm service origin circuit ps)
   where
     by : (own waits before : Bool) → waits ≡ before → awaits plan calm service circuit p.to p.wire ≡ waits → awaited plan calm service circuit (of_origin origin ps) ≡ times_ahead plan calm service origin circuit ps
         → awaited plan calm service circuit (cond own (p ∷ of_origin origin ps) (of_origin origin ps)) ≡ cond (own && before) 1 0 + times_ahead plan calm service origin circuit ps

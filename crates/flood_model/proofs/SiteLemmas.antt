@@ -19,7 +19,7 @@ use Rattle.edge_model.proofs.LocalLemmas.{and_left, and_right}
 use Rattle.network_model.specs.Absorb.{absorb_one, all_entries_of}
 use Rattle.network_model.specs.OnceEach.{LeftWithin, times_left}
 use Rattle.network_model.specs.Reach.{is_row_at, is_row_of, is_row_on, is_site}
-use Rattle.network_model.specs.State.{NetworkState, at_edge}
+use Rattle.network_model.specs.State.{NetworkState, edge_at}
 use Rattle.flood_model.specs.Copy.{IsStillEdge}
 use Rattle.flood_model.specs.Due.{serves_here}
 
@@ -30,7 +30,7 @@ pub record IsSiteOf (plan : Plan) (calm : NetworkState) (service : ServiceId) (c
   pub row : CircuitPlan
   pub is : circuit_row plan circuit ≡ Some row
   pub of_service : nat_eq row.service.0 service.0 ≡ true
-  pub on : is_on (at_edge calm row.edge) circuit ≡ true
+  pub on : is_on (edge_at calm row.edge) circuit ≡ true
 
 -- a site has one
 pub site_of : (plan : Plan) (calm : NetworkState) (service : ServiceId) (circuit : CircuitId) → is_site plan calm service circuit ≡ true → IsSiteOf plan calm service circuit
@@ -40,13 +40,13 @@ site_of plan calm service circuit site = by (circuit_row plan circuit) refl site
   by (Some row) is both = record {
     row = row;
     is = is;
-    of_service = and_left (nat_eq row.service.0 service.0) (is_on (at_edge calm row.edge) circuit) both;
-    on = and_right (nat_eq row.service.0 service.0) (is_on (at_edge calm row.edge) circuit) both;
+    of_service = and_left (nat_eq row.service.0 service.0) (is_on (edge_at calm row.edge) circuit) both;
+    on = and_right (nat_eq row.service.0 service.0) (is_on (edge_at calm row.edge) circuit) both;
   }
 
 is_site_by : (plan : Plan) (calm : NetworkState) (service : ServiceId) (circuit : CircuitId) → IsSiteOf plan calm service circuit → is_site plan calm service circuit ≡ true
 is_site_by plan calm service circuit site =
-    ap (λ (row : Option CircuitPlan). is_row_of service row && is_row_on calm circuit row) site.is ∙ both (nat_eq site.row.service.0 service.0) (is_on (at_edge calm site.row.edge) circuit) site.of_service site.on
+    ap (λ (row : Option CircuitPlan). is_row_of service row && is_row_on calm circuit row) site.is ∙ both (nat_eq site.row.service.0 service.0) (is_on (edge_at calm site.row.edge) circuit) site.of_service site.on
   where
     both : (a b : Bool) → a ≡ true → b ≡ true → a && b ≡ true
     both a b one other = rw (one, other) refl

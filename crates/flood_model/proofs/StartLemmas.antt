@@ -24,7 +24,7 @@ use Rattle.network_model.specs.Calm.{has_live_spokes, is_calm, is_full, is_quiet
 use Rattle.network_model.specs.Frame.{entering, frame_event, frame_work, next_origin}
 use Rattle.network_model.specs.OnceEach.{times_left}
 use Rattle.network_model.specs.Reach.{is_site}
-use Rattle.network_model.specs.State.{NetworkState, at_edge, with_frame}
+use Rattle.network_model.specs.State.{NetworkState, edge_at, with_frame}
 use Rattle.network_model.proofs.AbsorbLemmas.{of_origin}
 use Rattle.network_model.proofs.PacketListLemmas.{both_hold, packets_of}
 use Rattle.flight_model.specs.Laws.{AreSettled}
@@ -59,8 +59,8 @@ owed_by false false both = refl
 module _ (plan : Plan) (calm : NetworkState) (at : CircuitId) (octets frame : List ℕ) (row : CircuitPlan)
     (checked : IsChecked plan) (short : has_short_paths plan ≡ true) (calmed : is_calm plan calm row.service ≡ true)
     (settled : (a b : ℕ) → are_joined_by plan row.service a b ≡ true → AreSettled plan calm a b) (sized : IsSized (mtu_of plan row.service) frame)
-    (ruled : IsRuledNetwork plan calm) (is : circuit_row plan at ≡ Some row) (on : is_on (at_edge calm row.edge) at ≡ true) (formed : inner_at plan at octets ≡ Ok frame)
-    (unknown : (arrival : ℕ) → known_port (addresses_of (hearing row.service frame arrival (at_edge calm row.edge)) row.service) (destination frame) ≡ None)
+    (ruled : IsRuledNetwork plan calm) (is : circuit_row plan at ≡ Some row) (on : is_on (edge_at calm row.edge) at ≡ true) (formed : inner_at plan at octets ≡ Ok frame)
+    (unknown : (arrival : ℕ) → known_port (addresses_of (hearing row.service frame arrival (edge_at calm row.edge)) row.service) (destination frame) ≡ None)
     (none_before : of_origin (next_origin calm) calm.under_way ≡ []) where
   abbrev origin : ℕ
   origin = next_origin calm
@@ -69,19 +69,19 @@ module _ (plan : Plan) (calm : NetworkState) (at : CircuitId) (octets frame : Li
   work = frame_work plan calm at octets row
 
   abbrev port : Option ℕ
-  port = port_at plan (at_edge calm row.edge) at row
+  port = port_at plan (edge_at calm row.edge) at row
 
   quiet : is_quiet plan calm row.service ≡ true
   quiet = and_left (is_quiet plan calm row.service) (is_full plan calm row.service) (and_left (is_quiet plan calm row.service && is_full plan calm row.service) (has_live_spokes plan calm row.service) calmed)
 
-  placed : (at_edge calm row.edge).me ≡ row.edge
+  placed : (edge_at calm row.edge).me ≡ row.edge
   placed = (ruled.edges row.edge.0).place
 
   -- its edge takes the frame
   taken : work ≡ received plan taken_all (arrival.Circuit at) row.service port (inner_at plan at octets) (begin_at calm row.edge)
   taken =
-      let own : is_own (at_edge calm row.edge) row ≡ true = eq-eqb row.edge.0 (at_edge calm row.edge).me.0 (ap (λ (e : EdgeId). e.0) (sym placed)) in
-      let both : is_own (at_edge calm row.edge) row && is_on (at_edge calm row.edge) at ≡ true = rw (own, on) refl in
+      let own : is_own (edge_at calm row.edge) row ≡ true = eq-eqb row.edge.0 (edge_at calm row.edge).me.0 (ap (λ (e : EdgeId). e.0) (sym placed)) in
+      let both : is_own (edge_at calm row.edge) row && is_on (edge_at calm row.edge) at ≡ true = rw (own, on) refl in
       ap (λ (b : Bool). cond b (received plan taken_all (arrival.Circuit at) row.service port (inner_at plan at octets) (begin_at calm row.edge)) (idles (begin_at calm row.edge))) both
 
   bridged : work ≡ forwarded plan taken_all (arrival.Circuit at) row.service frame port (begin_at calm row.edge)
@@ -103,19 +103,19 @@ module _ (plan : Plan) (calm : NetworkState) (at : CircuitId) (octets frame : Li
   rest = subst (AllByRecursion (IsNearCopy plan calm row.service frame)) (sym none_there) tt
 
   met : (circuit : CircuitId) → meets plan calm row.service circuit work.effects
-      ≡ cond (serves_here plan row.service (at_edge calm row.edge) circuit && not (nat_eq circuit.0 at.0)) 1 0 + wires_due plan calm row.service circuit row.edge.0 None
+      ≡ cond (serves_here plan row.service (edge_at calm row.edge) circuit && not (nat_eq circuit.0 at.0)) 1 0 + wires_due plan calm row.service circuit row.edge.0 None
   met circuit =
       ap (λ (w : Work). meets plan calm row.service circuit w.effects) bridged
-      ∙ frame_meets plan (arrival.Circuit at) calm (at_edge calm row.edge) at circuit frame row checked short is placed ((still_self calm).edges row.edge.0) unknown
+      ∙ frame_meets plan (arrival.Circuit at) calm (edge_at calm row.edge) at circuit frame row checked short is placed ((still_self calm).edges row.edge.0) unknown
 
   balanced : (circuit : CircuitId) → is_site plan calm row.service circuit ≡ true → due plan calm row.service circuit origin base + meets plan calm row.service circuit work.effects ≡ owed_to at circuit
   balanced circuit site =
       let there = site_of plan calm row.service circuit site in
       let none : due plan calm row.service circuit origin base ≡ 0 = ap (awaited plan calm row.service circuit) none_there in
       let law = entry_law plan calm row.service circuit at there.row row checked short calmed there.is there.of_service is (eq-eqb row.service.0 row.service.0 refl) in
-      let served : cond {A = ℕ} (serves_here plan row.service (at_edge calm row.edge) circuit && not (nat_eq circuit.0 at.0)) 1 0 ≡ cond (nat_eq there.row.edge.0 row.edge.0 && not (nat_eq circuit.0 at.0)) 1 0 =
+      let served : cond {A = ℕ} (serves_here plan row.service (edge_at calm row.edge) circuit && not (nat_eq circuit.0 at.0)) 1 0 ≡ cond (nat_eq there.row.edge.0 row.edge.0 && not (nat_eq circuit.0 at.0)) 1 0 =
       ap (λ (b : Bool). cond {A = ℕ} (b && not (nat_eq circuit.0 at.0)) 1 0)
-      (site_serves plan calm row.service circuit (at_edge calm row.edge) row.edge.0 there (ap (λ (m : EdgeId). m.0) placed) ((still_self calm).edges row.edge.0)) in
+      (site_serves plan calm row.service circuit (edge_at calm row.edge) row.edge.0 there (ap (λ (m : EdgeId). m.0) placed) ((still_self calm).edges row.edge.0)) in
       omega (arith, none, met circuit, served, law, owed_by (nat_eq there.row.edge.0 row.edge.0) (nat_eq circuit.0 at.0) (beside there.row there.is))
     where
       beside : (other : CircuitPlan) → circuit_row plan circuit ≡ Some other → nat_eq circuit.0 at.0 ≡ true → nat_eq other.edge.0 row.edge.0 ≡ true
@@ -125,18 +125,18 @@ module _ (plan : Plan) (calm : NetworkState) (at : CircuitId) (octets frame : Li
           let equal : other ≡ row = cc (rows) in
           eq-eqb other.edge.0 row.edge.0 (ap (λ (r : CircuitPlan). r.edge.0) equal)
 
-  flooding : Floods plan (at_edge calm row.edge) (arrival.Circuit at) row.service frame port work.effects
-  flooding = subst (λ (w : Work). Floods plan (at_edge calm row.edge) (arrival.Circuit at) row.service frame port w.effects) (sym bridged) (floods plan (arrival.Circuit at) row.service frame port (at_edge calm row.edge))
+  flooding : Floods plan (edge_at calm row.edge) (arrival.Circuit at) row.service frame port work.effects
+  flooding = subst (λ (w : Work). Floods plan (edge_at calm row.edge) (arrival.Circuit at) row.service frame port w.effects) (sym bridged) (floods plan (arrival.Circuit at) row.service frame port (edge_at calm row.edge))
 
-  sends : (sent : ℕ) → Floods plan (at_edge calm row.edge) (arrival.Circuit at) row.service frame port work.effects → AllByRecursion (IsNearCopy plan calm row.service frame) (packets_of row.edge origin 0 sent work.effects)
+  sends : (sent : ℕ) → Floods plan (edge_at calm row.edge) (arrival.Circuit at) row.service frame port work.effects → AllByRecursion (IsNearCopy plan calm row.service frame) (packets_of row.edge origin 0 sent work.effects)
   sends sent (FloodsNot none) = subst (λ (es : List Effect). AllByRecursion (IsNearCopy plan calm row.service frame) (packets_of row.edge origin 0 sent es)) (sym none) tt
   sends sent (FloodsBy from found all) =
       both_hold (CarriesCopy plan calm row.service frame) (IsNear plan) (packets_of row.edge origin 0 sent work.effects)
       (copies_carry plan calm calm row.edge origin 0 sent (arrival.Circuit at) row.service frame from work.effects checked ruled (still_self calm) quiet settled sized all)
-      (copies_near plan (at_edge calm row.edge) row.edge origin 0 sent (arrival.Circuit at) row.service frame from work.effects
+      (copies_near plan (edge_at calm row.edge) row.edge origin 0 sent (arrival.Circuit at) row.service frame from work.effects
       (λ peer wire of_arrival bytes copy r r_is. first_hop peer.0 r) all)
 
-  nowhere_else : (circuit : CircuitId) (other : NetworkState) → is_site plan calm row.service circuit ≡ false → Floods plan (at_edge calm row.edge) (arrival.Circuit at) row.service frame port work.effects
+  nowhere_else : (circuit : CircuitId) (other : NetworkState) → is_site plan calm row.service circuit ≡ false → Floods plan (edge_at calm row.edge) (arrival.Circuit at) row.service frame port work.effects
       → times_left origin circuit (all_entries_of row.edge origin 0 work.effects other) ≡ 0
   nowhere_else circuit other away (FloodsNot none) = ap (λ (es : List Effect). times_left origin circuit (all_entries_of row.edge origin 0 es other)) none
   nowhere_else circuit other away (FloodsBy from found all) =

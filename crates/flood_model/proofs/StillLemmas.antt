@@ -42,7 +42,7 @@ use Rattle.network_model.specs.Absorb.{absorb, begin_at, idle, taken_all}
 use Rattle.network_model.specs.Frame.{entering, frame_event, frame_work, next_origin}
 use Rattle.network_model.specs.Packet.{again_event, arrive_event, discard_event, packet_at, packet_work, repeating}
 use Rattle.network_model.specs.Reach.{is_row_of, is_row_on, is_site}
-use Rattle.network_model.specs.State.{NetworkState, at_edge, with_edge, with_frame, with_packet, without_number, without_packet}
+use Rattle.network_model.specs.State.{NetworkState, edge_at, with_edge, with_frame, with_packet, without_number, without_packet}
 use Rattle.network_model.specs.Step.{step}
 use Rattle.network_model.specs.Window.{carried, is_row_of_service, is_sourced, packet_teaches, spares, teaches}
 use Rattle.network_model.proofs.AbsorbLemmas.{all_keep}
@@ -238,12 +238,12 @@ module _ (plan : Plan) (network : NetworkState) (service : ServiceId) (address :
 frame_leaves : (plan : Plan) (network : NetworkState) (service : ServiceId) (address : List ℕ) (circuit : CircuitId) (octets : List ℕ) (row : CircuitPlan)
     → IsChecked plan → IsRuledNetwork plan network → HasNot plan service address row.edge.0 (network.edges row.edge.0) → circuit_row plan circuit ≡ Some row → teaches plan network service address (Frame circuit octets) ≡ false
     → LeavesUnlearned plan service address row.edge (frame_work plan network circuit octets row)
-frame_leaves plan network service address circuit octets row checked ruled absent is untaught = by (is_own (at_edge network row.edge) row && is_on (at_edge network row.edge) circuit) refl where
+frame_leaves plan network service address circuit octets row checked ruled absent is untaught = by (is_own (edge_at network row.edge) row && is_on (edge_at network row.edge) circuit) refl where
   and_true : (b : Bool) → b && true ≡ b
   and_true true = refl
   and_true false = refl
 
-  site : is_on (at_edge network row.edge) circuit ≡ true → is_site plan network service circuit ≡ nat_eq row.service.0 service.0
+  site : is_on (edge_at network row.edge) circuit ≡ true → is_site plan network service circuit ≡ nat_eq row.service.0 service.0
   site on =
       ap (λ (r : Option CircuitPlan). is_row_of service r && is_row_on network circuit r) is
       ∙ (ap (λ (b : Bool). nat_eq row.service.0 service.0 && b) on ∙ and_true (nat_eq row.service.0 service.0))
@@ -257,12 +257,12 @@ frame_leaves plan network service address circuit octets row checked ruled absen
     formed = formed;
   })
 
-  by : (b : Bool) → is_own (at_edge network row.edge) row && is_on (at_edge network row.edge) circuit ≡ b
+  by : (b : Bool) → is_own (edge_at network row.edge) row && is_on (edge_at network row.edge) circuit ≡ b
       → LeavesUnlearned plan service address row.edge
-      (cond b (received plan taken_all (arrival.Circuit circuit) row.service (port_at plan (at_edge network row.edge) circuit row) (inner_at plan circuit octets) (begin_at network row.edge)) (idles (begin_at network row.edge)))
+      (cond b (received plan taken_all (arrival.Circuit circuit) row.service (port_at plan (edge_at network row.edge) circuit row) (inner_at plan circuit octets) (begin_at network row.edge)) (idles (begin_at network row.edge)))
   by true applies =
-      let on : is_on (at_edge network row.edge) circuit ≡ true = and_right (is_own (at_edge network row.edge) row) (is_on (at_edge network row.edge) circuit) applies in
-      leaves_received plan network service address row.edge checked ruled absent (arrival.Circuit circuit) row.service (port_at plan (at_edge network row.edge) circuit row) (inner_at plan circuit octets) sized
+      let on : is_on (edge_at network row.edge) circuit ≡ true = and_right (is_own (edge_at network row.edge) row) (is_on (edge_at network row.edge) circuit) applies in
+      leaves_received plan network service address row.edge checked ruled absent (arrival.Circuit circuit) row.service (port_at plan (edge_at network row.edge) circuit row) (inner_at plan circuit octets) sized
       (ap (λ (b : Bool). b && is_sourced address (inner_at plan circuit octets)) (sym (site on)) ∙ untaught)
   by false applies = leaves_idle plan network service address row.edge checked ruled absent
 

@@ -5,7 +5,7 @@ use Rattle.net_base.specs.declared.plan.circuit_plan.CircuitPlan.{CircuitPlan}
 use Rattle.net_base.specs.declared.plan.wire_plan.WirePlan.{WirePlan}
 use Rattle.net_base.specs.declared.plan.places.EdgeId.{EdgeId}
 use Rattle.net_base.specs.declared.plan.places.ServiceId.{ServiceId}
-use Rattle.net_base.specs.plan.Roles.{ends_at, is_circuit_at}
+use Rattle.net_base.specs.plan.Roles.{is_circuit_at, wire_ends_at}
 use Rattle.hvpls_spokes.specs.declared.port.Port.{Port}
 use Rattle.hvpls_spokes.specs.declared.port.Port.TheVariants as port
 use Rattle.hvpls_spokes.specs.Port.{circuit_ports, wire_port, wire_ports}
@@ -70,10 +70,10 @@ module _ (count : Port → ℕ) (c : ℕ) (others : (k : ℕ) → nat_eq k c ≡
 
 -- a sum over the ports of wires is one over their rows
 pub tally_wires : (count : Port → ℕ) (k : ℕ) (rows : List WirePlan) (service : ServiceId) (edge : EdgeId)
-    → tally count (wire_ports k rows service edge) ≡ sum_wires (λ place row. cond (ends_at service edge.0 row) (count (wire_port place row)) 0) k rows
+    → tally count (wire_ports k rows service edge) ≡ sum_wires (λ place row. cond (wire_ends_at service edge.0 row) (count (wire_port place row)) 0) k rows
 tally_wires count k [] service edge = refl
 tally_wires count k (row ∷ rows) service edge =
-    omega (arith, tally_if count (ends_at service edge.0 row) (wire_port k row) (wire_ports (k + 1) rows service edge), tally_wires count (k + 1) rows service edge)
+    omega (arith, tally_if count (wire_ends_at service edge.0 row) (wire_port k row) (wire_ports (k + 1) rows service edge), tally_wires count (k + 1) rows service edge)
 
 -- each row of a list counts the same in two ways
 module _ (f g : ℕ → WirePlan → ℕ) (all : List WirePlan) (each : (place : ℕ) (row : WirePlan) → slice_get all place ≡ Some row → f place row ≡ g place row) where

@@ -9,7 +9,7 @@ use Rattle.net_base.specs.declared.plan.places.EdgeId.{EdgeId}
 use Rattle.net_base.specs.declared.plan.places.ServiceId.{ServiceId}
 use Rattle.net_base.specs.declared.plan.places.WireId.{WireId}
 use Rattle.net_base.specs.plan.Places.{is_mesh_class, is_mesh_wire, wire_row}
-use Rattle.net_base.specs.plan.Roles.{ends_at}
+use Rattle.net_base.specs.plan.Roles.{wire_ends_at}
 use Rattle.edge_model.specs.Ends.{end_forwards}
 use Rattle.edge_model.specs.State.{EdgeState, is_on}
 use Rattle.network_model.specs.Reach.{ahead_wire, at_edge_of, far_of}
@@ -37,7 +37,7 @@ due_towards plan calm service circuit place (Some far) = if awaits plan calm ser
 -- the same of a wire of the plan, for the bridge of the service at an edge
 abbrev pub due_by : Plan → NetworkState → ServiceId → CircuitId → ℕ → Option ℕ → ℕ → WirePlan → ℕ
 due_by plan calm service circuit edge came place row =
-    if ends_at service edge row && (end_forwards plan (calm.edges edge) (record { 0 = place }) && may_flood plan came place row)
+    if wire_ends_at service edge row && (end_forwards plan (calm.edges edge) (record { 0 = place }) && may_flood plan came place row)
     then due_towards plan calm service circuit place (far_of edge row.path)
     else 0
 

@@ -24,12 +24,12 @@ use Rattle.flight_model.specs.Laws.{network_after}
 use Rattle.flood_model.specs.Hops.{most_hops}
 
 -- the port by which a packet arrives on a wire
-abbrev pub port_of : Plan → WireId → Port
-port_of plan wire = if is_mesh_wire plan wire then port.Mesh wire else port.Spoke wire
+abbrev pub arrival_port : Plan → WireId → Port
+arrival_port plan wire = if is_mesh_wire plan wire then port.Mesh wire else port.Spoke wire
 
 -- the packet is a copy of the frame, and has the circuit ahead, by the network as it was when the frame entered
 abbrev pub has_ahead : Plan → NetworkState → ServiceId → ℕ → CircuitId → Packet → Bool
-has_ahead plan calm service origin circuit packet = packet.origin == origin && ahead plan calm service packet.to.0 (port_of plan packet.wire) circuit
+has_ahead plan calm service origin circuit packet = packet.origin == origin && ahead plan calm service packet.to.0 (arrival_port plan packet.wire) circuit
 
 -- how many copies of the frame under way have the circuit ahead
 abbrev pub times_ahead : Plan → NetworkState → ServiceId → ℕ → CircuitId → List Packet → ℕ

@@ -13,12 +13,12 @@ use Rattle.net_base.specs.declared.plan.places.EdgeId.{EdgeId}
 use Rattle.net_base.specs.declared.plan.places.ServiceId.{ServiceId}
 use Rattle.net_base.specs.declared.plan.places.WireId.{WireId}
 use Rattle.net_base.specs.plan.Places.{is_mesh_class}
-use Rattle.net_base.specs.plan.Roles.{ends_at, is_circuit_at}
+use Rattle.net_base.specs.plan.Roles.{is_circuit_at, wire_ends_at}
 use Rattle.hvpls_spokes.specs.Search.{place_if}
 use Rattle.hvpls_spokes.proofs.SearchLemmas.{first_behind, pairs_append}
 use Rattle.hvpls_spokes.specs.declared.port.Port.{Port}
 use Rattle.hvpls_spokes.specs.declared.port.Port.TheVariants as port
-use Rattle.hvpls_spokes.specs.Port.{AreInOrder, circuit_ports, is_circuit_port, is_wire_port, ports_of, precedes, precedes_circuit, precedes_wire, wire_port, wire_ports}
+use Rattle.hvpls_spokes.specs.Port.{ArePortsInOrder, circuit_ports, is_circuit_port, is_wire_port, ports_of, precedes, precedes_circuit, precedes_wire, wire_port, wire_ports}
 use Rattle.hvpls_spokes.proofs.RowPortLemmas.{circuit_made, circuits_made, made_ports, wires_made}
 
 -- the first port comes before the second one
@@ -36,12 +36,12 @@ all_made P test make k (row ∷ rows) each =
     (λ _. All-cons P (make k row) (made_ports test make (k + 1) rows) (each k row (omega arith)) later)
     (λ _. later)
 
-made_in_order : {Row : Type 0} (test : Row → Bool) (make : ℕ → Row → Port) → ((i j : ℕ) (r s : Row) → i < j → Precedes (make i r) (make j s)) → (k : ℕ) (rows : List Row) → AreInOrder (made_ports test make k rows)
+made_in_order : {Row : Type 0} (test : Row → Bool) (make : ℕ → Row → Port) → ((i j : ℕ) (r s : Row) → i < j → Precedes (make i r) (make j s)) → (k : ℕ) (rows : List Row) → ArePortsInOrder (made_ports test make k rows)
 made_in_order test make rise k [] = λ i j d below within. absurd (omega (arith, within))
 made_in_order test make rise k (row ∷ rows) =
     let rest : List Port = made_ports test make (k + 1) rows in
-    let later : AreInOrder rest = made_in_order test make rise (k + 1) rows in
-    cond_both (test row) (make k row ∷ rest) rest AreInOrder
+    let later : ArePortsInOrder rest = made_in_order test make rise (k + 1) rows in
+    cond_both (test row) (make k row ∷ rest) rest ArePortsInOrder
     (λ _. AllPairs-cons Precedes (make k row) rest (all_made (Precedes (make k row)) test make (k + 1) rows (λ place r from. rise k place row r (omega (arith, from)))) later)
     (λ _. later)
 
@@ -65,14 +65,14 @@ circuit_first circuit place row = by (is_mesh_class row.class)
 circuits_first : (plan : Plan) (service : ServiceId) (edge : EdgeId) → All (λ x. All (Precedes x) (wire_ports 0 plan.wires service edge)) (circuit_ports 0 plan.circuits service edge)
 circuits_first plan service edge =
     rw (circuits_made 0 plan.circuits service edge, wires_made 0 plan.wires service edge)
-    (all_made (λ x. All (Precedes x) (made_ports (ends_at service edge.0) wire_port 0 plan.wires)) (is_circuit_at service edge.0) circuit_made 0 plan.circuits
-    (λ place row from. all_made (Precedes (circuit_made place row)) (ends_at service edge.0) wire_port 0 plan.wires (λ at wire later. circuit_first (record { 0 = place }) at wire)))
+    (all_made (λ x. All (Precedes x) (made_ports (wire_ends_at service edge.0) wire_port 0 plan.wires)) (is_circuit_at service edge.0) circuit_made 0 plan.circuits
+    (λ place row from. all_made (Precedes (circuit_made place row)) (wire_ends_at service edge.0) wire_port 0 plan.wires (λ at wire later. circuit_first (record { 0 = place }) at wire)))
 
-pub ports_in_order : (plan : Plan) (service : ServiceId) (edge : EdgeId) → AreInOrder (ports_of plan service edge)
+pub ports_in_order : (plan : Plan) (service : ServiceId) (edge : EdgeId) → ArePortsInOrder (ports_of plan service edge)
 ports_in_order plan service edge =
     pairs_append Precedes (circuit_ports 0 plan.circuits service edge) (wire_ports 0 plan.wires service edge)
-    (subst AreInOrder (sym (circuits_made 0 plan.circuits service edge)) (made_in_order (is_circuit_at service edge.0) circuit_made (λ i j r s below. lt-ltb i j below) 0 plan.circuits))
-    (subst AreInOrder (sym (wires_made 0 plan.wires service edge)) (made_in_order (ends_at service edge.0) wire_port wires_rise 0 plan.wires))
+    (subst ArePortsInOrder (sym (circuits_made 0 plan.circuits service edge)) (made_in_order (is_circuit_at service edge.0) circuit_made (λ i j r s below. lt-ltb i j below) 0 plan.circuits))
+    (subst ArePortsInOrder (sym (wires_made 0 plan.wires service edge)) (made_in_order (wire_ends_at service edge.0) wire_port wires_rise 0 plan.wires))
     (circuits_first plan service edge)
 
 -- ---- the search of a circuit
@@ -96,7 +96,7 @@ one_circuit circuit x (port.Mesh wire) first leads = absurd (cc (leads))
 one_circuit circuit x (port.Spoke wire) first leads = absurd (cc (leads))
 
 -- where the ports end that come before a circuit, its own stands, if it has one
-pub circuit_behind : (circuit : CircuitId) (ports : List Port) (k : ℕ) → AreInOrder ports → k ≤ length ports
+pub circuit_behind : (circuit : CircuitId) (ports : List Port) (k : ℕ) → ArePortsInOrder ports → k ≤ length ports
     → (IsPartitionedBy (precedes_circuit circuit) ports → IsPartitionPoint (λ x. precedes_circuit circuit x ≡ true) (λ x. precedes_circuit circuit x ≡ false) ports k)
     → position (is_circuit_port circuit) ports ≡ place_if (is_circuit_port circuit) k (slice_get ports k)
 circuit_behind circuit ports k ordered bound ends =
@@ -127,7 +127,7 @@ one_wire wire x (port.Mesh at) first leads = subst (λ (n : ℕ). precedes_wire 
 one_wire wire x (port.Spoke at) first leads = subst (λ (n : ℕ). precedes_wire (record { 0 = n }) x ≡ true) (eqb-true at.0 wire.0 leads) first
 
 -- where the ports end that come before a wire, its own stands, if it has one
-pub wire_behind : (wire : WireId) (ports : List Port) (k : ℕ) → AreInOrder ports → k ≤ length ports
+pub wire_behind : (wire : WireId) (ports : List Port) (k : ℕ) → ArePortsInOrder ports → k ≤ length ports
     → (IsPartitionedBy (precedes_wire wire) ports → IsPartitionPoint (λ x. precedes_wire wire x ≡ true) (λ x. precedes_wire wire x ≡ false) ports k)
     → position (is_wire_port wire) ports ≡ place_if (is_wire_port wire) k (slice_get ports k)
 wire_behind wire ports k ordered bound ends =

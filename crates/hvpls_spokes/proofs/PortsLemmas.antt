@@ -13,7 +13,7 @@ use Rattle.net_base.specs.declared.plan.places.ServiceId.{ServiceId}
 use Rattle.net_base.specs.plan.Accepted.{IsChecked}
 use Rattle.net_base.specs.plan.Places.{is_mesh_class}
 use Rattle.net_base.specs.plan.PortFaults.{port_count}
-use Rattle.net_base.specs.plan.Roles.{ends_at, is_circuit_at}
+use Rattle.net_base.specs.plan.Roles.{is_circuit_at, wire_ends_at}
 use Rattle.hvpls_spokes.specs.declared.port.Port.{Port}
 use Rattle.hvpls_spokes.specs.declared.port.Port.TheVariants as port
 use Rattle.hvpls_spokes.specs.Port.{circuit_ports, ports_of, is_circuit_port, wire_port, wire_ports}
@@ -23,7 +23,7 @@ use Rattle.hvpls_spokes.proofs.RowPortLemmas.{circuit_behind, circuit_made, circ
 pub ports_length : (plan : Plan) (service : ServiceId) (edge : EdgeId) → length (ports_of plan service edge) ≡ port_count plan service edge.0
 ports_length plan service edge =
     let circuits = ap (λ (ports : List Port). length ports) (circuits_made 0 plan.circuits service edge) ∙ made_length (is_circuit_at service edge.0) circuit_made 0 plan.circuits in
-    let wires = ap (λ (ports : List Port). length ports) (wires_made 0 plan.wires service edge) ∙ made_length (ends_at service edge.0) wire_port 0 plan.wires in
+    let wires = ap (λ (ports : List Port). length ports) (wires_made 0 plan.wires service edge) ∙ made_length (wire_ends_at service edge.0) wire_port 0 plan.wires in
     omega (arith, circuits, wires, length-append (circuit_ports 0 plan.circuits service edge) (wire_ports 0 plan.wires service edge))
 
 pub ports_fit : (plan : Plan) (service : ServiceId) (edge : EdgeId) → IsChecked plan → service.0 < length plan.services → edge.0 < length plan.edges → length (ports_of plan service edge) ≤ 512
@@ -115,7 +115,7 @@ pub record IsServed (rows : List CircuitPlan) (service : ServiceId) (edge : Edge
 pub record IsWired (rows : List WirePlan) (service : ServiceId) (edge : EdgeId) (mesh : Bool) (wire : ℕ) : Type 0 where
   pub row : WirePlan
   pub is : slice_get rows wire ≡ Some row
-  pub ends : ends_at service edge.0 row ≡ true
+  pub ends : wire_ends_at service edge.0 row ≡ true
   pub class : is_mesh_class row.class ≡ mesh
 
 -- what a port leads to is of the plan, and serves the service at the edge
@@ -135,14 +135,14 @@ circuit_served plan service edge p x at =
     let served : IsServed plan.circuits service edge (0 + made.place) = record { row = made.row; is = ap (slice_get plan.circuits) place ∙ made.is; serve = made.passes } in
     subst (λ (y : Port). IsServedBy plan service edge y) (sym made.made) served
 
-wired_by_class : (plan : Plan) (service : ServiceId) (edge : EdgeId) (wire : ℕ) (row : WirePlan) (mesh : Bool) → is_mesh_class row.class ≡ mesh → slice_get plan.wires wire ≡ Some row → ends_at service edge.0 row ≡ true
+wired_by_class : (plan : Plan) (service : ServiceId) (edge : EdgeId) (wire : ℕ) (row : WirePlan) (mesh : Bool) → is_mesh_class row.class ≡ mesh → slice_get plan.wires wire ≡ Some row → wire_ends_at service edge.0 row ≡ true
     → IsServedBy plan service edge (cond mesh (port.Mesh (record { 0 = wire })) (port.Spoke (record { 0 = wire })))
 wired_by_class plan service edge wire row true class is ends = record { row = row; is = is; ends = ends; class = class }
 wired_by_class plan service edge wire row false class is ends = record { row = row; is = is; ends = ends; class = class }
 
 wire_served : (plan : Plan) (service : ServiceId) (edge : EdgeId) (p : ℕ) (x : Port) → slice_get (wire_ports 0 plan.wires service edge) p ≡ Some x → IsServedBy plan service edge x
 wire_served plan service edge p x at =
-    let made = made_at (ends_at service edge.0) wire_port 0 plan.wires p x (ap (λ (ports : List Port). slice_get ports p) (sym (wires_made 0 plan.wires service edge)) ∙ at) in
+    let made = made_at (wire_ends_at service edge.0) wire_port 0 plan.wires p x (ap (λ (ports : List Port). slice_get ports p) (sym (wires_made 0 plan.wires service edge)) ∙ at) in
     let place : 0 + made.place ≡ made.place = omega arith in
     subst (λ (y : Port). IsServedBy plan service edge y) (sym made.made)
     (wired_by_class plan service edge (0 + made.place) made.row (is_mesh_class made.row.class) refl (ap (slice_get plan.wires) place ∙ made.is) made.passes)

@@ -12,7 +12,7 @@ use Rattle.net_base.specs.declared.plan.places.ServiceId.{ServiceId}
 use Rattle.net_base.specs.plan.Accepted.{IsChecked}
 use Rattle.net_base.specs.plan.Paths.{first_edge, last_edge, is_first, is_last, is_same_edge}
 use Rattle.net_base.specs.plan.Places.{is_mesh_class}
-use Rattle.net_base.specs.plan.Roles.{ends_at, has_port, is_circuit_at, is_spoke_edge, is_spoke_from, is_wire_of}
+use Rattle.net_base.specs.plan.Roles.{has_port, is_circuit_at, is_spoke_edge, is_spoke_from, is_wire_of, wire_ends_at}
 use Rattle.net_base.specs.plan.WireFaults.{have_same_service, is_spoke_in_mesh, starts_in_mesh}
 use Rattle.net_base.proofs.PathLemmas.{is_last_edge, is_the_edge}
 use Rattle.hvpls_spokes.specs.declared.port.Port.{Port}
@@ -24,7 +24,7 @@ use Rattle.hvpls_spokes.proofs.PortsLemmas.{IsWired, served_at}
 -- ---- roles
 
 -- a spoke edge has an end of its spoke
-spoke_ends : (service : ServiceId) (edge : ℕ) (row : WirePlan) → is_spoke_from service edge row ≡ true → ends_at service edge row ≡ true
+spoke_ends : (service : ServiceId) (edge : ℕ) (row : WirePlan) → is_spoke_from service edge row ≡ true → wire_ends_at service edge row ≡ true
 spoke_ends service edge row spoke = by (is_wire_of service row) (not (is_mesh_class row.class)) (is_first edge row.path) (is_last edge row.path) spoke where
   by : (of_service of_class first last : Bool) → (of_service && of_class) && first ≡ true → of_service && (first || last) ≡ true
   by true true true last h = refl
@@ -36,8 +36,8 @@ spoke_ends service edge row spoke = by (is_wire_of service row) (not (is_mesh_cl
 pub spoke_edge_has_port : (plan : Plan) (service : ServiceId) (edge : ℕ) → is_spoke_edge plan service edge ≡ true → has_port plan service edge ≡ true
 spoke_edge_has_port plan service edge spoke =
     let any = Any-from_list_any (is_spoke_from service edge) plan.wires spoke in
-    let ends = list_any-from_Any (ends_at service edge) plan.wires (any.0, any.1, any.2, any.3, spoke_ends service edge any.1 any.4) in
-    or_right (list_any (is_circuit_at service edge) plan.circuits) (list_any (ends_at service edge) plan.wires) ends
+    let ends = list_any-from_Any (wire_ends_at service edge) plan.wires (any.0, any.1, any.2, any.3, spoke_ends service edge any.1 any.4) in
+    or_right (list_any (is_circuit_at service edge) plan.circuits) (list_any (wire_ends_at service edge) plan.wires) ends
 
 -- ---- no spoke of a service starts where a mesh wire of it ends
 
@@ -53,7 +53,7 @@ same_edge edge (Some a) (Some b) at_a at_b = grind (arith, nat_tests, at_a, at_b
 -- a mesh wire and a spoke of the service, where the edge ends the one and starts the other
 pub record Meets (service : ServiceId) (edge : ℕ) (mesh spoke : WirePlan) : Type 0 where
   pub class : is_mesh_class mesh.class ≡ true
-  pub ends : ends_at service edge mesh ≡ true
+  pub ends : wire_ends_at service edge mesh ≡ true
   pub starts : is_spoke_from service edge spoke ≡ true
 
 starts_there : (service : ServiceId) (edge : ℕ) (mesh spoke : WirePlan) → Meets service edge mesh spoke → starts_in_mesh spoke mesh ≡ true

@@ -8,7 +8,7 @@ use Rattle.net_base.specs.declared.plan.wire_plan.WirePlan.{WirePlan}
 use Rattle.net_base.specs.declared.plan.places.EdgeId.{EdgeId}
 use Rattle.net_base.specs.declared.plan.places.ServiceId.{ServiceId}
 use Rattle.net_base.specs.plan.Places.{is_mesh_class}
-use Rattle.net_base.specs.plan.Roles.{ends_at, is_circuit_at}
+use Rattle.net_base.specs.plan.Roles.{is_circuit_at, wire_ends_at}
 use Rattle.hvpls_spokes.specs.declared.port.Port.{Port}
 use Rattle.hvpls_spokes.specs.declared.port.Port.TheVariants as port
 use Rattle.hvpls_spokes.specs.Port.{circuit_ports, wire_port, wire_ports}
@@ -196,9 +196,9 @@ pub circuits_made : (k : ℕ) (rows : List CircuitPlan) (service : ServiceId) (e
 circuits_made k [] service edge = refl
 circuits_made k (row ∷ rows) service edge = ap (λ (rest : List Port). cond (is_circuit_at service edge.0 row) (circuit_made k row ∷ rest) rest) (circuits_made (k + 1) rows service edge)
 
-pub wires_made : (k : ℕ) (rows : List WirePlan) (service : ServiceId) (edge : EdgeId) → wire_ports k rows service edge ≡ made_ports (ends_at service edge.0) wire_port k rows
+pub wires_made : (k : ℕ) (rows : List WirePlan) (service : ServiceId) (edge : EdgeId) → wire_ports k rows service edge ≡ made_ports (wire_ends_at service edge.0) wire_port k rows
 wires_made k [] service edge = refl
-wires_made k (row ∷ rows) service edge = ap (λ (rest : List Port). cond (ends_at service edge.0 row) (wire_port k row ∷ rest) rest) (wires_made (k + 1) rows service edge)
+wires_made k (row ∷ rows) service edge = ap (λ (rest : List Port). cond (wire_ends_at service edge.0 row) (wire_port k row ∷ rest) rest) (wires_made (k + 1) rows service edge)
 
 -- the circuit, and the wire, that a port leads to
 abbrev pub circuit_behind : Option Port → Option ℕ
@@ -233,5 +233,5 @@ no_wire k rows service edge p wire at =
 
 pub no_circuit : (k : ℕ) (rows : List WirePlan) (service : ServiceId) (edge : EdgeId) (p circuit : ℕ) → circuit_behind (slice_get (wire_ports k rows service edge) p) ≡ Some circuit → ⊥
 no_circuit k rows service edge p circuit at =
-    made_none circuit_behind refl (ends_at service edge.0) wire_port wire_is_none k rows p circuit
+    made_none circuit_behind refl (wire_ends_at service edge.0) wire_port wire_is_none k rows p circuit
     (ap (λ (ports : List Port). circuit_behind (slice_get ports p)) (sym (wires_made k rows service edge)) ∙ at)

@@ -10,7 +10,7 @@ use Rattle.net_base.specs.declared.plan.places.EdgeId.{EdgeId}
 use Rattle.net_base.specs.declared.plan.places.ServiceId.{ServiceId}
 use Rattle.net_base.specs.declared.plan.places.WireId.{WireId}
 use Rattle.net_base.specs.plan.Places.{is_mesh_class}
-use Rattle.net_base.specs.plan.Roles.{ends_at}
+use Rattle.net_base.specs.plan.Roles.{wire_ends_at}
 use Rattle.hvpls_spokes.specs.declared.port.Port.{Port}
 use Rattle.hvpls_spokes.specs.declared.port.Port.TheVariants as port
 use Rattle.hvpls_spokes.specs.Port.{circuit_ports, ports_of, is_wire_port, wire_port, wire_ports}
@@ -53,7 +53,7 @@ wires_rise : (k : ℕ) (rows : List WirePlan) (service : ServiceId) (edge : Edge
     → wire_behind (slice_get (wire_ports k rows service edge) p) ≡ Some v → wire_behind (slice_get (wire_ports k rows service edge) q) ≡ Some w → v < w
 wires_rise k rows service edge p q v w below at_p at_q =
     let made = wires_made k rows service edge in
-    made_rising wire_behind refl (ends_at service edge.0) wire_port wire_leads k rows p q v w below
+    made_rising wire_behind refl (wire_ends_at service edge.0) wire_port wire_leads k rows p q v w below
     (ap (λ (ports : List Port). wire_behind (slice_get ports p)) (sym made) ∙ at_p)
     (ap (λ (ports : List Port). wire_behind (slice_get ports q)) (sym made) ∙ at_q)
 
@@ -79,9 +79,9 @@ pub record HasWirePort (ports : List Port) (wire : ℕ) : Type 0 where
   pub p : ℕ
   pub leads : LeadsToWire ports p wire
 
-pub has_wire_port : (plan : Plan) (service : ServiceId) (edge : EdgeId) (w : ℕ) (row : WirePlan) → slice_get plan.wires w ≡ Some row → ends_at service edge.0 row ≡ true → HasWirePort (ports_of plan service edge) w
+pub has_wire_port : (plan : Plan) (service : ServiceId) (edge : EdgeId) (w : ℕ) (row : WirePlan) → slice_get plan.wires w ≡ Some row → wire_ends_at service edge.0 row ≡ true → HasWirePort (ports_of plan service edge) w
 has_wire_port plan service edge w row is ends =
-    let has = has_made (ends_at service edge.0) wire_port 0 w plan.wires row is ends in
+    let has = has_made (wire_ends_at service edge.0) wire_port 0 w plan.wires row is ends in
     let circuits : List Port = circuit_ports 0 plan.circuits service edge in
     let place : 0 + w ≡ w = omega arith in
     let there = ap (λ (ports : List Port). slice_get ports has.p) (wires_made 0 plan.wires service edge) ∙ has.at in

@@ -8,16 +8,16 @@ use Rattle.net_base.specs.declared.plan.places.WireId.{WireId}
 use Rattle.net_base.specs.declared.plan.wire_plan.WirePlan.{WirePlan}
 use Rattle.net_base.specs.declared.plan.Plan.{Plan}
 use Rattle.net_base.specs.plan.Places.{is_mesh_class}
-use Rattle.net_base.specs.plan.Roles.{ends_at, is_circuit_at}
+use Rattle.net_base.specs.plan.Roles.{is_circuit_at, wire_ends_at}
 use Rattle.hvpls_spokes.specs.declared.port.Port.{Port}
 use Rattle.hvpls_spokes.specs.declared.port.Port.TheVariants as port
 use Rattle.hvpls_spokes.specs.declared.port_kind.PortKind.{PortKind}
 use Rattle.hvpls_spokes.specs.declared.port_kind.PortKind.TheVariants as kind
 
-abbrev pub kind_of : Port → PortKind
-kind_of (port.Circuit circuit) = kind.Circuit
-kind_of (port.Mesh wire) = kind.Mesh
-kind_of (port.Spoke wire) = kind.Spoke
+abbrev pub port_kind_of : Port → PortKind
+port_kind_of (port.Circuit circuit) = kind.Circuit
+port_kind_of (port.Mesh wire) = kind.Mesh
+port_kind_of (port.Spoke wire) = kind.Spoke
 
 -- the port leads to the circuit
 abbrev pub is_circuit_port : CircuitId → Port → Bool
@@ -34,6 +34,13 @@ is_mesh (Some (port.Spoke wire)) = false
 -- the port with this number is a mesh wire
 abbrev pub is_mesh_port : List Port → ℕ → Bool
 is_mesh_port ports p = is_mesh (slice_get ports p)
+
+-- a port of a wire, a mesh wire or a spoke
+abbrev pub is_wire : Option Port → Bool
+is_wire None = false
+is_wire (Some (port.Circuit circuit)) = false
+is_wire (Some (port.Mesh wire)) = true
+is_wire (Some (port.Spoke wire)) = true
 
 -- the port leads to the wire
 abbrev pub is_wire_port : WireId → Port → Bool
@@ -57,7 +64,7 @@ wire_port place row = if is_mesh_class row.class then port.Mesh (record { 0 = pl
 abbrev pub wire_ports : ℕ → List WirePlan → ServiceId → EdgeId → List Port
 wire_ports place [] service edge = []
 wire_ports place (row ∷ rows) service edge =
-    if ends_at service edge.0 row
+    if wire_ends_at service edge.0 row
     then wire_port place row ∷ wire_ports (place + 1) rows service edge
     else wire_ports (place + 1) rows service edge
 
@@ -87,5 +94,5 @@ precedes first (port.Mesh wire) = precedes_wire wire first
 precedes first (port.Spoke wire) = precedes_wire wire first
 
 -- circuits in the order of the plan, and then wires in the order of the plan
-abbrev pub AreInOrder : List Port → Type 0
-AreInOrder ports = AllPairs (λ first second. precedes first second ≡ true) ports
+abbrev pub ArePortsInOrder : List Port → Type 0
+ArePortsInOrder ports = AllPairs (λ first second. precedes first second ≡ true) ports

@@ -1,6 +1,6 @@
 //! A port of a service at an edge.
 ghost use Rattle.std.specs.Prelude.{◌≡◌};
-ghost use Rattle.hvpls_spokes.specs.Port.{kind_of};
+ghost use Rattle.hvpls_spokes.specs.Port.{port_kind_of};
 
 use crate::PortKind;
 use net_base::{CircuitId, WireId};
@@ -19,7 +19,7 @@ pub enum Port {
 impl Port {
     /// The kind of the port.
     pub fn kind(self) -> PortKind
-        ensures { result ≡ kind_of self }
+        ensures { result ≡ port_kind_of self }
     {
         match self {
             Port::Circuit(_) => PortKind::Circuit,

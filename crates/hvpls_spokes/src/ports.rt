@@ -2,7 +2,7 @@
 ghost use Rattle.std.specs.Prelude.{◌≡◌, ◌≤◌, ◌<◌, ◌++◌, length, slice_get, option_map, position, IfOk, IfSome, OnOk};
 ghost use Rattle.net_base.specs.plan.Accepted.{IsChecked};
 ghost use Rattle.hvpls_spokes.specs.Search.{place_if};
-ghost use Rattle.hvpls_spokes.specs.Port.{AreInOrder, kind_of, circuit_ports, is_circuit_port, is_mesh_port, is_wire_port, ports_of, precedes_circuit, precedes_wire, wire_port, wire_ports};
+ghost use Rattle.hvpls_spokes.specs.Port.{ArePortsInOrder, port_kind_of, circuit_ports, is_circuit_port, is_mesh_port, is_wire_port, ports_of, precedes_circuit, precedes_wire, wire_port, wire_ports};
 
 use crate::terminal::ends_at;
 use crate::{Port, PortKind};
@@ -21,14 +21,14 @@ pub struct Ports {
 
 impl Model for Ports {
     ghost use Rattle.std.specs.Prelude.{List, ◌≤◌, vec_len};
-    ghost use Rattle.hvpls_spokes.specs.Port.{AreInOrder};
+    ghost use Rattle.hvpls_spokes.specs.Port.{ArePortsInOrder};
     ghost use Rattle.hvpls_spokes.specs.declared.port.Port.{Port};
 
     ghost Value = { List Port };
 
     ghost view = { λ p. p.ports.items };
 
-    ghost invariant = { λ p. (vec_len p.ports ≤ 512) × AreInOrder p.ports.items };
+    ghost invariant = { λ p. (vec_len p.ports ≤ 512) × ArePortsInOrder p.ports.items };
 }
 
 impl Ports {
@@ -70,7 +70,7 @@ impl Ports {
 
     /// The kind of the port with this number; `None` exactly where the number is not below the length.
     pub fn kind(&self, port: u16) -> Option<PortKind>
-        ensures { result ≡ option_map kind_of (slice_get self.now port) }
+        ensures { result ≡ option_map port_kind_of (slice_get self.now port) }
     {
         match self.get(port) {
             Some(port) => Some(port.kind()),
@@ -155,7 +155,7 @@ fn port_of_wire(wire: WireId, row: &WirePlan) -> Port
 
 // The place of the port that leads to the circuit.
 fn place_of(ports: &[Port], circuit: CircuitId) -> Option<usize>
-    requires { AreInOrder ports.now }
+    requires { ArePortsInOrder ports.now }
     ensures place { result ≡ position (is_circuit_port circuit) ports.now }
     ensures within { IfSome result (λ place. place < length ports.now) }
 {
@@ -168,7 +168,7 @@ fn place_of(ports: &[Port], circuit: CircuitId) -> Option<usize>
 
 // How many ports come before that of the circuit.
 fn count_before(ports: &[Port], circuit: CircuitId) -> usize
-    requires { AreInOrder ports.now }
+    requires { ArePortsInOrder ports.now }
     ensures { position (is_circuit_port circuit) ports.now ≡ place_if (is_circuit_port circuit) result (slice_get ports.now result) }
 {
     ports.partition_point(|port| precedes(*port, circuit))
@@ -196,7 +196,7 @@ fn leads_to(port: Port, circuit: CircuitId) -> bool
 
 // The place of the port that leads to the wire.
 fn place_of_wire(ports: &[Port], wire: WireId) -> Option<usize>
-    requires { AreInOrder ports.now }
+    requires { ArePortsInOrder ports.now }
     ensures place { result ≡ position (is_wire_port wire) ports.now }
     ensures within { IfSome result (λ place. place < length ports.now) }
 {
@@ -209,7 +209,7 @@ fn place_of_wire(ports: &[Port], wire: WireId) -> Option<usize>
 
 // How many ports come before that of the wire.
 fn count_before_wire(ports: &[Port], wire: WireId) -> usize
-    requires { AreInOrder ports.now }
+    requires { ArePortsInOrder ports.now }
     ensures { position (is_wire_port wire) ports.now ≡ place_if (is_wire_port wire) result (slice_get ports.now result) }
 {
     ports.partition_point(|port| precedes_wire(*port, wire))

@@ -1,7 +1,7 @@
 //! What edges are to services.
 ghost use Rattle.std.specs.Prelude.{◌≡◌, ◌↔◌, ◌||◌, false, None};
 ghost use Rattle.std.specs.List.{list_any};
-ghost use Rattle.net_base.specs.plan.Roles.{ends_at, has_port, is_circuit_at, is_spoke_edge, is_spoke_from};
+ghost use Rattle.net_base.specs.plan.Roles.{has_port, is_circuit_at, is_spoke_edge, is_spoke_from, wire_ends_at};
 ghost use Rattle.hvpls_spokes.specs.Role.{role_of};
 
 use crate::Role;
@@ -48,7 +48,7 @@ fn has_circuit(circuits: &[CircuitPlan], service: ServiceId, edge: EdgeId) -> bo
 }
 
 fn has_end(wires: &[WirePlan], service: ServiceId, edge: EdgeId) -> bool
-    ensures { result ≡ list_any (ends_at service edge.0) wires.now }
+    ensures { result ≡ list_any (wire_ends_at service edge.0) wires.now }
 {
     wires.iter().any(|wire| ends_at(wire, service, edge))
 }

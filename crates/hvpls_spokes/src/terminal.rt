@@ -2,14 +2,14 @@
 ghost use Rattle.std.specs.Prelude.{◌≡◌, ◌&&◌, ◌||◌, not};
 ghost use Rattle.net_base.specs.plan.Paths.{is_first, is_last};
 ghost use Rattle.net_base.specs.plan.Places.{is_mesh_class};
-ghost use Rattle.net_base.specs.plan.Roles.{ends_at, is_mesh_of, is_spoke_from};
+ghost use Rattle.net_base.specs.plan.Roles.{is_mesh_of, is_spoke_from, wire_ends_at};
 
 use net_base::{Class, EdgeId, ServiceId, WirePlan, first_of, last_of};
 
 /// Whether the wire is one of the service, and the edge a terminal edge of it: the first of its path, or the last
 /// (RFC 6073 section 4).
 pub(crate) fn ends_at(wire: &WirePlan, service: ServiceId, edge: EdgeId) -> bool
-    ensures { result ≡ ends_at service edge.0 wire.now }
+    ensures { result ≡ wire_ends_at service edge.0 wire.now }
 {
     wire.service == service && is_terminal(wire.path.as_slice(), edge)
 }

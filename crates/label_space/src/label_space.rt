@@ -1,6 +1,6 @@
 //! The label space of an edge.
 ghost use Rattle.std.specs.Prelude.{◌≡◌, ◌≤◌, ◌<◌, ◌≢◌, ◌↔◌, ℕ, Some, None, length, IfOk, OnErr, IsErr};
-ghost use Rattle.label_space.specs.Labels.{AreBelow, AreDistinct, emptied, freed, issued, numbers_end, opened, owner_of};
+ghost use Rattle.label_space.specs.Labels.{AreBelow, AreDistinctLabels, emptied, freed, issued, numbers_end, opened_space, owner_of};
 
 use crate::search::{find_owner, forget};
 use crate::{LabelOwner, NoLabel};
@@ -20,13 +20,13 @@ pub struct LabelSpace {
 
 impl Model for LabelSpace {
     ghost use Rattle.std.specs.Prelude.{vec_capacity};
-    ghost use Rattle.label_space.specs.Labels.{LabelNumbers, IsHeld};
+    ghost use Rattle.label_space.specs.Labels.{LabelNumbers, IsHeldSpace};
 
     ghost Value = { LabelNumbers };
 
     ghost view = { λ s. record { next = s.next; room = s.room; owners = s.owners.items } };
 
-    ghost invariant = { λ s. IsHeld s.next s.room (vec_capacity s.owners) s.owners.items };
+    ghost invariant = { λ s. IsHeldSpace s.next s.room (vec_capacity s.owners) s.owners.items };
 }
 
 impl LabelSpace {
@@ -35,7 +35,7 @@ impl LabelSpace {
     pub fn open(alloc: Global, first: u32, room: u32) -> Result<LabelSpace, NoMemory>
         requires above { 16 ≤ first }
         requires below { first ≤ numbers_end }
-        ensures space { IfOk result (λ space. space ≡ opened first room) }
+        ensures space { IfOk result (λ space. space ≡ opened_space first room) }
     {
         Ok(LabelSpace {
             next: first,
@@ -69,7 +69,7 @@ impl LabelSpace {
     pub fn owner(&self, label: Label) -> Option<(SegKey, u8)>
         ensures owner { result ≡ owner_of label self.now.owners }
         ensures given { AreBelow self.now.next self.now.owners }
-        ensures distinct { AreDistinct self.now.owners }
+        ensures distinct { AreDistinctLabels self.now.owners }
     {
         find_owner(self.owners.as_slice(), label)
     }

@@ -1,6 +1,6 @@
 //! What the values of TLVs hold, and the first fault of it.
 ghost use Rattle.std.specs.Prelude.{◌≡◌, ◌≤◌, ◌<◌, ◌+◌, ◌^◌, ℕ, List, None, true, false, length, Ok, Err, IfSome};
-ghost use Rattle.pw_tlvs.specs.Faults.{IsFirst as IsFirstIn, IsInside, place_of};
+ghost use Rattle.pw_tlvs.specs.Faults.{IsFirstIn, IsInside, fault_place};
 ghost use Rattle.pw_tlvs.specs.Fec.{IsFecFault};
 ghost use Rattle.pw_tlvs.specs.Point.{IsPointFault};
 ghost use Rattle.ldp_grammar.specs.FirstFault.{ContentFault, fault_in};
@@ -99,7 +99,7 @@ fn content_fault(foreign: bool, field: Field, value: &[u8]) -> Option<FieldFault
 
 // The fault of the value of a TLV, counted from the TLV.
 fn placed(field: Field, fault: FieldFault) -> Fault
-    requires { 4 + place_of fault < 2 ^ 16 }
+    requires { 4 + fault_place fault < 2 ^ 16 }
     ensures { result ≡ fault_in field fault }
 {
     match fault {

@@ -4,7 +4,7 @@ ghost use Rattle.ldp_grammar.specs.declared.pdu.Pdu.{Pdu};
 ghost use Rattle.ldp_grammar.specs.declared.fault.Fault.{Fault};
 ghost use Rattle.ldp_grammar.specs.Spells.{Spells};
 ghost use Rattle.ldp_grammar.specs.FirstFault.{FirstFault};
-ghost use Rattle.ldp_codec.specs.Decoded.{IsUnlessNoMemory, Tells, refusal_of};
+ghost use Rattle.ldp_codec.specs.Decoded.{IsUnlessNoMemory, TellsFault, refusal_of};
 ghost use Rattle.ldp_codec.specs.Stop.{StopsAt};
 
 use crate::DecodeFault;
@@ -34,7 +34,7 @@ pub fn read_pdu(alloc: Global, bytes: &[u8], max: u16) -> Result<Pdu, Stop>
 fn decode(alloc: Global, bytes: &[u8], max: u16) -> Result<Pdu, DecodeFault>
     requires { max ≤ 4096 }
     ensures spelled { IfOk result (Spells bytes.now max) }
-    ensures fault { IfErr result (Tells (FirstFault bytes.now max)) }
+    ensures fault { IfErr result (TellsFault (FirstFault bytes.now max)) }
 {
     match read_pdu(alloc, bytes, max) {
         Ok(pdu) => Ok(pdu),
@@ -51,7 +51,7 @@ pub fn decode_pdu(alloc: Global, bytes: &[u8], max: u16) -> Result<Pdu, DecodeFa
     requires least { 256 ≤ max }
     requires most { max ≤ 4096 }
     ensures spelled { IfOk result (Spells bytes.now max) }
-    ensures fault { IfErr result (Tells (FirstFault bytes.now max)) }
+    ensures fault { IfErr result (TellsFault (FirstFault bytes.now max)) }
     ensures accepts { (pdu : Pdu) → Spells bytes.now max pdu → IsUnlessNoMemory result (Ok pdu) }
     ensures refuses { (fault : Fault) → FirstFault bytes.now max fault → IsUnlessNoMemory result (Err (refusal_of fault)) }
 {

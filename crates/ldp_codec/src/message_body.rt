@@ -3,13 +3,13 @@ ghost use Rattle.std.specs.Prelude.{◌≡◌, ◌≤◌, ◌<◌, ◌%◌, ◌+
 ghost use Rattle.pw_tlvs.specs.declared.fec_value.FecValue.{FecValue as FecValueOf};
 ghost use Rattle.pw_tlvs.specs.Fec.{IsFecValue, IsPwFec};
 ghost use Rattle.pw_tlvs.specs.Macs.{AreMacs};
-ghost use Rattle.pw_tlvs.specs.Status.{IsStatus as IsPwStatus};
+ghost use Rattle.pw_tlvs.specs.Status.{IsPwStatus};
 ghost use Rattle.ldp_grammar.specs.declared.message_kind.MessageKind.{MessageKind};
 ghost use Rattle.ldp_grammar.specs.Rows.{row_of, is_in, fec, label, mac_list, pw_status, transport_address, address_list};
 ghost use Rattle.ldp_grammar.specs.Layouts.{listed};
 ghost use Rattle.ldp_grammar.specs.Tlvs.{Tlv, IsFaultless, IsJoined, IsReason, HasValue, OfBoth, all_there, fec_reason, fec_value, first_absent, first_unknown, missing as missing_in, needs_pw_id, value_of};
 ghost use Rattle.ldp_grammar.specs.Spells.{Means, OfValue};
-ghost use Rattle.ldp_grammar.specs.Values.{IsAddress, IsAddressList, IsNumber};
+ghost use Rattle.ldp_grammar.specs.Values.{IsAddressList, IsNumber, IsTransportAddress};
 ghost use Rattle.ldp_codec.specs.Walk.{IsComplete};
 
 use crate::numbers::four;
@@ -225,7 +225,7 @@ fn notification(id: u32, body: &[u8]) -> Message
 // The transport address, where it is told.
 fn transport(body: &[u8]) -> Option<Addr>
     requires { IsComplete MessageKind.Hello body.now }
-    ensures address { (ts : List Tlv) → IsJoined body.now ts → OfBoth (value_of transport_address ts) result IsAddress }
+    ensures address { (ts : List Tlv) → IsJoined body.now ts → OfBoth (value_of transport_address ts) result IsTransportAddress }
 {
     match further_value(MessageKind::Hello, TRANSPORT_ADDRESS, body) {
         Some(value) => Some(Addr([value[0], value[1], value[2], value[3]])),

@@ -3,7 +3,7 @@ ghost use Rattle.std.specs.Prelude.{◌≡◌, ◌≢◌, ◌≤◌, ◌++◌, t
 ghost use Rattle.ldp_grammar.specs.Octets.{two as two_of, two_at};
 ghost use Rattle.ldp_grammar.specs.Spells.{IsFramed};
 ghost use Rattle.ldp_grammar.specs.FirstFault.{FirstFault, IsMiscounted};
-ghost use Rattle.ldp_codec.specs.Walk.{IsCounted};
+ghost use Rattle.ldp_codec.specs.Walk.{HasCountedLength};
 
 use crate::numbers::two;
 use ldp_grammar::{Cause, Fault, LEAST_LENGTH, LENGTH_HEADER, LdpId, VERSION};
@@ -31,7 +31,7 @@ fn has_other_version(bytes: &[u8]) -> bool
 
 // Whether the PDU Length is in range and counts the octets behind it.
 fn has_length(bytes: &[u8], max: u16) -> bool
-    ensures right { result ≡ true → IsCounted bytes.now max }
+    ensures right { result ≡ true → HasCountedLength bytes.now max }
     ensures wrong { result ≡ false → IsMiscounted bytes.now max }
 {
     if bytes.len() < LENGTH_HEADER {

@@ -4,7 +4,7 @@ ghost use Rattle.net_values.specs.declared.field.Field.{Field};
 ghost use Rattle.ldp_grammar.specs.Layouts.{fits, listed, most};
 ghost use Rattle.ldp_grammar.specs.FirstFault.{IsFirst, IsFirstTlvFault, NamesTlvs};
 ghost use Rattle.ldp_grammar.specs.Rows.{row_of};
-ghost use Rattle.ldp_grammar.specs.Tlvs.{Tlv, IsJoined, HasRoom, count_of, unknown_in};
+ghost use Rattle.ldp_grammar.specs.Tlvs.{Tlv, IsJoined, MayComeAgain, count_of, unknown_in};
 ghost use Rattle.ldp_codec.specs.Walk.{HasLength, IsTaken, IsWalked, ReadsForeign};
 
 use crate::content::{has_foreign, wrong_content};
@@ -17,7 +17,7 @@ use net_values::Field;
 // The TLV of this type, where the message lists it and has as many before as it may.
 fn repeated(kind: MessageKind, tlv: u16, before: &[u8]) -> Option<Field>
     ensures full { (ts : List Tlv) → IsJoined before.now ts → IfSome result (λ field. (listed (row_of kind) tlv ≡ Some field) × (most field ≤ count_of tlv ts)) }
-    ensures room { (ts : List Tlv) → IsJoined before.now ts → result ≡ None → HasRoom (listed (row_of kind) tlv) (count_of tlv ts) }
+    ensures room { (ts : List Tlv) → IsJoined before.now ts → result ≡ None → MayComeAgain (listed (row_of kind) tlv) (count_of tlv ts) }
 {
     let field = kind.listed(tlv)?;
     if count_tlvs(tlv, before) < most_of(field) {

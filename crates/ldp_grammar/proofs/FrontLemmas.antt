@@ -4,7 +4,7 @@ use Rattle.std.proofs.lemmas.Bool.{cases_lt}
 use Rattle.std.proofs.lemmas.List.{take-append-drop}
 use Rattle.ldp_grammar.specs.Octets.{two, four, two_at, four_at}
 use Rattle.ldp_grammar.specs.Tlvs.{IsTlv, spell_tlv}
-use Rattle.ldp_grammar.specs.Spells.{Spelling, spell, IsSpelling}
+use Rattle.ldp_grammar.specs.Spells.{Spelling, spell_message, IsSpelling}
 use Rattle.ldp_grammar.specs.FirstFault.{CutsMessage}
 use Rattle.ldp_grammar.proofs.OctetLemmas.{AreOctets, two_read, four_read, octets_drop, octets_take}
 
@@ -51,7 +51,7 @@ tlv_front rest octets = elim (cases_lt (length rest) 4) [
 -- what stands where a message should begin: nothing whole, or a message
 pub data MessageFront (rest : List ℕ) : Type 0 where
   cut : (place : ℕ) → CutsMessage rest place → place < length rest → MessageFront rest
-  message : (s : Spelling) (more : List ℕ) → rest ≡ spell s ++ more → IsSpelling s → AreOctets s.body → AreOctets more → MessageFront rest
+  message : (s : Spelling) (more : List ℕ) → rest ≡ spell_message s ++ more → IsSpelling s → AreOctets s.body → AreOctets more → MessageFront rest
 
 message_whole : (rest : List ℕ) → AreOctets rest → 4 ≤ length rest → 4 ≤ two_at 2 rest → 4 + two_at 2 rest ≤ length rest → MessageFront rest
 message_whole rest octets long least within =

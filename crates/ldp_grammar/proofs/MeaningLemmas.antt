@@ -5,7 +5,7 @@ use Rattle.pw_tlvs.specs.declared.fec_value.FecValue.{FecValue}
 use Rattle.pw_tlvs.specs.declared.point.Point.{Point}
 use Rattle.pw_tlvs.specs.Fec.{IsFecValue, IsPwFec}
 use Rattle.pw_tlvs.specs.Macs.{AreMacs}
-use Rattle.pw_tlvs.specs.Status.{IsStatus as IsPwStatus}
+use Rattle.pw_tlvs.specs.Status.{IsPwStatus}
 use Rattle.pw_tlvs.proofs.FecLemmas.{one_fec, one_pw}
 use Rattle.pw_tlvs.proofs.MacLemmas.{one_macs}
 use Rattle.pw_tlvs.proofs.PointLemmas.{one_point}
@@ -22,8 +22,8 @@ use Rattle.ldp_grammar.specs.declared.pdu.Pdu.{Pdu}
 use Rattle.ldp_grammar.specs.Octets.{two}
 use Rattle.ldp_grammar.specs.Rows.{row_of, kind_of, fec, address_list, label, status, hello_parameters, transport_address, mac_list, session_parameters, request_id, pw_status, switching_point}
 use Rattle.ldp_grammar.specs.Tlvs.{Tlv, OfBoth, IsReason, value_of, values_of, fec_value, fec_reason, reason_of, first_unknown, missing}
-use Rattle.ldp_grammar.specs.Values.{IsStatus, IsHello, IsSession, IsAddresses, IsAddressList, IsAddress, IsNumber, ArePoints}
-use Rattle.ldp_grammar.specs.Spells.{Spelling, spell, IsSpelling, OfValue, Means, Tells, StandsAs, StandInOrder, Spells}
+use Rattle.ldp_grammar.specs.Values.{IsStatus, IsHello, IsSession, IsAddresses, IsAddressList, IsTransportAddress, IsNumber, ArePoints}
+use Rattle.ldp_grammar.specs.Spells.{Spelling, spell_message, IsSpelling, OfValue, Means, Tells, StandsAs, StandInOrder, Spells}
 use Rattle.ldp_grammar.proofs.ItemLemmas.{one_list}
 use Rattle.ldp_grammar.proofs.OctetLemmas.{same_two}
 use Rattle.ldp_grammar.proofs.SpellingLemmas.{same_front, messages_apart}
@@ -76,7 +76,7 @@ both_once P once (Some v) None b of_a of_b = absurd of_a
 both_once P once (Some v) (Some x) None of_a of_b = absurd of_b
 both_once P once (Some v) (Some x) (Some y) of_a of_b = ap Some (once v x y of_a of_b)
 
-address_once : (v : List ℕ) (x y : Addr) → IsAddress v x → IsAddress v y → x ≡ y
+address_once : (v : List ℕ) (x y : Addr) → IsTransportAddress v x → IsTransportAddress v y → x ≡ y
 address_once v x y is_x is_y = λ i. record { 0 = (is_x ∙ sym is_y) i }
 
 list_once : (v : List ℕ) (x y : AddressList) → IsAddressList v x → IsAddressList v y → x ≡ y
@@ -111,7 +111,7 @@ means_once kind.Notification id ts (message.Notification a s p f) n ma mb = absu
 means_once kind.Notification id ts m n ma mb = absurd ma
 means_once kind.Hello id ts (message.Hello a h t r x) (message.Hello b g u s y) ma mb =
     let same = hello_once (value_of hello_parameters ts) h g t u r s ma.1 mb.1 in
-    let address = both_once IsAddress address_once (value_of transport_address ts) x y ma.2 mb.2 in
+    let address = both_once IsTransportAddress address_once (value_of transport_address ts) x y ma.2 mb.2 in
     λ i. message.Hello ((ma.0 ∙ sym mb.0) i) (same.hold i) (same.targeted i) (same.request i) (address i)
 means_once kind.Hello id ts (message.Hello a h t r x) n ma mb = absurd mb
 means_once kind.Hello id ts m n ma mb = absurd ma
@@ -202,8 +202,8 @@ same_space a b fits_a fits_b e = same_two a b fits_a fits_b (cc (e)) (cc (e))
 -- one PDU at most is spelled
 pub one_pdu : (bytes : List ℕ) (max : ℕ) (p q : Pdu) → Spells bytes max p → Spells bytes max q → p ≡ q
 one_pdu bytes max p q is_p is_q =
-    let frame = same_frame bytes (p.id.router.0 ++ two p.id.space) (q.id.router.0 ++ two q.id.space) (flat_map spell is_p.spellings) (flat_map spell is_q.spellings) max is_p.framed is_q.framed in
-    let spelled : is_q.spellings ≡ is_p.spellings = one_list spell IsSpelling messages_apart (λ s. omega (arith, octets_of s [])) is_q.spellings is_p.spellings is_q.fit is_p.fit (sym frame.one_body) in
+    let frame = same_frame bytes (p.id.router.0 ++ two p.id.space) (q.id.router.0 ++ two q.id.space) (flat_map spell_message is_p.spellings) (flat_map spell_message is_q.spellings) max is_p.framed is_q.framed in
+    let spelled : is_q.spellings ≡ is_p.spellings = one_list spell_message IsSpelling messages_apart (λ s. omega (arith, octets_of s [])) is_q.spellings is_p.spellings is_q.fit is_p.fit (sym frame.one_body) in
     let id = same_front p.id.router.0 q.id.router.0 (two p.id.space) (two q.id.space) (is_p.router ∙ sym is_q.router) frame.one_sender in
     let space : p.id.space ≡ q.id.space = same_space p.id.space q.id.space is_p.space is_q.space id.1 in
     let messages : p.messages ≡ q.messages = stand_once is_p.spellings p.messages q.messages is_p.stand (subst (λ (ss : List Spelling). StandInOrder ss q.messages) spelled is_q.stand) in

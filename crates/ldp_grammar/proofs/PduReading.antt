@@ -13,8 +13,8 @@ use Rattle.ldp_grammar.specs.declared.message.Message.TheVariants as message
 use Rattle.ldp_grammar.specs.declared.message_kind.MessageKind.{MessageKind}
 use Rattle.ldp_grammar.specs.Octets.{two, two_at, bit}
 use Rattle.ldp_grammar.specs.Rows.{kind_of, row_of}
-use Rattle.ldp_grammar.specs.Spells.{Spelling, spell, IsSpelling, StandsAs, StandsFor, StandInOrder, IsFramed}
-use Rattle.ldp_grammar.specs.FirstFault.{IsFirst, IsFirstMessageFault, NamesMessages, IsMiscounted, HeaderFault, IsInside, Precedes, FirstFault, moved}
+use Rattle.ldp_grammar.specs.Spells.{Spelling, spell_message, IsSpelling, StandsAs, StandsFor, StandInOrder, IsFramed}
+use Rattle.ldp_grammar.specs.FirstFault.{IsFirst, IsFirstMessageFault, NamesMessages, IsMiscounted, HeaderFault, IsInMessages, Precedes, FirstFault, moved}
 use Rattle.ldp_grammar.specs.Reading.{Reading, spelled, refused, EachIsRead}
 use Rattle.ldp_grammar.proofs.OctetLemmas.{AreOctets, octets_drop}
 use Rattle.ldp_grammar.proofs.ItemLemmas.{items_more}
@@ -26,11 +26,11 @@ use Rattle.ldp_grammar.proofs.TellingLemmas.{read_as}
 
 -- what stands behind some messages comes to
 data MessageHere (before : List Spelling) (rest : List ℕ) : Type 0 where
-  taken : (s : Spelling) (more : List ℕ) → rest ≡ spell s ++ more → IsSpelling s → AreOctets more → (m : Message) → StandsFor s m → MessageHere before rest
+  taken : (s : Spelling) (more : List ℕ) → rest ≡ spell_message s ++ more → IsSpelling s → AreOctets more → (m : Message) → StandsFor s m → MessageHere before rest
   wrong : (f : Fault) → IsFirstMessageFault before rest f → MessageHere before rest
 
 -- a message of a known type, or of another one
-message_of : (before : List Spelling) (rest more : List ℕ) (s : Spelling) → rest ≡ spell s ++ more → IsSpelling s → AreOctets s.body → AreOctets more → (o : Option MessageKind) → kind_of (s.word % 2 ^ 15) ≡ o → MessageHere before rest
+message_of : (before : List Spelling) (rest more : List ℕ) (s : Spelling) → rest ≡ spell_message s ++ more → IsSpelling s → AreOctets s.body → AreOctets more → (o : Option MessageKind) → kind_of (s.word % 2 ^ 15) ≡ o → MessageHere before rest
 message_of before rest more s e is body_octets more_octets None known =
     let m = message.Other s.id (bit 15 s.word) (s.word % 2 ^ 15) in
     taken s more e is more_octets m (subst (λ (o : Option MessageKind). StandsAs o s (message.Other s.id (bit 15 s.word) (s.word % 2 ^ 15))) (sym known) refl)
@@ -49,22 +49,22 @@ message_here before rest octets some = elim (message_front rest octets some) [
 
 -- What the octets of messages come to: messages that stand for something, or the first fault.
 pub data MessagesReading (body : List ℕ) : Type 0 where
-  read : (ss : List Spelling) (ms : List Message) → body ≡ flat_map spell ss → AllByRecursion IsSpelling ss → StandInOrder ss ms → MessagesReading body
+  read : (ss : List Spelling) (ms : List Message) → body ≡ flat_map spell_message ss → AllByRecursion IsSpelling ss → StandInOrder ss ms → MessagesReading body
   faulty : (f : Fault) → IsFirst (NamesMessages body) f → MessagesReading body
 
-message_split : (body rest more : List ℕ) (ss : List Spelling) (s : Spelling) → body ≡ flat_map spell ss ++ rest → rest ≡ spell s ++ more → body ≡ flat_map spell (ss ++ s ∷ []) ++ more
+message_split : (body rest more : List ℕ) (ss : List Spelling) (s : Spelling) → body ≡ flat_map spell_message ss ++ rest → rest ≡ spell_message s ++ more → body ≡ flat_map spell_message (ss ++ s ∷ []) ++ more
 message_split body rest more ss s split e =
-    split ∙ (ap (λ (l : List ℕ). flat_map spell ss ++ l) e ∙ (sym (append_assoc (flat_map spell ss) (spell s) more)
-    ∙ ap (λ (l : List ℕ). l ++ more) (spelled_more (flat_map spell ss) (flat_map spell ss ++ spell s) ss s refl refl)))
+    split ∙ (ap (λ (l : List ℕ). flat_map spell_message ss ++ l) e ∙ (sym (append_assoc (flat_map spell_message ss) (spell_message s) more)
+    ∙ ap (λ (l : List ℕ). l ++ more) (spelled_more (flat_map spell_message ss) (flat_map spell_message ss ++ spell_message s) ss s refl refl)))
 
-messages_from : (fuel : ℕ) (body rest : List ℕ) (ss : List Spelling) (ms : List Message) → AreOctets rest → length rest ≤ fuel → body ≡ flat_map spell ss ++ rest → AllByRecursion IsSpelling ss → StandInOrder ss ms → MessagesReading body
-messages_from fuel body [] ss ms octets few split items stand = read ss ms (split ∙ append-nil (flat_map spell ss)) items stand
+messages_from : (fuel : ℕ) (body rest : List ℕ) (ss : List Spelling) (ms : List Message) → AreOctets rest → length rest ≤ fuel → body ≡ flat_map spell_message ss ++ rest → AllByRecursion IsSpelling ss → StandInOrder ss ms → MessagesReading body
+messages_from fuel body [] ss ms octets few split items stand = read ss ms (split ∙ append-nil (flat_map spell_message ss)) items stand
 messages_from zero body (x ∷ rest) ss ms octets few split items stand = absurd (omega arith)
 messages_from (suc fuel) body (x ∷ rest) ss ms octets few split items stand = elim (message_here ss (x ∷ rest) octets (omega arith)) [
   | taken s more e is more_octets m stands ↦
       messages_from fuel body more (ss ++ s ∷ []) (ms ++ m ∷ []) more_octets (omega (arith, octets_of s more, ap length e, few)) (message_split body (x ∷ rest) more ss s split e) (items_more IsSpelling ss s items is) (stand_more ss ms s m stand stands)
   | wrong fault first ↦
-      faulty (moved (length (flat_map spell ss)) fault) (first_of_messages body (flat_map spell ss) (x ∷ rest) ss ms (length (flat_map spell ss)) fault split refl refl items stand first)
+      faulty (moved (length (flat_map spell_message ss)) fault) (first_of_messages body (flat_map spell_message ss) (x ∷ rest) ss ms (length (flat_map spell_message ss)) fault split refl refl items stand first)
 ]
 
 -- the octets of messages stand for something, or have a first fault
@@ -80,7 +80,7 @@ version_header bytes max cause.TlvLength place names = absurd names
 version_header bytes max (cause.TlvValue field) place names = absurd names
 version_header bytes max (cause.Repeated field) place names = absurd names
 
-version_before : (bytes : List ℕ) (max : ℕ) → (two_at 0 bytes ≢ 1) → (g : Fault) → HeaderFault bytes max g.cause g.place ⊎ IsInside bytes max g → Precedes (record { place = 0; cause = cause.Version }) g
+version_before : (bytes : List ℕ) (max : ℕ) → (two_at 0 bytes ≢ 1) → (g : Fault) → HeaderFault bytes max g.cause g.place ⊎ IsInMessages bytes max g → Precedes (record { place = 0; cause = cause.Version }) g
 version_before bytes max other g (inl names) = version_header bytes max g.cause g.place names
 version_before bytes max other g (inr w) = absurd (other (ap (two_at 0) w.framed.split))
 
@@ -105,7 +105,7 @@ count_header bytes max version cause.TlvLength place names = absurd names
 count_header bytes max version (cause.TlvValue field) place names = absurd names
 count_header bytes max version (cause.Repeated field) place names = absurd names
 
-count_before : (bytes : List ℕ) (max : ℕ) → max ≤ 4096 → (2 ≤ length bytes → two_at 0 bytes ≡ 1) → IsMiscounted bytes max → (g : Fault) → HeaderFault bytes max g.cause g.place ⊎ IsInside bytes max g → Precedes (record { place = 2; cause = cause.PduLength }) g
+count_before : (bytes : List ℕ) (max : ℕ) → max ≤ 4096 → (2 ≤ length bytes → two_at 0 bytes ≡ 1) → IsMiscounted bytes max → (g : Fault) → HeaderFault bytes max g.cause g.place ⊎ IsInMessages bytes max g → Precedes (record { place = 2; cause = cause.PduLength }) g
 count_before bytes max small version miscounted g (inl names) = count_header bytes max version g.cause g.place names
 count_before bytes max small version miscounted g (inr w) = absurd (miscounted_framed bytes w.sender w.body max small w.framed miscounted)
 

@@ -10,7 +10,7 @@ use Rattle.pw_tlvs.specs.declared.fec_value.FecValue.{FecValue}
 use Rattle.pw_tlvs.specs.declared.fec_value.FecValue.TheVariants.{Pw, Foreign}
 use Rattle.pw_tlvs.specs.declared.field_fault.FieldFault.{FieldFault}
 use Rattle.pw_tlvs.specs.declared.field_fault.FieldFault.TheVariants.{Value}
-use Rattle.pw_tlvs.specs.Faults.{IsFirst as IsFirstIn}
+use Rattle.pw_tlvs.specs.Faults.{IsFirstIn}
 use Rattle.pw_tlvs.specs.Fec.{IsFecValue}
 use Rattle.pw_tlvs.proofs.FaultLemmas.{first_alone}
 use Rattle.pw_tlvs.proofs.FecLemmas.{one_fec, never_fec}
@@ -20,7 +20,7 @@ use Rattle.ldp_grammar.specs.declared.cause.Cause.TheVariants as cause
 use Rattle.ldp_grammar.specs.Octets.{two_at, four_at}
 use Rattle.ldp_grammar.specs.Rows.{Row, fec}
 use Rattle.ldp_grammar.specs.Layouts.{fits, most, listed}
-use Rattle.ldp_grammar.specs.Tlvs.{Tlv, type_in, spell_tlv, IsTlv, IsJoined, count_of, StandsFirst, IsForeign, HasContent, HasValue, IsFitting, KeepsTo, HasRoom, IsFaultless}
+use Rattle.ldp_grammar.specs.Tlvs.{Tlv, type_in, spell_tlv, IsTlv, IsJoined, count_of, StandsFirst, IsForeign, HasContent, HasValue, IsFitting, KeepsTo, MayComeAgain, IsFaultless}
 use Rattle.ldp_grammar.specs.FirstFault.{IsFirst, NamesTlvs, IsFirstTlvFault, ContentFault, fault_in, moved}
 use Rattle.ldp_grammar.proofs.OctetLemmas.{AreOctets}
 use Rattle.ldp_grammar.proofs.ItemLemmas.{items_more}
@@ -126,12 +126,12 @@ content_reading body field.Vccv value are fit = fine tt
 
 -- what stands behind some TLVs of a message comes to
 pub data TlvHere (row : Row) (body : List ℕ) (ts : List Tlv) (rest : List ℕ) : Type 0 where
-  taken : (t : Tlv) (more : List ℕ) → rest ≡ spell_tlv t ++ more → IsTlv t → IsFitting row body t → HasRoom (listed row (type_in t.word)) (count_of (type_in t.word) ts) → TlvHere row body ts rest
+  taken : (t : Tlv) (more : List ℕ) → rest ≡ spell_tlv t ++ more → IsTlv t → IsFitting row body t → MayComeAgain (listed row (type_in t.word)) (count_of (type_in t.word) ts) → TlvHere row body ts rest
   wrong : (f : Fault) → IsFirstTlvFault row body ts rest f → f.place < length rest → TlvHere row body ts rest
 
 -- whether one more of a type may come
 data Room (o : Option Field) (count : ℕ) : Type 0 where
-  room : HasRoom o count → Room o count
+  room : MayComeAgain o count → Room o count
   full : (field : Field) → o ≡ Some field → most field ≤ count → Room o count
 
 room_of : (o : Option Field) (count : ℕ) → Room o count
@@ -143,7 +143,7 @@ room_of (Some field) count = elim (cases_lt count (most field)) [
 
 -- a TLV that the row lists stands here, and another one may come
 listed_here : (row : Row) (body : List ℕ) (ts : List Tlv) (rest value more : List ℕ) (f : Field) → AreOctets body → rest ≡ spell_tlv (record { word = two_at 0 rest; value = value }) ++ more → IsTlv (record { word = two_at 0 rest; value = value })
-    → HasRoom (listed row (type_in (two_at 0 rest))) (count_of (type_in (two_at 0 rest)) ts) → listed row (type_in (two_at 0 rest)) ≡ Some f → TlvHere row body ts rest
+    → MayComeAgain (listed row (type_in (two_at 0 rest))) (count_of (type_in (two_at 0 rest)) ts) → listed row (type_in (two_at 0 rest)) ≡ Some f → TlvHere row body ts rest
 listed_here row body ts rest value more f are e is has_room is_listed =
     let t : Tlv = record { word = two_at 0 rest; value = value } in
     let size = size_of t more in
@@ -158,7 +158,7 @@ listed_here row body ts rest value more f are e is has_room is_listed =
     ]
 
 whole_here : (row : Row) (body : List ℕ) (ts : List Tlv) (rest value more : List ℕ) → AreOctets body → rest ≡ spell_tlv (record { word = two_at 0 rest; value = value }) ++ more → IsTlv (record { word = two_at 0 rest; value = value })
-    → HasRoom (listed row (type_in (two_at 0 rest))) (count_of (type_in (two_at 0 rest)) ts) → (o : Option Field) → listed row (type_in (two_at 0 rest)) ≡ o → TlvHere row body ts rest
+    → MayComeAgain (listed row (type_in (two_at 0 rest))) (count_of (type_in (two_at 0 rest)) ts) → (o : Option Field) → listed row (type_in (two_at 0 rest)) ≡ o → TlvHere row body ts rest
 whole_here row body ts rest value more are e is has_room None is_listed =
     taken (record { word = two_at 0 rest; value = value }) more e is (subst (λ (o : Option Field). HasValue body o value) (sym is_listed) tt) has_room
 whole_here row body ts rest value more are e is has_room (Some f) is_listed = listed_here row body ts rest value more f are e is has_room is_listed

@@ -13,7 +13,7 @@ use Rattle.pw_tlvs.specs.declared.pw_fec.PwFec.{PwFec}
 use Rattle.pw_tlvs.specs.declared.pw_status.PwStatus.{PwStatus}
 use Rattle.pw_tlvs.specs.Fec.{IsPwFec}
 use Rattle.pw_tlvs.specs.Macs.{mac_octets}
-use Rattle.pw_tlvs.specs.Status.{written_status, IsStatus as IsPwStatus}
+use Rattle.pw_tlvs.specs.Status.{written_status, IsPwStatus}
 use Rattle.pw_tlvs.specs.Written.{written_fec, writable_fec, IsFecInRange, IsPointInRange}
 use Rattle.pw_tlvs.proofs.LawLemmas.{fec_again, status_again}
 use Rattle.ldp_grammar.specs.declared.address_list.AddressList.{AddressList}
@@ -30,7 +30,7 @@ use Rattle.ldp_grammar.specs.Rows.{row_of, fec, label, mac_list, request_id, pw_
 use Rattle.ldp_grammar.specs.Layouts.{listed}
 use Rattle.ldp_grammar.specs.Tlvs.{Tlv, spell_tlv, count_of, value_of, reason_of, OfBoth, KeepsTo, IsFitting, IsReason}
 use Rattle.ldp_grammar.specs.Spells.{IsSpelling, IsRead, Means, StandsFor, Spells}
-use Rattle.ldp_grammar.specs.Written.{message_octets, written_spelling, written, writable, Fits, IsId, AreParams, IsAddress4, are_whole, tlv, status_octets, hello_octets, session_octets, addresses_octets, id_octets, transport_tlvs, written_tlvs, ignorable, point_tlvs, writable_fecs, withdraws, IsState, AreSixOctets, HasFamily, WrittenIsRead}
+use Rattle.ldp_grammar.specs.Written.{message_octets, written_spelling, written, writable, Fits, IsId, AreParams, IsAddress4, are_whole, tlv, status_octets, hello_octets, session_octets, addresses_octets, id_octets, transport_tlvs, written_tlvs, ignorable, point_tlvs, writable_fecs, is_withdrawal, IsState, AreSixOctets, HasFamily, WrittenIsRead}
 use Rattle.ldp_grammar.proofs.WrittenLemmas.{status_back, hello_back, session_back, addresses_fit, keeps_none, keeps_alone, keeps_two, keeps_distinct, keeps_points, AreDistinct, HaveWords, all_fit, fec_told, has_pw_id, label_back, number_back, macs_fit, points_words, points_fitting, points_back, points_known, none_missing}
 use Rattle.ldp_grammar.proofs.OctetLemmas.{read_two}
 use Rattle.ldp_grammar.proofs.PduLemmas.{length_of, count_of as size_of_pdu}
@@ -146,7 +146,7 @@ read_address id family octets fits whole few = record {
 list_told : (a : AddressList) → a.family < 65536 → a.family ≡ two_at 0 (addresses_octets a.family a.octets)
 list_told a fits = sym (read_two a.family a.octets fits)
 
-read_withdraw : (id : ℕ) (addresses : Option AddressList) (pw : Option PwFec) (macs : Option (List Mac)) → HasFamily addresses → withdraws addresses pw macs ≡ true → writable_fecs pw ≡ true → IfSome pw IsFecInRange → AreSixOctets macs
+read_withdraw : (id : ℕ) (addresses : Option AddressList) (pw : Option PwFec) (macs : Option (List Mac)) → HasFamily addresses → is_withdrawal addresses pw macs ≡ true → writable_fecs pw ≡ true → IfSome pw IsFecInRange → AreSixOctets macs
     → length (flat_map spell_tlv (written_tlvs (message.AddressWithdraw id addresses pw macs))) < 65536
     → IsRead kind.AddressWithdraw id (flat_map spell_tlv (written_tlvs (message.AddressWithdraw id addresses pw macs))) (message.AddressWithdraw id addresses pw macs)
 read_withdraw id None None macs family tells can within six few = absurd (cc)
@@ -251,7 +251,7 @@ told (message.Address id family octets) can fits size = record {
   stands = read_address id family octets fits.1 can (omega (arith, size, length-append octets []));
 }
 told (message.AddressWithdraw id addresses pw macs) can fits size =
-    let both = and_parts (withdraws addresses pw macs) (writable_fecs pw) can in
+    let both = and_parts (is_withdrawal addresses pw macs) (writable_fecs pw) can in
     record {
       spelling = (omega arith, omega (arith, size), fits.0);
       stands = read_withdraw id addresses pw macs fits.1 both.0 both.1 fits.2 fits.3 (omega (arith, size));

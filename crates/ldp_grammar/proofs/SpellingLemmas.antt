@@ -1,7 +1,7 @@
 -- Octets of TLVs and of messages.
 use Rattle.std.proofs.Common.{◌≡◌, ◌+◌, ◌++◌, ℕ, List, [], ◌∷◌, length, refl, arith}
 use Rattle.ldp_grammar.specs.Tlvs.{spell_tlv, IsTlv}
-use Rattle.ldp_grammar.specs.Spells.{spell, IsSpelling}
+use Rattle.ldp_grammar.specs.Spells.{spell_message, IsSpelling}
 use Rattle.ldp_grammar.proofs.OctetLemmas.{same_two, same_four}
 use Rattle.ldp_grammar.proofs.ItemLemmas.{ArePrefixFree}
 
@@ -23,7 +23,7 @@ tlvs_apart s t more rest is_s is_t e =
     let (value, left) = same_front s.value t.value more rest len tail in
     ((λ i. record { word = word i; value = value i }), left)
 
-pub messages_apart : ArePrefixFree spell IsSpelling
+pub messages_apart : ArePrefixFree spell_message IsSpelling
 messages_apart s t more rest is_s is_t e =
     let word : s.word ≡ t.word = same_two s.word t.word is_s.0 is_t.0 (cc (e)) (cc (e)) in
     let len : 4 + length s.body ≡ 4 + length t.body = same_two (4 + length s.body) (4 + length t.body) is_s.1 is_t.1 (cc (e)) (cc (e)) in

@@ -11,7 +11,7 @@ use Rattle.pw_tlvs.specs.declared.fec_value.FecValue.TheVariants.{Pw, Foreign}
 use Rattle.pw_tlvs.specs.declared.point.Point.{Point}
 use Rattle.pw_tlvs.specs.Fec.{IsFecValue, IsPwFec}
 use Rattle.pw_tlvs.specs.Macs.{AreMacs}
-use Rattle.pw_tlvs.specs.Status.{IsStatus as IsPwStatus}
+use Rattle.pw_tlvs.specs.Status.{IsPwStatus}
 use Rattle.pw_tlvs.proofs.ReadingLemmas.{told, refused, macs_reading}
 use Rattle.ldp_grammar.specs.declared.message.Message.{Message}
 use Rattle.ldp_grammar.specs.declared.message.Message.TheVariants as message
@@ -22,7 +22,7 @@ use Rattle.ldp_grammar.specs.Octets.{two_at, four_at, bit}
 use Rattle.ldp_grammar.specs.Rows.{Row, row_of, type_of, is_in, fec, address_list, label, status, hello_parameters, transport_address, mac_list, session_parameters, request_id, pw_status, switching_point}
 use Rattle.ldp_grammar.specs.Layouts.{listed}
 use Rattle.ldp_grammar.specs.Tlvs.{Tlv, type_in, IsJoined, IsFaultless, IsFitting, HasValue, OfBoth, IsReason, value_of, values_of, fec_value, where_listed, fec_reason, reason_of, first_absent, first_unknown, missing}
-use Rattle.ldp_grammar.specs.Values.{IsStatus, IsHello, IsSession, IsAddresses, IsAddressList, IsAddress, IsNumber, ArePoints}
+use Rattle.ldp_grammar.specs.Values.{IsStatus, IsHello, IsSession, IsAddresses, IsAddressList, IsTransportAddress, IsNumber, ArePoints}
 use Rattle.ldp_grammar.specs.Spells.{OfValue, Means, Tells, IsRead}
 use Rattle.ldp_grammar.proofs.TlvLemmas.{value_fits, none_of, needed_there, rows_have_fields}
 use Rattle.ldp_grammar.proofs.ForeignLemmas.{no_reason, told_pw}
@@ -73,7 +73,7 @@ session_made v = record {
 state_made : (v : List ℕ) → length v ≡ 4 → Made IsPwStatus v
 state_made v four = record { value = record { 0 = big_number 4 v }; is = record { size = four; bits = refl } }
 
-address_made : (v : List ℕ) → Made IsAddress v
+address_made : (v : List ℕ) → Made IsTransportAddress v
 address_made v = record { value = record { 0 = v }; is = refl }
 
 list_made : (v : List ℕ) → Made IsAddressList v
@@ -203,7 +203,7 @@ meant kind.Notification id body ts faultless reason =
     record { message = message.Notification id code.value state.value pw.value; means = (refl, code.is, state.is, pw.is) }
 meant kind.Hello id body ts faultless reason =
     let told = hello_told (value_of hello_parameters ts) (needed kind.Hello ts hello_parameters reason refl refl) in
-    let address = of_further IsAddress (value_of transport_address ts) (λ v e. address_made v) in
+    let address = of_further IsTransportAddress (value_of transport_address ts) (λ v e. address_made v) in
     record { message = message.Hello id told.hold told.targeted told.request address.value; means = (refl, told.is, address.is) }
 meant kind.Initialization id body ts faultless reason =
     let params = of_needed IsSession (value_of session_parameters ts) (needed kind.Initialization ts session_parameters reason refl refl) (λ v e. session_made v) in

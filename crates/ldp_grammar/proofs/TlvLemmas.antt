@@ -7,7 +7,7 @@ use Rattle.net_values.specs.declared.field.Field.{Field}
 use Rattle.net_values.specs.declared.field.Field.TheVariants as field
 use Rattle.pw_tlvs.specs.declared.field_fault.FieldFault.{FieldFault}
 use Rattle.pw_tlvs.specs.declared.field_fault.FieldFault.TheVariants.{Size, Value, Repeated}
-use Rattle.pw_tlvs.specs.Faults.{IsFirst as IsFirstIn, IsInside, Precedes as PrecedesIn, place_of}
+use Rattle.pw_tlvs.specs.Faults.{IsFirstIn, IsInside, PrecedesIn, fault_place}
 use Rattle.pw_tlvs.proofs.FaultLemmas.{field_rank_below}
 use Rattle.pw_tlvs.proofs.FecLemmas.{never_fec, fec_inside}
 use Rattle.pw_tlvs.proofs.PointLemmas.{never_point, point_inside}
@@ -19,7 +19,7 @@ use Rattle.ldp_grammar.specs.declared.message_kind.MessageKind.{MessageKind}
 use Rattle.ldp_grammar.specs.declared.message_kind.MessageKind.TheVariants.{Notification, Hello, Initialization, KeepAlive, Address, AddressWithdraw, LabelMapping, LabelRequest, LabelWithdraw, LabelRelease, LabelAbort}
 use Rattle.ldp_grammar.specs.Rows.{Row, row_of, is_in}
 use Rattle.ldp_grammar.specs.Layouts.{field_of, fits, most, listed}
-use Rattle.ldp_grammar.specs.Tlvs.{Tlv, type_in, spell_tlv, IsTlv, IsJoined, count_of, value_of, HasContent, HasValue, IsFitting, KeepsTo, HasRoom, IsFaultless, first_absent}
+use Rattle.ldp_grammar.specs.Tlvs.{Tlv, type_in, spell_tlv, IsTlv, IsJoined, count_of, value_of, HasContent, HasValue, IsFitting, KeepsTo, MayComeAgain, IsFaultless, first_absent}
 use Rattle.ldp_grammar.specs.FirstFault.{TlvFault, IsTlvFault, CutsTlv, IsRepeated, ContentFault, fault_in, IsWrongContent, Precedes, NamesTlvs, IsFirst, IsFirstTlvFault, IsNamedIn, moved, rank}
 use Rattle.ldp_grammar.proofs.ItemLemmas.{AreClean, first_behind, none_named, items_more, item_at, one_list}
 use Rattle.ldp_grammar.proofs.SpellingLemmas.{tlvs_apart}
@@ -55,8 +55,8 @@ keeps_to o field count is keeps = subst (λ (x : Option Field). KeepsTo x count)
 has_value : (body : List ℕ) (o : Option Field) (field : Field) (value : List ℕ) → o ≡ Some field → HasValue body o value → (fits field value ≡ true) × HasContent body field value
 has_value body o field value is has = subst (λ (x : Option Field). HasValue body x value) is has
 
-has_room : (o : Option Field) (field : Field) (count : ℕ) → o ≡ Some field → HasRoom o count → count < most field
-has_room o field count is has = subst (λ (x : Option Field). HasRoom x count) is has
+has_room : (o : Option Field) (field : Field) (count : ℕ) → o ≡ Some field → MayComeAgain o count → count < most field
+has_room o field count is has = subst (λ (x : Option Field). MayComeAgain x count) is has
 
 same_field : (o : Option Field) (f g : Field) → o ≡ Some f → o ≡ Some g → f ≡ g
 same_field o f g is_f is_g = cc
@@ -217,13 +217,13 @@ repeated_tlv row body ts rest field whole is_listed full = record {
 }
 
 -- the Length is past the end
-no_repeat : (row : Row) (ts : List Tlv) (rest : List ℕ) (field : Field) → HasRoom (listed row (type_in (two_at 0 rest))) (count_of (type_in (two_at 0 rest)) ts) → IsRepeated row ts rest field → ⊥
+no_repeat : (row : Row) (ts : List Tlv) (rest : List ℕ) (field : Field) → MayComeAgain (listed row (type_in (two_at 0 rest))) (count_of (type_in (two_at 0 rest)) ts) → IsRepeated row ts rest field → ⊥
 no_repeat row ts rest field room names = omega (arith, has_room _ field _ names.is_listed room, names.full)
 
 pub uncut_at : (rest more : List ℕ) (t : Tlv) (place : ℕ) → IsTlv t → rest ≡ spell_tlv t ++ more → CutsTlv rest place → ⊥
 uncut_at rest more t place is e cuts = uncut t more place is (subst (λ (l : List ℕ). CutsTlv l place) e cuts)
 
-long_first : (row : Row) (ts : List Tlv) (rest : List ℕ) → 4 ≤ length rest → length rest < 4 + two_at 2 rest → HasRoom (listed row (type_in (two_at 0 rest))) (count_of (type_in (two_at 0 rest)) ts) → (c : Cause) (place : ℕ) → TlvFault row ts rest c place
+long_first : (row : Row) (ts : List Tlv) (rest : List ℕ) → 4 ≤ length rest → length rest < 4 + two_at 2 rest → MayComeAgain (listed row (type_in (two_at 0 rest))) (count_of (type_in (two_at 0 rest)) ts) → (c : Cause) (place : ℕ) → TlvFault row ts rest c place
     → Precedes (record { place = 2; cause = cause.TlvLength }) (record { place = place; cause = c })
 long_first row ts rest whole past room cause.Version place names = absurd names
 long_first row ts rest whole past room cause.PduLength place names = absurd names
@@ -233,12 +233,12 @@ long_first row ts rest whole past room cause.TlvLength place (inr long) = inr (s
 long_first row ts rest whole past room (cause.TlvValue field) place names = absurd (uncut_at rest names.1.more names.1.tlv 2 names.1.is_tlv names.1.split (inr (whole, past, refl)))
 long_first row ts rest whole past room (cause.Repeated field) place names = absurd (no_repeat row ts rest field room names.1)
 
-long_before : (row : Row) (body : List ℕ) (ts : List Tlv) (rest : List ℕ) → 4 ≤ length rest → length rest < 4 + two_at 2 rest → HasRoom (listed row (type_in (two_at 0 rest))) (count_of (type_in (two_at 0 rest)) ts) → (g : Fault) → IsTlvFault row body ts rest g
+long_before : (row : Row) (body : List ℕ) (ts : List Tlv) (rest : List ℕ) → 4 ≤ length rest → length rest < 4 + two_at 2 rest → MayComeAgain (listed row (type_in (two_at 0 rest))) (count_of (type_in (two_at 0 rest)) ts) → (g : Fault) → IsTlvFault row body ts rest g
     → Precedes (record { place = 2; cause = cause.TlvLength }) g
 long_before row body ts rest whole past room g (inl names) = long_first row ts rest whole past room g.cause g.place names
 long_before row body ts rest whole past room g (inr w) = absurd (uncut_at rest w.more w.tlv 2 w.is_tlv w.split (inr (whole, past, refl)))
 
-pub long_tlv : (row : Row) (body : List ℕ) (ts : List Tlv) (rest : List ℕ) → 4 ≤ length rest → length rest < 4 + two_at 2 rest → HasRoom (listed row (type_in (two_at 0 rest))) (count_of (type_in (two_at 0 rest)) ts) → IsFirstTlvFault row body ts rest (record { place = 2; cause = cause.TlvLength })
+pub long_tlv : (row : Row) (body : List ℕ) (ts : List Tlv) (rest : List ℕ) → 4 ≤ length rest → length rest < 4 + two_at 2 rest → MayComeAgain (listed row (type_in (two_at 0 rest))) (count_of (type_in (two_at 0 rest)) ts) → IsFirstTlvFault row body ts rest (record { place = 2; cause = cause.TlvLength })
 long_tlv row body ts rest whole past room = record {
   named = inl (inr (whole, past, refl));
   first = λ g names. long_before row body ts rest whole past room g names;
@@ -246,7 +246,7 @@ long_tlv row body ts rest whole past room = record {
 }
 
 -- the value does not fit
-misfit_first : (row : Row) (ts : List Tlv) (rest more : List ℕ) (t : Tlv) (field : Field) → IsTlv t → rest ≡ spell_tlv t ++ more → listed row (type_in t.word) ≡ Some field → HasRoom (listed row (type_in (two_at 0 rest))) (count_of (type_in (two_at 0 rest)) ts) → (c : Cause) (place : ℕ) → TlvFault row ts rest c place
+misfit_first : (row : Row) (ts : List Tlv) (rest more : List ℕ) (t : Tlv) (field : Field) → IsTlv t → rest ≡ spell_tlv t ++ more → listed row (type_in t.word) ≡ Some field → MayComeAgain (listed row (type_in (two_at 0 rest))) (count_of (type_in (two_at 0 rest)) ts) → (c : Cause) (place : ℕ) → TlvFault row ts rest c place
     → Precedes (record { place = 2; cause = cause.TlvValue field }) (record { place = place; cause = c })
 misfit_first row ts rest more t field is e is_listed room cause.Version place names = absurd names
 misfit_first row ts rest more t field is e is_listed room cause.PduLength place names = absurd names
@@ -295,14 +295,14 @@ speaks_of row body rest more t field is e is_listed g w =
       is = w.is ∙ ap (λ (f : Field). fault_in f w.here) (sym same);
     }
 
-misfit_before : (row : Row) (body : List ℕ) (ts : List Tlv) (rest more : List ℕ) (t : Tlv) (field : Field) → IsTlv t → rest ≡ spell_tlv t ++ more → listed row (type_in t.word) ≡ Some field → HasRoom (listed row (type_in (two_at 0 rest))) (count_of (type_in (two_at 0 rest)) ts) → fits field t.value ≡ false
+misfit_before : (row : Row) (body : List ℕ) (ts : List Tlv) (rest more : List ℕ) (t : Tlv) (field : Field) → IsTlv t → rest ≡ spell_tlv t ++ more → listed row (type_in t.word) ≡ Some field → MayComeAgain (listed row (type_in (two_at 0 rest))) (count_of (type_in (two_at 0 rest)) ts) → fits field t.value ≡ false
     → (g : Fault) → IsTlvFault row body ts rest g → Precedes (record { place = 2; cause = cause.TlvValue field }) g
 misfit_before row body ts rest more t field is e is_listed room misfits g (inl names) = misfit_first row ts rest more t field is e is_listed room g.cause g.place names
 misfit_before row body ts rest more t field is e is_listed room misfits g (inr w) =
     let s = speaks_of row body rest more t field is e is_listed g w in
     absurd (misfit_holds_nothing body field t.value s.here misfits s.names)
 
-pub misfit_tlv : (row : Row) (body : List ℕ) (ts : List Tlv) (rest more : List ℕ) (t : Tlv) (field : Field) → IsTlv t → rest ≡ spell_tlv t ++ more → listed row (type_in t.word) ≡ Some field → HasRoom (listed row (type_in (two_at 0 rest))) (count_of (type_in (two_at 0 rest)) ts) → fits field t.value ≡ false
+pub misfit_tlv : (row : Row) (body : List ℕ) (ts : List Tlv) (rest more : List ℕ) (t : Tlv) (field : Field) → IsTlv t → rest ≡ spell_tlv t ++ more → listed row (type_in t.word) ≡ Some field → MayComeAgain (listed row (type_in (two_at 0 rest))) (count_of (type_in (two_at 0 rest)) ts) → fits field t.value ≡ false
     → IsFirstTlvFault row body ts rest (record { place = 2; cause = cause.TlvValue field })
 misfit_tlv row body ts rest more t field is e is_listed room misfits = record {
   named = inl (refl, record { tlv = t; more = more; split = e; is_tlv = is; is_listed = is_listed; misfits = misfits });
@@ -311,7 +311,7 @@ misfit_tlv row body ts rest more t field is e is_listed room misfits = record {
 }
 
 -- the value of the TLV here is at fault
-fitting_first : (row : Row) (ts : List Tlv) (rest more : List ℕ) (t : Tlv) (field : Field) → IsTlv t → rest ≡ spell_tlv t ++ more → listed row (type_in t.word) ≡ Some field → HasRoom (listed row (type_in (two_at 0 rest))) (count_of (type_in (two_at 0 rest)) ts) → fits field t.value ≡ true
+fitting_first : (row : Row) (ts : List Tlv) (rest more : List ℕ) (t : Tlv) (field : Field) → IsTlv t → rest ≡ spell_tlv t ++ more → listed row (type_in t.word) ≡ Some field → MayComeAgain (listed row (type_in (two_at 0 rest))) (count_of (type_in (two_at 0 rest)) ts) → fits field t.value ≡ true
     → (c : Cause) (place : ℕ) → TlvFault row ts rest c place → ⊥
 fitting_first row ts rest more t field is e is_listed room fitting cause.Version place names = names
 fitting_first row ts rest more t field is e is_listed room fitting cause.PduLength place names = names
@@ -326,7 +326,7 @@ fitting_first row ts rest more t field is e is_listed room fitting (cause.TlvVal
     let good : fits other t.value ≡ true = ap (λ (f : Field). fits f t.value) (sym same) ∙ fitting in
     cc (sym good ∙ bad)
 
-content_before : (row : Row) (body : List ℕ) (ts : List Tlv) (rest more : List ℕ) (t : Tlv) (field : Field) (here : FieldFault) → IsTlv t → rest ≡ spell_tlv t ++ more → listed row (type_in t.word) ≡ Some field → HasRoom (listed row (type_in (two_at 0 rest))) (count_of (type_in (two_at 0 rest)) ts) → fits field t.value ≡ true
+content_before : (row : Row) (body : List ℕ) (ts : List Tlv) (rest more : List ℕ) (t : Tlv) (field : Field) (here : FieldFault) → IsTlv t → rest ≡ spell_tlv t ++ more → listed row (type_in t.word) ≡ Some field → MayComeAgain (listed row (type_in (two_at 0 rest))) (count_of (type_in (two_at 0 rest)) ts) → fits field t.value ≡ true
     → IsFirstIn (ContentFault body field t.value) here → (g : Fault) → IsTlvFault row body ts rest g → Precedes (fault_in field here) g
 content_before row body ts rest more t field here is e is_listed room fitting first g (inl names) = absurd (fitting_first row ts rest more t field is e is_listed room fitting g.cause g.place names)
 content_before row body ts rest more t field here is e is_listed room fitting first g (inr w) =
@@ -337,7 +337,7 @@ content_before row body ts rest more t field here is e is_listed room fitting fi
 pub content_inside : (body : List ℕ) (f : Field) (value : List ℕ) (fault : FieldFault) → ContentFault body f value fault → IsInside value fault
 content_inside body field.Fec value fault names = fec_inside value fault names
 content_inside body field.AddressList value fault names = absurd names
-content_inside body field.Label value fault names = inr (omega (arith, names.0, ap place_of names.3))
+content_inside body field.Label value fault names = inr (omega (arith, names.0, ap fault_place names.3))
 content_inside body field.Status value fault names = absurd names
 content_inside body field.Hello value fault names = absurd names
 content_inside body field.Transport value fault names = absurd names
@@ -360,7 +360,7 @@ near_of f value (Value at inner) (inr less) = omega (arith, less)
 near_of f value (Repeated at inner) (inl e) = absurd (cc)
 near_of f value (Repeated at inner) (inr less) = omega (arith, less)
 
-pub content_tlv : (row : Row) (body : List ℕ) (ts : List Tlv) (rest more : List ℕ) (t : Tlv) (field : Field) (here : FieldFault) → IsTlv t → rest ≡ spell_tlv t ++ more → listed row (type_in t.word) ≡ Some field → HasRoom (listed row (type_in (two_at 0 rest))) (count_of (type_in (two_at 0 rest)) ts) → fits field t.value ≡ true
+pub content_tlv : (row : Row) (body : List ℕ) (ts : List Tlv) (rest more : List ℕ) (t : Tlv) (field : Field) (here : FieldFault) → IsTlv t → rest ≡ spell_tlv t ++ more → listed row (type_in t.word) ≡ Some field → MayComeAgain (listed row (type_in (two_at 0 rest))) (count_of (type_in (two_at 0 rest)) ts) → fits field t.value ≡ true
     → IsFirstIn (ContentFault body field t.value) here → IsFirstTlvFault row body ts rest (fault_in field here)
 content_tlv row body ts rest more t field here is e is_listed room fitting first = record {
   named = inr (record { tlv = t; more = more; split = e; is_tlv = is; field = field; is_listed = is_listed; here = here; names = first.named; is = refl });
@@ -371,11 +371,11 @@ content_tlv row body ts rest more t field here is e is_listed room fitting first
 }
 
 -- one more TLV without fault
-keeps_more : (o : Option Field) (count more : ℕ) → more ≡ count + 1 → HasRoom o count → KeepsTo o more
+keeps_more : (o : Option Field) (count more : ℕ) → more ≡ count + 1 → MayComeAgain o count → KeepsTo o more
 keeps_more None count more e room = tt
 keeps_more (Some field) count more e room = omega (arith, e, room)
 
-pub faultless_more : (row : Row) (body : List ℕ) (ts : List Tlv) (t : Tlv) → IsFaultless row body ts → IsFitting row body t → HasRoom (listed row (type_in t.word)) (count_of (type_in t.word) ts) → IsFaultless row body (ts ++ t ∷ [])
+pub faultless_more : (row : Row) (body : List ℕ) (ts : List Tlv) (t : Tlv) → IsFaultless row body ts → IsFitting row body t → MayComeAgain (listed row (type_in t.word)) (count_of (type_in t.word) ts) → IsFaultless row body (ts ++ t ∷ [])
 faultless_more row body ts t faultless fitting room = record {
   values = items_more (IsFitting row body) ts t faultless.values fitting;
   counts = λ kind. elim (cases_Bool (nat_eq (type_in t.word) kind)) [

@@ -19,7 +19,7 @@ use Rattle.ldp_grammar.specs.Octets.{two_at, four_at}
 use Rattle.ldp_grammar.specs.Rows.{Row, kind_of, row_of}
 use Rattle.ldp_grammar.specs.Layouts.{fits, most, listed}
 use Rattle.ldp_grammar.specs.Tlvs.{Tlv, type_in, spell_tlv, IsTlv, count_of, IsForeign}
-use Rattle.ldp_grammar.specs.Spells.{Spelling, spell, IsSpelling, IsFramed, Spells}
+use Rattle.ldp_grammar.specs.Spells.{Spelling, spell_message, IsSpelling, IsFramed, Spells}
 
 -- a number above the rank of every cause that names a field once
 abbrev pub beyond_values : ℕ
@@ -143,10 +143,10 @@ LengthFault rest cause.MessageLength place = CutsMessage rest place
 LengthFault rest other place = ⊥
 
 -- the fault is one of the TLVs of the message here
-pub record IsWithin (rest : List ℕ) (fault : Fault) : Type 0 where
+pub record IsInTlvs (rest : List ℕ) (fault : Fault) : Type 0 where
   pub message : Spelling
   pub more : List ℕ
-  pub split : rest ≡ spell message ++ more
+  pub split : rest ≡ spell_message message ++ more
   pub is_message : IsSpelling message
   pub kind : MessageKind
   pub known : kind_of (message.word % 2 ^ 15) ≡ Some kind
@@ -156,15 +156,15 @@ pub record IsWithin (rest : List ℕ) (fault : Fault) : Type 0 where
 
 -- the faults that are named behind some messages of a PDU
 abbrev pub IsMessageFault : List Spelling → List ℕ → Fault → Type 0
-IsMessageFault before rest f = LengthFault rest f.cause f.place ⊎ IsWithin rest f
+IsMessageFault before rest f = LengthFault rest f.cause f.place ⊎ IsInTlvs rest f
 
 -- the first of the faults that are named there
 abbrev pub IsFirstMessageFault : List Spelling → List ℕ → Fault → Type 0
-IsFirstMessageFault = IsFirstHere spell IsSpelling IsMessageFault
+IsFirstMessageFault = IsFirstHere spell_message IsSpelling IsMessageFault
 
 -- the faults of messages one after another
 abbrev pub NamesMessages : List ℕ → Fault → Type 0
-NamesMessages body = IsNamedIn spell IsSpelling IsMessageFault body
+NamesMessages body = IsNamedIn spell_message IsSpelling IsMessageFault body
 
 -- no PDU Length is there, or it is out of range, or it does not count the octets behind it
 abbrev pub IsMiscounted : List ℕ → ℕ → Type 0
@@ -177,7 +177,7 @@ HeaderFault bytes max cause.PduLength place = (place ≡ 2) × IsMiscounted byte
 HeaderFault bytes max other place = ⊥
 
 -- the fault is one of the messages of a PDU with a right header
-pub record IsInside (bytes : List ℕ) (max : ℕ) (fault : Fault) : Type 0 where
+pub record IsInMessages (bytes : List ℕ) (max : ℕ) (fault : Fault) : Type 0 where
   pub sender : List ℕ
   pub body : List ℕ
   pub framed : IsFramed bytes max sender body
@@ -187,7 +187,7 @@ pub record IsInside (bytes : List ℕ) (max : ℕ) (fault : Fault) : Type 0 wher
 
 -- the faults of octets that should spell a PDU whose PDU Length is at most this maximum
 abbrev pub Names : List ℕ → ℕ → Fault → Type 0
-Names bytes max f = HeaderFault bytes max f.cause f.place ⊎ IsInside bytes max f
+Names bytes max f = HeaderFault bytes max f.cause f.place ⊎ IsInMessages bytes max f
 
 -- the octets spell no PDU whose PDU Length is at most this maximum, and this is their first fault
 abbrev pub FirstFault : List ℕ → ℕ → Fault → Type 0

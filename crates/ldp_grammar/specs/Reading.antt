@@ -1,15 +1,12 @@
 -- What octets come to: each octets spell a PDU or have a first fault (RFC 5036 sections 3.1 and 3.3 to 3.5).
-use Rattle.std.specs.Prelude.{◌<◌, ◌≤◌, ◌&&◌, ℕ, Bool, true, nat_lt, List, [], ◌∷◌, slice_index}
+use Rattle.std.specs.Prelude.{◌≤◌, ◌&&◌, ℕ, Bool, true, nat_lt, List, [], ◌∷◌}
+use Rattle.net_values.specs.Octets.{AreOctets}
 use Rattle.ldp_grammar.specs.declared.fault.Fault.{Fault}
 use Rattle.ldp_grammar.specs.declared.pdu.Pdu.{Pdu}
 use Rattle.ldp_grammar.specs.Spells.{Spells}
 use Rattle.ldp_grammar.specs.FirstFault.{FirstFault}
 
--- each number is one that an octet holds
-abbrev pub AreOctets : List ℕ → Type 0
-AreOctets bytes = (at : ℕ) → slice_index bytes at < 256
-
--- whether each of them is
+-- whether each number is one that an octet holds
 abbrev pub are_octets : List ℕ → Bool
 are_octets [] = true
 are_octets (octet ∷ octets) = nat_lt octet 256 && are_octets octets

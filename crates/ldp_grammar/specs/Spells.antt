@@ -3,7 +3,7 @@ use Rattle.std.specs.Prelude.{◌≡◌, ◌<◌, ◌≤◌, ◌+◌, ◌^◌, �
 use Rattle.std.specs.List.{AllByRecursion}
 use Rattle.pw_tlvs.specs.Fec.{IsPwFec}
 use Rattle.pw_tlvs.specs.Macs.{AreMacs}
-use Rattle.pw_tlvs.specs.Status.{IsStatus as IsPwStatus}
+use Rattle.pw_tlvs.specs.Status.{IsPwStatus}
 use Rattle.ldp_grammar.specs.declared.message.Message.{Message}
 use Rattle.ldp_grammar.specs.declared.message.Message.TheVariants as message
 use Rattle.ldp_grammar.specs.declared.message_kind.MessageKind.{MessageKind}
@@ -13,7 +13,7 @@ use Rattle.ldp_grammar.specs.declared.why.Why.{Why}
 use Rattle.ldp_grammar.specs.Octets.{two, four, bit}
 use Rattle.ldp_grammar.specs.Rows.{fec, address_list, label, status, hello_parameters, transport_address, mac_list, session_parameters, request_id, pw_status, switching_point, kind_of, type_of, row_of}
 use Rattle.ldp_grammar.specs.Tlvs.{Tlv, IsJoined, IsFaultless, OfBoth, IsReason, value_of, values_of}
-use Rattle.ldp_grammar.specs.Values.{IsStatus, IsHello, IsSession, IsAddresses, IsAddressList, IsAddress, IsNumber, ArePoints}
+use Rattle.ldp_grammar.specs.Values.{IsStatus, IsHello, IsSession, IsAddresses, IsAddressList, IsTransportAddress, IsNumber, ArePoints}
 
 -- a message by the word with U bit and type, by its Message ID and by the octets behind that
 pub record Spelling : Type 0 where
@@ -22,8 +22,8 @@ pub record Spelling : Type 0 where
   pub body : List ℕ
 
 -- the octets of a message; its Message Length counts the Message ID and what follows
-abbrev pub spell : Spelling → List ℕ
-spell m = two m.word ++ two (4 + length m.body) ++ four m.id ++ m.body
+abbrev pub spell_message : Spelling → List ℕ
+spell_message m = two m.word ++ two (4 + length m.body) ++ four m.id ++ m.body
 
 -- the parts of a message fit their fields (RFC 5036 section 3.5)
 abbrev pub IsSpelling : Spelling → Type 0
@@ -41,7 +41,7 @@ Means kind.Notification id ts (message.Notification number code state pw) =
     × OfBoth (value_of pw_status ts) state IsPwStatus × OfBoth (value_of fec ts) pw IsPwFec
 Means kind.Hello id ts (message.Hello number hold targeted request transport) =
     (number ≡ id) × OfValue (value_of hello_parameters ts) (λ v. IsHello v hold targeted request)
-    × OfBoth (value_of transport_address ts) transport IsAddress
+    × OfBoth (value_of transport_address ts) transport IsTransportAddress
 Means kind.Initialization id ts (message.Initialization number params) = (number ≡ id) × OfValue (value_of session_parameters ts) (λ v. IsSession v params)
 Means kind.KeepAlive id ts (message.KeepAlive number) = number ≡ id
 Means kind.Address id ts (message.Address number family octets) = (number ≡ id) × OfValue (value_of address_list ts) (λ v. IsAddresses v family octets)
@@ -100,7 +100,7 @@ pub record IsFramed (bytes : List ℕ) (max : ℕ) (sender body : List ℕ) : Ty
 -- the octets spell the PDU, whose PDU Length is at most this maximum
 pub record Spells (bytes : List ℕ) (max : ℕ) (pdu : Pdu) : Type 0 where
   pub spellings : List Spelling
-  pub framed : IsFramed bytes max (pdu.id.router.0 ++ two pdu.id.space) (flat_map spell spellings)
+  pub framed : IsFramed bytes max (pdu.id.router.0 ++ two pdu.id.space) (flat_map spell_message spellings)
   pub router : length pdu.id.router.0 ≡ 4
   pub space : pdu.id.space < 2 ^ 16
   pub fit : AllByRecursion IsSpelling spellings

@@ -109,9 +109,9 @@ KeepsTo (Some field) count = count ≤ most field
 KeepsTo None count = Unit {0}
 
 -- one more may come after this many
-abbrev pub HasRoom : Option Field → ℕ → Type 0
-HasRoom (Some field) count = count < most field
-HasRoom None count = Unit {0}
+abbrev pub MayComeAgain : Option Field → ℕ → Type 0
+MayComeAgain (Some field) count = count < most field
+MayComeAgain None count = Unit {0}
 
 -- the TLVs of a message with this row and these octets are without fault
 pub record IsFaultless (row : Row) (body : List ℕ) (tlvs : List Tlv) : Type 0 where

@@ -44,8 +44,8 @@ abbrev pub IsAddressList : List ℕ → AddressList → Type 0
 IsAddressList value a = IsAddresses value a.family a.octets
 
 -- an IPv4 Transport Address (section 3.5.2)
-abbrev pub IsAddress : List ℕ → Addr → Type 0
-IsAddress value a = a.0 ≡ value
+abbrev pub IsTransportAddress : List ℕ → Addr → Type 0
+IsTransportAddress value a = a.0 ≡ value
 
 -- a Generic Label and a Label Request Message ID: a number in four octets (sections 3.4.2.1 and 3.5.9)
 abbrev pub IsNumber : List ℕ → ℕ → Type 0

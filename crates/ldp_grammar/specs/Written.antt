@@ -23,7 +23,7 @@ use Rattle.ldp_grammar.specs.Octets.{two, four}
 use Rattle.ldp_grammar.specs.Rows.{fec, address_list, label, status, hello_parameters, transport_address, mac_list, session_parameters, request_id, pw_status, switching_point, type_of}
 use Rattle.ldp_grammar.specs.Tlvs.{Tlv, spell_tlv}
 use Rattle.ldp_grammar.specs.declared.pdu.Pdu.{Pdu}
-use Rattle.ldp_grammar.specs.Spells.{Spelling, spell, Spells}
+use Rattle.ldp_grammar.specs.Spells.{Spelling, spell_message, Spells}
 
 -- a bit of the value 2 ^ place
 abbrev pub bit_as : ℕ → Bool → ℕ
@@ -147,7 +147,7 @@ written_spelling m = record { word = written_type m; id = id_of m; body = flat_m
 
 -- the octets of a message
 abbrev pub message_octets : Message → List ℕ
-message_octets m = spell (written_spelling m)
+message_octets m = spell_message (written_spelling m)
 
 -- the header of a PDU with so many octets of messages: the version, the PDU Length, which counts what follows it, and the LDP
 -- Identifier (RFC 5036 section 3.1)
@@ -169,9 +169,9 @@ writable_fecs None = true
 writable_fecs (Some pw) = writable_fec pw
 
 -- what is withdrawn: whole addresses, or what was learned on a pseudowire
-abbrev pub withdraws : Option AddressList → Option PwFec → Option (List Mac) → Bool
-withdraws (Some a) pw macs = are_whole a.family a.octets
-withdraws None pw macs = is_some pw && is_some macs
+abbrev pub is_withdrawal : Option AddressList → Option PwFec → Option (List Mac) → Bool
+is_withdrawal (Some a) pw macs = are_whole a.family a.octets
+is_withdrawal None pw macs = is_some pw && is_some macs
 
 -- The messages that can be written: not those of unknown types and those that are not processed, none with status data
 -- above 30 bits, with a part of an address or with a FEC that cannot be written, no mapping without a PW ID, and no
@@ -182,7 +182,7 @@ writable (Hello id hold targeted request transport) = true
 writable (Initialization id params) = true
 writable (KeepAlive id) = true
 writable (Address id family octets) = are_whole family octets
-writable (AddressWithdraw id addresses pw macs) = withdraws addresses pw macs && writable_fecs pw
+writable (AddressWithdraw id addresses pw macs) = is_withdrawal addresses pw macs && writable_fecs pw
 writable (LabelMapping id pw given state points) = is_some pw.pw_id && writable_fec pw
 writable (LabelRequest id pw) = writable_fec pw
 writable (LabelWithdraw id pw given) = writable_fec pw

@@ -1,7 +1,7 @@
 //! Which messages can be written, and how long they are.
 ghost use Rattle.std.specs.Prelude.{◌≡◌, ◌≤◌, ◌<◌, ◌+◌, ◌*◌, ◌++◌, ◌∷◌, ℕ, true, length, flat_map};
 ghost use Rattle.ldp_grammar.specs.Tlvs.{spell_tlv};
-ghost use Rattle.ldp_grammar.specs.Written.{address_octets, are_whole, fec_tlvs, label_tlvs, list_length, mac_count, mac_tlvs, macs_length, message_octets, point_tlvs, session_octets, status_tlvs, transport_tlvs, withdrawn_tlvs, withdraws, writable, writable_fecs, written_tlvs};
+ghost use Rattle.ldp_grammar.specs.Written.{address_octets, are_whole, fec_tlvs, is_withdrawal, label_tlvs, list_length, mac_count, mac_tlvs, macs_length, message_octets, point_tlvs, session_octets, status_tlvs, transport_tlvs, withdrawn_tlvs, writable, writable_fecs, written_tlvs};
 
 use crate::headers::{MESSAGE_HEADER, TLV_HEADER};
 use crate::{AddressList, Message, SessionParams};
@@ -34,7 +34,7 @@ fn is_withdrawal(
     fec: &Option<PwFec>,
     macs: &Option<List<Mac>>,
 ) -> bool
-    ensures { result ≡ withdraws addresses.now fec.now macs.now }
+    ensures { result ≡ is_withdrawal addresses.now fec.now macs.now }
 {
     match addresses {
         Some(list) => is_whole(list.family, &list.octets),

@@ -1,6 +1,6 @@
 //! What stands in front of the octets held.
 ghost use Rattle.std.specs.Prelude.{◌≡◌, ◌≤◌, Ok, None, IfErr, IfOk, IfSome};
-ghost use Rattle.ldp_stream.specs.Front.{HasHeader, HasPdu, IsFrontFault, IsPending, size_of};
+ghost use Rattle.ldp_stream.specs.Front.{HasPdu, HasPduHeader, IsFrontFault, IsPending, size_of};
 ghost use Rattle.ldp_stream.specs.Halt.{Halts, IsSpelledBy};
 
 use byteorder::{BigEndian, ByteOrder};
@@ -11,7 +11,7 @@ use std::alloc::Global;
 // The size of the PDU in front where its header is there, in octets, or the fault of the header.
 fn read_size(held: &[u8], max: u16) -> Result<Option<usize>, Fault>
     ensures pending { result ≡ Ok None → IsPending max held.now }
-    ensures size { IfOk result (λ size. IfSome size (λ n. (n ≡ size_of held.now) × HasHeader max held.now)) }
+    ensures size { IfOk result (λ size. IfSome size (λ n. (n ≡ size_of held.now) × HasPduHeader max held.now)) }
     ensures fault { IfErr result (IsFrontFault max held.now) }
 {
     // A wrong version is told as soon as it is there, before the PDU Length comes.

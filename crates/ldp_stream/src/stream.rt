@@ -5,7 +5,7 @@ ghost use Rattle.ldp_grammar.specs.declared.pdu.Pdu.{Pdu};
 ghost use Rattle.ldp_codec.specs.Decoded.{refusal_of};
 ghost use Rattle.ldp_stream.specs.declared.stream_fault.StreamFault.TheVariants as stop;
 ghost use Rattle.ldp_stream.specs.Front.{HasFront, IsPending};
-ghost use Rattle.ldp_stream.specs.State.{Answers, IsFaultOf, Refuses, empty, place_behind, taken_of};
+ghost use Rattle.ldp_stream.specs.State.{AnswersNext, IsFaultOf, Refuses, empty, place_behind, taken_count};
 
 use crate::StreamFault;
 use crate::buffer::Buffer;
@@ -64,7 +64,7 @@ impl Stream {
     /// 4,100 octets; none after a fault was answered. To call `next` until it answers `None` makes room for at least
     /// one octet. This takes no memory.
     pub fn feed(&mut self, piece: &[u8]) -> usize
-        ensures count { result ≡ taken_of self.old.refused (length self.old.held) (length piece.now) }
+        ensures count { result ≡ taken_count self.old.refused (length self.old.held) (length piece.now) }
         ensures held { self.new ≡ record self.old { held = self.old.held ++ take result piece.now } }
         ensures within { length self.new.held ≤ 4100 }
     {
@@ -79,7 +79,7 @@ impl Stream {
     /// before: another version as soon as two octets are held, a PDU Length out of range as soon as four are, and
     /// another fault of the PDU as soon as all of it is held (RFC 5036 sections 3.5.1.2.1 and 3.5.1.2.2).
     pub fn next(&mut self, alloc: Global) -> Result<Option<Pdu>, StreamFault>
-        ensures answer { IfOk result (Answers self.old self.new) }
+        ensures answer { IfOk result (AnswersNext self.old self.new) }
         ensures refusal { IfErr result (Refuses self.old self.new) }
         ensures waits { (result ≡ Ok None) ↔ ((self.old.refused ≡ None) × IsPending self.old.max self.old.held) }
         ensures accepts { (pdu : Pdu) (rest : List ℕ) → self.old.refused ≡ None → HasFront self.old.max self.old.held pdu rest → (result ≡ Ok (Some pdu)) ⊎ (result ≡ Err stop.NoMemory) }

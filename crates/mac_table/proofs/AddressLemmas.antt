@@ -8,7 +8,7 @@ use Rattle.std.proofs.lemmas.Slice.Eq.{bytes_eq-Decides}
 use Rattle.std.proofs.lemmas.List.Elements.{All-cons, All-head, All-tail, All-push, All-weaker, All-same, All-filter, All-contains_itself}
 use Rattle.net_values.specs.declared.mac.Mac.{Mac}
 use Rattle.mac_table.specs.declared.mac_entry.MacEntry.{MacEntry}
-use Rattle.mac_table.specs.Addresses.{AddressTable, is_of, has_address, has_room, port_of, entry_of, place_in, replaced, learned, AreDistinct, NoneAfter, IsHeld}
+use Rattle.mac_table.specs.Addresses.{AddressTable, is_of, has_address, has_room, port_of, mac_entry_of, entry_place, replaced, learned, AreDistinctAddresses, NoneAfter, IsHeld}
 
 neither : (a b : Bool) → (a || b) ≡ false → (a ≡ false) × (b ≡ false)
 neither true b e = absurd (cc)
@@ -35,7 +35,7 @@ absent-push (x ∷ xs) e address absent differs =
     let both = neither (is_of address x) (has_address xs address) absent in
     rw (both.0) (absent-push xs e address both.1 differs)
 
-distinct-push : (xs : List MacEntry) (e : MacEntry) → AreDistinct xs → has_address xs e.address ≡ false → AreDistinct (xs ++ e ∷ [])
+distinct-push : (xs : List MacEntry) (e : MacEntry) → AreDistinctAddresses xs → has_address xs e.address ≡ false → AreDistinctAddresses (xs ++ e ∷ [])
 distinct-push [] e distinct absent = (refl, tt)
 distinct-push (x ∷ xs) e distinct absent =
     let both = neither (is_of e.address x) (has_address xs e.address) absent in
@@ -51,10 +51,10 @@ absent-filter p (x ∷ xs) address absent =
     ]
 
 -- what is left of distinct entries is distinct
-pub distinct-filter : (p : MacEntry → Bool) (xs : List MacEntry) → AreDistinct xs → AreDistinct (filter p xs)
+pub distinct-filter : (p : MacEntry → Bool) (xs : List MacEntry) → AreDistinctAddresses xs → AreDistinctAddresses (filter p xs)
 distinct-filter p [] distinct = tt
 distinct-filter p (x ∷ xs) distinct =
-    elim (p x) as (λ v. AreDistinct (cond v (x ∷ filter p xs) (filter p xs))) [
+    elim (p x) as (λ v. AreDistinctAddresses (cond v (x ∷ filter p xs) (filter p xs))) [
       | true ↦ (absent-filter p xs x.address distinct.0, distinct-filter p xs distinct.1)
       | false ↦ distinct-filter p xs distinct.1
     ]
@@ -66,7 +66,7 @@ has-replaced entry (x ∷ xs) address = elim (cases_Bool (is_of entry.address x)
   | inr absent ↦ rw absent (ap (λ (b : Bool). is_of address x || b) (has-replaced entry xs address))
 ]
 
-distinct-replaced : (entry : MacEntry) (xs : List MacEntry) → AreDistinct xs → AreDistinct (replaced entry xs)
+distinct-replaced : (entry : MacEntry) (xs : List MacEntry) → AreDistinctAddresses xs → AreDistinctAddresses (replaced entry xs)
 distinct-replaced entry [] distinct = tt
 distinct-replaced entry (x ∷ xs) distinct = elim (cases_Bool (is_of entry.address x)) [
   | inl found ↦ rw found (subst (λ (m : Mac). has_address xs m ≡ false) (address_of entry.address x found) distinct.0, distinct.1)
@@ -74,10 +74,10 @@ distinct-replaced entry (x ∷ xs) distinct = elim (cases_Bool (is_of entry.addr
 ]
 
 -- distinct entries stay so when an address comes
-pub distinct-learned : (table : AddressTable) (entry : MacEntry) → AreDistinct table.entries → AreDistinct (learned table entry)
+pub distinct-learned : (table : AddressTable) (entry : MacEntry) → AreDistinctAddresses table.entries → AreDistinctAddresses (learned table entry)
 distinct-learned table entry distinct = elim (cases_Bool (has_address table.entries entry.address)) [
   | inl held ↦ rw held (distinct-replaced entry table.entries distinct)
-  | inr absent ↦ rw absent (elim (has_room table) as (λ v. AreDistinct (cond v (table.entries ++ entry ∷ []) table.entries)) [
+  | inr absent ↦ rw absent (elim (has_room table) as (λ v. AreDistinctAddresses (cond v (table.entries ++ entry ∷ []) table.entries)) [
     | true ↦ distinct-push table.entries entry distinct absent
     | false ↦ distinct
   ])
@@ -111,20 +111,20 @@ length-filter_le p (x ∷ xs) =
     ]
 
 -- the place of an address is that of an entry exactly where it is held
-pub place_held : (xs : List MacEntry) (address : Mac) → nat_lt (place_in xs address) (length xs) ≡ has_address xs address
+pub place_held : (xs : List MacEntry) (address : Mac) → nat_lt (entry_place xs address) (length xs) ≡ has_address xs address
 place_held [] address = refl
 place_held (x ∷ xs) address = elim (cases_Bool (is_of address x)) [
   | inl found ↦ rw found (first_below (length xs))
-  | inr absent ↦ rw absent (next_below (place_in xs address) (length xs) ∙ place_held xs address)
+  | inr absent ↦ rw absent (next_below (entry_place xs address) (length xs) ∙ place_held xs address)
 ]
 
 -- a write at the place of the address replaces its entry
-pub replaced_at : (entry : MacEntry) (xs : List MacEntry) → place_in xs entry.address < length xs → set xs (place_in xs entry.address) entry ≡ replaced entry xs
+pub replaced_at : (entry : MacEntry) (xs : List MacEntry) → entry_place xs entry.address < length xs → set xs (entry_place xs entry.address) entry ≡ replaced entry xs
 replaced_at entry [] within = refl
 replaced_at entry (x ∷ xs) within = elim (cases_Bool (is_of entry.address x)) [
   | inl found ↦ rw found refl
   | inr absent ↦
-      (let inside : place_in xs entry.address < length xs = omega (arith, rw absent at within) in
+      (let inside : entry_place xs entry.address < length xs = omega (arith, rw absent at within) in
       rw (absent, add-one) (ap (λ (l : List MacEntry). x ∷ l) (replaced_at entry xs inside)))
 ]
 
@@ -153,14 +153,14 @@ learned_from table entry =
     (inl refl)
 
 -- an address that is not held has no entry
-pub entry_of-absent : (xs : List MacEntry) (address : Mac) → has_address xs address ≡ false → entry_of xs address ≡ None
+pub entry_of-absent : (xs : List MacEntry) (address : Mac) → has_address xs address ≡ false → mac_entry_of xs address ≡ None
 entry_of-absent [] address absent = refl
 entry_of-absent (x ∷ xs) address absent =
     let both = neither (is_of address x) (has_address xs address) absent in
     rw (both.0) (entry_of-absent xs address both.1)
 
 -- an address that is held has an entry
-pub entry_of-held : (xs : List MacEntry) (address : Mac) → has_address xs address ≡ true → (e : MacEntry) × (entry_of xs address ≡ Some e) × (e.address ≡ address) × Contains xs e
+pub entry_of-held : (xs : List MacEntry) (address : Mac) → has_address xs address ≡ true → (e : MacEntry) × (mac_entry_of xs address ≡ Some e) × (e.address ≡ address) × Contains xs e
 entry_of-held [] address held = absurd (cc)
 entry_of-held (x ∷ xs) address held = elim (cases_Bool (is_of address x)) [
   | inl found ↦ (x, rw found refl, address_of address x found, (0, omega arith, refl))
@@ -170,14 +170,14 @@ entry_of-held (x ∷ xs) address held = elim (cases_Bool (is_of address x)) [
 ]
 
 -- the entry of an address that came is the one that came, where it was held or there was room
-entry_of-replaced_same : (entry : MacEntry) (xs : List MacEntry) → has_address xs entry.address ≡ true → entry_of (replaced entry xs) entry.address ≡ Some entry
+entry_of-replaced_same : (entry : MacEntry) (xs : List MacEntry) → has_address xs entry.address ≡ true → mac_entry_of (replaced entry xs) entry.address ≡ Some entry
 entry_of-replaced_same entry [] held = absurd (cc)
 entry_of-replaced_same entry (x ∷ xs) held = elim (cases_Bool (is_of entry.address x)) [
   | inl found ↦ rw (found, is_of-itself entry) refl
   | inr absent ↦ rw (absent, absent) (entry_of-replaced_same entry xs (rw absent at held))
 ]
 
-entry_of-replaced_other : (entry : MacEntry) (xs : List MacEntry) (address : Mac) → is_of address entry ≡ false → entry_of (replaced entry xs) address ≡ entry_of xs address
+entry_of-replaced_other : (entry : MacEntry) (xs : List MacEntry) (address : Mac) → is_of address entry ≡ false → mac_entry_of (replaced entry xs) address ≡ mac_entry_of xs address
 entry_of-replaced_other entry [] address other = refl
 entry_of-replaced_other entry (x ∷ xs) address other = elim (cases_Bool (is_of entry.address x)) [
   | inl found ↦
@@ -186,19 +186,19 @@ entry_of-replaced_other entry (x ∷ xs) address other = elim (cases_Bool (is_of
   | inr absent ↦ rw absent (ap (λ (o : Option MacEntry). cond (is_of address x) (Some x) o) (entry_of-replaced_other entry xs address other))
 ]
 
-entry_of-push : (xs : List MacEntry) (entry : MacEntry) (address : Mac) → has_address xs address ≡ false → entry_of (xs ++ entry ∷ []) address ≡ entry_of (entry ∷ []) address
+entry_of-push : (xs : List MacEntry) (entry : MacEntry) (address : Mac) → has_address xs address ≡ false → mac_entry_of (xs ++ entry ∷ []) address ≡ mac_entry_of (entry ∷ []) address
 entry_of-push [] entry address absent = refl
 entry_of-push (x ∷ xs) entry address absent =
     let both = neither (is_of address x) (has_address xs address) absent in
     rw (both.0) (entry_of-push xs entry address both.1)
 
-entry_of-push_other : (xs : List MacEntry) (entry : MacEntry) (address : Mac) → is_of address entry ≡ false → entry_of (xs ++ entry ∷ []) address ≡ entry_of xs address
+entry_of-push_other : (xs : List MacEntry) (entry : MacEntry) (address : Mac) → is_of address entry ≡ false → mac_entry_of (xs ++ entry ∷ []) address ≡ mac_entry_of xs address
 entry_of-push_other [] entry address other = rw other refl
 entry_of-push_other (x ∷ xs) entry address other =
     ap (λ (o : Option MacEntry). cond (is_of address x) (Some x) o) (entry_of-push_other xs entry address other)
 
 -- after an address came it has the entry that came, but where it was new and the table full
-pub entry_of-learned_same : (table : AddressTable) (entry : MacEntry) → (has_address table.entries entry.address || has_room table) ≡ true → entry_of (learned table entry) entry.address ≡ Some entry
+pub entry_of-learned_same : (table : AddressTable) (entry : MacEntry) → (has_address table.entries entry.address || has_room table) ≡ true → mac_entry_of (learned table entry) entry.address ≡ Some entry
 entry_of-learned_same table entry took = elim (cases_Bool (has_address table.entries entry.address)) [
   | inl held ↦ rw held (entry_of-replaced_same entry table.entries held)
   | inr absent ↦
@@ -207,10 +207,10 @@ entry_of-learned_same table entry took = elim (cases_Bool (has_address table.ent
 ]
 
 -- every other address has the entry that it had
-pub entry_of-learned_other : (table : AddressTable) (entry : MacEntry) (address : Mac) → is_of address entry ≡ false → entry_of (learned table entry) address ≡ entry_of table.entries address
-entry_of-learned_other table entry address other = elim (has_address table.entries entry.address) as (λ v. entry_of (cond v (replaced entry table.entries) (cond (has_room table) (table.entries ++ entry ∷ []) table.entries)) address ≡ entry_of table.entries address) [
+pub entry_of-learned_other : (table : AddressTable) (entry : MacEntry) (address : Mac) → is_of address entry ≡ false → mac_entry_of (learned table entry) address ≡ mac_entry_of table.entries address
+entry_of-learned_other table entry address other = elim (has_address table.entries entry.address) as (λ v. mac_entry_of (cond v (replaced entry table.entries) (cond (has_room table) (table.entries ++ entry ∷ []) table.entries)) address ≡ mac_entry_of table.entries address) [
   | true ↦ entry_of-replaced_other entry table.entries address other
-  | false ↦ elim (has_room table) as (λ v. entry_of (cond v (table.entries ++ entry ∷ []) table.entries) address ≡ entry_of table.entries address) [
+  | false ↦ elim (has_room table) as (λ v. mac_entry_of (cond v (table.entries ++ entry ∷ []) table.entries) address ≡ mac_entry_of table.entries address) [
     | true ↦ entry_of-push_other table.entries entry address other
     | false ↦ refl
   ]
@@ -224,23 +224,23 @@ pub port_of-learned_other : (table : AddressTable) (entry : MacEntry) (address :
 port_of-learned_other table entry address other = ap (λ (o : Option MacEntry). option_map (λ e. e.port) o) (entry_of-learned_other table entry address other)
 
 -- after entries were taken out an address has its entry where that one stayed
-pub entry_of-filter : (p : MacEntry → Bool) (xs : List MacEntry) (address : Mac) → AreDistinct xs → entry_of (filter p xs) address ≡ option_filter p (entry_of xs address)
+pub entry_of-filter : (p : MacEntry → Bool) (xs : List MacEntry) (address : Mac) → AreDistinctAddresses xs → mac_entry_of (filter p xs) address ≡ option_filter p (mac_entry_of xs address)
 entry_of-filter p [] address distinct = refl
 entry_of-filter p (x ∷ xs) address distinct = elim (cases_Bool (is_of address x)) [
   | inl found ↦
       (let none : has_address xs address ≡ false = subst (λ (m : Mac). has_address xs m ≡ false) (address_of address x found) distinct.0 in
-      rw found (elim (p x) as (λ v. entry_of (cond v (x ∷ filter p xs) (filter p xs)) address ≡ cond v (Some x) None) [
+      rw found (elim (p x) as (λ v. mac_entry_of (cond v (x ∷ filter p xs) (filter p xs)) address ≡ cond v (Some x) None) [
         | true ↦ rw found refl
         | false ↦ entry_of-absent (filter p xs) address (absent-filter p xs address none)
       ]))
-  | inr absent ↦ rw absent (elim (p x) as (λ v. entry_of (cond v (x ∷ filter p xs) (filter p xs)) address ≡ option_filter p (entry_of xs address)) [
+  | inr absent ↦ rw absent (elim (p x) as (λ v. mac_entry_of (cond v (x ∷ filter p xs) (filter p xs)) address ≡ option_filter p (mac_entry_of xs address)) [
     | true ↦ rw absent (entry_of-filter p xs address distinct.1)
     | false ↦ entry_of-filter p xs address distinct.1
   ])
 ]
 
 -- the same of the ports
-pub port_of-filter : (p : MacEntry → Bool) (xs : List MacEntry) (address : Mac) → AreDistinct xs → port_of (filter p xs) address ≡ option_map (λ e. e.port) (option_filter p (entry_of xs address))
+pub port_of-filter : (p : MacEntry → Bool) (xs : List MacEntry) (address : Mac) → AreDistinctAddresses xs → port_of (filter p xs) address ≡ option_map (λ e. e.port) (option_filter p (mac_entry_of xs address))
 port_of-filter p xs address distinct = ap (λ (o : Option MacEntry). option_map (λ e. e.port) o) (entry_of-filter p xs address distinct)
 
 -- where the address is not held nothing is replaced
@@ -251,19 +251,19 @@ replaced_absent entry (x ∷ xs) absent =
     rw (both.0) (ap (λ (l : List MacEntry). x ∷ l) (replaced_absent entry xs both.1))
 
 -- what one look at the place of an address says
-pub held_at : (xs : List MacEntry) (address : Mac) (place : ℕ) → place ≡ place_in xs address → place < length xs → has_address xs address ≡ true
+pub held_at : (xs : List MacEntry) (address : Mac) (place : ℕ) → place ≡ entry_place xs address → place < length xs → has_address xs address ≡ true
 held_at xs address place at within =
-    let inside : place_in xs address < length xs = subst (λ (n : ℕ). n < length xs) at within in
+    let inside : entry_place xs address < length xs = subst (λ (n : ℕ). n < length xs) at within in
     sym (place_held xs address) ∙ below_is _ _ inside
 
-pub written_at : (entry : MacEntry) (xs : List MacEntry) (place : ℕ) → place ≡ place_in xs entry.address → place < length xs → set xs place entry ≡ replaced entry xs
+pub written_at : (entry : MacEntry) (xs : List MacEntry) (place : ℕ) → place ≡ entry_place xs entry.address → place < length xs → set xs place entry ≡ replaced entry xs
 written_at entry xs place at within =
-    let inside : place_in xs entry.address < length xs = subst (λ (n : ℕ). n < length xs) at within in
+    let inside : entry_place xs entry.address < length xs = subst (λ (n : ℕ). n < length xs) at within in
     ap (λ (n : ℕ). set xs n entry) at ∙ replaced_at entry xs inside
 
-pub absent_past : (xs : List MacEntry) (address : Mac) (place : ℕ) → place ≡ place_in xs address → length xs ≤ place → has_address xs address ≡ false
+pub absent_past : (xs : List MacEntry) (address : Mac) (place : ℕ) → place ≡ entry_place xs address → length xs ≤ place → has_address xs address ≡ false
 absent_past xs address place at past =
-    let outside : length xs ≤ place_in xs address = subst (λ (n : ℕ). length xs ≤ n) at past in
+    let outside : length xs ≤ entry_place xs address = subst (λ (n : ℕ). length xs ≤ n) at past in
     sym (place_held xs address) ∙ above_is _ _ outside
 
 length-replaced : (entry : MacEntry) (xs : List MacEntry) → length (replaced entry xs) ≡ length xs

@@ -1,6 +1,6 @@
 //! Changes of the entries of a table.
 ghost use Rattle.std.specs.Prelude.{◌≡◌, ◌==◌, ◌≤◌, ℕ, false, not, filter, vec_capacity};
-ghost use Rattle.mac_table.specs.Addresses.{IsHeld, NoneAfter, has_address, is_young, learned, learning_of, replaced, stays};
+ghost use Rattle.mac_table.specs.Addresses.{IsHeld, NoneAfter, entry_stays, has_address, is_young, learned, learning_of, replaced};
 
 use crate::search::{is_in, place_of};
 use crate::{Learned, MacEntry};
@@ -58,7 +58,7 @@ pub(crate) fn keep_off_port(entries: &mut Vec<MacEntry>, port: u16)
 
 // Whether the entry stays after a withdrawal by the port.
 fn is_kept(from: u16, addresses: &[Mac], entry: &MacEntry) -> bool
-    ensures { result ≡ stays from addresses.now entry.now }
+    ensures { result ≡ entry_stays from addresses.now entry.now }
 {
     if addresses.is_empty() {
         return entry.port == from;
@@ -68,7 +68,7 @@ fn is_kept(from: u16, addresses: &[Mac], entry: &MacEntry) -> bool
 
 // Keeps the entries that stay after a withdrawal by the port.
 pub(crate) fn keep_staying(entries: &mut Vec<MacEntry>, from: u16, addresses: &[Mac])
-    ensures items { entries.new.items ≡ filter (stays from addresses.now) entries.old.items }
+    ensures items { entries.new.items ≡ filter (entry_stays from addresses.now) entries.old.items }
     ensures held { (capacity : ℕ) → IsHeld capacity (vec_capacity entries.old) entries.old.items → IsHeld capacity (vec_capacity entries.new) entries.new.items }
     ensures ticks { (tick : ℕ) → NoneAfter tick entries.old.items → NoneAfter tick entries.new.items }
 {

@@ -1,7 +1,7 @@
 //! The table of learned addresses.
 ghost use Rattle.std.specs.Prelude.{◌≡◌, ◌≤◌, ◌↔◌, ◌⊎◌, ℕ, [], filter, length, not, false, slice_get, All, Contains, IfOk, ◌==◌};
 ghost use Rattle.net_values.specs.Mac.{is_group_address};
-ghost use Rattle.mac_table.specs.Addresses.{AreDistinct, NoneAfter, has_address, is_young, learned, learning_of, port_of, stays};
+ghost use Rattle.mac_table.specs.Addresses.{AreDistinctAddresses, NoneAfter, entry_stays, has_address, is_young, learned, learning_of, port_of};
 
 use crate::edits::{keep_off_port, keep_staying, keep_young, learn_in};
 use crate::search::find_port;
@@ -53,7 +53,7 @@ impl MacTable {
         ensures entries { self.new ≡ record self.old { entries = learned self.old (record { address = address; port = port; tick = now }) } }
         ensures from { All (λ e. (e ≡ record { address = address; port = port; tick = now }) ⊎ Contains self.old.entries e) self.new.entries }
         ensures ticks { NoneAfter now self.new.entries }
-        ensures distinct { AreDistinct self.new.entries }
+        ensures distinct { AreDistinctAddresses self.new.entries }
     {
         let entry = MacEntry {
             address,
@@ -66,7 +66,7 @@ impl MacTable {
     /// The port of the address; `None` exactly where it is not in the table.
     pub fn find(&self, address: Mac) -> Option<u16>
         ensures port { result ≡ port_of self.now.entries address }
-        ensures distinct { AreDistinct self.now.entries }
+        ensures distinct { AreDistinctAddresses self.now.entries }
     {
         find_port(self.entries.as_slice(), address)
     }
@@ -77,7 +77,7 @@ impl MacTable {
         requires { NoneAfter now self.old.entries }
         ensures entries { self.new ≡ record self.old { entries = filter (is_young now limit) self.old.entries } }
         ensures ticks { NoneAfter now self.new.entries }
-        ensures distinct { AreDistinct self.new.entries }
+        ensures distinct { AreDistinctAddresses self.new.entries }
     {
         keep_young(&mut self.entries, now, limit);
     }
@@ -86,7 +86,7 @@ impl MacTable {
     pub fn drop_port(&mut self, port: u16)
         ensures entries { self.new ≡ record self.old { entries = filter (λ e. not (e.port == port)) self.old.entries } }
         ensures ticks { (now : ℕ) → NoneAfter now self.old.entries → NoneAfter now self.new.entries }
-        ensures distinct { AreDistinct self.new.entries }
+        ensures distinct { AreDistinctAddresses self.new.entries }
     {
         keep_off_port(&mut self.entries, port);
     }
@@ -95,9 +95,9 @@ impl MacTable {
     /// is not empty its addresses that are at `from`, and of an empty one all addresses that are not at
     /// `from`. The others stay in order.
     pub fn withdraw(&mut self, from: u16, list: &List<Mac>)
-        ensures entries { self.new ≡ record self.old { entries = filter (stays from list.now) self.old.entries } }
+        ensures entries { self.new ≡ record self.old { entries = filter (entry_stays from list.now) self.old.entries } }
         ensures ticks { (now : ℕ) → NoneAfter now self.old.entries → NoneAfter now self.new.entries }
-        ensures distinct { AreDistinct self.new.entries }
+        ensures distinct { AreDistinctAddresses self.new.entries }
     {
         keep_staying(&mut self.entries, from, list.as_slice());
     }

@@ -1,6 +1,6 @@
 //! Where an address stands among entries.
 ghost use Rattle.std.specs.Prelude.{◌≡◌, ◌≤◌, length};
-ghost use Rattle.mac_table.specs.Addresses.{is_of, place_in, port_of, is_listed};
+ghost use Rattle.mac_table.specs.Addresses.{is_of, entry_place, port_of, is_listed};
 
 use crate::MacEntry;
 use net_values::Mac;
@@ -26,7 +26,7 @@ pub(crate) fn find_port(entries: &[MacEntry], address: Mac) -> Option<u16>
 
 // The place of the address, or the number of entries where it is not held.
 pub(crate) fn place_of(entries: &[MacEntry], address: Mac) -> usize
-    ensures place { result ≡ place_in entries.now address }
+    ensures place { result ≡ entry_place entries.now address }
     ensures within { result ≤ length entries.now }
 {
     for (i, entry) in entries.iter().enumerate() {

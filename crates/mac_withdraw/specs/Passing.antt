@@ -1,17 +1,10 @@
 -- Where a MAC withdraw goes on from an edge (RFC 4762 section 6.2): it clears what the other edges have learned, and split
 -- horizon holds for it as for frames.
-use Rattle.std.specs.Prelude.{◌==◌, ◌&&◌, not, ℕ, Bool, true, false, List, Option, Some, None, slice_get}
+use Rattle.std.specs.Prelude.{◌==◌, ◌&&◌, not, ℕ, Bool, false, List, slice_get}
 use Rattle.hvpls_spokes.specs.declared.edge_role.Role.{Role}
 use Rattle.hvpls_spokes.specs.declared.edge_role.Role.TheVariants as role
 use Rattle.hvpls_spokes.specs.declared.port.Port.{Port}
-use Rattle.hvpls_spokes.specs.declared.port.Port.TheVariants as port
-use Rattle.hvpls_spokes.specs.Port.{is_mesh_port}
-
-abbrev pub is_wire : Option Port → Bool
-is_wire None = false
-is_wire (Some (port.Circuit circuit)) = false
-is_wire (Some (port.Mesh wire)) = true
-is_wire (Some (port.Spoke wire)) = true
+use Rattle.hvpls_spokes.specs.Port.{is_mesh_port, is_wire}
 
 -- the port with this number is a wire, a mesh wire or a spoke
 abbrev pub is_wire_at : List Port → ℕ → Bool

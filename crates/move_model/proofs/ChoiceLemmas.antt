@@ -340,7 +340,7 @@ module _ (plan : Plan) (service : ServiceId) (network : NetworkState) (me : Edge
       one_row : (one other : WirePlan) → Some one ≡ Some other → one ≡ other
       one_row one other is = cc
 
-      is_wire_some : (wire : WireId) (o : Option WireId) → Rattle.edge_model.specs.Role.is_wire wire o ≡ true → o ≡ Some wire
+      is_wire_some : (wire : WireId) (o : Option WireId) → Rattle.edge_model.specs.Role.is_chosen_wire wire o ≡ true → o ≡ Some wire
       is_wire_some wire None is = clash is
       is_wire_some wire (Some other) is = ap (λ (n : ℕ). Some (record { 0 = n })) (eqb-true other.0 wire.0 is)
 
@@ -350,7 +350,7 @@ module _ (plan : Plan) (service : ServiceId) (network : NetworkState) (me : Edge
       tell : (wire : WireId) (home : ℕ) (spoke : IsSpokeTo plan service me.0 wire home) → last.edge.chosen service.0 ≡ Some wire
           → (work.edge.chosen service.0 ≡ Some wire) ⊎ WillTell plan service network me.0 home spoke.row.pw_id last
       tell wire home spoke chosen = elim (cases_Bool (is_chosen work.edge.chosen wire spoke.row)) [
-        | inl was ↦ inl (is_wire_some wire (work.edge.chosen service.0) (subst (λ (s : ServiceId). Rattle.edge_model.specs.Role.is_wire wire (work.edge.chosen s.0) ≡ true) link.of_service was))
+        | inl was ↦ inl (is_wire_some wire (work.edge.chosen service.0) (subst (λ (s : ServiceId). Rattle.edge_model.specs.Role.is_chosen_wire wire (work.edge.chosen s.0) ≡ true) link.of_service was))
         | inr new ↦ inr (tells new)
       ]
         where

@@ -28,7 +28,7 @@ use Rattle.hvpls_spokes.specs.declared.edge_role.Role.TheVariants as role
 use Rattle.hvpls_spokes.specs.declared.edge_role.Role.{Role}
 use Rattle.hvpls_spokes.specs.declared.port.Port.TheVariants as port
 use Rattle.hvpls_spokes.specs.declared.port.Port.{Port}
-use Rattle.mac_table.specs.Addresses.{stays}
+use Rattle.mac_table.specs.Addresses.{entry_stays}
 use Rattle.mac_table.specs.declared.mac_entry.MacEntry.{MacEntry}
 use Rattle.mac_withdraw.specs.Passing.{is_passed_to}
 use Rattle.mac_withdraw.specs.Pieces.{pieces_of}
@@ -154,13 +154,13 @@ module _ (plan : Plan) (service : ServiceId) (me peer : EdgeId) (wire : WireId) 
   end : IsLinkEnd plan me peer wire row
   end = link_end plan me peer wire row checked short is joined
 
-  ends : Rattle.net_base.specs.plan.Roles.ends_at service me.0 row ≡ true
+  ends : Rattle.net_base.specs.plan.Roles.wire_ends_at service me.0 row ≡ true
   ends = on_it (link_at plan wire.0 row checked short is)
     where
       either : (ours : Bool) (a b n f : ℕ) → ours ≡ true → ((a == n && b == f) || (b == n && a == f)) || false ≡ true → ours && ((a == n) || (a == f)) ≡ true
       either ours a b n f one is = rw one (grind (arith, nat_tests))
 
-      on_it : IsLink plan row → Rattle.net_base.specs.plan.Roles.ends_at service me.0 row ≡ true
+      on_it : IsLink plan row → Rattle.net_base.specs.plan.Roles.wire_ends_at service me.0 row ≡ true
       on_it link = rw link.path (either (is_wire_of service row) me.0 peer.0 link.near.0 link.far.0 of_service (rw link.path at joined))
 
   pub found_port : HasPortAt plan service me wire row
@@ -183,7 +183,7 @@ module _ (plan : Plan) (service : ServiceId) (me peer : EdgeId) (wire : WireId) 
       port_is : position (is_wire_port end.place.wire) (ports_of plan service work.edge.me) ≡ Some found_port.p
       port_is = ap (λ (w : WireId). position (is_wire_port w) (ports_of plan service work.edge.me)) end.wire_is ∙ (ap (λ (k : EdgeId). position (is_wire_port wire) (ports_of plan service k)) placed ∙ found_port.found)
 
-  cleared_learned : Cleared.edge.learned service.0 ≡ filter (stays found_port.p []) (work.edge.learned service.0)
+  cleared_learned : Cleared.edge.learned service.0 ≡ filter (entry_stays found_port.p []) (work.edge.learned service.0)
   unfolding changes with_addresses
   cleared_learned = rw (same_place service.0) refl
 
@@ -196,10 +196,10 @@ module _ (plan : Plan) (service : ServiceId) (me peer : EdgeId) (wire : WireId) 
 
   pub withdraw_port : AreAtPort plan service me (wire_port wire.0 row) ((hears_mac_withdraw plan taken_all peer (Some fec) (Some []) work).edge.learned service.0)
   withdraw_port = subst (AreAtPort plan service me (wire_port wire.0 row)) (sym learned)
-      (all_weaker (λ (entry : MacEntry). stays found_port.p [] entry ≡ true) (λ (entry : MacEntry). slice_get (ports_of plan service me) entry.port ≡ Some (wire_port wire.0 row)) (filter (stays found_port.p []) (work.edge.learned service.0))
-      (λ entry at. ap (slice_get (ports_of plan service me)) (eqb-true entry.port found_port.p at) ∙ found_port.leads) (left_pass (stays found_port.p []) (work.edge.learned service.0)))
+      (all_weaker (λ (entry : MacEntry). entry_stays found_port.p [] entry ≡ true) (λ (entry : MacEntry). slice_get (ports_of plan service me) entry.port ≡ Some (wire_port wire.0 row)) (filter (entry_stays found_port.p []) (work.edge.learned service.0))
+      (λ entry at. ap (slice_get (ports_of plan service me)) (eqb-true entry.port found_port.p at) ∙ found_port.leads) (left_pass (entry_stays found_port.p []) (work.edge.learned service.0)))
     where
-      learned : (hears_mac_withdraw plan taken_all peer (Some fec) (Some []) work).edge.learned service.0 ≡ filter (stays found_port.p []) (work.edge.learned service.0)
+      learned : (hears_mac_withdraw plan taken_all peer (Some fec) (Some []) work).edge.learned service.0 ≡ filter (entry_stays found_port.p []) (work.edge.learned service.0)
       learned = ap (λ (w : Work). w.edge.learned service.0) heard_is
           ∙ (ap (λ (f : ℕ → List MacEntry). f service.0) (passes_only plan [] service found_port.p (roles.role_of plan service work.edge.me) Cleared).learned ∙ cleared_learned)
 

@@ -22,7 +22,7 @@ use Rattle.move_model.proofs.LiveLemmas.{other_of}
 use Rattle.move_model.proofs.LiveSpokeLemmas.{IsLiveAt, live_at, live_same, quiet_way, spoke_at_link}
 use Rattle.move_model.proofs.WireLemmas.{IsMeshLink, IsSpokeLink, mesh_link, spoke_link}
 use Rattle.move_model.specs.Clearing.{clears}
-use Rattle.move_model.specs.Healing.{ByMesh, BySpoke, EntryHeals, Heals, IsAtLive, IsPending, IsRight, IsSpokeTo, LeadsHome, WillBeRight, chosen_in, learned_in}
+use Rattle.move_model.specs.Healing.{ByMesh, BySpoke, EntryHeals, Heals, IsAtLive, IsRight, IsSpokeTo, IsWithdrawalPending, LeadsHome, WillBeRight, chosen_in, learned_in}
 use Rattle.net_base.specs.declared.plan.Plan.{Plan}
 use Rattle.net_base.specs.declared.plan.circuit_plan.CircuitPlan.{CircuitPlan}
 use Rattle.net_base.specs.declared.plan.places.CircuitId.{CircuitId}
@@ -35,7 +35,7 @@ use Rattle.net_base.specs.plan.Paths.{is_first, is_last, joins}
 use Rattle.net_base.specs.plan.Places.{circuit_row, is_mesh_class, wire_row}
 use Rattle.net_base.specs.plan.Roles.{is_core_edge, is_mesh_of, is_spoke_edge, is_spoke_from, is_wire_of}
 use Rattle.network_model.specs.Calm.{carries, has_live_spokes, is_calm, is_full, is_live_spoke, is_quiet}
-use Rattle.network_model.specs.Reach.{at_edge_of, behind_wire, beside_far, elsewhere_of, far_of, home_of, is_at, is_beside, is_circuit_of, is_home, is_row_at, is_row_beside, reach}
+use Rattle.network_model.specs.Reach.{at_edge_of, behind_wire, beside_far, circuit_is_at, elsewhere_of, far_of, home_of, is_beside, is_circuit_of, is_home, is_row_at, is_row_beside, reach}
 use Rattle.network_model.specs.State.{NetworkState}
 use Rattle.std.proofs.Common.{Bool, None, Option, Some, [], ap, cond, false, length, refl, slice_get, subst, sym, true, ℕ, ◌&&◌, ◌<◌, ◌==◌, ◌||◌, ◌∙◌, ◌≡◌}
 use Rattle.std.proofs.lemmas.Bool.{eqb-true}
@@ -72,7 +72,7 @@ is_beside_by plan service network core circuit row is ours there = both_parts (i
 
 -- it is at its edge
 pub at_own_edge : (plan : Plan) (service : ServiceId) (circuit : CircuitId) (row : CircuitPlan) → circuit_row plan circuit ≡ Some row → is_circuit_of plan service circuit ≡ true → at_edge_of plan service row.edge.0 circuit ≡ true
-at_own_edge plan service circuit row is ours = both_parts (is_circuit_of plan service circuit) (is_at plan row.edge.0 circuit) ours (ap (is_row_at row.edge.0) is ∙ same_place row.edge.0)
+at_own_edge plan service circuit row is ours = both_parts (is_circuit_of plan service circuit) (circuit_is_at plan row.edge.0 circuit) ours (ap (is_row_at row.edge.0) is ∙ same_place row.edge.0)
 
 pub edge_within : (plan : Plan) (circuit : CircuitId) (row : CircuitPlan) → IsChecked plan → circuit_row plan circuit ≡ Some row → row.edge.0 < length plan.edges
 edge_within plan circuit row checked is = (row_holds (IsCircuitOf plan) plan.circuits circuit.0 row is checked.circuits).edge
@@ -116,7 +116,7 @@ mesh_reach plan service network edge peer wire row circuit is far = ap (λ (o : 
 pub record IsPortWire (plan : Plan) (service : ServiceId) (edge : ℕ) (mesh : Bool) (wire : WireId) : Type 0 where
   pub row : WirePlan
   pub is : wire_row plan wire ≡ Some row
-  pub ends : Rattle.net_base.specs.plan.Roles.ends_at service edge row ≡ true
+  pub ends : Rattle.net_base.specs.plan.Roles.wire_ends_at service edge row ≡ true
   pub class : is_mesh_class row.class ≡ mesh
   pub link : IsLink plan row
   pub peer : EdgeId
@@ -138,7 +138,7 @@ pub of_mesh : (plan : Plan) (service : ServiceId) (edge : ℕ) (wire : WireId) (
 of_mesh plan service edge wire at = both_parts (is_wire_of service at.row) (is_mesh_class at.row.class) (left_part (is_wire_of service at.row) (is_first edge at.row.path || is_last edge at.row.path) at.ends) at.class
 
 -- of two ends the other one
-pub at_far : (plan : Plan) (service : ServiceId) (edge : ℕ) (row : WirePlan) (link : IsLink plan row) → Rattle.net_base.specs.plan.Roles.ends_at service edge row ≡ true → (edge == link.near.0) ≡ false → edge ≡ link.far.0
+pub at_far : (plan : Plan) (service : ServiceId) (edge : ℕ) (row : WirePlan) (link : IsLink plan row) → Rattle.net_base.specs.plan.Roles.wire_ends_at service edge row ≡ true → (edge == link.near.0) ≡ false → edge ≡ link.far.0
 at_far plan service edge row link ends away = eqb-true edge link.far.0 (rw away at (rw link.path at (right_part (is_wire_of service row) (is_first edge row.path || is_last edge row.path) ends)))
 
 -- ---- a calm state
@@ -149,7 +149,7 @@ module _ (plan : Plan) (service : ServiceId) (site : Sites) (calm network : Netw
   quiet = left_part (is_quiet plan network service) (is_full plan network service) (left_part (is_quiet plan network service && is_full plan network service) (has_live_spokes plan network service) is_calm_now)
 
   -- nothing is on its way
-  none_pending : {P : Type 0} (a b n : ℕ) (wire : WireId) (row : WirePlan) → wire_row plan wire ≡ Some row → is_wire_of service row ≡ true → joins a b row.path ≡ true → IsPending plan service network a b n → P
+  none_pending : {P : Type 0} (a b n : ℕ) (wire : WireId) (row : WirePlan) → wire_row plan wire ≡ Some row → is_wire_of service row ≡ true → joins a b row.path ≡ true → IsWithdrawalPending plan service network a b n → P
   none_pending a b n wire row is ours joined pending =
       let way = quiet_way network a b (are_settled plan network service a b wire row checked is ours joined quiet) pending.there in
       let none : pending.cleared.messages ≡ [] = none_said (ends_at plan a b).me pending.cleared.messages (sym way.out ∙ pending.cleared.is) in
@@ -161,11 +161,11 @@ module _ (plan : Plan) (service : ServiceId) (site : Sites) (calm network : Netw
   -- so each entry of a core edge is right
   right_now : (core k : ℕ) (entry : MacEntry) → is_core_edge plan service core ≡ true → slice_get (learned_in service network core) k ≡ Some entry → (x : ℕ) (live : IsLiveAt plan service network x) → at_edge_of plan service x (site entry.address.0) ≡ true
       → LeadsHome plan core live.home live.wire (slice_get (ports_of plan service (record { 0 = core })) entry.port)
-  right_now core k entry is at x live there = by (all_get (EntryHeals plan service site (chosen_in service network) (IsPending plan service network) core) (learned_in service network core) k entry (heals.right core is) at x live.wire live.home live.spoke live.chosen there) where
+  right_now core k entry is at x live there = by (all_get (EntryHeals plan service site (chosen_in service network) (IsWithdrawalPending plan service network) core) (learned_in service network core) k entry (heals.right core is) at x live.wire live.home live.spoke live.chosen there) where
     link : IsSpokeLink plan service x live.home live.spoke.row
     link = spoke_link plan service x live.wire live.home checked short live.spoke
 
-    by : WillBeRight plan service (IsPending plan service network) x live.wire live.spoke.row.pw_id live.home core entry.port → LeadsHome plan core live.home live.wire (slice_get (ports_of plan service (record { 0 = core })) entry.port)
+    by : WillBeRight plan service (IsWithdrawalPending plan service network) x live.wire live.spoke.row.pw_id live.home core entry.port → LeadsHome plan core live.home live.wire (slice_get (ports_of plan service (record { 0 = core })) entry.port)
     by (IsRight leads) = leads
     by (BySpoke pending) = none_pending x live.home live.spoke.row.pw_id live.wire live.spoke.row live.spoke.is (ap (λ (s : ServiceId). s.0 == service.0) link.of_service ∙ same_place service.0) link.joined pending
     by (ByMesh mesh row at_mesh its joined pending) = none_pending live.home core row.pw_id mesh row at_mesh (left_part (is_wire_of service row) (is_mesh_class row.class) its) joined pending

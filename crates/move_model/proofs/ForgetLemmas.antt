@@ -17,7 +17,7 @@ use Rattle.edge_model.specs.declared.effect.Effect.TheVariants.{Wire}
 use Rattle.edge_model.specs.declared.end_place.EndPlace.{EndPlace}
 use Rattle.flight_model.proofs.NameLemmas.{split}
 use Rattle.ldp_grammar.specs.declared.message.Message.{Message}
-use Rattle.mac_table.specs.Addresses.{stays}
+use Rattle.mac_table.specs.Addresses.{entry_stays}
 use Rattle.mac_table.specs.declared.mac_entry.MacEntry.{MacEntry}
 use Rattle.move_model.specs.Healing.{IsFiltered}
 use Rattle.net_base.specs.declared.plan.Plan.{Plan}
@@ -83,7 +83,7 @@ module _ (service : ServiceId) where
 
   clears_forgets : (of : ServiceId) (addresses : List Mac) (from : ℕ) (work : Work) → Forgets work (changes (withdrawing_at of addresses from) work)
   unfolding changes with_addresses
-  clears_forgets of addresses from work = record { left = put_left work.edge.learned of.0 service.0 (stays from addresses) }
+  clears_forgets of addresses from work = record { left = put_left work.edge.learned of.0 service.0 (entry_stays from addresses) }
 
   with_same : (of : ServiceId) (work : Work) → IsFiltered (work.edge.learned service.0) (put_at work.edge.learned of.0 (work.edge.learned of.0) service.0)
   with_same of work = split {P = IsFiltered (work.edge.learned service.0) (put_at work.edge.learned of.0 (work.edge.learned of.0) service.0)} (nat_eq service.0 of.0)

@@ -12,7 +12,7 @@ use Rattle.net_base.specs.declared.trace.down.Down.TheVariants as cause
 use Rattle.net_base.specs.declared.trace.down.Down.{Down}
 use Rattle.net_base.specs.plan.Places.{wire_row}
 use Rattle.pw_signalling.proofs.LawLemmas.{forwards_where_both_agree}
-use Rattle.pw_signalling.specs.Down.{causes, down, far_told, holds, of_both, own_told}
+use Rattle.pw_signalling.specs.Down.{causes, down, far_told, holds_cause, of_both, own_told}
 use Rattle.pw_signalling.specs.End.{Advertised, EndState, LocalPart}
 use Rattle.pw_signalling.specs.Laws.{BothAgree}
 use Rattle.pw_signalling.specs.declared.end_role.EndRole.TheVariants as role
@@ -41,13 +41,13 @@ zero_of n is = grind (arith, nat_tests)
 -- it has no failure bits
 pub forwards_whole : (role : EndRole) (bits : ℕ) (e : EndState) → down role bits e ≡ None → bits ≡ 0
 unfolding down
-forwards_whole role bits e up = zero_of bits (none_passes (holds role bits (own_told e.local) (far_told e.remote)) causes 5 cause.LocalFault up refl)
+forwards_whole role bits e up = zero_of bits (none_passes (holds_cause role bits (own_told e.local) (far_told e.remote)) causes 5 cause.LocalFault up refl)
 
 -- it is none of a spoke that was not chosen
 pub forwards_chosen : {P : Type 0} (bits : ℕ) (e : EndState) → down role.NotChosen bits e ≡ None → P
 unfolding down
 forwards_chosen {P} bits e up =
-    both (forwards_where_both_agree role.NotChosen bits e up) (none_passes (holds role.NotChosen bits (own_told e.local) (far_told e.remote)) causes 7 cause.Standby up refl)
+    both (forwards_where_both_agree role.NotChosen bits e up) (none_passes (holds_cause role.NotChosen bits (own_told e.local) (far_told e.remote)) causes 7 cause.Standby up refl)
   where
     both : BothAgree e → of_both (λ a b. true) (own_told e.local) (far_told e.remote) ≡ false → P
     both agree none = (let wrong : true ≡ false = rw (agree.advertises, agree.bound) at none in absurd (cc (wrong)))

@@ -46,7 +46,7 @@ right_part : (a b : Bool) → a && b ≡ true → b ≡ true
 right_part true b h = h
 right_part false b h = clash h
 
-pub other_of : (plan : Plan) (service : ServiceId) (me : EdgeId) (row : WirePlan) → IsLink plan row → Rattle.net_base.specs.plan.Roles.ends_at service me.0 row ≡ true → HasOther plan me row
+pub other_of : (plan : Plan) (service : ServiceId) (me : EdgeId) (row : WirePlan) → IsLink plan row → Rattle.net_base.specs.plan.Roles.wire_ends_at service me.0 row ≡ true → HasOther plan me row
 other_of plan service me row link ends = by (me.0 == link.near.0) refl where
   ends_there : (me.0 == link.near.0) || (me.0 == link.far.0) ≡ true
   ends_there = rw link.path at (right_part (is_wire_of service row) (is_first me.0 row.path || is_last me.0 row.path) ends)

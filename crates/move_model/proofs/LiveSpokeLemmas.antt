@@ -1,6 +1,6 @@
 -- The spoke that carries frames in a calm state is the one that its spoke edge has chosen, and leads to its home.
 use Rattle.edge_model.specs.Ends.{end_forwards, forwards_at, is_up, wire_end}
-use Rattle.edge_model.specs.Role.{down_at, is_chosen, role_at, role_in, role_of}
+use Rattle.edge_model.specs.Role.{down_at, end_role_of, is_chosen, role_at, role_in}
 use Rattle.edge_model.specs.State.{EdgeState, end_at}
 use Rattle.flight_model.proofs.PlaceLemmas.{wire_apart}
 use Rattle.flight_model.proofs.RowLemmas.{clash}
@@ -79,17 +79,17 @@ chosen_forwards plan service edge x wire home checked short placed spoke up = by
   role_is b is =
       ap (λ (w : WireId). role_in (wire_row plan w) edge.me edge.chosen w) end.wire_is
       ∙ (ap (λ (o : Option WirePlan). role_in o edge.me edge.chosen wire) spoke.is
-      ∙ (ap (λ (e : EdgeId). role_of spoke.row e (is_chosen edge.chosen wire spoke.row)) placed
+      ∙ (ap (λ (e : EdgeId). end_role_of spoke.row e (is_chosen edge.chosen wire spoke.row)) placed
       ∙ (ap (λ (m : Bool). cond m role.Mesh (cond (is_last x spoke.row.path) role.Core (cond (is_chosen edge.chosen wire spoke.row) role.Chosen role.NotChosen))) link.class
       ∙ (ap (λ (l : Bool). cond l role.Core (cond (is_chosen edge.chosen wire spoke.row) role.Chosen role.NotChosen)) not_last
       ∙ ap (λ (c : Bool). cond c role.Chosen role.NotChosen) is))))
 
-  some_wire : (o : Option WireId) → Rattle.edge_model.specs.Role.is_wire wire o ≡ true → o ≡ Some wire
+  some_wire : (o : Option WireId) → Rattle.edge_model.specs.Role.is_chosen_wire wire o ≡ true → o ≡ Some wire
   some_wire None is = clash is
   some_wire (Some other) is = ap (λ (n : ℕ). Some (record { 0 = n })) (eqb-true other.0 wire.0 is)
 
   by : (b : Bool) → is_chosen edge.chosen wire spoke.row ≡ b → edge.chosen service.0 ≡ Some wire
-  by true is = some_wire (edge.chosen service.0) (subst (λ (s : ServiceId). Rattle.edge_model.specs.Role.is_wire wire (edge.chosen s.0) ≡ true) link.of_service is)
+  by true is = some_wire (edge.chosen service.0) (subst (λ (s : ServiceId). Rattle.edge_model.specs.Role.is_chosen_wire wire (edge.chosen s.0) ≡ true) link.of_service is)
   by false is = forwards_chosen (edge.bits end.place.wire.0) (end_at edge end.place)
       (ap (λ (r : EndRole). down r (edge.bits end.place.wire.0) (end_at edge end.place)) (sym (role_is false is)) ∙ down_is)
 

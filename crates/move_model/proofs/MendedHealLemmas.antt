@@ -43,7 +43,7 @@ use Rattle.network_model.specs.Connection.{can_connect, connect_event, connected
 use Rattle.network_model.specs.Frame.{entering, frame_event, frame_work, next_origin}
 use Rattle.network_model.specs.Packet.{again_event, arrive_event, discard_event, packet_at, packet_work}
 use Rattle.network_model.specs.Run.{state_after}
-use Rattle.network_model.specs.State.{NetworkState, at_edge, empty_network, stands, with_edge, with_frame, with_packet, with_pipe, without_octets_to, without_packet}
+use Rattle.network_model.specs.State.{NetworkState, edge_at, empty_network, stands, with_edge, with_frame, with_packet, with_pipe, without_octets_to, without_packet}
 use Rattle.network_model.specs.Step.{step}
 use Rattle.network_model.specs.Tick.{tick_at, ticks_from}
 use Rattle.network_model.specs.Wire.{priority_event, status_event, wire_event}
@@ -218,7 +218,7 @@ module _ (plan : Plan) (checked : IsChecked plan) where
       let rest : List ℕ = drop count (network.pipes from.0 to.0) in
       let work : Work = hearing_work plan network from to octets in
       absorb_holds to 0 0 work (with_pipe from to rest network) (piped_holds from to rest network holds)
-      (octets_on to.0 (begin_at network to) (holds to.0) from octets ((at_edge network to).peering from.0))
+      (octets_on to.0 (begin_at network to) (holds to.0) from octets ((edge_at network to).peering from.0))
 
   deliver_holds : (from to : EdgeId) (count : ℕ) (network : NetworkState) → HoldsOfEach (IsOn plan) network → HoldsOfEach (IsOn plan) (deliver_event plan from to count network).state
   deliver_holds from to count network holds = by (is_deliverable network from.0 to.0) (is_drained_pipe network from.0 to.0) where

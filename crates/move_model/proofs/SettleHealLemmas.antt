@@ -24,7 +24,7 @@ use Rattle.ldp_grammar.specs.declared.message.Message.{Message}
 use Rattle.move_model.proofs.ForgetLemmas.{all_left, forgets_none}
 use Rattle.move_model.proofs.PendingLemmas.{all_weaker, entry_heals_on}
 use Rattle.move_model.specs.Clearing.{IsCleared, IsMild, IsMildWay, clears}
-use Rattle.move_model.specs.Healing.{EntryHeals, Heals, IsAtLive, IsHealing, IsPending, IsSteady, KeepsMesh, LeavesToHear, SpeaksMildly, Stays, ToHear, Waits, WasSaid, WorkWays, chosen_in, learned_in}
+use Rattle.move_model.specs.Healing.{EntryHeals, Heals, IsAtLive, IsHealing, IsSteady, IsWithdrawalPending, KeepsMesh, LeavesToHear, SpeaksMildly, Stays, ToHear, Waits, WasSaid, WorkWays, chosen_in, learned_in}
 use Rattle.net_base.proofs.PathLemmas.{joins_turned}
 use Rattle.net_base.specs.declared.plan.Plan.{Plan}
 use Rattle.net_base.specs.declared.plan.places.EdgeId.{EdgeId}
@@ -122,7 +122,7 @@ module _ (plan : Plan) (service : ServiceId) (site : Sites) (calm network : Netw
   put_same f k n = split {P = put_at f k (f k) n ≡ f n} (nat_eq n k) (λ is. rw is (ap f (sym (eqb-true n k is)))) (λ other. rw other refl)
 
   begin_ways : (are_joined_by plan service peer me.0 ≡ true → stands network peer me.0 ≡ true → LeavesToHear plan service network me.0 peer messages (flight network peer me.0))
-      → (a b n : ℕ) → IsPending plan service network a b n → WorkWays plan service network me.0 peer messages Begun a b n
+      → (a b n : ℕ) → IsWithdrawalPending plan service network a b n → WorkWays plan service network me.0 peer messages Begun a b n
   begin_ways left a b n pending = split {P = WorkWays plan service network me.0 peer messages Begun a b n} (nat_eq a me.0)
       (λ is. (let same = eqb-true a me.0 is in
       WasSaid same (subst (λ (k : ℕ). are_joined_by plan service k b ≡ true) same pending.joined) (subst (λ (k : ℕ). stands network k b ≡ true) same pending.there)
@@ -133,7 +133,7 @@ module _ (plan : Plan) (service : ServiceId) (site : Sites) (calm network : Netw
     where
       hear : a ≡ peer → b ≡ me.0 → WorkWays plan service network me.0 peer messages Begun a b n
       hear from to =
-          let here : IsPending plan service network peer me.0 n = subst (λ (k : ℕ). IsPending plan service network peer k n) to (subst (λ (k : ℕ). IsPending plan service network k b n) from pending) in
+          let here : IsWithdrawalPending plan service network peer me.0 n = subst (λ (k : ℕ). IsWithdrawalPending plan service network peer k n) to (subst (λ (k : ℕ). IsWithdrawalPending plan service network k b n) from pending) in
           let rest = left here.joined here.there in
           let fit : AreFit (ends_at plan peer me.0) = fit_at plan network peer me.0 ordered (joined_away plan service peer me.0 checked here.joined) here.there in
           let same : here.cleared.messages ≡ messages = said_once (ends_at plan peer me.0) here.cleared.messages messages fit here.cleared.said rest.said (sym here.cleared.is ∙ rest.is) in
@@ -145,9 +145,9 @@ module _ (plan : Plan) (service : ServiceId) (site : Sites) (calm network : Netw
     stays = begin_stays;
     right = λ core is.
         subst (AllByRecursion (EntryHeals plan service site (put_at (chosen_in service network) me.0 (Begun.edge.chosen service.0)) (WorkWays plan service network me.0 peer messages Begun) core)) (sym (put_same (learned_in service network) me.0 core))
-        (all_weaker (EntryHeals plan service site (chosen_in service network) (IsPending plan service network) core) (EntryHeals plan service site (put_at (chosen_in service network) me.0 (Begun.edge.chosen service.0)) (WorkWays plan service network me.0 peer messages Begun) core)
+        (all_weaker (EntryHeals plan service site (chosen_in service network) (IsWithdrawalPending plan service network) core) (EntryHeals plan service site (put_at (chosen_in service network) me.0 (Begun.edge.chosen service.0)) (WorkWays plan service network me.0 peer messages Begun) core)
         (learned_in service network core)
-        (λ entry. entry_heals_on plan service site (chosen_in service network) (put_at (chosen_in service network) me.0 (Begun.edge.chosen service.0)) (IsPending plan service network) (WorkWays plan service network me.0 peer messages Begun) core entry
+        (λ entry. entry_heals_on plan service site (chosen_in service network) (put_at (chosen_in service network) me.0 (Begun.edge.chosen service.0)) (IsWithdrawalPending plan service network) (WorkWays plan service network me.0 peer messages Begun) core entry
         (begin_ways left) (λ edge wire home spoke chosen. inl (sym (put_same (chosen_in service network) me.0 edge) ∙ chosen)))
         (heals.right core is));
   }
@@ -304,10 +304,10 @@ module _ (plan : Plan) (service : ServiceId) (site : Sites) (calm network drawn 
   moved_clear : (a b n : ℕ) (old new : List ℕ) → new ≡ old → IsCleared plan a b n old → IsCleared plan a b n new
   moved_clear a b n old new is cleared = record { messages = cleared.messages; is = is ∙ cleared.is; said = cleared.said; among = cleared.among }
 
-  ways_after : (a b n : ℕ) → WorkWays plan service network me.0 peer later work a b n → IsPending plan service After a b n
+  ways_after : (a b n : ℕ) → WorkWays plan service network me.0 peer later work a b n → IsWithdrawalPending plan service After a b n
   ways_after a b n (WasSaid from joined there cleared) =
       let at : IsNear b = near b joined there in
-      subst (λ (k : ℕ). IsPending plan service After k b n) (sym from) (record {
+      subst (λ (k : ℕ). IsWithdrawalPending plan service After k b n) (sym from) (record {
         joined = joined;
         there = rw (own_edge, at.mildly.at) refl;
         cleared = moved_clear me.0 b n (flight network me.0 b ++ said_to b work.effects) (flight After me.0 b) (out_flight b at.away (back_there b at)) cleared;
@@ -316,20 +316,20 @@ module _ (plan : Plan) (service : ServiceId) (site : Sites) (calm network drawn 
       let both = heals.steady peer me.0 joined there in
       let at : IsNear peer = near peer (joined_back plan service peer me.0 joined) (up_there ((network.edges me.0).peering peer) both.1.up) in
       let rest = left joined there in
-      subst (λ (k : ℕ). IsPending plan service After k b n) (sym from) (subst (λ (k : ℕ). IsPending plan service After peer k n) (sym to) (record {
+      subst (λ (k : ℕ). IsWithdrawalPending plan service After k b n) (sym from) (subst (λ (k : ℕ). IsWithdrawalPending plan service After peer k n) (sym to) (record {
         joined = joined;
         there = rw (other_edge peer at.away) there;
         cleared = record { messages = later; is = back_flight peer at.away at.mildly.unclosed ∙ rest.is; said = rest.said; among = among };
       }))
-  ways_after a b n (Waits away other pending) = split {P = IsPending plan service After a b n} (nat_eq b me.0)
-      (λ is. subst (λ (k : ℕ). IsPending plan service After a k n) (sym (eqb-true b me.0 is)) (to_me (subst (λ (k : ℕ). IsPending plan service network a k n) (eqb-true b me.0 is) pending) (rw is at other)))
+  ways_after a b n (Waits away other pending) = split {P = IsWithdrawalPending plan service After a b n} (nat_eq b me.0)
+      (λ is. subst (λ (k : ℕ). IsWithdrawalPending plan service After a k n) (sym (eqb-true b me.0 is)) (to_me (subst (λ (k : ℕ). IsWithdrawalPending plan service network a k n) (eqb-true b me.0 is) pending) (rw is at other)))
       (λ gone. record { joined = pending.joined; there = rw (other_edge a away) pending.there; cleared = moved_clear a b n (flight network a b) (flight After a b) (other_flight a b away gone) pending.cleared })
     where
       not_peer : (x : Bool) → x && true ≡ false → x ≡ false
       not_peer true e = clash (sym e)
       not_peer false e = refl
 
-      to_me : IsPending plan service network a me.0 n → nat_eq a peer && true ≡ false → IsPending plan service After a me.0 n
+      to_me : IsWithdrawalPending plan service network a me.0 n → nat_eq a peer && true ≡ false → IsWithdrawalPending plan service After a me.0 n
       to_me pending other =
           let both = heals.steady a me.0 pending.joined pending.there in
           let at : IsNear a = near a (joined_back plan service a me.0 pending.joined) (up_there ((network.edges me.0).peering a) both.1.up) in
@@ -360,10 +360,10 @@ module _ (plan : Plan) (service : ServiceId) (site : Sites) (calm network drawn 
     steady = steady_after;
     mesh = by_place (λ a edge. KeepsMesh plan service a edge) done.stays.mesh heals.mesh;
     right = λ core is.
-        subst (AllByRecursion (EntryHeals plan service site (chosen_in service After) (IsPending plan service After) core)) (learned_after core)
-        (all_weaker (EntryHeals plan service site (put_at (chosen_in service network) me.0 (work.edge.chosen service.0)) (WorkWays plan service network me.0 peer later work) core) (EntryHeals plan service site (chosen_in service After) (IsPending plan service After) core)
+        subst (AllByRecursion (EntryHeals plan service site (chosen_in service After) (IsWithdrawalPending plan service After) core)) (learned_after core)
+        (all_weaker (EntryHeals plan service site (put_at (chosen_in service network) me.0 (work.edge.chosen service.0)) (WorkWays plan service network me.0 peer later work) core) (EntryHeals plan service site (chosen_in service After) (IsWithdrawalPending plan service After) core)
         (put_at (learned_in service network) me.0 (work.edge.learned service.0) core)
-        (λ entry. entry_heals_on plan service site (put_at (chosen_in service network) me.0 (work.edge.chosen service.0)) (chosen_in service After) (WorkWays plan service network me.0 peer later work) (IsPending plan service After) core entry
+        (λ entry. entry_heals_on plan service site (put_at (chosen_in service network) me.0 (work.edge.chosen service.0)) (chosen_in service After) (WorkWays plan service network me.0 peer later work) (IsWithdrawalPending plan service After) core entry
         ways_after (λ edge wire home spoke chosen. inl (chosen_after edge ∙ chosen)))
         (done.right core is));
     table = by_place (λ a edge. AllByRecursion (PointsToSite plan calm service site a) (edge.learned service.0))

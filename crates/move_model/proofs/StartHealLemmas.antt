@@ -32,7 +32,7 @@ use Rattle.move_model.proofs.MendedHealLemmas.{HasMended, run_mended}
 use Rattle.move_model.proofs.PendingLemmas.{all_weaker}
 use Rattle.move_model.proofs.WireLemmas.{IsLinkEnd, IsMeshLink, IsSpokeLink, link_end, mesh_link, spoke_link}
 use Rattle.move_model.specs.Clearing.{IsMildWay}
-use Rattle.move_model.specs.Healing.{EntryHeals, Heals, IsAtLive, IsBetween, IsPending, IsRight, IsSpokeTo, IsSteady, KeepsMesh, LeadsHome, chosen_in, is_advertising, learned_in}
+use Rattle.move_model.specs.Healing.{EntryHeals, Heals, IsAtLive, IsRight, IsSpokeTo, IsSteady, IsWireBetween, IsWithdrawalPending, KeepsMesh, LeadsHome, chosen_in, is_advertising, learned_in}
 use Rattle.net_base.specs.declared.plan.Plan.{Plan}
 use Rattle.net_base.specs.declared.plan.circuit_plan.CircuitPlan.{CircuitPlan}
 use Rattle.net_base.specs.declared.plan.places.CircuitId.{CircuitId}
@@ -46,7 +46,7 @@ use Rattle.net_base.specs.plan.Paths.{joins}
 use Rattle.net_base.specs.plan.Places.{circuit_row, wire_row}
 use Rattle.net_base.specs.plan.Roles.{are_joined_by, has_port, is_circuit_at, is_core_edge, is_mesh_of, is_spoke_edge, is_wire_of}
 use Rattle.network_model.specs.Calm.{has_live_spokes, is_calm, is_full, is_quiet, is_settled}
-use Rattle.network_model.specs.Reach.{at_edge_of, elsewhere_of, home_of, is_at, is_circuit_of, is_home, is_row_at, reach}
+use Rattle.network_model.specs.Reach.{at_edge_of, circuit_is_at, elsewhere_of, home_of, is_circuit_of, is_home, is_row_at, reach}
 use Rattle.network_model.specs.State.{NetworkState, stands}
 use Rattle.pw_signalling.proofs.LawLemmas.{forwards_where_both_agree}
 use Rattle.std.proofs.Common.{Bool, List, None, Option, Some, [], ap, arith, cond, false, inl, inr, length, not, refl, slice_get, subst, suc, sym, true, ℕ, ◌&&◌, ◌<◌, ◌==◌, ◌||◌, ◌∙◌, ◌∷◌, ◌≡◌}
@@ -85,7 +85,7 @@ port_inside plan service e checked short port = by (list_any (is_circuit_at serv
       subst (λ (n : ℕ). n < length plan.edges) (eqb-true found.row.edge.0 e (right_half (found.row.service.0 == service.0) (found.row.edge.0 == e) found.passes))
       (row_holds (IsCircuitOf plan) plan.circuits found.k found.row found.is checked.circuits).edge
 
-  of_wire : HasRow (Rattle.net_base.specs.plan.Roles.ends_at service e) plan.wires → e < length plan.edges
+  of_wire : HasRow (Rattle.net_base.specs.plan.Roles.wire_ends_at service e) plan.wires → e < length plan.edges
   of_wire found = elim (cases_Bool (e == link.near.0)) [
     | inl here ↦ subst (λ (n : ℕ). n < length plan.edges) (sym (eqb-true e link.near.0 here)) link.near_within
     | inr away ↦ subst (λ (n : ℕ). n < length plan.edges) (sym (at_far plan service e found.row link found.passes away)) link.far_within
@@ -94,9 +94,9 @@ port_inside plan service e checked short port = by (list_any (is_circuit_at serv
       link : IsLink plan found.row
       link = link_at plan found.k found.row checked short found.is
 
-  by : (b : Bool) → list_any (is_circuit_at service e) plan.circuits ≡ b → b || list_any (Rattle.net_base.specs.plan.Roles.ends_at service e) plan.wires ≡ true → e < length plan.edges
+  by : (b : Bool) → list_any (is_circuit_at service e) plan.circuits ≡ b → b || list_any (Rattle.net_base.specs.plan.Roles.wire_ends_at service e) plan.wires ≡ true → e < length plan.edges
   by true is some = of_circuit (has_row (is_circuit_at service e) plan.circuits is)
-  by false is some = of_wire (has_row (Rattle.net_base.specs.plan.Roles.ends_at service e) plan.wires some)
+  by false is some = of_wire (has_row (Rattle.net_base.specs.plan.Roles.wire_ends_at service e) plan.wires some)
 
 pub all_meshes : (plan : Plan) (network : NetworkState) (service : ServiceId) → IsChecked plan → has_short_paths plan ≡ true → is_calm plan network service ≡ true → HasMeshes plan service
 all_meshes plan network service checked short calm = record {
@@ -189,12 +189,12 @@ module _ (plan : Plan) (service : ServiceId) (site : Sites) (network : NetworkSt
   lives x within starts_there = live_at plan service network x checked short ordered starts.calm within starts_there
 
   same_edge : (circuit : CircuitId) (row : CircuitPlan) (x : ℕ) → circuit_row plan circuit ≡ Some row → at_edge_of plan service x circuit ≡ true → row.edge.0 ≡ x
-  same_edge circuit row x is there = eqb-true row.edge.0 x (ap (is_row_at x) (sym is) ∙ right_half (is_circuit_of plan service circuit) (is_at plan x circuit) there)
+  same_edge circuit row x is there = eqb-true row.edge.0 x (ap (is_row_at x) (sym is) ∙ right_half (is_circuit_of plan service circuit) (circuit_is_at plan x circuit) there)
 
   own_edge_is : (circuit : CircuitId) (x y : ℕ) → at_edge_of plan service x circuit ≡ true → at_edge_of plan service y circuit ≡ true → x ≡ y
   own_edge_is circuit x y one other = by (circuit_row plan circuit) refl where
     by : (o : Option CircuitPlan) → circuit_row plan circuit ≡ o → x ≡ y
-    by None is = clash (ap (is_row_at x) (sym is) ∙ right_half (is_circuit_of plan service circuit) (is_at plan x circuit) one)
+    by None is = clash (ap (is_row_at x) (sym is) ∙ right_half (is_circuit_of plan service circuit) (circuit_is_at plan x circuit) one)
     by (Some row) is = sym (same_edge circuit row x is one) ∙ same_edge circuit row y is other
 
   no_both : {P : Type 0} (e : ℕ) → is_core_edge plan service e ≡ true → is_spoke_edge plan service e ≡ true → P
@@ -242,7 +242,7 @@ module _ (plan : Plan) (service : ServiceId) (site : Sites) (network : NetworkSt
       at_home : (o : Option ℕ) → o ≡ Some live.home → is_home wired.peer.0 o ≡ true → live.home ≡ wired.peer.0
       at_home o is same = eqb-true live.home wired.peer.0 (ap (is_home wired.peer.0) (sym is) ∙ same)
 
-      by_beside : (b : Bool) → (beside.row.edge.0 == wired.peer.0) ≡ b → IsBetween plan core home mesh
+      by_beside : (b : Bool) → (beside.row.edge.0 == wired.peer.0) ≡ b → IsWireBetween plan core home mesh
       by_beside true here = no_both x (subst (λ (n : ℕ). is_core_edge plan service n ≡ true) (sym (eqb-true beside.row.edge.0 wired.peer.0 here) ∙ edge_is) link.other_core) spoke_is.starts
       by_beside false away =
           let led : is_home wired.peer.0 (home_of plan network service beside.row.edge.0) ≡ true = right_half (is_spoke_edge plan service beside.row.edge.0) _ (rw away at beside.where_is) in
@@ -288,7 +288,7 @@ module _ (plan : Plan) (service : ServiceId) (site : Sites) (network : NetworkSt
   starts_heal = record {
     steady = steady_here;
     mesh = mesh_here;
-    right = λ core is. all_weaker (PointsToSite plan network service site core) (EntryHeals plan service site (chosen_in service network) (IsPending plan service network) core) (learned_in service network core)
+    right = λ core is. all_weaker (PointsToSite plan network service site core) (EntryHeals plan service site (chosen_in service network) (IsWithdrawalPending plan service network) core) (learned_in service network core)
         (λ entry points x wire home spoke chosen there. IsRight (right_here core is entry points x wire home spoke chosen there)) (starts.points core);
     table = starts.points;
     live = λ e. all_weaker (PointsToSite plan network service site e) (IsAtLive plan service e (network.edges e)) (learned_in service network e) (live_entry e) (starts.points e);

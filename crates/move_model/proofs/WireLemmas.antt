@@ -21,7 +21,7 @@ use Rattle.net_base.specs.declared.plan.wire_plan.WirePlan.{WirePlan}
 use Rattle.net_base.specs.plan.Accepted.{IsChecked, IsWireOf}
 use Rattle.net_base.specs.plan.Paths.{is_first, is_last, joins}
 use Rattle.net_base.specs.plan.Places.{is_mesh_class, wire_row}
-use Rattle.net_base.specs.plan.Roles.{are_joined_by, ends_at, is_core_edge, is_mesh_of, is_spoke_edge, is_spoke_from, is_wire_of}
+use Rattle.net_base.specs.plan.Roles.{are_joined_by, is_core_edge, is_mesh_of, is_spoke_edge, is_spoke_from, is_wire_of, wire_ends_at}
 use Rattle.network_model.proofs.CalmLemmas.{any_at}
 use Rattle.network_model.specs.Reach.{far_of}
 use Rattle.std.proofs.Common.{Bool, List, Some, [], ap, arith, false, inl, inr, not, position, refl, slice_get, subst, sym, true, ℕ, ◌&&◌, ◌==◌, ◌||◌, ◌∙◌, ◌∷◌, ◌≡◌}
@@ -106,7 +106,7 @@ pub record IsMeshLink (plan : Plan) (service : ServiceId) (a b : ℕ) (row : Wir
   pub by_service : are_joined_by plan service a b ≡ true
   pub one_core : is_core_edge plan service a ≡ true
   pub other_core : is_core_edge plan service b ≡ true
-  pub ends : ends_at service a row ≡ true
+  pub ends : wire_ends_at service a row ≡ true
   pub far : far_of a row.path ≡ Some b
 
 pub mesh_link : (plan : Plan) (service : ServiceId) (a b : ℕ) (wire : WireId) (row : WirePlan) → IsChecked plan → has_short_paths plan ≡ true → wire_row plan wire ≡ Some row → is_mesh_of service row ≡ true → joins a b row.path ≡ true
@@ -245,7 +245,7 @@ pub record HasPortAt (plan : Plan) (service : ServiceId) (me : EdgeId) (wire : W
   pub found : position (is_wire_port wire) (ports_of plan service me) ≡ Some p
   pub leads : slice_get (ports_of plan service me) p ≡ Some (wire_port wire.0 row)
 
-pub port_found : (plan : Plan) (service : ServiceId) (me : EdgeId) (wire : WireId) (row : WirePlan) → wire_row plan wire ≡ Some row → ends_at service me.0 row ≡ true → HasPortAt plan service me wire row
+pub port_found : (plan : Plan) (service : ServiceId) (me : EdgeId) (wire : WireId) (row : WirePlan) → wire_row plan wire ≡ Some row → wire_ends_at service me.0 row ≡ true → HasPortAt plan service me wire row
 port_found plan service me wire row is ends =
     let has = has_wire_port plan service me wire.0 row is ends in
     let (p, at) = finds_wire_port wire (ports_of plan service me) has in

@@ -37,7 +37,7 @@ use Rattle.move_model.specs.Clearing.{IsCleared, IsMild, IsMildWay, clears}
 -- ---- the right way
 
 -- a wire between two edges
-pub record IsBetween (plan : Plan) (a b : ℕ) (wire : WireId) : Type 0 where
+pub record IsWireBetween (plan : Plan) (a b : ℕ) (wire : WireId) : Type 0 where
   pub row : WirePlan
   pub is : wire_row plan wire ≡ Some row
   pub joined : joins a b row.path ≡ true
@@ -47,7 +47,7 @@ pub record IsBetween (plan : Plan) (a b : ℕ) (wire : WireId) : Type 0 where
 abbrev pub LeadsHome : Plan → (core home : ℕ) → WireId → Option Port → Type 0
 LeadsHome plan core home wire None = ⊥
 LeadsHome plan core home wire (Some (port.Circuit at)) = Unit {0}
-LeadsHome plan core home wire (Some (port.Mesh mesh)) = IsBetween plan core home mesh
+LeadsHome plan core home wire (Some (port.Mesh mesh)) = IsWireBetween plan core home mesh
 LeadsHome plan core home wire (Some (port.Spoke spoke)) = (core ≡ home) × (spoke ≡ wire)
 
 -- a spoke of the service from its spoke edge to this core edge
@@ -83,7 +83,7 @@ EntriesHeal plan service site choices ways tables = (core : ℕ) → is_core_edg
 -- ---- the network
 
 -- a withdrawal is on its way between two edges that the service joins
-pub record IsPending (plan : Plan) (service : ServiceId) (network : NetworkState) (a b pw_id : ℕ) : Type 0 where
+pub record IsWithdrawalPending (plan : Plan) (service : ServiceId) (network : NetworkState) (a b pw_id : ℕ) : Type 0 where
   pub joined : are_joined_by plan service a b ≡ true
   pub there : stands network a b ≡ true
   pub cleared : IsCleared plan a b pw_id (flight network a b)
@@ -118,7 +118,7 @@ learned_in service network edge = (network.edges edge).learned service.0
 pub record Heals (plan : Plan) (service : ServiceId) (site : Sites) (calm network : NetworkState) : Type 0 where
   pub steady : (a b : ℕ) → are_joined_by plan service a b ≡ true → stands network a b ≡ true → IsSteady plan service network a b × IsSteady plan service network b a
   pub mesh : (a : ℕ) → KeepsMesh plan service a (network.edges a)
-  pub right : EntriesHeal plan service site (chosen_in service network) (IsPending plan service network) (learned_in service network)
+  pub right : EntriesHeal plan service site (chosen_in service network) (IsWithdrawalPending plan service network) (learned_in service network)
   pub table : (a : ℕ) → AllByRecursion (PointsToSite plan calm service site a) (learned_in service network a)
   pub live : (a : ℕ) → AllByRecursion (IsAtLive plan service a (network.edges a)) (learned_in service network a)
 
@@ -158,7 +158,7 @@ pub data WorkWays (plan : Plan) (service : ServiceId) (network : NetworkState) (
       → WorkWays plan service network me peer messages work a b pw_id
   ToHear : a ≡ peer → b ≡ me → are_joined_by plan service peer me ≡ true → stands network peer me ≡ true → some_message (clears pw_id) messages ≡ true
       → WorkWays plan service network me peer messages work a b pw_id
-  Waits : (a == me) ≡ false → (a == peer && b == me) ≡ false → IsPending plan service network a b pw_id → WorkWays plan service network me peer messages work a b pw_id
+  Waits : (a == me) ≡ false → (a == peer && b == me) ≡ false → IsWithdrawalPending plan service network a b pw_id → WorkWays plan service network me peer messages work a b pw_id
 
 pub record IsHealing (plan : Plan) (service : ServiceId) (site : Sites) (network : NetworkState) (me : EdgeId) (peer : ℕ) (messages : List Message) (work : Work) : Type 0 where
   pub stays : Stays plan service network me peer work

@@ -25,7 +25,7 @@ use Rattle.edge_model.specs.Frame.{destination, hearing, source}
 use Rattle.edge_model.specs.State.{EdgeState, addresses_of, is_on, with_addresses}
 use Rattle.edge_model.proofs.LocalLemmas.{and_left, and_right, is_not}
 use Rattle.network_model.specs.Reach.{is_circuit_of, is_circuit_on, is_row_of, is_row_on}
-use Rattle.network_model.specs.State.{NetworkState, at_edge}
+use Rattle.network_model.specs.State.{NetworkState, edge_at}
 use Rattle.network_model.specs.Window.{is_flooded_frame, is_unlearned, is_sourced, packet_teaches, some_teach, teaches}
 use Rattle.network_model.proofs.CalmLemmas.{below_holds}
 use Rattle.network_model.proofs.PlanLemmas.{circuit_of}
@@ -62,11 +62,11 @@ group_hearing entries frame group = rw group refl
 
 -- the bridge knows no port for the destination of a flooded frame
 pub unknown_heard : (plan : Plan) (network : NetworkState) (at : CircuitId) (octets frame : List ℕ) (row : CircuitPlan) (during : List Event)
-    → IsChecked plan → circuit_row plan at ≡ Some row → is_on (at_edge network row.edge) at ≡ true → inner_at plan at octets ≡ Ok frame
+    → IsChecked plan → circuit_row plan at ≡ Some row → is_on (edge_at network row.edge) at ≡ true → inner_at plan at octets ≡ Ok frame
     → is_flooded_frame plan network row.service frame (Frame at octets ∷ during) ≡ true
-    → (arrival : ℕ) → known_port (addresses_of (hearing row.service frame arrival (at_edge network row.edge)) row.service) (destination frame) ≡ None
+    → (arrival : ℕ) → known_port (addresses_of (hearing row.service frame arrival (edge_at network row.edge)) row.service) (destination frame) ≡ None
 unknown_heard plan network at octets frame row during checked is on formed floods arrival = elim (cases_Bool (goes_to_group frame)) [
-  | inl group ↦ group_hearing (addresses_of (hearing row.service frame arrival (at_edge network row.edge)) row.service) frame group
+  | inl group ↦ group_hearing (addresses_of (hearing row.service frame arrival (edge_at network row.edge)) row.service) frame group
   | inr single ↦
       (let unlearned : Bool = is_unlearned plan network row.service (destination_of frame) in
       let packets : Bool = not (list_any (packet_teaches plan row.service (destination_of frame)) network.under_way) in
@@ -79,7 +79,7 @@ unknown_heard plan network at octets frame row during checked is on formed flood
       let here_on : is_circuit_on plan network at ≡ true = ap (λ (r : Option CircuitPlan). is_row_on network at r) is ∙ on in
       let other : bytes_eq (source_of frame) (destination_of frame) ≡ false =
       ap (is_sourced (destination_of frame)) (sym formed) ∙ (rw (own, here_on) at first) in
-      unknown_hearing (at_edge network row.edge) row.service frame arrival (is_not (has_address (addresses_of (at_edge network row.edge) row.service) (destination frame)) here) other)
+      unknown_hearing (edge_at network row.edge) row.service frame arrival (is_not (has_address (addresses_of (edge_at network row.edge) row.service) (destination frame)) here) other)
 ] where
   first_of : (a b : Bool) → not (a || b) ≡ true → a ≡ false
   first_of false b holds = refl

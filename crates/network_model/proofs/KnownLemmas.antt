@@ -42,7 +42,7 @@ use Rattle.network_model.specs.KnownOnce.{ServesFramesOnce, ServesPacketsOnce, k
 use Rattle.network_model.specs.Laws.{RunsServeKnownOnce}
 use Rattle.network_model.specs.Packet.{arrive_event, packet_work}
 use Rattle.network_model.specs.Run.{state_after}
-use Rattle.network_model.specs.State.{NetworkState, at_edge, empty_network, with_edge, with_frame, without_packet}
+use Rattle.network_model.specs.State.{NetworkState, edge_at, empty_network, with_edge, with_frame, without_packet}
 use Rattle.network_model.proofs.PlaceLemmas.{IsPlaced, run_placed}
 
 -- how many copies of a frame an edge gives out
@@ -157,9 +157,9 @@ known_forwarded plan told came service frame q (Some arrival) work known = known
 known_work : (plan : Plan) (network : NetworkState) (circuit : CircuitId) (row : CircuitPlan) (octets frame : List ℕ) (q : ℕ)
     → inner_at plan circuit octets ≡ Ok frame → known_to plan network circuit row frame ≡ Some q → outs (frame_work plan network circuit octets row).effects ≤ 1
 unfolding outs idles
-known_work plan network circuit row octets frame q formed known = taken (is_own (at_edge network row.edge) row && is_on (at_edge network row.edge) circuit) where
+known_work plan network circuit row octets frame q formed known = taken (is_own (edge_at network row.edge) row && is_on (edge_at network row.edge) circuit) where
   edge : EdgeState
-  edge = at_edge network row.edge
+  edge = edge_at network row.edge
 
   taken : (b : Bool)
       → outs (cond b (received plan taken_all (arrival.Circuit circuit) row.service (port_at plan edge circuit row) (inner_at plan circuit octets) (begin_at network row.edge)) (idles (begin_at network row.edge))).effects ≤ 1
@@ -222,8 +222,8 @@ alerted_out plan (Ok entry) work none = by entry.bottom (advertiser plan work.ed
   by true (Some place) = of_end place.terminal
   by false owner = drop_out cause.NotBottom work none
 
-module _ (plan : Plan) (network : NetworkState) (packet : Packet) (place : EndPlace) (row : WirePlan) (frame : List ℕ) (q : ℕ) (me : (at_edge network packet.to).me ≡ packet.to)
-    (comes : ComesBy plan (at_edge network packet.to) packet.bytes place row) (formed : unpacked_at plan row packet.to (behind_entry packet.bytes) ≡ Ok frame)
+module _ (plan : Plan) (network : NetworkState) (packet : Packet) (place : EndPlace) (row : WirePlan) (frame : List ℕ) (q : ℕ) (me : (edge_at network packet.to).me ≡ packet.to)
+    (comes : ComesBy plan (edge_at network packet.to) packet.bytes place row) (formed : unpacked_at plan row packet.to (behind_entry packet.bytes) ≡ Ok frame)
     (known : known_behind plan network packet place row frame ≡ Some q) where
   start : Work
   start = begin_at network packet.to
@@ -231,15 +231,15 @@ module _ (plan : Plan) (network : NetworkState) (packet : Packet) (place : EndPl
   owned_out : outs (owned plan taken_all packet.bytes comes.entry (Some place) start).effects ≤ 1
   unfolding start
   owned_out = by place.terminal comes.terminal (wire_row plan place.wire) comes.is where
-    here : unpacked_at plan row (at_edge network packet.to).me (behind_entry packet.bytes) ≡ Ok frame
+    here : unpacked_at plan row (edge_at network packet.to).me (behind_entry packet.bytes) ≡ Ok frame
     here = ap (λ (e : EdgeId). unpacked_at plan row e (behind_entry packet.bytes)) me ∙ formed
 
     by : (terminal : Bool) → terminal ≡ true → (found : Option WirePlan) → found ≡ Some row
-        → outs (cond terminal (terminated plan taken_all place found (end_at (at_edge network packet.to) place).remote (behind_entry packet.bytes) start) (switched plan taken_all packet.bytes comes.entry place start)).effects ≤ 1
+        → outs (cond terminal (terminated plan taken_all place found (end_at (edge_at network packet.to) place).remote (behind_entry packet.bytes) start) (switched plan taken_all packet.bytes comes.entry place start)).effects ≤ 1
     by false is found same = absurd (cc (is))
     by true is found same =
-        subst (λ (r : Option WirePlan). outs (terminated plan taken_all place r (end_at (at_edge network packet.to) place).remote (behind_entry packet.bytes) start).effects ≤ 1) (sym same)
-        (terminated_out plan start place row (behind_entry packet.bytes) frame q refl here known (end_at (at_edge network packet.to) place).remote)
+        subst (λ (r : Option WirePlan). outs (terminated plan taken_all place r (end_at (edge_at network packet.to) place).remote (behind_entry packet.bytes) start).effects ≤ 1) (sym same)
+        (terminated_out plan start place row (behind_entry packet.bytes) frame q refl here known (end_at (edge_at network packet.to) place).remote)
 
   packet_out : outs (packet_work plan network packet).effects ≤ 1
   unfolding start
@@ -250,10 +250,10 @@ module _ (plan : Plan) (network : NetworkState) (packet : Packet) (place : EndPl
 
         by : (alert reserved bottom : Bool)
             → outs (cond alert (alerted plan (entry_of (behind_entry packet.bytes)) start)
-            (cond reserved (drops cause.NoLabel start) (cond bottom (owned plan taken_all packet.bytes comes.entry (advertiser plan (at_edge network packet.to) comes.entry.label) start) (drops cause.NotBottom start)))).effects ≤ 1
+            (cond reserved (drops cause.NoLabel start) (cond bottom (owned plan taken_all packet.bytes comes.entry (advertiser plan (edge_at network packet.to) comes.entry.label) start) (drops cause.NotBottom start)))).effects ≤ 1
         by true reserved bottom = alerted_out plan (entry_of (behind_entry packet.bytes)) start refl
         by false true bottom = drop_out cause.NoLabel start refl
-        by false false true = by_owner (advertiser plan (at_edge network packet.to) comes.entry.label) comes.owner
+        by false false true = by_owner (advertiser plan (edge_at network packet.to) comes.entry.label) comes.owner
         by false false false = drop_out cause.NotBottom start refl
 
   known_arrival : times_out packet.origin (arrive_event plan (Some packet) network).entries ≤ 1

@@ -26,7 +26,7 @@ use Rattle.network_model.specs.Frame.{entering, frame_event, frame_work, next_or
 use Rattle.network_model.specs.declared.packet.Packet.{Packet}
 use Rattle.network_model.specs.Packet.{again_event, arrive_event, discard_event, packet_at, packet_work}
 use Rattle.network_model.specs.Run.{state_after}
-use Rattle.network_model.specs.State.{NetworkState, at_edge, empty_network, stands, with_edge, with_frame, with_packet, with_pipe, without_octets_to, without_packet}
+use Rattle.network_model.specs.State.{NetworkState, edge_at, empty_network, stands, with_edge, with_frame, with_packet, with_pipe, without_octets_to, without_packet}
 use Rattle.network_model.specs.Step.{step}
 use Rattle.network_model.specs.Tick.{tick_at, ticks_from}
 use Rattle.network_model.specs.Wire.{priority_event, status_event, wire_event}
@@ -37,7 +37,7 @@ pub record IsPlaced (network : NetworkState) : Type 0 where
   pub me : (k : ℕ) → (network.edges k).me ≡ record { 0 = k }
 
 -- another state of an edge, of the same place
-edge_placed : (me : EdgeId) (edge : EdgeState) (network : NetworkState) → IsPlaced network → edge.me ≡ (at_edge network me).me → IsPlaced (with_edge me edge network)
+edge_placed : (me : EdgeId) (edge : EdgeState) (network : NetworkState) → IsPlaced network → edge.me ≡ (edge_at network me).me → IsPlaced (with_edge me edge network)
 unfolding with_edge
 edge_placed me edge network placed same = record {
   me = λ k.
@@ -52,10 +52,10 @@ all_placed : (me : EdgeId) (origin hops : ℕ) (es : List Effect) (network : Net
 all_placed me origin hops es network placed = record { me = λ k. ap (λ (edges : ℕ → EdgeState). (edges k).me) (all_keep me origin hops es network).edges ∙ placed.me k }
 
 -- one edge's work keeps them
-absorb_placed : (me : EdgeId) (origin hops : ℕ) (work : Work) (network : NetworkState) → IsPlaced network → work.edge.me ≡ (at_edge network me).me → IsPlaced (absorb me origin hops work network).state
+absorb_placed : (me : EdgeId) (origin hops : ℕ) (work : Work) (network : NetworkState) → IsPlaced network → work.edge.me ≡ (edge_at network me).me → IsPlaced (absorb me origin hops work network).state
 absorb_placed me origin hops work network placed same = all_placed me origin hops work.effects (with_edge me work.edge network) (edge_placed me work.edge network placed same)
 
-answer_placed : (me : EdgeId) (origin hops : ℕ) (work : Work) (network : NetworkState) → IsPlaced network → work.edge.me ≡ (at_edge network me).me → IsPlaced (answer me origin hops work network).state
+answer_placed : (me : EdgeId) (origin hops : ℕ) (work : Work) (network : NetworkState) → IsPlaced network → work.edge.me ≡ (edge_at network me).me → IsPlaced (answer me origin hops work network).state
 answer_placed me origin hops work network placed same = answered work.idle where
   answered : (idles : Bool) → IsPlaced (cond idles (idle network) (absorb me origin hops work network)).state
   answered true = placed
@@ -108,7 +108,7 @@ connecting_placed plan from to network placed =
     let one : NetworkState = with_edge from first.edge network in
     let both : NetworkState = with_edge to second.edge one in
     let here = edge_placed from first.edge network placed (connected_signals plan taken_all to (begin_at network from)).edge.me in
-    let own : second.edge.me ≡ (at_edge one to).me = (connected_signals plan taken_all from (begin_at network to)).edge.me ∙ (placed.me to.0 ∙ sym (here.me to.0)) in
+    let own : second.edge.me ≡ (edge_at one to).me = (connected_signals plan taken_all from (begin_at network to)).edge.me ∙ (placed.me to.0 ∙ sym (here.me to.0)) in
     all_placed to 0 0 second.effects (absorb_all from 0 0 first.effects both) (all_placed from 0 0 first.effects both (edge_placed to second.edge one here own))
 
 connect_placed : (plan : Plan) (from to : EdgeId) (network : NetworkState) → IsPlaced network → IsPlaced (connect_event plan from to network).state
@@ -130,7 +130,7 @@ delivering_placed plan from to count network placed =
     let octets : List ℕ = take count (network.pipes from.0 to.0) in
     let others : NetworkState = with_pipe from to (drop count (network.pipes from.0 to.0)) network in
     absorb_placed to 0 0 (hearing_work plan network from to octets) others (piped_placed from to (drop count (network.pipes from.0 to.0)) network placed)
-    (octets_signal plan taken_all from octets ((at_edge network to).peering from.0) (begin_at network to)).edge.me
+    (octets_signal plan taken_all from octets ((edge_at network to).peering from.0) (begin_at network to)).edge.me
 
 deliver_placed : (plan : Plan) (from to : EdgeId) (count : ℕ) (network : NetworkState) → IsPlaced network → IsPlaced (deliver_event plan from to count network).state
 deliver_placed plan from to count network placed = by (is_deliverable network from.0 to.0) (is_drained_pipe network from.0 to.0) where

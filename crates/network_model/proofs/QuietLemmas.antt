@@ -25,7 +25,7 @@ use Rattle.edge_model.proofs.SignalLemmas.{circuit_signals, connected_signals, i
 use Rattle.network_model.specs.Absorb.{Stepped, absorb, absorb_all, absorb_one, all_entries_of, answer, begin_at, idle, taken_all}
 use Rattle.network_model.specs.Circuit.{circuit_event}
 use Rattle.network_model.specs.Connection.{can_connect, connect_event, connected_work, connecting, deliver_event, delivering, given_out, hearing_work, is_deliverable, is_drained_pipe, lose_event, losing, losing_work, restart_event}
-use Rattle.network_model.specs.State.{NetworkState, at_edge, stands, with_edge, with_pipe, without_octets_to}
+use Rattle.network_model.specs.State.{NetworkState, edge_at, stands, with_edge, with_pipe, without_octets_to}
 use Rattle.network_model.specs.Step.{step}
 use Rattle.network_model.specs.Tick.{tick_at, tick_event, ticks_from}
 use Rattle.network_model.specs.Wire.{priority_event, status_event, wire_event}
@@ -87,7 +87,7 @@ connected_own plan network me peer = own_effects is_of_signalling (connected_wor
 
 pub hearing_own : (plan : Plan) (network : NetworkState) (from to : EdgeId) (octets : List ℕ) → are_all is_of_signalling (hearing_work plan network from to octets).effects ≡ true
 hearing_own plan network from to octets =
-    own_effects is_of_signalling (hearing_work plan network from to octets).effects (octets_signal plan taken_all from octets ((at_edge network to).peering from.0) (begin_at network to)).effects
+    own_effects is_of_signalling (hearing_work plan network from to octets).effects (octets_signal plan taken_all from octets ((edge_at network to).peering from.0) (begin_at network to)).effects
 
 pub losing_own : (plan : Plan) (network : NetworkState) (me peer : EdgeId) → are_all is_of_signalling (losing_work plan network me peer).effects ≡ true
 losing_own plan network me peer = own_effects is_of_signalling (losing_work plan network me peer).effects (lost_signals plan taken_all peer (begin_at network me)).effects

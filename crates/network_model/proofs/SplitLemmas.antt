@@ -25,7 +25,7 @@ use Rattle.network_model.specs.Frame.{entering, frame_event, frame_work, next_or
 use Rattle.network_model.specs.Laws.{RunsAreSplit}
 use Rattle.network_model.specs.Packet.{again_event, arrive_event, discard_event, packet_at, packet_work}
 use Rattle.network_model.specs.Run.{entries_along}
-use Rattle.network_model.specs.State.{NetworkState, at_edge, empty_network}
+use Rattle.network_model.specs.State.{NetworkState, edge_at, empty_network}
 use Rattle.network_model.specs.Step.{step}
 use Rattle.network_model.proofs.QuietLemmas.{NoneGoesOut, step_signals}
 
@@ -78,14 +78,14 @@ frame_split plan network circuit octets (Some row) is = taken (frame_work plan n
   taken false = (
     tt,
     effects_split plan row.edge (next_origin network) 0 _ (frame_work plan network circuit octets row).effects
-        (beside_split plan circuit row.edge octets (frame_work plan network circuit octets row).effects (input_stays plan taken_all (at_edge network row.edge) [] circuit octets (Some row) is)),
+        (beside_split plan circuit row.edge octets (frame_work plan network circuit octets row).effects (input_stays plan taken_all (edge_at network row.edge) [] circuit octets (Some row) is)),
   )
 
 arrive_split : (plan : Plan) (network : NetworkState) (found : Option Packet) → Split plan (arrive_event plan found network).entries
 arrive_split plan network None = (tt, tt)
 arrive_split plan network (Some packet) =
     effects_split plan packet.to packet.origin packet.hops _ (packet_work plan network packet).effects
-    (behind_split plan (at_edge network packet.to) packet.to packet.bytes (packet_work plan network packet).effects (packet_stays plan taken_all (at_edge network packet.to) [] packet.bytes))
+    (behind_split plan (edge_at network packet.to) packet.to packet.bytes (packet_work plan network packet).effects (packet_stays plan taken_all (edge_at network packet.to) [] packet.bytes))
 
 discard_split : (plan : Plan) (network : NetworkState) (found : Option Packet) → Split plan (discard_event found network).entries
 discard_split plan network None = (tt, tt)

@@ -7,7 +7,7 @@ use Rattle.net_base.specs.declared.trace.entry.Entry.TheVariants as entry
 use Rattle.edge_model.specs.declared.effect.Effect.{Effect}
 use Rattle.edge_model.specs.declared.effect.Effect.TheVariants as effect
 use Rattle.edge_model.specs.Work.{Work, Answers, beginning}
-use Rattle.network_model.specs.State.{NetworkState, at_edge, stands, with_edge, with_packet, with_pipe}
+use Rattle.network_model.specs.State.{NetworkState, edge_at, stands, with_edge, with_packet, with_pipe}
 
 -- what an event makes of a network, and what it tells
 pub record Stepped : Type 0 where
@@ -15,8 +15,8 @@ pub record Stepped : Type 0 where
   pub entries : List Entry
 
 -- nothing happens
-abbrev pub stays : NetworkState → Stepped
-stays network = record { state = network; entries = [] }
+abbrev pub network_stays : NetworkState → Stepped
+network_stays network = record { state = network; entries = [] }
 
 -- the event does not apply
 abbrev pub idle : NetworkState → Stepped
@@ -39,15 +39,15 @@ absorb_one me origin hops (effect.Closed peer) network = with_pipe peer me [] ne
 absorb_one me origin hops other network = network
 
 -- what the network tells of it
-abbrev pub entries_of : EdgeId → ℕ → ℕ → Effect → NetworkState → List Entry
-entries_of me origin hops (effect.Said peer octets) network = entry.Said me peer octets ∷ []
-entries_of me origin hops (effect.Sent peer wire came octets) network = entry.Sent (network.sent + 1) me peer wire came origin (hops + 1) octets ∷ []
-entries_of me origin hops (effect.Left circuit octets) network = entry.Left circuit origin hops octets ∷ []
-entries_of me origin hops (effect.Dropped cause) network = entry.Dropped me origin cause ∷ []
-entries_of me origin hops (effect.Session peer state) network = entry.Session me peer state ∷ []
-entries_of me origin hops (effect.Wire wire down) network = entry.Wire me wire down ∷ []
-entries_of me origin hops (effect.Pong wire sequence) network = entry.Pong me wire sequence ∷ []
-entries_of me origin hops (effect.Closed peer) network = []
+abbrev pub entries_told : EdgeId → ℕ → ℕ → Effect → NetworkState → List Entry
+entries_told me origin hops (effect.Said peer octets) network = entry.Said me peer octets ∷ []
+entries_told me origin hops (effect.Sent peer wire came octets) network = entry.Sent (network.sent + 1) me peer wire came origin (hops + 1) octets ∷ []
+entries_told me origin hops (effect.Left circuit octets) network = entry.Left circuit origin hops octets ∷ []
+entries_told me origin hops (effect.Dropped cause) network = entry.Dropped me origin cause ∷ []
+entries_told me origin hops (effect.Session peer state) network = entry.Session me peer state ∷ []
+entries_told me origin hops (effect.Wire wire down) network = entry.Wire me wire down ∷ []
+entries_told me origin hops (effect.Pong wire sequence) network = entry.Pong me wire sequence ∷ []
+entries_told me origin hops (effect.Closed peer) network = []
 
 -- all effects of an edge in order
 abbrev pub absorb_all : EdgeId → ℕ → ℕ → List Effect → NetworkState → NetworkState
@@ -57,7 +57,7 @@ absorb_all me origin hops (e ∷ es) network = absorb_all me origin hops es (abs
 abbrev pub all_entries_of : EdgeId → ℕ → ℕ → List Effect → NetworkState → List Entry
 all_entries_of me origin hops [] network = []
 all_entries_of me origin hops (e ∷ es) network =
-    entries_of me origin hops e network ++ all_entries_of me origin hops es (absorb_one me origin hops e network)
+    entries_told me origin hops e network ++ all_entries_of me origin hops es (absorb_one me origin hops e network)
 
 -- the work of an edge on an input of this origin, which has passed so many segments
 abbrev pub absorb : EdgeId → ℕ → ℕ → Work → NetworkState → Stepped
@@ -76,4 +76,4 @@ taken_all k = true
 
 -- an edge of the network before an input
 abbrev pub begin_at : NetworkState → EdgeId → Work
-begin_at network me = beginning (at_edge network me) []
+begin_at network me = beginning (edge_at network me) []

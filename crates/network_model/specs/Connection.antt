@@ -9,7 +9,7 @@ use Rattle.edge_model.specs.declared.effect.Effect.{Effect}
 use Rattle.edge_model.specs.Hear.{octets_input}
 use Rattle.edge_model.specs.Work.{Work}
 use Rattle.network_model.specs.Absorb.{Stepped, absorb, absorb_all, all_entries_of, and_then, begin_at, idle, taken_all}
-use Rattle.network_model.specs.State.{NetworkState, at_edge, stands, with_edge, with_pipe, without_octets_to}
+use Rattle.network_model.specs.State.{NetworkState, edge_at, stands, with_edge, with_pipe, without_octets_to}
 
 -- ---- a connection comes up
 
@@ -48,7 +48,7 @@ is_deliverable network from to = stands network to from && (not (is_drained_pipe
 
 -- the work of an edge that hears octets, and of one whose end is lost
 abbrev pub hearing_work : Plan → NetworkState → EdgeId → EdgeId → List ℕ → Work
-hearing_work plan network from to octets = octets_input plan taken_all from octets ((at_edge network to).peering from.0) (begin_at network to)
+hearing_work plan network from to octets = octets_input plan taken_all from octets ((edge_at network to).peering from.0) (begin_at network to)
 
 abbrev pub losing_work : Plan → NetworkState → EdgeId → EdgeId → Work
 losing_work plan network me peer = lost_input plan taken_all peer (begin_at network me)

@@ -22,7 +22,7 @@ use Rattle.network_model.specs.declared.packet.Packet.{Packet}
 use Rattle.network_model.specs.Frame.{next_origin}
 use Rattle.network_model.specs.Packet.{packet_at}
 use Rattle.network_model.specs.Run.{state_after}
-use Rattle.network_model.specs.State.{NetworkState, at_edge, empty_network}
+use Rattle.network_model.specs.State.{NetworkState, edge_at, empty_network}
 use Rattle.network_model.specs.Step.{step}
 
 -- how many copies of the frame went out: left at a circuit, or were sent on a wire
@@ -40,7 +40,7 @@ known_after service frame (Some arrival) edge = known_port (addresses_of (hearin
 -- the same at the edge of a circuit by which the frame comes
 abbrev pub known_to : Plan → NetworkState → CircuitId → CircuitPlan → List ℕ → Option ℕ
 known_to plan network circuit row frame =
-    known_after row.service frame (port_at plan (at_edge network row.edge) circuit row) (at_edge network row.edge)
+    known_after row.service frame (port_at plan (edge_at network row.edge) circuit row) (edge_at network row.edge)
 
 -- in this state: what the step of a frame tells of the frame is one copy at most, where the bridge then knows its station
 abbrev pub ServesFramesOnce : Plan → NetworkState → Type 0
@@ -53,13 +53,13 @@ ServesFramesOnce plan network = (circuit : CircuitId) (row : CircuitPlan) (octet
 -- the port that the bridge of the wire's service knows at the edge that a packet reaches, once it has heard the frame by the wire
 abbrev pub known_behind : Plan → NetworkState → Packet → EndPlace → WirePlan → List ℕ → Option ℕ
 known_behind plan network packet place row frame =
-    known_after row.service frame (port_of_wire plan (at_edge network packet.to) place.wire row) (at_edge network packet.to)
+    known_after row.service frame (port_of_wire plan (edge_at network packet.to) place.wire row) (edge_at network packet.to)
 
 -- and so it is with the step of a packet: what it tells of the packet's frame is one copy at most
 abbrev pub ServesPacketsOnce : Plan → NetworkState → Type 0
 ServesPacketsOnce plan network = (number : ℕ) (packet : Packet) (place : EndPlace) (row : WirePlan) (frame : List ℕ) (port : ℕ)
     → packet_at network number ≡ Some packet
-    → ComesBy plan (at_edge network packet.to) packet.bytes place row
+    → ComesBy plan (edge_at network packet.to) packet.bytes place row
     → unpacked_at plan row packet.to (behind_entry packet.bytes) ≡ Ok frame
     → known_behind plan network packet place row frame ≡ Some port
     → times_out packet.origin (step plan network (Arrive number)).entries ≤ 1

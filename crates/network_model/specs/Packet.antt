@@ -8,7 +8,7 @@ use Rattle.net_base.specs.declared.trace.event.Event.TheVariants.{Arrive}
 use Rattle.edge_model.specs.Packet.{packet_input}
 use Rattle.edge_model.specs.Work.{Work}
 use Rattle.network_model.specs.declared.packet.Packet.{Packet}
-use Rattle.network_model.specs.Absorb.{Stepped, absorb, begin_at, idle, stays, taken_all}
+use Rattle.network_model.specs.Absorb.{Stepped, absorb, begin_at, idle, network_stays, taken_all}
 use Rattle.network_model.specs.State.{NetworkState, with_packet, without_packet}
 
 -- the packet under way with a number
@@ -30,7 +30,7 @@ arrive_event plan (Some packet) network = arriving plan packet network
 -- a packet is lost on its way
 abbrev pub discard_event : Option Packet → NetworkState → Stepped
 discard_event None network = idle network
-discard_event (Some packet) network = stays (without_packet packet.number network)
+discard_event (Some packet) network = network_stays (without_packet packet.number network)
 
 -- a copy of a packet is under way under the next number, with the same origin and hops
 abbrev pub repeating : Packet → NetworkState → Stepped

@@ -10,7 +10,7 @@ use Rattle.net_base.specs.plan.Places.{circuit_row, wire_row}
 use Rattle.hvpls_spokes.specs.declared.port.Port.{Port}
 use Rattle.hvpls_spokes.specs.declared.port.Port.TheVariants as port
 use Rattle.edge_model.specs.State.{is_on}
-use Rattle.network_model.specs.State.{NetworkState, at_edge}
+use Rattle.network_model.specs.State.{NetworkState, edge_at}
 use Rattle.net_base.specs.plan.Paths.{last_edge}
 use Rattle.net_base.specs.plan.Roles.{is_spoke_edge}
 use Rattle.network_model.specs.Calm.{is_live_spoke}
@@ -25,7 +25,7 @@ is_circuit_of plan service circuit = is_row_of service (circuit_row plan circuit
 
 abbrev pub is_row_on : NetworkState → CircuitId → Option CircuitPlan → Bool
 is_row_on network circuit None = false
-is_row_on network circuit (Some row) = is_on (at_edge network row.edge) circuit
+is_row_on network circuit (Some row) = is_on (edge_at network row.edge) circuit
 
 abbrev pub is_circuit_on : Plan → NetworkState → CircuitId → Bool
 is_circuit_on plan network circuit = is_row_on network circuit (circuit_row plan circuit)
@@ -39,8 +39,8 @@ abbrev pub is_row_at : ℕ → Option CircuitPlan → Bool
 is_row_at edge None = false
 is_row_at edge (Some row) = row.edge.0 == edge
 
-abbrev pub is_at : Plan → ℕ → CircuitId → Bool
-is_at plan edge circuit = is_row_at edge (circuit_row plan circuit)
+abbrev pub circuit_is_at : Plan → ℕ → CircuitId → Bool
+circuit_is_at plan edge circuit = is_row_at edge (circuit_row plan circuit)
 
 -- the place of the last edge of a path
 abbrev pub last_place : List EdgeId → Option ℕ
@@ -77,10 +77,10 @@ far_of edge (first ∷ rest) = if edge == first.0 then last_place (first ∷ res
 
 -- the circuits of the service at an edge, and all others of the service
 abbrev pub at_edge_of : Plan → ServiceId → ℕ → CircuitId → Bool
-at_edge_of plan service edge circuit = is_circuit_of plan service circuit && is_at plan edge circuit
+at_edge_of plan service edge circuit = is_circuit_of plan service circuit && circuit_is_at plan edge circuit
 
 abbrev pub elsewhere_of : Plan → ServiceId → ℕ → CircuitId → Bool
-elsewhere_of plan service edge circuit = is_circuit_of plan service circuit && not (is_at plan edge circuit)
+elsewhere_of plan service edge circuit = is_circuit_of plan service circuit && not (circuit_is_at plan edge circuit)
 
 abbrev pub beside_far : Plan → NetworkState → ServiceId → Option ℕ → CircuitId → Bool
 beside_far plan network service None circuit = false

@@ -29,8 +29,8 @@ empty_network plan = record {
 }
 
 -- the state of an edge
-abbrev pub at_edge : NetworkState → EdgeId → EdgeState
-at_edge network edge = network.edges edge.0
+abbrev pub edge_at : NetworkState → EdgeId → EdgeState
+edge_at network edge = network.edges edge.0
 
 -- an edge's end of its connection with a peer stands
 abbrev pub stands : NetworkState → ℕ → ℕ → Bool

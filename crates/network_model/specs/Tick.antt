@@ -3,7 +3,7 @@ use Rattle.std.specs.Prelude.{◌+◌, ℕ, zero, suc, length}
 use Rattle.net_base.specs.declared.plan.Plan.{Plan}
 use Rattle.net_base.specs.declared.plan.places.EdgeId.{EdgeId}
 use Rattle.edge_model.specs.Tick.{tick_input}
-use Rattle.network_model.specs.Absorb.{Stepped, absorb, and_then, begin_at, stays, taken_all}
+use Rattle.network_model.specs.Absorb.{Stepped, absorb, and_then, begin_at, network_stays, taken_all}
 use Rattle.network_model.specs.State.{NetworkState}
 
 -- the tick of one edge
@@ -12,7 +12,7 @@ tick_at plan me network = absorb me 0 0 (tick_input plan taken_all (begin_at net
 
 -- so many edges from a place on
 abbrev pub ticks_from : Plan → ℕ → ℕ → NetworkState → Stepped
-ticks_from plan place zero network = stays network
+ticks_from plan place zero network = network_stays network
 ticks_from plan place (suc count) network = and_then (tick_at plan (record { 0 = place }) network) (ticks_from plan (place + 1) count)
 
 abbrev pub tick_event : Plan → NetworkState → Stepped

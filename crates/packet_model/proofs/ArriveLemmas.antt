@@ -28,7 +28,7 @@ use Rattle.edge_model.proofs.CopyLemmas.{found_among, found_passes}
 use Rattle.edge_model.proofs.PlaceLemmas.{IsEndOf, places_are}
 use Rattle.network_model.specs.declared.packet.Packet.{Packet}
 use Rattle.network_model.specs.State.{NetworkState}
-use Rattle.flight_model.specs.Rules.{owns}
+use Rattle.flight_model.specs.Rules.{part_owns}
 use Rattle.flight_model.proofs.StableLemmas.{terminal_offer}
 use Rattle.flight_model.proofs.TellLemmas.{TellsOwnOffer}
 use Rattle.packet_model.specs.Carried.{IsCarried}
@@ -66,7 +66,7 @@ few_left : (ttl points : ℕ) → points ≤ 5 → ttl + points ≡ 255 → IsAl
 few_left ttl points few left = record { least = omega (arith, few, left); most = omega (arith, few, left) }
 
 -- an end that advertises a label owns it
-advertises_owns : (label : ℕ) (local : LocalPart) → advertises_label label local ≡ true → owns local label ≡ true
+advertises_owns : (label : ℕ) (local : LocalPart) → advertises_label label local ≡ true → part_owns local label ≡ true
 advertises_owns label (Idle declined) e = absurd (cc (e))
 advertises_owns label (Advertised own told) e = e
 advertises_owns label (Withdrawing own) e = absurd (cc (e))
@@ -74,7 +74,7 @@ advertises_owns label (Withdrawing own) e = absurd (cc (e))
 -- the end that is found for a label
 pub record IsOwner (plan : Plan) (edge : EdgeState) (label : ℕ) (place : EndPlace) : Type 0 where
   pub end : IsEndOf plan edge.me place
-  pub owned : owns (edge.ends place.wire.0 place.peer.0).local label ≡ true
+  pub owned : part_owns (edge.ends place.wire.0 place.peer.0).local label ≡ true
 
 pub owner_is : (plan : Plan) (edge : EdgeState) (label : ℕ) (place : EndPlace) → advertiser plan edge label ≡ Some place → IsOwner plan edge label place
 owner_is plan edge label place found = record {

@@ -34,7 +34,7 @@ use Rattle.network_model.proofs.PacketListLemmas.{packet_from, packets_of}
 use Rattle.flight_model.proofs.RuledNetworkLemmas.{IsRuledNetwork}
 use Rattle.flight_model.proofs.StableLemmas.{IsPlannedBinding, IsPlannedEnd, end_is_planned, terminal_offer}
 use Rattle.flight_model.proofs.TellLemmas.{TellsOwnOffer}
-use Rattle.packet_model.specs.Carried.{HasEntered, IsCarried, IsPacked}
+use Rattle.packet_model.specs.Carried.{HasEnteredService, IsCarried, IsPacked}
 use Rattle.packet_model.proofs.PackLemmas.{HaveSameMode, expected_offer, forwarding_agrees, pushed_fits, pushed_mode, pushed_same, told_vlan, wire_checked}
 
 -- ---- frames that entered
@@ -48,7 +48,7 @@ pub record HasCome (plan : Plan) (trace : List Entry) (service : ServiceId) (ori
   pub formed : inner_at plan sender octets ≡ Ok frame
 
 -- as the frame of a wire of the service
-pub entered_of : (plan : Plan) (trace : List Entry) (row : WirePlan) (service : ServiceId) (origin : ℕ) (frame : List ℕ) → row.service ≡ service → HasCome plan trace service origin frame → HasEntered plan trace row origin frame
+pub entered_of : (plan : Plan) (trace : List Entry) (row : WirePlan) (service : ServiceId) (origin : ℕ) (frame : List ℕ) → row.service ≡ service → HasCome plan trace service origin frame → HasEnteredService plan trace row origin frame
 entered_of plan trace row service origin frame same come = record {
   sender = come.sender;
   octets = come.octets;
@@ -57,7 +57,7 @@ entered_of plan trace row service origin frame same come = record {
   formed = come.formed;
 }
 
-pub come_of : (plan : Plan) (trace : List Entry) (row : WirePlan) (origin : ℕ) (frame : List ℕ) → HasEntered plan trace row origin frame → HasCome plan trace row.service origin frame
+pub come_of : (plan : Plan) (trace : List Entry) (row : WirePlan) (origin : ℕ) (frame : List ℕ) → HasEnteredService plan trace row origin frame → HasCome plan trace row.service origin frame
 come_of plan trace row origin frame entered = record { sender = entered.sender; octets = entered.octets; told = entered.told; of_service = entered.service; formed = entered.formed }
 
 -- it has come still when more was told

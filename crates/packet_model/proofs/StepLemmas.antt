@@ -28,7 +28,7 @@ use Rattle.network_model.specs.declared.packet.Packet.{Packet}
 use Rattle.network_model.specs.Absorb.{Stepped, absorb, absorb_one, all_entries_of, idle, taken_all}
 use Rattle.network_model.specs.Frame.{entering, frame_event, frame_work, next_origin}
 use Rattle.network_model.specs.Packet.{again_event, arrive_event, arriving, discard_event, packet_at, packet_work, repeating}
-use Rattle.network_model.specs.State.{NetworkState, at_edge, with_edge, with_frame, without_number, without_packet}
+use Rattle.network_model.specs.State.{NetworkState, edge_at, with_edge, with_frame, without_number, without_packet}
 use Rattle.network_model.specs.Step.{brings, step}
 use Rattle.network_model.proofs.InnerLemmas.{has_row, inner_there}
 use Rattle.network_model.proofs.PacketListLemmas.{append_holds, absorb_sends, holds_by, packet_holds, packet_sends, packets_of, without_hold}
@@ -237,7 +237,7 @@ entering_right plan network trace circuit octets row checked ruled rule is =
     (absorb_right plan network (with_frame network) told row.edge origin 0 work
     (subst (AllByRecursion (IsCarried plan network told)) (sym (frame_leaves network)) (all_on plan network trace (In circuit origin octets ∷ []) network.under_way rule))
     (frame_right plan network told circuit origin octets row work.effects checked ruled is (among-last (In circuit origin octets) trace)
-    (local.frame_work plan taken_all (at_edge network row.edge) [] circuit octets (Some row))))
+    (local.frame_work plan taken_all (edge_at network row.edge) [] circuit octets (Some row))))
 
 frame_event_right : (plan : Plan) (network : NetworkState) (trace : List Entry) (circuit : CircuitId) (octets : List ℕ) (row : Option CircuitPlan)
     → IsChecked plan → IsRuledNetwork plan network → KeepsPacketRule plan network trace → circuit_row plan circuit ≡ row → StepsRight plan network trace (frame_event plan circuit octets row network)
@@ -262,7 +262,7 @@ arriving_right : (plan : Plan) (network : NetworkState) (trace : List Entry) (pa
 arriving_right plan network trace packet checked ruled rule carried =
     let work : Work = packet_work plan network packet in
     absorb_right plan network (without_packet packet.number network) trace packet.to packet.origin packet.hops work (without_right plan network trace packet.number rule)
-    (packet_right plan network trace packet work.effects checked ruled carried (behind.packet_work plan taken_all (at_edge network packet.to) [] packet.bytes))
+    (packet_right plan network trace packet work.effects checked ruled carried (behind.packet_work plan taken_all (edge_at network packet.to) [] packet.bytes))
 
 arrive_right : (plan : Plan) (network : NetworkState) (trace : List Entry) (number : ℕ) (found : Option Packet) → IsChecked plan → IsRuledNetwork plan network → KeepsPacketRule plan network trace
     → packet_at network number ≡ found → StepsRight plan network trace (arrive_event plan found network)

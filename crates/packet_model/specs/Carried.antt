@@ -18,7 +18,7 @@ use Rattle.network_model.specs.declared.packet.Packet.{Packet}
 use Rattle.network_model.specs.State.{NetworkState}
 
 -- a frame with this number entered in the service, with this inner frame
-pub record HasEntered (plan : Plan) (trace : List Entry) (row : WirePlan) (origin : ℕ) (frame : List ℕ) : Type 0 where
+pub record HasEnteredService (plan : Plan) (trace : List Entry) (row : WirePlan) (origin : ℕ) (frame : List ℕ) : Type 0 where
   pub sender : CircuitId
   pub octets : List ℕ
   pub told : Among (In sender origin octets) trace
@@ -45,7 +45,7 @@ pub record IsCarried (plan : Plan) (network : NetworkState) (trace : List Entry)
   pub is : wire_row plan packet.wire ≡ Some row
   pub joined : joins packet.from.0 packet.to.0 row.path ≡ true
   pub frame : List ℕ
-  pub entered : HasEntered plan trace row packet.origin frame
+  pub entered : HasEnteredService plan trace row packet.origin frame
   pub label : ℕ
   pub is_label : IsLabel label
   pub packed : IsPacked plan row packet label frame

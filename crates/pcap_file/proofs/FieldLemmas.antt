@@ -7,7 +7,7 @@ use Rattle.pcap_file.specs.declared.capture_field.CaptureField.{CaptureField}
 use Rattle.pcap_file.specs.declared.capture_field.CaptureField.TheVariants.{Major, Minor, Zone, Accuracy, Snap, Network, Captured, Data}
 use Rattle.pcap_file.specs.declared.endianness.Endianness.{Endianness}
 use Rattle.pcap_file.specs.declared.endianness.Endianness.TheVariants.{Big}
-use Rattle.pcap_file.specs.Fields.{place_of, size_of, value_fault, field_fault, first_fault, header_fields, record_fields}
+use Rattle.pcap_file.specs.Fields.{field_place, field_size, value_fault, field_fault, first_field_fault, header_fields, record_fields}
 use Rattle.pcap_file.specs.Numbers.{number_at, order_told}
 use Rattle.pcap_file.specs.Records.{HasHeader}
 
@@ -27,20 +27,20 @@ not_refused false fault more e = (refl, e)
 
 -- a field that has no fault is whole, and its value is right
 pub field_sound : (base : ℕ) (order : Endianness) (octets : List ℕ) (field : CaptureField) → field_fault base order octets field ≡ None
-    → (place_of field + size_of order octets field ≤ length octets) × (value_fault base order octets field ≡ None)
+    → (field_place field + field_size order octets field ≤ length octets) × (value_fault base order octets field ≡ None)
 field_sound base order octets field e =
-    let (whole, value) = not_refused (nat_lt (length octets) (place_of field + size_of order octets field)) _ (value_fault base order octets field) e in
+    let (whole, value) = not_refused (nat_lt (length octets) (field_place field + field_size order octets field)) _ (value_fault base order octets field) e in
     (grind (arith, whole), value)
 
 -- where fields have no first fault, none of them has a fault
-all_sound : (base : ℕ) (order : Endianness) (octets : List ℕ) (fields : List CaptureField) → first_fault base order octets fields ≡ None → AllByRecursion (λ field. field_fault base order octets field ≡ None) fields
+all_sound : (base : ℕ) (order : Endianness) (octets : List ℕ) (fields : List CaptureField) → first_field_fault base order octets fields ≡ None → AllByRecursion (λ field. field_fault base order octets field ≡ None) fields
 all_sound base order octets [] none = tt
 all_sound base order octets (field ∷ fields) none =
-    let (one, others) = both_none (field_fault base order octets field) (first_fault base order octets fields) none in
+    let (one, others) = both_none (field_fault base order octets field) (first_field_fault base order octets fields) none in
     (one, all_sound base order octets fields others)
 
 -- a header whose fields have no fault is one
-pub header_sound : (order : Endianness) (octets : List ℕ) → 4 ≤ length octets → order_told (number_at Big 4 0 octets) ≡ Some order → first_fault 0 order octets header_fields ≡ None → HasHeader order octets
+pub header_sound : (order : Endianness) (octets : List ℕ) → 4 ≤ length octets → order_told (number_at Big 4 0 octets) ≡ Some order → first_field_fault 0 order octets header_fields ≡ None → HasHeader order octets
 header_sound order octets there told none =
     let sound = all_sound 0 order octets header_fields none in
     let (whole, network) = field_sound 0 order octets Network sound.1.1.1.1.1.0 in
@@ -57,25 +57,25 @@ pub record BeginsRecord (order : Endianness) (octets : List ℕ) (count : ℕ) :
 
 -- where no field of a record has a fault, octets begin with one
 
-pub record_sound : (base : ℕ) (order : Endianness) (octets : List ℕ) → first_fault base order octets record_fields ≡ None → BeginsRecord order octets (number_at order 4 8 octets)
+pub record_sound : (base : ℕ) (order : Endianness) (octets : List ℕ) → first_field_fault base order octets record_fields ≡ None → BeginsRecord order octets (number_at order 4 8 octets)
 record_sound base order octets none =
     let sound = all_sound base order octets record_fields none in
     let most : nat_le (number_at order 4 8 octets) 262144 ≡ true = passed _ _ (field_sound base order octets Captured sound.1.1.0).1 in
     record { whole = (field_sound base order octets Data sound.1.1.1.1.0).0; captured = refl; most = grind (arith, most) }
 
 -- a field that is whole, with a right value, has no fault
-pub field_passes : (base : ℕ) (order : Endianness) (octets : List ℕ) (field : CaptureField) → place_of field + size_of order octets field ≤ length octets → value_fault base order octets field ≡ None → field_fault base order octets field ≡ None
+pub field_passes : (base : ℕ) (order : Endianness) (octets : List ℕ) (field : CaptureField) → field_place field + field_size order octets field ≤ length octets → value_fault base order octets field ≡ None → field_fault base order octets field ≡ None
 field_passes base order octets field whole right =
-    let enough : nat_lt (length octets) (place_of field + size_of order octets field) ≡ false = grind (arith, whole) in
+    let enough : nat_lt (length octets) (field_place field + field_size order octets field) ≡ false = grind (arith, whole) in
     rw enough right
 
 -- fields without a fault have no first fault
-pub first_passes : (base : ℕ) (order : Endianness) (octets : List ℕ) (fields : List CaptureField) → AllByRecursion (λ field. field_fault base order octets field ≡ None) fields → first_fault base order octets fields ≡ None
+pub first_passes : (base : ℕ) (order : Endianness) (octets : List ℕ) (fields : List CaptureField) → AllByRecursion (λ field. field_fault base order octets field ≡ None) fields → first_field_fault base order octets fields ≡ None
 first_passes base order octets [] all = refl
 first_passes base order octets (field ∷ fields) all = rw (all.0) (first_passes base order octets fields all.1)
 
 -- a header has no fault
-pub header_passes : (order : Endianness) (octets : List ℕ) → HasHeader order octets → first_fault 0 order octets header_fields ≡ None
+pub header_passes : (order : Endianness) (octets : List ℕ) → HasHeader order octets → first_field_fault 0 order octets header_fields ≡ None
 header_passes order octets header =
     let there = header.there in
     let passes = field_passes 0 order octets in

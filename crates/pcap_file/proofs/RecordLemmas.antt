@@ -10,11 +10,11 @@ use Rattle.pcap_file.specs.declared.capture_fault.CaptureFault.{CaptureFault}
 use Rattle.pcap_file.specs.declared.capture_field.CaptureField.TheVariants.{Seconds, Fraction, Captured, Original, Data}
 use Rattle.pcap_file.specs.declared.endianness.Endianness.{Endianness}
 use Rattle.pcap_file.specs.declared.endianness.Endianness.TheVariants.{Big, Little}
-use Rattle.pcap_file.specs.Fields.{first_fault, record_fields}
+use Rattle.pcap_file.specs.Fields.{first_field_fault, record_fields}
 use Rattle.pcap_file.specs.FirstFault.{HasBrokenRecord}
 use Rattle.pcap_file.specs.Numbers.{number_at}
 use Rattle.pcap_file.proofs.FieldLemmas.{BeginsRecord, field_passes, first_passes}
-use Rattle.pcap_file.specs.Records.{PacketRecord, IsPacketRecord, AreRecords, spell, frame_of}
+use Rattle.pcap_file.specs.Records.{PacketRecord, IsPacketRecord, AreRecords, spell_record, record_frame}
 
 -- a number in the front is that of all
 pub number_front : (order : Endianness) (size place : ℕ) (xs ys : List ℕ) → place + size ≤ length xs → number_at order size place (xs ++ ys) ≡ number_at order size place xs
@@ -25,15 +25,15 @@ all_more : (order : Endianness) (rs : List PacketRecord) (r : PacketRecord) → 
 all_more order [] r all is = (is, tt)
 all_more order (q ∷ rs) r all is = (all.0, all_more order rs r all.1 is)
 
-frames_more : (rs : List PacketRecord) (r : PacketRecord) → map frame_of (rs ++ r ∷ []) ≡ map frame_of rs ++ r.frame ∷ []
+frames_more : (rs : List PacketRecord) (r : PacketRecord) → map record_frame (rs ++ r ∷ []) ≡ map record_frame rs ++ r.frame ∷ []
 frames_more [] r = refl
 frames_more (q ∷ rs) r = ap (λ (l : List (List ℕ)). q.frame ∷ l) (frames_more rs r)
 
 -- one record more behind records
-pub records_more : (order : Endianness) (octets : List ℕ) (frames : List (List ℕ)) (r : PacketRecord) → AreRecords order octets frames → IsPacketRecord order r → AreRecords order (octets ++ spell r) (frames ++ r.frame ∷ [])
+pub records_more : (order : Endianness) (octets : List ℕ) (frames : List (List ℕ)) (r : PacketRecord) → AreRecords order octets frames → IsPacketRecord order r → AreRecords order (octets ++ spell_record r) (frames ++ r.frame ∷ [])
 records_more order octets frames r are is = record {
   records = are.records ++ r ∷ [];
-  joined = ap (λ (l : List ℕ). l ++ spell r) are.joined ∙ (ap (λ (l : List ℕ). flat_map spell are.records ++ l) (sym (append-nil (spell r))) ∙ sym (flat_map-append spell are.records (r ∷ [])));
+  joined = ap (λ (l : List ℕ). l ++ spell_record r) are.joined ∙ (ap (λ (l : List ℕ). flat_map spell_record are.records ++ l) (sym (append-nil (spell_record r))) ∙ sym (flat_map-append spell_record are.records (r ∷ [])));
   are = all_more order are.records r are.are is;
   of = ap (λ (l : List (List ℕ)). l ++ r.frame ∷ []) are.of ∙ sym (frames_more are.records r);
 }
@@ -73,7 +73,7 @@ all_records order octets frames at are whole = subst (λ (l : List ℕ). AreReco
 
 -- octets from a place on whose fields have a fault break the record that begins there
 pub broken_at : (order : Endianness) (octets rest : List ℕ) (frames : List (List ℕ)) (at base : ℕ) (fault : CaptureFault) → at < length octets → AreRecords order (take at octets) frames → rest ≡ drop at octets
-    → base ≡ 24 + at → first_fault base order rest record_fields ≡ Some fault → HasBrokenRecord order octets fault
+    → base ≡ 24 + at → first_field_fault base order rest record_fields ≡ Some fault → HasBrokenRecord order octets fault
 broken_at order octets rest frames at base fault within are behind place first = record {
   front = take at octets;
   rest = rest;
@@ -85,15 +85,15 @@ broken_at order octets rest frames at base fault within are behind place first =
 }
 
 -- a record in front has no fault
-pub record_passes : (base : ℕ) (order : Endianness) (r : PacketRecord) (more : List ℕ) → IsPacketRecord order r → first_fault base order (spell r ++ more) record_fields ≡ None
+pub record_passes : (base : ℕ) (order : Endianness) (r : PacketRecord) (more : List ℕ) → IsPacketRecord order r → first_field_fault base order (spell_record r ++ more) record_fields ≡ None
 record_passes base order r more is =
     let size = is.size in
     let most = is.most in
-    let octets = spell r ++ more in
-    let all = length-append (spell r) more in
+    let octets = spell_record r ++ more in
+    let all = length-append (spell_record r) more in
     let parts = length-append r.head r.frame in
-    let captured : number_at order 4 8 (spell r ++ more) ≡ length r.frame =
-    number_front order 4 8 (spell r) more (omega arith) ∙ (number_front order 4 8 r.head r.frame (omega arith) ∙ is.captured) in
+    let captured : number_at order 4 8 (spell_record r ++ more) ≡ length r.frame =
+    number_front order 4 8 (spell_record r) more (omega arith) ∙ (number_front order 4 8 r.head r.frame (omega arith) ∙ is.captured) in
     let passes = field_passes base order octets in
     first_passes base order octets record_fields (
       passes Seconds (omega arith) refl,

@@ -10,34 +10,34 @@ use Rattle.pcap_file.specs.declared.endianness.Endianness.{Endianness}
 use Rattle.pcap_file.specs.Numbers.{number_at}
 
 -- the first octet of a field, counted from that of its header or record
-abbrev pub place_of : CaptureField → ℕ
-place_of Magic = 0
-place_of Major = 4
-place_of Minor = 6
-place_of Zone = 8
-place_of Accuracy = 12
-place_of Snap = 16
-place_of Network = 20
-place_of Seconds = 0
-place_of Fraction = 4
-place_of Captured = 8
-place_of Original = 12
-place_of Data = 16
+abbrev pub field_place : CaptureField → ℕ
+field_place Magic = 0
+field_place Major = 4
+field_place Minor = 6
+field_place Zone = 8
+field_place Accuracy = 12
+field_place Snap = 16
+field_place Network = 20
+field_place Seconds = 0
+field_place Fraction = 4
+field_place Captured = 8
+field_place Original = 12
+field_place Data = 16
 
 -- the octets of a field; those of a record's data are as many as its captured length says
-abbrev pub size_of : Endianness → List ℕ → CaptureField → ℕ
-size_of order octets Magic = 4
-size_of order octets Major = 2
-size_of order octets Minor = 2
-size_of order octets Zone = 4
-size_of order octets Accuracy = 4
-size_of order octets Snap = 4
-size_of order octets Network = 4
-size_of order octets Seconds = 4
-size_of order octets Fraction = 4
-size_of order octets Captured = 4
-size_of order octets Original = 4
-size_of order octets Data = number_at order 4 8 octets
+abbrev pub field_size : Endianness → List ℕ → CaptureField → ℕ
+field_size order octets Magic = 4
+field_size order octets Major = 2
+field_size order octets Minor = 2
+field_size order octets Zone = 4
+field_size order octets Accuracy = 4
+field_size order octets Snap = 4
+field_size order octets Network = 4
+field_size order octets Seconds = 4
+field_size order octets Fraction = 4
+field_size order octets Captured = 4
+field_size order octets Original = 4
+field_size order octets Data = number_at order 4 8 octets
 
 -- the fault of a field of a header or record that begins at this place of the file, where the field is whole: the
 -- version is 2.4, the network 1 (Ethernet), and a captured length at most 262,144. Nothing else is looked at.
@@ -58,13 +58,13 @@ value_fault base order octets Data = None
 -- the fault of a field: the octets end before its last one, or its value is wrong
 abbrev pub field_fault : ℕ → Endianness → List ℕ → CaptureField → Option CaptureFault
 field_fault base order octets field =
-    if nat_lt (length octets) (place_of field + size_of order octets field) then Some (fault.Truncated (base + place_of field) field)
+    if nat_lt (length octets) (field_place field + field_size order octets field) then Some (fault.Truncated (base + field_place field) field)
     else value_fault base order octets field
 
 -- the first fault of fields in their order
-abbrev pub first_fault : ℕ → Endianness → List ℕ → List CaptureField → Option CaptureFault
-first_fault base order octets [] = None
-first_fault base order octets (field ∷ fields) = option_or (field_fault base order octets field) (first_fault base order octets fields)
+abbrev pub first_field_fault : ℕ → Endianness → List ℕ → List CaptureField → Option CaptureFault
+first_field_fault base order octets [] = None
+first_field_fault base order octets (field ∷ fields) = option_or (field_fault base order octets field) (first_field_fault base order octets fields)
 
 -- the fields of a header behind its magic
 abbrev pub header_fields : List CaptureField

@@ -5,7 +5,7 @@ use Rattle.pcap_file.specs.declared.capture_fault.CaptureFault.TheVariants.{Magi
 use Rattle.pcap_file.specs.declared.capture_field.CaptureField.TheVariants as field
 use Rattle.pcap_file.specs.declared.endianness.Endianness.{Endianness}
 use Rattle.pcap_file.specs.declared.endianness.Endianness.TheVariants.{Big}
-use Rattle.pcap_file.specs.Fields.{first_fault, header_fields, record_fields}
+use Rattle.pcap_file.specs.Fields.{first_field_fault, header_fields, record_fields}
 use Rattle.pcap_file.specs.Numbers.{number_at, order_told}
 use Rattle.pcap_file.specs.Records.{HasHeader, AreRecords}
 
@@ -25,7 +25,7 @@ pub record HasWrongHeader (octets : List ℕ) (fault : CaptureFault) : Type 0 wh
   pub order : Endianness
   pub there : 4 ≤ length octets
   pub magic : order_told (number_at Big 4 0 octets) ≡ Some order
-  pub first : first_fault 0 order octets header_fields ≡ Some fault
+  pub first : first_field_fault 0 order octets header_fields ≡ Some fault
 
 -- the header has this first fault
 abbrev pub IsHeaderFault : List ℕ → CaptureFault → Type 0
@@ -39,7 +39,7 @@ pub record HasBrokenRecord (order : Endianness) (octets : List ℕ) (fault : Cap
   pub frames : List (List ℕ)
   pub records : AreRecords order front frames
   pub some : 0 < length rest
-  pub first : first_fault (24 + length front) order rest record_fields ≡ Some fault
+  pub first : first_field_fault (24 + length front) order rest record_fields ≡ Some fault
 
 -- behind a header and whole records a record has this first fault
 pub record IsRecordFault (octets : List ℕ) (fault : CaptureFault) : Type 0 where

@@ -18,11 +18,11 @@ pub record PacketRecord : Type 0 where
   pub head : List ℕ
   pub frame : List ℕ
 
-abbrev pub spell : PacketRecord → List ℕ
-spell r = r.head ++ r.frame
+abbrev pub spell_record : PacketRecord → List ℕ
+spell_record r = r.head ++ r.frame
 
-abbrev pub frame_of : PacketRecord → List ℕ
-frame_of r = r.frame
+abbrev pub record_frame : PacketRecord → List ℕ
+record_frame r = r.frame
 
 -- the head has its four numbers, and the captured length is that of the frame
 pub record IsPacketRecord (order : Endianness) (r : PacketRecord) : Type 0 where
@@ -33,9 +33,9 @@ pub record IsPacketRecord (order : Endianness) (r : PacketRecord) : Type 0 where
 -- the octets are records one after another, of these frames
 pub record AreRecords (order : Endianness) (octets : List ℕ) (frames : List (List ℕ)) : Type 0 where
   pub records : List PacketRecord
-  pub joined : octets ≡ flat_map spell records
+  pub joined : octets ≡ flat_map spell_record records
   pub are : AllByRecursion (IsPacketRecord order) records
-  pub of : frames ≡ map frame_of records
+  pub of : frames ≡ map record_frame records
 
 -- the octets are a capture of these frames: a header, and records behind it
 pub record IsCapture (octets : List ℕ) (frames : List (List ℕ)) : Type 0 where

@@ -1,6 +1,6 @@
 //! The fields of a capture.
 ghost use Rattle.std.specs.Prelude.{◌≡◌, ◌≤◌};
-ghost use Rattle.pcap_file.specs.Fields.{place_of};
+ghost use Rattle.pcap_file.specs.Fields.{field_place};
 
 /// A field of a capture: the first seven of its header, the others of a record (libpcap's capture file format).
 #[derive(Clone, Copy, Debug, PartialEq, Eq)]
@@ -34,7 +34,7 @@ pub enum CaptureField {
 impl CaptureField {
     /// The first octet of the field in its header or record.
     pub fn place(self) -> usize
-        ensures place { result ≡ place_of self }
+        ensures place { result ≡ field_place self }
         ensures most { result ≤ 20 }
     {
         match self {

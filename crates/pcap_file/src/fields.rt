@@ -1,7 +1,7 @@
 //! The faults of fields.
 ghost use Rattle.std.specs.Prelude.{◌≡◌, ◌≤◌, ◌<◌, ◌+◌, ◌^◌, length, drop, take, None, Some, OnOk, IfOk, IfErr};
 ghost use Rattle.pcap_file.specs.declared.capture_field.CaptureField.TheVariants.{Data as DataOf};
-ghost use Rattle.pcap_file.specs.Fields.{place_of, size_of, value_fault as fault_of_value, field_fault as fault_of, first_fault, header_fields, record_fields};
+ghost use Rattle.pcap_file.specs.Fields.{field_place, field_size, value_fault as fault_of_value, field_fault as fault_of, first_field_fault, header_fields, record_fields};
 
 use crate::endianness::Endianness;
 use crate::{CaptureFault, CaptureField};
@@ -12,7 +12,7 @@ const MOST: u32 = 262_144;
 // The octets of the field.
 fn size(order: Endianness, octets: &[u8], field: CaptureField) -> usize
     requires { field ≡ DataOf → 16 ≤ length octets.now }
-    ensures size { result ≡ size_of order octets.now field }
+    ensures size { result ≡ field_size order octets.now field }
     ensures most { result < 2 ^ 32 }
 {
     match field {
@@ -30,7 +30,7 @@ fn value_fault(
     field: CaptureField,
 ) -> Option<CaptureFault>
     requires base { base + 20 < 2 ^ 64 }
-    requires whole { place_of field + size_of order octets.now field ≤ length octets.now }
+    requires whole { field_place field + field_size order octets.now field ≤ length octets.now }
     ensures { result ≡ fault_of_value base order octets.now field }
 {
     match field {
@@ -60,7 +60,7 @@ fn test(
     requires base { base + 20 < 2 ^ 64 }
     requires data { field ≡ DataOf → 16 ≤ length octets.now }
     ensures ok { OnOk result (fault_of base order octets.now field ≡ None) }
-    ensures whole { OnOk result (place_of field + size_of order octets.now field ≤ length octets.now) }
+    ensures whole { OnOk result (field_place field + field_size order octets.now field ≤ length octets.now) }
     ensures err { IfErr result (λ fault. fault_of base order octets.now field ≡ Some fault) }
 {
     let place = field.place();
@@ -78,8 +78,8 @@ fn test(
 
 /// Tests the fields of the header behind its magic, in order.
 pub fn test_header(order: Endianness, octets: &[u8]) -> Result<(), CaptureFault>
-    ensures ok { OnOk result (first_fault 0 order octets.now header_fields ≡ None) }
-    ensures err { IfErr result (λ fault. first_fault 0 order octets.now header_fields ≡ Some fault) }
+    ensures ok { OnOk result (first_field_fault 0 order octets.now header_fields ≡ None) }
+    ensures err { IfErr result (λ fault. first_field_fault 0 order octets.now header_fields ≡ Some fault) }
 {
     test(order, octets, 0, CaptureField::Major)?;
     test(order, octets, 0, CaptureField::Minor)?;
@@ -92,8 +92,8 @@ pub fn test_header(order: Endianness, octets: &[u8]) -> Result<(), CaptureFault>
 /// Tests the fields of the record that begins with the octets, at this place of the file, in order.
 pub fn test_record(order: Endianness, octets: &[u8], base: u64) -> Result<(), CaptureFault>
     requires base { base + 20 < 2 ^ 64 }
-    ensures ok { OnOk result (first_fault base order octets.now record_fields ≡ None) }
-    ensures err { IfErr result (λ fault. first_fault base order octets.now record_fields ≡ Some fault) }
+    ensures ok { OnOk result (first_field_fault base order octets.now record_fields ≡ None) }
+    ensures err { IfErr result (λ fault. first_field_fault base order octets.now record_fields ≡ Some fault) }
 {
     test(order, octets, base, CaptureField::Seconds)?;
     test(order, octets, base, CaptureField::Fraction)?;

@@ -1,8 +1,8 @@
 //! The frames of a capture.
 ghost use Rattle.std.specs.Prelude.{◌≡◌, ◌≤◌, ◌<◌, ◌+◌, ◌++◌, ◌^◌, ℕ, List, length, take, Some, Ok, Err, IfOk, IfErr};
 ghost use Rattle.pcap_file.specs.declared.capture_fault.CaptureFault.{CaptureFault};
-ghost use Rattle.pcap_file.specs.Answers.{Tells, IsUnlessNoMemory};
-ghost use Rattle.pcap_file.specs.Fields.{first_fault, record_fields};
+ghost use Rattle.pcap_file.specs.Answers.{TellsCaptureFault, IsCaptureUnlessNoMemory};
+ghost use Rattle.pcap_file.specs.Fields.{first_field_fault, record_fields};
 ghost use Rattle.pcap_file.specs.FirstFault.{IsHeaderFault, IsFirstFault, HasBrokenRecord};
 ghost use Rattle.pcap_file.specs.Records.{HasHeader, IsCapture, AreRecords, IsPacketRecord};
 
@@ -47,7 +47,7 @@ fn first_frame(order: Endianness, octets: &[u8], base: u64) -> Result<&[u8], Cap
     ensures frame { IfOk result (λ frame. IsPacketRecord order (record { head = take 16 octets.now; frame = frame.now })) }
     ensures front { IfOk result (λ frame. take (16 + length frame.now) octets.now ≡ take 16 octets.now ++ frame.now) }
     ensures within { IfOk result (λ frame. 16 + length frame.now ≤ length octets.now) }
-    ensures fault { IfErr result (λ fault. first_fault base order octets.now record_fields ≡ Some fault) }
+    ensures fault { IfErr result (λ fault. first_field_fault base order octets.now record_fields ≡ Some fault) }
 {
     test_record(order, octets, base)?;
     let captured = order.four_at(8, octets) as usize;
@@ -64,7 +64,7 @@ fn read_records(
     octets: &[u8],
 ) -> Result<Items<Octets>, CaptureFault>
     ensures frames { IfOk result (AreRecords order octets.now) }
-    ensures fault { IfErr result (Tells (HasBrokenRecord order octets.now)) }
+    ensures fault { IfErr result (TellsCaptureFault (HasBrokenRecord order octets.now)) }
 {
     let mut frames = Items::new(alloc);
     let mut at = 0;
@@ -80,7 +80,7 @@ fn read_records(
 // The frames, or the first fault.
 fn frames_of(alloc: Global, bytes: &[u8]) -> Result<Items<Octets>, CaptureFault>
     ensures frames { IfOk result (IsCapture bytes.now) }
-    ensures fault { IfErr result (Tells (IsFirstFault bytes.now)) }
+    ensures fault { IfErr result (TellsCaptureFault (IsFirstFault bytes.now)) }
     ensures header { (fault : CaptureFault) → IsHeaderFault bytes.now fault → result ≡ Err fault }
 {
     let order = read_header(bytes)?;
@@ -95,9 +95,9 @@ fn frames_of(alloc: Global, bytes: &[u8]) -> Result<Items<Octets>, CaptureFault>
 /// memory, and of a record no memory is taken before all its octets are seen.
 pub fn read_capture(alloc: Global, bytes: &[u8]) -> Result<Items<Octets>, CaptureFault>
     ensures frames { IfOk result (IsCapture bytes.now) }
-    ensures fault { IfErr result (Tells (IsFirstFault bytes.now)) }
-    ensures accepts { (frames : List (List ℕ)) → IsCapture bytes.now frames → IsUnlessNoMemory result (Ok frames) }
-    ensures refuses { (fault : CaptureFault) → IsFirstFault bytes.now fault → IsUnlessNoMemory result (Err fault) }
+    ensures fault { IfErr result (TellsCaptureFault (IsFirstFault bytes.now)) }
+    ensures accepts { (frames : List (List ℕ)) → IsCapture bytes.now frames → IsCaptureUnlessNoMemory result (Ok frames) }
+    ensures refuses { (fault : CaptureFault) → IsFirstFault bytes.now fault → IsCaptureUnlessNoMemory result (Err fault) }
     ensures header { (fault : CaptureFault) → IsHeaderFault bytes.now fault → result ≡ Err fault }
 {
     frames_of(alloc, bytes)

@@ -11,13 +11,13 @@ use Rattle.ldp_grammar.specs.declared.cause.Cause.TheVariants as cause
 use Rattle.ldp_grammar.specs.declared.fault.Fault.{Fault}
 use Rattle.ldp_grammar.specs.declared.message.Message.{Message}
 use Rattle.ldp_grammar.specs.declared.pdu.Pdu.{Pdu}
-use Rattle.ldp_grammar.specs.Reading.{AreOctets}
+use Rattle.net_values.specs.Octets.{AreOctets}
 use Rattle.ldp_grammar.proofs.OctetLemmas.{octets_take}
 use Rattle.ldp_grammar.proofs.ReadingLemmas.{octets_behind}
 use Rattle.ldp_grammar.proofs.WrittenOctets.{octets_append}
 use Rattle.ldp_stream.specs.Front.{HasFront, IsFrontFault, IsPending}
 use Rattle.ldp_stream.specs.FrontOf.{Front, More, Got, Bad, front_of}
-use Rattle.ldp_stream.specs.State.{Passes, StreamState, Waits, IsRefused, IsFaultOf, empty}
+use Rattle.ldp_stream.specs.State.{Passes, StreamState, Waits, IsStreamRefused, IsFaultOf, empty}
 use Rattle.ldp_stream.proofs.FrontOfLemmas.{front_is_read}
 use Rattle.session_core.specs.Table.{Refused}
 use Rattle.edge_model.specs.Hear.{hears, hears_few, hears_front, hears_message, hears_messages, hears_pdu, hears_within}
@@ -78,9 +78,9 @@ passed_ready set first old new pdu is ready made =
     let passes : Passes (record first { max = set }) new pdu = subst (λ (s : StreamState). Passes s new pdu) is made in
     record { octets = octets_behind passes.piece new.held (subst AreOctets passes.split ready.octets); going = ap (λ (s : StreamState). s.refused) passes.is }
 
-pub at_fault : (max set : ℕ) (first old new : StreamState) (base : ℕ) (refusal : DecodeFault) → set ≡ max → old ≡ record first { max = set } → IsReady first → IsRefused old new base refusal → IsAtFault max first.held refusal
+pub at_fault : (max set : ℕ) (first old new : StreamState) (base : ℕ) (refusal : DecodeFault) → set ≡ max → old ≡ record first { max = set } → IsReady first → IsStreamRefused old new base refusal → IsAtFault max first.held refusal
 at_fault max set first old new base refusal same is ready made =
-    let refused : IsRefused (record first { max = max }) new base refusal = subst (λ (s : StreamState). IsRefused s new base refusal) (is ∙ ap (λ (n : ℕ). record first { max = n }) same) made in
+    let refused : IsStreamRefused (record first { max = max }) new base refusal = subst (λ (s : StreamState). IsStreamRefused s new base refusal) (is ∙ ap (λ (n : ℕ). record first { max = n }) same) made in
     record { fault = refused.fault; front = stands refused.fault refused.stands; names = refused.names }
   where
     stands : (fault : Fault) → IsFaultOf (record first { max = max }) fault → IsFrontFault max first.held fault

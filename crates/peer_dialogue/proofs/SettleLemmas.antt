@@ -25,7 +25,7 @@ use Rattle.edge_model.specs.Put.{Spoken, put_replies}
 use Rattle.edge_model.specs.Session.{comes_of, ends, happens, happens_to, is_same_phase, tells_change, went_on}
 use Rattle.edge_model.specs.State.{EdgeState, Peering}
 use Rattle.edge_model.specs.Work.{Answers, Work, changes, gives}
-use Rattle.peer_dialogue.specs.Peering.{IsBetween, StandsBetween, at_peer, had_spoken, having_put, next_state, reason_in, settled, state_of}
+use Rattle.peer_dialogue.specs.Peering.{IsBetween, StandsBetween, at_peer, ending_reason, had_spoken, having_put, next_state, settled, state_of}
 use Rattle.peer_dialogue.proofs.SpeakerLemmas.{changed_at, peer_of, put_twice}
 
 -- ---- what is known of every outcome
@@ -182,13 +182,13 @@ telling_is peer old new out given same other = by (is_same_phase old new) refl w
   by true is = same (names_same old new is)
   by false is = other (names_other old new is)
 
-pub ended_by : (view : SessionView) (why : Reason) → reason_in view ≡ Some why → view ≡ EndedBy why
+pub ended_by : (view : SessionView) (why : Reason) → ending_reason view ≡ Some why → view ≡ EndedBy why
 ended_by (Stands s) why is = absurd (cc (is))
 ended_by (EndedBy other) why is =
     let same : other ≡ why = cc (is) in
     ap EndedBy same
 
-pub stands_by : (before : SessionState) (view : SessionView) → reason_in view ≡ None → view ≡ Stands (next_state before view)
+pub stands_by : (before : SessionState) (view : SessionView) → ending_reason view ≡ None → view ≡ Stands (next_state before view)
 stands_by before (Stands s) none = refl
 stands_by before (EndedBy why) none = absurd (cc (none))
 
@@ -209,7 +209,7 @@ pub put_between : (between : Peers) (spoke : Bool) (s : SessionState) → s.peer
 put_between between true s is = is
 put_between between false s is = is
 
-pub stands_put : (between : Peers) (view now : SessionView) (spoke : Bool) → reason_in view ≡ None → IsBetween between view → ((s : SessionState) → view ≡ Stands s → now ≡ Stands (having_put spoke s)) → StandsBetween between now
+pub stands_put : (between : Peers) (view now : SessionView) (spoke : Bool) → ending_reason view ≡ None → IsBetween between view → ((s : SessionState) → view ≡ Stands s → now ≡ Stands (having_put spoke s)) → StandsBetween between now
 stands_put between (Stands s) now spoke none is put = subst (StandsBetween between) (sym (put s refl)) (put_between between spoke s is)
 stands_put between (EndedBy why) now spoke none is put = absurd (cc (none))
 
@@ -273,7 +273,7 @@ lost_at told peer kept why edge calls now out given same gave =
     ∙ ap (λ (x : Option Peering). happens_to told peer (Closed why) x (at_peer peer (Some kept) edge calls out))
     (sym (peer_of peer (Some kept) edge calls out))))
 
-pub not_ended : (view : SessionView) (why : Reason) → reason_in view ≡ None → view ≡ EndedBy why → ⊥
+pub not_ended : (view : SessionView) (why : Reason) → ending_reason view ≡ None → view ≡ EndedBy why → ⊥
 not_ended (Stands s) why none ended = absurd (cc (ended))
 not_ended (EndedBy other) why none ended = absurd (cc (none))
 

@@ -5,7 +5,7 @@ use Rattle.net_base.specs.declared.plan.places.EdgeId.{EdgeId}
 use Rattle.ldp_codec.specs.Decoded.{refusal_of}
 use Rattle.ldp_codec.specs.declared.decode_fault.DecodeFault.{DecodeFault}
 use Rattle.ldp_grammar.specs.declared.fault.Fault.{Fault}
-use Rattle.ldp_grammar.specs.Reading.{AreOctets}
+use Rattle.net_values.specs.Octets.{AreOctets}
 use Rattle.ldp_stream.specs.Front.{HasFront, IsFrontFault, IsPending}
 use Rattle.ldp_stream.specs.State.{StreamState}
 use Rattle.edge_model.specs.Hear.{hears_few}

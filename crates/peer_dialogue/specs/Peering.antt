@@ -26,9 +26,9 @@ session_name None = name.NonExistent
 session_name (Some kept) = phase_name kept.session.phase
 
 -- the octets that are held
-abbrev pub held_of : Option Peering → List ℕ
-held_of None = []
-held_of (Some kept) = kept.held
+abbrev pub held_octets : Option Peering → List ℕ
+held_octets None = []
+held_octets (Some kept) = kept.held
 
 -- the two ends of a session, where both edges are in the plan
 abbrev pub peers_between : Option EdgePlan → Option EdgePlan → Option Peers
@@ -76,9 +76,9 @@ having_put true s = record s { silence = 0 }
 having_put false s = s
 
 -- why the session ended
-abbrev pub reason_in : SessionView → Option Reason
-reason_in (Stands s) = None
-reason_in (EndedBy why) = Some why
+abbrev pub ending_reason : SessionView → Option Reason
+ending_reason (Stands s) = None
+ending_reason (EndedBy why) = Some why
 
 -- the session as it is now, or as it was where it ended
 abbrev pub next_state : SessionState → SessionView → SessionState

@@ -1,6 +1,7 @@
 //! What is told of a pseudowire.
 ghost use Rattle.std.specs.Prelude.{◌≡◌, ◌≤◌, [], true, option_map, if◌then◌else◌};
-ghost use Rattle.edge_model.specs.Content.{bare, bare_fec_of, binding_in, content_of, ethernet_raw, ethernet_tagged, fec_of, icmp_ping, no_params, params_of};
+ghost use Rattle.edge_model.specs.Content.{bare, bare_fec_of, binding_in, content_of, ethernet_raw, ethernet_tagged, fec_of, icmp_ping, params_of};
+ghost use Rattle.pw_tlvs.specs.Fec.{no_params};
 ghost use Rattle.net_base.specs.plan.Accepted.{IsOffer};
 ghost use Rattle.pw_tlvs.specs.Written.{has_vlan};
 

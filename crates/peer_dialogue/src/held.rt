@@ -1,6 +1,6 @@
 //! What an edge has heard of a neighbour.
 ghost use Rattle.std.specs.Prelude.{◌≡◌, ◌≤◌, ◌<◌, ◌+◌, ◌++◌, [], length, take, drop, IfOk, OnErr};
-ghost use Rattle.ldp_grammar.specs.Reading.{AreOctets};
+ghost use Rattle.net_values.specs.Octets.{AreOctets};
 ghost use Rattle.peer_dialogue.specs.Hearing.{StandsNext};
 
 use crate::next::Next;

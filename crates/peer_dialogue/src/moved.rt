@@ -7,7 +7,7 @@ ghost use Rattle.session_core.specs.State.{EndedBy, SessionState, Stands};
 ghost use Rattle.edge_model.specs.declared.effect.Effect.TheVariants as told;
 ghost use Rattle.edge_model.specs.State.{EdgeState};
 ghost use Rattle.peer_dialogue.specs.AtWork.{WorkGoes};
-ghost use Rattle.peer_dialogue.specs.Peering.{IsBetween, at_peer, having_put, next_state, reason_in, settled};
+ghost use Rattle.peer_dialogue.specs.Peering.{IsBetween, at_peer, ending_reason, having_put, next_state, settled};
 
 use crate::at_work::AtWork;
 use crate::held::Held;
@@ -72,7 +72,7 @@ impl Moved {
 
 // Why the session ended; `None` exactly where it stands.
 fn reason_of(session: &Session) -> Option<Reason>
-    ensures { result ≡ reason_in (view_of session.now) }
+    ensures { result ≡ ending_reason (view_of session.now) }
 {
     match session {
         Session::Ended(ended) => Some(ended.reason()),

@@ -6,7 +6,7 @@ ghost use Rattle.session_core.specs.Messages.{HasData};
 ghost use Rattle.session_core.specs.Session.{phase_name, view_of};
 ghost use Rattle.session_core.specs.State.{IsProper};
 ghost use Rattle.session_core.specs.Table.{Closed, Refused, view_next, view_said};
-ghost use Rattle.edge_model.specs.Hear.{is_up};
+ghost use Rattle.edge_model.specs.Hear.{is_up_phase};
 ghost use Rattle.edge_model.specs.Put.{put_reply};
 ghost use Rattle.edge_model.specs.Session.{had_put, happens};
 ghost use Rattle.edge_model.specs.State.{EdgeState};
@@ -70,7 +70,7 @@ impl Peering {
 
     /// Whether the session is up.
     pub fn is_up(&self) -> bool
-        ensures { result ≡ is_up self.now.session.phase }
+        ensures { result ≡ is_up_phase self.now.session.phase }
     {
         matches!(self.session, Session::Operational(_))
     }

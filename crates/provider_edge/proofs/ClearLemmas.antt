@@ -16,11 +16,11 @@ use Rattle.ldp_grammar.specs.declared.message.Message.TheVariants.{AddressWithdr
 use Rattle.hvpls_spokes.specs.declared.edge_role.Role.{Role}
 use Rattle.hvpls_spokes.specs.declared.port.Port.{Port}
 use Rattle.hvpls_spokes.specs.declared.port.Port.TheVariants as port
-use Rattle.hvpls_spokes.specs.Port.{is_wire_port, ports_of}
+use Rattle.hvpls_spokes.specs.Port.{is_wire_port, ports_of, is_wire}
 use Rattle.hvpls_spokes.specs.Role.{role_of}
 use Rattle.hvpls_spokes.proofs.RowPortLemmas.{wire_behind}
 use Rattle.hvpls_spokes.proofs.WirePortLemmas.{LeadsToWire, found_wire_port}
-use Rattle.mac_withdraw.specs.Passing.{is_passed_to, is_wire, is_wire_at}
+use Rattle.mac_withdraw.specs.Passing.{is_passed_to, is_wire_at}
 use Rattle.mac_withdraw.specs.Pieces.{pieces_of}
 use Rattle.edge_model.specs.Clear.{clears_at, clears_by, clears_wire, hears_mac_withdraw, passes_on, tells_at, tells_by, withdrawing_at}
 use Rattle.edge_model.specs.declared.effect.Effect.{Effect}

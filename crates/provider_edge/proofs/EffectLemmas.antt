@@ -95,7 +95,7 @@ use Rattle.provider_edge.specs.Invariant.{IsEdge}
 use Rattle.provider_edge.specs.Lists.{EdgeLists, seen, worked}
 use Rattle.peer_dialogue.specs.Peering.{Dialogue, kept_with}
 use Rattle.edge_forwarding.specs.Views.{view}
-use Rattle.provider_edge.specs.Said.{AllFit, Fits, TellsTaken, calls_told}
+use Rattle.provider_edge.specs.Said.{AllFit, NamesPlaces, TellsTaken, calls_told}
 use Rattle.edge_forwarding.proofs.Views.{same_read}
 
 -- Of an edge at work this holds of its work, whatever it does for its neighbours and its circuits.
@@ -676,7 +676,7 @@ step_kept plan Holds kept checked told (input.Ping wire) work peers here = kept.
 
 -- ---- effects name what is in the plan
 
-fit-append : (plan : Plan) (es : List Effect) (e : Effect) → AllFit plan es → Fits plan e → AllFit plan (es ++ e ∷ [])
+fit-append : (plan : Plan) (es : List Effect) (e : Effect) → AllFit plan es → NamesPlaces plan e → AllFit plan (es ++ e ∷ [])
 fit-append plan [] e all here = (here, tt)
 fit-append plan (x ∷ es) e all here = (all.0, fit-append plan es e all.1 here)
 

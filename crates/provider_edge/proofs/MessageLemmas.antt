@@ -9,7 +9,7 @@ use Rattle.net_base.specs.declared.plan.places.EdgeId.{EdgeId}
 use Rattle.ldp_codec.specs.declared.decode_fault.DecodeFault.{DecodeFault}
 use Rattle.ldp_grammar.specs.declared.message.Message.{Message}
 use Rattle.ldp_grammar.specs.declared.pdu.Pdu.{Pdu}
-use Rattle.ldp_grammar.specs.Reading.{AreOctets}
+use Rattle.net_values.specs.Octets.{AreOctets}
 use Rattle.session_core.specs.Table.{Heard, Received, Refused, Ticked}
 use Rattle.edge_model.specs.declared.effect.Effect.{Effect}
 use Rattle.edge_model.specs.Hear.{acts, acts_on, hears, hears_message, hears_messages, hears_one, hears_pdu, was_up}

@@ -9,7 +9,7 @@ use Rattle.std.specs.Str.{bytes_eq}
 use Rattle.net_base.specs.declared.plan.Plan.{Plan}
 use Rattle.net_base.specs.declared.plan.edge_plan.EdgePlan.{EdgePlan}
 use Rattle.net_base.specs.declared.plan.wire_plan.WirePlan.{WirePlan}
-use Rattle.net_base.specs.plan.Accepted.{IsChecked, IsEdge, IsWireOf}
+use Rattle.net_base.specs.plan.Accepted.{IsChecked, IsEdgePlan, IsWireOf}
 use Rattle.net_base.specs.plan.Paths.{are_joined, joins}
 use Rattle.net_base.proofs.PathLemmas.{joins_apart}
 use Rattle.session_core.specs.declared.peers.Peers.{Peers}
@@ -54,5 +54,5 @@ proper_between plan me peer found peers checked joined is some = by (slice_get p
   by (Some own) None at there some = absurd (cc (some))
   by (Some own) (Some other) at there some =
       let same : peers_of own other ≡ peers = cc (some) in
-      let row : IsEdge own = subst IsEdge (row_at plan.edges me own own at) (checked.edges me own (slice_get_within plan.edges me own at)) in
+      let row : IsEdgePlan own = subst IsEdgePlan (row_at plan.edges me own own at) (checked.edges me own (slice_get_within plan.edges me own at)) in
       subst IsProper same (record { apart = apart own other at there; keepalive = row.keepalive.0; least = row.max_pdu.0; most = row.max_pdu.1 })

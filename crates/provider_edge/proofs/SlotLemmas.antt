@@ -13,7 +13,7 @@ use Rattle.pw_signalling.specs.End.{EndState}
 use Rattle.edge_model.specs.declared.end_place.EndPlace.{EndPlace}
 use Rattle.edge_model.specs.EndPlaces.{end_places}
 use Rattle.edge_model.specs.Mend.{is_new_choice}
-use Rattle.edge_model.specs.Role.{down_at, is_wire, role_at, role_in, role_of}
+use Rattle.edge_model.specs.Role.{down_at, end_role_of, is_chosen_wire, role_at, role_in}
 use Rattle.edge_model.specs.State.{end_at}
 use Rattle.pw_ends.specs.Ends.{end_in, place_of}
 use Rattle.pw_ends.proofs.IndexLemmas.{named_if, none_at}
@@ -30,12 +30,12 @@ slot_within c now slot place same is within at =
 -- ---- what is asked of the end of a slot
 
 pub role_read : (c now : ControlLists) (rest : Rest) (slot : ℕ) (place : EndPlace) (row : WirePlan) (chosen : Bool) (role : EndRole) → c ≡ now → place ≡ place_of now.ends slot → wire_row c.plan place.wire ≡ Some row
-    → chosen ≡ is_wire place.wire ((controlled now rest).chosen row.service.0) → role ≡ role_of row c.me chosen → role ≡ role_at now.plan (controlled now rest) (place_of now.ends slot)
+    → chosen ≡ is_chosen_wire place.wire ((controlled now rest).chosen row.service.0) → role ≡ end_role_of row c.me chosen → role ≡ role_at now.plan (controlled now rest) (place_of now.ends slot)
 unfolding controlled
 role_read c now rest slot place row chosen role same at found chooses is =
     is
-    ∙ (ap (λ (b : Bool). role_of row c.me b) chooses
-    ∙ (ap (λ (n : ControlLists). role_of row n.me (is_wire place.wire ((controlled now rest).chosen row.service.0))) same
+    ∙ (ap (λ (b : Bool). end_role_of row c.me b) chooses
+    ∙ (ap (λ (n : ControlLists). end_role_of row n.me (is_chosen_wire place.wire ((controlled now rest).chosen row.service.0))) same
     ∙ (ap (λ (r : Option WirePlan). role_in r now.me (controlled now rest).chosen place.wire) (sym (ap (λ (n : ControlLists). wire_row n.plan place.wire) (sym same) ∙ found))
     ∙ ap (λ (p : EndPlace). role_in (wire_row now.plan p.wire) now.me (controlled now rest).chosen p.wire) at)))
 
@@ -60,7 +60,7 @@ pub new_away : (now before chosen : Bool) → chosen ≡ now → chosen ≡ fals
 new_away now before chosen is so = so ∙ ap (λ (b : Bool). b && not before) (sym (sym is ∙ so))
 
 pub new_read : (c now : ControlLists) (rest : Rest) (slot : ℕ) (place : EndPlace) (row : WirePlan) (before : ℕ → Option WireId) (new : Bool) → c ≡ now → place ≡ place_of now.ends slot → wire_row c.plan place.wire ≡ Some row
-    → new ≡ (is_wire place.wire ((controlled now rest).chosen row.service.0) && not (is_wire place.wire (before row.service.0)))
+    → new ≡ (is_chosen_wire place.wire ((controlled now rest).chosen row.service.0) && not (is_chosen_wire place.wire (before row.service.0)))
     → new ≡ is_new_choice before (controlled now rest).chosen (place_of now.ends slot).wire (wire_row now.plan (place_of now.ends slot).wire)
 new_read c now rest slot place row before new same at found is =
     is

@@ -19,7 +19,7 @@ use Rattle.hvpls_spokes.specs.Port.{is_circuit_port, is_wire_port, ports_of}
 use Rattle.hvpls_spokes.proofs.PortsLemmas.{IsWired, served_at}
 use Rattle.hvpls_spokes.proofs.WirePortLemmas.{LeadsToWire, found_wire_port, mesh_or_spoke}
 use Rattle.edge_model.specs.declared.end_place.EndPlace.{EndPlace}
-use Rattle.edge_model.specs.EndPlaces.{is_end_of_wire, is_terminal, place_at, places_along, places_at, places_from}
+use Rattle.edge_model.specs.EndPlaces.{end_place_at, is_end_of_wire, is_terminal, places_along, places_at, places_from}
 use Rattle.edge_model.specs.Ends.{end_forwards, is_up}
 use Rattle.edge_model.specs.Frame.{forwards, hearing, port_forwards}
 use Rattle.edge_model.specs.Role.{down_at}
@@ -67,9 +67,9 @@ one_end wire place same terminal = or_left (is_end_of_wire wire place) false (bo
 -- an edge at one side of a segment has an end there
 at_one : (wire : WireId) (row : WirePlan) (me : EdgeId) (segment : ℕ) (first next : EdgeId) → is_terminal row me ≡ true → (nat_eq me.0 first.0 || nat_eq me.0 next.0) ≡ true → has_end_in wire (places_at wire row me segment first next) ≡ true
 at_one wire row me segment first next terminal one = by (nat_eq me.0 first.0) (nat_eq me.0 next.0) one where
-  by : (a b : Bool) → (a || b) ≡ true → has_end_in wire (cond a (place_at wire row me segment 0 next ∷ []) (cond b (place_at wire row me segment 1 first ∷ []) [])) ≡ true
-  by true b one = one_end wire (place_at wire row me segment 0 next) refl terminal
-  by false true one = one_end wire (place_at wire row me segment 1 first) refl terminal
+  by : (a b : Bool) → (a || b) ≡ true → has_end_in wire (cond a (end_place_at wire row me segment 0 next ∷ []) (cond b (end_place_at wire row me segment 1 first ∷ []) [])) ≡ true
+  by true b one = one_end wire (end_place_at wire row me segment 0 next) refl terminal
+  by false true one = one_end wire (end_place_at wire row me segment 1 first) refl terminal
   by false false one = absurd (cc (one))
 
 -- the last edge of a path has an end at its last segment

@@ -16,5 +16,5 @@ abbrev pub forgotten_down : Plan → EndPlace → Work → Work
 forgotten_down plan place work = if place.terminal then forgets_down plan place (down_at plan work.edge place) work else work
 
 -- the wire of an end is on, the session with its peer is up, and the end is a terminal one
-abbrev pub may_tell : EdgeState → EndPlace → Bool
-may_tell edge place = (edge.wire_on place.wire.0 && is_up_with (edge.peering place.peer.0)) && place.terminal
+abbrev pub may_tell_end : EdgeState → EndPlace → Bool
+may_tell_end edge place = (edge.wire_on place.wire.0 && is_up_with (edge.peering place.peer.0)) && place.terminal

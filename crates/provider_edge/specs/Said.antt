@@ -20,16 +20,16 @@ pub record TellsTaken (old new : List LinkCall) (effects : List Effect) : Type 0
   pub told : calls_told effects ≡ filter (λ call. call.taken) more
 
 -- the effect names what is in the plan
-abbrev pub Fits : Plan → Effect → Type 0
-Fits plan (Said peer bytes) = peer.0 < length plan.edges
-Fits plan (Sent peer wire came bytes) = (peer.0 < length plan.edges) × (wire.0 < length plan.wires)
-Fits plan (Left circuit bytes) = circuit.0 < length plan.circuits
-Fits plan (Dropped cause) = Unit {0}
-Fits plan (Session peer state) = peer.0 < length plan.edges
-Fits plan (Wire wire down) = wire.0 < length plan.wires
-Fits plan (Pong wire sequence) = wire.0 < length plan.wires
-Fits plan (Closed peer) = peer.0 < length plan.edges
+abbrev pub NamesPlaces : Plan → Effect → Type 0
+NamesPlaces plan (Said peer bytes) = peer.0 < length plan.edges
+NamesPlaces plan (Sent peer wire came bytes) = (peer.0 < length plan.edges) × (wire.0 < length plan.wires)
+NamesPlaces plan (Left circuit bytes) = circuit.0 < length plan.circuits
+NamesPlaces plan (Dropped cause) = Unit {0}
+NamesPlaces plan (Session peer state) = peer.0 < length plan.edges
+NamesPlaces plan (Wire wire down) = wire.0 < length plan.wires
+NamesPlaces plan (Pong wire sequence) = wire.0 < length plan.wires
+NamesPlaces plan (Closed peer) = peer.0 < length plan.edges
 
 abbrev pub AllFit : Plan → List Effect → Type 0
 AllFit plan [] = Unit {0}
-AllFit plan (e ∷ es) = Fits plan e × AllFit plan es
+AllFit plan (e ∷ es) = NamesPlaces plan e × AllFit plan es

@@ -15,7 +15,7 @@ ghost use Rattle.edge_forwarding.specs.Domain.{age_of};
 ghost use Rattle.provider_edge.specs.AtWork.{EdgeTakes, worked_at};
 ghost use Rattle.provider_edge.specs.EndOf.{is_of_segment};
 ghost use Rattle.provider_edge.specs.Lists.{Keeps, seen, worked};
-ghost use Rattle.peer_dialogue.specs.Peering.{held_of, session_name};
+ghost use Rattle.peer_dialogue.specs.Peering.{held_octets, session_name};
 ghost use Rattle.provider_edge.specs.Said.{AllFit, TellsTaken};
 ghost use Rattle.provider_edge.specs.Taking.{IsInRange, StaysLocal};
 
@@ -230,7 +230,7 @@ impl Edge {
     /// connection does not stand.
     #[tactic(auto, unfolding(crate::specs::Lists::seen))]
     pub fn held(&self, peer: EdgeId) -> usize
-        ensures count { result ≡ length (held_of ((seen self.now).peering peer.0)) }
+        ensures count { result ≡ length (held_octets ((seen self.now).peering peer.0)) }
         ensures within { result ≤ 4100 }
     {
         if !self.has_end(peer) {

@@ -17,14 +17,14 @@ use Rattle.edge_model.proofs.StillLemmas.{circuit_still, priority_still, status_
 use Rattle.network_model.specs.Absorb.{Stepped, absorb, absorb_all, all_entries_of, answer, begin_at, taken_all}
 use Rattle.network_model.specs.Absorb.{idle as idle_event}
 use Rattle.network_model.specs.Circuit.{circuit_event}
-use Rattle.network_model.specs.State.{NetworkState, at_edge, with_edge}
+use Rattle.network_model.specs.State.{NetworkState, edge_at, with_edge}
 use Rattle.network_model.specs.Wire.{priority_event, status_event, wire_event}
 use Rattle.psn_net.specs.Lists.{HasAnswered, HasDriven, HasStepped, NetLists, edge_of, seen}
 use Rattle.psn_net.proofs.NetworkLemmas.{edge_stays, some_edge}
 
 -- an edge that does nothing
 answered_idle : (old mid now : NetLists) (me : EdgeId) (work : Work) (effects : Effects)
-    → HasDriven me old mid work effects → effects.idle ≡ true → (work.idle ≡ true → work.edge ≡ at_edge (seen old) me)
+    → HasDriven me old mid work effects → effects.idle ≡ true → (work.idle ≡ true → work.edge ≡ edge_at (seen old) me)
     → seen now ≡ seen mid → now.trace ≡ mid.trace ++ Idle ∷ [] → HasStepped old now (answer me 0 0 work (seen old))
 answered_idle old mid now me work effects driven idle still state told = record {
   state = state ∙ (driven.state ∙ (edge_stays (seen old) me work.edge (still is_idle) ∙ sym (ap (λ (s : Stepped). s.state) event)));
@@ -50,7 +50,7 @@ answered old mid now me work effects driven idle absorbed = record {
   event = let e : work.idle ≡ false = sym driven.idle_is ∙ idle in rw e refl
 
 -- an edge that took an input, which leaves it as it is where it does not apply
-answer_stepped : (old now : NetLists) (me : EdgeId) (work : Work) → (work.idle ≡ true → work.edge ≡ at_edge (seen old) me)
+answer_stepped : (old now : NetLists) (me : EdgeId) (work : Work) → (work.idle ≡ true → work.edge ≡ edge_at (seen old) me)
     → HasAnswered me old now work → HasStepped old now (answer me 0 0 work (seen old))
 answer_stepped old now me work still has = by has.effects.idle refl has.step
   where

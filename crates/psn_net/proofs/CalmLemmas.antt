@@ -7,7 +7,7 @@ use Rattle.net_base.specs.declared.plan.wire_plan.WirePlan.{WirePlan}
 use Rattle.net_base.specs.plan.Roles.{all_below, any_wire, count_wires}
 use Rattle.edge_model.specs.State.{Peering}
 use Rattle.network_model.specs.State.{held_by}
-use Rattle.peer_dialogue.specs.Peering.{held_of}
+use Rattle.peer_dialogue.specs.Peering.{held_octets}
 
 -- ---- edges
 
@@ -52,6 +52,6 @@ pub ruleset wire_steps = (any_found, any_later, any_end, count_more, count_end, 
 -- ---- edges again
 
 -- what is held is one thing to the edge and to the network
-pub held_is : (peering : Option Peering) → held_of peering ≡ held_by peering
+pub held_is : (peering : Option Peering) → held_octets peering ≡ held_by peering
 held_is None = refl
 held_is (Some peering) = refl

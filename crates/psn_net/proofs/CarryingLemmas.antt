@@ -16,7 +16,7 @@ use Rattle.net_base.specs.plan.Accepted.{IsChecked, IsWireOf}
 use Rattle.net_base.specs.plan.Paths.{first_edge, is_first, is_last, last_edge}
 use Rattle.net_base.specs.plan.RowFaults.{is_edge_of}
 use Rattle.edge_model.specs.declared.end_place.EndPlace.{EndPlace}
-use Rattle.edge_model.specs.EndPlaces.{end_places, ends_here, is_end_of_wire, is_terminal, place_at, places_along, places_at, places_from}
+use Rattle.edge_model.specs.EndPlaces.{end_place_at, end_places, ends_here, is_end_of_wire, is_terminal, places_along, places_at, places_from}
 use Rattle.edge_model.specs.Ends.{end_forwards, forwards_at, is_up, wire_end}
 use Rattle.edge_model.specs.Role.{down_at}
 use Rattle.edge_model.proofs.CopyLemmas.{found_end}
@@ -123,9 +123,9 @@ one_end wire place same terminal = or_left (is_end_of_wire wire place) false (an
 -- an edge at one side of a segment has an end there
 at_one : (wire : WireId) (row : WirePlan) (me : EdgeId) (segment : ℕ) (first next : EdgeId) → is_terminal row me ≡ true → (nat_eq me.0 first.0 || nat_eq me.0 next.0) ≡ true → has_end wire (places_at wire row me segment first next) ≡ true
 at_one wire row me segment first next terminal one = by (nat_eq me.0 first.0) (nat_eq me.0 next.0) one where
-  by : (a b : Bool) → (a || b) ≡ true → has_end wire (cond a (place_at wire row me segment 0 next ∷ []) (cond b (place_at wire row me segment 1 first ∷ []) [])) ≡ true
-  by true b one = one_end wire (place_at wire row me segment 0 next) refl terminal
-  by false true one = one_end wire (place_at wire row me segment 1 first) refl terminal
+  by : (a b : Bool) → (a || b) ≡ true → has_end wire (cond a (end_place_at wire row me segment 0 next ∷ []) (cond b (end_place_at wire row me segment 1 first ∷ []) [])) ≡ true
+  by true b one = one_end wire (end_place_at wire row me segment 0 next) refl terminal
+  by false true one = one_end wire (end_place_at wire row me segment 1 first) refl terminal
   by false false one = absurd (cc (one))
 
 at_last : (wire : WireId) (row : WirePlan) (me : EdgeId) (segment : ℕ) (path : List EdgeId) → is_terminal row me ≡ true → 2 ≤ length path → is_last me.0 path ≡ true → has_end wire (places_along wire row me segment path) ≡ true

@@ -16,9 +16,9 @@ use Rattle.edge_model.specs.State.{EdgeState}
 use Rattle.edge_model.specs.Work.{Work}
 use Rattle.network_model.specs.Absorb.{absorb, absorb_all, all_entries_of, begin_at, taken_all}
 use Rattle.network_model.specs.Connection.{connected_work, connecting, delivering, hearing_work, restart_event}
-use Rattle.network_model.specs.State.{NetworkState, at_edge, with_edge, with_pipe, without_octets_to}
+use Rattle.network_model.specs.State.{NetworkState, edge_at, with_edge, with_pipe, without_octets_to}
 use Rattle.psn_net.specs.Lists.{HasDriven, HasStepped, NetLists, seen}
-use Rattle.psn_net.specs.Pipes.{seen as pipes_of}
+use Rattle.psn_net.specs.Pipes.{pipes_of}
 
 -- ---- no segment joins an edge with itself
 
@@ -132,11 +132,11 @@ absorbed_stepped old mid now me origin hops work effects before told is state ab
 }
 
 pub hearing : (n now : NetLists) (from to : EdgeId) (count : ℕ) (bytes : List ℕ) (effects : Effects) → bytes ≡ take count (pipes_of n.pipes from.0 to.0)
-    → HasDriven to n now (octets_input n.plan taken_all from bytes ((at_edge (seen n) to).peering from.0) (begin_at (seen n) to)) effects
+    → HasDriven to n now (octets_input n.plan taken_all from bytes ((edge_at (seen n) to).peering from.0) (begin_at (seen n) to)) effects
     → HasDriven to n now (hearing_work n.plan (seen n) from to (take count ((seen n).pipes from.0 to.0))) effects
 unfolding seen
 hearing n now from to count bytes effects e drove =
-    subst (λ (octets : List ℕ). HasDriven to n now (octets_input n.plan taken_all from octets ((at_edge (seen n) to).peering from.0) (begin_at (seen n) to)) effects) e drove
+    subst (λ (octets : List ℕ). HasDriven to n now (octets_input n.plan taken_all from octets ((edge_at (seen n) to).peering from.0) (begin_at (seen n) to)) effects) e drove
 
 -- an edge took an input, and what it gave out was absorbed
 pub input_absorbed : (old mid now : NetLists) (me : EdgeId) (origin hops : ℕ) (work : Work) (effects : Effects) → HasDriven me old mid work effects

@@ -1,6 +1,6 @@
 -- Pipes that are all empty.
 use Rattle.std.proofs.Common.{◌≡◌, ◌<◌, ◌+◌, ◌++◌, ◌∷◌, [], ℕ, suc, zero, refl, ap, arith, length, slice_index_or, replicate, ◌∙◌}
-use Rattle.psn_net.specs.Pipes.{IsSquare, seen, no_octets}
+use Rattle.psn_net.specs.Pipes.{IsSquare, pipes_of, no_octets}
 
 replicate_suc : {X : Type 0} (n : ℕ) (x : X) → replicate n x ++ x ∷ [] ≡ replicate (suc n) x
 replicate_suc zero x = refl
@@ -31,8 +31,8 @@ none_at (suc n) m (suc i) j = none_at n m i j
 pub square : (n : ℕ) → IsSquare n (replicate n (replicate n []))
 square n = record { count = replicate_length n (replicate n []); each = λ k h. ap length (replicate_at n (replicate n []) [] k h) ∙ replicate_length n [] }
 
-pub empty : (n : ℕ) → seen (record { size = n; rows = replicate n (replicate n []) }) ≡ no_octets
-unfolding seen
+pub empty : (n : ℕ) → pipes_of (record { size = n; rows = replicate n (replicate n []) }) ≡ no_octets
+unfolding pipes_of
 empty n = λ k i j. none_at n n i j k
 
 pub ruleset replicate_steps = (replicate_more)

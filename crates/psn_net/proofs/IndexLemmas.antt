@@ -13,7 +13,7 @@ use Rattle.network_model.specs.State.{NetworkState, empty_network}
 use Rattle.psn_net.specs.Applying.{Stops}
 use Rattle.psn_net.specs.declared.net_stop.NetStop.{NetStop}
 use Rattle.psn_net.specs.declared.net_stop.NetStop.TheVariants.{Crowded, TooMuch, NoMemory}
-use Rattle.psn_net.specs.DeliveryIndex.{HasMarkedPair, IndexLists, IsClear, IsIndexed, IsIndexedBeside, IsMarked, IsMarkedTo, IsWithin, has, in_word, is_at_edge, put_pair}
+use Rattle.psn_net.specs.DeliveryIndex.{HasMarkedPair, IndexLists, IsClear, IsIndexed, IsIndexedBeside, IsMarked, IsMarkedTo, IsWithin, has_mark, in_word, is_at_edge, put_pair}
 use Rattle.psn_net.specs.Lists.{NetLists, edge_of, seen}
 use Rattle.psn_net.proofs.PairLemmas.{same_pair}
 use Rattle.psn_net.proofs.WordLemmas.{none_in_zero}
@@ -44,7 +44,7 @@ marked_none n me index = record { each = at_each } where
   none false true x y = refl
   none false false x y = refl
 
-  at_each : (i j : ℕ) → has index i j ≡ cond ((i == me && nat_lt j 0) || (j == me && nat_lt i 0)) (is_deliverable (seen n) i j) (has index i j)
+  at_each : (i j : ℕ) → has_mark index i j ≡ cond ((i == me && nat_lt j 0) || (j == me && nat_lt i 0)) (is_deliverable (seen n) i j) (has_mark index i j)
   at_each i j = let a : nat_lt j 0 ≡ false = grind (arith, nat_tests) in let b : nat_lt i 0 ≡ false = grind (arith, nat_tests) in rw (a, b) (none (i == me) (j == me) _ _)
 
 marked_at : (test old new : ℕ → ℕ → Bool) (me place : ℕ) → ((i j : ℕ) → new i j ≡ cond ((i == me && nat_lt j place) || (j == me && nat_lt i place)) (test i j) (old i j))
@@ -52,14 +52,14 @@ marked_at : (test old new : ℕ → ℕ → Bool) (me place : ℕ) → ((i j : �
 marked_at test old new me place h i j = grind (arith, nat_tests, h i j)
 
 pub marked_pair : (n : NetLists) (me other : ℕ) (old mid new : IndexLists)
-    → has mid ≡ put_pair me other (is_deliverable (seen n) me other) (has old)
-    → has new ≡ put_pair other me (is_deliverable (seen n) other me) (has mid)
+    → has_mark mid ≡ put_pair me other (is_deliverable (seen n) me other) (has_mark old)
+    → has_mark new ≡ put_pair other me (is_deliverable (seen n) other me) (has_mark mid)
     → HasMarkedPair n me other old new
 marked_pair n me other old mid new x p = record { is = p ∙ ap (λ (r : ℕ → ℕ → Bool). put_pair other me (is_deliverable (seen n) other me) r) x }
 
 pub marked_more : (n : NetLists) (me place : ℕ) (old now new : IndexLists) → IsMarkedTo n me place old now → HasMarkedPair n me place now new → IsMarkedTo n me (place + 1) old new
 marked_more n me place old now new to pair = record {
-  each = λ i j. ap (λ (f : ℕ → ℕ → Bool). f i j) pair.is ∙ marked_at (is_deliverable (seen n)) (has old) (has now) me place to.each i j;
+  each = λ i j. ap (λ (f : ℕ → ℕ → Bool). f i j) pair.is ∙ marked_at (is_deliverable (seen n)) (has_mark old) (has_mark now) me place to.each i j;
 }
 
 pub marked_all : (n : NetLists) (me place : ℕ) (old new : IndexLists) → place ≡ length n.plan.edges → IsMarkedTo n me place old new → IsMarked n me old new
@@ -73,9 +73,9 @@ pub fresh : (n : NetLists) (index : IndexLists) → IsIndexedBeside n index (λ 
 fresh n index beside = record { each = λ i j a b. beside.each i j a b refl refl }
 
 anew : (n : NetLists) (me : ℕ) (old new : IndexLists) (i j : ℕ) → IsMarked n me old new → i < length n.plan.edges → j < length n.plan.edges
-    → has new i j ≡ cond (nat_eq i me || nat_eq j me) (is_deliverable (seen n) i j) (has old i j)
+    → has_mark new i j ≡ cond (nat_eq i me || nat_eq j me) (is_deliverable (seen n) i j) (has_mark old i j)
 anew n me old new i j marked a b = marked.each i j ∙ by (nat_eq i me) (nat_eq j me) (nat_lt j (length n.plan.edges)) (nat_lt i (length n.plan.edges)) (grind (arith, nat_tests, b)) (grind (arith, nat_tests, a)) where
-  by : (p q x y : Bool) → x ≡ true → y ≡ true → cond ((p && x) || (q && y)) (is_deliverable (seen n) i j) (has old i j) ≡ cond (p || q) (is_deliverable (seen n) i j) (has old i j)
+  by : (p q x y : Bool) → x ≡ true → y ≡ true → cond ((p && x) || (q && y)) (is_deliverable (seen n) i j) (has_mark old i j) ≡ cond (p || q) (is_deliverable (seen n) i j) (has_mark old i j)
   by true q x y e f = rw e refl
   by false true x y e f = rw f refl
   by false false x y e f = refl
@@ -88,7 +88,7 @@ right_at false false fit old now h e = e ∙ h refl refl
 
 pub marked_one : (n : NetLists) (old new : IndexLists) (me : ℕ) → IsIndexedBeside n old (λ k. nat_eq k me) → IsMarked n me old new → IsIndexed n new
 marked_one n old new me beside marked = record {
-  each = λ i j a b. right_at (nat_eq i me) (nat_eq j me) (is_deliverable (seen n) i j) (has old i j) (has new i j) (λ p q. beside.each i j a b p q) (anew n me old new i j marked a b);
+  each = λ i j a b. right_at (nat_eq i me) (nat_eq j me) (is_deliverable (seen n) i j) (has_mark old i j) (has_mark new i j) (λ p q. beside.each i j a b p q) (anew n me old new i j marked a b);
 }
 
 both_false : (x y : Bool) → x ≡ false → y ≡ false → x || y ≡ false
@@ -96,7 +96,7 @@ both_false x y p q = rw (p, q) refl
 
 pub marked_first : (n : NetLists) (old new : IndexLists) (me other : ℕ) → IsIndexedBeside n old (λ k. nat_eq k me || nat_eq k other) → IsMarked n me old new → IsIndexedBeside n new (λ k. nat_eq k other)
 marked_first n old new me other beside marked = record {
-  each = λ i j a b p q. right_at (nat_eq i me) (nat_eq j me) (is_deliverable (seen n) i j) (has old i j) (has new i j)
+  each = λ i j a b p q. right_at (nat_eq i me) (nat_eq j me) (is_deliverable (seen n) i j) (has_mark old i j) (has_mark new i j)
       (λ x y. beside.each i j a b (both_false (nat_eq i me) (nat_eq i other) x p) (both_false (nat_eq j me) (nat_eq j other) y q)) (anew n me old new i j marked a b);
 }
 
@@ -108,7 +108,7 @@ from_none n index = record { each = λ i j a b p q. absurd (wrong i p) } where
 
 pub from_more : (n : NetLists) (old new : IndexLists) (place : ℕ) → IsIndexedBeside n old (λ k. not (nat_lt k place)) → IsMarked n place old new → IsIndexedBeside n new (λ k. not (nat_lt k (place + 1)))
 from_more n old new place beside marked = record {
-  each = λ i j a b p q. right_at (nat_eq i place) (nat_eq j place) (is_deliverable (seen n) i j) (has old i j) (has new i j)
+  each = λ i j a b p q. right_at (nat_eq i place) (nat_eq j place) (is_deliverable (seen n) i j) (has_mark old i j) (has_mark new i j)
       (λ x y. beside.each i j a b (before i x p) (before j y q)) (anew n place old new i j marked a b);
 } where
   before : (i : ℕ) → nat_eq i place ≡ false → not (nat_lt i (place + 1)) ≡ false → not (nat_lt i place) ≡ false
@@ -129,10 +129,10 @@ marked_circuit n old new (Some row) me at beside marked =
 -- ---- what the index finds
 
 pub found_first : (n : NetLists) (index : IndexLists) (size : ℕ) → size ≡ length n.plan.edges → IsIndexed n index
-    → first_pair (has index) size 0 size ≡ first_pair (is_deliverable (seen n)) (length n.plan.edges) 0 (length n.plan.edges)
+    → first_pair (has_mark index) size 0 size ≡ first_pair (is_deliverable (seen n)) (length n.plan.edges) 0 (length n.plan.edges)
 found_first n index size e indexed =
-    ap (λ (k : ℕ). first_pair (has index) k 0 k) e
-    ∙ same_pair (has index) (is_deliverable (seen n)) (length n.plan.edges) 0 (length n.plan.edges) (omega arith) indexed.each
+    ap (λ (k : ℕ). first_pair (has_mark index) k 0 k) e
+    ∙ same_pair (has_mark index) (is_deliverable (seen n)) (length n.plan.edges) 0 (length n.plan.edges) (omega arith) indexed.each
 
 pub ruleset all_steps = (from_none, from_more, from_all)
 

@@ -18,7 +18,7 @@ use Rattle.edge_model.specs.State.{EdgeState, empty_edge, put_at}
 use Rattle.edge_model.proofs.StillLemmas.{frame_still}
 use Rattle.provider_edge.specs.Said.{AllFit}
 use Rattle.network_model.specs.Frame.{frame_event, next_origin}
-use Rattle.network_model.specs.State.{NetworkState, at_edge, empty_network, with_edge, with_frame}
+use Rattle.network_model.specs.State.{NetworkState, edge_at, empty_network, with_edge, with_frame}
 use Rattle.provider_edge.proofs.KeptLemmas.{no_edge_seen}
 use Rattle.psn_net.proofs.PipeLemmas.{view_set}
 use Rattle.net_base.specs.declared.outside.link_call.LinkCall.{LinkCall}
@@ -31,7 +31,7 @@ use Rattle.network_model.specs.Absorb.{Stepped, absorb, absorb_all, all_entries_
 use Rattle.psn_net.specs.Lists.{AreOpen, HasDriven, HasEntered, HasStepped, IsNetwork, NetLists, edge_lists, edge_of, no_edge, seen}
 use Rattle.psn_net.specs.Packets.{ArePacketsOf, UnderWay}
 use Rattle.psn_net.specs.Pipes.{PipeLists, no_octets}
-use Rattle.psn_net.specs.Pipes.{seen as pipes_of}
+use Rattle.psn_net.specs.Pipes.{pipes_of}
 
 pub seen_edge_set : (n : NetLists) (me : EdgeId) (now : EdgeLists) (state : EdgeState) → me.0 < length n.edges → edge.seen now ≡ state
     → seen (record n { edges = slice_set n.edges me.0 now }) ≡ with_edge me state (seen n)
@@ -138,7 +138,7 @@ edge_kept n me found now is below at kept stays = record {
   place_by false k apart = is.placed k
 
 -- an edge that stays as it is
-pub edge_stays : (network : NetworkState) (me : EdgeId) (state : EdgeState) → state ≡ at_edge network me → with_edge me state network ≡ network
+pub edge_stays : (network : NetworkState) (me : EdgeId) (state : EdgeState) → state ≡ edge_at network me → with_edge me state network ≡ network
 unfolding with_edge
 edge_stays network me state same = λ i. record { edges = λ k. at_each k i; pipes = network.pipes; under_way = network.under_way; sent = network.sent; entered = network.entered }
   where

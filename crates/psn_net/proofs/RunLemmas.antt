@@ -10,7 +10,7 @@ use Rattle.psn_net.specs.declared.net_stop.NetStop.{NetStop}
 use Rattle.psn_net.specs.declared.net_stop.NetStop.TheVariants.{Crowded, TooMuch, NoMemory}
 use Rattle.psn_net.specs.Applying.{Stops}
 use Rattle.psn_net.specs.Lists.{NetLists, seen}
-use Rattle.psn_net.specs.Runs.{AreDone, Ended, Halts, HasRun, HasStopped, IsRunOf, ended, ran, unless}
+use Rattle.psn_net.specs.Runs.{AreDone, Ended, HasRun, HasStopped, IsRunOf, RunHalts, ended, ran, unless}
 use Rattle.psn_net.specs.Weight.{stop_at}
 
 -- the events after some others
@@ -46,7 +46,7 @@ ran_refused plan old now event stop met same =
     let end : Ended = record { state = (step plan (seen old) event).state; trace = old.trace ++ (step plan (seen old) event).entries; stop = None } in
     ap (λ (n : NetLists). ended n (Some stop)) same ∙ sym (ap (λ (o : Option NetStop). unless o (seen old) old.trace end) met)
 
-pub ran_none : (plan : Plan) (old now : NetLists) (event : Event) (stop : NetStop) → Stops old now event stop → Halts stop now (ran plan (seen old) old.trace (event ∷ []))
+pub ran_none : (plan : Plan) (old now : NetLists) (event : Event) (stop : NetStop) → Stops old now event stop → RunHalts stop now (ran plan (seen old) old.trace (event ∷ []))
 ran_none plan old now event (Crowded count number) stops = ran_refused plan old now event (Crowded count number) stops.0 stops.1
 ran_none plan old now event (TooMuch weight number) stops = ran_refused plan old now event (TooMuch weight number) stops.0 stops.1
 ran_none plan old now event NoMemory stops = tt
@@ -94,7 +94,7 @@ ran_on plan s t xs ys n h = ap (λ (r : Ended). unless r.stop r.state r.trace (r
 stopped_on : (plan : Plan) (s : NetworkState) (t : List Entry) (xs ys : List Event) (n : NetLists) (x : NetStop) → ended n (Some x) ≡ ran plan s t xs → ended n (Some x) ≡ ran plan s t (xs ++ ys)
 stopped_on plan s t xs ys n x h = ap (λ (r : Ended). unless r.stop r.state r.trace (ran plan r.state r.trace ys)) h ∙ sym (ran_append plan s t xs ys)
 
-pub halts_on : (plan : Plan) (s : NetworkState) (t : List Entry) (xs ys : List Event) (n : NetLists) (stop : NetStop) → Halts stop n (ran plan s t xs) → Halts stop n (ran plan s t (xs ++ ys))
+pub halts_on : (plan : Plan) (s : NetworkState) (t : List Entry) (xs ys : List Event) (n : NetLists) (stop : NetStop) → RunHalts stop n (ran plan s t xs) → RunHalts stop n (ran plan s t (xs ++ ys))
 halts_on plan s t xs ys n (Crowded count event) h = stopped_on plan s t xs ys n (Crowded count event) h
 halts_on plan s t xs ys n (TooMuch weight event) h = stopped_on plan s t xs ys n (TooMuch weight event) h
 halts_on plan s t xs ys n NoMemory h = h

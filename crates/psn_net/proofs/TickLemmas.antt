@@ -2,7 +2,7 @@
 use Rattle.std.proofs.Common.{◌≡◌, ◌<◌, ◌≤◌, ◌+◌, ◌-◌, ◌++◌, ℕ, suc, List, refl, ap, sym, subst, arith, append_assoc, ◌∙◌}
 use Rattle.net_base.specs.declared.plan.Plan.{Plan}
 use Rattle.net_base.specs.declared.trace.entry.Entry.{Entry}
-use Rattle.network_model.specs.Absorb.{Stepped, and_then, stays}
+use Rattle.network_model.specs.Absorb.{Stepped, and_then, network_stays}
 use Rattle.network_model.specs.State.{NetworkState}
 use Rattle.network_model.specs.Tick.{tick_at, ticks_from}
 use Rattle.psn_net.specs.Lists.{HasStepped, NetLists, seen}
@@ -10,7 +10,7 @@ use Rattle.psn_net.specs.Lists.{HasStepped, NetLists, seen}
 pub ticks_more : (plan : Plan) (i n : ℕ) (network : NetworkState) → i < n → ticks_from plan i (n - i) network ≡ and_then (tick_at plan (record { 0 = i }) network) (ticks_from plan (i + 1) (n - (i + 1)))
 ticks_more plan i n network h = let e : n - i ≡ suc (n - (i + 1)) = omega arith in rw e refl
 
-pub ticks_end : (plan : Plan) (i n : ℕ) (network : NetworkState) → n ≤ i → ticks_from plan i (n - i) network ≡ stays network
+pub ticks_end : (plan : Plan) (i n : ℕ) (network : NetworkState) → n ≤ i → ticks_from plan i (n - i) network ≡ network_stays network
 ticks_end plan i n network h = let e : n - i ≡ 0 = omega arith in rw e refl
 
 -- what the ticks that are left tell, behind what was told

@@ -18,8 +18,8 @@ unfoldable pub in_word : ℕ → ℕ → Bool
 in_word word k = nat_lt k 64 && bit_at word k == 1
 
 -- a pair has a mark
-abbrev pub has : IndexLists → ℕ → ℕ → Bool
-has index from to = in_word (slice_index_or index.rows from 0) to
+abbrev pub has_mark : IndexLists → ℕ → ℕ → Bool
+has_mark index from to = in_word (slice_index_or index.rows from 0) to
 
 -- another mark of one pair
 abbrev pub put_pair : ℕ → ℕ → Bool → (ℕ → ℕ → Bool) → ℕ → ℕ → Bool
@@ -38,19 +38,19 @@ pub record IsClear (words : List ℕ) : Type 0 where
 
 -- the marks say what may be delivered
 pub record IsIndexed (n : NetLists) (index : IndexLists) : Type 0 where
-  pub each : (i j : ℕ) → i < length n.plan.edges → j < length n.plan.edges → has index i j ≡ is_deliverable (seen n) i j
+  pub each : (i j : ℕ) → i < length n.plan.edges → j < length n.plan.edges → has_mark index i j ≡ is_deliverable (seen n) i j
 
 -- they do between all edges but these
 pub record IsIndexedBeside (n : NetLists) (index : IndexLists) (these : ℕ → Bool) : Type 0 where
-  pub each : (i j : ℕ) → i < length n.plan.edges → j < length n.plan.edges → these i ≡ false → these j ≡ false → has index i j ≡ is_deliverable (seen n) i j
+  pub each : (i j : ℕ) → i < length n.plan.edges → j < length n.plan.edges → these i ≡ false → these j ≡ false → has_mark index i j ≡ is_deliverable (seen n) i j
 
 -- the marks of the pairs of an edge with those before a place were made anew, and the others stay
 pub record IsMarkedTo (n : NetLists) (me place : ℕ) (old new : IndexLists) : Type 0 where
-  pub each : (i j : ℕ) → has new i j ≡ (if (i == me && nat_lt j place) || (j == me && nat_lt i place) then is_deliverable (seen n) i j else has old i j)
+  pub each : (i j : ℕ) → has_mark new i j ≡ (if (i == me && nat_lt j place) || (j == me && nat_lt i place) then is_deliverable (seen n) i j else has_mark old i j)
 
 -- the marks of the two pairs of two edges were
 pub record HasMarkedPair (n : NetLists) (me other : ℕ) (old new : IndexLists) : Type 0 where
-  pub is : has new ≡ put_pair other me (is_deliverable (seen n) other me) (put_pair me other (is_deliverable (seen n) me other) (has old))
+  pub is : has_mark new ≡ put_pair other me (is_deliverable (seen n) other me) (put_pair me other (is_deliverable (seen n) me other) (has_mark old))
 
 -- the marks of all pairs of an edge were made anew
 abbrev pub IsMarked : NetLists → ℕ → IndexLists → IndexLists → Type 0

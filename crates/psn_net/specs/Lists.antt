@@ -39,7 +39,7 @@ edge_lists n k = slice_index_or n.edges k (no_edge n.plan k)
 unfoldable pub seen : NetLists → NetworkState
 seen n = record {
   edges = λ k. edge.seen (edge_lists n k);
-  pipes = pipes.seen n.pipes;
+  pipes = pipes.pipes_of n.pipes;
   under_way = n.packets.list;
   sent = n.packets.last;
   entered = n.entered;

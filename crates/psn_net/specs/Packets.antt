@@ -13,9 +13,9 @@ abbrev pub is_numbered : ℕ → Packet → Bool
 is_numbered number packet = packet.number == number
 
 -- each is kept under its number, which is 1 or more, and none is past the last one
-abbrev pub AreKept : ℕ → List (ℕ × Packet) → Type 0
-AreKept last [] = Unit {0}
-AreKept last (e ∷ es) = (e.0 ≡ e.1.number) × (1 ≤ e.0) × (e.0 ≤ last) × AreKept last es
+abbrev pub ArePacketsKept : ℕ → List (ℕ × Packet) → Type 0
+ArePacketsKept last [] = Unit {0}
+ArePacketsKept last (e ∷ es) = (e.0 ≡ e.1.number) × (1 ≤ e.0) × (e.0 ≤ last) × ArePacketsKept last es
 
 -- a packet goes between two edges of the plan, and has passed no more segments than packets were sent
 pub record IsPacketOf (plan : Plan) (last : ℕ) (packet : Packet) : Type 0 where

@@ -10,8 +10,8 @@ pub record IsSquare (size : ℕ) (rows : List (List (List ℕ))) : Type 0 where
   pub count : length rows ≡ size
   pub each : (k : ℕ) → k < size → length (slice_index_or rows k []) ≡ size
 
-unfoldable pub seen : PipeLists → ℕ → ℕ → List ℕ
-seen pipes from to = slice_index_or (slice_index_or pipes.rows from []) to []
+unfoldable pub pipes_of : PipeLists → ℕ → ℕ → List ℕ
+pipes_of pipes from to = slice_index_or (slice_index_or pipes.rows from []) to []
 
 -- nothing is on its way
 abbrev pub no_octets : ℕ → ℕ → List ℕ

@@ -33,15 +33,15 @@ abbrev pub ended : NetLists → Option NetStop → Ended
 ended network stop = record { state = seen network; trace = network.trace; stop = stop }
 
 -- a run stopped; where memory was refused nothing is said of the network
-abbrev pub Halts : NetStop → NetLists → Ended → Type 0
-Halts (Crowded count event) network end = ended network (Some (Crowded count event)) ≡ end
-Halts (TooMuch weight event) network end = ended network (Some (TooMuch weight event)) ≡ end
-Halts NoMemory network end = Unit {0}
+abbrev pub RunHalts : NetStop → NetLists → Ended → Type 0
+RunHalts (Crowded count event) network end = ended network (Some (Crowded count event)) ≡ end
+RunHalts (TooMuch weight event) network end = ended network (Some (TooMuch weight event)) ≡ end
+RunHalts NoMemory network end = Unit {0}
 
 -- the network is what the run comes to
-abbrev pub Gives : {A : Type 0} → Result A NetStop → NetLists → Ended → Type 0
-Gives (Ok done) network end = ended network None ≡ end
-Gives (Err stop) network end = Halts stop network end
+abbrev pub GivesNetwork : {A : Type 0} → Result A NetStop → NetLists → Ended → Type 0
+GivesNetwork (Ok done) network end = ended network None ≡ end
+GivesNetwork (Err stop) network end = RunHalts stop network end
 
 -- the network after these events
 pub record HasRun (plan : Plan) (state : NetworkState) (trace : List Entry) (events : List Event) (network : NetLists) : Type 0 where

@@ -1,7 +1,7 @@
 //! Which edges have something to deliver.
 ghost use Rattle.std.specs.Prelude.{◌≡◌, ◌<◌, ◌≤◌, ◌≢◌, ℕ, false, length, IfOk, IfSome};
 ghost use Rattle.network_model.specs.Delivery.{first_from, first_pair};
-ghost use Rattle.psn_net.specs.DeliveryIndex.{IsClear, has, in_word, put_pair};
+ghost use Rattle.psn_net.specs.DeliveryIndex.{IsClear, has_mark, in_word, put_pair};
 
 use net_base::NoMemory;
 use std::alloc::Global;
@@ -40,7 +40,7 @@ impl DeliveryIndex {
         requires from { from < length self.old.rows }
         requires to { to < length self.old.rows }
         ensures size { length self.new.rows ≡ length self.old.rows }
-        ensures step { has self.new ≡ put_pair from to on (has self.old) }
+        ensures step { has_mark self.new ≡ put_pair from to on (has_mark self.old) }
     {
         let word = self.rows[from];
         self.rows[from] = with_bit(word, to, on);
@@ -49,7 +49,7 @@ impl DeliveryIndex {
     /// The first pair with a mark, by the first edge and then by the second.
     #[tactic(auto, using(crate::proofs::PairLemmas::pair_steps))]
     pub fn first(&self) -> Option<(usize, usize)>
-        ensures first { result ≡ first_pair (has self.now) (length self.now.rows) 0 (length self.now.rows) }
+        ensures first { result ≡ first_pair (has_mark self.now) (length self.now.rows) 0 (length self.now.rows) }
         ensures within { IfSome result (λ pair. (pair.0 < length self.now.rows) × (pair.1 < length self.now.rows)) }
     {
         let size = self.rows.len();
@@ -64,7 +64,7 @@ impl DeliveryIndex {
     // The first edge with which an edge has a mark.
     fn first_of(&self, from: usize) -> Option<usize>
         requires { from < length self.now.rows }
-        ensures first { result ≡ first_from (has self.now from) 0 (length self.now.rows) }
+        ensures first { result ≡ first_from (has_mark self.now from) 0 (length self.now.rows) }
         ensures within { IfSome result (λ to. to < length self.now.rows) }
     {
         first_in(self.rows[from], self.rows.len())

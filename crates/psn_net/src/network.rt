@@ -6,7 +6,7 @@ ghost use Rattle.provider_edge.specs.Lists.{seen as seen_edge};
 ghost use Rattle.network_model.specs.Connection.{is_deliverable};
 ghost use Rattle.network_model.specs.Delivery.{first_pair, next_delivery};
 ghost use Rattle.network_model.specs.Packet.{next_arrival};
-ghost use Rattle.network_model.specs.State.{at_edge, empty_network};
+ghost use Rattle.network_model.specs.State.{edge_at, empty_network};
 ghost use Rattle.network_model.specs.Step.{step};
 ghost use Rattle.psn_net.specs.Applying.{Stops};
 ghost use Rattle.psn_net.specs.Lists.{seen};
@@ -152,7 +152,7 @@ impl Network {
     /// has no such edge.
     pub fn edge(&self, id: EdgeId) -> Option<&Edge>
         ensures some { IsSome result ↔ (id.0 < length self.now.plan.edges) }
-        ensures part { IfSome result (λ edge. seen_edge edge.now ≡ at_edge (seen self.now) id) }
+        ensures part { IfSome result (λ edge. seen_edge edge.now ≡ edge_at (seen self.now) id) }
         ensures plan { IfSome result (λ edge. edge.now.plan ≡ self.now.plan) }
         ensures place { IfSome result (λ edge. edge.now.me ≡ id) }
     {

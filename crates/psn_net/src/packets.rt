@@ -20,13 +20,13 @@ pub struct Packets {
 
 impl Model for Packets {
     ghost use Rattle.std.specs.BTreeMap.{values};
-    ghost use Rattle.psn_net.specs.Packets.{UnderWay, AreKept};
+    ghost use Rattle.psn_net.specs.Packets.{UnderWay, ArePacketsKept};
 
     ghost Value = { UnderWay };
 
     ghost view = { λ p. record { list = values p.by_number; last = p.last } };
 
-    ghost invariant = { λ p. AreKept p.last p.by_number.entries };
+    ghost invariant = { λ p. ArePacketsKept p.last p.by_number.entries };
 }
 
 impl Packets {

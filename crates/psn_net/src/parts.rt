@@ -7,7 +7,7 @@ ghost use Rattle.provider_edge.specs.Lists.{seen as seen_edge};
 ghost use Rattle.provider_edge.specs.Said.{AllFit};
 ghost use Rattle.provider_edge.specs.Taking.{IsInRange};
 ghost use Rattle.network_model.specs.Absorb.{begin_at, idle, taken_all};
-ghost use Rattle.network_model.specs.State.{at_edge, empty_network};
+ghost use Rattle.network_model.specs.State.{edge_at, empty_network};
 ghost use Rattle.network_model.specs.Step.{brings, step};
 ghost use Rattle.psn_net.specs.Applying.{Stops};
 ghost use Rattle.psn_net.specs.Lists.{HasDriven, HasRoom, HasStepped, Keeps, seen};
@@ -263,7 +263,7 @@ impl Parts {
     #[tactic(auto, unfolding(crate::specs::Lists::seen))]
     pub fn edge(&self, id: EdgeId) -> Option<&Edge>
         ensures some { IsSome result ↔ (id.0 < length self.now.plan.edges) }
-        ensures part { IfSome result (λ edge. seen_edge edge.now ≡ at_edge (seen self.now) id) }
+        ensures part { IfSome result (λ edge. seen_edge edge.now ≡ edge_at (seen self.now) id) }
         ensures plan { IfSome result (λ edge. edge.now.plan ≡ self.now.plan) }
         ensures place { IfSome result (λ edge. edge.now.me ≡ id) }
     {

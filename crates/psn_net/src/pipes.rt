@@ -1,7 +1,7 @@
 //! The pipes between edges.
 ghost use Rattle.std.specs.Prelude.{◌≡◌, ◌++◌, ◌<◌, [], drop, length, take, IfOk, OnErr, OnOk};
 ghost use Rattle.edge_model.specs.State.{put_at};
-ghost use Rattle.psn_net.specs.Pipes.{no_octets, seen, without_to};
+ghost use Rattle.psn_net.specs.Pipes.{no_octets, pipes_of, without_to};
 
 use crate::pipe_row::PipeRow;
 use net_base::{EdgeId, NoMemory};
@@ -30,7 +30,7 @@ impl Pipes {
     #[tactic(auto, using(crate::proofs::EmptyLemmas::square_steps))]
     pub fn open(alloc: Global, size: usize) -> Result<Pipes, NoMemory>
         ensures size { IfOk result (λ pipes. pipes.size ≡ size) }
-        ensures empty { IfOk result (λ pipes. seen pipes ≡ no_octets) }
+        ensures empty { IfOk result (λ pipes. pipes_of pipes ≡ no_octets) }
     {
         let mut rows = Vec::new(alloc);
         for _place in 0..size {
@@ -40,44 +40,44 @@ impl Pipes {
     }
 
     /// Puts octets into the pipe from an edge to another one. After `NoMemory` the pipes are as they were.
-    #[tactic(auto, using(crate::proofs::PipeLemmas::seen_set), unfolding(crate::specs::Pipes::seen))]
+    #[tactic(auto, using(crate::proofs::PipeLemmas::seen_set), unfolding(crate::specs::Pipes::pipes_of))]
     pub fn put(&mut self, from: EdgeId, to: EdgeId, piece: &[u8]) -> Result<(), NoMemory>
         requires from { from.0 < self.old.size }
         requires to { to.0 < self.old.size }
         ensures size { self.new.size ≡ self.old.size }
-        ensures ok { OnOk result (seen self.new ≡ put_at (seen self.old) from.0 (put_at (seen self.old from.0) to.0 (seen self.old from.0 to.0 ++ piece.now))) }
-        ensures err { OnErr result (seen self.new ≡ seen self.old) }
+        ensures ok { OnOk result (pipes_of self.new ≡ put_at (pipes_of self.old) from.0 (put_at (pipes_of self.old from.0) to.0 (pipes_of self.old from.0 to.0 ++ piece.now))) }
+        ensures err { OnErr result (pipes_of self.new ≡ pipes_of self.old) }
     {
         self.rows[from.0 as usize].pipes[to.0 as usize].put(piece)
     }
 
     /// How many octets are on their way from an edge to another one.
-    #[tactic(auto, unfolding(crate::specs::Pipes::seen))]
+    #[tactic(auto, unfolding(crate::specs::Pipes::pipes_of))]
     pub fn len(&self, from: EdgeId, to: EdgeId) -> usize
         requires from { from.0 < self.now.size }
         requires to { to.0 < self.now.size }
-        ensures { result ≡ length (seen self.now from.0 to.0) }
+        ensures { result ≡ length (pipes_of self.now from.0 to.0) }
     {
         self.rows[from.0 as usize].pipes[to.0 as usize].len()
     }
 
     /// The first `count` octets on their way from an edge to another one, or all where there are fewer.
-    #[tactic(auto, unfolding(crate::specs::Pipes::seen))]
+    #[tactic(auto, unfolding(crate::specs::Pipes::pipes_of))]
     pub fn front(&self, from: EdgeId, to: EdgeId, count: usize) -> &[u8]
         requires from { from.0 < self.now.size }
         requires to { to.0 < self.now.size }
-        ensures { result.now ≡ take count (seen self.now from.0 to.0) }
+        ensures { result.now ≡ take count (pipes_of self.now from.0 to.0) }
     {
         self.rows[from.0 as usize].pipes[to.0 as usize].front(count)
     }
 
     /// Gives up the first `count` octets on their way from an edge to another one, or all where there are fewer.
-    #[tactic(auto, using(crate::proofs::PipeLemmas::seen_set), unfolding(crate::specs::Pipes::seen))]
+    #[tactic(auto, using(crate::proofs::PipeLemmas::seen_set), unfolding(crate::specs::Pipes::pipes_of))]
     pub fn skip(&mut self, from: EdgeId, to: EdgeId, count: usize)
         requires from { from.0 < self.old.size }
         requires to { to.0 < self.old.size }
         ensures size { self.new.size ≡ self.old.size }
-        ensures rest { seen self.new ≡ put_at (seen self.old) from.0 (put_at (seen self.old from.0) to.0 (drop count (seen self.old from.0 to.0))) }
+        ensures rest { pipes_of self.new ≡ put_at (pipes_of self.old) from.0 (put_at (pipes_of self.old from.0) to.0 (drop count (pipes_of self.old from.0 to.0))) }
     {
         self.rows[from.0 as usize].pipes[to.0 as usize].skip(count);
     }
@@ -87,18 +87,18 @@ impl Pipes {
         requires from { from.0 < self.old.size }
         requires to { to.0 < self.old.size }
         ensures size { self.new.size ≡ self.old.size }
-        ensures empty { seen self.new ≡ put_at (seen self.old) from.0 (put_at (seen self.old from.0) to.0 []) }
+        ensures empty { pipes_of self.new ≡ put_at (pipes_of self.old) from.0 (put_at (pipes_of self.old from.0) to.0 []) }
     {
         self.clear_at(from.0 as usize, to.0 as usize);
     }
 
     // The same of edges by their places.
-    #[tactic(auto, using(crate::proofs::PipeLemmas::seen_set), unfolding(crate::specs::Pipes::seen))]
+    #[tactic(auto, using(crate::proofs::PipeLemmas::seen_set), unfolding(crate::specs::Pipes::pipes_of))]
     fn clear_at(&mut self, from: usize, to: usize)
         requires from { from < self.old.size }
         requires to { to < self.old.size }
         ensures size { self.new.size ≡ self.old.size }
-        ensures empty { seen self.new ≡ put_at (seen self.old) from (put_at (seen self.old from) to []) }
+        ensures empty { pipes_of self.new ≡ put_at (pipes_of self.old) from (put_at (pipes_of self.old from) to []) }
     {
         self.rows[from].pipes[to].clear();
     }
@@ -108,7 +108,7 @@ impl Pipes {
     pub fn clear_to(&mut self, to: EdgeId)
         requires to { to.0 < self.old.size }
         ensures size { self.new.size ≡ self.old.size }
-        ensures empty { seen self.new ≡ without_to to.0 (seen self.old) }
+        ensures empty { pipes_of self.new ≡ without_to to.0 (pipes_of self.old) }
     {
         let size = self.rows.len();
         for from in 0..size {

@@ -1,6 +1,6 @@
 //! The link of an edge in the network.
 ghost use Rattle.std.specs.Prelude.{◌≡◌, ◌++◌, ◌∷◌, [], true, false};
-ghost use Rattle.net_base.specs.outside.Link.{Answers, Counts, call_of};
+ghost use Rattle.net_base.specs.outside.Link.{Counts, IsCallAnswer, call_of};
 
 use crate::call::Call;
 use crate::call_log::CallLog;

@@ -7,7 +7,7 @@ use Rattle.std.proofs.lemmas.Bool.Decides.{nat_tests}
 use Rattle.std.proofs.lemmas.List.{drop_more}
 use Rattle.edge_model.specs.declared.end_place.EndPlace.{EndPlace}
 use Rattle.pw_ends.specs.Ends.{no_place}
-use Rattle.pw_ends.specs.Names.{Finds, has_name, is_name, name_of}
+use Rattle.pw_ends.specs.Names.{FindsSlots, end_name_of, has_name, is_name}
 
 -- the first slot that passes, of slots from i on
 abbrev pub slot_from : ℕ → (EndPlace → Bool) → List EndPlace → Option ℕ
@@ -31,7 +31,7 @@ pub record FindsFrom (i : ℕ) (places : List EndPlace) (entries : List ((ℕ ×
   pub slot : (peer pw_id : ℕ) → lookup (is_name peer pw_id) entries ≡ slot_from i (has_name peer pw_id) (drop i places)
 
 -- one more slot in front
-pub finds_more : (i j : ℕ) (places : List EndPlace) (key : ℕ × ℕ) (old new : List ((ℕ × ℕ) × ℕ)) → i < length places → i + 1 ≡ j → key ≡ name_of (get_or places i no_place) → FindsFrom j places old
+pub finds_more : (i j : ℕ) (places : List EndPlace) (key : ℕ × ℕ) (old new : List ((ℕ × ℕ) × ℕ)) → i < length places → i + 1 ≡ j → key ≡ end_name_of (get_or places i no_place) → FindsFrom j places old
     → ((q : ℕ × ℕ) → lookup (is_name q.0 q.1) new ≡ cond (key.0 == q.0 && key.1 == q.1) (Some i) (lookup (is_name q.0 q.1) old)) → FindsFrom i places new
 finds_more i j places key old new within next is finds updates = record {
   slot = λ peer pw_id.
@@ -43,7 +43,7 @@ finds_more i j places key old new within next is finds updates = record {
 }
 
 -- all slots
-pub finds_all : (i : ℕ) (places : List EndPlace) (entries : List ((ℕ × ℕ) × ℕ)) → i ≤ 0 → FindsFrom i places entries → Finds places entries
+pub finds_all : (i : ℕ) (places : List EndPlace) (entries : List ((ℕ × ℕ) × ℕ)) → i ≤ 0 → FindsFrom i places entries → FindsSlots places entries
 finds_all zero places entries none finds = record { slot = λ peer pw_id. finds.slot peer pw_id ∙ slot_from_start (has_name peer pw_id) places }
 finds_all (suc i) places entries none finds = absurd (omega arith)
 

@@ -12,8 +12,8 @@ use Rattle.net_base.specs.declared.plan.places.WireId.{WireId}
 use Rattle.net_base.specs.declared.plan.wire_plan.WirePlan.{WirePlan}
 use Rattle.hvpls_spokes.proofs.SearchLemmas.{first_behind, pairs_append}
 use Rattle.edge_model.specs.declared.end_place.EndPlace.{EndPlace}
-use Rattle.edge_model.specs.EndPlaces.{end_places, is_end_of_wire, is_of_wire, is_terminal, place_at, places_along, places_at, places_from}
-use Rattle.pw_ends.specs.Order.{AreInOrder, Precedes, precedes_wire}
+use Rattle.edge_model.specs.EndPlaces.{end_place_at, end_places, is_end_of_wire, is_of_wire, is_terminal, places_along, places_at, places_from}
+use Rattle.pw_ends.specs.Order.{AreEndsInOrder, PrecedesEnd, end_precedes_wire}
 use Rattle.pw_ends.proofs.PlaceLemmas.{from_later}
 
 -- ---- the ends of one wire
@@ -26,10 +26,10 @@ record IsOf (wire : ℕ) (terminal : Bool) (place : EndPlace) : Type 0 where
 at_of : (wire : WireId) (row : WirePlan) (me : EdgeId) (segment : ℕ) (first next : EdgeId) → All (IsOf wire.0 (is_terminal row me)) (places_at wire row me segment first next)
 at_of wire row me segment first next = by (me.0 == first.0) (me.0 == next.0)
   where
-    one : (side : ℕ) (peer : EdgeId) → All (IsOf wire.0 (is_terminal row me)) (place_at wire row me segment side peer ∷ [])
-    one side peer = All-cons (IsOf wire.0 (is_terminal row me)) (place_at wire row me segment side peer) [] (record { of_wire = refl; alike = refl }) (All-nil (IsOf wire.0 (is_terminal row me)))
+    one : (side : ℕ) (peer : EdgeId) → All (IsOf wire.0 (is_terminal row me)) (end_place_at wire row me segment side peer ∷ [])
+    one side peer = All-cons (IsOf wire.0 (is_terminal row me)) (end_place_at wire row me segment side peer) [] (record { of_wire = refl; alike = refl }) (All-nil (IsOf wire.0 (is_terminal row me)))
 
-    by : (a b : Bool) → All (IsOf wire.0 (is_terminal row me)) (cond a (place_at wire row me segment 0 next ∷ []) (cond b (place_at wire row me segment 1 first ∷ []) []))
+    by : (a b : Bool) → All (IsOf wire.0 (is_terminal row me)) (cond a (end_place_at wire row me segment 0 next ∷ []) (cond b (end_place_at wire row me segment 1 first ∷ []) []))
     by true b = one 0 next
     by false true = one 1 first
     by false false = All-nil (IsOf wire.0 (is_terminal row me))
@@ -42,7 +42,7 @@ along_of wire row me segment (first ∷ next ∷ rest) =
 
 -- ---- the ends of several wires
 
-one_in_order : (wire : ℕ) (terminal : Bool) (places : List EndPlace) → All (IsOf wire terminal) places → AreInOrder places
+one_in_order : (wire : ℕ) (terminal : Bool) (places : List EndPlace) → All (IsOf wire terminal) places → AreEndsInOrder places
 one_in_order wire terminal places all i j d below within =
     let first : IsOf wire terminal (get_or places i d) = all i d (omega (arith, below, within)) in
     let second : IsOf wire terminal (get_or places j d) = all j d within in
@@ -51,57 +51,57 @@ one_in_order wire terminal places all i j d below within =
       alike = λ same. first.alike ∙ sym second.alike;
     }
 
-from_in_order : (me : EdgeId) (wire : ℕ) (rows : List WirePlan) → AreInOrder (places_from me wire rows)
+from_in_order : (me : EdgeId) (wire : ℕ) (rows : List WirePlan) → AreEndsInOrder (places_from me wire rows)
 from_in_order me wire [] = λ i j d below within. absurd (omega (arith, within))
 from_in_order me wire (row ∷ rows) =
     let here : List EndPlace = places_along (record { 0 = wire }) row me 0 row.path in
     let later : List EndPlace = places_from me (wire + 1) rows in
     let of_it : All (IsOf wire (is_terminal row me)) here = along_of (record { 0 = wire }) row me 0 row.path in
     let behind : All (λ p. wire + 1 ≤ p.wire.0) later = All-from_recursion (λ p. wire + 1 ≤ p.wire.0) later (from_later me (wire + 1) rows) in
-    pairs_append Precedes here later (one_in_order wire (is_terminal row me) here of_it) (from_in_order me (wire + 1) rows)
+    pairs_append PrecedesEnd here later (one_in_order wire (is_terminal row me) here of_it) (from_in_order me (wire + 1) rows)
     (λ i d within j e inside. apart (get_or here i d) (get_or later j e) (of_it i d within).of_wire (behind j e inside))
   where
-    apart : (first second : EndPlace) → first.wire.0 ≡ wire → wire + 1 ≤ second.wire.0 → Precedes first second
+    apart : (first second : EndPlace) → first.wire.0 ≡ wire → wire + 1 ≤ second.wire.0 → PrecedesEnd first second
     apart first second of_it behind = record {
       wires = omega (arith, of_it, behind);
       alike = λ same. absurd (omega (arith, of_it, behind, same));
     }
 
-pub places_in_order : (plan : Plan) (me : EdgeId) → AreInOrder (end_places plan me)
+pub places_in_order : (plan : Plan) (me : EdgeId) → AreEndsInOrder (end_places plan me)
 places_in_order plan me = from_in_order me 0 plan.wires
 
 -- ---- the search of a wire
 
-before_wire : (wire : WireId) (x y : EndPlace) → Precedes x y → precedes_wire wire y ≡ true → precedes_wire wire x ≡ true
+before_wire : (wire : WireId) (x y : EndPlace) → PrecedesEnd x y → end_precedes_wire wire y ≡ true → end_precedes_wire wire x ≡ true
 before_wire wire x y order under = grind (arith, nat_tests, order.wires, under)
 
-not_before : (wire : WireId) (x : EndPlace) → is_of_wire wire x ≡ true → precedes_wire wire x ≡ false
+not_before : (wire : WireId) (x : EndPlace) → is_of_wire wire x ≡ true → end_precedes_wire wire x ≡ false
 not_before wire x here = grind (arith, nat_tests, here)
 
-same_wire : (wire : WireId) (x y : EndPlace) → Precedes x y → is_of_wire wire y ≡ true → precedes_wire wire x ≡ false → is_of_wire wire x ≡ true
+same_wire : (wire : WireId) (x y : EndPlace) → PrecedesEnd x y → is_of_wire wire y ≡ true → end_precedes_wire wire x ≡ false → is_of_wire wire x ≡ true
 same_wire wire x y order here behind = grind (arith, nat_tests, order.wires, here, behind)
 
 of_one : (wire : WireId) (x y : EndPlace) → is_of_wire wire x ≡ true → is_of_wire wire y ≡ true → x.wire.0 ≡ y.wire.0
 of_one wire x y first second = grind (arith, nat_tests, first, second)
 
 -- where the ends of earlier wires end, the first one of a wire stands, if it has one
-pub of_wire_behind : (wire : WireId) (places : List EndPlace) (k : ℕ) → AreInOrder places → k ≤ length places
-    → (IsPartitionedBy (precedes_wire wire) places → IsPartitionPoint (λ x. precedes_wire wire x ≡ true) (λ x. precedes_wire wire x ≡ false) places k)
+pub of_wire_behind : (wire : WireId) (places : List EndPlace) (k : ℕ) → AreEndsInOrder places → k ≤ length places
+    → (IsPartitionedBy (end_precedes_wire wire) places → IsPartitionPoint (λ x. end_precedes_wire wire x ≡ true) (λ x. end_precedes_wire wire x ≡ false) places k)
     → position (is_of_wire wire) places ≡ place_if (is_of_wire wire) k (slice_get places k)
 of_wire_behind wire places k ordered bound ends =
-    (first_behind Precedes (precedes_wire wire) (is_of_wire wire) places k ordered (before_wire wire) (not_before wire) (same_wire wire) bound ends).place
+    (first_behind PrecedesEnd (end_precedes_wire wire) (is_of_wire wire) places k ordered (before_wire wire) (not_before wire) (same_wire wire) bound ends).place
 
 -- and it is terminal where any of them is
-pub terminal_behind : (wire : WireId) (places : List EndPlace) (k : ℕ) → AreInOrder places → k ≤ length places
-    → (IsPartitionedBy (precedes_wire wire) places → IsPartitionPoint (λ x. precedes_wire wire x ≡ true) (λ x. precedes_wire wire x ≡ false) places k)
+pub terminal_behind : (wire : WireId) (places : List EndPlace) (k : ℕ) → AreEndsInOrder places → k ≤ length places
+    → (IsPartitionedBy (end_precedes_wire wire) places → IsPartitionPoint (λ x. end_precedes_wire wire x ≡ true) (λ x. end_precedes_wire wire x ≡ false) places k)
     → position (is_end_of_wire wire) places ≡ place_if (is_end_of_wire wire) k (slice_get places k)
 terminal_behind wire places k ordered bound ends =
-    (first_behind Precedes (precedes_wire wire) (is_end_of_wire wire) places k ordered (before_wire wire)
+    (first_behind PrecedesEnd (end_precedes_wire wire) (is_end_of_wire wire) places k ordered (before_wire wire)
     (λ x here. not_before wire x (and_parts (is_of_wire wire x) x.terminal here).0)
     same_end
     bound ends).place
   where
-    same_end : (x y : EndPlace) → Precedes x y → is_end_of_wire wire y ≡ true → precedes_wire wire x ≡ false → is_end_of_wire wire x ≡ true
+    same_end : (x y : EndPlace) → PrecedesEnd x y → is_end_of_wire wire y ≡ true → end_precedes_wire wire x ≡ false → is_end_of_wire wire x ≡ true
     same_end x y order here behind =
         let parts = and_parts (is_of_wire wire y) y.terminal here in
         let same : is_of_wire wire x ≡ true = same_wire wire x y order parts.0 behind in

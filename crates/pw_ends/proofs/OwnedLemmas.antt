@@ -8,7 +8,7 @@ use Rattle.std.proofs.lemmas.List.Quantifiers.{all_pairs_push}
 use Rattle.hvpls_spokes.specs.Search.{kept_if}
 use Rattle.hvpls_spokes.proofs.SearchLemmas.{first_behind}
 use Rattle.pw_ends.specs.declared.owned_labels.OwnedLabel.{OwnedLabel}
-use Rattle.pw_ends.specs.Owned.{AreEarlier, AreRising, IsHeld, has_label, is_earlier}
+use Rattle.pw_ends.specs.Owned.{AreEarlier, AreRising, IsOwnedList, has_label, is_earlier}
 
 abbrev Rises : OwnedLabel → OwnedLabel → Type 0
 Rises first second = first.label < second.label
@@ -30,7 +30,7 @@ filter_most p (x ∷ xs) =
     ]
 
 -- what is left rises
-pub held_filtered : (p : OwnedLabel → Bool) (room reserved now : ℕ) (xs ys : List OwnedLabel) → IsHeld room reserved xs → ys ≡ filter p xs → now ≡ reserved → IsHeld room now ys
+pub held_filtered : (p : OwnedLabel → Bool) (room reserved now : ℕ) (xs ys : List OwnedLabel) → IsOwnedList room reserved xs → ys ≡ filter p xs → now ≡ reserved → IsOwnedList room now ys
 held_filtered p room reserved now xs ys held is equal = rw (is, equal) (record {
   within = omega (arith, held.within, filter_most p xs);
   has_room = held.has_room;

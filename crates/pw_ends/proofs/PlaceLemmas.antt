@@ -9,11 +9,11 @@ use Rattle.net_base.specs.declared.plan.edge_plan.EdgePlan.{EdgePlan}
 use Rattle.net_base.specs.declared.plan.places.EdgeId.{EdgeId}
 use Rattle.net_base.specs.declared.plan.places.WireId.{WireId}
 use Rattle.net_base.specs.declared.plan.wire_plan.WirePlan.{WirePlan}
-use Rattle.net_base.specs.plan.Accepted.{IsChecked, IsEdge, IsWireOf}
+use Rattle.net_base.specs.plan.Accepted.{IsChecked, IsEdgePlan, IsWireOf}
 use Rattle.net_base.specs.plan.Paths.{has_repeat}
 use Rattle.label_space.specs.Labels.{numbers_end}
 use Rattle.edge_model.specs.declared.end_place.EndPlace.{EndPlace}
-use Rattle.edge_model.specs.EndPlaces.{end_places, place_at, places_along, places_at, places_from}
+use Rattle.edge_model.specs.EndPlaces.{end_place_at, end_places, places_along, places_at, places_from}
 use Rattle.pw_ends.specs.Ends.{is_at}
 use Rattle.pw_ends.specs.Kept.{AreApart}
 
@@ -49,7 +49,7 @@ equal_of : (a b : ℕ) → (a == b) ≡ true → a ≡ b
 equal_of a b equal = grind (arith, nat_tests)
 
 -- the ends beyond a segment whose second edge is this one
-beyond : (wire : WireId) (row : WirePlan) (me first next : EdgeId) (segment : ℕ) (rest : List EdgeId) → (me.0 == next.0) ≡ true → has_repeat (first ∷ next ∷ rest) ≡ false → AreApart (place_at wire row me segment 1 first ∷ places_along wire row me (segment + 1) (next ∷ rest))
+beyond : (wire : WireId) (row : WirePlan) (me first next : EdgeId) (segment : ℕ) (rest : List EdgeId) → (me.0 == next.0) ≡ true → has_repeat (first ∷ next ∷ rest) ≡ false → AreApart (end_place_at wire row me segment 1 first ∷ places_along wire row me (segment + 1) (next ∷ rest))
 beyond wire row me first next segment [] here once = (tt, tt)
 beyond wire row me first next segment (r ∷ rs) here once =
     let more : has_repeat (next ∷ r ∷ rs) ≡ false = right (stands first.0 (next ∷ r ∷ rs)) (has_repeat (next ∷ r ∷ rs)) once in
@@ -90,9 +90,9 @@ all_weaker P Q [] weaker all = tt
 all_weaker P Q (x ∷ xs) weaker all = (weaker x all.0, all_weaker P Q xs weaker all.1)
 
 at_of_wire : (wire : WireId) (row : WirePlan) (me : EdgeId) (segment : ℕ) (first next : EdgeId) → AllByRecursion (λ (p : EndPlace). p.wire.0 ≡ wire.0) (places_at wire row me segment first next)
-at_of_wire wire row me segment first next = elim (me.0 == first.0) as (λ a. AllByRecursion (λ (p : EndPlace). p.wire.0 ≡ wire.0) (cond a (place_at wire row me segment 0 next ∷ []) (cond (me.0 == next.0) (place_at wire row me segment 1 first ∷ []) []))) [
+at_of_wire wire row me segment first next = elim (me.0 == first.0) as (λ a. AllByRecursion (λ (p : EndPlace). p.wire.0 ≡ wire.0) (cond a (end_place_at wire row me segment 0 next ∷ []) (cond (me.0 == next.0) (end_place_at wire row me segment 1 first ∷ []) []))) [
   | true ↦ (refl, tt)
-  | false ↦ elim (me.0 == next.0) as (λ b. AllByRecursion (λ (p : EndPlace). p.wire.0 ≡ wire.0) (cond b (place_at wire row me segment 1 first ∷ []) [])) [
+  | false ↦ elim (me.0 == next.0) as (λ b. AllByRecursion (λ (p : EndPlace). p.wire.0 ≡ wire.0) (cond b (end_place_at wire row me segment 1 first ∷ []) [])) [
     | true ↦ (refl, tt)
     | false ↦ tt
   ]
@@ -140,12 +140,12 @@ pub places_apart : (plan : Plan) (me : EdgeId) → IsChecked plan → AreApart (
 places_apart plan me checked = from_apart plan me 0 plan.wires checked.wires
 
 -- the first label of an edge of the plan
-first_in : (rows : List EdgePlan) (place : ℕ) (row : EdgePlan) → All IsEdge rows → place < length rows → (16 ≤ (get_or rows place row).first_label) × ((get_or rows place row).first_label ≤ numbers_end)
+first_in : (rows : List EdgePlan) (place : ℕ) (row : EdgePlan) → All IsEdgePlan rows → place < length rows → (16 ≤ (get_or rows place row).first_label) × ((get_or rows place row).first_label ≤ numbers_end)
 first_in [] place row good within = absurd (omega (arith, within))
 first_in (r ∷ rs) zero row good within =
-    let is : IsEdge r = All-head IsEdge r rs good in
+    let is : IsEdgePlan r = All-head IsEdgePlan r rs good in
     (is.first_label.0, omega (arith, is.first_label.1))
-first_in (r ∷ rs) (suc place) row good within = first_in rs place row (All-tail IsEdge r rs good) (omega (arith, within))
+first_in (r ∷ rs) (suc place) row good within = first_in rs place row (All-tail IsEdgePlan r rs good) (omega (arith, within))
 
 pub first_in_range : (plan : Plan) (me : ℕ) (row : EdgePlan) → IsChecked plan → me < length plan.edges → (16 ≤ (get_or plan.edges me row).first_label) × ((get_or plan.edges me row).first_label ≤ numbers_end)
 first_in_range plan me row checked within = first_in plan.edges me row checked.edges within
@@ -153,9 +153,9 @@ first_in_range plan me row checked within = first_in plan.edges me row checked.e
 -- ---- how many there are
 
 at_most : (wire : WireId) (row : WirePlan) (me : EdgeId) (segment : ℕ) (first next : EdgeId) → length (places_at wire row me segment first next) ≤ 1
-at_most wire row me segment first next = elim (me.0 == first.0) as (λ a. length (cond a (place_at wire row me segment 0 next ∷ []) (cond (me.0 == next.0) (place_at wire row me segment 1 first ∷ []) [])) ≤ 1) [
+at_most wire row me segment first next = elim (me.0 == first.0) as (λ a. length (cond a (end_place_at wire row me segment 0 next ∷ []) (cond (me.0 == next.0) (end_place_at wire row me segment 1 first ∷ []) [])) ≤ 1) [
   | true ↦ omega arith
-  | false ↦ elim (me.0 == next.0) as (λ b. length (cond b (place_at wire row me segment 1 first ∷ []) []) ≤ 1) [
+  | false ↦ elim (me.0 == next.0) as (λ b. length (cond b (end_place_at wire row me segment 1 first ∷ []) []) ≤ 1) [
     | true ↦ omega arith
     | false ↦ omega arith
   ]

@@ -4,13 +4,13 @@ use Rattle.net_base.specs.declared.plan.places.WireId.{WireId}
 use Rattle.edge_model.specs.declared.end_place.EndPlace.{EndPlace}
 
 -- the end is one of an earlier wire
-abbrev pub precedes_wire : WireId → EndPlace → Bool
-precedes_wire wire place = nat_lt place.wire.0 wire.0
+abbrev pub end_precedes_wire : WireId → EndPlace → Bool
+end_precedes_wire wire place = nat_lt place.wire.0 wire.0
 
 -- the first end is not one of a later wire, and ends of one wire are terminal alike
-pub record Precedes (first second : EndPlace) : Type 0 where
+pub record PrecedesEnd (first second : EndPlace) : Type 0 where
   pub wires : first.wire.0 ≤ second.wire.0
   pub alike : first.wire.0 ≡ second.wire.0 → first.terminal ≡ second.terminal
 
-abbrev pub AreInOrder : List EndPlace → Type 0
-AreInOrder places = AllPairs Precedes places
+abbrev pub AreEndsInOrder : List EndPlace → Type 0
+AreEndsInOrder places = AllPairs PrecedesEnd places

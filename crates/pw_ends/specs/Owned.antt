@@ -39,7 +39,7 @@ abbrev pub AreRising : List OwnedLabel → Type 0
 AreRising labels = AllPairs (λ first second. first.label < second.label) labels
 
 -- the labels rise, and keep within the room that was reserved
-pub record IsHeld (room reserved : ℕ) (labels : List OwnedLabel) : Type 0 where
+pub record IsOwnedList (room reserved : ℕ) (labels : List OwnedLabel) : Type 0 where
   pub within : length labels ≤ room
   pub has_room : room ≤ reserved
   pub rise : AreRising labels

@@ -25,13 +25,13 @@ pub struct OwnedLabels {
 
 impl Model for OwnedLabels {
     ghost use Rattle.std.specs.Prelude.{vec_capacity};
-    ghost use Rattle.pw_ends.specs.Owned.{IsHeld, OwnedList};
+    ghost use Rattle.pw_ends.specs.Owned.{IsOwnedList, OwnedList};
 
     ghost Value = { OwnedList };
 
     ghost view = { λ o. record { room = o.room; labels = o.labels.items } };
 
-    ghost invariant = { λ o. IsHeld o.room (vec_capacity o.labels) o.labels.items };
+    ghost invariant = { λ o. IsOwnedList o.room (vec_capacity o.labels) o.labels.items };
 }
 
 impl OwnedLabels {

@@ -5,8 +5,8 @@ ghost use Rattle.net_base.specs.plan.Accepted.{IsChecked};
 ghost use Rattle.hvpls_spokes.specs.Search.{place_if};
 ghost use Rattle.edge_model.specs.EndPlaces.{end_places, is_end_of_wire, is_named, is_of_wire};
 ghost use Rattle.pw_ends.specs.Kept.{AreApart};
-ghost use Rattle.pw_ends.specs.Names.{Finds, name_of};
-ghost use Rattle.pw_ends.specs.Order.{AreInOrder, precedes_wire};
+ghost use Rattle.pw_ends.specs.Names.{FindsSlots, end_name_of};
+ghost use Rattle.pw_ends.specs.Order.{AreEndsInOrder, end_precedes_wire};
 ghost use Rattle.pw_ends.specs.Ends.{no_place};
 
 use crate::plan_places::end_places;
@@ -32,10 +32,10 @@ impl Model for PlaceList {
 
     ghost view = { λ l. l.list };
 
-    ghost use Rattle.pw_ends.specs.Names.{Finds};
-    ghost use Rattle.pw_ends.specs.Order.{AreInOrder};
+    ghost use Rattle.pw_ends.specs.Names.{FindsSlots};
+    ghost use Rattle.pw_ends.specs.Order.{AreEndsInOrder};
 
-    ghost invariant = { λ l. Finds l.list l.index.entries × AreInOrder l.list };
+    ghost invariant = { λ l. FindsSlots l.list l.index.entries × AreEndsInOrder l.list };
 }
 
 impl PlaceList {
@@ -118,7 +118,7 @@ impl PlaceList {
 
 // The first slot of an end of a wire.
 fn first_of_wire(places: &[EndPlace], wire: WireId) -> Option<usize>
-    requires { AreInOrder places.now }
+    requires { AreEndsInOrder places.now }
     ensures { result ≡ position (is_of_wire wire) places.now }
 {
     let slot = count_before(places, wire);
@@ -130,7 +130,7 @@ fn first_of_wire(places: &[EndPlace], wire: WireId) -> Option<usize>
 
 // The first slot of a terminal end of a wire. All its ends are terminal alike.
 fn first_terminal(places: &[EndPlace], wire: WireId) -> Option<usize>
-    requires { AreInOrder places.now }
+    requires { AreEndsInOrder places.now }
     ensures { result ≡ position (is_end_of_wire wire) places.now }
 {
     let slot = count_before(places, wire);
@@ -142,7 +142,7 @@ fn first_terminal(places: &[EndPlace], wire: WireId) -> Option<usize>
 
 // How many ends are of earlier wires.
 fn count_before(places: &[EndPlace], wire: WireId) -> usize
-    requires { AreInOrder places.now }
+    requires { AreEndsInOrder places.now }
     ensures wire { position (is_of_wire wire) places.now ≡ place_if (is_of_wire wire) result (slice_get places.now result) }
     ensures terminal { position (is_end_of_wire wire) places.now ≡ place_if (is_end_of_wire wire) result (slice_get places.now result) }
 {
@@ -151,14 +151,14 @@ fn count_before(places: &[EndPlace], wire: WireId) -> usize
 
 // Whether the end is one of an earlier wire.
 fn precedes(place: &EndPlace, wire: WireId) -> bool
-    ensures { result ≡ precedes_wire wire place.now }
+    ensures { result ≡ end_precedes_wire wire place.now }
 {
     place.wire.0 < wire.0
 }
 
 // The first slot of each name. A later slot is put in first, and gives way.
 fn index_of(alloc: Global, places: &[EndPlace]) -> Result<IndexMap<(u16, u32), usize>, NoMemory>
-    ensures { IfOk result (λ index. Finds places.now index.entries) }
+    ensures { IfOk result (λ index. FindsSlots places.now index.entries) }
 {
     let mut index = IndexMap::with_capacity(alloc, places.len())?;
     let mut slot = places.len();
@@ -172,7 +172,7 @@ fn index_of(alloc: Global, places: &[EndPlace]) -> Result<IndexMap<(u16, u32), u
 // The peer and the PW ID of a slot.
 fn name_at(places: &[EndPlace], slot: usize) -> (u16, u32)
     requires { slot < length places.now }
-    ensures { result ≡ name_of (slice_index_or places.now slot no_place) }
+    ensures { result ≡ end_name_of (slice_index_or places.now slot no_place) }
 {
     let place = places[slot];
     (place.peer.0, place.pw_id)

@@ -1,7 +1,7 @@
 //! Where a plan has ends of an edge.
 ghost use Rattle.std.specs.Prelude.{◌≡◌, ◌≤◌, ◌++◌, length, IfOk, OnOk};
 ghost use Rattle.net_base.specs.plan.Accepted.{IsChecked};
-ghost use Rattle.edge_model.specs.EndPlaces.{end_places, place_at, places_along, places_at};
+ghost use Rattle.edge_model.specs.EndPlaces.{end_place_at, end_places, places_along, places_at};
 
 use crate::segment::Segment;
 use edge_model::EndPlace;
@@ -69,7 +69,7 @@ fn push_place(
 
 // The end at one side of a segment, beside the edge at its other side.
 fn place_at(key: SegKey, row: &WirePlan, me: EdgeId, side: u8, peer: EdgeId) -> EndPlace
-    ensures { result ≡ place_at key.wire row.now me key.segment side peer }
+    ensures { result ≡ end_place_at key.wire row.now me key.segment side peer }
 {
     EndPlace {
         wire: key.wire,

@@ -2,7 +2,7 @@
 ghost use Rattle.std.specs.Prelude.{◌≡◌, ◌≤◌, ◌<◌, ◌+◌, ◌==◌, ◌↔◌, ℕ, Some, None, [], length, map, position, replicate, slice_get, option_and_then, option_map, IfOk, IfSome};
 ghost use Rattle.std.specs.List.{find, list_any};
 ghost use Rattle.net_base.specs.plan.Accepted.{IsChecked};
-ghost use Rattle.label_space.specs.Labels.{numbers_end, opened, owner_of};
+ghost use Rattle.label_space.specs.Labels.{numbers_end, opened_space, owner_of};
 ghost use Rattle.pw_signalling.specs.AnyEnd.{end_of};
 ghost use Rattle.pw_signalling.specs.End.{fresh};
 ghost use Rattle.pw_signalling.specs.Laws.{own_label};
@@ -429,7 +429,7 @@ fn idle_slots(alloc: Global, first: u32, count: usize) -> Result<IdleSlots, NoMe
     requires above { 16 ≤ first }
     requires below { first ≤ numbers_end }
     ensures ends { IfOk result (λ slots. map end_of slots.ends.items ≡ replicate count fresh) }
-    ensures labels { IfOk result (λ slots. slots.labels ≡ opened first count) }
+    ensures labels { IfOk result (λ slots. slots.labels ≡ opened_space first count) }
     ensures owned { IfOk result (λ slots. slots.owned ≡ record { room = count; labels = [] }) }
 {
     let ends = idle_ends(alloc, count)?;

@@ -9,7 +9,7 @@ use Rattle.net_base.specs.declared.trace.down.Down.{Down}
 use Rattle.pw_signalling.specs.declared.end_role.EndRole.{EndRole}
 use Rattle.pw_signalling.specs.Down.{differ, down, first_cause, mtus_differ}
 use Rattle.pw_signalling.specs.End.{EndState, LocalPart, Idle, Advertised, Withdrawing}
-use Rattle.pw_signalling.specs.Laws.{EndCall, Advertise, Tell, Withdraw, Renew, OnMapping, OnWithdraw, OnRelease, OnStatus, OnGroupWithdraw, OnGroupStatus, Lost, after, run, mapping_after, last_mapping, IsOfMapping, HoldsOnly, HoldsTheLastMapping, own_label, Gives, KeepsItsLabel, clears, Declines, KeepsItsMark, MtusAgree, BothAgree, ForwardsWhereBothAgree}
+use Rattle.pw_signalling.specs.Laws.{EndCall, Advertise, Tell, Withdraw, Renew, OnMapping, OnWithdraw, OnRelease, OnStatus, OnGroupWithdraw, OnGroupStatus, Lost, end_after, run_end, mapping_after, last_mapping, IsOfMapping, HoldsOnly, HoldsTheLastMapping, own_label, GivesLabel, KeepsItsLabel, clears_mark, Declines, KeepsItsMark, MtusAgree, BothAgree, ForwardsWhereBothAgree}
 use Rattle.pw_signalling.specs.Rows.{advertise_part, is_in_group, names, release_part, released, renew_part, status_part, tell_part, unless_named, withdraw_part}
 
 -- ---- the remote part
@@ -31,7 +31,7 @@ marked status mapping None only = only
 marked status None (Some held) only = only
 marked status (Some mapping) (Some held) only = record { label = only.label; told = ap (λ (t : Told). record t { status = Some status }) only.told }
 
-one_call : (last : Option Binding) (e : EndState) (call : EndCall) → HoldsOnly last e.remote → HoldsOnly (mapping_after last call) (after e call).remote
+one_call : (last : Option Binding) (e : EndState) (call : EndCall) → HoldsOnly last e.remote → HoldsOnly (mapping_after last call) (end_after e call).remote
 one_call last e (Advertise label told) only = only
 one_call last e (Tell status) only = only
 one_call last e Withdraw only = only
@@ -50,9 +50,9 @@ one_call last e (OnGroupStatus group status) only = elim (cases_Bool (is_in_grou
 ]
 one_call last e Lost only = tt
 
-all_calls : (last : Option Binding) (e : EndState) (calls : List EndCall) → HoldsOnly last e.remote → HoldsOnly (last_mapping last calls) (run e calls).remote
+all_calls : (last : Option Binding) (e : EndState) (calls : List EndCall) → HoldsOnly last e.remote → HoldsOnly (last_mapping last calls) (run_end e calls).remote
 all_calls last e [] only = only
-all_calls last e (call ∷ calls) only = all_calls (mapping_after last call) (after e call) calls (one_call last e call only)
+all_calls last e (call ∷ calls) only = all_calls (mapping_after last call) (end_after e call) calls (one_call last e call only)
 
 same_binding : (held : Option Binding) → HoldsOnly held held
 same_binding None = tt
@@ -114,7 +114,7 @@ group_local : (b : Bool) (local : LocalPart) (one other : Option Binding) → (c
 group_local true local one other = refl
 group_local false local one other = refl
 
-keeps : (e : EndState) (call : EndCall) (label : ℕ) → own_label e.local ≡ Some label → (own_label (after e call).local ≡ Some label) ⊎ (own_label (after e call).local ≡ None)
+keeps : (e : EndState) (call : EndCall) (label : ℕ) → own_label e.local ≡ Some label → (own_label (end_after e call).local ≡ Some label) ⊎ (own_label (end_after e call).local ≡ None)
 keeps e (Advertise given told) label own = inl (advertised_label given told e.local label own)
 keeps e (Tell status) label own = inl (told_label status e.local ∙ own)
 keeps e Withdraw label own = inl (withdrawn_label e.local ∙ own)
@@ -141,7 +141,7 @@ given_label given label told (Idle declined) none some = cc
 given_label given label told (Advertised own own_told) none some = absurd (cc)
 given_label given label told (Withdrawing own) none some = absurd (cc)
 
-gets : (e : EndState) (call : EndCall) (label : ℕ) → own_label e.local ≡ None → own_label (after e call).local ≡ Some label → Gives call label
+gets : (e : EndState) (call : EndCall) (label : ℕ) → own_label e.local ≡ None → own_label (end_after e call).local ≡ Some label → GivesLabel call label
 gets e (Advertise given told) label none some = given_label given label told e.local none some
 gets e (Tell status) label none some = no_label label _ (told_label status e.local ∙ none) some
 gets e Withdraw label none some = no_label label _ (withdrawn_label e.local ∙ none) some
@@ -162,7 +162,7 @@ keeps_its_label = record { release = release; keeps = keeps; gets = gets }
 marked_idle : (local : LocalPart) (change : LocalPart → LocalPart) → local ≡ Idle true → change (Idle true) ≡ Idle true → change local ≡ Idle true
 marked_idle local change marked same = ap change marked ∙ same
 
-stays : (e : EndState) (call : EndCall) → e.local ≡ Idle true → clears call ≡ false → (after e call).local ≡ Idle true
+stays : (e : EndState) (call : EndCall) → e.local ≡ Idle true → clears_mark call ≡ false → (end_after e call).local ≡ Idle true
 stays e (Advertise given told) marked other = absurd (cc)
 stays e (Tell status) marked other = marked_idle e.local (tell_part status) marked refl
 stays e Withdraw marked other = marked_idle e.local withdraw_part marked refl
@@ -185,7 +185,7 @@ never_renewed (Idle declined) marked = cc
 never_renewed (Advertised own told) marked = cc
 never_renewed (Withdrawing own) marked = cc
 
-goes : (e : EndState) (call : EndCall) → clears call ≡ true → (after e call).local ≢ Idle true
+goes : (e : EndState) (call : EndCall) → clears_mark call ≡ true → (end_after e call).local ≢ Idle true
 goes e (Advertise given told) clear = never_advertised given told e.local
 goes e (Tell status) clear = absurd (cc)
 goes e Withdraw clear = absurd (cc)
@@ -216,7 +216,7 @@ declines given (Withdrawing own) other marked = absurd (elim (names given own) a
   | false ↦ λ is. cc
 ] marked)
 
-comes : (e : EndState) (call : EndCall) → e.local ≢ Idle true → (after e call).local ≡ Idle true → Declines e call
+comes : (e : EndState) (call : EndCall) → e.local ≢ Idle true → (end_after e call).local ≡ Idle true → Declines e call
 comes e (Advertise given told) other marked = absurd (never_advertised given told e.local marked)
 comes e (Tell status) other marked = absurd (other (told_mark status e.local marked))
 comes e Withdraw other marked = absurd (other (withdrawn_mark e.local marked))

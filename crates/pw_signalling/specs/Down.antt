@@ -62,23 +62,23 @@ stands_by role.Chosen status = false
 stands_by role.NotChosen status = true
 
 -- Each cause, of an end with this role and these failure bits of its own, by what the end tells and what its peer tells.
-abbrev pub holds : EndRole → ℕ → Option Told → Option Told → Down → Bool
+abbrev pub holds_cause : EndRole → ℕ → Option Told → Option Told → Down → Bool
 -- the end advertises no label (RFC 5036 section 3.5.7)
-holds role bits own far cause.NoLocal = is_none own
+holds_cause role bits own far cause.NoLocal = is_none own
 -- the peer's label is not known (RFC 5036 section 3.5.7)
-holds role bits own far cause.NoRemote = is_none far
+holds_cause role bits own far cause.NoRemote = is_none far
 -- the C bits differ (RFC 8077 section 7)
-holds role bits own far cause.CBit = of_both (λ a b. differ a.c b.c) own far
+holds_cause role bits own far cause.CBit = of_both (λ a b. differ a.c b.c) own far
 -- the PW types differ (RFC 8077 section 6.1)
-holds role bits own far cause.Kind = of_both (λ a b. not (a.kind == b.kind)) own far
+holds_cause role bits own far cause.Kind = of_both (λ a b. not (a.kind == b.kind)) own far
 -- both interface MTUs are told and differ (RFC 8077 section 6.4)
-holds role bits own far cause.Mtu = of_both (λ a b. mtus_differ a.mtu b.mtu) own far
+holds_cause role bits own far cause.Mtu = of_both (λ a b. mtus_differ a.mtu b.mtu) own far
 -- the end's own failure bits are set (RFC 4446 section 3.5)
-holds role bits own far cause.LocalFault = not (bits == 0)
+holds_cause role bits own far cause.LocalFault = not (bits == 0)
 -- the peer tells a failure (RFC 8077 section 6.3.2)
-holds role bits own far cause.RemoteFault = of_both (λ a b. fails_in b.status) own far
+holds_cause role bits own far cause.RemoteFault = of_both (λ a b. fails_in b.status) own far
 -- the pseudowire stands by (RFC 6870)
-holds role bits own far cause.Standby = of_both (λ a b. stands_by role b.status) own far
+holds_cause role bits own far cause.Standby = of_both (λ a b. stands_by role b.status) own far
 
 -- the causes in order
 abbrev pub causes : List Down
@@ -86,7 +86,7 @@ causes = cause.NoLocal ∷ cause.NoRemote ∷ cause.CBit ∷ cause.Kind ∷ caus
 
 -- the first cause that holds
 abbrev pub first_cause : EndRole → ℕ → Option Told → Option Told → Option Down
-first_cause role bits own far = find (holds role bits own far) causes
+first_cause role bits own far = find (holds_cause role bits own far) causes
 
 -- why an end with this role and these failure bits does not forward; none where it forwards
 unfoldable pub down : EndRole → ℕ → EndState → Option Down

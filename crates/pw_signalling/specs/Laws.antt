@@ -26,23 +26,23 @@ pub data EndCall : Type 0 where
   Lost : EndCall
 
 -- what a call makes of an end
-abbrev pub after : EndState → EndCall → EndState
-after e (Advertise label told) = advertised label told e
-after e (Tell status) = telling status e
-after e Withdraw = withdrawn e
-after e Renew = renewed e
-after e (OnMapping binding) = bound binding e
-after e (OnWithdraw label) = unbound label e
-after e (OnRelease label) = released label e
-after e (OnStatus status) = stated status e
-after e (OnGroupWithdraw group) = group_unbound group e
-after e (OnGroupStatus group status) = group_stated group status e
-after e Lost = lost e
+abbrev pub end_after : EndState → EndCall → EndState
+end_after e (Advertise label told) = advertised label told e
+end_after e (Tell status) = telling status e
+end_after e Withdraw = withdrawn e
+end_after e Renew = renewed e
+end_after e (OnMapping binding) = bound binding e
+end_after e (OnWithdraw label) = unbound label e
+end_after e (OnRelease label) = released label e
+end_after e (OnStatus status) = stated status e
+end_after e (OnGroupWithdraw group) = group_unbound group e
+end_after e (OnGroupStatus group status) = group_stated group status e
+end_after e Lost = lost e
 
 -- what a list of calls makes of it
-abbrev pub run : EndState → List EndCall → EndState
-run e [] = e
-run e (call ∷ calls) = run (after e call) calls
+abbrev pub run_end : EndState → List EndCall → EndState
+run_end e [] = e
+run_end e (call ∷ calls) = run_end (end_after e call) calls
 
 -- ---- the remote part
 
@@ -69,7 +69,7 @@ HoldsOnly (Some mapping) (Some held) = IsOfMapping mapping held
 
 -- Whatever comes, an end holds one binding at most: that of the last mapping since the session stands, but for the status.
 abbrev pub HoldsTheLastMapping : Type 0
-HoldsTheLastMapping = (e : EndState) (calls : List EndCall) → HoldsOnly (last_mapping e.remote calls) (run e calls).remote
+HoldsTheLastMapping = (e : EndState) (calls : List EndCall) → HoldsOnly (last_mapping e.remote calls) (run_end e calls).remote
 
 -- ---- the local part
 
@@ -80,22 +80,22 @@ own_label (Advertised label told) = Some label
 own_label (Withdrawing label) = Some label
 
 -- a call by which an idle end gets a label
-abbrev pub Gives : EndCall → ℕ → Type 0
-Gives (Advertise given told) label = given ≡ label
-Gives call label = ⊥
+abbrev pub GivesLabel : EndCall → ℕ → Type 0
+GivesLabel (Advertise given told) label = given ≡ label
+GivesLabel call label = ⊥
 
 -- A release of another label changes nothing. An end owns its label until it is idle, and gets one by an advertisement alone.
 pub record KeepsItsLabel : Type 0 where
   pub release : (e : EndState) (label : ℕ) → own_label e.local ≢ Some label → released (Some label) e ≡ e
-  pub keeps : (e : EndState) (call : EndCall) (label : ℕ) → own_label e.local ≡ Some label → (own_label (after e call).local ≡ Some label) ⊎ (own_label (after e call).local ≡ None)
-  pub gets : (e : EndState) (call : EndCall) (label : ℕ) → own_label e.local ≡ None → own_label (after e call).local ≡ Some label → Gives call label
+  pub keeps : (e : EndState) (call : EndCall) (label : ℕ) → own_label e.local ≡ Some label → (own_label (end_after e call).local ≡ Some label) ⊎ (own_label (end_after e call).local ≡ None)
+  pub gets : (e : EndState) (call : EndCall) (label : ℕ) → own_label e.local ≡ None → own_label (end_after e call).local ≡ Some label → GivesLabel call label
 
 -- a call that clears the mark of an end that is declined
-abbrev pub clears : EndCall → Bool
-clears (Advertise label told) = true
-clears Renew = true
-clears Lost = true
-clears call = false
+abbrev pub clears_mark : EndCall → Bool
+clears_mark (Advertise label told) = true
+clears_mark Renew = true
+clears_mark Lost = true
+clears_mark call = false
 
 -- a call by which an end is declined
 abbrev pub Declines : EndState → EndCall → Type 0
@@ -105,9 +105,9 @@ Declines e call = ⊥
 -- The mark of a declined end stays until the end is renewed, its session is lost, or it advertises; no end is declined
 -- afterwards, and it is only by a release of what it advertised.
 pub record KeepsItsMark : Type 0 where
-  pub stays : (e : EndState) (call : EndCall) → e.local ≡ Idle true → clears call ≡ false → (after e call).local ≡ Idle true
-  pub goes : (e : EndState) (call : EndCall) → clears call ≡ true → (after e call).local ≢ Idle true
-  pub comes : (e : EndState) (call : EndCall) → e.local ≢ Idle true → (after e call).local ≡ Idle true → Declines e call
+  pub stays : (e : EndState) (call : EndCall) → e.local ≡ Idle true → clears_mark call ≡ false → (end_after e call).local ≡ Idle true
+  pub goes : (e : EndState) (call : EndCall) → clears_mark call ≡ true → (end_after e call).local ≢ Idle true
+  pub comes : (e : EndState) (call : EndCall) → e.local ≢ Idle true → (end_after e call).local ≡ Idle true → Declines e call
 
 -- ---- forwarding
 

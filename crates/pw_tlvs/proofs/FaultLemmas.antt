@@ -4,7 +4,7 @@ use Rattle.net_values.specs.declared.field.Field.{Field}
 use Rattle.net_values.specs.declared.field.Field.TheVariants as field
 use Rattle.pw_tlvs.specs.declared.field_fault.FieldFault.{FieldFault}
 use Rattle.pw_tlvs.specs.declared.field_fault.FieldFault.TheVariants.{Size, Value, Repeated}
-use Rattle.pw_tlvs.specs.Faults.{field_rank, place_of, rank_of, Precedes, IsFirst}
+use Rattle.pw_tlvs.specs.Faults.{field_rank, fault_place, rank_of, PrecedesIn, IsFirstIn}
 
 abbrev fields : List Field
 fields =
@@ -56,7 +56,7 @@ same_field : (f g : Field) → field_rank f ≡ field_rank g → f ≡ g
 same_field f g e = sym (field_again f) ∙ (ap field_at e ∙ field_again g)
 
 -- a fault is known by its place and rank
-same_fault : (f g : FieldFault) → place_of f ≡ place_of g → rank_of f ≡ rank_of g → f ≡ g
+same_fault : (f g : FieldFault) → fault_place f ≡ fault_place g → rank_of f ≡ rank_of g → f ≡ g
 same_fault Size Size place rank = refl
 same_fault Size (Value b v) place rank = absurd (omega arith)
 same_fault Size (Repeated b v) place rank = absurd (omega arith)
@@ -71,20 +71,20 @@ same_fault (Repeated a u) (Repeated b v) place rank =
     let f : u ≡ v = same_field u v (omega arith) in
     λ i. Repeated (place i) (f i)
 
-pub precedes_both : (f g : FieldFault) → Precedes f g → Precedes g f → f ≡ g
+pub precedes_both : (f g : FieldFault) → PrecedesIn f g → PrecedesIn g f → f ≡ g
 precedes_both f g (inl a) (inl b) = absurd (omega arith)
 precedes_both f g (inl a) (inr b) = let e = b.0 in absurd (omega arith)
 precedes_both f g (inr a) (inl b) = let e = a.0 in absurd (omega arith)
 precedes_both f g (inr a) (inr b) = let h = a.1 in let k = b.1 in same_fault f g a.0 (omega arith)
 
 -- two first faults are one
-pub one_first : {Named : FieldFault → Type 0} (f g : FieldFault) → IsFirst Named f → IsFirst Named g → f ≡ g
+pub one_first : {Named : FieldFault → Type 0} (f g : FieldFault) → IsFirstIn Named f → IsFirstIn Named g → f ≡ g
 one_first f g one other = precedes_both f g (one.first g other.named) (other.first f one.named)
 
 -- a fault precedes itself
-pub precedes_itself : (f : FieldFault) → Precedes f f
+pub precedes_itself : (f : FieldFault) → PrecedesIn f f
 precedes_itself f = inr (refl, omega arith)
 
 -- of one fault that can be named it is the first
-pub first_alone : {Named : FieldFault → Type 0} (f : FieldFault) → Named f → ((g : FieldFault) → Named g → g ≡ f) → IsFirst Named f
+pub first_alone : {Named : FieldFault → Type 0} (f : FieldFault) → Named f → ((g : FieldFault) → Named g → g ≡ f) → IsFirstIn Named f
 first_alone f named only = record { named = named; first = λ g other. rw (only g other) (precedes_itself f) }

@@ -9,7 +9,7 @@ use Rattle.pw_tlvs.specs.declared.fec_value.FecValue.TheVariants.{Pw, Foreign}
 use Rattle.pw_tlvs.specs.declared.registry.Registry.TheVariants.{InterfaceParameter}
 use Rattle.pw_tlvs.specs.declared.if_params.IfParams.{IfParams}
 use Rattle.pw_tlvs.specs.declared.pw_fec.PwFec.{PwFec}
-use Rattle.pw_tlvs.specs.Faults.{place_of, IsInside, Precedes, IsFirst}
+use Rattle.pw_tlvs.specs.Faults.{fault_place, IsInside, PrecedesIn, IsFirstIn}
 use Rattle.pw_tlvs.specs.SubTlvs.{SubTlv, IsNamed, said}
 use Rattle.pw_tlvs.specs.Fec.{AreParameters, IsPwid, information_length, IsTooShort, IsInformation, IsPwFec, IsFollowed, IsFecValue, IsFecFault, empty, short, too_short, past_end, parameter, text_of, vccv_of}
 use Rattle.pw_tlvs.proofs.SubTlvLemmas.{never_both, one_joining}
@@ -17,10 +17,10 @@ use Rattle.pw_tlvs.proofs.WrongLemmas.{named_within}
 use Rattle.std.proofs.lemmas.Bool.{cases_lt}
 
 pub parameter_first : (octets : List ℕ) (f : FieldFault) → IsPwid octets → (IsTooShort (information_length octets) → ⊥) → 1 ≤ information_length octets → length octets ≡ 8 + information_length octets
-    → IsFirst (IsNamed InterfaceParameter 12 (drop 12 octets)) f → IsFirst (IsFecFault octets) f
+    → IsFirstIn (IsNamed InterfaceParameter 12 (drop 12 octets)) f → IsFirstIn (IsFecFault octets) f
 parameter_first octets f begun long some whole inner = record { named = parameter begun long some whole inner.named; first = first }
   where
-    first : (g : FieldFault) → IsFecFault octets g → Precedes f g
+    first : (g : FieldFault) → IsFecFault octets g → PrecedesIn f g
     first g (empty none e) = let h = begun.header in absurd (omega arith)
     first g (short some' first' few e) = let h = begun.header in absurd (omega arith)
     first g (too_short begun' few e) = absurd (long few)
@@ -114,8 +114,8 @@ followed_again octets other first is same len =
 pub fec_inside : (octets : List ℕ) (f : FieldFault) → IsFecFault octets f → IsInside octets f
 fec_inside octets f (empty none e) = inl e
 fec_inside octets f (short some first few e) = inl e
-fec_inside octets f (too_short begun few e) = inr (let p = ap place_of e in let h = begun.header in omega arith)
-fec_inside octets f (past_end begun far e) = inr (let p = ap place_of e in let h = begun.header in omega arith)
+fec_inside octets f (too_short begun few e) = inr (let p = ap fault_place e in let h = begun.header in omega arith)
+fec_inside octets f (past_end begun far e) = inr (let p = ap fault_place e in let h = begun.header in omega arith)
 fec_inside octets f (parameter begun long some whole named) =
     let close = named_within InterfaceParameter 12 (drop 12 octets) f named in
     let rest = length-drop 12 octets in

@@ -11,10 +11,10 @@ use Rattle.pw_tlvs.specs.declared.if_params.IfParams.{IfParams}
 use Rattle.pw_tlvs.specs.declared.point.Point.{Point}
 use Rattle.pw_tlvs.specs.declared.pw_fec.PwFec.{PwFec}
 use Rattle.pw_tlvs.specs.declared.pw_status.PwStatus.{PwStatus}
-use Rattle.pw_tlvs.specs.SubTlvs.{IsGood, row_of}
+use Rattle.pw_tlvs.specs.SubTlvs.{IsGood, sub_tlv_row}
 use Rattle.pw_tlvs.specs.Fec.{AreParameters, IsFecValue, IsInformation, no_params, text_of, vccv_of}
 use Rattle.pw_tlvs.specs.Point.{IsPoint, address_of}
-use Rattle.pw_tlvs.specs.Status.{IsStatus, written_status}
+use Rattle.pw_tlvs.specs.Status.{IsPwStatus, written_status}
 use Rattle.pw_tlvs.specs.Written.{told, description_value, pair_octets, parameter_sub_tlvs, written_parameters, information, control_and_kind, written_fec, writable_fec, IsFecInRange, part_sub_tlvs, written_point, IsPointInRange}
 use Rattle.pw_tlvs.proofs.ToldLemmas.{values_told, values_both, said_told, said_past, good_none, good_told, number_two, number_four, numbers_two, numbers_four}
 use Rattle.pw_tlvs.proofs.WritableLemmas.{fec_can}
@@ -23,7 +23,7 @@ good_number : (o : Option ℕ) → IfSome (option_map (λ (n : ℕ). big_bytes 4
 good_number None = tt
 good_number (Some n) = record { fit = refl; allowed = refl }
 
-good_address : (kind : ℕ) (o : Option Addr) → row_of SwitchingPointPart kind ≡ Some (record { field = field.Point; least = 4; most = 4 }) → IfSome o (λ address. length address.0 ≡ 4)
+good_address : (kind : ℕ) (o : Option Addr) → sub_tlv_row SwitchingPointPart kind ≡ Some (record { field = field.Point; least = 4; most = 4 }) → IfSome o (λ address. length address.0 ≡ 4)
     → IfSome (option_map (λ (a : Addr). a.0) o) (λ value. IsGood SwitchingPointPart (record { kind = kind; value = value }))
 good_address kind None known four = tt
 good_address kind (Some address) known four = record { fit = rw known (rw four refl); allowed = refl }
@@ -116,7 +116,7 @@ parameters_again params mtu description vlan =
     }
 
 -- a written status is that status
-pub status_again : (status : PwStatus) → status.0 < 2 ^ 32 → IsStatus (written_status status) status
+pub status_again : (status : PwStatus) → status.0 < 2 ^ 32 → IsPwStatus (written_status status) status
 status_again status below = record { size = refl; bits = sym (number_four status.0 [] below) }
 
 c_again : (c : Bool) (kind : ℕ) (more : List ℕ) → kind ≤ 0x7FFF → c ≡ nat_le 0x8000 (big_number 2 (big_bytes 2 (control_and_kind c kind) ++ more))

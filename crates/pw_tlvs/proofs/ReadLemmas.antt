@@ -11,8 +11,8 @@ use Rattle.pw_tlvs.specs.declared.registry.Registry.TheVariants.{InterfaceParame
 use Rattle.pw_tlvs.specs.declared.found_params.FoundParams.{FoundParams}
 use Rattle.pw_tlvs.specs.declared.point.Point.{Point}
 use Rattle.pw_tlvs.specs.Found.{FoundSays, PointSays}
-use Rattle.pw_tlvs.specs.Faults.{IsFirst}
-use Rattle.pw_tlvs.specs.SubTlvs.{SubTlv, spell, AreGood, IsNamed, IsFirstWrong, Stood, row_of, values}
+use Rattle.pw_tlvs.specs.Faults.{IsFirstIn}
+use Rattle.pw_tlvs.specs.SubTlvs.{SubTlv, spell, AreGood, IsNamed, IsFirstWrong, Stood, sub_tlv_row, values}
 use Rattle.pw_tlvs.proofs.SubTlvLemmas.{first_named}
 use Rattle.pw_tlvs.proofs.WrongLemmas.{stood_no}
 
@@ -30,7 +30,7 @@ length_of registry octets at subs upto = sym (ap length upto.front) ∙ length-t
 
 -- what is first wrong at the place is the first fault of all
 pub read_fault : (registry : Registry) (begin : ℕ) (octets : List ℕ) (at place : ℕ) (subs : List SubTlv) (f : FieldFault) → AreReadUpTo registry octets at subs → place ≡ begin + at
-    → IsFirstWrong registry subs (drop at octets) place f → IsFirst (IsNamed registry begin octets) f
+    → IsFirstWrong registry subs (drop at octets) place f → IsFirstIn (IsNamed registry begin octets) f
 read_fault registry begin octets at place subs f upto is wrong =
     let there : place ≡ begin + length (flat_map (spell registry) subs) = omega (arith, length_of registry octets at subs upto, is) in
     first_named registry begin octets subs (drop at octets) f (split_at registry octets at subs upto) upto.good (subst (λ (n : ℕ). IsFirstWrong registry subs (drop at octets) n f) there wrong)
@@ -60,6 +60,6 @@ pub record IsPointUpTo (octets : List ℕ) (at : ℕ) (point : Point) : Type 0 w
 
 -- of a known type none stood before
 pub fresh_of : (registry : Registry) (before : List SubTlv) (kind octet : ℕ) (stood : Bool) → kind ≡ octet → Stood registry before octet stood
-    → (IsSome (row_of registry kind) → stood ≡ false) → IsSome (row_of registry kind) → values kind before ≡ []
+    → (IsSome (sub_tlv_row registry kind) → stood ≡ false) → IsSome (sub_tlv_row registry kind) → values kind before ≡ []
 fresh_of registry before kind octet stood is fact no_other known =
     stood_no registry before kind stood (no_other known) (subst (λ (k : ℕ). Stood registry before k stood) (sym is) fact) known

@@ -14,14 +14,14 @@ use Rattle.pw_tlvs.specs.declared.field_fault.FieldFault.TheVariants.{Size, Valu
 use Rattle.pw_tlvs.specs.declared.registry.Registry.{Registry}
 use Rattle.pw_tlvs.specs.declared.registry.Registry.TheVariants.{InterfaceParameter, SwitchingPointPart}
 use Rattle.pw_tlvs.specs.declared.row.Row.{Row}
-use Rattle.pw_tlvs.specs.Faults.{place_of, Precedes, IsFirst}
-use Rattle.pw_tlvs.specs.SubTlvs.{SubTlv, counted, spell, row_of, fits, allows, values, IsGood, AreGood, AreSubTlvs, IsOutside, outside_fault, IsWrong, lone, outside, misfit, excess, again, IsNamed, IsFirstWrong}
+use Rattle.pw_tlvs.specs.Faults.{fault_place, PrecedesIn, IsFirstIn}
+use Rattle.pw_tlvs.specs.SubTlvs.{SubTlv, counted_in, spell, sub_tlv_row, row_fits, allows, values, IsGood, AreGood, AreSubTlvs, IsOutside, outside_fault, IsWrong, lone, outside, misfit, excess, again, IsNamed, IsFirstWrong}
 use Rattle.pw_tlvs.specs.SubTlvs.{said}
 use Rattle.pw_tlvs.specs.declared.fec_value.FecValue.TheVariants.{Pw, Foreign}
 use Rattle.pw_tlvs.specs.declared.if_params.IfParams.{IfParams}
 use Rattle.pw_tlvs.specs.Fec.{no_params, text_of, vccv_of, AreParameters, IsPwid, information_length, IsTooShort, IsInformation, IsFecValue, IsFecFault, empty, short, too_short, past_end, parameter}
 use Rattle.pw_tlvs.specs.Point.{IsPoint, IsPointFault, address_of}
-use Rattle.pw_tlvs.specs.Status.{IsStatus, IsStatusFault}
+use Rattle.pw_tlvs.specs.Status.{IsPwStatus, IsStatusFault}
 use Rattle.pw_tlvs.specs.Macs.{AreMacs, IsMacsFault}
 use Rattle.pw_tlvs.proofs.FecLemmas.{parameter_first}
 use Rattle.pw_tlvs.proofs.FaultLemmas.{precedes_itself, first_alone}
@@ -32,12 +32,12 @@ use Rattle.pw_tlvs.proofs.WrongLemmas.{lone_first, again_first, outside_first_fe
 -- What octets come to: a value that they are, or the first of their faults.
 pub data Reading {A : Type 0} (Is : A → Type 0) (Named : FieldFault → Type 0) : Type 0 where
   told : (value : A) → Is value → Reading Is Named
-  refused : (fault : FieldFault) → IsFirst Named fault → Reading Is Named
+  refused : (fault : FieldFault) → IsFirstIn Named fault → Reading Is Named
 
 -- what a sub-TLV at a place comes to, behind these
 pub data HeadReading (registry : Registry) (before : List SubTlv) (rest : List ℕ) (at : ℕ) : Type 0 where
   good : (s : SubTlv) (more : List ℕ) → rest ≡ spell registry s ++ more → IsGood registry s
-      → (IsSome (row_of registry s.kind) → values s.kind before ≡ []) → HeadReading registry before rest at
+      → (IsSome (sub_tlv_row registry s.kind) → values s.kind before ≡ []) → HeadReading registry before rest at
   wrong : (fault : FieldFault) → IsFirstWrong registry before rest at fault → HeadReading registry before rest at
 
 -- whether a length counts too little or reaches past the end, or else the value
@@ -46,19 +46,19 @@ pub data Extent (registry : Registry) (rest : List ℕ) : Type 0 where
   inside : (value more : List ℕ) → rest ≡ spell registry (record { kind = slice_index rest 0; value = value }) ++ more
       → (IsOutside registry rest → ⊥) → Extent registry rest
 
-near_enough : (registry : Registry) (kind size : ℕ) (tail : List ℕ) → size ≤ counted registry + length tail → counted registry ≤ size → IsOutside registry (kind ∷ size ∷ tail) → ⊥
+near_enough : (registry : Registry) (kind size : ℕ) (tail : List ℕ) → size ≤ counted_in registry + length tail → counted_in registry ≤ size → IsOutside registry (kind ∷ size ∷ tail) → ⊥
 near_enough registry kind size tail near enough (inl low) = omega arith
 near_enough registry kind size tail near enough (inr high) = omega arith
 
 extent_of : (registry : Registry) (kind size : ℕ) (tail : List ℕ) → Extent registry (kind ∷ size ∷ tail)
-extent_of registry kind size tail = elim (cases_lt size (counted registry)) [
+extent_of registry kind size tail = elim (cases_lt size (counted_in registry)) [
   | inl low ↦ out (inl low)
-  | inr enough ↦ elim (cases_lt (counted registry + length tail) size) [
+  | inr enough ↦ elim (cases_lt (counted_in registry + length tail) size) [
     | inl high ↦ out (inr (omega (arith, high)))
     | inr near ↦
-        let count : ℕ = size - counted registry in
+        let count : ℕ = size - counted_in registry in
         let len : length (take count tail) ≡ count = length-take-le count tail (omega (arith, near, enough)) in
-        let same : size ≡ counted registry + length (take count tail) = omega (arith, len, enough) in
+        let same : size ≡ counted_in registry + length (take count tail) = omega (arith, len, enough) in
         let parts : tail ≡ take count tail ++ drop count tail = sym (take-append-drop count tail) in
         inside (take count tail) (drop count tail) (λ i. kind ∷ same i ∷ parts i) (near_enough registry kind size tail near enough)
   ]
@@ -72,32 +72,32 @@ outside_first_part before rest at two far = record {
   within = λ s more e. omega arith;
 }
   where
-    earliest : (other : FieldFault) → IsWrong SwitchingPointPart before rest at other → Precedes (outside_fault SwitchingPointPart at) other
+    earliest : (other : FieldFault) → IsWrong SwitchingPointPart before rest at other → PrecedesIn (outside_fault SwitchingPointPart at) other
     earliest other (lone one e) = absurd (omega arith)
-    earliest other (outside two' far' e) = subst (λ (x : FieldFault). Precedes (outside_fault SwitchingPointPart at) x) (sym e) (precedes_itself (outside_fault SwitchingPointPart at))
-    earliest other (misfit row two' known bad e) = let p = ap place_of e in inl (omega arith)
-    earliest other (excess row s more spelled known fit bad e) = let p = ap place_of e in inl (omega arith)
-    earliest other (again row some known stood e) = subst (λ (x : FieldFault). Precedes (outside_fault SwitchingPointPart at) x) (sym e) (inr (refl, omega arith))
+    earliest other (outside two' far' e) = subst (λ (x : FieldFault). PrecedesIn (outside_fault SwitchingPointPart at) x) (sym e) (precedes_itself (outside_fault SwitchingPointPart at))
+    earliest other (misfit row two' known bad e) = let p = ap fault_place e in inl (omega arith)
+    earliest other (excess row s more spelled known fit bad e) = let p = ap fault_place e in inl (omega arith)
+    earliest other (again row some known stood e) = subst (λ (x : FieldFault). PrecedesIn (outside_fault SwitchingPointPart at) x) (sym e) (inr (refl, omega arith))
 
 -- a value of an unknown type is not looked at
-unknown_allowed : (registry : Registry) (kind : ℕ) (value : List ℕ) → row_of registry kind ≡ None → allows registry kind value ≡ true
+unknown_allowed : (registry : Registry) (kind : ℕ) (value : List ℕ) → sub_tlv_row registry kind ≡ None → allows registry kind value ≡ true
 unknown_allowed SwitchingPointPart kind value none = refl
 unknown_allowed InterfaceParameter kind value none = elim (eqb_tells kind 6) [
   | inl own ↦
-      let six : row_of InterfaceParameter 6 ≡ None = subst (λ (k : ℕ). row_of InterfaceParameter k ≡ None) own.1 none in
+      let six : sub_tlv_row InterfaceParameter 6 ≡ None = subst (λ (k : ℕ). sub_tlv_row InterfaceParameter k ≡ None) own.1 none in
       absurd (cc (six))
   | inr other ↦ let e = other.0 in rw e refl
 ]
 
-unknown_good : (registry : Registry) (kind : ℕ) (value : List ℕ) → row_of registry kind ≡ None → IsGood registry (record { kind = kind; value = value })
+unknown_good : (registry : Registry) (kind : ℕ) (value : List ℕ) → sub_tlv_row registry kind ≡ None → IsGood registry (record { kind = kind; value = value })
 unknown_good registry kind value none = record { fit = rw none tt; allowed = unknown_allowed registry kind value none }
 
-none_known : (registry : Registry) (kind : ℕ) → row_of registry kind ≡ None → IsSome (row_of registry kind) → ⊥
+none_known : (registry : Registry) (kind : ℕ) → sub_tlv_row registry kind ≡ None → IsSome (sub_tlv_row registry kind) → ⊥
 none_known registry kind none known = let k = subst (λ (o : Option Row). IsSome o) none known in cc (k)
 
 -- the octets are outside
 outside_head : (registry : Registry) (before : List SubTlv) (rest : List ℕ) (at : ℕ) → 2 ≤ length rest → IsOutside registry rest
-    → (o : Option Row) → row_of registry (slice_index rest 0) ≡ o → (stood : List (List ℕ)) → values (slice_index rest 0) before ≡ stood → HeadReading registry before rest at
+    → (o : Option Row) → sub_tlv_row registry (slice_index rest 0) ≡ o → (stood : List (List ℕ)) → values (slice_index rest 0) before ≡ stood → HeadReading registry before rest at
 outside_head SwitchingPointPart before rest at two far o known stood e = wrong (outside_fault SwitchingPointPart at) (outside_first_part before rest at two far)
 outside_head InterfaceParameter before rest at two far None known stood e =
     wrong (outside_fault InterfaceParameter at) (outside_first_fec before rest at two far (λ some. absurd (none_known InterfaceParameter (slice_index rest 0) known some)))
@@ -109,11 +109,11 @@ outside_head InterfaceParameter before rest at two far (Some row) known (value �
 -- a sub-TLV of a known type of which none stood before
 fresh_head : (registry : Registry) (before : List SubTlv) (rest : List ℕ) (at : ℕ) (row : Row) (value more : List ℕ) → 2 ≤ length rest
     → rest ≡ spell registry (record { kind = slice_index rest 0; value = value }) ++ more → (IsOutside registry rest → ⊥)
-    → row_of registry (slice_index rest 0) ≡ Some row → values (slice_index rest 0) before ≡ [] → HeadReading registry before rest at
+    → sub_tlv_row registry (slice_index rest 0) ≡ Some row → values (slice_index rest 0) before ≡ [] → HeadReading registry before rest at
 fresh_head registry before rest at row value more two e near known none =
-    let size : slice_index rest 1 ≡ counted registry + length value = ap (λ (l : List ℕ). slice_index l 1) e in
-    elim (cases_Bool (fits row (counted registry + length value))) [
-      | inr bad ↦ wrong (Value (at + 1) row.field) (misfit_first registry before rest at row two near known (subst (λ (n : ℕ). fits row n ≡ false) (sym size) bad) (λ some. none))
+    let size : slice_index rest 1 ≡ counted_in registry + length value = ap (λ (l : List ℕ). slice_index l 1) e in
+    elim (cases_Bool (row_fits row (counted_in registry + length value))) [
+      | inr bad ↦ wrong (Value (at + 1) row.field) (misfit_first registry before rest at row two near known (subst (λ (n : ℕ). row_fits row n ≡ false) (sym size) bad) (λ some. none))
       | inl fit ↦ elim (cases_Bool (allows registry (slice_index rest 0) value)) [
         | inr bad ↦ wrong (Value (at + 2) row.field) (excess_first registry before rest at row (record { kind = slice_index rest 0; value = value }) more e known fit bad (λ some. none))
         | inl fine ↦ good (record { kind = slice_index rest 0; value = value }) more e (record { fit = rw known fit; allowed = fine }) (λ some. none)
@@ -122,7 +122,7 @@ fresh_head registry before rest at row value more two e near known none =
 
 whole_head : (registry : Registry) (before : List SubTlv) (rest : List ℕ) (at : ℕ) (value more : List ℕ) → 2 ≤ length rest
     → rest ≡ spell registry (record { kind = slice_index rest 0; value = value }) ++ more → (IsOutside registry rest → ⊥)
-    → (o : Option Row) → row_of registry (slice_index rest 0) ≡ o → (stood : List (List ℕ)) → values (slice_index rest 0) before ≡ stood → HeadReading registry before rest at
+    → (o : Option Row) → sub_tlv_row registry (slice_index rest 0) ≡ o → (stood : List (List ℕ)) → values (slice_index rest 0) before ≡ stood → HeadReading registry before rest at
 whole_head registry before rest at value more two e near None known stood has =
     good (record { kind = slice_index rest 0; value = value }) more e (unknown_good registry (slice_index rest 0) value known) (λ some. absurd (none_known registry (slice_index rest 0) known some))
 whole_head registry before rest at value more two e near (Some row) known [] has = fresh_head registry before rest at row value more two e near known has
@@ -134,8 +134,8 @@ pub head_of : (registry : Registry) (before : List SubTlv) (rest : List ℕ) (at
 head_of registry before [] at some = absurd (omega arith)
 head_of registry before (kind ∷ []) at some = wrong _ (lone_first registry before (kind ∷ []) at refl)
 head_of registry before (kind ∷ size ∷ tail) at some = elim (extent_of registry kind size tail) [
-  | out far ↦ outside_head registry before (kind ∷ size ∷ tail) at (omega arith) far (row_of registry kind) refl (values kind before) refl
-  | inside value more e near ↦ whole_head registry before (kind ∷ size ∷ tail) at value more (omega arith) e near (row_of registry kind) refl (values kind before) refl
+  | out far ↦ outside_head registry before (kind ∷ size ∷ tail) at (omega arith) far (sub_tlv_row registry kind) refl (values kind before) refl
+  | inside value more e near ↦ whole_head registry before (kind ∷ size ∷ tail) at value more (omega arith) e near (sub_tlv_row registry kind) refl (values kind before) refl
 ]
 
 step_split : (registry : Registry) (octets rest more : List ℕ) (before : List SubTlv) (s : SubTlv) → octets ≡ flat_map (spell registry) before ++ rest → rest ≡ spell registry s ++ more
@@ -179,7 +179,7 @@ parameters_reading octets = elim (subs_reading InterfaceParameter 12 octets) [
 ]
 
 -- octets are a status, or have one fault
-pub status_reading : (octets : List ℕ) → Reading (IsStatus octets) (IsStatusFault octets)
+pub status_reading : (octets : List ℕ) → Reading (IsPwStatus octets) (IsStatusFault octets)
 status_reading octets = elim (eqb_tells (length octets) 4) [
   | inl four ↦ told (record { 0 = big_number 4 octets }) (record { size = four.1; bits = refl })
   | inr other ↦ refused Size (first_alone Size (record { other = other.1; is = refl }) (λ g named. named.is))

@@ -3,12 +3,12 @@ use Rattle.std.proofs.Common.{◌≡◌, ◌∙◌, ℕ, List, sym, inl}
 use Rattle.pw_tlvs.specs.declared.field_fault.FieldFault.{FieldFault}
 use Rattle.pw_tlvs.specs.declared.pw_status.PwStatus.{PwStatus}
 use Rattle.pw_tlvs.specs.Faults.{IsInside}
-use Rattle.pw_tlvs.specs.Status.{IsStatus, IsStatusFault}
+use Rattle.pw_tlvs.specs.Status.{IsPwStatus, IsStatusFault}
 
-pub one_status : (octets : List ℕ) (a b : PwStatus) → IsStatus octets a → IsStatus octets b → a ≡ b
+pub one_status : (octets : List ℕ) (a b : PwStatus) → IsPwStatus octets a → IsPwStatus octets b → a ≡ b
 one_status octets a b one other = let bits = one.bits ∙ sym other.bits in λ i. record { 0 = bits i }
 
-pub never_status : (octets : List ℕ) (a : PwStatus) (f : FieldFault) → IsStatus octets a → IsStatusFault octets f → ⊥
+pub never_status : (octets : List ℕ) (a : PwStatus) (f : FieldFault) → IsPwStatus octets a → IsStatusFault octets f → ⊥
 never_status octets a f is named = named.other is.size
 
 -- the fault that can be named is a wrong size

@@ -11,8 +11,8 @@ use Rattle.pw_tlvs.specs.declared.field_fault.FieldFault.{FieldFault}
 use Rattle.pw_tlvs.specs.declared.registry.Registry.{Registry}
 use Rattle.pw_tlvs.specs.declared.registry.Registry.TheVariants.{InterfaceParameter, SwitchingPointPart}
 use Rattle.pw_tlvs.specs.declared.row.Row.{Row}
-use Rattle.pw_tlvs.specs.Faults.{place_of, Precedes, IsFirst}
-use Rattle.pw_tlvs.specs.SubTlvs.{SubTlv, counted, spell, row_of, fits, allows, IsGood, values, AreGood, AreSubTlvs, IsWrong, lone, outside, misfit, excess, again, IsNamed, IsFirstWrong}
+use Rattle.pw_tlvs.specs.Faults.{fault_place, PrecedesIn, IsFirstIn}
+use Rattle.pw_tlvs.specs.SubTlvs.{SubTlv, counted_in, spell, sub_tlv_row, row_fits, allows, IsGood, values, AreGood, AreSubTlvs, IsWrong, lone, outside, misfit, excess, again, IsNamed, IsFirstWrong}
 
 pub same_front : (xs ys more rest : List ℕ) → length xs ≡ length ys → xs ++ more ≡ ys ++ rest → (xs ≡ ys) × (more ≡ rest)
 same_front [] [] more rest len e = (refl, e)
@@ -28,7 +28,7 @@ same_front (x ∷ xs) (y ∷ ys) more rest len e =
 pub same_spelled : (registry : Registry) (p q : SubTlv) (x y : List ℕ) → spell registry p ++ x ≡ spell registry q ++ y → (p ≡ q) × (x ≡ y)
 same_spelled registry p q x y e =
     let kind : p.kind ≡ q.kind = cc (e) in
-    let counts : counted registry + length p.value ≡ counted registry + length q.value = cc (e) in
+    let counts : counted_in registry + length p.value ≡ counted_in registry + length q.value = cc (e) in
     let rest : p.value ++ x ≡ q.value ++ y = cc (e) in
     let (value, more) = same_front p.value q.value x y (omega arith) rest in
     ((λ i. record { kind = kind i; value = value i }), more)
@@ -61,11 +61,11 @@ good_at : (registry : Registry) (a : List SubTlv) (p : SubTlv) (more : List SubT
 good_at registry [] p more all = all.0
 good_at registry (q ∷ a) p more all = good_at registry a p more all.1
 
-pub some_of : (registry : Registry) (k : ℕ) (row : Row) → row_of registry k ≡ Some row → IsSome (row_of registry k)
+pub some_of : (registry : Registry) (k : ℕ) (row : Row) → sub_tlv_row registry k ≡ Some row → IsSome (sub_tlv_row registry k)
 some_of registry k row e = rw e refl
 
 -- a good sub-TLV fits its row
-pub fits_of : (registry : Registry) (p : SubTlv) (row : Row) → IsGood registry p → row_of registry p.kind ≡ Some row → fits row (counted registry + length p.value) ≡ true
+pub fits_of : (registry : Registry) (p : SubTlv) (row : Row) → IsGood registry p → sub_tlv_row registry p.kind ≡ Some row → row_fits row (counted_in registry + length p.value) ≡ true
 fits_of registry p row good e = rw e at good.fit
 
 -- nothing is wrong where a good sub-TLV stands, and none of its type before
@@ -73,16 +73,16 @@ good_not_wrong : (registry : Registry) (before : List SubTlv) (p : SubTlv) (more
     → AreGood registry (before ++ p ∷ more) → octets ≡ spell registry p ++ rest → IsWrong registry before octets at f → ⊥
 good_not_wrong registry before p more rest octets at f good is (lone one e) = let len = ap length is in omega arith
 good_not_wrong registry before p more rest octets at f good is (outside two (inl low) e) =
-    let second : slice_index octets 1 ≡ counted registry + length p.value = ap (λ (l : List ℕ). slice_index l 1) is in omega arith
+    let second : slice_index octets 1 ≡ counted_in registry + length p.value = ap (λ (l : List ℕ). slice_index l 1) is in omega arith
 good_not_wrong registry before p more rest octets at f good is (outside two (inr high) e) =
-    let second : slice_index octets 1 ≡ counted registry + length p.value = ap (λ (l : List ℕ). slice_index l 1) is in
+    let second : slice_index octets 1 ≡ counted_in registry + length p.value = ap (λ (l : List ℕ). slice_index l 1) is in
     let len : length octets ≡ suc (suc (length (p.value ++ rest))) = ap length is in
     let parts = length-append p.value rest in omega arith
 good_not_wrong registry before p more rest octets at f good is (misfit row two known bad e) =
     let first : slice_index octets 0 ≡ p.kind = ap (λ (l : List ℕ). slice_index l 0) is in
-    let second : slice_index octets 1 ≡ counted registry + length p.value = ap (λ (l : List ℕ). slice_index l 1) is in
-    let known' : row_of registry p.kind ≡ Some row = subst (λ (k : ℕ). row_of registry k ≡ Some row) first known in
-    let bad' : fits row (counted registry + length p.value) ≡ false = subst (λ (k : ℕ). fits row k ≡ false) second bad in
+    let second : slice_index octets 1 ≡ counted_in registry + length p.value = ap (λ (l : List ℕ). slice_index l 1) is in
+    let known' : sub_tlv_row registry p.kind ≡ Some row = subst (λ (k : ℕ). sub_tlv_row registry k ≡ Some row) first known in
+    let bad' : row_fits row (counted_in registry + length p.value) ≡ false = subst (λ (k : ℕ). row_fits row k ≡ false) second bad in
     let fine = fits_of registry p row (good_at registry before p more good.good) known' in
     absurd (cc (bad', fine))
 good_not_wrong registry before p more rest octets at f good is (excess row s more' spelled known fit bad e) =
@@ -92,7 +92,7 @@ good_not_wrong registry before p more rest octets at f good is (excess row s mor
     absurd (cc (bad, allowed))
 good_not_wrong registry before p more rest octets at f good is (again row one known stood e) =
     let first : slice_index octets 0 ≡ p.kind = ap (λ (l : List ℕ). slice_index l 0) is in
-    let known' : row_of registry p.kind ≡ Some row = subst (λ (k : ℕ). row_of registry k ≡ Some row) first known in
+    let known' : sub_tlv_row registry p.kind ≡ Some row = subst (λ (k : ℕ). sub_tlv_row registry k ≡ Some row) first known in
     let stood' : 1 ≤ length (values p.kind before) = subst (λ (k : ℕ). 1 ≤ length (values k before)) first stood in
     let once = good.once p.kind (some_of registry p.kind row known') in
     let all = ap length (values-append p.kind before (p ∷ more) ∙ ap (λ (l : List (List ℕ)). values p.kind before ++ l) (values-own p more)) in
@@ -100,14 +100,14 @@ good_not_wrong registry before p more rest octets at f good is (again row one kn
     omega arith
 
 -- what is wrong is not before its place
-pub wrong_from : (registry : Registry) (before : List SubTlv) (rest : List ℕ) (at : ℕ) (f : FieldFault) → IsWrong registry before rest at f → at ≤ place_of f
-wrong_from InterfaceParameter before rest at f (lone one e) = let p = ap place_of e in omega arith
-wrong_from SwitchingPointPart before rest at f (lone one e) = let p = ap place_of e in omega arith
-wrong_from InterfaceParameter before rest at f (outside two far e) = let p = ap place_of e in omega arith
-wrong_from SwitchingPointPart before rest at f (outside two far e) = let p = ap place_of e in omega arith
-wrong_from registry before rest at f (misfit row two known bad e) = let p = ap place_of e in omega arith
-wrong_from registry before rest at f (excess row s more spelled known fit bad e) = let p = ap place_of e in omega arith
-wrong_from registry before rest at f (again row one known stood e) = let p = ap place_of e in omega arith
+pub wrong_from : (registry : Registry) (before : List SubTlv) (rest : List ℕ) (at : ℕ) (f : FieldFault) → IsWrong registry before rest at f → at ≤ fault_place f
+wrong_from InterfaceParameter before rest at f (lone one e) = let p = ap fault_place e in omega arith
+wrong_from SwitchingPointPart before rest at f (lone one e) = let p = ap fault_place e in omega arith
+wrong_from InterfaceParameter before rest at f (outside two far e) = let p = ap fault_place e in omega arith
+wrong_from SwitchingPointPart before rest at f (outside two far e) = let p = ap fault_place e in omega arith
+wrong_from registry before rest at f (misfit row two known bad e) = let p = ap fault_place e in omega arith
+wrong_from registry before rest at f (excess row s more spelled known fit bad e) = let p = ap fault_place e in omega arith
+wrong_from registry before rest at f (again row one known stood e) = let p = ap fault_place e in omega arith
 
 -- where nothing is left, nothing is wrong
 none_wrong : (registry : Registry) (before : List SubTlv) (at : ℕ) (f : FieldFault) → IsWrong registry before [] at f → ⊥
@@ -138,13 +138,13 @@ one_joining registry octets a b one other = same (fronts registry a b [] [] (app
 -- what is first wrong behind good sub-TLVs is the first fault of all
 pub first_named : (registry : Registry) (begin : ℕ) (octets : List ℕ) (before : List SubTlv) (rest : List ℕ) (f : FieldFault)
     → octets ≡ flat_map (spell registry) before ++ rest → AreGood registry before → IsFirstWrong registry before rest (begin + length (flat_map (spell registry) before)) f
-    → IsFirst (IsNamed registry begin octets) f
+    → IsFirstIn (IsNamed registry begin octets) f
 first_named registry begin octets before rest f split good wrong = record {
   named = record { before = before; rest = rest; split = split; wrong = wrong.wrong };
   first = λ other named. earliest other named (fronts registry before named.before rest named.rest (sym split ∙ named.split));
 }
   where
-    earliest : (other : FieldFault) (named : IsNamed registry begin octets other) → Fronts registry before named.before rest named.rest → Precedes f other
+    earliest : (other : FieldFault) (named : IsNamed registry begin octets other) → Fronts registry before named.before rest named.rest → PrecedesIn f other
     earliest other named (longer [] same e) =
         let here = subst (λ (r : List ℕ). IsWrong registry named.before r (begin + length (flat_map (spell registry) named.before)) other) (sym e) named.wrong in
         wrong.first other (subst (λ (l : List SubTlv). IsWrong registry l rest (begin + length (flat_map (spell registry) l)) other) (same ∙ append-nil before) here)
@@ -162,17 +162,17 @@ all_more registry [] s all one = (one, tt)
 all_more registry (q ∷ subs) s all one = (all.0, all_more registry subs s all.1 one)
 
 -- one more good sub-TLV, of which no other of a known type stood before
-pub good_more : (registry : Registry) (subs : List SubTlv) (s : SubTlv) → AreGood registry subs → IsGood registry s → (IsSome (row_of registry s.kind) → values s.kind subs ≡ []) → AreGood registry (subs ++ s ∷ [])
+pub good_more : (registry : Registry) (subs : List SubTlv) (s : SubTlv) → AreGood registry subs → IsGood registry s → (IsSome (sub_tlv_row registry s.kind) → values s.kind subs ≡ []) → AreGood registry (subs ++ s ∷ [])
 good_more registry subs s good one fresh = record { good = all_more registry subs s good.good one; once = once }
   where
-    once : (kind : ℕ) → IsSome (row_of registry kind) → length (values kind (subs ++ s ∷ [])) ≤ 1
+    once : (kind : ℕ) → IsSome (sub_tlv_row registry kind) → length (values kind (subs ++ s ∷ [])) ≤ 1
     once kind known =
         let parts = ap length (values-append kind subs (s ∷ [])) in
         let sum = length-append (values kind subs) (values kind (s ∷ [])) in
         let before = good.once kind known in
         elim (eqb_tells s.kind kind) [
           | inl own ↦
-              let none : values kind subs ≡ [] = subst (λ (k : ℕ). values k subs ≡ []) own.1 (fresh (subst (λ (k : ℕ). IsSome (row_of registry k)) (sym own.1) known)) in
+              let none : values kind subs ≡ [] = subst (λ (k : ℕ). values k subs ≡ []) own.1 (fresh (subst (λ (k : ℕ). IsSome (sub_tlv_row registry k)) (sym own.1) known)) in
               let len = ap length none in
               let one : length (values kind (s ∷ [])) ≡ 1 = let t = own.0 in rw t refl in
               omega (arith, parts, sum, len, one)

@@ -26,10 +26,10 @@ field_rank field.Vlan = 15
 field_rank field.Vccv = 16
 
 -- the octet at fault; a wrong size is seen at the TLV's length, before all octets of the value
-abbrev pub place_of : FieldFault → ℕ
-place_of Size = 0
-place_of (Value at field) = at
-place_of (Repeated at field) = at
+abbrev pub fault_place : FieldFault → ℕ
+fault_place Size = 0
+fault_place (Value at field) = at
+fault_place (Repeated at field) = at
 
 -- how many fields there are
 abbrev pub field_count : ℕ
@@ -42,14 +42,14 @@ rank_of (Value at field) = 1 + field_rank field
 rank_of (Repeated at field) = 1 + field_count + field_rank field
 
 -- one fault comes before another, or is at the same octet and not behind it
-abbrev pub Precedes : FieldFault → FieldFault → Type 0
-Precedes one other = (place_of one < place_of other) ⊎ ((place_of one ≡ place_of other) × (rank_of one ≤ rank_of other))
+abbrev pub PrecedesIn : FieldFault → FieldFault → Type 0
+PrecedesIn one other = (fault_place one < fault_place other) ⊎ ((fault_place one ≡ fault_place other) × (rank_of one ≤ rank_of other))
 
 -- a fault is at one of the octets of the value, but for a wrong size
 abbrev pub IsInside : List ℕ → FieldFault → Type 0
-IsInside octets fault = (fault ≡ Size) ⊎ (place_of fault < length octets)
+IsInside octets fault = (fault ≡ Size) ⊎ (fault_place fault < length octets)
 
 -- of all faults that can be named this is the first
-pub record IsFirst (Named : FieldFault → Type 0) (fault : FieldFault) : Type 0 where
+pub record IsFirstIn (Named : FieldFault → Type 0) (fault : FieldFault) : Type 0 where
   pub named : Named fault
-  pub first : (other : FieldFault) → Named other → Precedes fault other
+  pub first : (other : FieldFault) → Named other → PrecedesIn fault other

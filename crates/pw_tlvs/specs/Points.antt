@@ -12,15 +12,15 @@ points_of (held.Two a b) = a ∷ b ∷ []
 points_of (held.Three a b c) = a ∷ b ∷ c ∷ []
 
 -- how the first three points of a list are held
-abbrev pub held_of : List Point → Held
-held_of [] = held.None
-held_of (a ∷ []) = held.One a
-held_of (a ∷ b ∷ []) = held.Two a b
-held_of (a ∷ b ∷ c ∷ rest) = held.Three a b c
+abbrev pub held_points : List Point → Held
+held_points [] = held.None
+held_points (a ∷ []) = held.One a
+held_points (a ∷ b ∷ []) = held.Two a b
+held_points (a ∷ b ∷ c ∷ rest) = held.Three a b c
 
 -- held points come back from their list
-pub held_again : (h : Held) → held_of (points_of h) ≡ h
-held_again held.None = refl
-held_again (held.One a) = refl
-held_again (held.Two a b) = refl
-held_again (held.Three a b c) = refl
+pub held_points_again : (h : Held) → held_points (points_of h) ≡ h
+held_points_again held.None = refl
+held_points_again (held.One a) = refl
+held_points_again (held.Two a b) = refl
+held_points_again (held.Three a b c) = refl

@@ -6,7 +6,7 @@ use Rattle.pw_tlvs.specs.declared.field_fault.FieldFault.{FieldFault}
 use Rattle.pw_tlvs.specs.declared.field_fault.FieldFault.TheVariants.{Size}
 
 -- the octets are four, and their number is the status
-pub record IsStatus (octets : List ℕ) (status : PwStatus) : Type 0 where
+pub record IsPwStatus (octets : List ℕ) (status : PwStatus) : Type 0 where
   pub size : length octets ≡ 4
   pub bits : status.0 ≡ big_number 4 octets
 

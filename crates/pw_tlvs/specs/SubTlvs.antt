@@ -8,7 +8,7 @@ use Rattle.pw_tlvs.specs.declared.field_fault.FieldFault.TheVariants.{Value, Rep
 use Rattle.pw_tlvs.specs.declared.registry.Registry.{Registry}
 use Rattle.pw_tlvs.specs.declared.registry.Registry.TheVariants.{InterfaceParameter, SwitchingPointPart}
 use Rattle.pw_tlvs.specs.declared.row.Row.{Row}
-use Rattle.pw_tlvs.specs.Faults.{Precedes, place_of}
+use Rattle.pw_tlvs.specs.Faults.{PrecedesIn, fault_place}
 
 -- a sub-TLV by its type and its value
 pub record SubTlv : Type 0 where
@@ -17,13 +17,13 @@ pub record SubTlv : Type 0 where
 
 -- how many octets a length counts beside the value: that of an interface parameter counts the type and itself
 -- (RFC 8077 section 6.4), that of a part of a Switching Point PE TLV counts the value alone (RFC 6073 section 7.4.1)
-abbrev pub counted : Registry → ℕ
-counted InterfaceParameter = 2
-counted SwitchingPointPart = 0
+abbrev pub counted_in : Registry → ℕ
+counted_in InterfaceParameter = 2
+counted_in SwitchingPointPart = 0
 
 -- the octets of a sub-TLV
 abbrev pub spell : Registry → SubTlv → List ℕ
-spell registry s = s.kind ∷ (counted registry + length s.value) ∷ s.value
+spell registry s = s.kind ∷ (counted_in registry + length s.value) ∷ s.value
 
 -- the interface parameters that are known, each with its field and the least and the most of its length
 -- (RFC 4446 section 3.3, RFC 4448 section 4.3 of the requested VLAN ID, RFC 5085 section 5.3.1 of VCCV)
@@ -43,13 +43,13 @@ part_row kind =
     else None
 
 -- the row of a known type
-abbrev pub row_of : Registry → ℕ → Option Row
-row_of InterfaceParameter kind = parameter_row kind
-row_of SwitchingPointPart kind = part_row kind
+abbrev pub sub_tlv_row : Registry → ℕ → Option Row
+sub_tlv_row InterfaceParameter kind = parameter_row kind
+sub_tlv_row SwitchingPointPart kind = part_row kind
 
 -- the length is one that the row has
-abbrev pub fits : Row → ℕ → Bool
-fits row length = nat_le row.least length && nat_le length row.most
+abbrev pub row_fits : Row → ℕ → Bool
+row_fits row length = nat_le row.least length && nat_le length row.most
 
 -- the value is one that its type has: a VLAN ID has 12 bits (IEEE 802.1Q clause 9.6)
 abbrev pub allows : Registry → ℕ → List ℕ → Bool
@@ -58,7 +58,7 @@ allows SwitchingPointPart kind value = true
 
 -- where its type is known, the length fits and the value is allowed
 pub record IsGood (registry : Registry) (s : SubTlv) : Type 0 where
-  pub fit : IfSome (row_of registry s.kind) (λ row. fits row (counted registry + length s.value) ≡ true)
+  pub fit : IfSome (sub_tlv_row registry s.kind) (λ row. row_fits row (counted_in registry + length s.value) ≡ true)
   pub allowed : allows registry s.kind s.value ≡ true
 
 -- the values of the sub-TLVs of a type, in order
@@ -72,7 +72,7 @@ said kind subs = slice_get (values kind subs) 0
 -- each is good, and no known type comes twice
 pub record AreGood (registry : Registry) (subs : List SubTlv) : Type 0 where
   pub good : AllByRecursion (IsGood registry) subs
-  pub once : (kind : ℕ) → IsSome (row_of registry kind) → length (values kind subs) ≤ 1
+  pub once : (kind : ℕ) → IsSome (sub_tlv_row registry kind) → length (values kind subs) ≤ 1
 
 -- the octets are these sub-TLVs joined
 pub record AreSubTlvs (registry : Registry) (octets : List ℕ) (subs : List SubTlv) : Type 0 where
@@ -81,7 +81,7 @@ pub record AreSubTlvs (registry : Registry) (octets : List ℕ) (subs : List Sub
 
 -- the length counts less than it has to, or reaches past the end
 abbrev pub IsOutside : Registry → List ℕ → Type 0
-IsOutside registry rest = (slice_index rest 1 < counted registry) ⊎ (counted registry + length rest < 2 + slice_index rest 1)
+IsOutside registry rest = (slice_index rest 1 < counted_in registry) ⊎ (counted_in registry + length rest < 2 + slice_index rest 1)
 
 -- the fault of one last octet that stands alone
 abbrev pub lone_fault : Registry → ℕ → FieldFault
@@ -97,12 +97,12 @@ outside_fault SwitchingPointPart at = Value at field.Point
 pub data IsWrong (registry : Registry) (before : List SubTlv) (rest : List ℕ) (at : ℕ) (fault : FieldFault) : Type 0 where
   lone : length rest ≡ 1 → fault ≡ lone_fault registry at → IsWrong registry before rest at fault
   outside : 2 ≤ length rest → IsOutside registry rest → fault ≡ outside_fault registry at → IsWrong registry before rest at fault
-  misfit : (row : Row) → 2 ≤ length rest → row_of registry (slice_index rest 0) ≡ Some row → fits row (slice_index rest 1) ≡ false
+  misfit : (row : Row) → 2 ≤ length rest → sub_tlv_row registry (slice_index rest 0) ≡ Some row → row_fits row (slice_index rest 1) ≡ false
       → fault ≡ Value (at + 1) row.field → IsWrong registry before rest at fault
-  excess : (row : Row) (s : SubTlv) (more : List ℕ) → rest ≡ spell registry s ++ more → row_of registry s.kind ≡ Some row
-      → fits row (counted registry + length s.value) ≡ true → allows registry s.kind s.value ≡ false
+  excess : (row : Row) (s : SubTlv) (more : List ℕ) → rest ≡ spell registry s ++ more → sub_tlv_row registry s.kind ≡ Some row
+      → row_fits row (counted_in registry + length s.value) ≡ true → allows registry s.kind s.value ≡ false
       → fault ≡ Value (at + 2) row.field → IsWrong registry before rest at fault
-  again : (row : Row) → 1 ≤ length rest → row_of registry (slice_index rest 0) ≡ Some row
+  again : (row : Row) → 1 ≤ length rest → sub_tlv_row registry (slice_index rest 0) ≡ Some row
       → 1 ≤ length (values (slice_index rest 0) before) → fault ≡ Repeated at row.field → IsWrong registry before rest at fault
 
 -- the fault can be named for the octets, which begin at this place of the value: sub-TLVs stand before it, good or not
@@ -115,10 +115,10 @@ pub record IsNamed (registry : Registry) (begin : ℕ) (octets : List ℕ) (faul
 -- this is the first of what is wrong at a place, and stands before the end of a sub-TLV that begins there
 pub record IsFirstWrong (registry : Registry) (before : List SubTlv) (rest : List ℕ) (at : ℕ) (fault : FieldFault) : Type 0 where
   pub wrong : IsWrong registry before rest at fault
-  pub first : (other : FieldFault) → IsWrong registry before rest at other → Precedes fault other
-  pub within : (s : SubTlv) (more : List ℕ) → rest ≡ spell registry s ++ more → place_of fault < at + length (spell registry s)
+  pub first : (other : FieldFault) → IsWrong registry before rest at other → PrecedesIn fault other
+  pub within : (s : SubTlv) (more : List ℕ) → rest ≡ spell registry s ++ more → fault_place fault < at + length (spell registry s)
 
 -- whether one of a type stands before; of an unknown type it is not asked
 abbrev pub Stood : Registry → List SubTlv → ℕ → Bool → Type 0
 Stood registry before kind true = 1 ≤ length (values kind before)
-Stood registry before kind false = IsSome (row_of registry kind) → values kind before ≡ []
+Stood registry before kind false = IsSome (sub_tlv_row registry kind) → values kind before ≡ []

@@ -3,7 +3,7 @@ ghost use Rattle.std.specs.Prelude.{◌≡◌, ◌≤◌, ◌<◌, ◌+◌, ◌�
 ghost use Rattle.pw_tlvs.specs.declared.registry.Registry.TheVariants.{InterfaceParameter};
 ghost use Rattle.pw_tlvs.specs.declared.fec_value.FecValue.{FecValue};
 ghost use Rattle.pw_tlvs.specs.declared.field_fault.FieldFault.{FieldFault};
-ghost use Rattle.pw_tlvs.specs.Faults.{IsFirst, IsInside};
+ghost use Rattle.pw_tlvs.specs.Faults.{IsFirstIn, IsInside};
 ghost use Rattle.pw_tlvs.specs.SubTlvs.{IsNamed};
 ghost use Rattle.pw_tlvs.specs.Fec.{IsFecValue, IsFecFault, IsPwFec, IsPwid, IsInformation, IsTooShort, information_length, no_params as nothing_told};
 
@@ -33,7 +33,7 @@ fn information_of(information: &[u8]) -> Result<(Option<u32>, IfParams), FieldFa
     requires size { (length information.now ≡ 0) ⊎ (4 ≤ length information.now) }
     requires within { length information.now ≤ 255 }
     ensures ok { IfOk result (λ told. IsInformation information.now told.0 told.1) }
-    ensures fault { IfErr result (IsFirst (IsNamed InterfaceParameter 12 (drop 4 information.now))) }
+    ensures fault { IfErr result (IsFirstIn (IsNamed InterfaceParameter 12 (drop 4 information.now))) }
     ensures some { IfErr result (λ _. 4 ≤ length information.now) }
 {
     if information.is_empty() {
@@ -52,7 +52,7 @@ fn element_of(value: &[u8]) -> Result<PwFec, FieldFault>
     requires long { IsTooShort (information_length value.now) → ⊥ }
     requires whole { length value.now ≡ 8 + information_length value.now }
     ensures ok { IfOk result (IsPwFec value.now) }
-    ensures fault { IfErr result (IsFirst (IsFecFault value.now)) }
+    ensures fault { IfErr result (IsFirstIn (IsFecFault value.now)) }
 {
     let word = BigEndian::read_u16(value.split_at(1).1);
     let group = BigEndian::read_u32(value.split_at(4).1);
@@ -69,7 +69,7 @@ fn element_of(value: &[u8]) -> Result<PwFec, FieldFault>
 // The value that the octets are, or their first fault.
 fn fec_of(value: &[u8]) -> Result<FecValue, FieldFault>
     ensures ok { IfOk result (IsFecValue value.now) }
-    ensures fault { IfErr result (IsFirst (IsFecFault value.now)) }
+    ensures fault { IfErr result (IsFirstIn (IsFecFault value.now)) }
 {
     if value.is_empty() {
         return Err(FieldFault::Size);
@@ -105,7 +105,7 @@ fn fec_of(value: &[u8]) -> Result<FecValue, FieldFault>
 pub fn read_fec(value: &[u8]) -> Result<FecValue, FieldFault>
     requires { length value.now ≤ 65535 }
     ensures value { (fec : FecValue) → (result ≡ Ok fec) ↔ IsFecValue value.now fec }
-    ensures fault { (fault : FieldFault) → (result ≡ Err fault) ↔ IsFirst (IsFecFault value.now) fault }
+    ensures fault { (fault : FieldFault) → (result ≡ Err fault) ↔ IsFirstIn (IsFecFault value.now) fault }
     ensures place { IfErr result (IsInside value.now) }
 {
     fec_of(value)

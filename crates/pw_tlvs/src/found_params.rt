@@ -1,7 +1,7 @@
 //! What interface parameters say, as far as they were read.
 ghost use Rattle.std.specs.Prelude.{◌≡◌, ◌++◌, ◌∷◌, [], List, None, IsSome};
 ghost use Rattle.pw_tlvs.specs.declared.registry.Registry.TheVariants.{InterfaceParameter};
-ghost use Rattle.pw_tlvs.specs.SubTlvs.{SubTlv, IsGood, Stood, row_of, values};
+ghost use Rattle.pw_tlvs.specs.SubTlvs.{SubTlv, IsGood, Stood, sub_tlv_row, values};
 ghost use Rattle.pw_tlvs.specs.Fec.{text_of};
 ghost use Rattle.pw_tlvs.specs.Found.{FoundSays};
 
@@ -47,7 +47,7 @@ impl FoundParams {
     /// The same with one more parameter, of which none of a known type was told.
     pub fn with(self, kind: u8, value: &[u8]) -> FoundParams
         requires { IsGood InterfaceParameter (record { kind = kind; value = value.now }) }
-        ensures { (subs : List SubTlv) → FoundSays self subs → (IsSome (row_of InterfaceParameter kind) → values kind subs ≡ []) → FoundSays result (subs ++ record { kind = kind; value = value.now } ∷ []) }
+        ensures { (subs : List SubTlv) → FoundSays self subs → (IsSome (sub_tlv_row InterfaceParameter kind) → values kind subs ≡ []) → FoundSays result (subs ++ record { kind = kind; value = value.now } ∷ []) }
     {
         match kind {
             0x01 => FoundParams {

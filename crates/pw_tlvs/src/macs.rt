@@ -3,7 +3,7 @@ ghost use Rattle.std.specs.Prelude.{◌≡◌, ◌≤◌, ◌*◌, ◌%◌, ◌+
 ghost use Rattle.net_values.specs.declared.mac.Mac.{Mac};
 ghost use Rattle.pw_tlvs.specs.declared.field_fault.FieldFault.{FieldFault};
 ghost use Rattle.pw_tlvs.specs.declared.macs_fault.MacsFault.TheVariants.{Field as FieldOf, NoMemory as OutOfMemory};
-ghost use Rattle.pw_tlvs.specs.Faults.{IsFirst};
+ghost use Rattle.pw_tlvs.specs.Faults.{IsFirstIn};
 ghost use Rattle.pw_tlvs.specs.Macs.{AreMacs, IsMacsFault, mac_octets};
 
 use crate::{FieldFault, MacsFault};
@@ -41,7 +41,7 @@ pub fn read_macs(alloc: Global, value: &[u8]) -> Result<Items<Mac>, MacsFault>
     requires { length value.now ≤ 65535 }
     ensures value { IfOk result (AreMacs value.now) }
     ensures read { (list : List Mac) → AreMacs value.now list → (result ≡ Ok list) ⊎ (result ≡ Err OutOfMemory) }
-    ensures fault { (fault : FieldFault) → (result ≡ Err (FieldOf fault)) ↔ IsFirst (IsMacsFault value.now) fault }
+    ensures fault { (fault : FieldFault) → (result ≡ Err (FieldOf fault)) ↔ IsFirstIn (IsMacsFault value.now) fault }
 {
     if value.len() % 6 != 0 {
         return Err(MacsFault::Field(FieldFault::Size));

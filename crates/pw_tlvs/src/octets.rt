@@ -1,6 +1,6 @@
 //! Sub-TLVs in rows of octets.
 ghost use Rattle.std.specs.Prelude.{◌≡◌, ◌≤◌, ◌+◌, ◌++◌, length, take, drop};
-ghost use Rattle.pw_tlvs.specs.SubTlvs.{counted as counted_in, spell};
+ghost use Rattle.pw_tlvs.specs.SubTlvs.{counted_in, spell};
 
 use crate::registry::Registry;
 use crate::sub_tlv::counted;

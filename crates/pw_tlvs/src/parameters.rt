@@ -1,7 +1,7 @@
 //! Reading interface parameters.
 ghost use Rattle.std.specs.Prelude.{◌≤◌, length, IfOk, IfErr};
 ghost use Rattle.pw_tlvs.specs.declared.registry.Registry.TheVariants.{InterfaceParameter};
-ghost use Rattle.pw_tlvs.specs.Faults.{IsFirst};
+ghost use Rattle.pw_tlvs.specs.Faults.{IsFirstIn};
 ghost use Rattle.pw_tlvs.specs.SubTlvs.{IsNamed};
 ghost use Rattle.pw_tlvs.specs.Fec.{AreParameters};
 
@@ -16,7 +16,7 @@ use crate::{FieldFault, IfParams};
 pub fn read_parameters(octets: &[u8]) -> Result<IfParams, FieldFault>
     requires { length octets.now ≤ 65523 }
     ensures ok { IfOk result (AreParameters octets.now) }
-    ensures fault { IfErr result (IsFirst (IsNamed InterfaceParameter 12 octets.now)) }
+    ensures fault { IfErr result (IsFirstIn (IsNamed InterfaceParameter 12 octets.now)) }
 {
     let mut found = FoundParams::none();
     let mut at = 0;

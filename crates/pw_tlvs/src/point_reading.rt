@@ -3,8 +3,8 @@ ghost use Rattle.std.specs.Prelude.{◌≡◌, ◌≤◌, ◌++◌, ◌∷◌, �
 ghost use Rattle.pw_tlvs.specs.declared.registry.Registry.TheVariants.{SwitchingPointPart};
 ghost use Rattle.pw_tlvs.specs.declared.point.Point.{Point};
 ghost use Rattle.pw_tlvs.specs.declared.field_fault.FieldFault.{FieldFault};
-ghost use Rattle.pw_tlvs.specs.Faults.{IsFirst, IsInside};
-ghost use Rattle.pw_tlvs.specs.SubTlvs.{SubTlv, IsGood, Stood, row_of, values};
+ghost use Rattle.pw_tlvs.specs.Faults.{IsFirstIn, IsInside};
+ghost use Rattle.pw_tlvs.specs.SubTlvs.{SubTlv, IsGood, Stood, sub_tlv_row, values};
 ghost use Rattle.pw_tlvs.specs.Point.{IsPoint, IsPointFault, address_of};
 ghost use Rattle.pw_tlvs.specs.Found.{PointSays};
 
@@ -39,7 +39,7 @@ fn has(point: &Point, kind: u8) -> bool
 // The same point with one more part, of which none of a known type was told.
 fn with(point: Point, kind: u8, value: &[u8]) -> Point
     requires { IsGood SwitchingPointPart (record { kind = kind; value = value.now }) }
-    ensures { (subs : List SubTlv) → PointSays point subs → (IsSome (row_of SwitchingPointPart kind) → values kind subs ≡ []) → PointSays result (subs ++ record { kind = kind; value = value.now } ∷ []) }
+    ensures { (subs : List SubTlv) → PointSays point subs → (IsSome (sub_tlv_row SwitchingPointPart kind) → values kind subs ≡ []) → PointSays result (subs ++ record { kind = kind; value = value.now } ∷ []) }
 {
     match kind {
         0x01 => Point {
@@ -62,7 +62,7 @@ fn with(point: Point, kind: u8, value: &[u8]) -> Point
 fn point_of(value: &[u8]) -> Result<Point, FieldFault>
     requires { length value.now ≤ 65535 }
     ensures ok { IfOk result (IsPoint value.now) }
-    ensures fault { IfErr result (IsFirst (IsPointFault value.now)) }
+    ensures fault { IfErr result (IsFirstIn (IsPointFault value.now)) }
 {
     let mut point = Point {
         pw_id: None,
@@ -92,7 +92,7 @@ fn point_of(value: &[u8]) -> Result<Point, FieldFault>
 pub fn read_point(value: &[u8]) -> Result<Point, FieldFault>
     requires { length value.now ≤ 65535 }
     ensures value { (point : Point) → (result ≡ Ok point) ↔ IsPoint value.now point }
-    ensures fault { (fault : FieldFault) → (result ≡ Err fault) ↔ IsFirst (IsPointFault value.now) fault }
+    ensures fault { (fault : FieldFault) → (result ≡ Err fault) ↔ IsFirstIn (IsPointFault value.now) fault }
     ensures place { IfErr result (IsInside value.now) }
 {
     point_of(value)

@@ -15,15 +15,15 @@ pub struct Points {
 impl Model for Points {
     ghost use Rattle.std.specs.Prelude.{List};
     ghost use Rattle.pw_tlvs.specs.declared.point.Point.{Point};
-    ghost use Rattle.pw_tlvs.specs.Points.{points_of, held_of, held_again};
+    ghost use Rattle.pw_tlvs.specs.Points.{points_of, held_points, held_points_again};
 
     ghost Value = { List Point };
 
     ghost view = { λ p. points_of p.held };
 
-    ghost inverse = { λ points. record { held = held_of points } };
+    ghost inverse = { λ points. record { held = held_points points } };
 
-    ghost inverse_ok = { λ a h i. record { held = held_again a.held i } };
+    ghost inverse_ok = { λ a h i. record { held = held_points_again a.held i } };
 }
 
 impl Points {

@@ -2,8 +2,8 @@
 ghost use Rattle.std.specs.Prelude.{◌≡◌, ◌≤◌, ◌++◌, ◌↔◌, length, drop, Ok, Err, IfOk, IfErr};
 ghost use Rattle.pw_tlvs.specs.declared.pw_status.PwStatus.{PwStatus};
 ghost use Rattle.pw_tlvs.specs.declared.field_fault.FieldFault.{FieldFault};
-ghost use Rattle.pw_tlvs.specs.Faults.{IsFirst, IsInside};
-ghost use Rattle.pw_tlvs.specs.Status.{IsStatus, IsStatusFault, written_status};
+ghost use Rattle.pw_tlvs.specs.Faults.{IsFirstIn, IsInside};
+ghost use Rattle.pw_tlvs.specs.Status.{IsPwStatus, IsStatusFault, written_status};
 
 use crate::FieldFault;
 use byteorder::{BigEndian, ByteOrder};
@@ -18,8 +18,8 @@ pub struct PwStatus(pub u32);
 /// exactly where they are not four, and no other fault comes.
 pub fn read_status(value: &[u8]) -> Result<PwStatus, FieldFault>
     requires { length value.now ≤ 65535 }
-    ensures value { (status : PwStatus) → (result ≡ Ok status) ↔ IsStatus value.now status }
-    ensures fault { (fault : FieldFault) → (result ≡ Err fault) ↔ IsFirst (IsStatusFault value.now) fault }
+    ensures value { (status : PwStatus) → (result ≡ Ok status) ↔ IsPwStatus value.now status }
+    ensures fault { (fault : FieldFault) → (result ≡ Err fault) ↔ IsFirstIn (IsStatusFault value.now) fault }
     ensures place { IfErr result (IsInside value.now) }
 {
     status_of(value)
@@ -27,8 +27,8 @@ pub fn read_status(value: &[u8]) -> Result<PwStatus, FieldFault>
 
 // The status that the octets are, or their fault.
 fn status_of(value: &[u8]) -> Result<PwStatus, FieldFault>
-    ensures ok { IfOk result (IsStatus value.now) }
-    ensures fault { IfErr result (IsFirst (IsStatusFault value.now)) }
+    ensures ok { IfOk result (IsPwStatus value.now) }
+    ensures fault { IfErr result (IsFirstIn (IsStatusFault value.now)) }
 {
     if value.len() != 4 {
         return Err(FieldFault::Size);

@@ -1,6 +1,6 @@
 //! Rows of the tables of sub-TLVs.
 ghost use Rattle.std.specs.Prelude.{◌≡◌};
-ghost use Rattle.pw_tlvs.specs.SubTlvs.{fits as row_fits, parameter_row, part_row, row_of as the_row};
+ghost use Rattle.pw_tlvs.specs.SubTlvs.{parameter_row, part_row, row_fits, sub_tlv_row as the_row};
 
 use crate::registry::Registry;
 use net_values::Field;

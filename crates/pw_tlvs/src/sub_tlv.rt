@@ -1,7 +1,7 @@
 //! One sub-TLV at the front of octets.
 ghost use Rattle.std.specs.Prelude.{◌≡◌, ◌≤◌, ◌<◌, ◌+◌, ◌++◌, ◌⊎◌, ℕ, List, length, drop, slice_index, true, false, Some, IfSome, IfNone, IfOk, IfErr, IsSome};
 ghost use Rattle.pw_tlvs.specs.declared.registry.Registry.TheVariants.{SwitchingPointPart};
-ghost use Rattle.pw_tlvs.specs.SubTlvs.{SubTlv, counted as counted_in, spell, row_of as the_row, fits, allows, lone_fault as the_lone_fault, outside_fault as the_outside_fault, IsOutside, IsGood, IsFirstWrong, Stood};
+ghost use Rattle.pw_tlvs.specs.SubTlvs.{SubTlv, counted_in, spell, sub_tlv_row as the_row, row_fits, allows, lone_fault as the_lone_fault, outside_fault as the_outside_fault, IsOutside, IsGood, IsFirstWrong, Stood};
 
 use crate::FieldFault;
 use crate::registry::Registry;
@@ -76,7 +76,7 @@ fn value_at(registry: Registry, rest: &[u8]) -> &[u8]
 
 // Whether the value is one that its type has.
 fn is_allowed(registry: Registry, kind: u8, value: &[u8]) -> bool
-    requires { IfSome (the_row registry kind) (λ row. fits row (counted_in registry + length value.now) ≡ true) }
+    requires { IfSome (the_row registry kind) (λ row. row_fits row (counted_in registry + length value.now) ≡ true) }
     ensures { result ≡ allows registry kind value.now }
 {
     match (registry, kind) {

@@ -12,7 +12,7 @@ use Rattle.command_text.specs.declared.plan_names.PlanNames.{PlanNames}
 use Rattle.command_text.specs.declared.scenario_fault.ScenarioFault.{ScenarioFault}
 use Rattle.command_text.specs.declared.scenario_fault.ScenarioFault.TheVariants.{NotToml}
 use Rattle.command_text.specs.Reading.{Gives}
-use Rattle.command_text.specs.Planned.{names_of, IsInRows, IsNamed, IsPlanned}
+use Rattle.command_text.specs.Planned.{names_of, IsInRows, IsInPlanNames, IsPlanned}
 use Rattle.scenario_text.specs.declared.scenario.Scenario.{Scenario}
 use Rattle.scenario_text.specs.Document.{scenario_or, document}
 
@@ -28,7 +28,7 @@ pub gives_document : (bytes text : List ℕ) (result : Result Scenario ScenarioF
 gives_document bytes text result same utf8 gives = subst (λ (d : Result Scenario ScenarioFault). Gives result d) (ap (λ t. scenario_or (parse_document t)) same ∙ sym (document_text bytes utf8)) gives
 
 -- what is among the names of a plan is in the plan, since it has as many names as rows
-pub planned_all : (plan : Plan) (names : PlanNames) (commands : List Command) → names ≡ names_of plan → All (IsNamed names) commands → All (IsPlanned plan) commands
+pub planned_all : (plan : Plan) (names : PlanNames) (commands : List Command) → names ≡ names_of plan → All (IsInPlanNames names) commands → All (IsPlanned plan) commands
 planned_all plan names commands same named =
     let edges : length names.edges ≡ length plan.edges = ap (λ (n : PlanNames). length n.edges) same ∙ length-map plan.edges (λ row. row.name) in
     let circuits : length names.circuits ≡ length plan.circuits = ap (λ (n : PlanNames). length n.circuits) same ∙ length-map plan.circuits (λ row. row.name) in

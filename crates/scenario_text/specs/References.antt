@@ -35,10 +35,10 @@ circuit_in edges services row circuit = do
   Ok (record { name = circuit.name; edge = record { 0 = edge }; service = record { 0 = service }; tag = circuit.tag })
 
 -- the circuits of rows, the first of which has this index
-abbrev pub circuits_in : List (List ℕ) → List (List ℕ) → ℕ → List CircuitRow → Result (List CircuitPlan) ScenarioFault
-circuits_in edges services index [] = Ok []
-circuits_in edges services index (row ∷ rows) =
-    circuit_in edges services (record { table = Circuit; index = index }) row >>= (λ x. circuits_in edges services (index + 1) rows >>= (λ xs. Ok (x ∷ xs)))
+abbrev pub circuit_plans : List (List ℕ) → List (List ℕ) → ℕ → List CircuitRow → Result (List CircuitPlan) ScenarioFault
+circuit_plans edges services index [] = Ok []
+circuit_plans edges services index (row ∷ rows) =
+    circuit_in edges services (record { table = Circuit; index = index }) row >>= (λ x. circuit_plans edges services (index + 1) rows >>= (λ xs. Ok (x ∷ xs)))
 
 -- the edges of a path
 abbrev pub path_in : List (List ℕ) → RowPlace → List (List ℕ) → Result (List EdgeId) ScenarioFault
@@ -46,8 +46,8 @@ path_in edges row [] = Ok []
 path_in edges row (name ∷ rest) = named row (codes "path") edges name >>= (λ edge. path_in edges row rest >>= (λ xs. Ok (record { 0 = edge } ∷ xs)))
 
 -- 0 stands for what is not told
-abbrev pub told : ℕ → Option ℕ
-told n = if n == 0 then None else Some n
+abbrev pub told_unless_zero : ℕ → Option ℕ
+told_unless_zero n = if n == 0 then None else Some n
 
 -- the offer of an end, where the service has this MTU
 abbrev pub offer_from : ℕ → OfferRow → Offer
@@ -55,9 +55,9 @@ offer_from mtu offer =
     record {
       tagged = offer.tagged;
       cword = offer.cword;
-      mtu = told (unwrap_or offer.mtu mtu);
+      mtu = told_unless_zero (unwrap_or offer.mtu mtu);
       vlan = offer.vlan;
-      vccv = told offer.vccv;
+      vccv = told_unless_zero offer.vccv;
       status = offer.status;
       group = offer.group;
       description = offer.description;
@@ -109,7 +109,7 @@ sound plan = without_fault plan (plan_fault plan)
 -- the circuits and the wires of these rows, which name edges and services
 unfoldable pub placed_rows : List (List ℕ) → List ServicePlan → List CircuitRow → List WireRow → Result PlacedRows ScenarioFault
 placed_rows edges services circuit_rows wire_rows = do
-  circuits ← circuits_in edges (service_names services) 1 circuit_rows
+  circuits ← circuit_plans edges (service_names services) 1 circuit_rows
   wires ← wires_in edges services 1 wire_rows
   Ok (record { circuits = circuits; wires = wires })
 

@@ -41,16 +41,16 @@ abbrev pub quad_of : List ℕ → Option (List ℕ)
 quad_of text = whole_of (read_ipv4 text)
 
 -- the octets are those of 0.0.0.0
-abbrev pub is_unspecified : List ℕ → Bool
-is_unspecified octets = bytes_eq octets (0 ∷ 0 ∷ 0 ∷ 0 ∷ [])
+abbrev pub is_unspecified_quad : List ℕ → Bool
+is_unspecified_quad octets = bytes_eq octets (0 ∷ 0 ∷ 0 ∷ 0 ∷ [])
 
 -- the address that a dotted quad is
-abbrev pub address_of : Place → List ℕ → Result Addr ScenarioFault
-address_of place text = meant place (quad_of text) >>= (λ octets. in_range place (not (is_unspecified octets)) (record { 0 = octets }))
+abbrev pub address_in : Place → List ℕ → Result Addr ScenarioFault
+address_in place text = meant place (quad_of text) >>= (λ octets. in_range place (not (is_unspecified_quad octets)) (record { 0 = octets }))
 
 -- a string that is a dotted quad without leading zeros, not 0.0.0.0
 abbrev pub an_address : Place → Data → Result Addr ScenarioFault
-an_address place value = a_text place value >>= address_of place
+an_address place value = a_text place value >>= address_in place
 
 -- a number from low to high
 abbrev pub number_from : ℕ → ℕ → Place → ℤ → Result ℕ ScenarioFault

@@ -1,7 +1,7 @@
 //! The circuits of a plan.
 ghost use Rattle.std.specs.Prelude.{◌≡◌, ◌≤◌, length, IfOk};
 ghost use Rattle.command_text.specs.Reading.{Gives};
-ghost use Rattle.scenario_text.specs.References.{circuit_in, circuits_in};
+ghost use Rattle.scenario_text.specs.References.{circuit_in, circuit_plans};
 ghost use Rattle.scenario_text.specs.Top.{most_circuits};
 
 use crate::circuit_row::CircuitRow;
@@ -41,7 +41,7 @@ pub fn circuits(
     rows: &[CircuitRow],
 ) -> Result<List<CircuitPlan>, ScenarioFault>
     requires { length rows.now ≤ most_circuits }
-    ensures exact { Gives result (circuits_in edges.now services.now 1 rows.now) }
+    ensures exact { Gives result (circuit_plans edges.now services.now 1 rows.now) }
     ensures many { IfOk result (λ circuits. length circuits ≡ length rows.now) }
 {
     let mut circuits = List::new(alloc);

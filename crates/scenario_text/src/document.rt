@@ -6,7 +6,7 @@ ghost use Rattle.toml.specs.Parse.{parse_document};
 ghost use Rattle.toml.specs.View.{items_view, table_view};
 ghost use Rattle.command_text.specs.Events.{commands_in, most_events};
 ghost use Rattle.command_text.specs.Reading.{Gives};
-ghost use Rattle.command_text.specs.Planned.{names_of, IsNamed, IsPlanned};
+ghost use Rattle.command_text.specs.Planned.{names_of, IsInPlanNames, IsPlanned};
 ghost use Rattle.scenario_text.specs.Arrays.{arrays_of, HasLimits};
 ghost use Rattle.scenario_text.specs.Document.{plan_in, scenario_with, scenario_in, scenario_or, document};
 
@@ -36,7 +36,7 @@ fn named_commands(
     requires few { length events.now ≤ most_events }
     ensures exact { Gives result (commands_in (record { edges = edges.now; circuits = circuits.now; wires = wires.now }) 1 0 (items_view events.now)) }
     ensures many { IfOk result (λ commands. length commands ≡ length events.now) }
-    ensures named { IfOk result (λ commands. All (IsNamed (record { edges = edges.now; circuits = circuits.now; wires = wires.now })) commands) }
+    ensures named { IfOk result (λ commands. All (IsInPlanNames (record { edges = edges.now; circuits = circuits.now; wires = wires.now })) commands) }
 {
     match plan_names(alloc, edges, circuits, wires) {
         Ok(names) => {

@@ -4,7 +4,7 @@ ghost use Rattle.std.specs.List.{list_all};
 ghost use Rattle.toml.specs.View.{view, items_view};
 ghost use Rattle.command_text.specs.Places.{place_at};
 ghost use Rattle.command_text.specs.Reading.{Gives, MapsTo};
-ghost use Rattle.scenario_text.specs.Values.{meant, a_text, a_name, quad_of, address_of, an_address, number_from, a_number, a_boolean, class_of, a_class, mode_of, a_mode, a_description, is_string, an_array, names_in, a_path, all_items};
+ghost use Rattle.scenario_text.specs.Values.{meant, a_text, a_name, quad_of, address_in, an_address, number_from, a_number, a_boolean, class_of, a_class, mode_of, a_mode, a_description, is_string, an_array, names_in, a_path, all_items};
 
 use command_text::{RowPlace, ScenarioFault, is_same};
 use net_base::{Addr, Class, List, Name, Text};
@@ -54,7 +54,7 @@ fn quad(text: &str) -> Option<[u8; 4]>
 
 // The address that a text is.
 fn address_of_text(row: RowPlace, key: &str, text: &str) -> Result<Addr, ScenarioFault>
-    ensures { result ≡ address_of (place_at row key.now) text.now }
+    ensures { result ≡ address_in (place_at row key.now) text.now }
 {
     match quad(text) {
         Some(octets) => {

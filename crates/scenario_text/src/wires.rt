@@ -3,7 +3,7 @@ ghost use Rattle.std.specs.Prelude.{◌≡◌, ◌≤◌, length, IfOk};
 ghost use Rattle.net_base.specs.plan.NameFaults.{service_names};
 ghost use Rattle.command_text.specs.Reading.{Gives};
 ghost use Rattle.scenario_text.specs.Top.{most_wires};
-ghost use Rattle.scenario_text.specs.References.{told, offer_from, mtu_at, path_in, wire_in, wires_in};
+ghost use Rattle.scenario_text.specs.References.{told_unless_zero, offer_from, mtu_at, path_in, wire_in, wires_in};
 
 use crate::named::named_place;
 use crate::offer_row::OfferRow;
@@ -15,14 +15,14 @@ use std::alloc::Global;
 
 // A number of 16 bits, where it is told.
 fn told_mtu(number: u16) -> Option<u16>
-    ensures { result ≡ told number }
+    ensures { result ≡ told_unless_zero number }
 {
     if number == 0 { None } else { Some(number) }
 }
 
 // The VCCV bits, where they are told.
 fn told_vccv(bits: u8) -> Option<u8>
-    ensures { result ≡ told bits }
+    ensures { result ≡ told_unless_zero bits }
 {
     if bits == 0 { None } else { Some(bits) }
 }

@@ -5,11 +5,11 @@ use Rattle.ldp_grammar.specs.declared.status_code.StatusCode.{StatusCode}
 use Rattle.net_base.specs.declared.trace.state_name.Reason.TheVariants as reason
 use Rattle.session_core.specs.declared.peers.Peers.{Peers}
 use Rattle.session_core.specs.declared.refusal.Refusal.TheVariants as refusal
-use Rattle.session_core.specs.Parameters.{longest, proposal, refusal_of}
+use Rattle.session_core.specs.Parameters.{longest, proposal, proposal_refusal}
 use Rattle.session_core.specs.Phase as phase
 use Rattle.session_core.specs.State.{EndedBy, Stands, is_active, opened}
 use Rattle.session_core.specs.Table.{Ends, Received, Spoke, Stay, Ticked, one_more, outcome_of, third}
-use Rattle.session_core.specs.Laws.{run}
+use Rattle.session_core.specs.Laws.{run_session}
 
 -- 10.0.0.2 and 10.0.0.1
 abbrev active : Peers
@@ -31,17 +31,17 @@ lengths : (longest 0 ∷ longest 255 ∷ longest 256 ∷ longest 4096 ∷ longes
 lengths = refl
 
 -- of three refusals that hold the first counts
-first_refusal : refusal_of passive (record (proposal passive) { version = 2; keepalive = 0 }) ≡ Some refusal.Version
+first_refusal : proposal_refusal passive (record (proposal passive) { version = 2; keepalive = 0 }) ≡ Some refusal.Version
 first_refusal = refl
 
-second_refusal : refusal_of passive (record (proposal passive) { keepalive = 0 }) ≡ Some refusal.Receiver
+second_refusal : proposal_refusal passive (record (proposal passive) { keepalive = 0 }) ≡ Some refusal.Receiver
 second_refusal = refl
 
-third_refusal : refusal_of passive (record (proposal active) { keepalive = 0 }) ≡ Some refusal.KeepAliveTime
+third_refusal : proposal_refusal passive (record (proposal active) { keepalive = 0 }) ≡ Some refusal.KeepAliveTime
 third_refusal = refl
 
 -- a set-up, and the session that it leaves
-up : run (opened passive) (Received (Initialization 1 (proposal active)) ∷ Spoke ∷ Ticked ∷ Received (KeepAlive 2) ∷ [])
+up : run_session (opened passive) (Received (Initialization 1 (proposal active)) ∷ Spoke ∷ Ticked ∷ Received (KeepAlive 2) ∷ [])
     ≡ Stands (record { phase = phase.Operational; peers = passive; hold = 60; max_pdu = 1500; wait = 1; silence = 1 })
 unfolding one_more
 up = refl
@@ -57,5 +57,5 @@ error_ends : outcome_of (opened passive) (Received (Notification 3 (record advic
 error_ends = refl
 
 -- nothing was heard for the hold time
-expired : run (record (opened passive) { hold = 2 }) (Ticked ∷ Ticked ∷ []) ≡ EndedBy reason.Expired
+expired : run_session (record (opened passive) { hold = 2 }) (Ticked ∷ Ticked ∷ []) ≡ EndedBy reason.Expired
 expired = refl

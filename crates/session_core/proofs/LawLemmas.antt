@@ -10,9 +10,9 @@ use Rattle.session_core.specs.declared.peers.Peers.{Peers}
 use Rattle.session_core.specs.declared.refusal.Refusal.{Refusal}
 use Rattle.session_core.specs.declared.refusal.Refusal.TheVariants as refusal
 use Rattle.session_core.specs.declared.reply.Reply.{Reply}
-use Rattle.session_core.specs.Laws.{tells_end, IsFarewell, OneNotice, NeverSilent, next_put, run_by, IsWithin, WithinProposals, IsAddress, IsFacing, IsAgreement, Proposes, run, EndsAgree}
+use Rattle.session_core.specs.Laws.{tells_end, IsFarewell, OneNotice, NeverSilent, next_put, run_by, IsWithinProposal, WithinProposals, IsAddress, IsFacing, IsAgreement, Proposes, run_session, EndsAgree}
 use Rattle.session_core.proofs.AddressLemmas.{numbers_apart, one_larger}
-use Rattle.session_core.specs.Parameters.{longest, proposal, reason_of, refusal_of}
+use Rattle.session_core.specs.Parameters.{longest, proposal, proposal_refusal, refusal_reason}
 use Rattle.session_core.specs.Phase.{Phase, is_agreed}
 use Rattle.session_core.specs.State.{SessionState, SessionView, Stands, EndedBy, IsProper, is_active, opened, number_of}
 use Rattle.session_core.specs.StatusCodes.{about}
@@ -23,20 +23,20 @@ told : (s : SessionState) (message : Message) (status : StatusCode) (why : Reaso
 told s message status why replies is = grind (arith)
 
 -- the refusals are told
-refusal_told : (state : Phase) (why : Refusal) → tells_end state (reason_of why) ≡ true
+refusal_told : (state : Phase) (why : Refusal) → tells_end state (refusal_reason why) ≡ true
 refusal_told state refusal.Version = grind (arith)
 refusal_told state refusal.Receiver = grind (arith)
 refusal_told state refusal.KeepAliveTime = grind (arith)
 
 -- a proposal that is refused is answered
-refused : (s : SessionState) (message : Message) (params : SessionParams) (others : List Reply) (why : Reason) (replies : List Reply) → judged (refusal_of s.peers params) s message params others ≡ Ends why replies
+refused : (s : SessionState) (message : Message) (params : SessionParams) (others : List Reply) (why : Reason) (replies : List Reply) → judged (proposal_refusal s.peers params) s message params others ≡ Ends why replies
     → IsFarewell (tells_end s.phase why) replies
-refused s message params others why replies is = so (refusal_of s.peers params) is
+refused s message params others why replies is = so (proposal_refusal s.peers params) is
   where
     so : (given : Option Refusal) → judged given s message params others ≡ Ends why replies → IsFarewell (tells_end s.phase why) replies
     so None ends = grind (arith)
     so (Some given) ends =
-        let same : reason_of given ≡ why = grind (arith) in
+        let same : refusal_reason given ≡ why = grind (arith) in
         let one : about message (data_refusing given) ∷ [] ≡ replies = grind (arith) in
         let told : tells_end s.phase why ≡ true = ap (λ (r : Reason). tells_end s.phase r) (sym same) ∙ refusal_told s.phase given in
         rw (told, ← one) refl
@@ -58,7 +58,7 @@ one_notice s Ticked why replies may is = grind (arith)
 one_notice s (Closed lost) why replies may is = grind (arith)
 
 -- what an event makes of a session keeps within the proposals
-kept : (ends : Peers) (s next : SessionState) (event : SessionEvent) → IsProper ends → IsWithin ends s → view_after s (outcome_of s event) ≡ Stands next → IsWithin ends next
+kept : (ends : Peers) (s next : SessionState) (event : SessionEvent) → IsProper ends → IsWithinProposal ends s → view_after s (outcome_of s event) ≡ Stands next → IsWithinProposal ends next
 kept ends s next Start proper within is = grind (arith)
 kept ends s next (Heard sender) proper within is = grind (arith)
 kept ends s next (Received message) proper within is = grind (arith)
@@ -95,7 +95,7 @@ ran : (next : SessionState → SessionEvent → SessionView) (Holds : SessionSta
 ran next Holds keeps events s last holds is = ran_by next (λ event. Unit {0}) Holds (λ t u event may here after. keeps t u event here after) events s last (every_event events) holds is
 
 pub within_proposals : WithinProposals
-within_proposals ends events s proper is = ran next_of (IsWithin ends) (λ t u event within after. kept ends t u event proper within after) events (opened ends) s (grind (arith)) is
+within_proposals ends events s proper is = ran next_of (IsWithinProposal ends) (λ t u event within after. kept ends t u event proper within after) events (opened ends) s (grind (arith)) is
 
 -- a third of a hold time is at least a tick
 third_some : (hold : ℕ) → 0 < third hold
@@ -125,7 +125,7 @@ one_active one other facing me peer proper =
     rw (facing.back, ← facing.there) larger
 
 -- an end accepts what the other one proposes
-accepted : (one other : Peers) → IsFacing one other → IsProper one → refusal_of other (proposal one) ≡ None
+accepted : (one other : Peers) → IsFacing one other → IsProper one → proposal_refusal other (proposal one) ≡ None
 accepted one other facing proper = search rules
 
 -- as long as each Initialization is the other end's, what was accepted are the smaller numbers of the two
@@ -146,7 +146,7 @@ agree_kept one other s next Spoke proper may agrees is = grind (arith)
 agree_kept one other s next Ticked proper may agrees is = grind (arith)
 agree_kept one other s next (Closed lost) proper may agrees is = grind (arith)
 
-agreed_by : (one other : Peers) (events : List SessionEvent) (s : SessionState) → IsProper other → AllByRecursion (Proposes (proposal other)) events → run (opened one) events ≡ Stands s → Agrees one other s
+agreed_by : (one other : Peers) (events : List SessionEvent) (s : SessionState) → IsProper other → AllByRecursion (Proposes (proposal other)) events → run_session (opened one) events ≡ Stands s → Agrees one other s
 agreed_by one other events s proper may is =
     ran_by next_of (Proposes (proposal other)) (Agrees one other) (λ t u event may' agrees after. agree_kept one other t u event proper may' agrees after) events (opened one) s may (grind (arith)) is
 

@@ -16,7 +16,7 @@ use Rattle.session_core.specs.declared.refusal.Refusal.TheVariants as refusal
 use Rattle.session_core.specs.declared.reply.Reply.{Reply}
 use Rattle.session_core.specs.declared.reply.Reply.TheVariants as reply
 use Rattle.session_core.specs.Messages.{HasData, RepliesArePut, message_of}
-use Rattle.session_core.specs.Parameters.{proposal, refusal_of}
+use Rattle.session_core.specs.Parameters.{proposal, proposal_refusal}
 use Rattle.session_core.specs.State.{SessionState}
 use Rattle.session_core.specs.Table.{SessionEvent, Start, Heard, Received, Refused, Spoke, Ticked, Closed, outcome_of, replies_of, judged, notified, reason_in}
 
@@ -36,7 +36,7 @@ notified_data (Some why) s message = grind (arith)
 received : (s : SessionState) (message : Message) → AllByRecursion HasData (replies_of (outcome_of s (Received message)))
 received s (Notification id status pw_status fec) = grind (arith, notified_data (reason_in status) s (Notification id status pw_status fec))
 received s (Initialization id params) =
-    grind (arith, judged_data (refusal_of s.peers params) s (Initialization id params) params (reply.Init ∷ reply.KeepAlive ∷ []), judged_data (refusal_of s.peers params) s (Initialization id params) params (reply.KeepAlive ∷ []))
+    grind (arith, judged_data (proposal_refusal s.peers params) s (Initialization id params) params (reply.Init ∷ reply.KeepAlive ∷ []), judged_data (proposal_refusal s.peers params) s (Initialization id params) params (reply.KeepAlive ∷ []))
 received s (KeepAlive id) = grind (arith)
 received s message = grind (arith)
 

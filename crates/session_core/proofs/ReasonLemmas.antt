@@ -7,7 +7,7 @@ use Rattle.net_base.specs.declared.trace.state_name.StateName.TheVariants as nam
 use Rattle.session_core.specs.declared.peers.Peers.{Peers}
 use Rattle.session_core.specs.declared.refusal.Refusal.TheVariants as refusal
 use Rattle.session_core.specs.declared.standing.Standing.{Standing}
-use Rattle.session_core.specs.Parameters.{refusal_of}
+use Rattle.session_core.specs.Parameters.{proposal_refusal}
 use Rattle.session_core.specs.Phase as phase
 use Rattle.session_core.specs.Reasons.{has_bad_receiver, has_zero_time, is_acceptable, proposes}
 use Rattle.session_core.specs.Session.{name_of}
@@ -15,14 +15,14 @@ use Rattle.session_core.specs.State.{SessionView, EndedBy, in_phase, is_active}
 use Rattle.session_core.specs.Table.{Received, after, table, view_after}
 
 -- what is acceptable is not refused
-pub acceptable : (peers : Peers) (p : SessionParams) → (refusal_of peers p ≡ None) ↔ IsTrue (is_acceptable peers p)
+pub acceptable : (peers : Peers) (p : SessionParams) → (proposal_refusal peers p ≡ None) ↔ IsTrue (is_acceptable peers p)
 acceptable peers p = grind (arith)
 
 -- the second and the third of the refusals
-pub bad_receiver : (peers : Peers) (p : SessionParams) → (refusal_of peers p ≡ Some refusal.Receiver) ↔ IsTrue (has_bad_receiver peers p)
+pub bad_receiver : (peers : Peers) (p : SessionParams) → (proposal_refusal peers p ≡ Some refusal.Receiver) ↔ IsTrue (has_bad_receiver peers p)
 bad_receiver peers p = grind (arith)
 
-pub zero_time : (peers : Peers) (p : SessionParams) → (refusal_of peers p ≡ Some refusal.KeepAliveTime) ↔ IsTrue (has_zero_time peers p)
+pub zero_time : (peers : Peers) (p : SessionParams) → (proposal_refusal peers p ≡ Some refusal.KeepAliveTime) ↔ IsTrue (has_zero_time peers p)
 zero_time peers p = grind (arith)
 
 -- what a message makes of a session in Initialized, of the passive or of the active end

@@ -9,7 +9,7 @@ use Rattle.net_base.specs.declared.trace.state_name.Reason.TheVariants as reason
 use Rattle.session_core.specs.declared.peers.Peers.{Peers}
 use Rattle.session_core.specs.declared.reply.Reply.{Reply}
 use Rattle.session_core.specs.declared.reply.Reply.TheVariants.{Notice}
-use Rattle.session_core.specs.Parameters.{proposal, refusal_of}
+use Rattle.session_core.specs.Parameters.{proposal, proposal_refusal}
 use Rattle.session_core.specs.Phase.{Phase, is_agreed}
 use Rattle.session_core.specs.Phase as phase
 use Rattle.session_core.specs.State.{SessionState, SessionView, Stands, EndedBy, IsProper, is_active, opened}
@@ -75,7 +75,7 @@ IsKeepAlive event = ⊥
 
 -- the event is an Initialization that proposes what is acceptable
 abbrev pub IsAcceptable : SessionState → SessionEvent → Type 0
-IsAcceptable s (Received (Initialization id params)) = refusal_of s.peers params ≡ None
+IsAcceptable s (Received (Initialization id params)) = proposal_refusal s.peers params ≡ None
 IsAcceptable s event = ⊥
 
 -- A session is up only by a KeepAlive that came in OpenRec, and is in OpenRec only by an acceptable Initialization that came
@@ -91,13 +91,13 @@ abbrev pub run_by : (SessionState → SessionEvent → SessionView) → SessionS
 run_by next s [] = Stands s
 run_by next s (event ∷ events) = elim (next s event) [ Stands then_on ↦ run_by next then_on events | EndedBy why ↦ EndedBy why ]
 
-abbrev pub run : SessionState → List SessionEvent → SessionView
-run s events = run_by next_of s events
+abbrev pub run_session : SessionState → List SessionEvent → SessionView
+run_session s events = run_by next_of s events
 
 -- The hold time of a session between these ends is no more than this one proposed, and so is the longest PDU once an
 -- Initialization was accepted; a PDU of 256 octets always has room, and one of more than 4096 never; fewer ticks than the own
 -- KeepAlive Time have passed since the last PDU was heard.
-pub record IsWithin (ends : Peers) (s : SessionState) : Type 0 where
+pub record IsWithinProposal (ends : Peers) (s : SessionState) : Type 0 where
   pub same : s.peers ≡ ends
   pub some : 1 ≤ s.hold
   pub hold : s.hold ≤ ends.keepalive
@@ -108,7 +108,7 @@ pub record IsWithin (ends : Peers) (s : SessionState) : Type 0 where
 
 -- Whatever comes, a session keeps within this.
 abbrev pub WithinProposals : Type 0
-WithinProposals = (ends : Peers) (events : List SessionEvent) (s : SessionState) → IsProper ends → run (opened ends) events ≡ Stands s → IsWithin ends s
+WithinProposals = (ends : Peers) (events : List SessionEvent) (s : SessionState) → IsProper ends → run_session (opened ends) events ≡ Stands s → IsWithinProposal ends s
 
 -- where anything is put, no tick has passed since
 abbrev pub spoken : List Reply → SessionView → SessionView
@@ -135,7 +135,7 @@ pub record IsAddress (address : Addr) : Type 0 where
   pub octets : AllByRecursion (λ octet. octet < 256) address.0
 
 -- a session that is up, with this hold time and this longest PDU
-pub record IsUp (view : SessionView) (hold max_pdu : ℕ) : Type 0 where
+pub record IsUpWith (view : SessionView) (hold max_pdu : ℕ) : Type 0 where
   pub state : SessionState
   pub stands : view ≡ Stands state
   pub up : state.phase ≡ phase.Operational
@@ -158,10 +158,10 @@ pub record IsAgreement (one other : Peers) (s : SessionState) : Type 0 where
 -- 5036 sections 2.5.2 to 2.5.4 and 3.5.3).
 pub record EndsAgree : Type 0 where
   pub one_active : (one other : Peers) → IsFacing one other → IsAddress one.me → IsAddress one.peer → IsProper one → is_active other ≡ not (is_active one)
-  pub acceptable : (one other : Peers) → IsFacing one other → IsProper one → refusal_of other (proposal one) ≡ None
+  pub acceptable : (one other : Peers) → IsFacing one other → IsProper one → proposal_refusal other (proposal one) ≡ None
   pub agreed : (one other : Peers) (events : List SessionEvent) (s : SessionState) → IsFacing one other → IsProper one → IsProper other → AllByRecursion (Proposes (proposal other)) events
-      → run (opened one) events ≡ Stands s → is_agreed s.phase ≡ true → IsAgreement one other s
+      → run_session (opened one) events ≡ Stands s → is_agreed s.phase ≡ true → IsAgreement one other s
   pub active_up : (one other : Peers) (first second : ℕ) → IsFacing one other → IsProper one → IsProper other → is_active one ≡ true
-      → IsUp (run (opened one) (Start ∷ Received (Initialization first (proposal other)) ∷ Received (KeepAlive second) ∷ [])) (min one.keepalive other.keepalive) (min one.max_pdu other.max_pdu)
+      → IsUpWith (run_session (opened one) (Start ∷ Received (Initialization first (proposal other)) ∷ Received (KeepAlive second) ∷ [])) (min one.keepalive other.keepalive) (min one.max_pdu other.max_pdu)
   pub passive_up : (one other : Peers) (first second : ℕ) → IsFacing one other → IsProper one → IsProper other → is_active one ≡ true
-      → IsUp (run (opened other) (Received (Initialization first (proposal one)) ∷ Received (KeepAlive second) ∷ [])) (min one.keepalive other.keepalive) (min one.max_pdu other.max_pdu)
+      → IsUpWith (run_session (opened other) (Received (Initialization first (proposal one)) ∷ Received (KeepAlive second) ∷ [])) (min one.keepalive other.keepalive) (min one.max_pdu other.max_pdu)

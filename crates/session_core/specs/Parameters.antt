@@ -30,18 +30,18 @@ proposal peers = record {
 
 -- why a proposal is refused: of the three the first that holds. The A bit refuses nothing: as one end proposes labels
 -- unasked, they are used so.
-abbrev pub refusal_of : Peers → SessionParams → Option Refusal
-refusal_of peers p =
+abbrev pub proposal_refusal : Peers → SessionParams → Option Refusal
+proposal_refusal peers p =
     if not (p.version == 1) then Some refusal.Version
     else if not (is_platform peers.me p.receiver) then Some refusal.Receiver
     else if p.keepalive == 0 then Some refusal.KeepAliveTime
     else None
 
 -- the reason for which a session ends by a refusal
-abbrev pub reason_of : Refusal → Reason
-reason_of refusal.Version = reason.BadVersion
-reason_of refusal.Receiver = reason.BadReceiver
-reason_of refusal.KeepAliveTime = reason.ZeroKeepAlive
+abbrev pub refusal_reason : Refusal → Reason
+refusal_reason refusal.Version = reason.BadVersion
+refusal_reason refusal.Receiver = reason.BadReceiver
+refusal_reason refusal.KeepAliveTime = reason.ZeroKeepAlive
 
 -- the longest PDU that a proposal means: 255 or less stands for 4096, and no more than that is taken
 abbrev pub longest : ℕ → ℕ

@@ -11,13 +11,13 @@ replies_in (held.One a) = a ∷ []
 replies_in (held.Two a b) = a ∷ b ∷ []
 
 -- how the first two replies of a list are held
-abbrev pub held_of : List Reply → Held
-held_of [] = held.None
-held_of (a ∷ []) = held.One a
-held_of (a ∷ b ∷ rest) = held.Two a b
+abbrev pub held_replies : List Reply → Held
+held_replies [] = held.None
+held_replies (a ∷ []) = held.One a
+held_replies (a ∷ b ∷ rest) = held.Two a b
 
 -- held replies come back from their list
-pub held_again : (h : Held) → held_of (replies_in h) ≡ h
-held_again held.None = refl
-held_again (held.One a) = refl
-held_again (held.Two a b) = refl
+pub held_replies_again : (h : Held) → held_replies (replies_in h) ≡ h
+held_replies_again held.None = refl
+held_replies_again (held.One a) = refl
+held_replies_again (held.Two a b) = refl

@@ -17,7 +17,7 @@ use Rattle.session_core.specs.Phase as phase
 use Rattle.session_core.specs.declared.standing.Standing.{Standing}
 use Rattle.session_core.specs.State.{SessionState, SessionView, Stands, EndedBy, in_phase, is_active}
 use Rattle.session_core.specs.StatusCodes.{about, about_none, data_of, bad_ldp_identifier, bad_protocol_version, shutdown, no_hello, keep_alive_timer_expired, bad_keep_alive_time}
-use Rattle.session_core.specs.Parameters.{is_platform, refusal_of, reason_of, agreed}
+use Rattle.session_core.specs.Parameters.{is_platform, proposal_refusal, refusal_reason, agreed}
 
 -- what happens to a session that stands: its active end starts it; a PDU of a sender came; a message of it is processed; the
 -- octets that came are no PDU; something was put to the peer; a tick passed; the connection closed
@@ -37,8 +37,8 @@ pub data Outcome : Type 0 where
   Ends : Reason → List Reply → Outcome
 
 -- the same in another state
-abbrev pub enters : Phase → SessionState → SessionState
-enters state s = record s { phase = state }
+abbrev pub enters_phase : Phase → SessionState → SessionState
+enters_phase state s = record s { phase = state }
 
 -- the status data that refuses a proposal
 abbrev pub data_refusing : Refusal → ℕ
@@ -49,11 +49,11 @@ data_refusing refusal.KeepAliveTime = bad_keep_alive_time
 -- a proposal in a message: it is accepted with these replies, or refused for the reason
 abbrev pub judged : Option Refusal → SessionState → Message → SessionParams → List Reply → Outcome
 judged None s message params replies = Goes (agreed s params) replies
-judged (Some why) s message params replies = Ends (reason_of why) (about message (data_refusing why) ∷ [])
+judged (Some why) s message params replies = Ends (refusal_reason why) (about message (data_refusing why) ∷ [])
 
 -- the proposal of an Initialization
 abbrev pub proposed : SessionState → ℕ → SessionParams → List Reply → Outcome
-proposed s id params replies = judged (refusal_of s.peers params) s (Initialization id params) params replies
+proposed s id params replies = judged (proposal_refusal s.peers params) s (Initialization id params) params replies
 
 -- why a Notification ends a session: a shutdown, or another fatal error; one that is not fatal ends none (RFC 5036 section
 -- 3.5.1.1)
@@ -74,8 +74,8 @@ notified None s message = Stay
 notified (Some why) s message = Ends why (farewell s.phase why message)
 
 -- a PDU of a sender: it is the peer with the platform's label space (RFC 5036 section 3.5.1.2.1)
-abbrev pub heard : LdpId → SessionState → Outcome
-heard sender s =
+abbrev pub heard_sender : LdpId → SessionState → Outcome
+heard_sender sender s =
     if is_platform s.peers.peer sender then Goes (record s { wait = 0 }) []
     else Ends reason.BadIdentifier (about_none bad_ldp_identifier ∷ [])
 
@@ -84,8 +84,8 @@ unfoldable pub one_more : ℕ → ℕ
 one_more n = min (n + 1) (2 ^ 64 - 1)
 
 -- a tick more since the last PDU was heard, and since the last one was put
-abbrev pub later : SessionState → SessionState
-later s = record s { wait = s.wait + 1; silence = one_more s.silence }
+abbrev pub a_tick_later : SessionState → SessionState
+a_tick_later s = record s { wait = s.wait + 1; silence = one_more s.silence }
 
 -- a third of the hold time, and at least one tick: after it something is to be put
 abbrev pub third : ℕ → ℕ
@@ -96,28 +96,28 @@ abbrev pub is_expired : SessionState → Bool
 is_expired s = nat_le s.hold s.wait
 
 -- it is time for a KeepAlive: nothing was put for a third of the hold time
-abbrev pub is_quiet : SessionState → Bool
-is_quiet s = is_agreed s.phase && nat_le (third s.hold) s.silence
+abbrev pub is_keep_alive_due : SessionState → Bool
+is_keep_alive_due s = is_agreed s.phase && nat_le (third s.hold) s.silence
 
 -- a tick passed, and the session is as it is now
 abbrev pub ticked : SessionState → Outcome
 ticked s =
     if is_expired s then Ends reason.Expired (about_none keep_alive_timer_expired ∷ [])
-    else Goes s (if is_quiet s then reply.KeepAlive ∷ [] else [])
+    else Goes s (if is_keep_alive_due s then reply.KeepAlive ∷ [] else [])
 
 -- The table: the state, the event, and whether this end is the active one. The first row that fits counts.
 abbrev pub table : Phase → SessionEvent → Bool → SessionState → Outcome
-table phase.Initialized Start true s = Goes (enters phase.OpenSent s) (reply.Init ∷ [])
+table phase.Initialized Start true s = Goes (enters_phase phase.OpenSent s) (reply.Init ∷ [])
 table phase.Initialized (Received (Initialization id params)) false s = proposed s id params (reply.Init ∷ reply.KeepAlive ∷ [])
 table phase.OpenSent (Received (Initialization id params)) active s = proposed s id params (reply.KeepAlive ∷ [])
-table phase.OpenRec (Received (KeepAlive id)) active s = Goes (enters phase.Operational s) []
+table phase.OpenRec (Received (KeepAlive id)) active s = Goes (enters_phase phase.Operational s) []
 table state (Received (Notification id status pw_status fec)) active s = notified (reason_in status) s (Notification id status pw_status fec)
 table phase.Operational (Received message) active s = Stay
 table state (Received message) active s = Ends reason.Unexpected (about message shutdown ∷ [])
-table state (Heard sender) active s = heard sender s
+table state (Heard sender) active s = heard_sender sender s
 table state (Refused fault) active s = Ends reason.Decode (about_none (data_of fault) ∷ [])
 table state Spoke active s = Goes (record s { silence = 0 }) []
-table state Ticked active s = ticked (later s)
+table state Ticked active s = ticked (a_tick_later s)
 table state (Closed why) active s = Ends why []
 table state Start active s = Stay
 
@@ -145,8 +145,8 @@ next_of s event = view_after s (outcome_of s event)
 abbrev pub after : Phase → Standing → SessionEvent → SessionView
 after state s event = next_of (in_phase state s) event
 
-abbrev pub said : Phase → Standing → SessionEvent → List Reply
-said state s event = replies_of (outcome_of (in_phase state s) event)
+abbrev pub said_replies : Phase → Standing → SessionEvent → List Reply
+said_replies state s event = replies_of (outcome_of (in_phase state s) event)
 
 -- the same of a session of any state: one that ended stays as it is, and puts nothing
 abbrev pub view_next : SessionView → SessionEvent → SessionView

@@ -1,6 +1,6 @@
 //! How a session of any state ends.
 ghost use Rattle.std.specs.Prelude.{◌≡◌, [], ◌∷◌, Some};
-ghost use Rattle.session_core.specs.Parameters.{reason_of};
+ghost use Rattle.session_core.specs.Parameters.{refusal_reason};
 ghost use Rattle.session_core.specs.Reasons.{HasEnded};
 ghost use Rattle.session_core.specs.StatusCodes.{about, about_none, bad_ldp_identifier, data_of, keep_alive_timer_expired, shutdown};
 ghost use Rattle.session_core.specs.Table.{data_refusing, reason_in};
@@ -67,7 +67,7 @@ pub fn refused(fault: DecodeFault) -> (Ended, Replies)
 
 /// It ends as the message proposes what is refused (RFC 5036 section 3.5.3).
 pub fn refused_proposal(refusal: Refusal, message: &Message) -> (Session, Replies)
-    ensures session { HasEnded result.0 (reason_of refusal) }
+    ensures session { HasEnded result.0 (refusal_reason refusal) }
     ensures replies { result.1 ≡ about message.now (data_refusing refusal) ∷ [] }
 {
     ended_with(refusal.reason(), about(message, refusal.data()))

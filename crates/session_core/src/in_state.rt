@@ -7,7 +7,7 @@ ghost use Rattle.session_core.specs.Reasons.{HasEnded};
 ghost use Rattle.session_core.specs.Session.{view_of};
 ghost use Rattle.session_core.specs.State.{EndedBy, IsKept, Stands, in_phase};
 ghost use Rattle.session_core.specs.StatusCodes.{about_none, data_of};
-ghost use Rattle.session_core.specs.Table.{after, Closed, Heard, Refused, said, Spoke, third, Ticked};
+ghost use Rattle.session_core.specs.Table.{after, Closed, Heard, Refused, said_replies, Spoke, third, Ticked};
 
 use crate::endings::{bad_identifier, expired, refused};
 use crate::stage::{Case, Stage};
@@ -60,7 +60,7 @@ impl<S: Case> In<S> {
     /// label space 0 (RFC 5036 section 3.5.1.2.1); else no tick has passed since.
     pub fn heard(self, sender: LdpId) -> (Session, Replies)
         ensures session { view_of result.0 ≡ after S.phase self (Heard sender) }
-        ensures replies { result.1 ≡ said S.phase self (Heard sender) }
+        ensures replies { result.1 ≡ said_replies S.phase self (Heard sender) }
         ensures bad_identifier { HasEnded result.0 Reason.BadIdentifier ↔ (is_platform self.peers.peer sender ≡ false) }
     {
         match self.standing.heard(sender) {
@@ -95,7 +95,7 @@ impl<S: Case> In<S> {
     /// third of the hold time, rounded down and at least one tick.
     pub fn tick(self) -> (Session, Replies)
         ensures session { view_of result.0 ≡ after S.phase self Ticked }
-        ensures replies { result.1 ≡ said S.phase self Ticked }
+        ensures replies { result.1 ≡ said_replies S.phase self Ticked }
         ensures expired { HasEnded result.0 Reason.Expired ↔ (self.hold ≤ self.wait + 1) }
         ensures keep_alive { (result.1 ≡ reply.KeepAlive ∷ []) ↔ ((is_agreed S.phase ≡ true) × (self.wait + 1 < self.hold) × (third self.hold ≤ self.silence + 1)) }
     {

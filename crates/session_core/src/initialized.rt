@@ -5,11 +5,11 @@ ghost use Rattle.session_core.specs.declared.reply.Reply.TheVariants as reply;
 ghost use Rattle.ldp_grammar.specs.declared.message.Message.{Message};
 ghost use Rattle.ldp_grammar.specs.declared.message.Message.TheVariants.{Initialization};
 ghost use Rattle.session_core.specs.Phase as phase;
-ghost use Rattle.session_core.specs.Parameters.{refusal_of};
+ghost use Rattle.session_core.specs.Parameters.{proposal_refusal};
 ghost use Rattle.session_core.specs.Reasons.{expects, has_bad_receiver, has_bad_version, has_zero_time, HasEnded, is_acceptable, IsIn, proposes, tells_error, tells_shutdown};
 ghost use Rattle.session_core.specs.Session.{view_of};
 ghost use Rattle.session_core.specs.State.{IsKept, Stands, in_phase, IsProper, opened, is_active};
-ghost use Rattle.session_core.specs.Table.{after, notified, reason_in, Received, said, Start, view_after};
+ghost use Rattle.session_core.specs.Table.{after, notified, reason_in, Received, said_replies, Start, view_after};
 
 use crate::endings::{ended, reason_in, refused_proposal, unexpected};
 use crate::parameters::refusal_of;
@@ -72,7 +72,7 @@ impl In<Initialized> {
     /// expected: it is refused by a fatal Notification.
     pub fn on_message(self, message: &Message) -> (Session, Replies)
         ensures session { view_of result.0 ≡ after phase.Initialized self (Received message.now) }
-        ensures replies { result.1 ≡ said phase.Initialized self (Received message.now) }
+        ensures replies { result.1 ≡ said_replies phase.Initialized self (Received message.now) }
         ensures accepts { IsIn result.0 name.OpenRec ↔ IsTrue (not (is_active self.peers) && proposes (is_acceptable self.peers) message.now) }
         ensures bad_version { HasEnded result.0 Reason.BadVersion ↔ IsTrue (not (is_active self.peers) && proposes has_bad_version message.now) }
         ensures bad_receiver { HasEnded result.0 Reason.BadReceiver ↔ IsTrue (not (is_active self.peers) && proposes (has_bad_receiver self.peers) message.now) }
@@ -87,7 +87,7 @@ impl In<Initialized> {
     // The same where this end is the active one; else the session stays as it is.
     pub(crate) fn start_where_active(self) -> (Session, Replies)
         ensures session { view_of result.0 ≡ after phase.Initialized self Start }
-        ensures replies { result.1 ≡ said phase.Initialized self Start }
+        ensures replies { result.1 ≡ said_replies phase.Initialized self Start }
     {
         if !self.standing().peers.is_active() {
             return (Session::Initialized(self), Replies::none());
@@ -99,7 +99,7 @@ impl In<Initialized> {
     // The row of a message.
     fn by_row(self, message: &Message) -> (Session, Replies)
         ensures session { view_of result.0 ≡ after phase.Initialized self (Received message.now) }
-        ensures replies { result.1 ≡ said phase.Initialized self (Received message.now) }
+        ensures replies { result.1 ≡ said_replies phase.Initialized self (Received message.now) }
     {
         match message {
             Message::Notification { status, .. } => self.on_notification(status),
@@ -122,7 +122,7 @@ impl In<Initialized> {
     // What comes of a proposal in the message.
     fn on_proposal(self, message: &Message, params: &SessionParams) -> (Session, Replies)
         ensures session { (id : ℕ) → message.now ≡ Initialization id params.now → view_of result.0 ≡ after phase.Initialized self (Received message.now) }
-        ensures replies { (id : ℕ) → message.now ≡ Initialization id params.now → result.1 ≡ said phase.Initialized self (Received message.now) }
+        ensures replies { (id : ℕ) → message.now ≡ Initialization id params.now → result.1 ≡ said_replies phase.Initialized self (Received message.now) }
     {
         let standing = self.standing();
         if standing.peers.is_active() {

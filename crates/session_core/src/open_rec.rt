@@ -6,7 +6,7 @@ ghost use Rattle.session_core.specs.Phase as phase;
 ghost use Rattle.session_core.specs.Reasons.{expects, HasEnded, is_keep_alive, IsIn, tells_error, tells_shutdown};
 ghost use Rattle.session_core.specs.Session.{view_of};
 ghost use Rattle.session_core.specs.State.{IsKept, Stands, in_phase, is_active};
-ghost use Rattle.session_core.specs.Table.{after, notified, reason_in, Received, said, view_after};
+ghost use Rattle.session_core.specs.Table.{after, notified, reason_in, Received, said_replies, view_after};
 
 use crate::endings::{ended, reason_in, unexpected};
 use crate::stage::{Case, Stage};
@@ -46,7 +46,7 @@ impl In<OpenRec> {
     /// Notification.
     pub fn on_message(self, message: &Message) -> (Session, Replies)
         ensures session { view_of result.0 ≡ after phase.OpenRec self (Received message.now) }
-        ensures replies { result.1 ≡ said phase.OpenRec self (Received message.now) }
+        ensures replies { result.1 ≡ said_replies phase.OpenRec self (Received message.now) }
         ensures up { IsIn result.0 name.Operational ↔ IsTrue (is_keep_alive message.now) }
         ensures unexpected { HasEnded result.0 Reason.Unexpected ↔ (expects phase.OpenRec (is_active self.peers) message.now ≡ false) }
         ensures peer_shutdown { HasEnded result.0 Reason.PeerShutdown ↔ IsTrue (tells_shutdown message.now) }
@@ -58,7 +58,7 @@ impl In<OpenRec> {
     // The row of a message.
     fn by_row(self, message: &Message) -> (Session, Replies)
         ensures session { view_of result.0 ≡ after phase.OpenRec self (Received message.now) }
-        ensures replies { result.1 ≡ said phase.OpenRec self (Received message.now) }
+        ensures replies { result.1 ≡ said_replies phase.OpenRec self (Received message.now) }
     {
         match message {
             Message::Notification { status, .. } => self.on_notification(status),

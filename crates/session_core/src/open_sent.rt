@@ -4,11 +4,11 @@ ghost use Rattle.net_base.specs.declared.trace.state_name.StateName.TheVariants 
 ghost use Rattle.session_core.specs.declared.reply.Reply.TheVariants as reply;
 ghost use Rattle.ldp_grammar.specs.declared.message.Message.{Message};
 ghost use Rattle.session_core.specs.Phase as phase;
-ghost use Rattle.session_core.specs.Parameters.{refusal_of};
+ghost use Rattle.session_core.specs.Parameters.{proposal_refusal};
 ghost use Rattle.session_core.specs.Reasons.{expects, has_bad_receiver, has_bad_version, has_zero_time, HasEnded, is_acceptable, IsIn, proposes, tells_error, tells_shutdown};
 ghost use Rattle.session_core.specs.Session.{view_of};
 ghost use Rattle.session_core.specs.State.{IsKept, Stands, in_phase, is_active};
-ghost use Rattle.session_core.specs.Table.{after, judged, notified, reason_in, Received, replies_of, said, view_after};
+ghost use Rattle.session_core.specs.Table.{after, judged, notified, reason_in, Received, replies_of, said_replies, view_after};
 
 use crate::endings::{ended, reason_in, refused_proposal, unexpected};
 use crate::parameters::refusal_of;
@@ -50,7 +50,7 @@ impl In<OpenSent> {
     /// fatal Notification.
     pub fn on_message(self, message: &Message) -> (Session, Replies)
         ensures session { view_of result.0 ≡ after phase.OpenSent self (Received message.now) }
-        ensures replies { result.1 ≡ said phase.OpenSent self (Received message.now) }
+        ensures replies { result.1 ≡ said_replies phase.OpenSent self (Received message.now) }
         ensures accepts { IsIn result.0 name.OpenRec ↔ IsTrue (proposes (is_acceptable self.peers) message.now) }
         ensures bad_version { HasEnded result.0 Reason.BadVersion ↔ IsTrue (proposes has_bad_version message.now) }
         ensures bad_receiver { HasEnded result.0 Reason.BadReceiver ↔ IsTrue (proposes (has_bad_receiver self.peers) message.now) }
@@ -65,7 +65,7 @@ impl In<OpenSent> {
     // The row of a message.
     fn by_row(self, message: &Message) -> (Session, Replies)
         ensures session { view_of result.0 ≡ after phase.OpenSent self (Received message.now) }
-        ensures replies { result.1 ≡ said phase.OpenSent self (Received message.now) }
+        ensures replies { result.1 ≡ said_replies phase.OpenSent self (Received message.now) }
     {
         match message {
             Message::Notification { status, .. } => self.on_notification(status),
@@ -87,8 +87,8 @@ impl In<OpenSent> {
 
     // What comes of a proposal in the message.
     fn on_proposal(self, message: &Message, params: &SessionParams) -> (Session, Replies)
-        ensures session { view_of result.0 ≡ view_after (in_phase phase.OpenSent self) (judged (refusal_of self.peers params.now) (in_phase phase.OpenSent self) message.now params.now (reply.KeepAlive ∷ [])) }
-        ensures replies { result.1 ≡ replies_of (judged (refusal_of self.peers params.now) (in_phase phase.OpenSent self) message.now params.now (reply.KeepAlive ∷ [])) }
+        ensures session { view_of result.0 ≡ view_after (in_phase phase.OpenSent self) (judged (proposal_refusal self.peers params.now) (in_phase phase.OpenSent self) message.now params.now (reply.KeepAlive ∷ [])) }
+        ensures replies { result.1 ≡ replies_of (judged (proposal_refusal self.peers params.now) (in_phase phase.OpenSent self) message.now params.now (reply.KeepAlive ∷ [])) }
     {
         let standing = self.standing();
         match refusal_of(&standing.peers, params) {

@@ -5,7 +5,7 @@ ghost use Rattle.session_core.specs.Phase as phase;
 ghost use Rattle.session_core.specs.Reasons.{expects, HasEnded, is_fatal, IsIn, tells_error, tells_shutdown};
 ghost use Rattle.session_core.specs.Session.{view_of};
 ghost use Rattle.session_core.specs.State.{IsKept, Stands, in_phase, is_active};
-ghost use Rattle.session_core.specs.Table.{after, notified, reason_in, Received, replies_of, said, view_after};
+ghost use Rattle.session_core.specs.Table.{after, notified, reason_in, Received, replies_of, said_replies, view_after};
 
 use crate::endings::{ended, ended_with, reason_in};
 use crate::notice::{SHUTDOWN, about};
@@ -46,7 +46,7 @@ impl In<Operational> {
     /// the session.
     pub fn on_message(self, message: &Message) -> (Session, Replies)
         ensures session { view_of result.0 ≡ after phase.Operational self (Received message.now) }
-        ensures replies { result.1 ≡ said phase.Operational self (Received message.now) }
+        ensures replies { result.1 ≡ said_replies phase.Operational self (Received message.now) }
         ensures unexpected { HasEnded result.0 Reason.Unexpected ↔ (expects phase.Operational (is_active self.peers) message.now ≡ false) }
         ensures stays { IsIn result.0 name.Operational ↔ (is_fatal message.now ≡ false) }
         ensures peer_shutdown { HasEnded result.0 Reason.PeerShutdown ↔ IsTrue (tells_shutdown message.now) }
@@ -58,7 +58,7 @@ impl In<Operational> {
     // The row of a message.
     fn by_row(self, message: &Message) -> (Session, Replies)
         ensures session { view_of result.0 ≡ after phase.Operational self (Received message.now) }
-        ensures replies { result.1 ≡ said phase.Operational self (Received message.now) }
+        ensures replies { result.1 ≡ said_replies phase.Operational self (Received message.now) }
     {
         match message {
             Message::Notification { status, .. } => self.on_notification(message, status),

@@ -1,6 +1,6 @@
 //! The parameters of a session (RFC 5036 section 3.5.3).
 ghost use Rattle.std.specs.Prelude.{◌≡◌, ◌≤◌};
-ghost use Rattle.session_core.specs.Parameters.{is_platform, longest, refusal_of};
+ghost use Rattle.session_core.specs.Parameters.{is_platform, longest, proposal_refusal};
 
 use crate::Peers;
 use crate::refusal::Refusal;
@@ -22,7 +22,7 @@ pub fn is_platform(router: Addr, id: LdpId) -> bool
 
 /// Why the proposal is refused, the first of the three that holds; `None` where it is acceptable (RFC 5036 section 3.5.3).
 pub fn refusal_of(peers: &Peers, params: &SessionParams) -> Option<Refusal>
-    ensures { result ≡ refusal_of peers.now params.now }
+    ensures { result ≡ proposal_refusal peers.now params.now }
 {
     if params.version != 1 {
         return Some(Refusal::Version);

@@ -1,6 +1,6 @@
 //! Why a proposal is refused.
 ghost use Rattle.std.specs.Prelude.{◌≡◌};
-ghost use Rattle.session_core.specs.Parameters.{reason_of};
+ghost use Rattle.session_core.specs.Parameters.{refusal_reason};
 ghost use Rattle.session_core.specs.Table.{data_refusing};
 
 use crate::notice::{BAD_KEEP_ALIVE_TIME, BAD_PROTOCOL_VERSION, NO_HELLO};
@@ -20,7 +20,7 @@ pub enum Refusal {
 impl Refusal {
     /// The reason for which the session ends.
     pub fn reason(self) -> Reason
-        ensures { result ≡ reason_of self }
+        ensures { result ≡ refusal_reason self }
     {
         match self {
             Refusal::Version => Reason::BadVersion,

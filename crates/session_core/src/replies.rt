@@ -15,15 +15,15 @@ pub struct Replies {
 impl Model for Replies {
     ghost use Rattle.std.specs.Prelude.{List};
     ghost use Rattle.session_core.specs.declared.reply.Reply.{Reply};
-    ghost use Rattle.session_core.specs.Replies.{replies_in, held_of, held_again};
+    ghost use Rattle.session_core.specs.Replies.{replies_in, held_replies, held_replies_again};
 
     ghost Value = { List Reply };
 
     ghost view = { λ r. replies_in r.held };
 
-    ghost inverse = { λ replies. record { held = held_of replies } };
+    ghost inverse = { λ replies. record { held = held_replies replies } };
 
-    ghost inverse_ok = { λ a h i. record { held = held_again a.held i } };
+    ghost inverse_ok = { λ a h i. record { held = held_replies_again a.held i } };
 }
 
 impl Replies {

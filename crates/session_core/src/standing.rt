@@ -1,6 +1,6 @@
 //! What a session that stands has, in each of its states.
 ghost use Rattle.std.specs.Prelude.{◌≡◌, ◌<◌, ◌+◌, ◌^◌, ◌↔◌, ◌&&◌, [], ◌∷◌, IfSome, IfNone, None, min, false, true, nat_le, if◌then◌else◌};
-ghost use Rattle.session_core.specs.Parameters.{is_platform, longest, refusal_of};
+ghost use Rattle.session_core.specs.Parameters.{is_platform, longest, proposal_refusal};
 ghost use Rattle.session_core.specs.Phase as phase;
 ghost use Rattle.session_core.specs.State.{IsKept, IsProper, in_phase, opened};
 ghost use Rattle.session_core.specs.Table.{one_more, third};
@@ -46,7 +46,7 @@ impl Standing {
     pub(crate) fn agreed(self, params: &SessionParams) -> Standing
         requires proper { IsProper self.peers }
         requires waiting { self.wait < self.peers.keepalive }
-        requires acceptable { refusal_of self.peers params.now ≡ None }
+        requires acceptable { proposal_refusal self.peers params.now ≡ None }
         ensures state { result ≡ record self { hold = min self.peers.keepalive params.now.keepalive; max_pdu = min self.peers.max_pdu (longest params.now.max_pdu) } }
         ensures agreed { IsKept phase.OpenRec result }
     {

@@ -4,7 +4,7 @@ use Rattle.std.specs.List.{list_any, position_or_len}
 use Rattle.std.proofs.lemmas.Bool.Decides.{nat_tests}
 use Rattle.std.proofs.lemmas.List.Folds.{list_any_more}
 use Rattle.spoke_redundancy.specs.declared.spoke.Spoke.{Spoke}
-use Rattle.spoke_redundancy.specs.Choice.{chosen, is_best, is_usable}
+use Rattle.spoke_redundancy.specs.Choice.{chosen, is_best, is_usable_spoke}
 use Rattle.spoke_redundancy.specs.Least.{IsLeast, is_least, is_less, is_usable_below}
 
 -- the least number of one spoke more
@@ -37,11 +37,11 @@ position_none test spokes = by (nat_lt (position_or_len test spokes) (length spo
   by false any = (λ none. any, λ none. refl)
 
 -- where some spoke is usable below a number, some one is usable
-some_usable : (number : ℕ) (spokes : List Spoke) → list_any (is_usable_below number) spokes ≡ true → list_any is_usable spokes ≡ true
+some_usable : (number : ℕ) (spokes : List Spoke) → list_any (is_usable_below number) spokes ≡ true → list_any is_usable_spoke spokes ≡ true
 some_usable number [] some = some
 some_usable number (spoke ∷ spokes) some = by spoke.usable (some_usable number spokes) some where
-  by : (b : Bool) → (list_any (is_usable_below number) spokes ≡ true → list_any is_usable spokes ≡ true)
-      → ((b && nat_lt spoke.priority number) || list_any (is_usable_below number) spokes) ≡ true → (b || list_any is_usable spokes) ≡ true
+  by : (b : Bool) → (list_any (is_usable_below number) spokes ≡ true → list_any is_usable_spoke spokes ≡ true)
+      → ((b && nat_lt spoke.priority number) || list_any (is_usable_below number) spokes) ≡ true → (b || list_any is_usable_spoke spokes) ≡ true
   by true rest some = refl
   by false rest some = rest some
 
@@ -51,21 +51,21 @@ least_below least spoke = ap (λ b. spoke.usable && b) by where
   by : not (nat_lt least spoke.priority) ≡ nat_lt spoke.priority (least + 1)
   by = grind (arith, nat_tests)
 
-usable_least : (spoke : Spoke) → is_least None spoke ≡ is_usable spoke
+usable_least : (spoke : Spoke) → is_least None spoke ≡ is_usable_spoke spoke
 usable_least spoke = by spoke.usable where
   by : (b : Bool) → (b && true) ≡ b
   by true = refl
   by false = refl
 
 -- one has the least number exactly where one is usable
-least_held : (spokes : List Spoke) (least : Option ℕ) → IsLeast spokes least → list_any (is_least least) spokes ≡ list_any is_usable spokes
+least_held : (spokes : List Spoke) (least : Option ℕ) → IsLeast spokes least → list_any (is_least least) spokes ≡ list_any is_usable_spoke spokes
 least_held spokes None is = ap (λ (test : Spoke → Bool). list_any test spokes) (λ j spoke. usable_least spoke j)
 least_held spokes (Some least) is =
     let below : list_any (is_usable_below (least + 1)) spokes ≡ true = is.below (least + 1) ∙ grind (arith, nat_tests) in
     ap (λ (test : Spoke → Bool). list_any test spokes) (λ j spoke. least_below least spoke j) ∙ below ∙ sym (some_usable (least + 1) spokes below)
 
-pub none_is : (spokes : List Spoke) (least : Option ℕ) → IsLeast spokes least → (position (is_least least) spokes ≡ None) ↔ (list_any is_usable spokes ≡ false)
+pub none_is : (spokes : List Spoke) (least : Option ℕ) → IsLeast spokes least → (position (is_least least) spokes ≡ None) ↔ (list_any is_usable_spoke spokes ≡ false)
 none_is spokes least is =
-    let same : list_any (is_least least) spokes ≡ list_any is_usable spokes = least_held spokes least is in
+    let same : list_any (is_least least) spokes ≡ list_any is_usable_spoke spokes = least_held spokes least is in
     let found : (position (is_least least) spokes ≡ None) ↔ (list_any (is_least least) spokes ≡ false) = position_none (is_least least) spokes in
     (λ none. sym same ∙ found.0 none, λ none. found.1 (same ∙ none))

@@ -3,8 +3,8 @@ use Rattle.std.specs.Prelude.{◌&&◌, not, nat_lt, ℕ, Bool, List, Option, po
 use Rattle.std.specs.List.{list_any}
 use Rattle.spoke_redundancy.specs.declared.spoke.Spoke.{Spoke}
 
-abbrev pub is_usable : Spoke → Bool
-is_usable spoke = spoke.usable
+abbrev pub is_usable_spoke : Spoke → Bool
+is_usable_spoke spoke = spoke.usable
 
 -- the other spoke is usable, and its priority number is less
 abbrev pub comes_before : Spoke → Spoke → Bool

@@ -1,7 +1,7 @@
 //! The choice of a spoke.
 ghost use Rattle.std.specs.Prelude.{◌≡◌, ◌||◌, ◌↔◌, ℕ, false, None, position};
 ghost use Rattle.std.specs.List.{list_any};
-ghost use Rattle.spoke_redundancy.specs.Choice.{chosen, is_usable};
+ghost use Rattle.spoke_redundancy.specs.Choice.{chosen, is_usable_spoke};
 ghost use Rattle.spoke_redundancy.specs.Least.{IsLeast, is_least, is_less, is_usable_below};
 
 use crate::Spoke;
@@ -11,7 +11,7 @@ use crate::Spoke;
 #[tactic(auto, using(crate::proofs::ChoiceLemmas::chosen_is, crate::proofs::ChoiceLemmas::none_is))]
 pub fn choose(spokes: &[Spoke]) -> Option<usize>
     ensures chosen { result ≡ chosen spokes.now }
-    ensures none { result ≡ None ↔ list_any is_usable spokes.now ≡ false }
+    ensures none { result ≡ None ↔ list_any is_usable_spoke spokes.now ≡ false }
 {
     let least = least_priority(spokes);
     first_of(spokes, least)

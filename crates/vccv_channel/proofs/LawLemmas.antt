@@ -10,8 +10,9 @@ use Rattle.vccv_channel.specs.declared.echo.Echo.{Echo}
 use Rattle.vccv_channel.specs.declared.echo.Echo.TheVariants.{Request, Answer}
 use Rattle.vccv_channel.specs.declared.ping.Ping.{Ping}
 use Rattle.vccv_channel.specs.Channel.{has_header, payload}
-use Rattle.vccv_channel.specs.Checksum.{ones_sum, summed, IsSummed, AreOctets}
-use Rattle.vccv_channel.specs.Echo.{request_packet, answer_packet, answer_header, answer_message, source, destination, IsPing, IsAnswerTo}
+use Rattle.vccv_channel.specs.Checksum.{ones_sum, summed, IsSummed}
+use Rattle.net_values.specs.Octets.{AreOctets}
+use Rattle.vccv_channel.specs.Echo.{request_packet, answer_packet, answer_header, answer_message, echo_source, echo_destination, IsPing, IsAnswerTo}
 use Rattle.vccv_channel.specs.Reading.{is_ip_packet, has_sums, is_echo, total_length, reading, behind_header, IsRequest}
 use Rattle.vccv_channel.proofs.OctetLemmas.{octets_none, octets_cons, octets_append, octets_take, octets_drop, pair_take}
 use Rattle.vccv_channel.proofs.SumLemmas.{summed_is, word_of}
@@ -60,14 +61,14 @@ header_front_octets : (ip : List ℕ) → AreOctets ip → AreOctets (take 8 ip 
 header_front_octets ip octets =
     octets_append (take 8 ip) (255 ∷ get_or ip 9 0 ∷ []) (octets_take 8 ip octets) (octets_cons 255 (get_or ip 9 0 ∷ []) (omega arith) (octets_cons (get_or ip 9 0) [] (octets 9) octets_none))
 
-addresses_octets : (ip : List ℕ) → AreOctets ip → AreOctets (destination ip ++ source ip)
+addresses_octets : (ip : List ℕ) → AreOctets ip → AreOctets (echo_destination ip ++ echo_source ip)
 addresses_octets ip octets =
-    octets_append (destination ip) (source ip) (octets_take 4 (drop 16 ip) (octets_drop 16 ip octets)) (octets_take 4 (drop 12 ip) (octets_drop 12 ip octets))
+    octets_append (echo_destination ip) (echo_source ip) (octets_take 4 (drop 16 ip) (octets_drop 16 ip octets)) (octets_take 4 (drop 12 ip) (octets_drop 12 ip octets))
 
 header_summed : (ip : List ℕ) → AreOctets ip → length (take 8 ip) ≡ 8 → IsSummed (answer_header ip)
 header_summed ip octets size =
     let even : length (take 8 ip ++ (255 ∷ get_or ip 9 0 ∷ [])) % 2 ≡ 0 = omega (arith, length-append (take 8 ip) (255 ∷ get_or ip 9 0 ∷ [])) in
-    summed_is (take 8 ip ++ (255 ∷ get_or ip 9 0 ∷ [])) (destination ip ++ source ip) (header_front_octets ip octets) (addresses_octets ip octets) even
+    summed_is (take 8 ip ++ (255 ∷ get_or ip 9 0 ∷ [])) (echo_destination ip ++ echo_source ip) (header_front_octets ip octets) (addresses_octets ip octets) even
 
 message_summed : (ip : List ℕ) → AreOctets ip → IsSummed (answer_message ip)
 message_summed ip octets =

@@ -4,7 +4,7 @@ use Rattle.std.proofs.lemmas.List.{get_or-drop, get_or-take, length-take-le}
 use Rattle.std.proofs.lemmas.Slice.{drop-append-drop}
 use Rattle.std.proofs.Math.Seq.{take-append_seam}
 use Rattle.net_base.specs.trace.Frame.{pair_at}
-use Rattle.vccv_channel.specs.Checksum.{AreOctets}
+use Rattle.net_values.specs.Octets.{AreOctets}
 
 -- a piece that is written behind what was made stands behind it, and the rest is as it was
 pub added_behind : (base made piece one two : List ℕ) (at end : ℕ) → one ≡ made ++ drop at base → at ≡ length made → end ≡ at + length piece → two ≡ (take at one ++ piece) ++ drop end one → two ≡ (made ++ piece) ++ drop end base

@@ -11,12 +11,12 @@ use Rattle.vccv_channel.specs.declared.echo.Echo.TheVariants.{Request, Answer}
 use Rattle.vccv_channel.specs.declared.vccv_fault.VccvFault.{VccvFault}
 use Rattle.vccv_channel.specs.declared.vccv_fault.VccvFault.TheVariants.{Version, Channel, Ip, Checksum, Icmp}
 use Rattle.vccv_channel.specs.Channel.{has_header, payload}
-use Rattle.vccv_channel.specs.Echo.{source, destination}
-use Rattle.vccv_channel.specs.Reading.{is_whole_icmp, is_of_length, is_ip_packet, has_sums, is_echo, behind_header, total_length, packet_of, has_fault, unless, echo_in, reading}
+use Rattle.vccv_channel.specs.Echo.{echo_source, echo_destination}
+use Rattle.vccv_channel.specs.Reading.{is_whole_icmp, is_of_length, is_ip_packet, has_sums, is_echo, behind_header, total_length, ip_packet_of, has_fault, unless_fault, echo_in, reading}
 use Rattle.vccv_channel.proofs.OctetLemmas.{pair_take}
 
 -- where a value is read, none of five tests found a fault
-none_found : (a b c d e : Bool) (f g h i j : VccvFault) (x y : Echo) → unless (cond a (Some f) (cond b (Some g) (cond c (Some h) (cond d (Some i) (cond e (Some j) None))))) x ≡ Ok y
+none_found : (a b c d e : Bool) (f g h i j : VccvFault) (x y : Echo) → unless_fault (cond a (Some f) (cond b (Some g) (cond c (Some h) (cond d (Some i) (cond e (Some j) None))))) x ≡ Ok y
     → (c ≡ false) × (d ≡ false) × (e ≡ false) × (x ≡ y)
 none_found true b c d e f g h i j x y w = cc
 none_found false true c d e f g h i j x y w = cc
@@ -66,7 +66,7 @@ read_as channel number octets from to sequence len e =
     let is : is_ip_packet q ≡ true = not_false (is_ip_packet q) none.0 in
     let sized = both_true (is_whole_icmp q) (is_of_length q) is in
     let bounds = of_length (total_length q) (length q) sized.1 in
-    let told = request_says (get_or p 20 0 == 8) (record { 0 = source p }) (record { 0 = destination p }) from to (pair_at p 26) sequence (total_length p) len (pair_at p 26) none.3 in
+    let told = request_says (get_or p 20 0 == 8) (record { 0 = echo_source p }) (record { 0 = echo_destination p }) from to (pair_at p 26) sequence (total_length p) len (pair_at p 26) none.3 in
     let count : total_length p ≡ total_length q = pair_take (total_length q) q 2 (omega (arith, bounds.0)) in
     let last : pair_at p 26 ≡ pair_at q 26 = pair_take (total_length q) q 26 (omega (arith, bounds.0)) in
     record {
@@ -128,17 +128,17 @@ unfolding reading
 reads_ip channel number octets version kind ip = rw (version, kind, ip) refl
 
 pub reads_checksum : (channel : Bool) (number : ℕ) (octets : List ℕ) → has_fault channel number octets Version ≡ false → has_fault channel number octets Channel ≡ false
-    → is_ip_packet (behind_header channel octets) ≡ true → has_sums (packet_of channel octets) ≡ false → Err Checksum ≡ reading channel number octets
+    → is_ip_packet (behind_header channel octets) ≡ true → has_sums (ip_packet_of channel octets) ≡ false → Err Checksum ≡ reading channel number octets
 unfolding reading
 reads_checksum channel number octets version kind ip sums = rw (version, kind, ip, sums) refl
 
 pub reads_icmp : (channel : Bool) (number : ℕ) (octets : List ℕ) → has_fault channel number octets Version ≡ false → has_fault channel number octets Channel ≡ false
-    → is_ip_packet (behind_header channel octets) ≡ true → has_sums (packet_of channel octets) ≡ true → is_echo number (packet_of channel octets) ≡ false → Err Icmp ≡ reading channel number octets
+    → is_ip_packet (behind_header channel octets) ≡ true → has_sums (ip_packet_of channel octets) ≡ true → is_echo number (ip_packet_of channel octets) ≡ false → Err Icmp ≡ reading channel number octets
 unfolding reading
 reads_icmp channel number octets version kind ip sums echo = rw (version, kind, ip, sums, echo) refl
 
 pub reads_echo : (channel : Bool) (number : ℕ) (octets : List ℕ) → has_fault channel number octets Version ≡ false → has_fault channel number octets Channel ≡ false
-    → is_ip_packet (behind_header channel octets) ≡ true → has_sums (packet_of channel octets) ≡ true → is_echo number (packet_of channel octets) ≡ true → Ok (echo_in (packet_of channel octets)) ≡ reading channel number octets
+    → is_ip_packet (behind_header channel octets) ≡ true → has_sums (ip_packet_of channel octets) ≡ true → is_echo number (ip_packet_of channel octets) ≡ true → Ok (echo_in (ip_packet_of channel octets)) ≡ reading channel number octets
 unfolding reading
 reads_echo channel number octets version kind ip sums echo = rw (version, kind, ip, sums, echo) refl
 

@@ -1,6 +1,7 @@
 -- Sums in ones' complement.
 use Rattle.std.proofs.Common.{◌≡◌, ◌<◌, ◌+◌, ◌-◌, ◌*◌, ◌/◌, ◌%◌, ◌++◌, ◌∙◌, ℕ, suc, List, [], ◌∷◌, length, refl, sym, ap, arith}
-use Rattle.vccv_channel.specs.Checksum.{ones_plus, ones_sum, summed, IsSummed, AreOctets}
+use Rattle.vccv_channel.specs.Checksum.{ones_plus, ones_sum, summed, IsSummed}
+use Rattle.net_values.specs.Octets.{AreOctets}
 
 plus_fits : (a b : ℕ) → a < 65536 → b < 65536 → ones_plus a b < 65536
 unfolding ones_plus

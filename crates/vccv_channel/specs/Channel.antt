@@ -1,6 +1,7 @@
 -- What stands before the IPv4 packet of a ping, for each type of control channel (RFC 5085 section 5.1).
 use Rattle.std.specs.Prelude.{◌+◌, ◌++◌, ℕ, Bool, true, false, List, [], ◌∷◌}
-use Rattle.vccv_channel.specs.LabelStack.{stack_entry, router_alert}
+use Rattle.vccv_channel.specs.LabelStack.{stack_entry}
+use Rattle.net_values.specs.Label.{router_alert}
 use Rattle.vccv_channel.specs.declared.cc.Cc.{Cc}
 use Rattle.vccv_channel.specs.declared.cc.Cc.TheVariants.{Header, Alert, Expiry}
 

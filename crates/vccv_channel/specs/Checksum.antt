@@ -1,5 +1,5 @@
 -- The Internet checksum (RFC 1071 section 1).
-use Rattle.std.specs.Prelude.{◌≡◌, ◌<◌, ◌+◌, ◌*◌, ◌-◌, ◌/◌, ◌%◌, ◌++◌, ℕ, List, [], ◌∷◌, slice_index}
+use Rattle.std.specs.Prelude.{◌≡◌, ◌+◌, ◌*◌, ◌-◌, ◌/◌, ◌%◌, ◌++◌, ℕ, List, [], ◌∷◌}
 use Rattle.byteorder.specs.Endian.{big_bytes}
 
 -- the octets as words of sixteen bits; one last octet alone is the high half of a word
@@ -28,7 +28,3 @@ IsSummed octets = ones_sum octets ≡ 65535
 -- checksum counts as 0 (RFC 791 section 3.1, RFC 792)
 abbrev pub summed : List ℕ → List ℕ → List ℕ
 summed front back = front ++ (big_bytes 2 (65535 - ones_sum (front ++ (0 ∷ 0 ∷ back))) ++ back)
-
--- each is an octet
-abbrev pub AreOctets : List ℕ → Type 0
-AreOctets octets = (at : ℕ) → slice_index octets at < 256

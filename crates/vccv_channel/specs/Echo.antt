@@ -1,7 +1,8 @@
 -- The IPv4 packets of a ping and of its answer (RFC 5085 section 5.2.1, RFC 791 section 3.1, RFC 792).
 use Rattle.std.specs.Prelude.{◌≡◌, ◌<◌, ◌^◌, ◌++◌, ℕ, List, [], ◌∷◌, length, take, drop, slice_index}
 use Rattle.byteorder.specs.Endian.{big_bytes}
-use Rattle.vccv_channel.specs.Checksum.{summed, IsSummed, AreOctets}
+use Rattle.vccv_channel.specs.Checksum.{summed, IsSummed}
+use Rattle.net_values.specs.Octets.{AreOctets}
 use Rattle.vccv_channel.specs.declared.ping.Ping.{Ping}
 
 -- version 4 with a header of five words, total length 28, identification 0, no fragment, TTL 255, protocol ICMP
@@ -16,15 +17,15 @@ request_message ping = summed (8 ∷ 0 ∷ []) (big_bytes 2 ping.number ++ big_b
 abbrev pub request_packet : Ping → List ℕ
 request_packet ping = request_header ping ++ request_message ping
 
-abbrev pub source : List ℕ → List ℕ
-source ip = take 4 (drop 12 ip)
+abbrev pub echo_source : List ℕ → List ℕ
+echo_source ip = take 4 (drop 12 ip)
 
-abbrev pub destination : List ℕ → List ℕ
-destination ip = take 4 (drop 16 ip)
+abbrev pub echo_destination : List ℕ → List ℕ
+echo_destination ip = take 4 (drop 16 ip)
 
 -- the header of the request with TTL 255, its addresses exchanged and its checksum made anew
 abbrev pub answer_header : List ℕ → List ℕ
-answer_header ip = summed (take 8 ip ++ (255 ∷ slice_index ip 9 ∷ [])) (destination ip ++ source ip)
+answer_header ip = summed (take 8 ip ++ (255 ∷ slice_index ip 9 ∷ [])) (echo_destination ip ++ echo_source ip)
 
 -- the message of the request as an echo reply, with its checksum made anew
 abbrev pub answer_message : List ℕ → List ℕ
@@ -47,8 +48,8 @@ pub record IsAnswerTo (request answer : List ℕ) : Type 0 where
   pub before_ttl : take 8 answer ≡ take 8 request
   pub ttl : slice_index answer 8 ≡ 255
   pub protocol : slice_index answer 9 ≡ slice_index request 9
-  pub from : source answer ≡ destination request
-  pub to : destination answer ≡ source request
+  pub from : echo_source answer ≡ echo_destination request
+  pub to : echo_destination answer ≡ echo_source request
   pub kind : slice_index answer 20 ≡ 0
   pub code : slice_index answer 21 ≡ slice_index request 21
   pub rest : drop 24 answer ≡ drop 24 request

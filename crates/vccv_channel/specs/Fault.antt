@@ -5,10 +5,10 @@ use Rattle.vccv_channel.specs.declared.vccv_fault.VccvFault.{VccvFault}
 use Rattle.vccv_channel.specs.declared.vccv_fault.VccvFault.TheVariants as fault
 
 -- the cause of the same name
-abbrev pub cause_of : VccvFault → DropCause
-cause_of fault.Version = cause.Version
-cause_of fault.Channel = cause.Channel
-cause_of fault.Ip = cause.Ip
-cause_of fault.Checksum = cause.Checksum
-cause_of fault.Icmp = cause.Icmp
-cause_of fault.NotOffered = cause.NotOffered
+abbrev pub vccv_cause_of : VccvFault → DropCause
+vccv_cause_of fault.Version = cause.Version
+vccv_cause_of fault.Channel = cause.Channel
+vccv_cause_of fault.Ip = cause.Ip
+vccv_cause_of fault.Checksum = cause.Checksum
+vccv_cause_of fault.Icmp = cause.Icmp
+vccv_cause_of fault.NotOffered = cause.NotOffered

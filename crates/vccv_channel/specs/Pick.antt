@@ -19,15 +19,15 @@ abbrev pub offers_ping : ℕ → Bool
 offers_ping verifications = bit_at verifications 0 == 1
 
 -- a control word makes type 1 the only one; a Router Alert label does not pass a switching point
-abbrev pub is_usable : Bool → ℕ → Cc → Bool
-is_usable cword points Header = cword
-is_usable cword points Alert = not cword && (points == 0)
-is_usable cword points Expiry = not cword
+abbrev pub is_usable_type : Bool → ℕ → Cc → Bool
+is_usable_type cword points Header = cword
+is_usable_type cword points Alert = not cword && (points == 0)
+is_usable_type cword points Expiry = not cword
 
 -- the first in this order that can be used and that both ends offer
 abbrev pub shared : Bool → ℕ → ℕ → ℕ → Option Cc
 shared cword points own told =
-    find (λ kind. is_usable cword points kind && (offers own kind && offers told kind)) (Header ∷ Alert ∷ Expiry ∷ [])
+    find (λ kind. is_usable_type cword points kind && (offers own kind && offers told kind)) (Header ∷ Alert ∷ Expiry ∷ [])
 
 -- an end that tells control channel types tells ping with them; the other has to tell it too
 abbrev pub picked : Option ℕ → Option (ℕ × ℕ) → Bool → ℕ → Option Cc

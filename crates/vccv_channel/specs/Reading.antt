@@ -4,7 +4,7 @@ use Rattle.std.specs.List.{find}
 use Rattle.net_values.specs.declared.addr.Addr.{Addr}
 use Rattle.net_base.specs.trace.Frame.{pair_at}
 use Rattle.vccv_channel.specs.Checksum.{ones_sum}
-use Rattle.vccv_channel.specs.Echo.{source, destination}
+use Rattle.vccv_channel.specs.Echo.{echo_source, echo_destination}
 use Rattle.vccv_channel.specs.declared.echo.Echo.{Echo}
 use Rattle.vccv_channel.specs.declared.echo.Echo.TheVariants.{Request, Answer}
 use Rattle.vccv_channel.specs.declared.vccv_fault.VccvFault.{VccvFault}
@@ -39,8 +39,8 @@ abbrev pub is_ip_packet : List ℕ → Bool
 is_ip_packet octets = is_whole_icmp octets && is_of_length octets
 
 -- the IPv4 packet of the payload, without what follows it
-abbrev pub packet_of : Bool → List ℕ → List ℕ
-packet_of channel payload = take (total_length (behind_header channel payload)) (behind_header channel payload)
+abbrev pub ip_packet_of : Bool → List ℕ → List ℕ
+ip_packet_of channel payload = take (total_length (behind_header channel payload)) (behind_header channel payload)
 
 -- the ones' complement sums of the header and of the ICMP message are all ones (RFC 1071 section 1)
 abbrev pub has_sums : List ℕ → Bool
@@ -56,28 +56,28 @@ abbrev pub has_fault : Bool → ℕ → List ℕ → VccvFault → Bool
 has_fault channel number payload Version = channel && not (has_version payload)
 has_fault channel number payload Channel = channel && not (is_ip_channel payload)
 has_fault channel number payload Ip = not (is_ip_packet (behind_header channel payload))
-has_fault channel number payload Checksum = not (has_sums (packet_of channel payload))
-has_fault channel number payload Icmp = not (is_echo number (packet_of channel payload))
+has_fault channel number payload Checksum = not (has_sums (ip_packet_of channel payload))
+has_fault channel number payload Icmp = not (is_echo number (ip_packet_of channel payload))
 has_fault channel number payload NotOffered = false
 
 -- the first in this order that it has
-abbrev pub first_fault : Bool → ℕ → List ℕ → Option VccvFault
-first_fault channel number payload = find (has_fault channel number payload) (Version ∷ Channel ∷ Ip ∷ Checksum ∷ Icmp ∷ [])
+abbrev pub first_vccv_fault : Bool → ℕ → List ℕ → Option VccvFault
+first_vccv_fault channel number payload = find (has_fault channel number payload) (Version ∷ Channel ∷ Ip ∷ Checksum ∷ Icmp ∷ [])
 
 -- what an echo packet says
 abbrev pub echo_in : List ℕ → Echo
 echo_in packet =
     if slice_index packet 20 == 8
-    then Request (record { 0 = source packet }) (record { 0 = destination packet }) (pair_at packet 26) (total_length packet)
+    then Request (record { 0 = echo_source packet }) (record { 0 = echo_destination packet }) (pair_at packet 26) (total_length packet)
     else Answer (pair_at packet 26)
 
-abbrev pub unless : Option VccvFault → Echo → Result Echo VccvFault
-unless None echo = Ok echo
-unless (Some fault) echo = Err fault
+abbrev pub unless_fault : Option VccvFault → Echo → Result Echo VccvFault
+unless_fault None echo = Ok echo
+unless_fault (Some fault) echo = Err fault
 
 -- what a payload is read as: what its packet says, unless it has a fault
 unfoldable pub reading : Bool → ℕ → List ℕ → Result Echo VccvFault
-reading channel number payload = unless (first_fault channel number payload) (echo_in (packet_of channel payload))
+reading channel number payload = unless_fault (first_vccv_fault channel number payload) (echo_in (ip_packet_of channel payload))
 
 -- an IPv4 packet, cut to its total length, that is read as an echo request
 pub record IsRequest (ip : List ℕ) : Type 0 where

@@ -5,7 +5,7 @@ ghost use Rattle.vccv_channel.specs.declared.cc.Cc.{Cc};
 ghost use Rattle.vccv_channel.specs.declared.ping.Ping.{Ping};
 ghost use Rattle.vccv_channel.specs.declared.echo.Echo.TheVariants.{Request, Answer};
 ghost use Rattle.vccv_channel.specs.Channel.{has_header, payload};
-ghost use Rattle.vccv_channel.specs.Checksum.{AreOctets};
+ghost use Rattle.net_values.specs.Octets.{AreOctets};
 ghost use Rattle.vccv_channel.specs.Echo.{request_packet, answer_packet, IsPing, IsAnswerTo};
 ghost use Rattle.vccv_channel.specs.Reading.{reading, IsRequest};
 

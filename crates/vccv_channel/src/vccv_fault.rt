@@ -1,6 +1,6 @@
 //! Why a packet in a control channel is refused.
 ghost use Rattle.std.specs.Prelude.{◌≡◌};
-ghost use Rattle.vccv_channel.specs.Fault.{cause_of};
+ghost use Rattle.vccv_channel.specs.Fault.{vccv_cause_of};
 
 use net_base::DropCause;
 use thiserror::Error;
@@ -31,7 +31,7 @@ pub enum VccvFault {
 impl VccvFault {
     /// The drop cause of the same name.
     pub fn cause(self) -> DropCause
-        ensures { result ≡ cause_of self }
+        ensures { result ≡ vccv_cause_of self }
     {
         match self {
             VccvFault::Version => DropCause::Version,

@@ -7,17 +7,17 @@ use Rattle.ldp_stream.proofs.ParsedLemmas.{one_parsing}
 use Rattle.scenario_text.specs.Document.{document}
 use Rattle.vplsnet.specs.declared.outcome.Outcome.{Outcome}
 use Rattle.vplsnet.specs.declared.outcome.Outcome.TheVariants.{Done, Usage, ReadFault, WriteFault, TooLong, ScenarioRefused, NotBuilt, Stopped, DecodeRefused, Unfinished, NoMemory}
-use Rattle.vplsnet.specs.Answers.{file_of, limit_of, Makes, IsEndOf, IsMade, IsWhole, IsCutShort, IsTooLong, Answers, CallsFor, IsTakenWhole, IsSound, Completes, IsUnread}
-use Rattle.vplsnet.specs.Around.{Files, Around, HasWriteFault, IsUntouched, Has, Tells}
+use Rattle.vplsnet.specs.Answers.{file_of, limit_of, Makes, IsEndOf, IsMade, IsWhole, IsCutShort, IsTooLong, SaysOutcome, CallsFor, IsTakenWhole, IsSoundOutcome, Completes, IsUnread}
+use Rattle.vplsnet.specs.Around.{Files, Around, HasWriteFault, IsUntouched, Has, TellsFile}
 use Rattle.vplsnet.specs.Asked.{Asked, Replay, Decode}
 use Rattle.vplsnet.specs.Decode.{IsDecoding, IsDecodedAs}
 use Rattle.vplsnet.specs.Files.{IsLonger, AppendsFront, Writes}
 use Rattle.vplsnet.specs.Replay.{Replays, built_outcome, outcome_by, replay_outcome, whole_run}
-use Rattle.vplsnet.specs.StreamText.{largest_pdu, outcome_of}
+use Rattle.vplsnet.specs.StreamText.{largest_pdu, outcome_of_ending}
 
 -- why a file was not had is an answer
 pub unread_answers : (around : Around) (asked : Asked) (network : Option NetLists) (outcome : Outcome)
-    → IsUnread around.files around.shelf_before around.shelf_after (file_of asked) (limit_of asked) outcome → IsUntouched around network → Answers around asked network outcome
+    → IsUnread around.files around.shelf_before around.shelf_after (file_of asked) (limit_of asked) outcome → IsUntouched around network → SaysOutcome around asked network outcome
 unread_answers around asked network Done unread untouched = absurd unread
 unread_answers around asked network Usage unread untouched = absurd unread
 unread_answers around asked network ReadFault unread untouched = (unread, untouched)
@@ -46,12 +46,12 @@ is_refusal (ScenarioRefused fault) = true
 is_refusal NotBuilt = true
 is_refusal outcome = false
 
-stream_own : (ending : Ending) → is_own (outcome_of ending) ≡ true
+stream_own : (ending : Ending) → is_own (outcome_of_ending ending) ≡ true
 stream_own (Pending at []) = refl
 stream_own (Pending at (octet ∷ rest)) = refl
 stream_own (Refused base fault) = refl
 
-stream_refuses_none : (ending : Ending) → is_refusal (outcome_of ending) ≡ false
+stream_refuses_none : (ending : Ending) → is_refusal (outcome_of_ending ending) ≡ false
 stream_refuses_none (Pending at []) = refl
 stream_refuses_none (Pending at (octet ∷ rest)) = refl
 stream_refuses_none (Refused base fault) = refl
@@ -74,7 +74,7 @@ makes_own (Replay file) octets text network outcome makes = replay_own octets te
 makes_own (Decode file) octets text network outcome makes = ap is_own makes.ends ∙ stream_own makes.ending
 
 -- what was made and taken whole is an answer
-pub whole_answers : (around : Around) (asked : Asked) (text : List ℕ) (network : Option NetLists) (outcome : Outcome) → IsMade around asked text network outcome → Writes around.taken_before around.taken_after text → Answers around asked network outcome
+pub whole_answers : (around : Around) (asked : Asked) (text : List ℕ) (network : Option NetLists) (outcome : Outcome) → IsMade around asked text network outcome → Writes around.taken_before around.taken_after text → SaysOutcome around asked network outcome
 whole_answers around asked text network Done made taken = record { text = text; made = made; taken = taken }
 whole_answers around asked text network Usage made taken = absurd (cc (makes_own asked made.octets text network Usage made.makes))
 whole_answers around asked text network ReadFault made taken = absurd (cc (makes_own asked made.octets text network ReadFault made.makes))
@@ -88,14 +88,14 @@ whole_answers around asked text network (Unfinished at) made taken = record { te
 whole_answers around asked text network NoMemory made taken = absurd (cc (makes_own asked made.octets text network NoMemory made.makes))
 
 -- a told file has one content
-same_octets : (files : Files) (name octets other : List ℕ) → Tells files name octets → Has files name other → octets ≡ other
+same_octets : (files : Files) (name octets other : List ℕ) → TellsFile files name octets → Has files name other → octets ≡ other
 same_octets None name octets other tells told = absurd (cc (tells.told))
 same_octets (Some held) name octets other tells told =
     let same : held ≡ tells.held = cc (tells.told) in
     let both : Some octets ≡ Some other = sym tells.has ∙ (sym (ap (λ (h : List ℕ → Option (List ℕ)). h name) same) ∙ told) in
     cc (both)
 
-longer_octets : (files : Files) (name octets : List ℕ) (limit : ℕ) → Tells files name octets → IfSome files (λ held. IsLonger limit (held name)) → limit < length octets
+longer_octets : (files : Files) (name octets : List ℕ) (limit : ℕ) → TellsFile files name octets → IfSome files (λ held. IsLonger limit (held name)) → limit < length octets
 longer_octets None name octets limit tells longer = absurd (cc (tells.told))
 longer_octets (Some held) name octets limit tells longer =
     let same : octets ≡ longer.bytes = same_octets (Some held) name octets longer.bytes tells longer.held in
@@ -120,7 +120,7 @@ replay_end octets text network NoMemory called makes is = absurd makes
 decode_end : (octets text : List ℕ) (network : Option NetLists) (outcome called : Outcome) → IsDecoding octets text network outcome → IsDecodedAs octets called → outcome ≡ called
 decode_end octets text network outcome called makes end =
     let same = (one_parsing.one 0 largest_pdu octets makes.text_is.pdus end.pdus makes.ending end.ending (omega arith) makes.text_is.parsed end.parsed).ending_is in
-    makes.ends ∙ (ap outcome_of same ∙ sym end.ends)
+    makes.ends ∙ (ap outcome_of_ending same ∙ sym end.ends)
 
 makes_end : (asked : Asked) (octets text : List ℕ) (network : Option NetLists) (outcome called : Outcome) → Makes asked octets text network outcome → IsEndOf asked octets called → outcome ≡ called
 makes_end (Replay file) octets text network outcome called makes end = replay_end octets text network outcome called makes end
@@ -130,7 +130,7 @@ called_end : (asked : Asked) (octets text : List ℕ) (network : Option NetLists
 called_end asked octets text network outcome called fits makes (inl long) = absurd (omega (arith, fits, long.0))
 called_end asked octets text network outcome called fits makes (inr end) = makes_end asked octets text network outcome called makes end.1
 
-same_end : (around : Around) (asked : Asked) (text : List ℕ) (network : Option NetLists) (outcome called : Outcome) → IsMade around asked text network outcome → IsSound around asked called → outcome ≡ called
+same_end : (around : Around) (asked : Asked) (text : List ℕ) (network : Option NetLists) (outcome called : Outcome) → IsMade around asked text network outcome → IsSoundOutcome around asked called → outcome ≡ called
 same_end around asked text network outcome called made sound =
     let same : made.octets ≡ sound.octets = sym (same_octets around.files (file_of asked) sound.octets made.octets sound.tells made.has) in
     let calls : CallsFor asked made.octets called = subst (λ (l : List ℕ). CallsFor asked l called) (sym same) sound.calls in
@@ -170,7 +170,7 @@ needs_sink around (DecodeRefused fault) written cause = absurd (written cause)
 needs_sink around (Unfinished at) written cause = absurd (written cause)
 needs_sink around NoMemory written cause = absurd (written cause)
 
-cut_never : (around : Around) (asked : Asked) (network : Option NetLists) (called : Outcome) → IsCutShort around asked network → IsSound around asked called → ⊥
+cut_never : (around : Around) (asked : Asked) (network : Option NetLists) (called : Outcome) → IsCutShort around asked network → IsSoundOutcome around asked called → ⊥
 cut_never around asked network called cut sound =
     let same : cut.outcome ≡ called = same_end around asked cut.text network cut.outcome called cut.made sound in
     let refuses : is_refusal cut.outcome ≡ true = ap is_refusal same ∙ needs_sink around called sound.written cut.cause in
@@ -182,7 +182,7 @@ long_called asked octets named limit called longer same is_limit (inl long) =
     (ap (λ (n : List ℕ). TooLong n limit) same ∙ ap (λ (l : ℕ). TooLong (file_of asked) l) is_limit) ∙ sym long.1
 long_called asked octets named limit called longer same is_limit (inr end) = absurd (omega (arith, longer, end.0))
 
-pub completes : (around : Around) (asked : Asked) (network : Option NetLists) (outcome : Outcome) → Answers around asked network outcome → Completes around asked outcome
+pub completes : (around : Around) (asked : Asked) (network : Option NetLists) (outcome : Outcome) → SaysOutcome around asked network outcome → Completes around asked outcome
 completes around asked network Done answers called sound = inl (same_end around asked answers.text network Done called answers.made sound)
 completes around asked network Usage answers called sound = absurd answers
 completes around asked network ReadFault answers called sound = absurd (sound.read answers.0)

@@ -12,7 +12,7 @@ use Rattle.network_model.specs.State.{NetworkState}
 use Rattle.network_model.specs.Step.{step}
 use Rattle.psn_net.specs.declared.net_stop.NetStop.{NetStop}
 use Rattle.psn_net.specs.Lists.{NetLists, seen}
-use Rattle.psn_net.specs.Runs.{Ended, Halts, ended, ran}
+use Rattle.psn_net.specs.Runs.{Ended, RunHalts, ended, ran}
 use Rattle.psn_net.proofs.RunLemmas.{halts_on, ran_on, ran_state}
 use Rattle.command_text.specs.declared.command.Command.{Command}
 use Rattle.vplsnet.specs.Made.{arrivals, deliveries, event_and, made, made_by, ticks, turns}
@@ -30,9 +30,9 @@ made_on_at plan n s t cs i d l h =
     made_on plan n s t (slice_index_or cs i d) (drop (i + 1) cs) h ∙ sym (at_drop_more (λ (xs : List Command). ran plan s t (made plan s xs)) cs i d l)
 
 pub made_err_at : (plan : Plan) (n : NetLists) (stop : NetStop) (s : NetworkState) (t : List Entry) (cs : List Command) (i : ℕ) (d : Command) → i < length cs
-    → Halts stop n (ran plan s t (made_by plan s (slice_index_or cs i d))) → Halts stop n (ran plan s t (made plan s (drop i cs)))
+    → RunHalts stop n (ran plan s t (made_by plan s (slice_index_or cs i d))) → RunHalts stop n (ran plan s t (made plan s (drop i cs)))
 made_err_at plan n stop s t cs i d l h =
-    subst (λ (xs : List Command). Halts stop n (ran plan s t (made plan s xs))) (sym (drop_more cs i d l))
+    subst (λ (xs : List Command). RunHalts stop n (ran plan s t (made plan s xs))) (sym (drop_more cs i d l))
     (halts_on plan s t (made_by plan s (slice_index_or cs i d)) (made plan (state_after plan s (made_by plan s (slice_index_or cs i d))) (drop (i + 1) cs)) n stop h)
 
 pub ruleset made_steps = (made_on_at, made_err_at)
@@ -49,9 +49,9 @@ tick_on_at plan n s t count i below h =
     ran_on plan s t (Tick ∷ []) (ticks (count - (i + 1))) n h ∙ sym (ap (λ (es : List Event). ran plan s t es) (ticks_more count i below))
 
 pub tick_err_at : (plan : Plan) (n : NetLists) (stop : NetStop) (s : NetworkState) (t : List Entry) (count i : ℕ) → i < count
-    → Halts stop n (ran plan s t (Tick ∷ [])) → Halts stop n (ran plan s t (ticks (count - i)))
+    → RunHalts stop n (ran plan s t (Tick ∷ [])) → RunHalts stop n (ran plan s t (ticks (count - i)))
 tick_err_at plan n stop s t count i below h =
-    subst (λ (es : List Event). Halts stop n (ran plan s t es)) (sym (ticks_more count i below)) (halts_on plan s t (Tick ∷ []) (ticks (count - (i + 1))) n stop h)
+    subst (λ (es : List Event). RunHalts stop n (ran plan s t es)) (sym (ticks_more count i below)) (halts_on plan s t (Tick ∷ []) (ticks (count - (i + 1))) n stop h)
 
 pub ruleset tick_steps = (tick_on_at, tick_err_at, ticks_end)
 
@@ -83,9 +83,9 @@ turn_on_at plan next n s t count i event below found h =
     ∙ sym (ap (λ (es : List Event). ran plan s t es) (turns_more plan next s count i event below found)))
 
 turn_err_at : (plan : Plan) (next : NetworkState → Option Event) (n : NetLists) (stop : NetStop) (s : NetworkState) (t : List Entry) (count i : ℕ) (event : Event) → i < count → next s ≡ Some event
-    → Halts stop n (ran plan s t (event ∷ [])) → Halts stop n (ran plan s t (turns plan next (count - i) s))
+    → RunHalts stop n (ran plan s t (event ∷ [])) → RunHalts stop n (ran plan s t (turns plan next (count - i) s))
 turn_err_at plan next n stop s t count i event below found h =
-    subst (λ (es : List Event). Halts stop n (ran plan s t es)) (sym (turns_more plan next s count i event below found))
+    subst (λ (es : List Event). RunHalts stop n (ran plan s t es)) (sym (turns_more plan next s count i event below found))
     (halts_on plan s t (event ∷ []) (turns plan next (count - (i + 1)) (step plan s event).state) n stop h)
 
 -- ---- deliveries
@@ -101,7 +101,7 @@ pub delivery_on_at : (plan : Plan) (n : NetLists) (s : NetworkState) (t : List E
 delivery_on_at plan n s t count i event below found h = turn_on_at plan (next_delivery plan) n s t count i event below found h
 
 pub delivery_err_at : (plan : Plan) (n : NetLists) (stop : NetStop) (s : NetworkState) (t : List Entry) (count i : ℕ) (event : Event) → i < count → next_delivery plan s ≡ Some event
-    → Halts stop n (ran plan s t (event ∷ [])) → Halts stop n (ran plan s t (deliveries plan (count - i) s))
+    → RunHalts stop n (ran plan s t (event ∷ [])) → RunHalts stop n (ran plan s t (deliveries plan (count - i) s))
 delivery_err_at plan n stop s t count i event below found h = turn_err_at plan (next_delivery plan) n stop s t count i event below found h
 
 -- a further one was done, by a network that keeps the plan
@@ -127,7 +127,7 @@ pub arrival_on_at : (plan : Plan) (n : NetLists) (s : NetworkState) (t : List En
 arrival_on_at plan n s t count i event below found h = turn_on_at plan next_arrival n s t count i event below found h
 
 pub arrival_err_at : (plan : Plan) (n : NetLists) (stop : NetStop) (s : NetworkState) (t : List Entry) (count i : ℕ) (event : Event) → i < count → next_arrival s ≡ Some event
-    → Halts stop n (ran plan s t (event ∷ [])) → Halts stop n (ran plan s t (arrivals plan (count - i) s))
+    → RunHalts stop n (ran plan s t (event ∷ [])) → RunHalts stop n (ran plan s t (arrivals plan (count - i) s))
 arrival_err_at plan n stop s t count i event below found h = turn_err_at plan next_arrival n stop s t count i event below found h
 
 -- a further one was done, by a network that keeps the plan

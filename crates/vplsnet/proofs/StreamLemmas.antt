@@ -5,24 +5,24 @@ use Rattle.std.proofs.lemmas.List.{append-nil, take-take, drop-drop, take-append
 use Rattle.ldp_grammar.specs.declared.fault.Fault.{Fault}
 use Rattle.ldp_grammar.specs.declared.pdu.Pdu.{Pdu}
 use Rattle.ldp_grammar.specs.Octets.{two}
-use Rattle.ldp_grammar.specs.Spells.{Spells, spell}
+use Rattle.ldp_grammar.specs.Spells.{Spells, spell_message}
 use Rattle.ldp_stream.specs.declared.stream_fault.StreamFault.{StreamFault}
 use Rattle.ldp_stream.specs.declared.stream_fault.StreamFault.TheVariants as stop
 use Rattle.ldp_stream.specs.Front.{IsPending, IsFrontFault}
 use Rattle.ldp_stream.specs.Parsed.{Ending, Pending, Refused, IsParsedFrom}
-use Rattle.ldp_stream.specs.State.{StreamState, empty, taken_of, Passes, Waits, place_behind, Refuses}
+use Rattle.ldp_stream.specs.State.{StreamState, empty, taken_count, Passes, Waits, place_behind, Refuses}
 use Rattle.ldp_stream.proofs.ParsedLemmas.{one_parsing}
 use Rattle.ldp_stream.proofs.StreamLemmas.{going_fault}
 use Rattle.vplsnet.specs.declared.outcome.Outcome.{Outcome}
 use Rattle.vplsnet.specs.declared.outcome.Outcome.TheVariants.{Done, Unfinished}
 use Rattle.message_text.specs.Line.{decoded_lines}
-use Rattle.vplsnet.specs.StreamText.{largest_pdu, IsTextFrom, IsStreamText, outcome_of}
-use Rattle.vplsnet.specs.StreamSteps.{IsGoing, AddsPdu, TakesOne, GoesOn, IsStopped, IsFedTo, LeavesSome, StopsIn, EndsWith}
+use Rattle.vplsnet.specs.StreamText.{largest_pdu, IsTextFrom, IsStreamText, outcome_of_ending}
+use Rattle.vplsnet.specs.StreamSteps.{IsGoing, AddsPdu, TakesOne, TextGoesOn, IsStopped, IsFedTo, LeavesSome, StopsIn, EndsWith}
 
 -- a PDU in front has some octets
 piece_some : (piece : List ℕ) (max : ℕ) (pdu : Pdu) → Spells piece max pdu → 0 < length piece
 piece_some piece max pdu spells =
-    let behind = two (6 + length (flat_map spell spells.spellings)) ++ ((pdu.id.router.0 ++ two pdu.id.space) ++ flat_map spell spells.spellings) in
+    let behind = two (6 + length (flat_map spell_message spells.spellings)) ++ ((pdu.id.router.0 ++ two pdu.id.space) ++ flat_map spell_message spells.spellings) in
     omega (arith, ap length spells.framed.split, length-append (two 1) behind)
 
 -- a place within a stream that is short of the last number is counted as it is
@@ -73,7 +73,7 @@ passed_less old new before after adds =
     omega (arith, ap length passes.split, length-append passes.piece new.held, piece_some passes.piece old.max adds.pdu passes.spelled)
 
 -- the PDU in front adds its lines
-pub passed_on : (old new : StreamState) (fed : ℕ) (before after : List ℕ) → IsGoing old fed → fed < 2 ^ 63 → AddsPdu old new before after → GoesOn old new before after
+pub passed_on : (old new : StreamState) (fed : ℕ) (before after : List ℕ) → IsGoing old fed → fed < 2 ^ 63 → AddsPdu old new before after → TextGoesOn old new before after
 passed_on old new fed before after going few adds =
     let passes = adds.passes in
     let spelled : Spells passes.piece largest_pdu adds.pdu = subst (λ (max : ℕ). Spells passes.piece max adds.pdu) going.max passes.spelled in
@@ -94,11 +94,11 @@ passed_on old new fed before after going few adds =
     }
 
 -- nothing was added
-pub goes_on_same : (s : StreamState) (text : List ℕ) → GoesOn s s text text
+pub goes_on_same : (s : StreamState) (text : List ℕ) → TextGoesOn s s text text
 goes_on_same s text = record { added = []; adds = sym (append-nil text); on = λ more text ending is_text. is_text }
 
 -- what was added, and what is added then
-pub goes_on_more : (old between new : StreamState) (before text after : List ℕ) → GoesOn old between before text → GoesOn between new text after → GoesOn old new before after
+pub goes_on_more : (old between new : StreamState) (before text after : List ℕ) → TextGoesOn old between before text → TextGoesOn between new text after → TextGoesOn old new before after
 goes_on_more old between new before text after first second = record {
   added = first.added ++ second.added;
   adds = second.adds ∙ (ap (λ (l : List ℕ). l ++ second.added) first.adds ∙ append_assoc before first.added second.added);
@@ -108,7 +108,7 @@ goes_on_more old between new before text after first second = record {
 }
 
 -- a fault behind what was added
-pub stopped_more : (old new : StreamState) (before text after : List ℕ) (fault : StreamFault) → GoesOn old new before text → IsStopped fault new text after → IsStopped fault old before after
+pub stopped_more : (old new : StreamState) (before text after : List ℕ) (fault : StreamFault) → TextGoesOn old new before text → IsStopped fault new text after → IsStopped fault old before after
 stopped_more old new before text after stop.NoMemory goes stopped = tt
 stopped_more old new before text after (stop.Refused base refusal) goes stopped = record {
   fault = stopped.fault;
@@ -126,7 +126,7 @@ takes_more false old new before after went takes = absurd (cc (went))
 pub taken_going : (more : Bool) (old new : StreamState) (fed : ℕ) (before after : List ℕ) → more ≡ true → IsGoing old fed → fed < 2 ^ 63 → TakesOne more old new before after → IsGoing new fed
 taken_going more old new fed before after went going few takes = passed_going old new fed before after going few (takes_more more old new before after went takes)
 
-pub taken_on : (more : Bool) (first old new : StreamState) (fed : ℕ) (start before after : List ℕ) → more ≡ true → IsGoing old fed → fed < 2 ^ 63 → GoesOn first old start before → TakesOne more old new before after → GoesOn first new start after
+pub taken_on : (more : Bool) (first old new : StreamState) (fed : ℕ) (start before after : List ℕ) → more ≡ true → IsGoing old fed → fed < 2 ^ 63 → TextGoesOn first old start before → TakesOne more old new before after → TextGoesOn first new start after
 taken_on more first old new fed start before after went going few goes takes =
     goes_on_more first old new start before after goes (passed_on old new fed before after going few (takes_more more old new before after went takes))
 
@@ -157,13 +157,13 @@ fed_rest octets piece held at n k is within =
 pub record IsFed (octets : List ℕ) (at : ℕ) (piece : List ℕ) (s new : StreamState) (n : ℕ) : Type 0 where
   pub before : at < length octets
   pub piece_is : piece ≡ take (min (length octets - at) 2048) (drop at octets)
-  pub count : n ≡ taken_of s.refused (length s.held) (length piece)
+  pub count : n ≡ taken_count s.refused (length s.held) (length piece)
   pub fed : new ≡ record s { held = s.held ++ take n piece }
 
 -- it is some octets, and no more than the piece
 fed_count : (octets : List ℕ) (at : ℕ) (piece text : List ℕ) (s new : StreamState) (n : ℕ) → IsFedTo octets at s text → IsFed octets at piece s new n → (0 < n) × (n ≤ length piece) × (at + n ≤ length octets)
 fed_count octets at piece text s new n so_far fed =
-    let count : n ≡ min (length piece) (4100 - length s.held) = fed.count ∙ ap (λ (r : Option Fault). taken_of r (length s.held) (length piece)) so_far.going.going in
+    let count : n ≡ min (length piece) (4100 - length s.held) = fed.count ∙ ap (λ (r : Option Fault). taken_count r (length s.held) (length piece)) so_far.going.going in
     let room = pending_room s.held so_far.pending in
     let size : length piece ≡ min (length octets - at) 2048 = ap length fed.piece_is ∙ length-take-le (min (length octets - at) 2048) (drop at octets) (omega (arith, length-drop at octets)) in
     (omega (arith, count, room, size, fed.before), omega (arith, count), omega (arith, count, size, fed.before))
@@ -209,7 +209,7 @@ fed_none octets s text is none =
 
 -- a piece was fed, and the PDUs that stood in front were taken
 pub fed_on : (octets : List ℕ) (at : ℕ) (piece text after : List ℕ) (s new last : StreamState) (n : ℕ) → IsFedTo octets at s text → IsFed octets at piece s new n
-    → IsGoing last (at + n) → IsPending largest_pdu last.held → GoesOn new last text after → IsFedTo octets (at + n) last after
+    → IsGoing last (at + n) → IsPending largest_pdu last.held → TextGoesOn new last text after → IsFedTo octets (at + n) last after
 fed_on octets at piece text after s new last n so_far fed going pending goes =
     let counts = fed_count octets at piece text s new n so_far fed in
     record {
@@ -248,7 +248,7 @@ fed_all octets at s text left so_far ends held =
     }
 
 -- the outcome of a stream by what is left behind its last PDU
-ends_of : (at left len : ℕ) (rest : List ℕ) → left ≡ length rest → at + left ≡ len → (if left == 0 then Done else Unfinished (len - left)) ≡ outcome_of (Pending at rest)
+ends_of : (at left len : ℕ) (rest : List ℕ) → left ≡ length rest → at + left ≡ len → (if left == 0 then Done else Unfinished (len - left)) ≡ outcome_of_ending (Pending at rest)
 ends_of at left len [] is place = ap (λ (n : ℕ). if n == 0 then Done else Unfinished (len - n)) is
 ends_of at left len (octet ∷ rest) is place =
     let some : 0 < left = omega (arith, is) in

@@ -5,7 +5,7 @@ use Rattle.psn_net.specs.Lists.{NetLists}
 use Rattle.scenario_text.specs.Document.{document}
 use Rattle.vplsnet.specs.declared.outcome.Outcome.{Outcome}
 use Rattle.vplsnet.specs.declared.outcome.Outcome.TheVariants.{Usage, ReadFault, WriteFault, TooLong, ScenarioRefused, NotBuilt, NoMemory}
-use Rattle.vplsnet.specs.Around.{Files, Around, HasReadFault, HasWriteFault, IsUntouched, Has, Tells}
+use Rattle.vplsnet.specs.Around.{Files, Around, HasReadFault, HasWriteFault, IsUntouched, Has, TellsFile}
 use Rattle.vplsnet.specs.Asked.{Asked, Replay, Decode}
 use Rattle.vplsnet.specs.Decode.{stream_limit, IsDecoding, IsDecodedAs}
 use Rattle.vplsnet.specs.Files.{IsLonger, AppendsFront, Writes}
@@ -58,18 +58,18 @@ pub record IsTooLong (files : Files) (asked : Asked) (named : List ℕ) (limit :
   pub longer : IfSome files (λ held. IsLonger (limit_of asked) (held (file_of asked)))
 
 -- What an outcome says, its cause among it. The outcomes of a command's own are those that it makes of the octets.
-abbrev pub Answers : Around → Asked → Option NetLists → Outcome → Type 0
-Answers around asked network Usage = ⊥
-Answers around asked network ReadFault = HasReadFault around (file_of asked) × IsUntouched around network
-Answers around asked network (TooLong named limit) = IsTooLong around.files asked named limit × IsUntouched around network
-Answers around asked network WriteFault = IsCutShort around asked network
-Answers around asked network NoMemory = IsUntouched around network
-Answers around asked network outcome = IsWhole around asked network outcome
+abbrev pub SaysOutcome : Around → Asked → Option NetLists → Outcome → Type 0
+SaysOutcome around asked network Usage = ⊥
+SaysOutcome around asked network ReadFault = HasReadFault around (file_of asked) × IsUntouched around network
+SaysOutcome around asked network (TooLong named limit) = IsTooLong around.files asked named limit × IsUntouched around network
+SaysOutcome around asked network WriteFault = IsCutShort around asked network
+SaysOutcome around asked network NoMemory = IsUntouched around network
+SaysOutcome around asked network outcome = IsWhole around asked network outcome
 
 -- the same of words that may ask for nothing
 abbrev pub Finishes : Around → Option Asked → Option NetLists → Outcome → Type 0
 Finishes around None network outcome = (outcome ≡ Usage) × IsUntouched around network
-Finishes around (Some asked) network outcome = Answers around asked network outcome
+Finishes around (Some asked) network outcome = SaysOutcome around asked network outcome
 
 -- the outcome that the octets of the file call for: by their length, and then by the command
 abbrev pub CallsFor : Asked → List ℕ → Outcome → Type 0
@@ -84,16 +84,16 @@ IsTakenWhole around NotBuilt = Unit {0}
 IsTakenWhole around outcome = ¬ HasWriteFault around
 
 -- the shelf tells the file, whose octets call for this outcome, and no call failed that it needs
-pub record IsSound (around : Around) (asked : Asked) (outcome : Outcome) : Type 0 where
+pub record IsSoundOutcome (around : Around) (asked : Asked) (outcome : Outcome) : Type 0 where
   pub octets : List ℕ
-  pub tells : Tells around.files (file_of asked) octets
+  pub tells : TellsFile around.files (file_of asked) octets
   pub calls : CallsFor asked octets outcome
   pub read : ¬ HasReadFault around (file_of asked)
   pub written : IsTakenWhole around outcome
 
 -- in a sound surrounding the outcome is what the octets call for, or memory was refused
 abbrev pub Completes : Around → Asked → Outcome → Type 0
-Completes around asked outcome = (called : Outcome) → IsSound around asked called → (outcome ≡ called) ⊎ (outcome ≡ NoMemory)
+Completes around asked outcome = (called : Outcome) → IsSoundOutcome around asked called → (outcome ≡ called) ⊎ (outcome ≡ NoMemory)
 
 -- why a file was not had
 abbrev pub IsUnread : Files → (List ℕ → ℕ) → (List ℕ → ℕ) → List ℕ → ℕ → Outcome → Type 0

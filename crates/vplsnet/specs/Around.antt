@@ -42,7 +42,7 @@ abbrev pub Has : Files → List ℕ → List ℕ → Type 0
 Has files name octets = IfSome files (λ held. held name ≡ Some octets)
 
 -- the shelf tells its files, and that the name has these octets
-pub record Tells (files : Files) (name octets : List ℕ) : Type 0 where
+pub record TellsFile (files : Files) (name octets : List ℕ) : Type 0 where
   pub held : List ℕ → Option (List ℕ)
   pub told : files ≡ Some held
   pub has : held name ≡ Some octets

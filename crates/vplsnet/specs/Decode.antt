@@ -3,7 +3,7 @@ use Rattle.std.specs.Prelude.{◌≡◌, ℕ, List, Option, None}
 use Rattle.psn_net.specs.Lists.{NetLists}
 use Rattle.ldp_stream.specs.Parsed.{PlacedPdu, Ending, IsParsed}
 use Rattle.vplsnet.specs.declared.outcome.Outcome.{Outcome}
-use Rattle.vplsnet.specs.StreamText.{largest_pdu, IsStreamText, outcome_of}
+use Rattle.vplsnet.specs.StreamText.{largest_pdu, IsStreamText, outcome_of_ending}
 
 -- the most octets of a stream
 abbrev pub stream_limit : ℕ
@@ -14,7 +14,7 @@ stream_limit = 67108864
 pub record IsDecoding (octets text : List ℕ) (network : Option NetLists) (outcome : Outcome) : Type 0 where
   pub ending : Ending
   pub text_is : IsStreamText octets text ending
-  pub ends : outcome ≡ outcome_of ending
+  pub ends : outcome ≡ outcome_of_ending ending
   pub no_run : network ≡ None
 
 -- the outcome of a decoding by how its octets end
@@ -22,4 +22,4 @@ pub record IsDecodedAs (octets : List ℕ) (outcome : Outcome) : Type 0 where
   pub pdus : List PlacedPdu
   pub ending : Ending
   pub parsed : IsParsed largest_pdu octets pdus ending
-  pub ends : outcome ≡ outcome_of ending
+  pub ends : outcome ≡ outcome_of_ending ending

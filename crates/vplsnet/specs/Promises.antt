@@ -17,7 +17,7 @@ use Rattle.packet_model.specs.Carried.{KeepsPacketRule}
 use Rattle.flood_model.specs.Shares.{SharesEach}
 use Rattle.address_model.specs.Laws.{KnownAreReached, PointsLast}
 use Rattle.move_model.specs.Laws.{MovesHeal}
-use Rattle.flight_model.specs.Laws.{AgreesAfterFlight, AreSettled, BothStand, FollowsTable, IsStill, IsUp, KeepsLabelRule, KeepsToldRule, network_after}
+use Rattle.flight_model.specs.Laws.{AgreesAfterFlight, AreSettled, BothStand, FollowsTable, IsStillBetween, IsUp, KeepsLabelRule, KeepsToldRule, network_after}
 
 -- something holds of each state on the way of a run: before each event, and after the last one
 abbrev pub Throughout : (NetworkState → Type 0) → Plan → List Event → Type 0
@@ -37,7 +37,7 @@ AreSettledWhereQuiet plan network = (service : ServiceId) → is_quiet plan netw
 
 -- two ends that stand, and between which nothing is held or on its way, are both up
 abbrev pub AreUpWhereStill : NetworkState → Type 0
-AreUpWhereStill network = (a b : ℕ) → IsStill network a b → IsUp network a b × IsUp network b a
+AreUpWhereStill network = (a b : ℕ) → IsStillBetween network a b → IsUp network a b × IsUp network b a
 
 -- each packet under way carries a frame that entered, in the service of its wire
 abbrev pub CarryFrames : Plan → List Event → Type 0

@@ -11,7 +11,7 @@ use Rattle.ldp_stream.specs.Parsed.{Ending, Pending, Refused}
 use Rattle.ldp_stream.specs.State.{StreamState, Passes, Waits}
 use Rattle.vplsnet.specs.declared.outcome.Outcome.{Outcome}
 use Rattle.message_text.specs.Line.{decoded_lines}
-use Rattle.vplsnet.specs.StreamText.{largest_pdu, IsTextFrom, IsStreamText, outcome_of}
+use Rattle.vplsnet.specs.StreamText.{largest_pdu, IsTextFrom, IsStreamText, outcome_of_ending}
 
 -- no fault was answered yet, and so many octets were fed
 pub record IsGoing (s : StreamState) (fed : ℕ) : Type 0 where
@@ -31,7 +31,7 @@ TakesOne true old new before after = AddsPdu old new before after
 TakesOne false old new before after = Waits old new × (after ≡ before)
 
 -- whatever follows, its text stands behind what was added
-pub record GoesOn (old new : StreamState) (before after : List ℕ) : Type 0 where
+pub record TextGoesOn (old new : StreamState) (before after : List ℕ) : Type 0 where
   pub added : List ℕ
   pub adds : after ≡ before ++ added
   pub on : (more text : List ℕ) (ending : Ending) → IsTextFrom new.base (new.held ++ more) text ending → IsTextFrom old.base (old.held ++ more) (added ++ text) ending
@@ -78,4 +78,4 @@ StopsIn stop.NoMemory octets text = Unit {0}
 pub record EndsWith (octets text : List ℕ) (outcome : Outcome) : Type 0 where
   pub ending : Ending
   pub is_text : IsStreamText octets text ending
-  pub ends : outcome ≡ outcome_of ending
+  pub ends : outcome ≡ outcome_of_ending ending

@@ -28,7 +28,7 @@ IsStreamText octets text ending = IsTextFrom 0 octets text ending
 
 -- A stream that ends behind a PDU is decoded; one that ends within a PDU is unfinished where that begins; a fault
 -- refuses it.
-abbrev pub outcome_of : Ending → Outcome
-outcome_of (Pending at []) = Done
-outcome_of (Pending at (octet ∷ rest)) = Unfinished at
-outcome_of (Refused base fault) = DecodeRefused (stop.Refused base (refusal_of fault))
+abbrev pub outcome_of_ending : Ending → Outcome
+outcome_of_ending (Pending at []) = Done
+outcome_of_ending (Pending at (octet ∷ rest)) = Unfinished at
+outcome_of_ending (Refused base fault) = DecodeRefused (stop.Refused base (refusal_of fault))

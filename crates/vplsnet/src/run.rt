@@ -1,6 +1,6 @@
 //! All that the program does.
 ghost use Rattle.std.specs.Prelude.{◌≡◌, ◌≤◌, ◌↔◌, None, length, map, string_bytes, IfOk, IfSome};
-ghost use Rattle.vplsnet.specs.Answers.{Answers, Completes, Finishes, Makes, limit_of};
+ghost use Rattle.vplsnet.specs.Answers.{Completes, Finishes, Makes, SaysOutcome, limit_of};
 ghost use Rattle.vplsnet.specs.Asked.{asked, asked_by};
 ghost use Rattle.vplsnet.specs.Finish.{status_of};
 
@@ -77,7 +77,7 @@ fn finish_of<F: Shelf, K: Sink>(
     sink: &mut K,
 ) -> Finish
     ensures status { result.status ≡ status_of result.outcome }
-    ensures answers { Answers (record {
+    ensures answers { SaysOutcome (record {
       files = F.files shelf.old;
       shelf_before = F.faults shelf.old;
       shelf_after = F.faults shelf.new;

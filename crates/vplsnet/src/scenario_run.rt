@@ -3,7 +3,7 @@ ghost use Rattle.std.specs.Prelude.{◌≡◌, ◌∷◌, [], All, IfOk};
 ghost use Rattle.net_base.specs.plan.Planned.{IsEventOf};
 ghost use Rattle.network_model.specs.State.{empty_network};
 ghost use Rattle.psn_net.specs.Lists.{seen};
-ghost use Rattle.psn_net.specs.Runs.{Gives, ended, ran};
+ghost use Rattle.psn_net.specs.Runs.{GivesNetwork, ended, ran};
 ghost use Rattle.command_text.specs.Planned.{IsPlanned};
 ghost use Rattle.vplsnet.specs.Made.{arrivals, deliveries, made, made_by, ticks};
 ghost use Rattle.vplsnet.specs.Replay.{whole_run};
@@ -39,7 +39,7 @@ pub fn run_over(
 fn run_commands(alloc: Global, network: &mut Network, commands: &[Command]) -> Result<(), NetStop>
     requires planned { All (IsPlanned network.old.plan) commands.now }
     ensures plan { network.new.plan ≡ network.old.plan }
-    ensures ran { Gives result network.new (ran network.old.plan (seen network.old) network.old.trace (made network.old.plan (seen network.old) commands.now)) }
+    ensures ran { GivesNetwork result network.new (ran network.old.plan (seen network.old) network.old.trace (made network.old.plan (seen network.old) commands.now)) }
 {
     for command in commands {
         run_command(alloc, network, command)?;
@@ -51,7 +51,7 @@ fn run_commands(alloc: Global, network: &mut Network, commands: &[Command]) -> R
 fn run_command(alloc: Global, network: &mut Network, command: &Command) -> Result<(), NetStop>
     requires planned { IsPlanned network.old.plan command.now }
     ensures plan { network.new.plan ≡ network.old.plan }
-    ensures ran { Gives result network.new (ran network.old.plan (seen network.old) network.old.trace (made_by network.old.plan (seen network.old) command.now)) }
+    ensures ran { GivesNetwork result network.new (ran network.old.plan (seen network.old) network.old.trace (made_by network.old.plan (seen network.old) command.now)) }
 {
     match command {
         Command::One(event) => apply(alloc, network, event),
@@ -66,7 +66,7 @@ fn run_command(alloc: Global, network: &mut Network, command: &Command) -> Resul
 #[tactic(auto, using(crate::proofs::MadeLemmas::delivery_steps))]
 fn run_deliveries(alloc: Global, network: &mut Network, count: u32) -> Result<(), NetStop>
     ensures plan { network.new.plan ≡ network.old.plan }
-    ensures ran { Gives result network.new (ran network.old.plan (seen network.old) network.old.trace (deliveries network.old.plan count (seen network.old))) }
+    ensures ran { GivesNetwork result network.new (ran network.old.plan (seen network.old) network.old.trace (deliveries network.old.plan count (seen network.old))) }
 {
     for _turn in 0..count {
         match network.next_delivery() {
@@ -81,7 +81,7 @@ fn run_deliveries(alloc: Global, network: &mut Network, count: u32) -> Result<()
 #[tactic(auto, using(crate::proofs::MadeLemmas::arrival_steps))]
 fn run_arrivals(alloc: Global, network: &mut Network, count: u32) -> Result<(), NetStop>
     ensures plan { network.new.plan ≡ network.old.plan }
-    ensures ran { Gives result network.new (ran network.old.plan (seen network.old) network.old.trace (arrivals network.old.plan count (seen network.old))) }
+    ensures ran { GivesNetwork result network.new (ran network.old.plan (seen network.old) network.old.trace (arrivals network.old.plan count (seen network.old))) }
 {
     for _arrival in 0..count {
         match network.next_arrival() {
@@ -96,7 +96,7 @@ fn run_arrivals(alloc: Global, network: &mut Network, count: u32) -> Result<(), 
 #[tactic(auto, using(crate::proofs::MadeLemmas::tick_steps))]
 fn run_ticks(alloc: Global, network: &mut Network, count: u32) -> Result<(), NetStop>
     ensures plan { network.new.plan ≡ network.old.plan }
-    ensures ran { Gives result network.new (ran network.old.plan (seen network.old) network.old.trace (ticks count)) }
+    ensures ran { GivesNetwork result network.new (ran network.old.plan (seen network.old) network.old.trace (ticks count)) }
 {
     for _done in 0..count {
         apply(alloc, network, &Event::Tick)?;
@@ -109,7 +109,7 @@ fn run_ticks(alloc: Global, network: &mut Network, count: u32) -> Result<(), Net
 fn apply(alloc: Global, network: &mut Network, event: &Event) -> Result<(), NetStop>
     requires planned { IsEventOf network.old.plan event.now }
     ensures plan { network.new.plan ≡ network.old.plan }
-    ensures ran { Gives result network.new (ran network.old.plan (seen network.old) network.old.trace (event.now ∷ [])) }
+    ensures ran { GivesNetwork result network.new (ran network.old.plan (seen network.old) network.old.trace (event.now ∷ [])) }
 {
     network.apply(alloc, event)
 }

@@ -3,7 +3,7 @@ ghost use Rattle.std.specs.Prelude.{◌≡◌, ◌==◌, ◌<◌, ◌≤◌, ◌
 ghost use Rattle.ldp_stream.specs.Front.{IsPending};
 ghost use Rattle.ldp_stream.specs.State.{empty};
 ghost use Rattle.message_text.specs.Line.{decoded_lines};
-ghost use Rattle.vplsnet.specs.StreamSteps.{EndsWith, GoesOn, IsGoing, IsStopped, LeavesSome, StopsIn, TakesOne};
+ghost use Rattle.vplsnet.specs.StreamSteps.{EndsWith, IsGoing, IsStopped, LeavesSome, StopsIn, TakesOne, TextGoesOn};
 ghost use Rattle.vplsnet.specs.StreamText.{largest_pdu};
 
 use crate::outcome::Outcome;
@@ -59,7 +59,7 @@ fn take_pdus(
     requires few { fed < 2 ^ 63 }
     ensures going { OnOk result (IsGoing stream.new fed) }
     ensures pending { OnOk result (IsPending largest_pdu stream.new.held) }
-    ensures on { OnOk result (GoesOn stream.old stream.new text.old.items text.new.items) }
+    ensures on { OnOk result (TextGoesOn stream.old stream.new text.old.items text.new.items) }
     ensures stopped { IfErr result (λ fault. IsStopped fault stream.old text.old.items text.new.items) }
 {
     'taking: loop {

@@ -1,7 +1,7 @@
 //! What the types of a plan say of it. Nothing is worked out here: where a value is named, its type tells the proof its range.
 ghost use Rattle.std.specs.Prelude.{◌≤◌, ◌<◌, ◌^◌, IfSome, length};
 ghost use Rattle.std.specs.List.{All, AllByRecursion};
-ghost use Rattle.ldp_grammar.specs.Reading.{AreOctets};
+ghost use Rattle.net_values.specs.Octets.{AreOctets};
 ghost use Rattle.session_core.specs.Laws.{IsAddress};
 ghost use Rattle.flight_model.specs.Ends.{AreFieldOffers, HasTypes, IsFieldOffer};
 

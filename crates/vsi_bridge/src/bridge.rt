@@ -3,7 +3,7 @@ ghost use Rattle.std.specs.Prelude.{◌≡◌, ◌==◌, ◌<◌, ◌≤◌, ◌
 ghost use Rattle.net_values.specs.Mac.{is_group_address};
 ghost use Rattle.hvpls_spokes.specs.Flood.{is_in_flood};
 ghost use Rattle.hvpls_spokes.specs.PortSet.{has};
-ghost use Rattle.mac_table.specs.Addresses.{AreDistinct, NoneAfter, is_young, stays};
+ghost use Rattle.mac_table.specs.Addresses.{AreDistinctAddresses, NoneAfter, entry_stays, is_young};
 ghost use Rattle.vsi_bridge.specs.BridgeState.{table_of, most_addresses};
 ghost use Rattle.vsi_bridge.specs.Targets.{heard, is_target, known_port};
 
@@ -115,7 +115,7 @@ impl Bridge {
     /// Forgets what a MAC withdraw that came by the port `from` names (RFC 4762 section 6.2): of a list that is not empty its
     /// addresses that are at `from`, and of an empty one all addresses that are not at `from`. The others stay in order.
     pub fn withdraw(&mut self, from: u16, list: &List<Mac>)
-        ensures entries { self.new ≡ record self.old { entries = filter (stays from list.now) self.old.entries } }
+        ensures entries { self.new ≡ record self.old { entries = filter (entry_stays from list.now) self.old.entries } }
         ensures ticks { (now : ℕ) → NoneAfter now self.old.entries → NoneAfter now self.new.entries }
     {
         self.table.withdraw(from, list);

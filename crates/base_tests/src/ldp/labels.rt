@@ -1,6 +1,6 @@
 //! One label space through its calls.
 ghost use Rattle.std.specs.Prelude.{◌≡◌, ◌<◌, length};
-ghost use Rattle.label_space.specs.Labels.{issued, opened};
+ghost use Rattle.label_space.specs.Labels.{issued, opened_space};
 
 use label_space::{LabelSpace, NoLabel};
 use net_base::{Label, SegKey, WireId};
@@ -37,7 +37,7 @@ fn is_owned(rt: &impl Abort, space: &LabelSpace, number: u32, owner: Option<(Seg
 
 // Two ends get labels, of which one is freed; then all are.
 fn gives_numbers(rt: &impl Abort, space: &mut LabelSpace)
-    requires { space.old ≡ opened 16 4 }
+    requires { space.old ≡ opened_space 16 4 }
 {
     issues(rt, space, ONE, 0, 16);
     issues(rt, space, TWO, 1, 17);
@@ -66,7 +66,7 @@ fn has_none(rt: &impl Abort, space: &mut LabelSpace, key: SegKey)
 
 // The last label is given, and then there is none.
 fn gives_the_last(rt: &impl Abort, space: &mut LabelSpace)
-    requires { space.old ≡ opened 1048575 2 }
+    requires { space.old ≡ opened_space 1048575 2 }
 {
     issues(rt, space, ONE, 0, 1_048_575);
     has_none(rt, space, TWO);

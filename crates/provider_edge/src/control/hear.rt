@@ -1,7 +1,7 @@
 //! Octets of LDP are heard (RFC 5036 section 3.5.3): one PDU after another, and each message of a PDU in turn.
 ghost use Rattle.std.specs.Prelude.{◌≡◌, ◌≤◌, ◌<◌, ◌+◌, ◌++◌, List, ℕ, true, Some, OnOk};
 ghost use Rattle.std.specs.List.{AllByRecursion};
-ghost use Rattle.ldp_grammar.specs.Reading.{AreOctets};
+ghost use Rattle.net_values.specs.Octets.{AreOctets};
 ghost use Rattle.edge_model.specs.Hear.{acts, acts_on, advice_of, advises, hears, hears_message, hears_messages, hears_one, hears_pdu};
 ghost use Rattle.edge_model.specs.State.{has_end};
 ghost use Rattle.edge_model.specs.Work.{Agrees, Answers};

@@ -7,12 +7,12 @@ ghost use Rattle.pw_signalling.specs.AnyEnd.{end_of};
 ghost use Rattle.pw_tlvs.specs.Written.{has_vlan};
 ghost use Rattle.pw_ends.specs.Ends.{HasKind, IsIdle, end_in, place_of};
 ghost use Rattle.edge_model.specs.Mend.{advertises, advertises_wish, cause_number, forgetting_wire, is_new_choice, mends_choice, mends_end, mends_status, tells_down, tells_new_status, tells_over, terminal_wish, wish, withdraws, withdraws_unless};
-ghost use Rattle.edge_model.specs.Role.{down_at, is_wire, role_at, status_to_tell};
+ghost use Rattle.edge_model.specs.Role.{down_at, is_chosen_wire, role_at, status_to_tell};
 ghost use Rattle.edge_model.specs.State.{with_told_down};
 ghost use Rattle.edge_model.specs.Work.{Agrees, Answers};
 ghost use Rattle.provider_edge.specs.AtWork.{Works, at_work};
 ghost use Rattle.provider_edge.specs.Control.{KeepsPlan, Rest, at_control, controlled};
-ghost use Rattle.provider_edge.specs.Mending.{forgotten_down, may_tell, mended_down};
+ghost use Rattle.provider_edge.specs.Mending.{forgotten_down, may_tell_end, mended_down};
 ghost use Rattle.edge_forwarding.specs.Views.{view};
 
 use super::Control;
@@ -268,7 +268,7 @@ impl Control {
 
     // Whether the wire is the one that is chosen for a service now, and was not before.
     fn is_new(&self, chosen: &[Option<WireId>], wire: WireId, service: ServiceId) -> bool
-        ensures { (rest : Rest) → result ≡ (is_wire wire ((controlled self.now rest).chosen service.0) && not (is_wire wire (view None chosen.now service.0))) }
+        ensures { (rest : Rest) → result ≡ (is_chosen_wire wire ((controlled self.now rest).chosen service.0) && not (is_chosen_wire wire (view None chosen.now service.0))) }
     {
         self.is_chosen(wire, service) && !is_wire_of(chosen, wire, service)
     }
@@ -411,7 +411,7 @@ impl Control {
     #[tactic(auto, unfolding(crate::specs::Control::controlled))]
     fn may_tell(&self, place: &EndPlace) -> bool
         requires { place.now.wire.0 < length self.now.plan.wires }
-        ensures { (rest : Rest) → result ≡ may_tell (controlled self.now rest) place.now }
+        ensures { (rest : Rest) → result ≡ may_tell_end (controlled self.now rest) place.now }
     {
         self.wires_on[place.wire.0 as usize] && self.is_up(place.peer) && place.terminal
     }
@@ -442,7 +442,7 @@ impl Control {
     // Whether the wire is the one that is chosen for a service.
     #[tactic(auto, unfolding(crate::specs::Control::controlled))]
     fn is_chosen(&self, wire: WireId, service: ServiceId) -> bool
-        ensures { (rest : Rest) → result ≡ is_wire wire ((controlled self.now rest).chosen service.0) }
+        ensures { (rest : Rest) → result ≡ is_chosen_wire wire ((controlled self.now rest).chosen service.0) }
     {
         match self.spokes.chosen(service) {
             Some(chosen) => chosen == wire,
@@ -473,7 +473,7 @@ impl Control {
 
 // Whether the wire is the one that was chosen for a service.
 fn is_wire_of(chosen: &[Option<WireId>], wire: WireId, service: ServiceId) -> bool
-    ensures { result ≡ is_wire wire (view None chosen.now service.0) }
+    ensures { result ≡ is_chosen_wire wire (view None chosen.now service.0) }
 {
     match chosen.get(service.0 as usize) {
         Some(Some(chosen)) => *chosen == wire,

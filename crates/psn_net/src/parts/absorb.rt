@@ -1,9 +1,9 @@
 //! An edge's work goes into the network.
 ghost use Rattle.std.specs.Prelude.{◌≡◌, ◌<◌, ◌≤◌, ◌+◌, ◌++◌, ◌∷◌, [], length, IfOk, OnOk};
 ghost use Rattle.net_base.specs.declared.trace.entry.Entry.TheVariants as Entry;
-ghost use Rattle.network_model.specs.Absorb.{absorb_all, absorb_one, all_entries_of, entries_of, put_towards};
+ghost use Rattle.network_model.specs.Absorb.{absorb_all, absorb_one, all_entries_of, entries_told, put_towards};
 ghost use Rattle.network_model.specs.State.{with_packet, with_pipe};
-ghost use Rattle.provider_edge.specs.Said.{AllFit, Fits};
+ghost use Rattle.provider_edge.specs.Said.{AllFit, NamesPlaces};
 ghost use Rattle.psn_net.specs.Lists.{HasRoom, HasStepped, Keeps, seen};
 
 use crate::parts::Parts;
@@ -49,7 +49,7 @@ impl Parts {
         effect: Effect,
     ) -> Result<(), NoMemory>
         requires me { me.0 < length self.old.plan.edges }
-        requires fit { Fits self.old.plan effect }
+        requires fit { NamesPlaces self.old.plan effect }
         requires passed { hops ≤ self.old.packets.last }
         requires room { HasRoom self.old }
         ensures keeps { Keeps self.old self.new }
@@ -57,7 +57,7 @@ impl Parts {
         ensures more { OnOk result (self.old.packets.last ≤ self.new.packets.last) }
         ensures step { OnOk result (HasStepped self.old self.new (record {
           state = absorb_one me origin hops effect (seen self.old);
-          entries = entries_of me origin hops effect (seen self.old);
+          entries = entries_told me origin hops effect (seen self.old);
         })) }
     {
         match effect {

@@ -5,7 +5,7 @@ ghost use Rattle.net_base.specs.plan.Paths.{first_edge, last_edge};
 ghost use Rattle.edge_model.specs.Ends.{end_forwards, is_up};
 ghost use Rattle.provider_edge.specs.Lists.{seen as seen_edge};
 ghost use Rattle.network_model.specs.Calm.{carries, first_forwards, is_joined_up, last_forwards};
-ghost use Rattle.network_model.specs.State.{at_edge};
+ghost use Rattle.network_model.specs.State.{edge_at};
 ghost use Rattle.psn_net.specs.Lists.{seen};
 
 use crate::parts::Parts;
@@ -64,7 +64,7 @@ impl Parts {
         requires checked { IsChecked self.now.plan }
         requires row { slice_get self.now.plan.wires wire.0 ≡ Some row.now }
         requires edge { edge.0 < length self.now.plan.edges }
-        ensures { result ≡ end_forwards self.now.plan (at_edge (seen self.now) edge) wire }
+        ensures { result ≡ end_forwards self.now.plan (edge_at (seen self.now) edge) wire }
     {
         end_forwards(self.edge_at(edge), wire, row)
     }
@@ -74,7 +74,7 @@ impl Parts {
     fn edge_at(&self, edge: EdgeId) -> &Edge
         requires { edge.0 < length self.now.plan.edges }
         ensures plan { result.now.plan ≡ self.now.plan }
-        ensures state { seen_edge result.now ≡ at_edge (seen self.now) edge }
+        ensures state { seen_edge result.now ≡ edge_at (seen self.now) edge }
     {
         &self.edges[edge.0 as usize]
     }

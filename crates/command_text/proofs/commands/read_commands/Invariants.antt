@@ -4,7 +4,7 @@ use Rattle.std.specs.List.{All}
 use Rattle.toml.specs.View.{items_view}
 use Rattle.command_text.specs.Reading.{with_front}
 use Rattle.command_text.specs.Events.{commands_in}
-use Rattle.command_text.specs.Planned.{IsNamed}
+use Rattle.command_text.specs.Planned.{IsInPlanNames}
 use Rattle.command_text.proofs.commands.read_commands.Given as goal
 
 abbrev pub invariant-loop-i : goal.invariant-loop-i
@@ -12,4 +12,4 @@ invariant-loop-i l =
     (with_front l.commands (commands_in l.names (l.i + 1) l.plays (items_view (drop l.i l.array))) ≡ commands_in l.names 1 0 (items_view l.array))
     × (length l.commands ≡ l.i)
     × (l.plays ≤ l.i)
-    × All (IsNamed l.names) l.commands
+    × All (IsInPlanNames l.names) l.commands

@@ -2,12 +2,12 @@
 use Rattle.std.proofs.Common.{sym, subst}
 use Rattle.std.specs.Prelude.{IfSome}
 use Rattle.net_values.specs.declared.field.Field.{Field}
-use Rattle.pw_tlvs.specs.Faults.{IsFirst}
+use Rattle.pw_tlvs.specs.Faults.{IsFirstIn}
 use Rattle.ldp_grammar.specs.FirstFault.{ContentFault}
 use Rattle.ldp_codec.proofs.content.content_fault.Goals as goal
 
 pub returns-in-Fec-clause-fault : goal.returns-in-Fec-clause-fault
-returns-in-Fec-clause-fault c = λ body reads. subst (λ (f : Field). IfSome c.fec_fault.result (IsFirst (ContentFault body f c.args.value.now))) (sym c.in-Fec.is) c.fec_fault.ensures.fault
+returns-in-Fec-clause-fault c = λ body reads. subst (λ (f : Field). IfSome c.fec_fault.result (IsFirstIn (ContentFault body f c.args.value.now))) (sym c.in-Fec.is) c.fec_fault.ensures.fault
 
 pub returns-in-Label-clause-fault : goal.returns-in-Label-clause-fault
-returns-in-Label-clause-fault c = λ body reads. subst (λ (f : Field). IfSome c.label_fault.result (IsFirst (ContentFault body f c.args.value.now))) (sym c.in-Label.is) (c.label_fault.ensures.fault body reads)
+returns-in-Label-clause-fault c = λ body reads. subst (λ (f : Field). IfSome c.label_fault.result (IsFirstIn (ContentFault body f c.args.value.now))) (sym c.in-Label.is) (c.label_fault.ensures.fault body reads)

@@ -2,7 +2,7 @@
 use Rattle.std.proofs.Common.{◌+◌, ◌++◌, ◌∷◌, ◌∙◌, ℕ, List, [], length, drop, slice_index, sym, refl, subst}
 use Rattle.std.proofs.lemmas.Result.{err_from_is_err_and}
 use Rattle.pw_tlvs.specs.declared.registry.Registry.TheVariants.{InterfaceParameter}
-use Rattle.pw_tlvs.specs.SubTlvs.{SubTlv, IsFirstWrong, row_of, values}
+use Rattle.pw_tlvs.specs.SubTlvs.{SubTlv, IsFirstWrong, sub_tlv_row, values}
 use Rattle.std.specs.Prelude.{◌≡◌, IsSome}
 use Rattle.pw_tlvs.proofs.SubTlvLemmas.{good_more}
 use Rattle.pw_tlvs.proofs.ReadLemmas.{read_fault, read_more, fresh_of}
@@ -21,7 +21,7 @@ reading-preserved c =
     let upto = c.reading.invariant.upto in
     let subs = c.reading.invariant.subs in
     let s : SubTlv = record { kind = c.in_ok-kind.kind; value = c.in_ok-kind.value.now } in
-    let fresh : IsSome (row_of InterfaceParameter c.in_ok-kind.kind) → values c.in_ok-kind.kind subs ≡ [] =
+    let fresh : IsSome (sub_tlv_row InterfaceParameter c.in_ok-kind.kind) → values c.in_ok-kind.kind subs ≡ [] =
     fresh_of InterfaceParameter subs c.in_ok-kind.kind (slice_index c.split_at.result.1.now 0) c.has.result c.in_ok-kind.ensures.kind (c.has.ensures subs c.reading.invariant.says) c.in_ok-kind.ensures.fresh in
     record {
       subs = subs ++ s ∷ [];

@@ -1,7 +1,8 @@
 -- The parts have their sums, and the checksum counts as 0 between them.
 use Rattle.std.proofs.Common.{◌∙◌, ◌-◌, ℕ, ap, sym, arith}
 use Rattle.byteorder.specs.Endian.{big_bytes}
-use Rattle.vccv_channel.specs.Checksum.{ones_plus, ones_sum, AreOctets}
+use Rattle.vccv_channel.specs.Checksum.{ones_plus, ones_sum}
+use Rattle.net_values.specs.Octets.{AreOctets}
 use Rattle.vccv_channel.proofs.SumLemmas.{sum_apart}
 use Rattle.vccv_channel.proofs.checksum.checksum_between.Goals as goal
 

@@ -2,7 +2,7 @@ use Rattle.std.proofs.Common.{◌∙◌, ◌&&◌, List, length, nat_eq, not, sl
 use Rattle.hvpls_spokes.specs.declared.port.Port.{Port}
 use Rattle.hvpls_spokes.specs.PortSet.{has}
 use Rattle.vsi_bridge.specs.BridgeState.{BridgeState}
-use Rattle.edge_forwarding.specs.Domain.{is_wire}
+use Rattle.hvpls_spokes.specs.Port.{is_wire}
 use Rattle.edge_forwarding.proofs.DomainLemmas.{closed_end, closed_next}
 use Rattle.edge_forwarding.proofs.domain.Domain.close_wires.Goals as goal
 

@@ -1,6 +1,6 @@
 use Rattle.std.proofs.Common.{◌≡◌, ◌&&◌, nat_lt, not, slice_get, ℕ}
 use Rattle.hvpls_spokes.specs.PortSet.{has}
-use Rattle.edge_forwarding.specs.Domain.{is_wire}
+use Rattle.hvpls_spokes.specs.Port.{is_wire}
 use Rattle.edge_forwarding.proofs.domain.Domain.close_wires.Given as goal
 
 abbrev pub invariant-loop-port : goal.invariant-loop-port

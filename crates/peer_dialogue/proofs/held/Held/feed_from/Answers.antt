@@ -1,5 +1,5 @@
 use Rattle.std.proofs.Common.{sym, subst, arith}
-use Rattle.ldp_grammar.specs.Reading.{AreOctets}
+use Rattle.net_values.specs.Octets.{AreOctets}
 use Rattle.ldp_grammar.proofs.OctetLemmas.{octets_drop}
 use Rattle.peer_dialogue.specs.Hearing.{AreReady}
 use Rattle.peer_dialogue.proofs.HearLemmas.{empty_ready, fed_ready}

@@ -1,5 +1,5 @@
 use Rattle.std.proofs.Common.{◌∙◌, ◌+◌, ◌++◌, [], List, ℕ, drop, ap, sym, arith}
-use Rattle.ldp_grammar.specs.Reading.{AreOctets}
+use Rattle.net_values.specs.Octets.{AreOctets}
 use Rattle.ldp_grammar.proofs.OctetLemmas.{octets_drop}
 use Rattle.provider_edge.proofs.AtWorkLemmas.{works_both}
 use Rattle.provider_edge.specs.AtWork.{at_work}

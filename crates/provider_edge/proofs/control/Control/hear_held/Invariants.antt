@@ -1,5 +1,5 @@
 use Rattle.std.proofs.Common.{◌++◌, ℕ, List, length}
-use Rattle.ldp_grammar.specs.Reading.{AreOctets}
+use Rattle.net_values.specs.Octets.{AreOctets}
 use Rattle.peer_dialogue.specs.Hearing.{HearsOn}
 use Rattle.edge_model.specs.Work.{Agrees, Answers}
 use Rattle.provider_edge.specs.AtWork.{Works, at_work}

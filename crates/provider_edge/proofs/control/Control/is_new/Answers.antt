@@ -1,5 +1,5 @@
 use Rattle.std.proofs.Common.{None}
-use Rattle.edge_model.specs.Role.{is_wire}
+use Rattle.edge_model.specs.Role.{is_chosen_wire}
 use Rattle.provider_edge.specs.Control.{controlled}
 use Rattle.edge_forwarding.specs.Views.{view}
 use Rattle.provider_edge.proofs.SlotLemmas.{new_away, new_there}
@@ -7,9 +7,9 @@ use Rattle.provider_edge.proofs.control.Control.is_new.Goals as goal
 
 pub returns-then-is_chosen : goal.returns-then-is_chosen
 returns-then-is_chosen c = λ rest.
-    new_there (is_wire c.args.wire ((controlled c.args.self.now rest).chosen c.args.service.0)) (is_wire c.args.wire (view None c.args.chosen.now c.args.service.0)) c.is_chosen.result c.is_wire_of.result
+    new_there (is_chosen_wire c.args.wire ((controlled c.args.self.now rest).chosen c.args.service.0)) (is_chosen_wire c.args.wire (view None c.args.chosen.now c.args.service.0)) c.is_chosen.result c.is_wire_of.result
     (c.is_chosen.ensures rest) c.if-is_chosen.true c.is_wire_of.ensures
 
 pub returns-else-is_chosen : goal.returns-else-is_chosen
 returns-else-is_chosen c = λ rest.
-    new_away (is_wire c.args.wire ((controlled c.args.self.now rest).chosen c.args.service.0)) (is_wire c.args.wire (view None c.args.chosen.now c.args.service.0)) c.is_chosen.result (c.is_chosen.ensures rest) c.if-is_chosen.false
+    new_away (is_chosen_wire c.args.wire ((controlled c.args.self.now rest).chosen c.args.service.0)) (is_chosen_wire c.args.wire (view None c.args.chosen.now c.args.service.0)) c.is_chosen.result (c.is_chosen.ensures rest) c.if-is_chosen.false
