@@ -16,9 +16,9 @@ use Rattle.edge_model.specs.Hear.{acts, acts_on, advice_of, advises}
 use Rattle.edge_model.specs.Signal.{end_of_fec, with_end_changed}
 use Rattle.edge_model.specs.State.{EdgeState, has_end}
 use Rattle.edge_model.specs.Work.{Answers, Work}
-use Rattle.provider_edge.specs.Control.{binds_to}
 use Rattle.peer_dialogue.specs.Peering.{at_edge}
 use Rattle.provider_edge.proofs.RowLemmas.{mapping_heard, release_heard}
+use Rattle.provider_edge.specs.Hearing.{binds_to}
 
 pub acts_not : (plan : Plan) (told : Answers) (peer : EdgeId) (message : Message) (edge : EdgeState) (calls : List LinkCall) (out : List Effect) → has_end edge peer ≡ false
     → at_edge edge calls out ≡ acts plan told peer message true (at_edge edge calls out)

@@ -31,13 +31,14 @@ use Rattle.edge_model.specs.State.{EdgeState, end_at, with_addresses}
 use Rattle.edge_model.specs.Synced.{InSync}
 use Rattle.edge_model.specs.Work.{Agrees, Answers, Work, changes, gives, posts}
 use Rattle.pw_ends.specs.Ends.{end_in, place_of}
-use Rattle.provider_edge.specs.Control.{ControlLists, IsControl, KeepsPlan, Rest, at_control, controlled}
 use Rattle.edge_forwarding.specs.Forwarding.{ForwardingLists, KeepsForwarding, domain_of, entries_of, open_ports, with_forwarding}
 use Rattle.peer_dialogue.specs.Peering.{at_edge}
-use Rattle.provider_edge.proofs.ForwardLemmas.{controlled_forwarding, learned_read}
 use Rattle.edge_forwarding.proofs.OpenLemmas.{same_tests}
 use Rattle.peer_dialogue.proofs.SpeakerLemmas.{told_last}
+use Rattle.provider_edge.proofs.ForwardLemmas.{learned_read, seen_forwarding}
 use Rattle.provider_edge.proofs.SyncLemmas.{forwards_hearing, open_forwards}
+use Rattle.provider_edge.specs.Invariant.{IsEdge}
+use Rattle.provider_edge.specs.Lists.{EdgeLists, Keeps, seen}
 
 -- ---- a packet is sent
 
@@ -85,25 +86,25 @@ under_some told came frame me place row own remote binding offer packet work x a
     ∙ (ap (λ (b : Option Binding). sends_under told came frame me place (Some own) b work) (sym holds)
     ∙ ap (λ (r : Option WirePlan). sends_under told came frame me place r remote work) (sym at)))
 
-me_in : (c : ControlLists) (rest : Rest) (calls : List LinkCall) (out : List Effect) → (at_control c rest calls out).edge.me ≡ c.me
-unfolding controlled at_edge
-me_in c rest calls out = refl
+me_in : (c : EdgeLists) (calls : List LinkCall) (out : List Effect) → (at_edge (seen c) calls out).edge.me ≡ c.me
+unfolding seen at_edge
+me_in c calls out = refl
 
-end_is : (c : ControlLists) (rest : Rest) (calls : List LinkCall) (out : List Effect) (slot : ℕ) → end_at (at_control c rest calls out).edge (place_of c.ends slot) ≡ end_in c.ends slot
-unfolding controlled at_edge
-end_is c rest calls out slot = refl
+end_is : (c : EdgeLists) (calls : List LinkCall) (out : List Effect) (slot : ℕ) → end_at (at_edge (seen c) calls out).edge (place_of c.ends slot) ≡ end_in c.ends slot
+unfolding seen at_edge
+end_is c calls out slot = refl
 
 pub copy_none : (told : Answers) (came : Arrival) (frame : List ℕ) (plan : Plan) (end : Option EndPlace) (work : Work) → end ≡ None → work ≡ sends_copy plan told came frame end work
 copy_none told came frame plan end work none = sym (ap (λ (e : Option EndPlace). sends_copy plan told came frame e work) none)
 
-pub copy_some : (c : ControlLists) (told : Answers) (came : Arrival) (frame : List ℕ) (rest : Rest) (slot : ℕ) (end : Option EndPlace) (calls : List LinkCall) (out : List Effect) (x : Work) → end ≡ Some (place_of c.ends slot)
-    → x ≡ sends_under told came frame c.me (place_of c.ends slot) (wire_row c.plan (place_of c.ends slot).wire) (end_in c.ends slot).remote (at_control c rest calls out)
-    → x ≡ sends_copy c.plan told came frame end (at_control c rest calls out)
-copy_some c told came frame rest slot end calls out x some is =
+pub copy_some : (c : EdgeLists) (told : Answers) (came : Arrival) (frame : List ℕ) (slot : ℕ) (end : Option EndPlace) (calls : List LinkCall) (out : List Effect) (x : Work) → end ≡ Some (place_of c.ends slot)
+    → x ≡ sends_under told came frame c.me (place_of c.ends slot) (wire_row c.plan (place_of c.ends slot).wire) (end_in c.ends slot).remote (at_edge (seen c) calls out)
+    → x ≡ sends_copy c.plan told came frame end (at_edge (seen c) calls out)
+copy_some c told came frame slot end calls out x some is =
     is
-    ∙ (ap (λ (m : EdgeId). sends_under told came frame m (place_of c.ends slot) (wire_row c.plan (place_of c.ends slot).wire) (end_in c.ends slot).remote (at_control c rest calls out)) (sym (me_in c rest calls out))
-    ∙ (ap (λ e. sends_under told came frame (at_control c rest calls out).edge.me (place_of c.ends slot) (wire_row c.plan (place_of c.ends slot).wire) e.remote (at_control c rest calls out)) (sym (end_is c rest calls out slot))
-    ∙ ap (λ (e : Option EndPlace). sends_copy c.plan told came frame e (at_control c rest calls out)) (sym some)))
+    ∙ (ap (λ (m : EdgeId). sends_under told came frame m (place_of c.ends slot) (wire_row c.plan (place_of c.ends slot).wire) (end_in c.ends slot).remote (at_edge (seen c) calls out)) (sym (me_in c calls out))
+    ∙ (ap (λ e. sends_under told came frame (at_edge (seen c) calls out).edge.me (place_of c.ends slot) (wire_row c.plan (place_of c.ends slot).wire) e.remote (at_edge (seen c) calls out)) (sym (end_is c calls out slot))
+    ∙ ap (λ (e : Option EndPlace). sends_copy c.plan told came frame e (at_edge (seen c) calls out)) (sym some)))
 
 -- ---- the copy by a port
 
@@ -115,21 +116,21 @@ copied_circuit plan told came frame x circuit edge calls out given is gave =
     ap (λ (l : List Effect). record { edge = edge; calls = calls; effects = l; idle = false }) gave
     ∙ ap (λ (y : Port). copy_by plan told came frame y (record { edge = edge; calls = calls; effects = out; idle = false })) (sym is)
 
-pub copied_mesh : (c : ControlLists) (told : Answers) (came : Arrival) (frame : List ℕ) (x : Port) (wire : WireId) (rest : Rest) (calls : List LinkCall) (out : List Effect) (next : Work) → x ≡ port.Mesh wire
-    → next ≡ sends_copy c.plan told came frame (wire_end c.plan c.me wire) (at_control c rest calls out)
-    → next ≡ copy_by c.plan told came frame x (at_control c rest calls out)
-copied_mesh c told came frame x wire rest calls out next is sent =
+pub copied_mesh : (c : EdgeLists) (told : Answers) (came : Arrival) (frame : List ℕ) (x : Port) (wire : WireId) (calls : List LinkCall) (out : List Effect) (next : Work) → x ≡ port.Mesh wire
+    → next ≡ sends_copy c.plan told came frame (wire_end c.plan c.me wire) (at_edge (seen c) calls out)
+    → next ≡ copy_by c.plan told came frame x (at_edge (seen c) calls out)
+copied_mesh c told came frame x wire calls out next is sent =
     sent
-    ∙ (ap (λ (m : EdgeId). sends_copy c.plan told came frame (wire_end c.plan m wire) (at_control c rest calls out)) (sym (me_in c rest calls out))
-    ∙ ap (λ (y : Port). copy_by c.plan told came frame y (at_control c rest calls out)) (sym is))
+    ∙ (ap (λ (m : EdgeId). sends_copy c.plan told came frame (wire_end c.plan m wire) (at_edge (seen c) calls out)) (sym (me_in c calls out))
+    ∙ ap (λ (y : Port). copy_by c.plan told came frame y (at_edge (seen c) calls out)) (sym is))
 
-pub copied_spoke : (c : ControlLists) (told : Answers) (came : Arrival) (frame : List ℕ) (x : Port) (wire : WireId) (rest : Rest) (calls : List LinkCall) (out : List Effect) (next : Work) → x ≡ port.Spoke wire
-    → next ≡ sends_copy c.plan told came frame (wire_end c.plan c.me wire) (at_control c rest calls out)
-    → next ≡ copy_by c.plan told came frame x (at_control c rest calls out)
-copied_spoke c told came frame x wire rest calls out next is sent =
+pub copied_spoke : (c : EdgeLists) (told : Answers) (came : Arrival) (frame : List ℕ) (x : Port) (wire : WireId) (calls : List LinkCall) (out : List Effect) (next : Work) → x ≡ port.Spoke wire
+    → next ≡ sends_copy c.plan told came frame (wire_end c.plan c.me wire) (at_edge (seen c) calls out)
+    → next ≡ copy_by c.plan told came frame x (at_edge (seen c) calls out)
+copied_spoke c told came frame x wire calls out next is sent =
     sent
-    ∙ (ap (λ (m : EdgeId). sends_copy c.plan told came frame (wire_end c.plan m wire) (at_control c rest calls out)) (sym (me_in c rest calls out))
-    ∙ ap (λ (y : Port). copy_by c.plan told came frame y (at_control c rest calls out)) (sym is))
+    ∙ (ap (λ (m : EdgeId). sends_copy c.plan told came frame (wire_end c.plan m wire) (at_edge (seen c) calls out)) (sym (me_in c calls out))
+    ∙ ap (λ (y : Port). copy_by c.plan told came frame y (at_edge (seen c) calls out)) (sym is))
 
 -- the port is a target, or it is not
 pub copied_if : (targets : Bool) (work copied x : Work) → targets ≡ true → x ≡ copied → x ≡ cond targets copied work
@@ -142,44 +143,44 @@ copied_else true work copied away = absurd (cc (away))
 
 -- ---- a frame is heard
 
-pub heard_control : (c : ControlLists) (f : ForwardingLists) (service : ServiceId) (frame : List ℕ) (arrival : ℕ) (rest : Rest) → IsControl c → KeepsForwarding c.forwarding f
+pub heard_edge : (c : EdgeLists) (f : ForwardingLists) (service : ServiceId) (frame : List ℕ) (arrival : ℕ) → IsEdge c → KeepsForwarding c.forwarding f
     → ((edge : EdgeState) → with_forwarding f edge ≡ hearing service frame arrival (with_forwarding c.forwarding edge))
-    → controlled (record c { forwarding = f }) rest ≡ hearing service frame arrival (controlled c rest)
-heard_control c f service frame arrival rest is keeps step = controlled_forwarding (hearing service frame arrival) c f rest is keeps step
+    → seen (record c { forwarding = f }) ≡ hearing service frame arrival (seen c)
+heard_edge c f service frame arrival is keeps step = seen_forwarding (hearing service frame arrival) c f is keeps step
 
-pub heard_targets : (c : ControlLists) (f : ForwardingLists) (service : ServiceId) (frame : List ℕ) (arrival : ℕ) (targets : List ℕ) (rest : Rest) → IsControl c → InSync c.plan (controlled c rest) → KeepsForwarding c.forwarding f
+pub heard_targets : (c : EdgeLists) (f : ForwardingLists) (service : ServiceId) (frame : List ℕ) (arrival : ℕ) (targets : List ℕ) → IsEdge c → InSync c.plan (seen c) → KeepsForwarding c.forwarding f
     → ((edge : EdgeState) → with_forwarding f edge ≡ hearing service frame arrival (with_forwarding c.forwarding edge))
     → has targets ≡ is_target (ports_of c.forwarding.plan service c.forwarding.me) (open_ports c.forwarding service) arrival (known_port (entries_of (domain_of f service.0)) (destination frame))
-    → has targets ≡ targets_of c.plan (controlled (record c { forwarding = f }) rest) service (ports_of c.plan service c.me) frame arrival
-heard_targets c f service frame arrival targets rest is synced keeps step decided =
-    let now : EdgeState = controlled (record c { forwarding = f }) rest in
+    → has targets ≡ targets_of c.plan (seen (record c { forwarding = f })) service (ports_of c.plan service c.me) frame arrival
+heard_targets c f service frame arrival targets is synced keeps step decided =
+    let now : EdgeState = seen (record c { forwarding = f }) in
     let ports : List Port = ports_of c.plan service c.me in
     let known : Option ℕ = known_port (entries_of (domain_of f service.0)) (destination frame) in
-    let same : port_forwards c.plan (controlled c rest) ports ≡ port_forwards c.plan now ports =
-    same_tests (port_forwards c.plan (controlled c rest) ports) (port_forwards c.plan now ports)
-    (λ p. sym (forwards_hearing c.plan (controlled c rest) service frame arrival ports p) ∙ ap (λ (e : EdgeState). port_forwards c.plan e ports p) (sym (heard_control c f service frame arrival rest is keeps step))) in
+    let same : port_forwards c.plan (seen c) ports ≡ port_forwards c.plan now ports =
+    same_tests (port_forwards c.plan (seen c) ports) (port_forwards c.plan now ports)
+    (λ p. sym (forwards_hearing c.plan (seen c) service frame arrival ports p) ∙ ap (λ (e : EdgeState). port_forwards c.plan e ports p) (sym (heard_edge c f service frame arrival is keeps step))) in
     decided
     ∙ (ap (λ (p : Plan). is_target (ports_of p service c.forwarding.me) (open_ports c.forwarding service) arrival known) is.plan
     ∙ (ap (λ (m : EdgeId). is_target (ports_of c.plan service m) (open_ports c.forwarding service) arrival known) is.me
-    ∙ (ap (λ (t : ℕ → Bool). is_target ports t arrival known) (open_forwards c service rest is synced ∙ same)
-    ∙ ap (λ es. is_target ports (port_forwards c.plan now ports) arrival (known_port es (destination frame))) (learned_read (record c { forwarding = f }) service (entries_of (domain_of f service.0)) rest refl))))
+    ∙ (ap (λ (t : ℕ → Bool). is_target ports t arrival known) (open_forwards c service is synced ∙ same)
+    ∙ ap (λ es. is_target ports (port_forwards c.plan now ports) arrival (known_port es (destination frame))) (learned_read (record c { forwarding = f }) service (entries_of (domain_of f service.0)) refl))))
 
 pub forwarded_none : (plan : Plan) (told : Answers) (came : Arrival) (service : ServiceId) (frame : List ℕ) (port : Option ℕ) (work : Work) → port ≡ None → work ≡ forwarded plan told came service frame port work
 forwarded_none plan told came service frame port work none = sym (ap (λ (p : Option ℕ). forwarded plan told came service frame p work) none)
 
-pub forwarded_some : (c now : ControlLists) (told : Answers) (came : Arrival) (service : ServiceId) (frame : List ℕ) (port : Option ℕ) (arrival : ℕ) (targets : ℕ → Bool) (rest : Rest) (calls : List LinkCall) (out : List Effect) (x : Work)
-    → port ≡ Some arrival → KeepsPlan c now → controlled now rest ≡ hearing service frame arrival (controlled c rest)
-    → targets ≡ targets_of c.plan (controlled now rest) service (ports_of c.plan service c.me) frame arrival
-    → x ≡ copies targets (copy_by now.plan told came frame) 0 (ports_of now.plan service now.me) (at_control now rest calls out)
-    → x ≡ forwarded c.plan told came service frame port (at_control c rest calls out)
-unfolding at_edge changes controlled with_addresses
-forwarded_some c now told came service frame port arrival targets rest calls out x is keeps hears chosen copied =
+pub forwarded_some : (c now : EdgeLists) (told : Answers) (came : Arrival) (service : ServiceId) (frame : List ℕ) (port : Option ℕ) (arrival : ℕ) (targets : ℕ → Bool) (calls : List LinkCall) (out : List Effect) (x : Work)
+    → port ≡ Some arrival → Keeps c now → seen now ≡ hearing service frame arrival (seen c)
+    → targets ≡ targets_of c.plan (seen now) service (ports_of c.plan service c.me) frame arrival
+    → x ≡ copies targets (copy_by now.plan told came frame) 0 (ports_of now.plan service now.me) (at_edge (seen now) calls out)
+    → x ≡ forwarded c.plan told came service frame port (at_edge (seen c) calls out)
+unfolding at_edge changes seen with_addresses
+forwarded_some c now told came service frame port arrival targets calls out x is keeps hears chosen copied =
     copied
-    ∙ (ap (λ (p : Plan). copies targets (copy_by p told came frame) 0 (ports_of p service now.me) (at_edge (controlled now rest) calls out)) keeps.plan
-    ∙ (ap (λ (m : EdgeId). copies targets (copy_by c.plan told came frame) 0 (ports_of c.plan service m) (at_edge (controlled now rest) calls out)) keeps.me
-    ∙ (ap (λ (t : ℕ → Bool). copies t (copy_by c.plan told came frame) 0 (ports_of c.plan service c.me) (at_edge (controlled now rest) calls out)) chosen
+    ∙ (ap (λ (p : Plan). copies targets (copy_by p told came frame) 0 (ports_of p service now.me) (at_edge (seen now) calls out)) keeps.plan
+    ∙ (ap (λ (m : EdgeId). copies targets (copy_by c.plan told came frame) 0 (ports_of c.plan service m) (at_edge (seen now) calls out)) keeps.me
+    ∙ (ap (λ (t : ℕ → Bool). copies t (copy_by c.plan told came frame) 0 (ports_of c.plan service c.me) (at_edge (seen now) calls out)) chosen
     ∙ (ap (λ (s : EdgeState). copies (targets_of c.plan s service (ports_of c.plan service c.me) frame arrival) (copy_by c.plan told came frame) 0 (ports_of c.plan service c.me) (at_edge s calls out)) hears
-    ∙ ap (λ (p : Option ℕ). forwarded c.plan told came service frame p (at_edge (controlled c rest) calls out)) (sym is)))))
+    ∙ ap (λ (p : Option ℕ). forwarded c.plan told came service frame p (at_edge (seen c) calls out)) (sym is)))))
 
 -- ---- what was read
 

@@ -32,12 +32,12 @@ use Rattle.edge_model.specs.Signal.{end_of_fec}
 use Rattle.edge_model.specs.State.{EdgeState}
 use Rattle.edge_model.specs.Withdraw.{tells_pieces}
 use Rattle.edge_model.specs.Work.{Answers, Work, changes}
-use Rattle.provider_edge.specs.Control.{ControlLists, KeepsPlan, Rest, at_control, controlled}
 use Rattle.peer_dialogue.specs.Peering.{at_edge}
-use Rattle.provider_edge.specs.Taking.{copied_by}
-use Rattle.provider_edge.proofs.MendLemmas.{me_at}
 use Rattle.edge_forwarding.proofs.OpenLemmas.{same_tests}
+use Rattle.provider_edge.proofs.MendLemmas.{me_at}
 use Rattle.provider_edge.proofs.RowLemmas.{changed_edge}
+use Rattle.provider_edge.specs.Lists.{EdgeLists, Keeps, seen}
+use Rattle.provider_edge.specs.Taking.{copied_by}
 
 -- ---- the message names a wire, or nothing
 
@@ -94,13 +94,13 @@ there [] i none below = absurd (omega arith)
 there (x ∷ xs) zero none below = absurd (cc (none))
 there (x ∷ xs) (suc i) none below = there xs i none (omega arith)
 
-pub terminal_clears : (c : ControlLists) (told : Answers) (addresses : List Mac) (place at : EndPlace) (service : ServiceId) (found : Option ℕ) (rest : Rest) (calls : List LinkCall) (out : List Effect) (next : Work)
+pub terminal_clears : (c : EdgeLists) (told : Answers) (addresses : List Mac) (place at : EndPlace) (service : ServiceId) (found : Option ℕ) (calls : List LinkCall) (out : List Effect) (next : Work)
     → place ≡ at → not place.terminal ≡ false → place.wire.0 < length c.plan.wires → ((row : WirePlan) → wire_row c.plan at.wire ≡ Some row → service ≡ row.service)
-    → found ≡ position (is_wire_port place.wire) (ports_of c.plan service c.me) → next ≡ clears_at c.plan told addresses service found (at_control c rest calls out)
-    → next ≡ clears_by c.plan told addresses (Some at) (at_control c rest calls out)
-terminal_clears c told addresses place at service found rest calls out next is ends within of ported cleared = by (wire_row c.plan at.wire) refl where
+    → found ≡ position (is_wire_port place.wire) (ports_of c.plan service c.me) → next ≡ clears_at c.plan told addresses service found (at_edge (seen c) calls out)
+    → next ≡ clears_by c.plan told addresses (Some at) (at_edge (seen c) calls out)
+terminal_clears c told addresses place at service found calls out next is ends within of ported cleared = by (wire_row c.plan at.wire) refl where
   work : Work
-  work = at_control c rest calls out
+  work = at_edge (seen c) calls out
 
   by : (row : Option WirePlan) → wire_row c.plan at.wire ≡ row → next ≡ clears_by c.plan told addresses (Some at) work
   by None none = absurd (there c.plan.wires at.wire.0 none (subst (λ (p : EndPlace). p.wire.0 < length c.plan.wires) is within))
@@ -108,7 +108,7 @@ terminal_clears c told addresses place at service found rest calls out next is e
       cleared
       ∙ (ap (λ (f : Option ℕ). clears_at c.plan told addresses service f work) (ported ∙ ap (λ (p : EndPlace). position (is_wire_port p.wire) (ports_of c.plan service c.me)) is)
       ∙ (ap (λ (s : ServiceId). clears_at c.plan told addresses s (position (is_wire_port at.wire) (ports_of c.plan s c.me)) work) (of row some)
-      ∙ (ap (λ (m : EdgeId). clears_at c.plan told addresses row.service (position (is_wire_port at.wire) (ports_of c.plan row.service m)) work) (sym (me_at c rest calls out))
+      ∙ (ap (λ (m : EdgeId). clears_at c.plan told addresses row.service (position (is_wire_port at.wire) (ports_of c.plan row.service m)) work) (sym (me_at c calls out))
       ∙ (ap (λ (r : Option WirePlan). clears_wire c.plan told addresses at r work) (sym some)
       ∙ ap (λ (b : Bool). cond b (clears_wire c.plan told addresses at (wire_row c.plan at.wire) work) work) (sym (sym (ap (λ (p : EndPlace). p.terminal) is) ∙ not_false place.terminal ends))))))
 
@@ -127,45 +127,45 @@ found_is_wire wire ports (Some from) is = behind (slice_get ports from) ((found_
 pub no_port_clears : (plan : Plan) (told : Answers) (addresses : List Mac) (service : ServiceId) (found : Option ℕ) (work : Work) → found ≡ None → work ≡ clears_at plan told addresses service found work
 no_port_clears plan told addresses service found work none = sym (ap (λ (f : Option ℕ). clears_at plan told addresses service f work) none)
 
-pub cleared_on : (c mid : ControlLists) (told : Answers) (addresses given : List Mac) (service : ServiceId) (from : ℕ) (found : Option ℕ) (rest : Rest) (calls : List LinkCall) (out : List Effect) (next : Work)
-    → KeepsPlan c mid → found ≡ Some from → given ≡ addresses → controlled mid rest ≡ withdrawing_at service addresses from (controlled c rest)
-    → next ≡ passes_on mid.plan told given service from (role_of mid.plan service mid.me) (at_control mid rest calls out)
-    → next ≡ clears_at c.plan told addresses service found (at_control c rest calls out)
-cleared_on c mid told addresses given service from found rest calls out next keeps some same forgot passed =
-    let work : Work = at_control c rest calls out in
+pub cleared_on : (c mid : EdgeLists) (told : Answers) (addresses given : List Mac) (service : ServiceId) (from : ℕ) (found : Option ℕ) (calls : List LinkCall) (out : List Effect) (next : Work)
+    → Keeps c mid → found ≡ Some from → given ≡ addresses → seen mid ≡ withdrawing_at service addresses from (seen c)
+    → next ≡ passes_on mid.plan told given service from (role_of mid.plan service mid.me) (at_edge (seen mid) calls out)
+    → next ≡ clears_at c.plan told addresses service found (at_edge (seen c) calls out)
+cleared_on c mid told addresses given service from found calls out next keeps some same forgot passed =
+    let work : Work = at_edge (seen c) calls out in
     let after : Work = changes (withdrawing_at service addresses from) work in
     passed
-    ∙ (ap (λ (w : Work). passes_on mid.plan told given service from (role_of mid.plan service mid.me) w) (changed_edge (withdrawing_at service addresses from) (controlled c rest) (controlled mid rest) calls out forgot)
+    ∙ (ap (λ (w : Work). passes_on mid.plan told given service from (role_of mid.plan service mid.me) w) (changed_edge (withdrawing_at service addresses from) (seen c) (seen mid) calls out forgot)
     ∙ (ap (λ (l : List Mac). passes_on mid.plan told l service from (role_of mid.plan service mid.me) after) same
     ∙ (ap (λ (p : Plan). passes_on p told addresses service from (role_of p service mid.me) after) keeps.plan
-    ∙ (ap (λ (m : EdgeId). passes_on c.plan told addresses service from (role_of c.plan service m) after) (keeps.me ∙ sym (me_at c rest calls out))
+    ∙ (ap (λ (m : EdgeId). passes_on c.plan told addresses service from (role_of c.plan service m) after) (keeps.me ∙ sym (me_at c calls out))
     ∙ ap (λ (f : Option ℕ). clears_at c.plan told addresses service f work) (sym some)))))
 
 pub no_role_passes : (plan : Plan) (told : Answers) (addresses : List Mac) (service : ServiceId) (from : ℕ) (role other : Option Role) (work : Work) → role ≡ other → role ≡ None → work ≡ passes_on plan told addresses service from other work
 no_role_passes plan told addresses service from role other work is none = sym (ap (λ (r : Option Role). passes_on plan told addresses service from r work) (sym is ∙ none))
 
-pub no_ports_pass : (c : ControlLists) (told : Answers) (addresses : List Mac) (service : ServiceId) (from : ℕ) (role : Role) (found other : Option Role) (rest : Rest) (calls : List LinkCall) (out : List Effect)
-    → found ≡ other → found ≡ Some role → ports_of c.plan service c.me ≡ [] → at_control c rest calls out ≡ passes_on c.plan told addresses service from other (at_control c rest calls out)
-no_ports_pass c told addresses service from role found other rest calls out is some none =
-    let work : Work = at_control c rest calls out in
+pub no_ports_pass : (c : EdgeLists) (told : Answers) (addresses : List Mac) (service : ServiceId) (from : ℕ) (role : Role) (found other : Option Role) (calls : List LinkCall) (out : List Effect)
+    → found ≡ other → found ≡ Some role → ports_of c.plan service c.me ≡ [] → at_edge (seen c) calls out ≡ passes_on c.plan told addresses service from other (at_edge (seen c) calls out)
+no_ports_pass c told addresses service from role found other calls out is some none =
+    let work : Work = at_edge (seen c) calls out in
     sym (ap (λ (r : Option Role). passes_on c.plan told addresses service from r work) (sym is ∙ some)
-    ∙ (ap (λ (m : EdgeId). copies (is_passed_to role (ports_of c.plan service m) from) (tells_at c.plan told addresses) 0 (ports_of c.plan service m) work) (me_at c rest calls out)
+    ∙ (ap (λ (m : EdgeId). copies (is_passed_to role (ports_of c.plan service m) from) (tells_at c.plan told addresses) 0 (ports_of c.plan service m) work) (me_at c calls out)
     ∙ ap (λ (ports : List Port). copies (is_passed_to role (ports_of c.plan service c.me) from) (tells_at c.plan told addresses) 0 ports work) none))
 
-pub passed_to : (c : ControlLists) (told : Answers) (addresses : List Mac) (service : ServiceId) (from : ℕ) (role : Role) (found other : Option Role) (ports : List Port) (passed : ℕ → Bool) (rest : Rest) (calls : List LinkCall) (out : List Effect) (next : Work)
+pub passed_to : (c : EdgeLists) (told : Answers) (addresses : List Mac) (service : ServiceId) (from : ℕ) (role : Role) (found other : Option Role) (ports : List Port) (passed : ℕ → Bool) (calls : List LinkCall) (out : List Effect) (next : Work)
     → found ≡ other → found ≡ Some role → ports ≡ ports_of c.plan service c.me → ((p : ℕ) → passed p ≡ is_passed_to role ports from p)
-    → next ≡ copies passed (tells_at c.plan told addresses) 0 (ports_of c.plan service c.me) (at_control c rest calls out)
-    → next ≡ passes_on c.plan told addresses service from other (at_control c rest calls out)
-passed_to c told addresses service from role found other ports passed rest calls out next is some are passes told_on =
-    let work : Work = at_control c rest calls out in
+    → next ≡ copies passed (tells_at c.plan told addresses) 0 (ports_of c.plan service c.me) (at_edge (seen c) calls out)
+    → next ≡ passes_on c.plan told addresses service from other (at_edge (seen c) calls out)
+passed_to c told addresses service from role found other ports passed calls out next is some are passes told_on =
+    let work : Work = at_edge (seen c) calls out in
     told_on
     ∙ (ap (λ (t : ℕ → Bool). copies t (tells_at c.plan told addresses) 0 (ports_of c.plan service c.me) work) (same_tests passed (is_passed_to role ports from) passes ∙ ap (λ (l : List Port). is_passed_to role l from) are)
-    ∙ (ap (λ (m : EdgeId). copies (is_passed_to role (ports_of c.plan service m) from) (tells_at c.plan told addresses) 0 (ports_of c.plan service m) work) (sym (me_at c rest calls out))
+    ∙ (ap (λ (m : EdgeId). copies (is_passed_to role (ports_of c.plan service m) from) (tells_at c.plan told addresses) 0 (ports_of c.plan service m) work) (sym (me_at c calls out))
     ∙ ap (λ (r : Option Role). passes_on c.plan told addresses service from r work) (sym (sym is ∙ some))))
 
 -- ---- port by port
 
-pub where_kept : (c now : ControlLists) (told : Answers) (addresses : List Mac) (service : ServiceId) (p : ℕ) (passed : Bool) (work next : Work) → KeepsPlan c now
+pub where_kept : (c now : EdgeLists) (told : Answers) (addresses : List Mac) (service : ServiceId) (p : ℕ) (passed : Bool) (work next : Work) → Keeps c now
     → next ≡ cond passed (copied_by (tells_at now.plan told addresses) (slice_get (ports_of now.plan service now.me) p) work) work
     → next ≡ cond passed (copied_by (tells_at c.plan told addresses) (slice_get (ports_of c.plan service c.me) p) work) work
 where_kept c now told addresses service p passed work next keeps is =
@@ -182,19 +182,19 @@ told_by_some tells found other x work next is some told = told ∙ ap (λ (o : O
 pub told_circuit : (plan : Plan) (told : Answers) (addresses : List Mac) (x y : Port) (work : Work) → x ≡ y → ((w : Work) → tells_at plan told addresses y w ≡ w) → work ≡ tells_at plan told addresses x work
 told_circuit plan told addresses x y work is still = sym (ap (λ (p : Port). tells_at plan told addresses p work) is ∙ still work)
 
-pub told_mesh : (c : ControlLists) (told : Answers) (addresses : List Mac) (x : Port) (wire : WireId) (rest : Rest) (calls : List LinkCall) (out : List Effect) (next : Work) → x ≡ port.Mesh wire
-    → next ≡ tells_by told addresses (wire_end c.plan c.me wire) (at_control c rest calls out) → next ≡ tells_at c.plan told addresses x (at_control c rest calls out)
-told_mesh c told addresses x wire rest calls out next is told_on =
+pub told_mesh : (c : EdgeLists) (told : Answers) (addresses : List Mac) (x : Port) (wire : WireId) (calls : List LinkCall) (out : List Effect) (next : Work) → x ≡ port.Mesh wire
+    → next ≡ tells_by told addresses (wire_end c.plan c.me wire) (at_edge (seen c) calls out) → next ≡ tells_at c.plan told addresses x (at_edge (seen c) calls out)
+told_mesh c told addresses x wire calls out next is told_on =
     told_on
-    ∙ (ap (λ (m : EdgeId). tells_by told addresses (wire_end c.plan m wire) (at_control c rest calls out)) (sym (me_at c rest calls out))
-    ∙ ap (λ (y : Port). tells_at c.plan told addresses y (at_control c rest calls out)) (sym is))
+    ∙ (ap (λ (m : EdgeId). tells_by told addresses (wire_end c.plan m wire) (at_edge (seen c) calls out)) (sym (me_at c calls out))
+    ∙ ap (λ (y : Port). tells_at c.plan told addresses y (at_edge (seen c) calls out)) (sym is))
 
-pub told_spoke : (c : ControlLists) (told : Answers) (addresses : List Mac) (x : Port) (wire : WireId) (rest : Rest) (calls : List LinkCall) (out : List Effect) (next : Work) → x ≡ port.Spoke wire
-    → next ≡ tells_by told addresses (wire_end c.plan c.me wire) (at_control c rest calls out) → next ≡ tells_at c.plan told addresses x (at_control c rest calls out)
-told_spoke c told addresses x wire rest calls out next is told_on =
+pub told_spoke : (c : EdgeLists) (told : Answers) (addresses : List Mac) (x : Port) (wire : WireId) (calls : List LinkCall) (out : List Effect) (next : Work) → x ≡ port.Spoke wire
+    → next ≡ tells_by told addresses (wire_end c.plan c.me wire) (at_edge (seen c) calls out) → next ≡ tells_at c.plan told addresses x (at_edge (seen c) calls out)
+told_spoke c told addresses x wire calls out next is told_on =
     told_on
-    ∙ (ap (λ (m : EdgeId). tells_by told addresses (wire_end c.plan m wire) (at_control c rest calls out)) (sym (me_at c rest calls out))
-    ∙ ap (λ (y : Port). tells_at c.plan told addresses y (at_control c rest calls out)) (sym is))
+    ∙ (ap (λ (m : EdgeId). tells_by told addresses (wire_end c.plan m wire) (at_edge (seen c) calls out)) (sym (me_at c calls out))
+    ∙ ap (λ (y : Port). tells_at c.plan told addresses y (at_edge (seen c) calls out)) (sym is))
 
 pub no_end_told : (told : Answers) (addresses : List Mac) (end : Option EndPlace) (work : Work) → end ≡ None → work ≡ tells_by told addresses end work
 no_end_told told addresses end work none = sym (ap (λ (e : Option EndPlace). tells_by told addresses e work) none)

@@ -1,4 +1,4 @@
--- An edge whose control has worked, in lists as in maps; and its inputs, exit by exit.
+-- The inputs of an edge, exit by exit.
 use Rattle.std.proofs.Common.{◌≡◌, ◌<◌, ◌&&◌, ◌++◌, ◌∙◌, ◌==◌, ◌↔◌, Bor, ℕ, zero, suc, Bool, true, false, List, [], ◌∷◌, Option, Some, None, cond, not, length, option_copied, option_map, slice_get, slice_set, slice_index_or, nat_eq, refl, ap, sym, subst, arith}
 use Rattle.std.proofs.Math.Bool.{beq}
 use Rattle.std.specs.List.{find}
@@ -38,122 +38,26 @@ use Rattle.edge_model.proofs.PlaceLemmas.{all-map}
 use Rattle.edge_model.specs.Tick.{counted, forgetting, ticks_sessions}
 use Rattle.edge_model.specs.Wire.{is_own_spoke, priority_input, status_input, turned_wire, wire_input}
 use Rattle.edge_model.specs.Work.{Answers, Work, beginning, changes, idles}
-use Rattle.provider_edge.specs.Control.{ControlLists, KeepsPlan, Rest, at_control, controlled, holding}
-use Rattle.provider_edge.specs.EndOf.{is_of_segment}
-use Rattle.provider_edge.specs.Invariant.{IsEdge}
-use Rattle.provider_edge.specs.Lists.{EdgeLists, Keeps, rest_of, seen, worked}
-use Rattle.peer_dialogue.specs.Peering.{Dialogue, at_edge, connection_with, kept_with, peers_between}
+use Rattle.peer_dialogue.specs.Peering.{at_edge, connection_with, peers_between}
 use Rattle.edge_forwarding.specs.Views.{view}
 use Rattle.edge_forwarding.proofs.Views.{same_read, view_at, view_set}
 use Rattle.provider_edge.proofs.WorkLemmas.{other_before, same_already}
-
--- ---- an edge whose control has worked
+use Rattle.provider_edge.specs.Hearing.{AreTakenOut}
+use Rattle.provider_edge.specs.Invariant.{IsEdge}
+use Rattle.provider_edge.specs.Lists.{EdgeLists, Keeps, seen, worked}
 
 -- while it works nothing is said of what was told last of the wires
-pub edge_worked : (e : EdgeLists) (control : ControlLists) (held : List (List ℕ)) → e.stopped ≡ true → KeepsPlan e.control control → length held ≡ length e.held → IsEdge e → IsEdge (record e { control = control; held = held })
-edge_worked e control held working keeps long is = record {
-  checked = is.checked;
-  plan = keeps.plan ∙ is.plan;
-  me = keeps.me ∙ is.me;
-  dialogues = keeps.count ∙ is.dialogues;
-  held = long ∙ is.held;
-  synced = λ going. absurd (cc (sym working ∙ going));
-}
-
-pub edge_control : (e : EdgeLists) (control : ControlLists) → e.stopped ≡ true → KeepsPlan e.control control → IsEdge e → IsEdge (record e { control = control })
-edge_control e control working keeps is = edge_worked e control e.held working keeps refl is
-
-pub seen_at : (e : EdgeLists) → e.control.me ≡ e.me → seen e ≡ controlled e.control (rest_of e)
-unfolding seen controlled
-seen_at e here = λ i. record (seen e) { me = sym here i }
-
-pub seen_is : (e : EdgeLists) → IsEdge e → seen e ≡ controlled e.control (rest_of e)
-seen_is e is = seen_at e is.me
-
-pub worked_state : (change : EdgeState → EdgeState) (e : EdgeLists) (control : ControlLists) → IsEdge e → KeepsPlan e.control control
-    → ((rest : Rest) → controlled control rest ≡ change (controlled e.control rest)) → seen (record e { control = control }) ≡ change (seen e)
-worked_state change e control is keeps worked =
-    seen_at (record e { control = control }) (keeps.me ∙ is.me) ∙ (worked (rest_of e) ∙ ap change (sym (seen_is e is)))
-
-pub worked_edge : (does : Work → Work) (e : EdgeLists) (control : ControlLists) (calls new : List LinkCall) (out given : List Effect) → IsEdge e → KeepsPlan e.control control
-    → at_control control (rest_of e) new given ≡ does (at_control e.control (rest_of e) calls out)
-    → at_edge (seen (record e { control = control })) new given ≡ does (at_edge (seen e) calls out)
-worked_edge does e control calls new out given is keeps worked =
-    ap (λ (s : EdgeState). at_edge s new given) (seen_at (record e { control = control }) (keeps.me ∙ is.me))
-    ∙ (worked ∙ ap (λ (s : EdgeState). does (at_edge s calls out)) (sym (seen_is e is)))
-
 -- ---- octets that are held
 
-none_kept : (held : List ℕ) (d : Option Dialogue) → kept_with held d ≡ None → d ≡ None
-none_kept held None is = refl
-none_kept held (Some d) is = absurd (cc (is))
-
--- what is held of a peer with which no connection stands means nothing
-pub seen_unheld : (e : EdgeLists) (peer : EdgeId) → peer.0 < length e.held → (seen e).peering peer.0 ≡ None → seen (record e { held = slice_set e.held peer.0 [] }) ≡ seen e
-unfolding seen
-seen_unheld e peer within none = λ i. record (seen e) { peering = λ k. at k i } where
-  no_session : view None e.control.dialogues peer.0 ≡ None
-  no_session = none_kept (view [] e.held peer.0) (view None e.control.dialogues peer.0) none
-
-  chosen : (k : ℕ) (b : Bool) → nat_eq k peer.0 ≡ b → kept_with (cond b [] (view [] e.held k)) (view None e.control.dialogues k) ≡ kept_with (view [] e.held k) (view None e.control.dialogues k)
-  chosen k true same =
-      let here : view None e.control.dialogues k ≡ None = ap (view None e.control.dialogues) (eqb-true k peer.0 same) ∙ no_session in
-      ap (kept_with []) here ∙ sym (ap (kept_with (view [] e.held k)) here)
-  chosen k false same = refl
-
-  at : (k : ℕ) → kept_with (view [] (slice_set e.held peer.0 []) k) (view None e.control.dialogues k) ≡ kept_with (view [] e.held k) (view None e.control.dialogues k)
-  at k = ap (λ (f : ℕ → List ℕ). kept_with (f k) (view None e.control.dialogues k)) (view_set [] e.held peer.0 [] within) ∙ chosen k (nat_eq k peer.0) refl
-
-rest_held : (e : EdgeLists) (control : ControlLists) (peer : EdgeId) (octets : List ℕ) → peer.0 < length e.held → rest_of (record e { control = control; held = slice_set e.held peer.0 octets }) ≡ holding peer octets (rest_of e)
-rest_held e control peer octets within = ap (λ (f : ℕ → List ℕ). record { held = f }) (view_set [] e.held peer.0 octets within)
-
-there_some : (x : Option Peering) → is_there x ≡ true → (kept : Peering) × (x ≡ Some kept)
-there_some None is = absurd (cc (is))
-there_some (Some kept) is = (kept, refl)
-
-held_some : (held : List ℕ) (d : Option Dialogue) (kept : Peering) → kept_with held d ≡ Some kept → kept.held ≡ held
-held_some held None kept is = absurd (cc (is))
-held_some held (Some d) kept is =
-    let same : record { session = d.session; held = held; next_id = d.next_id } ≡ kept = cc (is) in
-    sym (ap (λ (p : Peering). p.held) same)
-
-held_seen : (e : EdgeLists) (peer : EdgeId) (kept : Peering) → (seen e).peering peer.0 ≡ Some kept → kept.held ≡ view [] e.held peer.0
-unfolding seen
-held_seen e peer kept is = held_some (view [] e.held peer.0) (view None e.control.dialogues peer.0) kept is
-
-pub heard_edge : (e : EdgeLists) (control : ControlLists) (told : Answers) (peer : EdgeId) (octets before after : List ℕ) (calls new : List LinkCall) (out given : List Effect) → IsEdge e → KeepsPlan e.control control → peer.0 < length e.held
-    → has_end (seen e) peer ≡ true → before ≡ slice_index_or e.held peer.0 before
-    → at_control control (holding peer after (rest_of e)) new given ≡ hears e.control.plan told peer (before ++ octets) (at_control e.control (rest_of e) calls out)
-    → at_edge (seen (record e { control = control; held = slice_set e.held peer.0 after })) new given ≡ hears_on e.plan told peer octets ((seen e).peering peer.0) (at_edge (seen e) calls out)
-heard_edge e control told peer octets before after calls new out given is keeps within there read heard =
-    let (kept, some) = there_some ((seen e).peering peer.0) there in
-    let now : EdgeLists = record e { control = control; held = slice_set e.held peer.0 after } in
-    let same : before ≡ kept.held = read ∙ (same_read e.held peer.0 before [] within ∙ sym (held_seen e peer kept some)) in
-    ap (λ (s : EdgeState). at_edge s new given) (seen_at now (keeps.me ∙ is.me))
-    ∙ (ap (λ (r : Rest). at_control control r new given) (rest_held e control peer after within)
-    ∙ (heard
-    ∙ (ap (λ (p : Plan). hears p told peer (before ++ octets) (at_control e.control (rest_of e) calls out)) is.plan
-    ∙ (ap (λ (o : List ℕ). hears e.plan told peer (o ++ octets) (at_control e.control (rest_of e) calls out)) same
-    ∙ (ap (λ (s : EdgeState). hears e.plan told peer (kept.held ++ octets) (at_edge s calls out)) (sym (seen_is e is))
-    ∙ ap (λ (x : Option Peering). hears_on e.plan told peer octets x (at_edge (seen e) calls out)) (sym some))))))
-
-stands_there : (held : List ℕ) (d : Option Dialogue) → is_there (kept_with held d) ≡ true → is_there d ≡ true
-stands_there held None there = there
-stands_there held (Some d) there = refl
-
-there_within : (xs : List (Option Dialogue)) (k : ℕ) → is_there (view None xs k) ≡ true → k < length xs
+there_within : (xs : List (Option Peering)) (k : ℕ) → is_there (view None xs k) ≡ true → k < length xs
 there_within [] k there = absurd (cc (there))
 there_within (x ∷ xs) zero there = omega arith
 there_within (x ∷ xs) (suc k) there = omega (arith, there_within xs k there)
 
 -- a peer with which a connection stands is in the plan
-pub end_within : (e : EdgeLists) (peer : EdgeId) → IsEdge e → has_end (seen e) peer ≡ true → peer.0 < length e.held
+pub end_within : (e : EdgeLists) (peer : EdgeId) → IsEdge e → has_end (seen e) peer ≡ true → peer.0 < length e.plan.edges
 unfolding seen
-end_within e peer is there =
-    omega (arith, there_within e.control.dialogues peer.0 (stands_there (view [] e.held peer.0) (view None e.control.dialogues peer.0) there), is.dialogues, is.held)
-
-pub unheld : (xs : List (List ℕ)) (k : ℕ) → k < length xs → slice_index_or (slice_set xs k []) k [] ≡ []
-unheld xs k within = view_at [] xs k [] k within ∙ ap (λ (b : Bool). cond b [] (view [] xs k)) (eq-eqb k k refl)
+end_within e peer is there = omega (arith, there_within e.peerings peer.0 there, is.peerings)
 
 -- ---- inputs
 
@@ -194,19 +98,21 @@ pub none_by : (x : Option Peering) → is_there x ≡ false → x ≡ None
 none_by None is = refl
 none_by (Some kept) is = absurd (cc (is))
 
-pub octets_idle : (e : EdgeLists) (told : Answers) (peer : EdgeId) (octets : List ℕ) (calls : List LinkCall) → has_end (seen e) peer ≡ false
-    → worked e calls (record { idle = true; list = [] }) ≡ octets_input e.plan told peer octets ((seen e).peering peer.0) (beginning (seen e) calls)
-octets_idle e told peer octets calls none =
-    not_there e calls ∙ sym (ap (λ (x : Option Peering). octets_input e.plan told peer octets x (beginning (seen e) calls)) (none_by ((seen e).peering peer.0) none))
+pub octets_idle : (e mid : EdgeLists) (told : Answers) (peer : EdgeId) (octets : List ℕ) (calls : List LinkCall) → (seen e).peering peer.0 ≡ None → seen mid ≡ seen e
+    → worked mid calls (record { idle = true; list = [] }) ≡ octets_input e.plan told peer octets ((seen e).peering peer.0) (beginning (seen e) calls)
+octets_idle e mid told peer octets calls none same =
+    not_there mid calls
+    ∙ (ap (λ (s : EdgeState). idles (beginning s calls)) same
+    ∙ sym (ap (λ (x : Option Peering). octets_input e.plan told peer octets x (beginning (seen e) calls)) none))
 
-pub octets_done : (e : EdgeLists) (told : Answers) (peer : EdgeId) (octets : List ℕ) (calls : List LinkCall) (work : Work) → has_end (seen e) peer ≡ true
+pub octets_done : (e : EdgeLists) (told : Answers) (peer : EdgeId) (octets held : List ℕ) (mid : EdgeState) (calls : List LinkCall) (work : Work) → AreTakenOut peer ((seen e).peering peer.0) (seen e) mid (Some held)
     → work ≡ mends e.plan told (hears_on e.plan told peer octets ((seen e).peering peer.0) (beginning (seen e) calls))
     → work ≡ octets_input e.plan told peer octets ((seen e).peering peer.0) (beginning (seen e) calls)
-octets_done e told peer octets calls work there is =
-    let (kept, some) = there_some ((seen e).peering peer.0) there in
-    is
-    ∙ (ap (λ (x : Option Peering). mends e.plan told (hears_on e.plan told peer octets x (beginning (seen e) calls))) some
-    ∙ ap (λ (x : Option Peering). octets_input e.plan told peer octets x (beginning (seen e) calls)) (sym some))
+octets_done e told peer octets held mid calls work taken is = by ((seen e).peering peer.0) taken is where
+  by : (x : Option Peering) → AreTakenOut peer x (seen e) mid (Some held)
+      → work ≡ mends e.plan told (hears_on e.plan told peer octets x (beginning (seen e) calls)) → work ≡ octets_input e.plan told peer octets x (beginning (seen e) calls)
+  by None none is = absurd (cc (none.0))
+  by (Some kept) some is = is
 
 pub restart_done : (e mid now : EdgeLists) (calls : List LinkCall) → seen mid ≡ without_ends (without_peerings (seen e)) → seen now ≡ with_learned (λ service. []) (seen mid)
     → worked now calls (record { idle = false; list = [] }) ≡ restart_input (beginning (seen e) calls)
@@ -306,27 +212,6 @@ peer_within plan own peer peers some = by own (slice_get plan.edges peer.0) refl
 
 -- ---- wires
 
-pub passes_edge : (e : EdgeLists) (wire : WireId) → IsEdge e → passes e.control.plan e.control.me wire ≡ passes e.plan e.me wire
-passes_edge e wire is = ap (λ (p : Plan). passes p e.control.me wire) is.plan ∙ ap (λ (m : EdgeId). passes e.plan m wire) is.me
-
-pub ends_edge : (e : EdgeLists) (wire : WireId) → IsEdge e → ends_here e.control.plan e.control.me wire ≡ ends_here e.plan e.me wire
-ends_edge e wire is = ap (λ (p : Plan). ends_here p e.control.me wire) is.plan ∙ ap (λ (m : EdgeId). ends_here e.plan m wire) is.me
-
-pub wire_seen : (e : EdgeLists) (k : ℕ) → (controlled e.control (rest_of e)).wire_on k ≡ (seen e).wire_on k
-unfolding seen controlled
-wire_seen e k = refl
-
-pub bits_seen : (e : EdgeLists) (k : ℕ) → (controlled e.control (rest_of e)).bits k ≡ (seen e).bits k
-unfolding seen controlled
-bits_seen e k = refl
-
-pub priority_seen : (e : EdgeLists) (k : ℕ) → (controlled e.control (rest_of e)).priority k ≡ (seen e).priority k
-unfolding seen controlled
-priority_seen e k = refl
-
-pub own_edge : (e : EdgeLists) (wire : WireId) → IsEdge e → is_own_spoke e.control.me (wire_row e.control.plan wire) ≡ is_own_spoke e.me (wire_row e.plan wire)
-own_edge e wire is = ap (λ (p : Plan). is_own_spoke e.control.me (wire_row p wire)) is.plan ∙ ap (λ (m : EdgeId). is_own_spoke m (wire_row e.plan wire)) is.me
-
 pub apart_eqb : (a b : ℕ) → (a ≡ b → ⊥) → nat_eq a b ≡ false
 apart_eqb a b apart = by (nat_eq a b) refl where
   by : (x : Bool) → nat_eq a b ≡ x → x ≡ false
@@ -422,39 +307,12 @@ state_asked state at None f is = tt
 state_asked state at (Some end) None is = tt
 state_asked state at (Some end) (Some x) is = cc (is)
 
-pub end_seen : (e now : EdgeLists) (key : SegKey) (told : Option EndState) → e ≡ now → IsEdge e
-    → ((rest : Rest) → told ≡ option_map (end_at (controlled e.control rest)) (find (is_of_segment key) (end_places e.control.plan e.control.me)))
-    → told ≡ option_map (end_at (seen now)) (find (is_of_segment key) (end_places now.plan now.me))
-end_seen e now key told same is read =
-    read (rest_of e)
-    ∙ (ap (λ (s : EdgeState). option_map (end_at s) (find (is_of_segment key) (end_places e.control.plan e.control.me))) (sym (seen_is e is))
-    ∙ (ap (λ (p : Plan). option_map (end_at (seen e)) (find (is_of_segment key) (end_places p e.control.me))) is.plan
-    ∙ (ap (λ (m : EdgeId). option_map (end_at (seen e)) (find (is_of_segment key) (end_places e.plan m))) is.me
-    ∙ ap (λ (n : EdgeLists). option_map (end_at (seen n)) (find (is_of_segment key) (end_places n.plan n.me))) same)))
-
-pub down_seen : (e now : EdgeLists) (wire : WireId) (told : Option Down) → e ≡ now → IsEdge e
-    → ((rest : Rest) (place : EndPlace) → find (is_end_of_wire wire) (end_places e.control.plan e.control.me) ≡ Some place → told ≡ down_at e.control.plan (controlled e.control rest) place)
-    → IfSome (find (is_end_of_wire wire) (end_places now.plan now.me)) (λ place. told ≡ down_at now.plan (seen now) place)
-down_seen e now wire told same is read =
-    subst (λ (n : EdgeLists). IfSome (find (is_end_of_wire wire) (end_places n.plan n.me)) (λ place. told ≡ down_at n.plan (seen n) place)) same (by (find (is_end_of_wire wire) (end_places e.plan e.me)) refl) where
-      by : (f : Option EndPlace) → find (is_end_of_wire wire) (end_places e.plan e.me) ≡ f → IfSome f (λ place. told ≡ down_at e.plan (seen e) place)
-      by None at = tt
-      by (Some place) at =
-          read (rest_of e) place (ap (λ (p : Plan). find (is_end_of_wire wire) (end_places p e.control.me)) is.plan ∙ (ap (λ (m : EdgeId). find (is_end_of_wire wire) (end_places e.plan m)) is.me ∙ at))
-          ∙ (ap (λ (p : Plan). down_at p (controlled e.control (rest_of e)) place) is.plan ∙ ap (λ (s : EdgeState). down_at e.plan s place) (sym (seen_is e is)))
+-- of an end that may be there
+pub for_place : (P : EndPlace → Type 0) (f : Option EndPlace) → ((place : EndPlace) → f ≡ Some place → P place) → IfSome f P
+for_place P None made = tt
+for_place P (Some place) made = made place refl
 
 -- ---- in sync
-
--- what is held of neighbours has no part in it
-synced_rest : (plan : Plan) (c : ControlLists) (a b : Rest) → InSync plan (controlled c a) → InSync plan (controlled c b)
-unfolding controlled
-synced_rest plan c a b synced =
-    record { each = all-map (IsSynced plan (controlled c a)) (IsSynced plan (controlled c b)) (end_places plan c.me) (λ place is. record { so = is.so }) synced.each }
-
-pub synced_control : (e : EdgeLists) (rest : Rest) → IsEdge e → InSync e.plan (seen e) → InSync e.control.plan (controlled e.control rest)
-synced_control e rest is synced =
-    synced_rest e.control.plan e.control (rest_of e) rest
-    (subst (λ (p : Plan). InSync p (controlled e.control (rest_of e))) (sym is.plan) (subst (InSync e.plan) (seen_is e is) synced))
 
 pub seen_stopped : (e : EdgeLists) (stopped : Bool) → seen (record e { stopped = stopped }) ≡ seen e
 unfolding seen
@@ -468,15 +326,30 @@ worked_stopped e stopped calls effects = ap (λ (s : EdgeState). record { edge =
 pub edge_going : (e : EdgeLists) → IsEdge e → InSync e.plan (seen e) → IsEdge (record e { stopped = false })
 edge_going e is synced = record {
   checked = is.checked;
+  peerings = is.peerings;
+  places = is.places;
+  wires = is.wires;
+  each_bits = is.each_bits;
+  small = is.small;
+  priorities = is.priorities;
+  spokes = is.spokes;
   plan = is.plan;
   me = is.me;
-  dialogues = is.dialogues;
-  held = is.held;
   synced = λ going. subst (InSync e.plan) (sym (seen_stopped e false)) synced;
 }
 
--- what is lent of a bridge
-pub bridge_seen : (e : EdgeLists) (service : ServiceId) (lent : Option (Bor BridgeState)) → IsEdge e → IfSome lent (λ bridge. (rest : Rest) → bridge.now.entries ≡ addresses_of (controlled e.control rest) service)
-    → IfSome lent (λ bridge. bridge.now.entries ≡ addresses_of (seen e) service)
-bridge_seen e service None is read = tt
-bridge_seen e service (Some bridge) is read = read (rest_of e) ∙ ap (λ (s : EdgeState). addresses_of s service) (sym (seen_is e is))
+-- an edge works
+pub edge_working : (e : EdgeLists) → IsEdge e → IsEdge (record e { stopped = true })
+edge_working e is = record {
+  checked = is.checked;
+  peerings = is.peerings;
+  places = is.places;
+  wires = is.wires;
+  each_bits = is.each_bits;
+  small = is.small;
+  priorities = is.priorities;
+  spokes = is.spokes;
+  plan = is.plan;
+  me = is.me;
+  synced = λ going. absurd (cc going);
+}

@@ -91,12 +91,11 @@ use Rattle.edge_model.specs.Tick.{counted, forgetting, ticks_sessions}
 use Rattle.edge_model.specs.Work.{Agrees, Answers, GoesOn, Work, beginning, changes, gives, idles, next_answer, posts, puts}
 use Rattle.edge_model.proofs.SyncLemmas.{step_synced}
 use Rattle.edge_model.proofs.PlaceLemmas.{IsEndOf, all-map, places_are}
+use Rattle.edge_forwarding.specs.Views.{view}
+use Rattle.edge_forwarding.proofs.Views.{same_read}
 use Rattle.provider_edge.specs.Invariant.{IsEdge}
 use Rattle.provider_edge.specs.Lists.{EdgeLists, seen, worked}
-use Rattle.peer_dialogue.specs.Peering.{Dialogue, kept_with}
-use Rattle.edge_forwarding.specs.Views.{view}
 use Rattle.provider_edge.specs.Said.{AllFit, NamesPlaces, TellsTaken, calls_told}
-use Rattle.edge_forwarding.proofs.Views.{same_read}
 
 -- Of an edge at work this holds of its work, whatever it does for its neighbours and its circuits.
 pub record AreKept (plan : Plan) (Holds : Work → Type 0) : Type 0 where
@@ -767,14 +766,10 @@ agrees_itself calls = record { each = λ k other within. ap (λ (c : LinkCall). 
 abbrev pub Steps : EdgeLists → EdgeLists → Input → Effects → List LinkCall → List LinkCall → Type 0
 Steps e now given effects before after = (told : Answers) → Agrees told after → worked now after effects ≡ edge_step e.plan told given (beginning (seen e) before)
 
-there_of : (held : List ℕ) (d : Option Dialogue) → is_there (kept_with held d) ≡ true → is_there d ≡ true
-there_of held None there = there
-there_of held (Some d) there = refl
-
-has_peers : (e : EdgeLists) → IsEdge e → length e.control.dialogues ≡ length e.plan.edges → HasPeers e.plan (seen e)
+has_peers : (e : EdgeLists) → IsEdge e → HasPeers e.plan (seen e)
 unfolding seen
-has_peers e is long = record { each = λ peer there. omega (arith, within e.control.dialogues peer.0 (there_of (view [] e.held peer.0) (view None e.control.dialogues peer.0) there), long) } where
-  within : (xs : List (Option Dialogue)) (k : ℕ) → is_there (view None xs k) ≡ true → k < length xs
+has_peers e is = record { each = λ peer there. omega (arith, within e.peerings peer.0 there, is.peerings) } where
+  within : (xs : List (Option Peering)) (k : ℕ) → is_there (view None xs k) ≡ true → k < length xs
   within [] k there = absurd (cc (there))
   within (x ∷ xs) zero there = omega arith
   within (x ∷ xs) (suc k) there = omega (arith, within xs k there)
@@ -783,13 +778,13 @@ pub steps_fit : (e now : EdgeLists) (given : Input) (effects : Effects) (before 
 unfolding worked
 steps_fit e now given effects before after is steps =
     subst (λ (w : Work). AllFit e.plan w.effects) (sym (steps (told_by after) (agrees_itself after)))
-    (step_kept e.plan (λ w. AllFit e.plan w.effects) (fit_kept e.plan) is.checked (told_by after) given (beginning (seen e) before) (has_peers e is is.dialogues) tt)
+    (step_kept e.plan (λ w. AllFit e.plan w.effects) (fit_kept e.plan) is.checked (told_by after) given (beginning (seen e) before) (has_peers e is) tt)
 
 pub steps_tell : (e now : EdgeLists) (given : Input) (effects : Effects) (before after : List LinkCall) → IsEdge e → Steps e now given effects before after → TellsTaken before after effects.list
 unfolding worked
 steps_tell e now given effects before after is steps =
     subst (λ (w : Work). TellsTaken before w.calls w.effects) (sym (steps (told_by after) (agrees_itself after)))
-    (step_kept e.plan (λ w. TellsTaken before w.calls w.effects) (tell_kept e.plan before) is.checked (told_by after) given (beginning (seen e) before) (has_peers e is is.dialogues)
+    (step_kept e.plan (λ w. TellsTaken before w.calls w.effects) (tell_kept e.plan before) is.checked (told_by after) given (beginning (seen e) before) (has_peers e is)
     (record { more = []; joined = sym (append-nil before); told = refl }))
 
 -- the edge is in sync again

@@ -2,7 +2,7 @@ pub mod ActLemmas
 pub mod AtWorkLemmas
 pub mod BridgeLemmas
 pub mod ClearLemmas
-pub mod ControlLemmas
+pub mod ListLemmas
 pub mod CopyLemmas
 pub mod EdgeLemmas
 pub mod EffectLemmas

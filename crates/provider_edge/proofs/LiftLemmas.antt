@@ -14,7 +14,7 @@ use Rattle.edge_model.specs.Put.{Spoken, put_reply}
 use Rattle.edge_model.specs.Session.{clears_ends, had_put, happens, happens_to, happens_with_ends, says, says_to}
 use Rattle.edge_model.specs.State.{EdgeState, Peering, has_end, is_there, with_peering}
 use Rattle.edge_model.specs.Work.{Answers, Work, changes, gives}
-use Rattle.peer_dialogue.specs.Peering.{Dialogue, at_edge, at_peer, had_spoken, is_over, put_message, put_message_to}
+use Rattle.peer_dialogue.specs.Peering.{at_edge, at_peer, had_spoken, is_over, put_message, put_message_to}
 use Rattle.peer_dialogue.proofs.SpeakerLemmas.{put_same, put_twice}
 
 pub peer_edge : (peer : EdgeId) (kept : Option Peering) (edge : EdgeState) (calls : List LinkCall) (out : List Effect) → edge.peering peer.0 ≡ kept → at_peer peer kept edge calls out ≡ at_edge edge calls out
@@ -122,7 +122,7 @@ connected_at told peer kept edge mid calls out told_out work puts tells is =
     ∙ ap (λ (l : List Effect). happens_with_ends told peer Start (record { edge = with_peering peer (Some kept) edge; calls = calls; effects = l; idle = false })) tells)
 
 -- there is no session left exactly where none was kept
-pub over_is : (left : Option Dialogue) (none : Bool) → is_some left ≡ not none → none ≡ is_over left
+pub over_is : (left : Option Peering) (none : Bool) → is_some left ≡ not none → none ≡ is_over left
 over_is None true is = refl
 over_is None false is = absurd (cc (is))
 over_is (Some d) true is = absurd (cc (is))

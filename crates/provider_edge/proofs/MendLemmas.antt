@@ -33,9 +33,9 @@ use Rattle.edge_model.specs.Spokes.{choosing}
 use Rattle.edge_model.specs.State.{EdgeState, end_at}
 use Rattle.edge_model.specs.Withdraw.{tells_piece}
 use Rattle.edge_model.specs.Work.{Answers, Work, changes}
-use Rattle.provider_edge.specs.Control.{ControlLists, KeepsPlan, Rest, at_control, controlled}
-use Rattle.provider_edge.specs.Mending.{forgotten_down, mended_down}
 use Rattle.peer_dialogue.specs.Peering.{at_edge}
+use Rattle.provider_edge.specs.Lists.{EdgeLists, Keeps, seen}
+use Rattle.provider_edge.specs.Mending.{forgotten_down, mended_down}
 
 -- ---- rounds
 
@@ -58,17 +58,17 @@ few_done plan told n i work next failed below once all =
 few_end : (plan : Plan) (told : Answers) (n i : ℕ) (work : Work) → n ≤ i → mends_few plan told (n - i) work ≡ work
 few_end plan told n i work past = let none : n - i ≡ 0 = omega arith in rw none refl
 
-pub round_again : (c now : ControlLists) (told : Answers) (n i : ℕ) (start work next : Work) (failed : Bool) → KeepsPlan c now → i < n → mends_few c.plan told n start ≡ mends_few c.plan told (n - i) work
+pub round_again : (c now : EdgeLists) (told : Answers) (n i : ℕ) (start work next : Work) (failed : Bool) → Keeps c now → i < n → mends_few c.plan told n start ≡ mends_few c.plan told (n - i) work
     → record { work = next; failed = failed } ≡ mends_once now.plan told work → failed ≡ true → mends_few c.plan told n start ≡ mends_few c.plan told (n - (i + 1)) next
 round_again c now told n i start work next failed keeps below so_far one again =
     so_far ∙ few_again c.plan told n i work next failed below (one ∙ ap (λ (p : Plan). mends_once p told work) keeps.plan) again
 
-pub round_done : (c now : ControlLists) (told : Answers) (n i : ℕ) (start work next : Work) (failed : Bool) → KeepsPlan c now → n ≡ suc (length c.plan.edges) → i < n → mends_few c.plan told n start ≡ mends_few c.plan told (n - i) work
+pub round_done : (c now : EdgeLists) (told : Answers) (n i : ℕ) (start work next : Work) (failed : Bool) → Keeps c now → n ≡ suc (length c.plan.edges) → i < n → mends_few c.plan told n start ≡ mends_few c.plan told (n - i) work
     → record { work = next; failed = failed } ≡ mends_once now.plan told work → failed ≡ false → next ≡ mends c.plan told start
 round_done c now told n i start work next failed keeps rounds below so_far one all =
     sym (so_far ∙ few_done c.plan told n i work next failed below (one ∙ ap (λ (p : Plan). mends_once p told work) keeps.plan) all) ∙ ap (λ (k : ℕ). mends_few c.plan told k start) rounds
 
-pub rounds_end : (c : ControlLists) (told : Answers) (n i : ℕ) (start work : Work) → n ≡ suc (length c.plan.edges) → n ≤ i → mends_few c.plan told n start ≡ mends_few c.plan told (n - i) work → work ≡ mends c.plan told start
+pub rounds_end : (c : EdgeLists) (told : Answers) (n i : ℕ) (start work : Work) → n ≡ suc (length c.plan.edges) → n ≤ i → mends_few c.plan told n start ≡ mends_few c.plan told (n - i) work → work ≡ mends c.plan told start
 rounds_end c told n i start work rounds past so_far = sym (so_far ∙ few_end c.plan told n i work past) ∙ ap (λ (k : ℕ). mends_few c.plan told k start) rounds
 
 -- ---- all steps once
@@ -93,37 +93,37 @@ once_done plan told me before start forgot last ends chosen statuses moved here 
     (next ∙ ap (each_end (mends_status plan told) (end_places plan me)) (chooses ∙ ap (then_changes (choosing plan)) first))))
     ∙ ap (λ (m : EdgeId). record { work = after m (all m).work; failed = (all m).failed }) (sym here))
 
-pub chosen_kept : (c now new : ControlLists) (rest : Rest) (calls : List LinkCall) (out : List Effect) (failed : Bool) → KeepsPlan c now → controlled new rest ≡ choosing now.plan (controlled now rest)
-    → record { work = at_control new rest calls out; failed = failed } ≡ then_changes (choosing c.plan) (record { work = at_control now rest calls out; failed = failed })
+pub chosen_kept : (c now new : EdgeLists) (calls : List LinkCall) (out : List Effect) (failed : Bool) → Keeps c now → seen new ≡ choosing now.plan (seen now)
+    → record { work = at_edge (seen new) calls out; failed = failed } ≡ then_changes (choosing c.plan) (record { work = at_edge (seen now) calls out; failed = failed })
 unfolding at_edge changes
-chosen_kept c now new rest calls out failed keeps is =
-    ap (λ (e : EdgeState). record { work = record { edge = e; calls = calls; effects = out; idle = false }; failed = failed }) (is ∙ ap (λ (p : Plan). choosing p (controlled now rest)) keeps.plan)
+chosen_kept c now new calls out failed keeps is =
+    ap (λ (e : EdgeState). record { work = record { edge = e; calls = calls; effects = out; idle = false }; failed = failed }) (is ∙ ap (λ (p : Plan). choosing p (seen now)) keeps.plan)
 
-pub statuses_kept : (c now : ControlLists) (told : Answers) (m x : Spoken) → KeepsPlan c now → x ≡ each_end (mends_status now.plan told) (end_places now.plan now.me) m → x ≡ each_end (mends_status c.plan told) (end_places c.plan c.me) m
+pub statuses_kept : (c now : EdgeLists) (told : Answers) (m x : Spoken) → Keeps c now → x ≡ each_end (mends_status now.plan told) (end_places now.plan now.me) m → x ≡ each_end (mends_status c.plan told) (end_places c.plan c.me) m
 statuses_kept c now told m x keeps is =
     is ∙ (ap (λ (p : Plan). each_end (mends_status p told) (end_places p now.me) m) keeps.plan ∙ ap (λ (e : EdgeId). each_end (mends_status c.plan told) (end_places c.plan e) m) keeps.me)
 
-pub choices_kept : (c now : ControlLists) (told : Answers) (before : ℕ → Option WireId) (m x : Spoken) → KeepsPlan c now → x ≡ each_end (mends_choice now.plan told before) (end_places now.plan now.me) m
+pub choices_kept : (c now : EdgeLists) (told : Answers) (before : ℕ → Option WireId) (m x : Spoken) → Keeps c now → x ≡ each_end (mends_choice now.plan told before) (end_places now.plan now.me) m
     → x ≡ each_end (mends_choice c.plan told before) (end_places c.plan c.me) m
 choices_kept c now told before m x keeps is =
     is
     ∙ (ap (λ (p : Plan). each_end (mends_choice p told before) (end_places p now.me) m) keeps.plan ∙ ap (λ (e : EdgeId). each_end (mends_choice c.plan told before) (end_places c.plan e) m) keeps.me)
 
-pub downs_kept : (c now : ControlLists) (work x : Work) → KeepsPlan c now → x ≡ tells_downs now.plan (end_places now.plan now.me) work → x ≡ tells_downs c.plan (end_places c.plan c.me) work
+pub downs_kept : (c now : EdgeLists) (work x : Work) → Keeps c now → x ≡ tells_downs now.plan (end_places now.plan now.me) work → x ≡ tells_downs c.plan (end_places c.plan c.me) work
 downs_kept c now work x keeps is =
     is ∙ (ap (λ (p : Plan). tells_downs p (end_places p now.me) work) keeps.plan ∙ ap (λ (e : EdgeId). tells_downs c.plan (end_places c.plan e) work) keeps.me)
 
-pub forgets_kept : (c now : ControlLists) (work x : Work) → KeepsPlan c now → x ≡ forgets_downs now.plan (end_places now.plan now.me) work → x ≡ forgets_downs c.plan (end_places c.plan c.me) work
+pub forgets_kept : (c now : EdgeLists) (work x : Work) → Keeps c now → x ≡ forgets_downs now.plan (end_places now.plan now.me) work → x ≡ forgets_downs c.plan (end_places c.plan c.me) work
 forgets_kept c now work x keeps is =
     is ∙ (ap (λ (p : Plan). forgets_downs p (end_places p now.me) work) keeps.plan ∙ ap (λ (e : EdgeId). forgets_downs c.plan (end_places c.plan e) work) keeps.me)
 
-pub me_at : (c : ControlLists) (rest : Rest) (calls : List LinkCall) (out : List Effect) → (at_control c rest calls out).edge.me ≡ c.me
-unfolding controlled at_edge
-me_at c rest calls out = refl
+pub me_at : (c : EdgeLists) (calls : List LinkCall) (out : List Effect) → (at_edge (seen c) calls out).edge.me ≡ c.me
+unfolding seen at_edge
+me_at c calls out = refl
 
-pub chosen_at : (c : ControlLists) (rest : Rest) (calls : List LinkCall) (out : List Effect) → (controlled c rest).chosen ≡ (at_control c rest calls out).edge.chosen
+pub chosen_at : (c : EdgeLists) (calls : List LinkCall) (out : List Effect) → (seen c).chosen ≡ (at_edge (seen c) calls out).edge.chosen
 unfolding at_edge
-chosen_at c rest calls out = refl
+chosen_at c calls out = refl
 
 -- ---- each end in turn
 
@@ -172,7 +172,7 @@ pub said_taken : (before failed : Bool) (start next : Work) (mend : Work → Spo
 said_taken before failed start next mend one taken =
     sym (ap (λ (s : Spoken). record { work = s.work; failed = before || s.failed }) (sym one) ∙ (ap (λ (b : Bool). record { work = next; failed = before || b }) taken ∙ ap (λ (b : Bool). record { work = next; failed = b }) (or_false before)))
 
-pub ends_next : (mends : Plan → EndPlace → Work → Spoken) (c now : ControlLists) (i : ℕ) (m next whole : Spoken) → KeepsPlan c now → c.ends.places ≡ end_places c.plan c.me → i < length now.ends.places
+pub ends_next : (mends : Plan → EndPlace → Work → Spoken) (c now : EdgeLists) (i : ℕ) (m next whole : Spoken) → Keeps c now → c.ends.places ≡ end_places c.plan c.me → i < length now.ends.places
     → whole ≡ each_end (mends c.plan) (drop i (end_places c.plan c.me)) m → next ≡ and_says m (mends now.plan (place_of now.ends i))
     → whole ≡ each_end (mends c.plan) (drop (i + 1) (end_places c.plan c.me)) next
 ends_next mends c now i m next whole keeps placed below so_far one =
@@ -181,11 +181,11 @@ ends_next mends c now i m next whole keeps placed below so_far one =
     ∙ ap (each_end (mends c.plan) (drop (i + 1) (end_places c.plan c.me)))
     (sym (one ∙ (ap (λ (p : Plan). and_says m (mends p (place_of now.ends i))) keeps.plan ∙ ap (λ (l : List EndPlace). and_says m (mends c.plan (slice_index_or l i no_place))) (keeps.places ∙ placed)))))
 
-pub ends_past : (mends : Plan → EndPlace → Work → Spoken) (c : ControlLists) (i : ℕ) (m whole : Spoken) → c.ends.places ≡ end_places c.plan c.me → length c.ends.places ≤ i
+pub ends_past : (mends : Plan → EndPlace → Work → Spoken) (c : EdgeLists) (i : ℕ) (m whole : Spoken) → c.ends.places ≡ end_places c.plan c.me → length c.ends.places ≤ i
     → whole ≡ each_end (mends c.plan) (drop i (end_places c.plan c.me)) m → m ≡ whole
 ends_past mends c i m whole placed past so_far = sym (so_far ∙ each_past (mends c.plan) (end_places c.plan c.me) i m (subst (λ (l : List EndPlace). length l ≤ i) placed past))
 
-pub downs_next : (c now : ControlLists) (i : ℕ) (work next whole : Work) → KeepsPlan c now → c.ends.places ≡ end_places c.plan c.me → i < length now.ends.places
+pub downs_next : (c now : EdgeLists) (i : ℕ) (work next whole : Work) → Keeps c now → c.ends.places ≡ end_places c.plan c.me → i < length now.ends.places
     → whole ≡ tells_downs c.plan (drop i (end_places c.plan c.me)) work → next ≡ mended_down now.plan (place_of now.ends i) work
     → whole ≡ tells_downs c.plan (drop (i + 1) (end_places c.plan c.me)) next
 downs_next c now i work next whole keeps placed below so_far one =
@@ -194,7 +194,7 @@ downs_next c now i work next whole keeps placed below so_far one =
     ∙ ap (tells_downs c.plan (drop (i + 1) (end_places c.plan c.me)))
     (sym (one ∙ (ap (λ (p : Plan). mended_down p (place_of now.ends i) work) keeps.plan ∙ ap (λ (l : List EndPlace). mended_down c.plan (slice_index_or l i no_place) work) (keeps.places ∙ placed)))))
 
-pub downs_end : (c : ControlLists) (i : ℕ) (work whole : Work) → c.ends.places ≡ end_places c.plan c.me → length c.ends.places ≤ i
+pub downs_end : (c : EdgeLists) (i : ℕ) (work whole : Work) → c.ends.places ≡ end_places c.plan c.me → length c.ends.places ≤ i
     → whole ≡ tells_downs c.plan (drop i (end_places c.plan c.me)) work → work ≡ whole
 downs_end c i work whole placed past so_far = sym (so_far ∙ downs_past c.plan (end_places c.plan c.me) i work (subst (λ (l : List EndPlace). length l ≤ i) placed past))
 
@@ -212,7 +212,7 @@ forgets_past plan [] (suc i) work past = refl
 forgets_past plan (x ∷ places) zero work past = absurd (omega arith)
 forgets_past plan (x ∷ places) (suc i) work past = forgets_past plan places i work (omega arith)
 
-pub forgets_next : (c now : ControlLists) (i : ℕ) (work next whole : Work) → KeepsPlan c now → c.ends.places ≡ end_places c.plan c.me → i < length now.ends.places
+pub forgets_next : (c now : EdgeLists) (i : ℕ) (work next whole : Work) → Keeps c now → c.ends.places ≡ end_places c.plan c.me → i < length now.ends.places
     → whole ≡ forgets_downs c.plan (drop i (end_places c.plan c.me)) work → next ≡ forgotten_down now.plan (place_of now.ends i) work
     → whole ≡ forgets_downs c.plan (drop (i + 1) (end_places c.plan c.me)) next
 forgets_next c now i work next whole keeps placed below so_far one =
@@ -221,18 +221,18 @@ forgets_next c now i work next whole keeps placed below so_far one =
     ∙ ap (forgets_downs c.plan (drop (i + 1) (end_places c.plan c.me)))
     (sym (one ∙ (ap (λ (p : Plan). forgotten_down p (place_of now.ends i) work) keeps.plan ∙ ap (λ (l : List EndPlace). forgotten_down c.plan (slice_index_or l i no_place) work) (keeps.places ∙ placed)))))
 
-pub forgets_end : (c : ControlLists) (i : ℕ) (work whole : Work) → c.ends.places ≡ end_places c.plan c.me → length c.ends.places ≤ i
+pub forgets_end : (c : EdgeLists) (i : ℕ) (work whole : Work) → c.ends.places ≡ end_places c.plan c.me → length c.ends.places ≤ i
     → whole ≡ forgets_downs c.plan (drop i (end_places c.plan c.me)) work → work ≡ whole
 forgets_end c i work whole placed past so_far = sym (so_far ∙ forgets_past c.plan (end_places c.plan c.me) i work (subst (λ (l : List EndPlace). length l ≤ i) placed past))
 
-pub within_kept : (c now : ControlLists) (i : ℕ) → KeepsPlan c now → i < length c.ends.places → i < length now.ends.places
+pub within_kept : (c now : EdgeLists) (i : ℕ) → Keeps c now → i < length c.ends.places → i < length now.ends.places
 within_kept c now i keeps below = subst (λ (l : List EndPlace). i < length l) (sym keeps.places) below
 
 -- ---- one end
 
-local_at : (c : ControlLists) (rest : Rest) (calls : List LinkCall) (out : List Effect) (slot : ℕ) → end_at (at_control c rest calls out).edge (place_of c.ends slot) ≡ end_in c.ends slot
-unfolding controlled at_edge
-local_at c rest calls out slot = refl
+local_at : (c : EdgeLists) (calls : List LinkCall) (out : List Effect) (slot : ℕ) → end_at (at_edge (seen c) calls out).edge (place_of c.ends slot) ≡ end_in c.ends slot
+unfolding seen at_edge
+local_at c calls out slot = refl
 
 pub idle_declined : (plan : Plan) (told : Answers) (place : EndPlace) (work : Work) (declined : Bool) → (end_at work.edge place).local ≡ Idle declined → declined ≡ true → stays work ≡ mends_end plan told place work
 idle_declined plan told place work declined is so =
@@ -272,9 +272,9 @@ over_new told place content status now last work put is other puts =
     puts ∙ (sym (ap (λ (b : Bool). cond b (stays work) (tells_new_status told place content status work)) other) ∙ ap (λ (s : PwStatus). tells_over told place content s (Some last) work) is)
 
 -- the local part of an end that was read
-pub local_is : (c : ControlLists) (rest : Rest) (calls : List LinkCall) (out : List Effect) (slot : ℕ) (read end : PwEnd) → end_of read ≡ end_in c.ends slot → read ≡ end
-    → (end_at (at_control c rest calls out).edge (place_of c.ends slot)).local ≡ (end_of end).local
-local_is c rest calls out slot read end is so = ap (λ (e : EndState). e.local) (local_at c rest calls out slot ∙ (sym is ∙ ap end_of so))
+pub local_is : (c : EdgeLists) (calls : List LinkCall) (out : List Effect) (slot : ℕ) (read end : PwEnd) → end_of read ≡ end_in c.ends slot → read ≡ end
+    → (end_at (at_edge (seen c) calls out).edge (place_of c.ends slot)).local ≡ (end_of end).local
+local_is c calls out slot read end is so = ap (λ (e : EndState). e.local) (local_at c calls out slot ∙ (sym is ∙ ap end_of so))
 
 -- ---- a wire that began to forward, or stopped
 
@@ -354,24 +354,24 @@ offer_holds plan wire row me checked is = of (is_first me row.path) where
   of true = placed.near
   of false = placed.far
 
-pub wish_read : (c : ControlLists) (rest : Rest) (slot : ℕ) (row : WirePlan) (place : EndPlace) (offer : Offer) (end : EndState) (remote : Option Binding) (bits : ℕ) (status : PwStatus) (wished : Option Told) → place ≡ place_of c.ends slot
-    → offer ≡ offer_of row c.me.0 → end ≡ end_in c.ends slot → remote ≡ end.remote → bits ≡ (controlled c rest).bits place.wire.0 → status ≡ status_to_tell c.plan (controlled c rest) (place_of c.ends slot)
-    → wished ≡ wish_by offer remote bits status → wished ≡ terminal_wish c.plan (controlled c rest) (place_of c.ends slot) (offer_of row (controlled c rest).me.0)
-unfolding controlled
-wish_read c rest slot row place offer end remote bits status wished at offers read held bit tells is =
+pub wish_read : (c : EdgeLists) (slot : ℕ) (row : WirePlan) (place : EndPlace) (offer : Offer) (end : EndState) (remote : Option Binding) (bits : ℕ) (status : PwStatus) (wished : Option Told) → place ≡ place_of c.ends slot
+    → offer ≡ offer_of row c.me.0 → end ≡ end_in c.ends slot → remote ≡ end.remote → bits ≡ (seen c).bits place.wire.0 → status ≡ status_to_tell c.plan (seen c) (place_of c.ends slot)
+    → wished ≡ wish_by offer remote bits status → wished ≡ terminal_wish c.plan (seen c) (place_of c.ends slot) (offer_of row (seen c).me.0)
+unfolding seen
+wish_read c slot row place offer end remote bits status wished at offers read held bit tells is =
     is
     ∙ (ap (λ (o : Offer). wish_by o remote bits status) offers
     ∙ (ap (λ (r : Option Binding). wish_by (offer_of row c.me.0) r bits status) (held ∙ ap (λ (e : EndState). e.remote) read)
-    ∙ (ap (λ (b : ℕ). wish_by (offer_of row c.me.0) (end_in c.ends slot).remote b status) (bit ∙ ap (λ (p : EndPlace). (controlled c rest).bits p.wire.0) at)
-    ∙ ap (λ (s : PwStatus). wish_by (offer_of row c.me.0) (end_in c.ends slot).remote ((controlled c rest).bits (place_of c.ends slot).wire.0) s) tells)))
+    ∙ (ap (λ (b : ℕ). wish_by (offer_of row c.me.0) (end_in c.ends slot).remote b status) (bit ∙ ap (λ (p : EndPlace). (seen c).bits p.wire.0) at)
+    ∙ ap (λ (s : PwStatus). wish_by (offer_of row c.me.0) (end_in c.ends slot).remote ((seen c).bits (place_of c.ends slot).wire.0) s) tells)))
 
 -- why an end does not forward
-pub down_read : (c : ControlLists) (rest : Rest) (slot : ℕ) (place : EndPlace) (end : EndState) (role : EndRole) (bits : ℕ) (why : Option Down) → place ≡ place_of c.ends slot
-    → end ≡ end_in c.ends slot → role ≡ role_at c.plan (controlled c rest) (place_of c.ends slot) → bits ≡ (controlled c rest).bits place.wire.0
-    → why ≡ down role bits end → why ≡ down_at c.plan (controlled c rest) (place_of c.ends slot)
-unfolding controlled
-down_read c rest slot place end role bits why at read is bit so =
+pub down_read : (c : EdgeLists) (slot : ℕ) (place : EndPlace) (end : EndState) (role : EndRole) (bits : ℕ) (why : Option Down) → place ≡ place_of c.ends slot
+    → end ≡ end_in c.ends slot → role ≡ role_at c.plan (seen c) (place_of c.ends slot) → bits ≡ (seen c).bits place.wire.0
+    → why ≡ down role bits end → why ≡ down_at c.plan (seen c) (place_of c.ends slot)
+unfolding seen
+down_read c slot place end role bits why at read is bit so =
     so
     ∙ (ap (λ (r : EndRole). down r bits end) is
-    ∙ (ap (λ (b : ℕ). down (role_at c.plan (controlled c rest) (place_of c.ends slot)) b end) (bit ∙ ap (λ (p : EndPlace). (controlled c rest).bits p.wire.0) at)
-    ∙ ap (λ (e : EndState). down (role_at c.plan (controlled c rest) (place_of c.ends slot)) ((controlled c rest).bits (place_of c.ends slot).wire.0) e) read))
+    ∙ (ap (λ (b : ℕ). down (role_at c.plan (seen c) (place_of c.ends slot)) b end) (bit ∙ ap (λ (p : EndPlace). (seen c).bits p.wire.0) at)
+    ∙ ap (λ (e : EndState). down (role_at c.plan (seen c) (place_of c.ends slot)) ((seen c).bits (place_of c.ends slot).wire.0) e) read))

@@ -1,4 +1,4 @@
--- The control of an edge hears messages and octets, and has ticks.
+-- An edge hears messages and octets, and has ticks.
 use Rattle.std.proofs.Common.{◌≡◌, ◌<◌, ◌≤◌, ◌+◌, ◌-◌, ◌++◌, ◌∙◌, ℕ, zero, suc, Bool, true, false, List, [], ◌∷◌, Option, Some, None, Result, Ok, Err, cond, length, drop, slice_index_or, nat_eq, refl, ap, sym, subst, arith}
 use Rattle.std.proofs.lemmas.Bool.{eqb-true}
 use Rattle.std.specs.Prelude.{OnOk}
@@ -12,25 +12,27 @@ use Rattle.ldp_grammar.specs.declared.pdu.Pdu.{Pdu}
 use Rattle.net_values.specs.Octets.{AreOctets}
 use Rattle.session_core.specs.Table.{Heard, Received, Refused, Ticked}
 use Rattle.edge_model.specs.declared.effect.Effect.{Effect}
-use Rattle.edge_model.specs.Hear.{acts, acts_on, hears, hears_message, hears_messages, hears_one, hears_pdu, was_up}
+use Rattle.edge_model.specs.Hear.{acts, acts_on, hears, hears_message, hears_messages, hears_on, hears_one, hears_pdu, holds, was_up}
 use Rattle.edge_model.specs.Mend.{mends}
+use Rattle.edge_model.proofs.HeldLemmas.{hears_few_held, held_is}
 use Rattle.edge_model.specs.Session.{clears_ends, happens_with_ends}
 use Rattle.edge_model.specs.State.{EdgeState, Peering, has_end, is_there, with_ends_beside, with_peering}
 use Rattle.edge_model.specs.Tick.{ticks_sessions}
 use Rattle.edge_model.specs.Work.{Answers, Work, changes}
 use Rattle.pw_signalling.specs.Rows.{lost}
-use Rattle.provider_edge.specs.Control.{ControlLists, Rest, at_control, controlled, holding}
 use Rattle.peer_dialogue.specs.Heard.{CanBeHeard}
 use Rattle.peer_dialogue.specs.Hearing.{HearsOn, IsAtFault, IsAtPdu, IsWaiting, IsWaitingFor}
-use Rattle.peer_dialogue.specs.Peering.{Dialogue, at_edge, kept_with}
+use Rattle.peer_dialogue.specs.Peering.{at_edge}
 use Rattle.edge_forwarding.specs.Views.{view}
 use Rattle.peer_dialogue.proofs.HearLemmas.{ended_all, heard_fault, heard_pdu, held_all, messages_more}
-use Rattle.peer_dialogue.proofs.SpeakerLemmas.{put_same, read_peer}
+use Rattle.peer_dialogue.proofs.SpeakerLemmas.{put_same, put_twice, read_peer}
+use Rattle.provider_edge.specs.Hearing.{AreTakenOut}
+use Rattle.provider_edge.specs.Lists.{EdgeLists, seen}
 
 -- ---- no session is left
 
-pub left_none_read : (peer : EdgeId) (mid now : EdgeState) (held : List ℕ) (left : Option Dialogue) → now ≡ with_peering peer (kept_with held left) mid → left ≡ None → now.peering peer.0 ≡ None
-left_none_read peer mid now held left puts none = ap (λ (e : EdgeState). e.peering peer.0) puts ∙ (read_peer peer (kept_with held left) mid ∙ ap (kept_with held) none)
+pub left_none_read : (peer : EdgeId) (mid now : EdgeState) (left : Option Peering) → now ≡ with_peering peer left mid → left ≡ None → now.peering peer.0 ≡ None
+left_none_read peer mid now left puts none = ap (λ (e : EdgeState). e.peering peer.0) puts ∙ (read_peer peer left mid ∙ none)
 
 -- the loss of ends leaves that as it is
 pub cleared_none : (peer : EdgeId) (edge now : EdgeState) (calls : List LinkCall) (out : List Effect) → at_edge now calls out ≡ clears_ends peer (at_edge edge calls out) → edge.peering peer.0 ≡ None → now.peering peer.0 ≡ None
@@ -111,79 +113,114 @@ pdu_heard plan now told peer pdu start mid work same is heard =
 pub waits_none : (x : Option Peering) (held : List ℕ) → x ≡ None → IsWaitingFor x held
 waits_none x held none = subst (λ (o : Option Peering). IsWaitingFor o held) (sym none) tt
 
-pub waits_some : (x : Option Peering) (octets held : List ℕ) (d : Dialogue) (max : ℕ) → kept_with octets (Some d) ≡ x → max ≡ d.session.max_pdu → IsWaiting max held → IsWaitingFor x held
-waits_some x octets held d max is same waits = subst (λ (o : Option Peering). IsWaitingFor o held) is (subst (λ (n : ℕ). IsWaiting n held) same waits)
+pub waits_some : (x : Option Peering) (held : List ℕ) (kept : Peering) (max : ℕ) → Some kept ≡ x → max ≡ kept.session.max_pdu → IsWaiting max held → IsWaitingFor x held
+waits_some x held kept max is same waits = subst (λ (o : Option Peering). IsWaitingFor o held) is (subst (λ (n : ℕ). IsWaiting n held) same waits)
 
-pub pdu_on : (plan now : Plan) (told : Answers) (peer : EdgeId) (held rest more octets : List ℕ) (pdu : Pdu) (d : Dialogue) (max : ℕ) (edge : EdgeState) (calls : List LinkCall) (out : List Effect) (work : Work) → now ≡ plan
-    → AreOctets held → AreOctets more → max ≤ 4096 → max ≡ d.session.max_pdu → kept_with octets (Some d) ≡ edge.peering peer.0 → IsAtPdu max held rest pdu
+pub pdu_on : (plan now : Plan) (told : Answers) (peer : EdgeId) (held rest more : List ℕ) (pdu : Pdu) (kept : Peering) (max : ℕ) (edge : EdgeState) (calls : List LinkCall) (out : List Effect) (work : Work) → now ≡ plan
+    → AreOctets held → AreOctets more → max ≤ 4096 → max ≡ kept.session.max_pdu → Some kept ≡ edge.peering peer.0 → IsAtPdu max held rest pdu
     → work ≡ hears_pdu now told peer pdu (at_edge edge calls out)
     → HearsOn plan told peer (held ++ more) (rest ++ more) (at_edge edge calls out) work
 unfolding at_edge
-pdu_on plan now told peer held rest more octets pdu d max edge calls out work same heard others small is there at hears =
+pdu_on plan now told peer held rest more pdu kept max edge calls out work same heard others small is there at hears =
     let start : Work = record { edge = edge; calls = calls; effects = out; idle = false } in
-    let here : IsAtPdu d.session.max_pdu held rest pdu = subst (λ (n : ℕ). IsAtPdu n held rest pdu) is at in
-    heard_pdu plan told peer held rest more pdu (record { session = d.session; held = octets; next_id = d.next_id }) start work
+    let here : IsAtPdu kept.session.max_pdu held rest pdu = subst (λ (n : ℕ). IsAtPdu n held rest pdu) is at in
+    heard_pdu plan told peer held rest more pdu kept start work
     heard others (subst (λ (n : ℕ). n ≤ 4096) is small) (sym there) here.front here.shorter
     (hears ∙ ap (λ (p : Plan). hears_pdu p told peer pdu start) same)
 
-pub fault_on : (plan : Plan) (told : Answers) (peer : EdgeId) (held rest more octets : List ℕ) (refusal : DecodeFault) (d : Dialogue) (max : ℕ) (edge after : EdgeState) (calls new : List LinkCall) (out given : List Effect)
-    → AreOctets held → AreOctets more → max ≤ 4096 → max ≡ d.session.max_pdu → kept_with octets (Some d) ≡ edge.peering peer.0 → IsAtFault max held refusal
+pub fault_on : (plan : Plan) (told : Answers) (peer : EdgeId) (held rest more : List ℕ) (refusal : DecodeFault) (kept : Peering) (max : ℕ) (edge after : EdgeState) (calls new : List LinkCall) (out given : List Effect)
+    → AreOctets held → AreOctets more → max ≤ 4096 → max ≡ kept.session.max_pdu → Some kept ≡ edge.peering peer.0 → IsAtFault max held refusal
     → at_edge after new given ≡ happens_with_ends told peer (Refused refusal) (at_edge edge calls out) → after.peering peer.0 ≡ None
     → HearsOn plan told peer (held ++ more) rest (at_edge edge calls out) (at_edge after new given)
 unfolding at_edge
-fault_on plan told peer held rest more octets refusal d max edge after calls new out given heard others small is there at happened gone =
-    let here : IsAtFault d.session.max_pdu held refusal = subst (λ (n : ℕ). IsAtFault n held refusal) is at in
-    heard_fault plan told peer held rest more here.fault refusal (record { session = d.session; held = octets; next_id = d.next_id })
+fault_on plan told peer held rest more refusal kept max edge after calls new out given heard others small is there at happened gone =
+    let here : IsAtFault kept.session.max_pdu held refusal = subst (λ (n : ℕ). IsAtFault n held refusal) is at in
+    heard_fault plan told peer held rest more here.fault refusal kept
     (record { edge = edge; calls = calls; effects = out; idle = false }) (record { edge = after; calls = new; effects = given; idle = false })
     heard others (subst (λ (n : ℕ). n ≤ 4096) is small) (sym there) here.front here.names happened gone
 
 pub on_plan : (plan now : Plan) (told : Answers) (peer : EdgeId) (octets rest : List ℕ) (work next : Work) → now ≡ plan → HearsOn now told peer octets rest work next → HearsOn plan told peer octets rest work next
 on_plan plan now told peer octets rest work next same on = subst (λ (p : Plan). HearsOn p told peer octets rest work next) same on
 
--- other octets are held
-holding_at : (c : ControlLists) (peer : EdgeId) (octets : List ℕ) (rest : Rest) → controlled c (holding peer octets rest) ≡ with_peering peer (kept_with octets (view None c.dialogues peer.0)) (controlled c rest)
-unfolding controlled with_peering
-holding_at c peer octets rest = λ i. record (controlled c rest) { peering = λ k. at k (nat_eq k peer.0) refl i } where
-  at : (k : ℕ) (b : Bool) → nat_eq k peer.0 ≡ b
-      → kept_with (cond b octets (rest.held k)) (view None c.dialogues k) ≡ cond b (kept_with octets (view None c.dialogues peer.0)) (kept_with (rest.held k) (view None c.dialogues k))
-  at k true same = ap (λ (n : ℕ). kept_with octets (view None c.dialogues n)) (eqb-true k peer.0 same)
-  at k false same = refl
+-- all was heard, and what is left is then held
+pub all_held : (c : EdgeLists) (plan : Plan) (told : Answers) (peer : EdgeId) (octets held : List ℕ) (work now : Work) (calls : List LinkCall) (out : List Effect) → has_end (seen c) peer ≡ true
+    → IsWaitingFor ((seen c).peering peer.0) held → HearsOn plan told peer octets (held ++ []) work (at_edge (seen c) calls out)
+    → now ≡ holds peer held ((seen c).peering peer.0) (at_edge (seen c) calls out)
+    → now ≡ hears plan told peer octets work
+unfolding at_edge
+all_held c plan told peer octets held work now calls out there waits on is = by ((seen c).peering peer.0) refl there waits is where
+  by : (x : Option Peering) → (seen c).peering peer.0 ≡ x → is_there x ≡ true → IsWaitingFor x held → now ≡ holds peer held x (at_edge (seen c) calls out) → now ≡ hears plan told peer octets work
+  by None at none waits is = absurd (cc (none))
+  by (Some kept) at some waits is = is ∙ held_all plan told peer octets held work (at_edge (seen c) calls out) kept at waits on
 
-pub all_held : (c : ControlLists) (plan : Plan) (told : Answers) (peer : EdgeId) (octets held : List ℕ) (work : Work) (rest : Rest) (calls : List LinkCall) (out : List Effect) → has_end (controlled c rest) peer ≡ true
-    → IsWaitingFor ((controlled c rest).peering peer.0) held → HearsOn plan told peer octets (held ++ []) work (at_control c rest calls out)
-    → at_control c (holding peer held rest) calls out ≡ hears plan told peer octets work
-unfolding controlled at_edge changes
-all_held c plan told peer octets held work rest calls out there waits on = by (view None c.dialogues peer.0) refl where
-  by : (x : Option Dialogue) → view None c.dialogues peer.0 ≡ x → at_control c (holding peer held rest) calls out ≡ hears plan told peer octets work
-  by None is = absurd (cc (sym (ap (λ (x : Option Dialogue). is_there (kept_with (rest.held peer.0) x)) is) ∙ there))
-  by (Some d) is =
-      let at : (controlled c rest).peering peer.0 ≡ kept_with (rest.held peer.0) (Some d) = ap (kept_with (rest.held peer.0)) is in
-      ap (λ (e : EdgeState). record { edge = e; calls = calls; effects = out; idle = false }) (holding_at c peer held rest ∙ ap (λ (x : Option Dialogue). with_peering peer (kept_with held x) (controlled c rest)) is)
-      ∙ held_all plan told peer octets held work (at_edge (controlled c rest) calls out) (record { session = d.session; held = rest.held peer.0; next_id = d.next_id }) at (subst (λ (x : Option Peering). IsWaitingFor x held) at waits) on
+pub all_ended : (c : EdgeLists) (plan : Plan) (told : Answers) (peer : EdgeId) (octets left : List ℕ) (work : Work) (calls : List LinkCall) (out : List Effect) → has_end (seen c) peer ≡ false
+    → HearsOn plan told peer octets left work (at_edge (seen c) calls out)
+    → at_edge (seen c) calls out ≡ hears plan told peer octets work
+unfolding at_edge
+all_ended c plan told peer octets left work calls out gone on = by ((seen c).peering peer.0) refl gone where
+  by : (x : Option Peering) → (seen c).peering peer.0 ≡ x → is_there x ≡ false → at_edge (seen c) calls out ≡ hears plan told peer octets work
+  by None at none = ended_all plan told peer octets left work (at_edge (seen c) calls out) at on
+  by (Some kept) at some = absurd (cc (some))
 
-pub all_ended : (c : ControlLists) (plan : Plan) (told : Answers) (peer : EdgeId) (octets left held : List ℕ) (work : Work) (rest : Rest) (calls : List LinkCall) (out : List Effect) → has_end (controlled c rest) peer ≡ false
-    → HearsOn plan told peer octets left work (at_control c rest calls out)
-    → at_control c (holding peer held rest) calls out ≡ hears plan told peer octets work
-unfolding controlled at_edge
-all_ended c plan told peer octets left held work rest calls out gone on = by (view None c.dialogues peer.0) refl where
-  by : (x : Option Dialogue) → view None c.dialogues peer.0 ≡ x → at_control c (holding peer held rest) calls out ≡ hears plan told peer octets work
-  by None is =
-      let at : (controlled c rest).peering peer.0 ≡ None = ap (kept_with (rest.held peer.0)) is in
-      ap (λ (e : EdgeState). record { edge = e; calls = calls; effects = out; idle = false }) (holding_at c peer held rest ∙ (ap (λ (x : Option Dialogue). with_peering peer (kept_with held x) (controlled c rest)) is ∙ put_same peer None (controlled c rest) at))
-      ∙ ended_all plan told peer octets left work (at_edge (controlled c rest) calls out) at on
-  by (Some d) is = absurd (cc (sym (ap (λ (x : Option Dialogue). is_there (kept_with (rest.held peer.0) x)) is) ∙ gone))
+-- nothing is taken out where no session stands
+pub taken_none : (peer : EdgeId) (x : Option Peering) (old mid : EdgeState) → AreTakenOut peer x old mid None → (x ≡ None) × (mid ≡ old)
+taken_none peer None old mid none = (refl, none.1)
+taken_none peer (Some kept) old mid some = absurd (cc (some.0))
+
+-- nothing was kept, and so nothing was taken out
+pub untaken : (peer : EdgeId) (taken : Option Peering) (old mid : EdgeState) → taken ≡ old.peering peer.0 → taken ≡ None → mid ≡ with_peering peer None old → AreTakenOut peer (old.peering peer.0) old mid None
+untaken peer taken old mid read none took =
+    let gone : old.peering peer.0 ≡ None = sym read ∙ none in
+    subst (λ (x : Option Peering). AreTakenOut peer x old mid None) (sym gone) (refl, took ∙ put_same peer None old gone)
+
+-- the octets were taken out of what was kept, and the rest was put back
+pub taken_held : (peer : EdgeId) (taken : Option Peering) (kept left : Peering) (held : List ℕ) (old mid new : EdgeState) → taken ≡ old.peering peer.0 → taken ≡ Some kept → held ≡ kept.held → left ≡ record kept { held = [] }
+    → mid ≡ with_peering peer None old → new ≡ with_peering peer (Some left) mid → AreTakenOut peer (old.peering peer.0) old new (Some held)
+taken_held peer taken kept left held old mid new read some is rest took puts =
+    subst (λ (x : Option Peering). AreTakenOut peer x old new (Some held)) (sym (sym read ∙ some))
+    (ap Some is, puts ∙ (ap (with_peering peer (Some left)) took ∙ (put_twice peer None (Some left) old ∙ ap (λ (p : Peering). with_peering peer (Some p) old) rest)))
+
+-- octets are held of what was kept
+pub now_held : (peer : EdgeId) (taken : Option Peering) (kept left : Peering) (held : List ℕ) (old mid new : EdgeState) (calls : List LinkCall) (out : List Effect) → taken ≡ old.peering peer.0 → taken ≡ Some kept → left ≡ record kept { held = held }
+    → mid ≡ with_peering peer None old → new ≡ with_peering peer (Some left) mid → at_edge new calls out ≡ holds peer held (old.peering peer.0) (at_edge old calls out)
+unfolding at_edge changes
+now_held peer taken kept left held old mid new calls out read some is took puts =
+    ap (λ (e : EdgeState). record { edge = e; calls = calls; effects = out; idle = false }) (puts ∙ (ap (with_peering peer (Some left)) took ∙ (put_twice peer None (Some left) old ∙ ap (λ (p : Peering). with_peering peer (Some p) old) is)))
+    ∙ ap (λ (x : Option Peering). holds peer held x (record { edge = old; calls = calls; effects = out; idle = false })) (sym some ∙ read)
+
+-- and none are where nothing was kept
+pub not_held : (peer : EdgeId) (taken : Option Peering) (held : List ℕ) (old mid : EdgeState) (calls : List LinkCall) (out : List Effect) → taken ≡ old.peering peer.0 → taken ≡ None
+    → mid ≡ with_peering peer None old → at_edge mid calls out ≡ holds peer held (old.peering peer.0) (at_edge old calls out)
+unfolding at_edge
+not_held peer taken held old mid calls out read none took =
+    ap (λ (e : EdgeState). record { edge = e; calls = calls; effects = out; idle = false }) (took ∙ put_same peer None old (sym read ∙ none))
+    ∙ ap (λ (x : Option Peering). holds peer held x (record { edge = old; calls = calls; effects = out; idle = false })) (sym none ∙ read)
+
+-- what is held is taken out before more is heard: it tells nothing of how more is heard
+pub held_heard : (plan : Plan) (told : Answers) (peer : EdgeId) (octets held : List ℕ) (old mid : EdgeState) (calls : List LinkCall) (out : List Effect) (work : Work) → AreTakenOut peer (old.peering peer.0) old mid (Some held)
+    → work ≡ hears plan told peer (held ++ octets) (at_edge mid calls out) → work ≡ hears_on plan told peer octets (old.peering peer.0) (at_edge old calls out)
+unfolding at_edge changes
+held_heard plan told peer octets held old mid calls out work taken heard = by (old.peering peer.0) refl taken where
+  by : (x : Option Peering) → old.peering peer.0 ≡ x → AreTakenOut peer x old mid (Some held) → work ≡ hears_on plan told peer octets x (at_edge old calls out)
+  by None at none = absurd (cc (none.0))
+  by (Some kept) at some =
+      let start : Work = record { edge = old; calls = calls; effects = out; idle = false } in
+      let all : List ℕ = held ++ octets in
+      let same : held ≡ kept.held = cc (some.0) in
+      heard
+      ∙ (ap (λ (e : EdgeState). hears plan told peer all (record { edge = e; calls = calls; effects = out; idle = false })) some.1
+      ∙ (sym (ap (hears plan told peer all) (held_is peer [] kept start at))
+      ∙ (hears_few_held plan told peer [] (suc (length all)) all start
+      ∙ ap (λ (o : List ℕ). hears plan told peer (o ++ octets) start) same)))
 
 -- there is room for octets where a session waits for more
 room_in : (x : Option Peering) (held : List ℕ) → is_there x ≡ true → IsWaitingFor x held → length held < 4100
 room_in None held there waits = absurd (cc (there))
 room_in (Some kept) held there waits = waits.room
 
-nothing_else : Rest
-nothing_else = record { held = λ k. [] }
-
-pub room_for : (c : ControlLists) (peer : EdgeId) (held : List ℕ) (stands : Bool) → ((rest : Rest) → stands ≡ has_end (controlled c rest) peer) → stands ≡ true
-    → ((rest : Rest) → IsWaitingFor ((controlled c rest).peering peer.0) held) → length held < 4100
-room_for c peer held stands is there waits = room_in ((controlled c nothing_else).peering peer.0) held (sym (is nothing_else) ∙ there) (waits nothing_else)
+pub room_for : (c : EdgeLists) (peer : EdgeId) (held : List ℕ) (stands : Bool) → stands ≡ has_end (seen c) peer → stands ≡ true
+    → IsWaitingFor ((seen c).peering peer.0) held → length held < 4100
+room_for c peer held stands is there waits = room_in ((seen c).peering peer.0) held (sym is ∙ there) waits
 
 -- ---- ticks
 

@@ -36,9 +36,9 @@ use Rattle.edge_model.specs.Send.{drops}
 use Rattle.edge_model.specs.State.{EdgeState, end_at}
 use Rattle.edge_model.specs.Work.{Answers, Work, gives}
 use Rattle.pw_ends.specs.Ends.{end_in, end_there, place_of}
-use Rattle.provider_edge.specs.Control.{ControlLists, Rest, at_control, controlled}
 use Rattle.peer_dialogue.specs.Peering.{at_edge}
 use Rattle.provider_edge.proofs.BridgeLemmas.{dropped_at}
+use Rattle.provider_edge.specs.Lists.{EdgeLists, seen}
 
 not_false : (b : Bool) → not b ≡ false → b ≡ true
 not_false true is = refl
@@ -79,30 +79,30 @@ opened_label plan told octets entry work x plain is =
 
 -- ---- behind a router alert
 
-pub alerted_ok : (c : ControlLists) (octets : List ℕ) (entry : StackEntry) (why : DropCause) (rest : Rest) (calls : List LinkCall) (out given : List Effect) → entry_of octets ≡ Ok entry → given ≡ out ++ Dropped why ∷ []
-    → drops why (at_control c rest calls out) ≡ alerted c.plan (Ok entry) (at_control c rest calls out)
-    → at_control c rest calls given ≡ alerted c.plan (entry_of octets) (at_control c rest calls out)
-alerted_ok c octets entry why rest calls out given read gave is =
-    dropped_at why (controlled c rest) calls out given gave ∙ (is ∙ ap (λ (r : Result StackEntry DropCause). alerted c.plan r (at_control c rest calls out)) (sym read))
+pub alerted_ok : (c : EdgeLists) (octets : List ℕ) (entry : StackEntry) (why : DropCause) (calls : List LinkCall) (out given : List Effect) → entry_of octets ≡ Ok entry → given ≡ out ++ Dropped why ∷ []
+    → drops why (at_edge (seen c) calls out) ≡ alerted c.plan (Ok entry) (at_edge (seen c) calls out)
+    → at_edge (seen c) calls given ≡ alerted c.plan (entry_of octets) (at_edge (seen c) calls out)
+alerted_ok c octets entry why calls out given read gave is =
+    dropped_at why (seen c) calls out given gave ∙ (is ∙ ap (λ (r : Result StackEntry DropCause). alerted c.plan r (at_edge (seen c) calls out)) (sym read))
 
-pub alerted_err : (c : ControlLists) (octets : List ℕ) (why : DropCause) (rest : Rest) (calls : List LinkCall) (out given : List Effect) → entry_of octets ≡ Err why → given ≡ out ++ Dropped why ∷ []
-    → at_control c rest calls given ≡ alerted c.plan (entry_of octets) (at_control c rest calls out)
-alerted_err c octets why rest calls out given read gave =
-    dropped_at why (controlled c rest) calls out given gave ∙ ap (λ (r : Result StackEntry DropCause). alerted c.plan r (at_control c rest calls out)) (sym read)
+pub alerted_err : (c : EdgeLists) (octets : List ℕ) (why : DropCause) (calls : List LinkCall) (out given : List Effect) → entry_of octets ≡ Err why → given ≡ out ++ Dropped why ∷ []
+    → at_edge (seen c) calls given ≡ alerted c.plan (entry_of octets) (at_edge (seen c) calls out)
+alerted_err c octets why calls out given read gave =
+    dropped_at why (seen c) calls out given gave ∙ ap (λ (r : Result StackEntry DropCause). alerted c.plan r (at_edge (seen c) calls out)) (sym read)
 
 pub not_bottom : (plan : Plan) (entry : StackEntry) (work : Work) → entry.bottom ≡ false → drops cause.NotBottom work ≡ alerted plan (Ok entry) work
 not_bottom plan entry work is = sym (ap (λ (b : Bool). cond b (alerts_end (advertiser plan work.edge entry.label) work) (drops cause.NotBottom work)) is)
 
-edge_in : (c : ControlLists) (rest : Rest) (calls : List LinkCall) (out : List Effect) → (at_control c rest calls out).edge ≡ controlled c rest
+edge_in : (c : EdgeLists) (calls : List LinkCall) (out : List Effect) → (at_edge (seen c) calls out).edge ≡ seen c
 unfolding at_edge
-edge_in c rest calls out = refl
+edge_in c calls out = refl
 
-pub at_bottom : (c : ControlLists) (entry : StackEntry) (rest : Rest) (calls : List LinkCall) (out : List Effect) (x : Work) → entry.bottom ≡ true → x ≡ alerts_end (advertiser c.plan (controlled c rest) entry.label) (at_control c rest calls out)
-    → x ≡ alerted c.plan (Ok entry) (at_control c rest calls out)
-at_bottom c entry rest calls out x is same =
+pub at_bottom : (c : EdgeLists) (entry : StackEntry) (calls : List LinkCall) (out : List Effect) (x : Work) → entry.bottom ≡ true → x ≡ alerts_end (advertiser c.plan (seen c) entry.label) (at_edge (seen c) calls out)
+    → x ≡ alerted c.plan (Ok entry) (at_edge (seen c) calls out)
+at_bottom c entry calls out x is same =
     same
-    ∙ (ap (λ (e : EdgeState). alerts_end (advertiser c.plan e entry.label) (at_control c rest calls out)) (sym (edge_in c rest calls out))
-    ∙ sym (ap (λ (b : Bool). cond b (alerts_end (advertiser c.plan (at_control c rest calls out).edge entry.label) (at_control c rest calls out)) (drops cause.NotBottom (at_control c rest calls out))) is))
+    ∙ (ap (λ (e : EdgeState). alerts_end (advertiser c.plan e entry.label) (at_edge (seen c) calls out)) (sym (edge_in c calls out))
+    ∙ sym (ap (λ (b : Bool). cond b (alerts_end (advertiser c.plan (at_edge (seen c) calls out).edge entry.label) (at_edge (seen c) calls out)) (drops cause.NotBottom (at_edge (seen c) calls out))) is))
 
 -- the end that was found is the one that the label names
 pub named_some : (f : ℕ → EndPlace) (found : Option ℕ) (slot : ℕ) (named : Option EndPlace) → option_map f found ≡ named → found ≡ Some slot → named ≡ Some (f slot)
@@ -126,9 +126,9 @@ alerts_between place at work is other = sym (ap (λ (b : Bool). cond b (drops ca
 -- ---- whose label it is
 
 -- the end that was found by the ends' own list is that of the plan
-pub advertiser_in : (c : ControlLists) (rest : Rest) (label : ℕ) → c.ends.places ≡ end_places c.plan c.me → find (λ place. advertises_label label (end_there c.ends place).local) c.ends.places ≡ advertiser c.plan (controlled c rest) label
-unfolding controlled
-advertiser_in c rest label placed = ap (find (λ place. advertises_label label (end_there c.ends place).local)) placed
+pub advertiser_in : (c : EdgeLists) (label : ℕ) → c.ends.places ≡ end_places c.plan c.me → find (λ place. advertises_label label (end_there c.ends place).local) c.ends.places ≡ advertiser c.plan (seen c) label
+unfolding seen
+advertiser_in c label placed = ap (find (λ place. advertises_label label (end_there c.ends place).local)) placed
 
 -- ---- the label is one of the edge's own
 
@@ -147,14 +147,14 @@ above_bottom plan told octets entry edge calls out given above other gave =
     ∙ sym (ap (λ (b : Bool). cond b (drops cause.NoLabel (at_edge edge calls out)) (cond entry.bottom (owned plan told octets entry (advertiser plan (at_edge edge calls out).edge entry.label) (at_edge edge calls out)) (drops cause.NotBottom (at_edge edge calls out)))) more
     ∙ ap (λ (b : Bool). cond b (owned plan told octets entry (advertiser plan (at_edge edge calls out).edge entry.label) (at_edge edge calls out)) (drops cause.NotBottom (at_edge edge calls out))) other)
 
-pub labelled_here : (c : ControlLists) (told : Answers) (octets : List ℕ) (entry : StackEntry) (rest : Rest) (calls : List LinkCall) (out : List Effect) (x : Work) → 16 ≤ entry.label → entry.bottom ≡ true
-    → x ≡ owned c.plan told octets entry (advertiser c.plan (controlled c rest) entry.label) (at_control c rest calls out)
-    → x ≡ labelled c.plan told octets entry (at_control c rest calls out)
-labelled_here c told octets entry rest calls out x above bottom is =
+pub labelled_here : (c : EdgeLists) (told : Answers) (octets : List ℕ) (entry : StackEntry) (calls : List LinkCall) (out : List Effect) (x : Work) → 16 ≤ entry.label → entry.bottom ≡ true
+    → x ≡ owned c.plan told octets entry (advertiser c.plan (seen c) entry.label) (at_edge (seen c) calls out)
+    → x ≡ labelled c.plan told octets entry (at_edge (seen c) calls out)
+labelled_here c told octets entry calls out x above bottom is =
     let more : nat_lt entry.label least_label ≡ false = grind (arith, nat_tests, above) in
-    let work : Work = at_control c rest calls out in
+    let work : Work = at_edge (seen c) calls out in
     is
-    ∙ (ap (λ (e : EdgeState). owned c.plan told octets entry (advertiser c.plan e entry.label) work) (sym (edge_in c rest calls out))
+    ∙ (ap (λ (e : EdgeState). owned c.plan told octets entry (advertiser c.plan e entry.label) work) (sym (edge_in c calls out))
     ∙ sym (ap (λ (b : Bool). cond b (drops cause.NoLabel work) (cond entry.bottom (owned c.plan told octets entry (advertiser c.plan work.edge entry.label) work) (drops cause.NotBottom work))) more
     ∙ ap (λ (b : Bool). cond b (owned c.plan told octets entry (advertiser c.plan work.edge entry.label) work) (drops cause.NotBottom work)) bottom))
 
@@ -170,19 +170,19 @@ pub owned_between : (plan : Plan) (told : Answers) (octets : List ℕ) (entry : 
 owned_between plan told octets entry place at work is other =
     sym (ap (λ (b : Bool). cond b (terminated plan told place (wire_row plan place.wire) (end_at work.edge place).remote (behind_entry octets) work) (switched plan told octets entry place work)) (ap (λ (p : EndPlace). p.terminal) (sym is) ∙ not_true at.terminal other))
 
-remote_in : (c : ControlLists) (rest : Rest) (calls : List LinkCall) (out : List Effect) (slot : ℕ) → (end_at (at_control c rest calls out).edge (place_of c.ends slot)).remote ≡ (end_in c.ends slot).remote
-unfolding controlled at_edge
-remote_in c rest calls out slot = refl
+remote_in : (c : EdgeLists) (calls : List LinkCall) (out : List Effect) (slot : ℕ) → (end_at (at_edge (seen c) calls out).edge (place_of c.ends slot)).remote ≡ (end_in c.ends slot).remote
+unfolding seen at_edge
+remote_in c calls out slot = refl
 
-pub owned_terminal : (c : ControlLists) (told : Answers) (octets behind : List ℕ) (entry : StackEntry) (slot : ℕ) (at : EndPlace) (rest : Rest) (calls : List LinkCall) (out : List Effect) (x : Work) → at ≡ place_of c.ends slot → not at.terminal ≡ false → behind ≡ behind_entry octets
-    → x ≡ terminated c.plan told (place_of c.ends slot) (wire_row c.plan (place_of c.ends slot).wire) (end_in c.ends slot).remote behind (at_control c rest calls out)
-    → x ≡ owned c.plan told octets entry (Some (place_of c.ends slot)) (at_control c rest calls out)
-owned_terminal c told octets behind entry slot at rest calls out x is terminal front same =
+pub owned_terminal : (c : EdgeLists) (told : Answers) (octets behind : List ℕ) (entry : StackEntry) (slot : ℕ) (at : EndPlace) (calls : List LinkCall) (out : List Effect) (x : Work) → at ≡ place_of c.ends slot → not at.terminal ≡ false → behind ≡ behind_entry octets
+    → x ≡ terminated c.plan told (place_of c.ends slot) (wire_row c.plan (place_of c.ends slot).wire) (end_in c.ends slot).remote behind (at_edge (seen c) calls out)
+    → x ≡ owned c.plan told octets entry (Some (place_of c.ends slot)) (at_edge (seen c) calls out)
+owned_terminal c told octets behind entry slot at calls out x is terminal front same =
     let place : EndPlace = place_of c.ends slot in
-    let work : Work = at_control c rest calls out in
+    let work : Work = at_edge (seen c) calls out in
     same
     ∙ (ap (λ (l : List ℕ). terminated c.plan told place (wire_row c.plan place.wire) (end_in c.ends slot).remote l work) front
-    ∙ (ap (λ (r : Option Binding). terminated c.plan told place (wire_row c.plan place.wire) r (behind_entry octets) work) (sym (remote_in c rest calls out slot))
+    ∙ (ap (λ (r : Option Binding). terminated c.plan told place (wire_row c.plan place.wire) r (behind_entry octets) work) (sym (remote_in c calls out slot))
     ∙ sym (ap (λ (b : Bool). cond b (terminated c.plan told place (wire_row c.plan place.wire) (end_at work.edge place).remote (behind_entry octets) work) (switched c.plan told octets entry place work)) (ap (λ (p : EndPlace). p.terminal) (sym is) ∙ not_false at.terminal terminal))))
 
 pub terminal_at : (place at : EndPlace) → at ≡ place → not at.terminal ≡ false → place.terminal ≡ true
@@ -210,27 +210,27 @@ row_there [] k within = absurd (omega (arith, within))
 row_there (x ∷ xs) zero within = (x, refl)
 row_there (x ∷ xs) (suc k) within = row_there xs k (omega (arith, within))
 
-me_of : (c : ControlLists) (rest : Rest) (calls : List LinkCall) (out : List Effect) → (at_control c rest calls out).edge.me ≡ c.me
-unfolding controlled at_edge
-me_of c rest calls out = refl
+me_of : (c : EdgeLists) (calls : List LinkCall) (out : List Effect) → (at_edge (seen c) calls out).edge.me ≡ c.me
+unfolding seen at_edge
+me_of c calls out = refl
 
 bound_end : (plan : Plan) (told : Answers) (place : EndPlace) (row : WirePlan) (remote : Option Binding) (payload : List ℕ) (work : Work) → is_some remote ≡ true → terminated plan told place (Some row) remote payload work ≡ by_offer plan told row place (offer_of row work.edge.me.0).cword payload work
 bound_end plan told place row None payload work some = absurd (cc (some))
 bound_end plan told place row (Some binding) payload work some = refl
 
 -- what the row of the wire says of the frame
-pub by_row : (c : ControlLists) (told : Answers) (slot : ℕ) (bound : Bool) (offer : Offer) (payload : List ℕ) (rest : Rest) (calls : List LinkCall) (out : List Effect) (x : Work)
+pub by_row : (c : EdgeLists) (told : Answers) (slot : ℕ) (bound : Bool) (offer : Offer) (payload : List ℕ) (calls : List LinkCall) (out : List Effect) (x : Work)
     → (place_of c.ends slot).wire.0 < length c.plan.wires → bound ≡ is_some (end_in c.ends slot).remote → bound ≡ true
     → ((row : WirePlan) → wire_row c.plan (place_of c.ends slot).wire ≡ Some row → offer ≡ offer_of row c.me.0)
-    → ((row : WirePlan) → wire_row c.plan (place_of c.ends slot).wire ≡ Some row → x ≡ by_offer c.plan told row (place_of c.ends slot) offer.cword payload (at_control c rest calls out))
-    → x ≡ terminated c.plan told (place_of c.ends slot) (wire_row c.plan (place_of c.ends slot).wire) (end_in c.ends slot).remote payload (at_control c rest calls out)
-by_row c told slot bound offer payload rest calls out x within is here offers same =
+    → ((row : WirePlan) → wire_row c.plan (place_of c.ends slot).wire ≡ Some row → x ≡ by_offer c.plan told row (place_of c.ends slot) offer.cword payload (at_edge (seen c) calls out))
+    → x ≡ terminated c.plan told (place_of c.ends slot) (wire_row c.plan (place_of c.ends slot).wire) (end_in c.ends slot).remote payload (at_edge (seen c) calls out)
+by_row c told slot bound offer payload calls out x within is here offers same =
     let place : EndPlace = place_of c.ends slot in
-    let work : Work = at_control c rest calls out in
+    let work : Work = at_edge (seen c) calls out in
     let (row, at) = row_there c.plan.wires place.wire.0 within in
     same row at
     ∙ (ap (λ (o : Offer). by_offer c.plan told row place o.cword payload work) (offers row at)
-    ∙ (ap (λ (m : EdgeId). by_offer c.plan told row place (offer_of row m.0).cword payload work) (sym (me_of c rest calls out))
+    ∙ (ap (λ (m : EdgeId). by_offer c.plan told row place (offer_of row m.0).cword payload work) (sym (me_of c calls out))
     ∙ (sym (bound_end c.plan told place row (end_in c.ends slot).remote payload work (sym is ∙ here))
     ∙ ap (λ (r : Option WirePlan). terminated c.plan told place r (end_in c.ends slot).remote payload work) (sym at))))
 
@@ -279,26 +279,26 @@ enters_not plan told row place payload down edge calls out given is some gave =
     ap (λ (l : List Effect). record { edge = edge; calls = calls; effects = l; idle = false }) gave
     ∙ sym (ap (λ (b : Bool). cond b (bridges_frame plan told row place payload work) (drops cause.Down work)) (ap is_up (sym is) ∙ up_not down some))
 
-pub enters_here : (c : ControlLists) (told : Answers) (row : WirePlan) (slot : ℕ) (payload : List ℕ) (down : Option Down) (rest : Rest) (calls : List LinkCall) (out : List Effect) (x : Work) → down ≡ down_at c.plan (controlled c rest) (place_of c.ends slot) → is_some down ≡ false
-    → x ≡ bridges_frame c.plan told row (place_of c.ends slot) payload (at_control c rest calls out)
-    → x ≡ enters c.plan told row (place_of c.ends slot) payload (at_control c rest calls out)
-enters_here c told row slot payload down rest calls out x is none same =
-    let work : Work = at_control c rest calls out in
+pub enters_here : (c : EdgeLists) (told : Answers) (row : WirePlan) (slot : ℕ) (payload : List ℕ) (down : Option Down) (calls : List LinkCall) (out : List Effect) (x : Work) → down ≡ down_at c.plan (seen c) (place_of c.ends slot) → is_some down ≡ false
+    → x ≡ bridges_frame c.plan told row (place_of c.ends slot) payload (at_edge (seen c) calls out)
+    → x ≡ enters c.plan told row (place_of c.ends slot) payload (at_edge (seen c) calls out)
+enters_here c told row slot payload down calls out x is none same =
+    let work : Work = at_edge (seen c) calls out in
     same
     ∙ sym (ap (λ (b : Bool). cond b (bridges_frame c.plan told row (place_of c.ends slot) payload work) (drops cause.Down work))
-    (ap (λ (e : EdgeState). is_up (down_at c.plan e (place_of c.ends slot))) (edge_in c rest calls out) ∙ (ap is_up (sym is) ∙ up_at down none)))
+    (ap (λ (e : EdgeState). is_up (down_at c.plan e (place_of c.ends slot))) (edge_in c calls out) ∙ (ap is_up (sym is) ∙ up_at down none)))
 
-pub bridged_payload : (c : ControlLists) (told : Answers) (row : WirePlan) (slot : ℕ) (at : EndPlace) (service : ServiceId) (port : Option ℕ) (payload : List ℕ) (rest : Rest) (calls : List LinkCall) (out : List Effect) (x : Work) → at ≡ place_of c.ends slot
+pub bridged_payload : (c : EdgeLists) (told : Answers) (row : WirePlan) (slot : ℕ) (at : EndPlace) (service : ServiceId) (port : Option ℕ) (payload : List ℕ) (calls : List LinkCall) (out : List Effect) (x : Work) → at ≡ place_of c.ends slot
     → service ≡ row.service → port ≡ position (is_wire_port (place_of c.ends slot).wire) (ports_of c.plan service c.me)
-    → x ≡ received c.plan told (arrival.Wire at.wire) service port (unpacked_at c.plan row c.me payload) (at_control c rest calls out)
-    → x ≡ bridges_frame c.plan told row (place_of c.ends slot) payload (at_control c rest calls out)
-unfolding controlled at_edge
-bridged_payload c told row slot at service port payload rest calls out x is of found same =
+    → x ≡ received c.plan told (arrival.Wire at.wire) service port (unpacked_at c.plan row c.me payload) (at_edge (seen c) calls out)
+    → x ≡ bridges_frame c.plan told row (place_of c.ends slot) payload (at_edge (seen c) calls out)
+unfolding seen at_edge
+bridged_payload c told row slot at service port payload calls out x is of found same =
     let place : EndPlace = place_of c.ends slot in
     same
-    ∙ (ap (λ (p : EndPlace). received c.plan told (arrival.Wire p.wire) service port (unpacked_at c.plan row c.me payload) (at_control c rest calls out)) is
-    ∙ (ap (λ (p : Option ℕ). received c.plan told (arrival.Wire place.wire) service p (unpacked_at c.plan row c.me payload) (at_control c rest calls out)) found
-    ∙ ap (λ (s : ServiceId). received c.plan told (arrival.Wire place.wire) s (position (is_wire_port place.wire) (ports_of c.plan s c.me)) (unpacked_at c.plan row c.me payload) (at_control c rest calls out)) of))
+    ∙ (ap (λ (p : EndPlace). received c.plan told (arrival.Wire p.wire) service port (unpacked_at c.plan row c.me payload) (at_edge (seen c) calls out)) is
+    ∙ (ap (λ (p : Option ℕ). received c.plan told (arrival.Wire place.wire) service p (unpacked_at c.plan row c.me payload) (at_edge (seen c) calls out)) found
+    ∙ ap (λ (s : ServiceId). received c.plan told (arrival.Wire place.wire) s (position (is_wire_port place.wire) (ports_of c.plan s c.me)) (unpacked_at c.plan row c.me payload) (at_edge (seen c) calls out)) of))
 
 -- ---- the frame is read by the edge's own offer
 

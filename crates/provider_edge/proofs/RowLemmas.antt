@@ -27,8 +27,9 @@ use Rattle.edge_model.specs.Session.{says}
 use Rattle.edge_model.specs.Signal.{end_of_fec, hears_mapping, hears_release, hears_status, hears_withdraw, maps_to, releases_label, with_end_changed, with_named}
 use Rattle.edge_model.specs.State.{EdgeState, with_ends_beside, with_told_down}
 use Rattle.edge_model.specs.Work.{Answers, Work, changes, gives}
-use Rattle.provider_edge.specs.Control.{ControlLists, Rest, binds_to, controlled}
 use Rattle.peer_dialogue.specs.Peering.{at_edge}
+use Rattle.provider_edge.specs.Hearing.{binds_to}
+use Rattle.provider_edge.specs.Lists.{EdgeLists, seen}
 
 pub changed_edge : (change : EdgeState → EdgeState) (edge now : EdgeState) (calls : List LinkCall) (out : List Effect) → now ≡ change edge → at_edge now calls out ≡ changes change (at_edge edge calls out)
 unfolding at_edge changes
@@ -48,18 +49,18 @@ one_some change x place edge now some is = is ∙ ap (λ (p : Option EndPlace). 
 pub one_none : (change : EndState → EndState) (x : Option EndPlace) (edge : EdgeState) → x ≡ None → edge ≡ with_end_changed change x edge
 one_none change x edge none = sym (ap (λ (p : Option EndPlace). with_end_changed change p edge) none)
 
-pub with_named_some : (plan : Plan) (peer : EdgeId) (fec : PwFec) (one all : EndState → EndState) (x : Option ℕ) (pw_id : ℕ) (c : ControlLists) (rest : Rest) (now : EdgeState) → x ≡ Some pw_id
-    → now ≡ with_end_changed one (end_named plan c.me peer pw_id) (controlled c rest) → now ≡ with_named plan peer fec one all x (controlled c rest)
-unfolding controlled
-with_named_some plan peer fec one all x pw_id c rest now some is = is ∙ ap (λ (p : Option ℕ). with_named plan peer fec one all p (controlled c rest)) (sym some)
+pub with_named_some : (plan : Plan) (peer : EdgeId) (fec : PwFec) (one all : EndState → EndState) (x : Option ℕ) (pw_id : ℕ) (c : EdgeLists) (now : EdgeState) → x ≡ Some pw_id
+    → now ≡ with_end_changed one (end_named plan c.me peer pw_id) (seen c) → now ≡ with_named plan peer fec one all x (seen c)
+unfolding seen
+with_named_some plan peer fec one all x pw_id c now some is = is ∙ ap (λ (p : Option ℕ). with_named plan peer fec one all p (seen c)) (sym some)
 
 pub with_named_none : (plan : Plan) (peer : EdgeId) (fec : PwFec) (one all : EndState → EndState) (x : Option ℕ) (edge now : EdgeState) → x ≡ None
     → now ≡ with_ends_beside peer all edge → now ≡ with_named plan peer fec one all x edge
 with_named_none plan peer fec one all x edge now none is = is ∙ ap (λ (p : Option ℕ). with_named plan peer fec one all p edge) (sym none)
 
-pub fec_some : (plan : Plan) (c : ControlLists) (rest : Rest) (peer : EdgeId) (fec : PwFec) (pw_id : ℕ) (found : Option EndPlace) → fec.pw_id ≡ Some pw_id → found ≡ end_named plan c.me peer pw_id → found ≡ end_of_fec plan (controlled c rest) peer fec
-unfolding controlled
-fec_some plan c rest peer fec pw_id found some is = is ∙ ap (option_and_then (end_named plan c.me peer)) (sym some)
+pub fec_some : (plan : Plan) (c : EdgeLists) (peer : EdgeId) (fec : PwFec) (pw_id : ℕ) (found : Option EndPlace) → fec.pw_id ≡ Some pw_id → found ≡ end_named plan c.me peer pw_id → found ≡ end_of_fec plan (seen c) peer fec
+unfolding seen
+fec_some plan c peer fec pw_id found some is = is ∙ ap (option_and_then (end_named plan c.me peer)) (sym some)
 
 pub fec_none : (plan : Plan) (edge : EdgeState) (peer : EdgeId) (fec : PwFec) → fec.pw_id ≡ None → None ≡ end_of_fec plan edge peer fec
 fec_none plan edge peer fec none = sym (ap (option_and_then (end_named plan edge.me peer)) none)

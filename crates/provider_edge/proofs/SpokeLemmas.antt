@@ -25,10 +25,11 @@ use Rattle.edge_model.specs.State.{EdgeState, put_at, with_chosen}
 use Rattle.spoke_redundancy.specs.declared.spoke.Spoke.{Spoke}
 use Rattle.spoke_redundancy.specs.Choice.{chosen}
 use Rattle.pw_ends.specs.Ends.{EndLists, end_in, no_place, place_of}
-use Rattle.provider_edge.specs.Control.{ControlLists, IsControl, Rest, controlled}
-use Rattle.provider_edge.specs.Spokes.{AreSlots, slots_for, slots_where, starts_spoke, unchosen}
 use Rattle.edge_forwarding.proofs.EachLemmas.{before_push, each_next, long_push, past_push}
 use Rattle.edge_forwarding.proofs.Views.{past_end, same_read}
+use Rattle.provider_edge.specs.Invariant.{IsEdge}
+use Rattle.provider_edge.specs.Lists.{EdgeLists, seen}
+use Rattle.provider_edge.specs.Spokes.{AreSlots, slots_for, slots_where, starts_spoke, unchosen}
 
 -- ---- slots by services
 
@@ -220,9 +221,9 @@ chosen_all plan n old new past is = is ∙ (λ i. record old { chosen = λ servi
   one service true below = rw below refl
   one service false other = rw other (past service (above service other))
 
-pub chosen_past : (c : ControlLists) (rest : Rest) (service : ℕ) → IsControl c → length c.plan.services ≤ service → (controlled c rest).chosen service ≡ choice c.plan (controlled c rest) (record { 0 = service })
-unfolding controlled
-chosen_past c rest service is past = past_end None c.spokes.chosen service (omega (arith, is.spokes.chosen, past)) ∙ sym (choice_past c.plan (controlled c rest) (record { 0 = service }) is.checked past)
+pub chosen_past : (c : EdgeLists) (service : ℕ) → IsEdge c → length c.plan.services ≤ service → (seen c).chosen service ≡ choice c.plan (seen c) (record { 0 = service })
+unfolding seen
+chosen_past c service is past = past_end None c.spokes.chosen service (omega (arith, is.spokes.chosen, past)) ∙ sym (choice_past c.plan (seen c) (record { 0 = service }) is.checked past)
 
 -- ---- none is chosen any more
 
@@ -232,15 +233,15 @@ unchosen_next xs now i so_far within =
 
 -- ---- what is asked of the spokes of a service
 
-pub usable_read : (c : ControlLists) (rest : Rest) (slot : ℕ) (place : EndPlace) (bits : ℕ) (end : EndState) (why : Option Down) (free : Bool) → place ≡ place_of c.ends slot → bits ≡ (controlled c rest).bits place.wire.0
-    → end ≡ end_in c.ends slot → why ≡ down role.Chosen bits end → is_some why ≡ not free → free ≡ is_usable (controlled c rest) (place_of c.ends slot)
-unfolding controlled
-usable_read c rest slot place bits end why free at bit read is so =
+pub usable_read : (c : EdgeLists) (slot : ℕ) (place : EndPlace) (bits : ℕ) (end : EndState) (why : Option Down) (free : Bool) → place ≡ place_of c.ends slot → bits ≡ (seen c).bits place.wire.0
+    → end ≡ end_in c.ends slot → why ≡ down role.Chosen bits end → is_some why ≡ not free → free ≡ is_usable (seen c) (place_of c.ends slot)
+unfolding seen
+usable_read c slot place bits end why free at bit read is so =
     sym (ap not so ∙ twice free)
     ∙ ap (λ (w : Option Down). not (is_some w))
     (is
     ∙ (ap (λ (e : EndState). down role.Chosen bits e) read
-    ∙ ap (λ (b : ℕ). down role.Chosen b (end_in c.ends slot)) (bit ∙ ap (λ (p : EndPlace). (controlled c rest).bits p.wire.0) at)))
+    ∙ ap (λ (b : ℕ). down role.Chosen b (end_in c.ends slot)) (bit ∙ ap (λ (p : EndPlace). (seen c).bits p.wire.0) at)))
   where
     twice : (b : Bool) → not (not b) ≡ b
     twice true = refl
@@ -272,22 +273,18 @@ pub spokes_end : (f : ℕ → Spoke) (slots : List ℕ) (i : ℕ) (spokes : List
 spokes_end f slots i spokes past so_far = sym (append-nil spokes) ∙ (ap (λ (l : List ℕ). spokes ++ map f l) (sym (drop_all i slots past)) ∙ so_far)
 
 -- the spokes by their slots are those of the edge
-pub spokes_read : (c : ControlLists) (rest : Rest) (service : ℕ) (slots : List ℕ) (spokes : List Spoke) → c.ends.places ≡ end_places c.plan c.me → slots ≡ slots_for c.plan c.me c.ends.places service
-    → spokes ≡ map (λ slot. spoke_at (controlled c rest) (place_of c.ends slot)) slots → spokes ≡ spokes_of c.plan (controlled c rest) (record { 0 = service })
-unfolding controlled
-spokes_read c rest service slots spokes placed are is =
+pub spokes_read : (c : EdgeLists) (service : ℕ) (slots : List ℕ) (spokes : List Spoke) → c.ends.places ≡ end_places c.plan c.me → slots ≡ slots_for c.plan c.me c.ends.places service
+    → spokes ≡ map (λ slot. spoke_at (seen c) (place_of c.ends slot)) slots → spokes ≡ spokes_of c.plan (seen c) (record { 0 = service })
+unfolding seen
+spokes_read c service slots spokes placed are is =
     is
-    ∙ (ap (map (λ slot. spoke_at (controlled c rest) (place_of c.ends slot))) are
-    ∙ (by_all_slots (spoke_at (controlled c rest)) (starts_spoke c.plan c.me (record { 0 = service })) c.ends.places
-    ∙ ap (λ (l : List EndPlace). map (spoke_at (controlled c rest)) (filter (starts_spoke c.plan c.me (record { 0 = service })) l)) placed))
+    ∙ (ap (map (λ slot. spoke_at (seen c) (place_of c.ends slot))) are
+    ∙ (by_all_slots (spoke_at (seen c)) (starts_spoke c.plan c.me (record { 0 = service })) c.ends.places
+    ∙ ap (λ (l : List EndPlace). map (spoke_at (seen c)) (filter (starts_spoke c.plan c.me (record { 0 = service })) l)) placed))
 
-pub choice_read : (c : ControlLists) (rest : Rest) (service place : ℕ) (spokes : List Spoke) (wire : WireId) → spokes ≡ spokes_of c.plan (controlled c rest) (record { 0 = service }) → Some place ≡ chosen spokes
-    → option_map (λ (end : EndPlace). end.wire) (slice_get (spoke_places c.plan c.me (record { 0 = service })) place) ≡ Some wire → Some wire ≡ choice c.plan (controlled c rest) (record { 0 = service })
-unfolding controlled
-choice_read c rest service place spokes wire are some named =
+pub choice_read : (c : EdgeLists) (service place : ℕ) (spokes : List Spoke) (wire : WireId) → spokes ≡ spokes_of c.plan (seen c) (record { 0 = service }) → Some place ≡ chosen spokes
+    → option_map (λ (end : EndPlace). end.wire) (slice_get (spoke_places c.plan c.me (record { 0 = service })) place) ≡ Some wire → Some wire ≡ choice c.plan (seen c) (record { 0 = service })
+unfolding seen
+choice_read c service place spokes wire are some named =
     sym named
     ∙ ap (λ (o : Option ℕ). option_map (λ (end : EndPlace). end.wire) (option_and_then (slice_get (spoke_places c.plan c.me (record { 0 = service }))) o)) (some ∙ ap chosen are)
-
--- octets are held of no neighbour
-pub no_rest : Rest
-no_rest = record { held = λ k. [] }

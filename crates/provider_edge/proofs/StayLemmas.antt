@@ -8,9 +8,9 @@ use Rattle.edge_model.specs.Local.{AllStayBehind, AllStayBeside}
 use Rattle.edge_model.specs.Work.{Work}
 use Rattle.edge_model.proofs.LocalLemmas.{stays_local}
 use Rattle.edge_model.proofs.PacketLemmas.{packets_stay_local}
+use Rattle.provider_edge.proofs.EffectLemmas.{Steps, agrees_itself, told_by}
 use Rattle.provider_edge.specs.Lists.{EdgeLists, seen, worked}
 use Rattle.provider_edge.specs.Taking.{StaysLocal}
-use Rattle.provider_edge.proofs.EffectLemmas.{Steps, agrees_itself, told_by}
 
 pub steps_local : (e now : EdgeLists) (given : Input) (effects : Effects) (before after : List LinkCall) → Steps e now given effects before after → StaysLocal e.plan (seen e) given effects.list
 unfolding worked

@@ -27,11 +27,12 @@ use Rattle.edge_model.specs.State.{EdgeState, is_on, with_addresses}
 use Rattle.edge_model.specs.Synced.{InSync, IsSynced}
 use Rattle.edge_model.proofs.SyncLemmas.{cause_same, forwards_as_told}
 use Rattle.pw_ends.specs.Ends.{no_place, place_of}
-use Rattle.provider_edge.specs.Control.{ControlLists, IsControl, Rest, controlled}
 use Rattle.edge_forwarding.specs.Domain.{opens, port_opens}
 use Rattle.edge_forwarding.specs.Forwarding.{circuits_in, open_ports, told_in}
 use Rattle.edge_forwarding.proofs.ForwardingLemmas.{row_holds}
 use Rattle.edge_forwarding.proofs.OpenLemmas.{found_opens, same_tests}
+use Rattle.provider_edge.specs.Invariant.{IsEdge}
+use Rattle.provider_edge.specs.Lists.{EdgeLists, seen}
 
 -- ---- an edge has an end of each wire that ends there
 
@@ -129,21 +130,21 @@ opens_forwards plan edge service p checked synced = by (slice_get (ports_of plan
 
 -- ---- a control between two inputs
 
-open_in : (c : ControlLists) (service : ServiceId) → IsControl c → open_ports c.forwarding service ≡ port_opens (circuits_in c.forwarding) (told_in c.forwarding) (ports_of c.plan service c.me)
+open_in : (c : EdgeLists) (service : ServiceId) → IsEdge c → open_ports c.forwarding service ≡ port_opens (circuits_in c.forwarding) (told_in c.forwarding) (ports_of c.plan service c.me)
 open_in c service is =
     ap (λ (p : Plan). port_opens (circuits_in c.forwarding) (told_in c.forwarding) (ports_of p service c.forwarding.me)) is.plan
     ∙ ap (λ (m : EdgeId). port_opens (circuits_in c.forwarding) (told_in c.forwarding) (ports_of c.plan service m)) is.me
 
-forwards_in : (c : ControlLists) (service : ServiceId) (rest : Rest) (p : ℕ) → IsControl c → InSync c.plan (controlled c rest)
-    → port_opens (circuits_in c.forwarding) (told_in c.forwarding) (ports_of c.plan service c.me) p ≡ port_forwards c.plan (controlled c rest) (ports_of c.plan service c.me) p
-unfolding controlled
-forwards_in c service rest p is synced = opens_forwards c.plan (controlled c rest) service p is.checked synced
+forwards_in : (c : EdgeLists) (service : ServiceId) (p : ℕ) → IsEdge c → InSync c.plan (seen c)
+    → port_opens (circuits_in c.forwarding) (told_in c.forwarding) (ports_of c.plan service c.me) p ≡ port_forwards c.plan (seen c) (ports_of c.plan service c.me) p
+unfolding seen
+forwards_in c service p is synced = opens_forwards c.plan (seen c) service p is.checked synced
 
-pub open_forwards : (c : ControlLists) (service : ServiceId) (rest : Rest) → IsControl c → InSync c.plan (controlled c rest)
-    → open_ports c.forwarding service ≡ port_forwards c.plan (controlled c rest) (ports_of c.plan service c.me)
-open_forwards c service rest is synced =
+pub open_forwards : (c : EdgeLists) (service : ServiceId) → IsEdge c → InSync c.plan (seen c)
+    → open_ports c.forwarding service ≡ port_forwards c.plan (seen c) (ports_of c.plan service c.me)
+open_forwards c service is synced =
     open_in c service is
-    ∙ same_tests (port_opens (circuits_in c.forwarding) (told_in c.forwarding) (ports_of c.plan service c.me)) (port_forwards c.plan (controlled c rest) (ports_of c.plan service c.me)) (λ p. forwards_in c service rest p is synced)
+    ∙ same_tests (port_opens (circuits_in c.forwarding) (told_in c.forwarding) (ports_of c.plan service c.me)) (port_forwards c.plan (seen c) (ports_of c.plan service c.me)) (λ p. forwards_in c service p is synced)
 
 -- a port forwards as it did where an address was learned
 pub forwards_hearing : (plan : Plan) (edge : EdgeState) (service : ServiceId) (frame : List ℕ) (arrival : ℕ) (ports : List Port) (p : ℕ) → port_forwards plan (hearing service frame arrival edge) ports p ≡ port_forwards plan edge ports p
@@ -172,38 +173,38 @@ opens_by_wire on told ports p wire leads = elim (mesh_or_spoke ports p wire lead
 told_up : (plan : Plan) (edge : EdgeState) (place : EndPlace) → IsSynced plan edge place → place.terminal ≡ true → is_up (edge.told_down place.wire.0) ≡ is_up (down_at plan edge place)
 told_up plan edge place synced terminal = ap is_up (cause_same (edge.told_down place.wire.0) (down_at plan edge place) (synced.so terminal))
 
-told_of : (c : ControlLists) (rest : Rest) (wire : ℕ) → told_in c.forwarding wire ≡ (controlled c rest).told_down wire
-unfolding controlled
-told_of c rest wire = refl
+told_of : (c : EdgeLists) (wire : ℕ) → told_in c.forwarding wire ≡ (seen c).told_down wire
+unfolding seen
+told_of c wire = refl
 
-synced_at : (c : ControlLists) (rest : Rest) (slot : ℕ) → IsControl c → InSync c.plan (controlled c rest) → slot < length c.ends.places → IsSynced c.plan (controlled c rest) (place_of c.ends slot)
-unfolding controlled
-synced_at c rest slot is synced within =
-    let all : AllByRecursion (IsSynced c.plan (controlled c rest)) c.ends.places = subst (AllByRecursion (IsSynced c.plan (controlled c rest))) (sym is.places) synced.each in
-    all_at (IsSynced c.plan (controlled c rest)) c.ends.places slot no_place all within
+synced_at : (c : EdgeLists) (slot : ℕ) → IsEdge c → InSync c.plan (seen c) → slot < length c.ends.places → IsSynced c.plan (seen c) (place_of c.ends slot)
+unfolding seen
+synced_at c slot is synced within =
+    let all : AllByRecursion (IsSynced c.plan (seen c)) c.ends.places = subst (AllByRecursion (IsSynced c.plan (seen c))) (sym is.places) synced.each in
+    all_at (IsSynced c.plan (seen c)) c.ends.places slot no_place all within
 
 -- the port that is found for the wire of a terminal end that forwards is open
-pub wire_port_opens : (c : ControlLists) (rest : Rest) (slot : ℕ) (service : ServiceId) (p : ℕ) → IsControl c → InSync c.plan (controlled c rest) → slot < length c.ends.places
-    → (place_of c.ends slot).terminal ≡ true → is_up (down_at c.plan (controlled c rest) (place_of c.ends slot)) ≡ true
+pub wire_port_opens : (c : EdgeLists) (slot : ℕ) (service : ServiceId) (p : ℕ) → IsEdge c → InSync c.plan (seen c) → slot < length c.ends.places
+    → (place_of c.ends slot).terminal ≡ true → is_up (down_at c.plan (seen c) (place_of c.ends slot)) ≡ true
     → position (is_wire_port (place_of c.ends slot).wire) (ports_of c.plan service c.me) ≡ Some p → open_ports c.forwarding service p ≡ true
-wire_port_opens c rest slot service p is synced within terminal up found =
+wire_port_opens c slot service p is synced within terminal up found =
     let place : EndPlace = place_of c.ends slot in
     ap (λ (t : ℕ → Bool). t p) (open_in c service is)
     ∙ (opens_by_wire (circuits_in c.forwarding) (told_in c.forwarding) (ports_of c.plan service c.me) p place.wire.0 (found_wire_port place.wire (ports_of c.plan service c.me) p found)
-    ∙ (ap is_up (told_of c rest place.wire.0)
-    ∙ (told_up c.plan (controlled c rest) place (synced_at c rest slot is synced within) terminal ∙ up)))
+    ∙ (ap is_up (told_of c place.wire.0)
+    ∙ (told_up c.plan (seen c) place (synced_at c slot is synced within) terminal ∙ up)))
 
 -- the port that is found for a circuit that is on is open
-on_of : (c : ControlLists) (rest : Rest) (circuit : ℕ) → circuits_in c.forwarding circuit ≡ (controlled c rest).circuit_on circuit
-unfolding controlled
-on_of c rest circuit = refl
+on_of : (c : EdgeLists) (circuit : ℕ) → circuits_in c.forwarding circuit ≡ (seen c).circuit_on circuit
+unfolding seen
+on_of c circuit = refl
 
-pub circuit_port_opens : (c : ControlLists) (rest : Rest) (circuit : CircuitId) (service : ServiceId) (p : ℕ) → IsControl c → is_on (controlled c rest) circuit ≡ true
+pub circuit_port_opens : (c : EdgeLists) (circuit : CircuitId) (service : ServiceId) (p : ℕ) → IsEdge c → is_on (seen c) circuit ≡ true
     → position (is_circuit_port circuit) (ports_of c.plan service c.me) ≡ Some p → open_ports c.forwarding service p ≡ true
-circuit_port_opens c rest circuit service p is on found =
+circuit_port_opens c circuit service p is on found =
     ap (λ (t : ℕ → Bool). t p) (open_in c service is)
     ∙ (found_opens (circuits_in c.forwarding) (told_in c.forwarding) circuit (ports_of c.plan service c.me) p found
-    ∙ (on_of c rest circuit.0 ∙ on))
+    ∙ (on_of c circuit.0 ∙ on))
 
 -- where a port was found
 pub if_found : (P : ℕ → Type 0) (found : Option ℕ) → ((p : ℕ) → found ≡ Some p → P p) → IfSome found P

@@ -21,19 +21,11 @@ use Rattle.edge_model.specs.State.{EdgeState, addresses_of, is_on, with_addresse
 use Rattle.edge_model.specs.Step.{edge_step}
 use Rattle.edge_model.specs.Work.{Agrees, Answers, Work, beginning, changes, idles}
 use Rattle.edge_forwarding.specs.Forwarding.{own_service}
-use Rattle.provider_edge.specs.Lists.{EdgeLists, Keeps, seen, worked}
 use Rattle.edge_forwarding.proofs.ForwardingLemmas.{OwnRow, own_row, other_row}
+use Rattle.provider_edge.specs.Lists.{EdgeLists, Keeps, seen, worked}
 
 abbrev pub no_effects : Bool → Effects
 no_effects idle = record { idle = idle; list = [] }
-
--- ---- what no input changes
-
-pub keeps_same : (e : EdgeLists) → Keeps e e
-keeps_same e = record { plan = refl; me = refl; stopped = refl }
-
-pub keeps_both : (a b c : EdgeLists) → Keeps a b → Keeps b c → Keeps a c
-keeps_both a b c first next = record { plan = next.plan ∙ first.plan; me = next.me ∙ first.me; stopped = next.stopped ∙ first.stopped }
 
 -- ---- circuits
 

@@ -1,9 +1,10 @@
 pub mod AtWork
-pub mod Control
 pub mod EndOf
+pub mod Hearing
 pub mod Invariant
 pub mod Lists
 pub mod Mending
+pub mod Opening
 pub mod Said
 pub mod Spokes
 pub mod Taking

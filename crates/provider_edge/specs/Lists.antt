@@ -1,47 +1,51 @@
 -- An edge as contracts see it: lists by the plan's places, and by `seen` maps.
-use Rattle.std.specs.Prelude.{◌≡◌, ℕ, Bool, true, false, List, [], Some, None, slice_get, slice_index_or}
+use Rattle.std.specs.Prelude.{◌≡◌, ℕ, Bool, true, false, List, [], Option, Some, None, length, slice_get, slice_index_or}
 use Rattle.net_base.specs.declared.outside.link_call.LinkCall.{LinkCall}
 use Rattle.net_base.specs.declared.plan.Plan.{Plan}
 use Rattle.net_base.specs.declared.plan.places.EdgeId.{EdgeId}
-use Rattle.edge_model.specs.declared.effects.Effects.{Effects}
-use Rattle.edge_model.specs.State.{EdgeState, first_label, priority_in}
-use Rattle.edge_model.specs.Work.{Work}
 use Rattle.net_base.specs.declared.trace.down.Down.TheVariants.{NoLocal}
-use Rattle.pw_ends.specs.Ends.{seen_ends}
-use Rattle.provider_edge.specs.Control.{ControlLists, Rest}
-use Rattle.edge_forwarding.specs.Forwarding.{domain_of, entries_of}
-use Rattle.peer_dialogue.specs.Peering.{kept_with}
+use Rattle.pw_ends.specs.Ends.{EndLists, seen_ends}
+use Rattle.edge_model.specs.declared.effects.Effects.{Effects}
+use Rattle.edge_model.specs.State.{EdgeState, Peering, first_label, priority_in}
+use Rattle.edge_model.specs.Work.{Work}
+use Rattle.edge_forwarding.specs.Forwarding.{ForwardingLists, domain_of, entries_of}
 use Rattle.edge_forwarding.specs.Views.{view}
+use Rattle.provider_edge.specs.Spokes.{SpokeLists}
 
 pub record EdgeLists : Type 0 where
   -- the network's plan, and the edge's place in it
   pub plan : Plan
   pub me : EdgeId
-  -- its sessions, the ends of its pseudowires, and what it forwards frames by
-  pub control : ControlLists
-  -- the octets that are held of each edge of the plan; those of one with which no connection stands mean nothing
-  pub held : List (List ℕ)
-  -- memory was refused
+  -- what it keeps of each edge of the plan; nothing where no connection with it stands
+  pub peerings : List (Option Peering)
+  -- its ends, and the labels that it gives
+  pub ends : EndLists
+  -- the wires that are on, and the failure bits of its end of each
+  pub wires_on : List Bool
+  pub bits : List ℕ
+  -- the priority number of its spoke on each wire
+  pub priorities : List ℕ
+  -- its spokes by services, and those that it has chosen
+  pub spokes : SpokeLists
+  -- what it forwards frames by
+  pub forwarding : ForwardingLists
+  -- it works on an input, or memory was refused
   pub stopped : Bool
-
--- what the control leaves as it is
-abbrev pub rest_of : EdgeLists → Rest
-rest_of edge = record { held = view [] edge.held }
 
 unfoldable pub seen : EdgeLists → EdgeState
 seen edge = record {
   me = edge.me;
-  circuit_on = view true edge.control.forwarding.circuits_on;
-  learned = λ service. entries_of (domain_of edge.control.forwarding service);
-  ticks = edge.control.forwarding.ticks;
-  peering = λ k. kept_with (view [] edge.held k) (view None edge.control.dialogues k);
-  wire_on = view true edge.control.wires_on;
-  bits = view 0 edge.control.bits;
-  priority = λ wire. slice_index_or edge.control.priorities wire (priority_in (slice_get edge.control.plan.wires wire));
-  ends = seen_ends edge.control.ends;
-  told_down = view (Some NoLocal) edge.control.forwarding.told_down;
-  chosen = view None edge.control.spokes.chosen;
-  next_label = edge.control.ends.labels.next;
+  circuit_on = view true edge.forwarding.circuits_on;
+  learned = λ service. entries_of (domain_of edge.forwarding service);
+  ticks = edge.forwarding.ticks;
+  peering = view None edge.peerings;
+  wire_on = view true edge.wires_on;
+  bits = view 0 edge.bits;
+  priority = λ wire. slice_index_or edge.priorities wire (priority_in (slice_get edge.plan.wires wire));
+  ends = seen_ends edge.ends;
+  told_down = view (Some NoLocal) edge.forwarding.told_down;
+  chosen = view None edge.spokes.chosen;
+  next_label = edge.ends.labels.next;
 }
 
 -- an edge that has no place in its plan: it lists nothing
@@ -49,18 +53,13 @@ abbrev pub no_edge : Plan → EdgeId → EdgeLists
 no_edge plan me = record {
   plan = plan;
   me = me;
-  control = record {
-    plan = plan;
-    me = me;
-    dialogues = [];
-    ends = record { places = []; ends = []; labels = record { next = first_label plan me; room = 0; owners = [] } };
-    wires_on = [];
-    bits = [];
-    priorities = [];
-    spokes = record { slots = []; chosen = [] };
-    forwarding = record { plan = plan; me = me; circuits_on = []; told_down = []; domains = []; ticks = 0 };
-  };
-  held = [];
+  peerings = [];
+  ends = record { places = []; ends = []; labels = record { next = first_label plan me; room = 0; owners = [] } };
+  wires_on = [];
+  bits = [];
+  priorities = [];
+  spokes = record { slots = []; chosen = [] };
+  forwarding = record { plan = plan; me = me; circuits_on = []; told_down = []; domains = []; ticks = 0 };
   stopped = false;
 }
 
@@ -72,4 +71,6 @@ worked edge calls effects = record { edge = seen edge; calls = calls; effects = 
 pub record Keeps (old new : EdgeLists) : Type 0 where
   pub plan : new.plan ≡ old.plan
   pub me : new.me ≡ old.me
+  pub places : new.ends.places ≡ old.ends.places
+  pub count : length new.peerings ≡ length old.peerings
   pub stopped : new.stopped ≡ old.stopped

@@ -1,5 +1,5 @@
 //! One provider edge.
-ghost use Rattle.std.specs.Prelude.{◌≡◌, ◌<◌, ◌≤◌, ◌↔◌, ◌⊎◌, Some, None, true, false, [], length, replicate, slice_index_or, IfOk, IfErr, IfSome, IsNone, IsErrOf, OnOk};
+ghost use Rattle.std.specs.Prelude.{◌≡◌, ◌<◌, ◌≤◌, ◌↔◌, ◌⊎◌, Some, None, true, false, [], length, replicate, slice_index_or, IfOk, IfErr, IfSome, IsNone, IsErrOf, OnOk, position};
 ghost use Rattle.std.specs.List.{find};
 ghost use Rattle.net_base.specs.plan.Accepted.{IsChecked};
 ghost use Rattle.net_base.specs.plan.Places.{service_row};
@@ -12,44 +12,51 @@ ghost use Rattle.edge_model.specs.Step.{edge_step};
 ghost use Rattle.edge_model.specs.Synced.{InSync};
 ghost use Rattle.edge_model.specs.Work.{Agrees, Answers, GoesOn, beginning};
 ghost use Rattle.edge_forwarding.specs.Domain.{age_of};
-ghost use Rattle.provider_edge.specs.AtWork.{EdgeTakes, worked_at};
 ghost use Rattle.provider_edge.specs.EndOf.{is_of_segment};
-ghost use Rattle.provider_edge.specs.Lists.{Keeps, seen, worked};
 ghost use Rattle.peer_dialogue.specs.Peering.{held_octets, session_name};
 ghost use Rattle.provider_edge.specs.Said.{AllFit, TellsTaken};
 ghost use Rattle.provider_edge.specs.Taking.{IsInRange, StaysLocal};
+ghost use Rattle.provider_edge.specs.AtWork.{Takes, worked_at};
+ghost use Rattle.provider_edge.specs.Lists.{Keeps, seen, worked};
 
-mod circuit;
-mod connection;
-mod frame;
-mod octets;
-mod packet;
-mod tick;
-mod wire;
+mod administration;
+mod frames;
+mod mending;
+mod opening;
+mod packets;
+mod session;
+mod signalling;
 
 use crate::EdgeStop;
-use crate::at_work::AtWork;
-use crate::control::Control;
 use crate::quiet::nothing;
-use edge_model::{Effects, Input};
+use crate::spokes::Spokes;
+use edge_forwarding::Forwarding;
+use edge_model::{Effects, EndPlace, Input};
 use net_base::{
     CircuitId, Down, EdgeId, Link, NoMemory, Plan, SegKey, ServiceId, StateName, WireId,
 };
-use peer_dialogue::Held;
+use peer_dialogue::{AtWork, Peering};
+use pw_ends::PwEnds;
 use pw_signalling::PwEnd;
 use std::alloc::Global;
 use std::marker::Model;
 use std::rc::Rc;
 use vsi_bridge::Bridge;
 
-/// A provider edge of a plan (RFC 4762 section 4). Contracts see it as lists by the plan's places, and by `seen` as the
-/// state of one edge.
+/// A provider edge of a plan (RFC 4762 section 4): what it keeps of each neighbour, the ends of its pseudowires, what was set
+/// of its wires, the spokes that it has chosen, and what it forwards frames by. Contracts see it as lists by the plan's
+/// places, and by `seen` as the state of one edge.
 #[derive(Drop)]
 pub struct Edge {
     plan: Rc<Plan>,
     me: EdgeId,
-    control: Control,
-    held: Vec<Held>,
+    peerings: Vec<Option<Peering>>,
+    ends: PwEnds,
+    wires_on: Vec<bool>,
+    bits: Vec<u8>,
+    priorities: Vec<u8>,
+    spokes: Spokes,
+    forwarding: Forwarding,
     stopped: bool,
 }
 
@@ -59,9 +66,9 @@ impl Model for Edge {
 
     ghost Value = { EdgeLists };
 
-    ghost view = { λ e. record { plan = e.plan.value; me = e.me; control = e.control; held = e.held.items; stopped = e.stopped } };
+    ghost view = { λ e. record { plan = e.plan.value; me = e.me; peerings = e.peerings.items; ends = e.ends; wires_on = e.wires_on.items; bits = e.bits.items; priorities = e.priorities.items; spokes = e.spokes; forwarding = e.forwarding; stopped = e.stopped } };
 
-    ghost invariant = { λ e. IsEdge (record { plan = e.plan.value; me = e.me; control = e.control; held = e.held.items; stopped = e.stopped }) };
+    ghost invariant = { λ e. IsEdge (record { plan = e.plan.value; me = e.me; peerings = e.peerings.items; ends = e.ends; wires_on = e.wires_on.items; bits = e.bits.items; priorities = e.priorities.items; spokes = e.spokes; forwarding = e.forwarding; stopped = e.stopped }) };
 }
 
 impl Edge {
@@ -88,15 +95,10 @@ impl Edge {
         ensures empty { IfOk result (λ edge. seen edge ≡ empty_edge edge.plan me) }
         ensures stopped { IfOk result (λ edge. edge.stopped ≡ false) }
     {
-        let held = none_held(alloc, plan.edges.len())?;
-        let control = Control::open(alloc, plan.clone()?, me)?;
-        Ok(Edge {
-            plan,
-            me,
-            control,
-            held,
-            stopped: false,
-        })
+        match PwEnds::open(alloc, &plan, me) {
+            Ok(ends) => Edge::with_ends(alloc, plan, me, ends),
+            Err(fault) => Err(fault),
+        }
     }
 
     /// Takes an input, and answers all that the edge gives out on it. What does not apply is idle, and changes nothing:
@@ -176,7 +178,7 @@ impl Edge {
         requires working { self.old.stopped ≡ true }
         requires synced { InSync self.old.plan (seen self.old) }
         requires fresh { work.old.effects.now ≡ record { idle = false; list = [] } }
-        ensures goes { EdgeTakes L.calls self.old work.old self.new work.new }
+        ensures goes { Takes L.calls self.old work.old self.new work.new }
         ensures step { OnOk result ((told : Answers) → Agrees told (L.calls work.new.link.now)
             → worked_at L.calls self.new work.new ≡ edge_step self.old.plan told input.entry (beginning (seen self.old) (L.calls work.old.link.now))) }
     {
@@ -211,41 +213,30 @@ impl Edge {
 
     /// The state of the session with a peer (RFC 5036 section 2.5.4): `NonExistent` exactly where the edge's end of their
     /// connection does not stand.
-    #[tactic(auto, unfolding(crate::specs::Lists::seen))]
     pub fn session(&self, peer: EdgeId) -> StateName
         ensures { result ≡ session_name ((seen self.now).peering peer.0) }
     {
-        self.control.session(peer)
+        match self.peering(peer) {
+            Some(peering) => peering.state(),
+            None => StateName::NonExistent,
+        }
     }
 
     /// Whether the edge's end of its connection with a peer stands.
-    #[tactic(auto, unfolding(crate::specs::Lists::seen))]
     pub fn has_end(&self, peer: EdgeId) -> bool
         ensures { result ≡ has_end (seen self.now) peer }
     {
-        self.control.has_session(peer)
+        self.peering(peer).is_some()
     }
 
     /// How many octets of a peer are held that are no whole PDU yet: at most 4,100, and none where the edge's end of their
     /// connection does not stand.
-    #[tactic(auto, unfolding(crate::specs::Lists::seen))]
     pub fn held(&self, peer: EdgeId) -> usize
         ensures count { result ≡ length (held_octets ((seen self.now).peering peer.0)) }
         ensures within { result ≤ 4100 }
     {
-        if !self.has_end(peer) {
-            return 0;
-        }
-        self.octets_of(peer)
-    }
-
-    // How many octets of a peer are held.
-    fn octets_of(&self, peer: EdgeId) -> usize
-        ensures count { result ≡ length (slice_index_or self.now.held peer.0 []) }
-        ensures within { result ≤ 4100 }
-    {
-        match self.held.get(peer.0 as usize) {
-            Some(held) => held.len(),
+        match self.peering(peer) {
+            Some(peering) => peering.held(),
             None => 0,
         }
     }
@@ -256,7 +247,10 @@ impl Edge {
         ensures none { IsNone result ↔ (find (is_of_segment key) (end_places self.now.plan self.now.me) ≡ None) }
         ensures state { IfSome result (λ end. IfSome (find (is_of_segment key) (end_places self.now.plan self.now.me)) (λ place. end_of end.now ≡ end_at (seen self.now) place)) }
     {
-        self.control.end(key)
+        match slot_at(self.ends.places(), key) {
+            Some(slot) => Some(self.ends.end(slot)),
+            None => None,
+        }
     }
 
     /// Why the edge's end of a wire does not forward; `None` exactly where it forwards (RFC 8077 sections 6 and 6.3). The edge
@@ -265,14 +259,18 @@ impl Edge {
         requires { ends_here self.now.plan self.now.me wire ≡ true }
         ensures { IfSome (find (is_end_of_wire wire) (end_places self.now.plan self.now.me)) (λ place. result ≡ down_at self.now.plan (seen self.now) place) }
     {
-        self.control.down(wire)
+        match self.ends.terminal(wire) {
+            Some(slot) => self.down_of(slot),
+            None => None,
+        }
     }
 
     /// The label that the edge gives next, 16 to 1048576 (RFC 3032 section 2.1); at 1048576 no label is left.
+    #[tactic(auto, unfolding(crate::specs::Lists::seen))]
     pub fn next_label(&self) -> u32
         ensures { result ≡ (seen self.now).next_label }
     {
-        self.control.next_label()
+        self.ends.next_label()
     }
 
     /// The bridge of a service, over its ports at the edge, with its age limit and all that it has learned; `None` exactly where
@@ -283,22 +281,24 @@ impl Edge {
         ensures ports { IfSome result (λ bridge. bridge.now.ports ≡ ports_of self.now.plan service self.now.me) }
         ensures age { IfSome result (λ bridge. age_of self.now.plan service ≡ Some bridge.now.age) }
     {
-        self.control.bridge(service)
+        self.forwarding.bridge(service)
     }
 
     /// Whether a circuit of the plan is on.
+    #[tactic(auto, using(crate::proofs::ForwardLemmas::circuit_read))]
     pub fn is_on(&self, circuit: CircuitId) -> bool
         requires { circuit.0 < length self.now.plan.circuits }
         ensures { result ≡ is_on (seen self.now) circuit }
     {
-        self.control.is_circuit_on(circuit)
+        self.forwarding.is_on(circuit)
     }
 
     /// How many ticks have passed; the count stays at 2^64 - 1 once it is there.
+    #[tactic(auto, using(crate::proofs::ForwardLemmas::ticks_read))]
     pub fn ticks(&self) -> u64
         ensures { result ≡ (seen self.now).ticks }
     {
-        self.control.ticks()
+        self.forwarding.ticks()
     }
 
     /// The plan.
@@ -316,13 +316,9 @@ impl Edge {
     }
 }
 
-// Nothing is held of any of so many neighbours.
-fn none_held(alloc: Global, count: usize) -> Result<Vec<Held>, NoMemory>
-    ensures { IfOk result (λ held. held.items ≡ replicate count []) }
+// The first of the places that is at a segment.
+fn slot_at(places: &[EndPlace], key: SegKey) -> Option<usize>
+    ensures { result ≡ position (is_of_segment key) places.now }
 {
-    let mut held = Vec::with_capacity(alloc, count)?;
-    for _place in 0..count {
-        held.push(Held::none())?;
-    }
-    Ok(held)
+    places.iter().position(|place| place.wire == key.wire && place.segment == key.segment)
 }

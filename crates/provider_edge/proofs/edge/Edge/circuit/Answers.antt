@@ -5,14 +5,15 @@ use Rattle.edge_model.specs.declared.effects.Effects.{Effects}
 use Rattle.edge_model.specs.Circuit.{circuit_input, turned}
 use Rattle.edge_model.specs.Work.{beginning, changes}
 use Rattle.std.proofs.lemmas.Option.{slice_get_within}
-use Rattle.provider_edge.proofs.AtWorkLemmas.{takes_by}
-use Rattle.provider_edge.specs.Lists.{seen, worked}
 use Rattle.peer_dialogue.specs.Peering.{at_edge}
-use Rattle.provider_edge.proofs.EdgeLemmas.{circuit_at, mended}
 use Rattle.edge_forwarding.proofs.ForwardingLemmas.{own_row}
-use Rattle.provider_edge.proofs.EffectLemmas.{goes_nowhere}
-use Rattle.provider_edge.proofs.WorkLemmas.{circuit_already, circuit_done, circuit_other, keeps_both, keeps_same}
 use Rattle.peer_dialogue.proofs.SettleLemmas.{map_on}
+use Rattle.provider_edge.proofs.AtWorkLemmas.{takes_by}
+use Rattle.provider_edge.proofs.EdgeLemmas.{circuit_at, mended}
+use Rattle.provider_edge.proofs.EffectLemmas.{goes_nowhere}
+use Rattle.provider_edge.proofs.ListLemmas.{keeps_both, keeps_same}
+use Rattle.provider_edge.proofs.WorkLemmas.{circuit_already, circuit_done, circuit_other}
+use Rattle.provider_edge.specs.Lists.{seen, worked}
 use Rattle.provider_edge.proofs.edge.Edge.circuit.Goals as goal
 
 pub returns-in_default-clause-step : goal.returns-in_default-clause-step

@@ -6,14 +6,15 @@ use Rattle.hvpls_spokes.specs.Port.{is_circuit_port, ports_of}
 use Rattle.edge_model.specs.declared.effects.Effects.{Effects}
 use Rattle.edge_model.specs.Frame.{frame_input, received}
 use Rattle.edge_model.specs.Work.{beginning}
-use Rattle.provider_edge.proofs.AtWorkLemmas.{takes_by}
-use Rattle.provider_edge.specs.Lists.{seen, worked}
 use Rattle.peer_dialogue.specs.Peering.{at_edge}
-use Rattle.provider_edge.proofs.EdgeLemmas.{begun, given_out}
 use Rattle.edge_forwarding.proofs.ForwardingLemmas.{own_circuit}
-use Rattle.provider_edge.proofs.EffectLemmas.{goes_nowhere}
-use Rattle.provider_edge.proofs.WorkLemmas.{frame_off, frame_on, frame_other, keeps_same}
 use Rattle.peer_dialogue.proofs.SettleLemmas.{map_on}
+use Rattle.provider_edge.proofs.AtWorkLemmas.{takes_by}
+use Rattle.provider_edge.proofs.EdgeLemmas.{begun, given_out}
+use Rattle.provider_edge.proofs.EffectLemmas.{goes_nowhere}
+use Rattle.provider_edge.proofs.ListLemmas.{keeps_same}
+use Rattle.provider_edge.proofs.WorkLemmas.{frame_off, frame_on, frame_other}
+use Rattle.provider_edge.specs.Lists.{seen, worked}
 use Rattle.provider_edge.proofs.edge.Edge.frame.Goals as goal
 
 pub returns-in_default-clause-step : goal.returns-in_default-clause-step

@@ -1,23 +1,30 @@
-use Rattle.std.proofs.Common.{◌≡◌, ◌∙◌, ap, subst, true, sym}
-use Rattle.net_base.specs.declared.plan.Plan.{Plan}
-use Rattle.edge_model.specs.Mend.{mends}
-use Rattle.provider_edge.specs.AtWork.{edge_at_work}
-use Rattle.provider_edge.specs.Control.{at_control}
-use Rattle.provider_edge.specs.Lists.{EdgeLists, rest_of, seen}
-use Rattle.provider_edge.specs.contracts.edge.Edge.{the_view}
-use Rattle.peer_dialogue.specs.Peering.{at_edge}
-use Rattle.provider_edge.proofs.EdgeLemmas.{edge_control, worked_edge}
-use Rattle.peer_dialogue.proofs.SettleLemmas.{map_on}
+use Rattle.std.proofs.Common.{◌≡◌, suc, length, arith}
+use Rattle.peer_dialogue.proofs.SpeakerLemmas.{agrees_before}
+use Rattle.provider_edge.proofs.AtWorkLemmas.{works_both}
+use Rattle.provider_edge.proofs.MendLemmas.{round_again, round_done, rounds_end}
 use Rattle.provider_edge.proofs.edge.Edge.mend.Goals as goal
 
-pub invariant_of-self : goal.invariant_of-self
-invariant_of-self g c = edge_control (the_view c.self.inside) c.mend.new.self (subst (λ (n : EdgeLists). n.stopped ≡ true) (sym c.self.view_is) c.requires.working) c.mend.ensures.goes.keeps c.self.invariant
+pub loop-round-preserved : goal.loop-round-preserved
+loop-round-preserved g c = record {
+  goes = works_both g.L.Link.calls _ _ _ _ _ _ c.loop-round.invariant.goes c.in_ok-mend_once.ensures.goes;
+  step = λ told agrees.
+      round_again c.args.self.now c.loop-round.self told c.count_rounds-rounds.result c.loop-round._round _ _ _ c.in_ok-mend_once.field-0 c.loop-round.invariant.goes.keeps (omega (arith, c.loop-round-test.true))
+      (c.loop-round.invariant.step told (agrees_before told _ _ c.in_ok-mend_once.ensures.goes.on.calls agrees)) (c.in_ok-mend_once.ensures.step told agrees) c.if-not-branch.false;
+}
+
+pub returns-then-not-branch-clause-step : goal.returns-then-not-branch-clause-step
+returns-then-not-branch-clause-step g c = λ told agrees.
+    let rounds : c.count_rounds-rounds.result ≡ suc (length c.args.self.now.plan.edges) = omega (arith, c.count_rounds-rounds.ensures) in
+    round_done c.args.self.now c.loop-round.self told c.count_rounds-rounds.result c.loop-round._round _ _ _ c.in_ok-mend_once.field-0 c.loop-round.invariant.goes.keeps rounds (omega (arith, c.loop-round-test.true))
+    (c.loop-round.invariant.step told (agrees_before told _ _ c.in_ok-mend_once.ensures.goes.on.calls agrees)) (c.in_ok-mend_once.ensures.step told agrees) c.if-not-branch.true
 
 pub returns-clause-step : goal.returns-clause-step
-returns-clause-step g c = map_on _ _ c.mend.result
-    (λ step told agrees.
-    subst (λ (n : EdgeLists). at_edge (seen (record (the_view c.self.inside) { control = c.mend.new.self })) (g.L.Link.calls c.mend.new.work.link.now) c.mend.new.work.effects.now.list ≡ mends n.plan told (edge_at_work g.L.Link.calls n c.args.work.now)) c.self.view_is
-    (worked_edge (mends (the_view c.self.inside).plan told) (the_view c.self.inside) c.mend.new.self (g.L.Link.calls c.args.work.now.link.now) (g.L.Link.calls c.mend.new.work.link.now) c.args.work.now.effects.now.list c.mend.new.work.effects.now.list c.self.invariant c.mend.ensures.goes.keeps
-    (step told (rest_of (the_view c.self.inside)) agrees
-    ∙ ap (λ (p : Plan). mends p told (at_control (the_view c.self.inside).control (rest_of (the_view c.self.inside)) (g.L.Link.calls c.args.work.now.link.now) c.args.work.now.effects.now.list)) c.self.invariant.plan)))
-    c.mend.ensures.step
+returns-clause-step g c = λ told agrees.
+    let rounds : c.count_rounds-rounds.result ≡ suc (length c.args.self.now.plan.edges) = omega (arith, c.count_rounds-rounds.ensures) in
+    rounds_end c.args.self.now told c.count_rounds-rounds.result c.loop-round._round _ _ rounds (omega (arith, c.loop-round-test.false)) (c.loop-round.invariant.step told agrees)
+
+pub returns-in_err-mend_once-clause-goes : goal.returns-in_err-mend_once-clause-goes
+returns-in_err-mend_once-clause-goes g c = works_both g.L.Link.calls _ _ _ _ _ _ c.loop-round.invariant.goes c.mend_once.ensures.goes
+
+pub returns-then-not-branch-clause-goes : goal.returns-then-not-branch-clause-goes
+returns-then-not-branch-clause-goes g c = works_both g.L.Link.calls _ _ _ _ _ _ c.loop-round.invariant.goes c.in_ok-mend_once.ensures.goes

@@ -1,12 +1,8 @@
-use Rattle.std.proofs.Common.{◌∙◌, ap, sym}
-use Rattle.edge_model.specs.State.{EdgeState}
-use Rattle.provider_edge.specs.Lists.{EdgeLists, rest_of, seen}
+use Rattle.std.proofs.Common.{◌≡◌, ◌∙◌, subst}
 use Rattle.provider_edge.specs.contracts.edge.Edge.{the_view}
-use Rattle.provider_edge.proofs.EdgeLemmas.{seen_is}
+use Rattle.provider_edge.proofs.ListLemmas.{next_at}
+use Rattle.provider_edge.specs.Lists.{EdgeLists, seen}
 use Rattle.provider_edge.proofs.edge.Edge.next_label.Goals as goal
 
 pub returns : goal.returns
-returns c =
-    c.next_label.ensures (rest_of (the_view c.self.inside))
-    ∙ (ap (λ (s : EdgeState). s.next_label) (sym (seen_is (the_view c.self.inside) c.self.invariant))
-    ∙ ap (λ (e : EdgeLists). (seen e).next_label) c.self.view_is)
+returns c = subst (λ (n : EdgeLists). c.next_label.result ≡ (seen n).next_label) c.self.view_is (c.next_label.ensures.label ∙ next_at (the_view c.self.inside))

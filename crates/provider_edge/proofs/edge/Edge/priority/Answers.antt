@@ -5,37 +5,31 @@ use Rattle.net_base.specs.plan.Places.{wire_row}
 use Rattle.edge_model.specs.State.{with_priority}
 use Rattle.edge_model.specs.Wire.{is_own_spoke, priority_input}
 use Rattle.edge_model.specs.Work.{beginning, changes}
-use Rattle.provider_edge.proofs.AtWorkLemmas.{takes_by}
-use Rattle.provider_edge.specs.Lists.{EdgeLists, rest_of, seen, worked}
 use Rattle.provider_edge.specs.contracts.edge.Edge.{the_view}
 use Rattle.peer_dialogue.specs.Peering.{at_edge}
-use Rattle.provider_edge.proofs.EdgeLemmas.{apart_eqb, priority_at, priority_seen, own_edge, mended, priority_already, priority_apart, priority_set}
-use Rattle.provider_edge.proofs.EffectLemmas.{goes_nowhere}
-use Rattle.provider_edge.proofs.WorkLemmas.{keeps_both, keeps_same}
 use Rattle.peer_dialogue.proofs.SettleLemmas.{map_on}
 use Rattle.provider_edge.proofs.edge.Edge.priority.Goals.{then-not-is_own_spoke-via-then-not-is_own_spoke, then-not-is_own_spoke-via-else-not-is_own_spoke+then-priority_of-priority}
+use Rattle.provider_edge.proofs.AtWorkLemmas.{takes_by}
+use Rattle.provider_edge.proofs.EdgeLemmas.{apart_eqb, mended, priority_already, priority_apart, priority_at, priority_set}
+use Rattle.provider_edge.proofs.EffectLemmas.{goes_nowhere}
+use Rattle.provider_edge.proofs.ListLemmas.{keeps_both, keeps_same}
+use Rattle.provider_edge.specs.Lists.{EdgeLists, seen, worked}
 use Rattle.provider_edge.proofs.edge.Edge.priority.Goals as goal
 
 pub returns-then-not-is_own_spoke-clause-step : goal.returns-then-not-is_own_spoke-clause-step
 returns-then-not-is_own_spoke-clause-step g c = λ told agrees.
-    let v : EdgeLists = the_view c.self.inside in
-    let here : c.is_own_spoke.result ≡ is_own_spoke c.args.self.now.me (wire_row c.args.self.now.plan c.args.wire) =
-    c.is_own_spoke.ensures.own ∙ (own_edge v c.args.wire c.self.invariant ∙ ap (λ (e : EdgeLists). is_own_spoke e.me (wire_row e.plan c.args.wire)) c.self.view_is) in
     subst (λ (e : Effects). worked c.args.self.now (g.L.Link.calls c.args.work.now.link.now) (record e { idle = true }) ≡ priority_input c.args.self.now.plan told c.args.wire c.args.priority (beginning (seen c.args.self.now) (g.L.Link.calls c.args.work.now.link.now))) (sym c.requires.fresh)
     (elim c.then-not-is_own_spoke.branch [
-      | then-not-is_own_spoke-via-then-not-is_own_spoke w ↦ priority_apart c.args.self.now told c.args.wire c.args.priority (g.L.Link.calls c.args.work.now.link.now) (sym here ∙ w.if-not-is_own_spoke.true)
+      | then-not-is_own_spoke-via-then-not-is_own_spoke w ↦ priority_apart c.args.self.now told c.args.wire c.args.priority (g.L.Link.calls c.args.work.now.link.now) (sym c.is_own_spoke.ensures.own ∙ w.if-not-is_own_spoke.true)
       | then-not-is_own_spoke-via-else-not-is_own_spoke+then-priority_of-priority w ↦ priority_already c.args.self.now told c.args.wire c.args.priority (g.L.Link.calls c.args.work.now.link.now)
-          (eq-eqb c.args.priority ((seen c.args.self.now).priority c.args.wire.0) (sym w.if-priority_of-priority.true ∙ (w.priority_of.ensures (rest_of v) ∙ (priority_seen v c.args.wire.0 ∙ ap (λ (e : EdgeLists). (seen e).priority c.args.wire.0) c.self.view_is))))
+          (eq-eqb c.args.priority ((seen c.args.self.now).priority c.args.wire.0) (sym w.if-priority_of-priority.true ∙ w.priority_of.ensures))
     ])
 
 pub returns-clause-step : goal.returns-clause-step
 returns-clause-step g c = map_on _ _ c.mend.result
     (λ step told agrees.
-    let v : EdgeLists = the_view c.self.inside in
-    let here : c.is_own_spoke.result ≡ is_own_spoke c.args.self.now.me (wire_row c.args.self.now.plan c.args.wire) =
-    c.is_own_spoke.ensures.own ∙ (own_edge v c.args.wire c.self.invariant ∙ ap (λ (e : EdgeLists). is_own_spoke e.me (wire_row e.plan c.args.wire)) c.self.view_is) in
-    priority_set c.args.self.now told c.args.wire c.args.priority (g.L.Link.calls c.args.work.now.link.now) _ (sym here ∙ c.if-not-is_own_spoke.false)
-    (apart_eqb c.args.priority ((seen c.args.self.now).priority c.args.wire.0) (λ same. c.if-priority_of-priority.false (c.priority_of.ensures (rest_of v) ∙ (priority_seen v c.args.wire.0 ∙ (ap (λ (e : EdgeLists). (seen e).priority c.args.wire.0) c.self.view_is ∙ sym same)))))
+    priority_set c.args.self.now told c.args.wire c.args.priority (g.L.Link.calls c.args.work.now.link.now) _ (sym c.is_own_spoke.ensures.own ∙ c.if-not-is_own_spoke.false)
+    (apart_eqb c.args.priority ((seen c.args.self.now).priority c.args.wire.0) (λ same. c.if-priority_of-priority.false (c.priority_of.ensures ∙ sym same)))
     (mended c.args.self.now c.set_priority.new.self c.mend.new.self told (g.L.Link.calls c.args.work.now.link.now) (g.L.Link.calls c.mend.new.work.link.now) c.args.work.now.effects.now.list c.mend.new.work.effects.now
     (changes (with_priority c.args.wire c.args.priority) (beginning (seen c.args.self.now) (g.L.Link.calls c.args.work.now.link.now))) (c.mend.ensures.goes.on.idle ∙ ap (λ (e : Effects). e.idle) c.requires.fresh) c.set_priority.ensures.keeps
     (subst (λ (e : Effects). at_edge (seen c.set_priority.new.self) (g.L.Link.calls c.args.work.now.link.now) e.list ≡ changes (with_priority c.args.wire c.args.priority) (beginning (seen c.args.self.now) (g.L.Link.calls c.args.work.now.link.now))) (sym c.requires.fresh)

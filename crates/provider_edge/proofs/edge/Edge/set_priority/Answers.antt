@@ -1,14 +1,12 @@
-use Rattle.std.proofs.Common.{◌≡◌, subst, true, sym}
+use Rattle.std.proofs.Common.{◌≡◌, ◌<◌, length, slice_set, sym, subst, arith}
 use Rattle.edge_model.specs.State.{with_priority}
-use Rattle.provider_edge.specs.Lists.{EdgeLists, seen}
 use Rattle.provider_edge.specs.contracts.edge.Edge.{the_view}
-use Rattle.provider_edge.proofs.EdgeLemmas.{edge_control, worked_state}
+use Rattle.provider_edge.proofs.ListLemmas.{seen_priority}
+use Rattle.provider_edge.specs.Lists.{EdgeLists, seen}
 use Rattle.provider_edge.proofs.edge.Edge.set_priority.Goals as goal
-
-pub invariant_of-self : goal.invariant_of-self
-invariant_of-self c = edge_control (the_view c.self.inside) c.set_priority.new.self (subst (λ (n : EdgeLists). n.stopped ≡ true) (sym c.self.view_is) c.requires.working) c.set_priority.ensures.keeps c.self.invariant
 
 pub returns-clause-step : goal.returns-clause-step
 returns-clause-step c =
-    subst (λ (n : EdgeLists). seen (record (the_view c.self.inside) { control = c.set_priority.new.self }) ≡ (with_priority c.args.wire c.args.priority) (seen n)) c.self.view_is
-    (worked_state (with_priority c.args.wire c.args.priority) (the_view c.self.inside) c.set_priority.new.self c.self.invariant c.set_priority.ensures.keeps c.set_priority.ensures.step)
+    let within : c.args.wire.0 < length (the_view c.self.inside).plan.wires = subst (λ (n : EdgeLists). c.args.wire.0 < length n.plan.wires) (sym c.self.view_is) c.requires.within in
+    subst (λ (n : EdgeLists). seen (record (the_view c.self.inside) { priorities = slice_set (the_view c.self.inside).priorities c.args.wire.0 c.args.priority }) ≡ with_priority c.args.wire c.args.priority (seen n)) c.self.view_is
+    (seen_priority (the_view c.self.inside) c.args.wire c.args.priority (omega (arith, within, c.self.invariant.priorities)))

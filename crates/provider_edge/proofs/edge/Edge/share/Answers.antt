@@ -1,16 +1,14 @@
-use Rattle.std.proofs.Common.{◌∙◌, ℕ, [], replicate, length, ap, subst}
-use Rattle.net_base.specs.declared.plan.Plan.{Plan}
-use Rattle.provider_edge.specs.Control.{IsNewControl}
-use Rattle.provider_edge.proofs.KeptLemmas.{edge_new, seen_new}
+use Rattle.provider_edge.proofs.KeptLemmas.{opened_empty, opened_going, opened_me, opened_plan}
 use Rattle.provider_edge.proofs.edge.Edge.share.Goals as goal
 
-pub invariant_of-result : goal.invariant_of-result
-invariant_of-result c =
-    edge_new c.args.plan.value c.args.me c.in_ok-control.control c.in_ok-held.held.items c.requires.checked
-    (subst (λ (p : Plan). IsNewControl p c.args.me c.in_ok-control.control) c.in_ok-clone.ensures.cases c.in_ok-control.ensures)
-    (c.in_ok-held.ensures ∙ ap (λ (n : ℕ). replicate n []) (c.len.ensures ∙ ap (λ (p : Plan). length p.edges) c.deref.ensures))
+pub returns-in-Ok-clause-plan : goal.returns-in-Ok-clause-plan
+returns-in-Ok-clause-plan c = opened_plan c.args.plan.value c.args.me c.with_ends.result c.with_ends.ensures
 
-pub returns-clause-empty : goal.returns-clause-empty
-returns-clause-empty c =
-    seen_new c.args.plan.value c.args.me c.in_ok-control.control c.in_ok-held.held.items
-    (subst (λ (p : Plan). IsNewControl p c.args.me c.in_ok-control.control) c.in_ok-clone.ensures.cases c.in_ok-control.ensures)
+pub returns-in-Ok-clause-me : goal.returns-in-Ok-clause-me
+returns-in-Ok-clause-me c = opened_me c.args.plan.value c.args.me c.with_ends.result c.with_ends.ensures
+
+pub returns-in-Ok-clause-empty : goal.returns-in-Ok-clause-empty
+returns-in-Ok-clause-empty c = opened_empty c.args.plan.value c.args.me c.with_ends.result c.with_ends.ensures
+
+pub returns-in-Ok-clause-stopped : goal.returns-in-Ok-clause-stopped
+returns-in-Ok-clause-stopped c = opened_going c.args.plan.value c.args.me c.with_ends.result c.with_ends.ensures

@@ -5,37 +5,31 @@ use Rattle.edge_model.specs.EndPlaces.{ends_here}
 use Rattle.edge_model.specs.State.{with_bits}
 use Rattle.edge_model.specs.Wire.{status_input}
 use Rattle.edge_model.specs.Work.{beginning, changes}
-use Rattle.provider_edge.proofs.AtWorkLemmas.{takes_by}
-use Rattle.provider_edge.specs.Lists.{EdgeLists, rest_of, seen, worked}
 use Rattle.provider_edge.specs.contracts.edge.Edge.{the_view}
 use Rattle.peer_dialogue.specs.Peering.{at_edge}
-use Rattle.provider_edge.proofs.EdgeLemmas.{apart_eqb, bits_at, bits_seen, ends_edge, mended, status_already, status_apart, status_set}
-use Rattle.provider_edge.proofs.EffectLemmas.{goes_nowhere}
-use Rattle.provider_edge.proofs.WorkLemmas.{keeps_both, keeps_same}
 use Rattle.peer_dialogue.proofs.SettleLemmas.{map_on}
 use Rattle.provider_edge.proofs.edge.Edge.status.Goals.{then-not-ends_here-via-then-not-ends_here, then-not-ends_here-via-else-not-ends_here+then-bits_of-bits}
+use Rattle.provider_edge.proofs.AtWorkLemmas.{takes_by}
+use Rattle.provider_edge.proofs.EdgeLemmas.{apart_eqb, bits_at, mended, status_already, status_apart, status_set}
+use Rattle.provider_edge.proofs.EffectLemmas.{goes_nowhere}
+use Rattle.provider_edge.proofs.ListLemmas.{keeps_both, keeps_same}
+use Rattle.provider_edge.specs.Lists.{EdgeLists, seen, worked}
 use Rattle.provider_edge.proofs.edge.Edge.status.Goals as goal
 
 pub returns-then-not-ends_here-clause-step : goal.returns-then-not-ends_here-clause-step
 returns-then-not-ends_here-clause-step g c = λ told agrees.
-    let v : EdgeLists = the_view c.self.inside in
-    let here : c.ends_here.result ≡ ends_here c.args.self.now.plan c.args.self.now.me c.args.wire =
-    c.ends_here.ensures.ends ∙ (ends_edge v c.args.wire c.self.invariant ∙ ap (λ (e : EdgeLists). ends_here e.plan e.me c.args.wire) c.self.view_is) in
     subst (λ (e : Effects). worked c.args.self.now (g.L.Link.calls c.args.work.now.link.now) (record e { idle = true }) ≡ status_input c.args.self.now.plan told c.args.wire c.args.bits (beginning (seen c.args.self.now) (g.L.Link.calls c.args.work.now.link.now))) (sym c.requires.fresh)
     (elim c.then-not-ends_here.branch [
-      | then-not-ends_here-via-then-not-ends_here w ↦ status_apart c.args.self.now told c.args.wire c.args.bits (g.L.Link.calls c.args.work.now.link.now) (sym here ∙ w.if-not-ends_here.true)
+      | then-not-ends_here-via-then-not-ends_here w ↦ status_apart c.args.self.now told c.args.wire c.args.bits (g.L.Link.calls c.args.work.now.link.now) (sym c.ends_here.ensures.ends ∙ w.if-not-ends_here.true)
       | then-not-ends_here-via-else-not-ends_here+then-bits_of-bits w ↦ status_already c.args.self.now told c.args.wire c.args.bits (g.L.Link.calls c.args.work.now.link.now)
-          (eq-eqb c.args.bits ((seen c.args.self.now).bits c.args.wire.0) (sym w.if-bits_of-bits.true ∙ (w.bits_of.ensures.bits (rest_of v) ∙ (bits_seen v c.args.wire.0 ∙ ap (λ (e : EdgeLists). (seen e).bits c.args.wire.0) c.self.view_is))))
+          (eq-eqb c.args.bits ((seen c.args.self.now).bits c.args.wire.0) (sym w.if-bits_of-bits.true ∙ w.bits_of.ensures.bits))
     ])
 
 pub returns-clause-step : goal.returns-clause-step
 returns-clause-step g c = map_on _ _ c.mend.result
     (λ step told agrees.
-    let v : EdgeLists = the_view c.self.inside in
-    let here : c.ends_here.result ≡ ends_here c.args.self.now.plan c.args.self.now.me c.args.wire =
-    c.ends_here.ensures.ends ∙ (ends_edge v c.args.wire c.self.invariant ∙ ap (λ (e : EdgeLists). ends_here e.plan e.me c.args.wire) c.self.view_is) in
-    status_set c.args.self.now told c.args.wire c.args.bits (g.L.Link.calls c.args.work.now.link.now) _ (sym here ∙ c.if-not-ends_here.false)
-    (apart_eqb c.args.bits ((seen c.args.self.now).bits c.args.wire.0) (λ same. c.if-bits_of-bits.false (c.bits_of.ensures.bits (rest_of v) ∙ (bits_seen v c.args.wire.0 ∙ (ap (λ (e : EdgeLists). (seen e).bits c.args.wire.0) c.self.view_is ∙ sym same)))))
+    status_set c.args.self.now told c.args.wire c.args.bits (g.L.Link.calls c.args.work.now.link.now) _ (sym c.ends_here.ensures.ends ∙ c.if-not-ends_here.false)
+    (apart_eqb c.args.bits ((seen c.args.self.now).bits c.args.wire.0) (λ same. c.if-bits_of-bits.false (c.bits_of.ensures.bits ∙ sym same)))
     (mended c.args.self.now c.set_bits.new.self c.mend.new.self told (g.L.Link.calls c.args.work.now.link.now) (g.L.Link.calls c.mend.new.work.link.now) c.args.work.now.effects.now.list c.mend.new.work.effects.now
     (changes (with_bits c.args.wire c.args.bits) (beginning (seen c.args.self.now) (g.L.Link.calls c.args.work.now.link.now))) (c.mend.ensures.goes.on.idle ∙ ap (λ (e : Effects). e.idle) c.requires.fresh) c.set_bits.ensures.keeps
     (subst (λ (e : Effects). at_edge (seen c.set_bits.new.self) (g.L.Link.calls c.args.work.now.link.now) e.list ≡ changes (with_bits c.args.wire c.args.bits) (beginning (seen c.args.self.now) (g.L.Link.calls c.args.work.now.link.now))) (sym c.requires.fresh)

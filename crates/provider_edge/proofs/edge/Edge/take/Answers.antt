@@ -5,13 +5,13 @@ use Rattle.edge_model.specs.State.{EdgeState}
 use Rattle.edge_model.specs.Step.{edge_step}
 use Rattle.edge_model.specs.Synced.{InSync}
 use Rattle.edge_model.specs.Work.{beginning}
-use Rattle.provider_edge.specs.Lists.{EdgeLists, seen, worked}
-use Rattle.provider_edge.specs.Said.{AllFit}
-use Rattle.provider_edge.specs.Taking.{StaysLocal}
 use Rattle.provider_edge.specs.contracts.edge.Edge.{the_view}
 use Rattle.provider_edge.proofs.EdgeLemmas.{edge_going, seen_stopped, worked_stopped}
 use Rattle.provider_edge.proofs.EffectLemmas.{Steps, steps_fit, steps_synced, steps_tell}
 use Rattle.provider_edge.proofs.StayLemmas.{steps_local}
+use Rattle.provider_edge.specs.Lists.{EdgeLists, seen, worked}
+use Rattle.provider_edge.specs.Said.{AllFit}
+use Rattle.provider_edge.specs.Taking.{StaysLocal}
 use Rattle.provider_edge.proofs.edge.Edge.take.Goals as goal
 
 pub work-requires-clause-synced : goal.work-requires-clause-synced

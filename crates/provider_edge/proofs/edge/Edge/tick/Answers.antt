@@ -2,14 +2,15 @@ use Rattle.std.proofs.Common.{◌∙◌, ◌≡◌, ap, length, subst}
 use Rattle.edge_model.specs.declared.effects.Effects.{Effects}
 use Rattle.edge_model.specs.Tick.{counted, forgetting, ticks_sessions}
 use Rattle.edge_model.specs.Work.{beginning, changes}
-use Rattle.provider_edge.proofs.AtWorkLemmas.{work_both, takes_by}
-use Rattle.provider_edge.specs.AtWork.{edge_at_work}
-use Rattle.provider_edge.specs.Lists.{seen}
 use Rattle.peer_dialogue.specs.Peering.{at_edge}
-use Rattle.provider_edge.proofs.EdgeLemmas.{mended, ticked}
 use Rattle.peer_dialogue.proofs.SettleLemmas.{map_on}
 use Rattle.peer_dialogue.proofs.SpeakerLemmas.{agrees_before}
-use Rattle.provider_edge.proofs.WorkLemmas.{keeps_both}
+use Rattle.peer_dialogue.proofs.AtWorkLemmas.{work_both}
+use Rattle.provider_edge.proofs.AtWorkLemmas.{takes_by}
+use Rattle.provider_edge.proofs.EdgeLemmas.{mended, ticked}
+use Rattle.provider_edge.proofs.ListLemmas.{keeps_both}
+use Rattle.provider_edge.specs.AtWork.{at_work}
+use Rattle.provider_edge.specs.Lists.{seen}
 use Rattle.provider_edge.proofs.edge.Edge.tick.Goals as goal
 
 pub returns-clause-goes : goal.returns-clause-goes
@@ -24,7 +25,7 @@ returns-clause-step g c = map_on _ _ c.mend.result
     (keeps_both c.args.self.now c.count_tick.new.self c.forget.new.self c.count_tick.ensures.keeps (keeps_both c.count_tick.new.self c.tick_sessions.new.self c.forget.new.self c.in_ok-tick_sessions.ensures.goes.keeps c.forget.ensures.keeps))
     (ticked told c.args.self.now c.count_tick.new.self c.tick_sessions.new.self c.forget.new.self (g.L.Link.calls c.args.work.now.link.now) (g.L.Link.calls c.tick_sessions.new.work.link.now) c.tick_sessions.new.work.effects.now.list
     c.count_tick.ensures.keeps c.in_ok-tick_sessions.ensures.goes.keeps c.count_tick.ensures.step
-    (subst (λ (e : Effects). edge_at_work g.L.Link.calls c.tick_sessions.new.self c.tick_sessions.new.work
+    (subst (λ (e : Effects). at_work g.L.Link.calls c.tick_sessions.new.self c.tick_sessions.new.work
     ≡ ticks_sessions told 0 (length c.count_tick.new.self.plan.edges) (at_edge (seen c.count_tick.new.self) (g.L.Link.calls c.args.work.now.link.now) e.list)) c.requires.fresh
     (c.in_ok-tick_sessions.ensures.step told (agrees_before told _ _ c.mend.ensures.goes.on.calls agrees)))
     c.forget.ensures.step)

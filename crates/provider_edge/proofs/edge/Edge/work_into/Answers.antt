@@ -1,12 +1,18 @@
-use Rattle.std.proofs.Common.{◌≡◌, sym, subst, true, refl}
+use Rattle.std.proofs.Common.{◌≡◌, ◌∙◌, ap, sym, subst, true, refl}
 use Rattle.edge_model.specs.declared.effects.Effects.{Effects}
 use Rattle.edge_model.specs.declared.input.Input.{Input}
 use Rattle.edge_model.specs.declared.input.Input.TheVariants as input
 use Rattle.edge_model.specs.Step.{edge_step}
 use Rattle.edge_model.specs.Work.{beginning}
-use Rattle.provider_edge.specs.Lists.{seen, worked}
 use Rattle.provider_edge.proofs.EffectLemmas.{goes_nowhere}
-use Rattle.provider_edge.proofs.WorkLemmas.{idle_done, input_done, keeps_same}
+use Rattle.provider_edge.proofs.ListLemmas.{keeps_same}
+use Rattle.provider_edge.proofs.WorkLemmas.{idle_done, input_done}
+use Rattle.provider_edge.specs.Lists.{seen, worked}
+use Rattle.edge_model.specs.Packet.{packet_input}
+use Rattle.peer_dialogue.proofs.SettleLemmas.{map_on}
+use Rattle.peer_dialogue.specs.Peering.{at_edge}
+use Rattle.provider_edge.proofs.AtWorkLemmas.{takes_by}
+use Rattle.provider_edge.proofs.EdgeLemmas.{begun, given_out}
 use Rattle.provider_edge.proofs.edge.Edge.work_into.Goals as goal
 
 pub connected-requires-clause-working : goal.connected-requires-clause-working
@@ -80,18 +86,21 @@ returns-in-Frame-clause-step g c =
 pub packet-requires-clause-working : goal.packet-requires-clause-working
 packet-requires-clause-working g c = c.requires.working
 
-pub packet-requires-clause-fresh : goal.packet-requires-clause-fresh
-packet-requires-clause-fresh g c = c.requires.fresh
-
 pub packet-requires-clause-synced : goal.packet-requires-clause-synced
 packet-requires-clause-synced g c = c.requires.synced
 
 pub returns-in-Packet-clause-goes : goal.returns-in-Packet-clause-goes
-returns-in-Packet-clause-goes g c = c.packet.ensures.goes
+returns-in-Packet-clause-goes g c = takes_by g.L.Link.calls _ _ _ _ c.packet.ensures.goes.keeps c.packet.ensures.goes.on
 
 pub returns-in-Packet-clause-step : goal.returns-in-Packet-clause-step
 returns-in-Packet-clause-step g c =
-    input_done c.packet.result c.args.self.now c.packet.new.self (g.L.Link.calls c.args.work.now.link.now) (g.L.Link.calls c.packet.new.work.link.now) c.packet.new.work.effects.now c.args.input (input.Packet c.in-Packet.bytes) c.in-Packet.is c.packet.ensures.step
+    input_done c.packet.result c.args.self.now c.packet.new.self (g.L.Link.calls c.args.work.now.link.now) (g.L.Link.calls c.packet.new.work.link.now) c.packet.new.work.effects.now c.args.input (input.Packet c.in-Packet.bytes) c.in-Packet.is
+    (map_on _ _ c.packet.result
+    (λ step told agrees.
+    given_out c.packet.new.self (g.L.Link.calls c.packet.new.work.link.now) c.packet.new.work.effects.now (c.packet.ensures.goes.on.idle ∙ ap (λ (e : Effects). e.idle) c.requires.fresh)
+    ∙ (step told agrees
+    ∙ ap (packet_input c.args.self.now.plan told c.in-Packet.bytes.now) (ap (λ (e : Effects). at_edge (seen c.args.self.now) (g.L.Link.calls c.args.work.now.link.now) e.list) c.requires.fresh ∙ begun (seen c.args.self.now) (g.L.Link.calls c.args.work.now.link.now))))
+    c.packet.ensures.step)
 
 pub circuit-requires-clause-working : goal.circuit-requires-clause-working
 circuit-requires-clause-working g c = c.requires.working

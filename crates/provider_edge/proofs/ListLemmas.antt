@@ -1,0 +1,414 @@
+-- An edge, in lists as in maps.
+use Rattle.std.proofs.Common.{◌≡◌, ◌<◌, ◌≤◌, ◌++◌, ◌||◌, ◌∙◌, ℕ, zero, suc, Bool, true, false, List, [], ◌∷◌, Option, Some, None, cond, length, map, slice_set, slice_index_or, nat_eq, replicate, ◌+◌, refl, ap, sym, subst, arith, length-set, slice_get}
+use Rattle.std.proofs.lemmas.Bool.{eqb-true}
+use Rattle.std.proofs.lemmas.List.{length-map}
+use Rattle.std.proofs.lemmas.List.Elements.{All-replicate}
+use Rattle.std.specs.Prelude.{All, IfSome}
+use Rattle.net_base.specs.declared.plan.Plan.{Plan}
+use Rattle.net_base.specs.declared.plan.places.EdgeId.{EdgeId}
+use Rattle.net_base.specs.declared.plan.places.WireId.{WireId}
+use Rattle.net_base.specs.declared.plan.wire_plan.WirePlan.{WirePlan}
+use Rattle.net_base.specs.declared.outside.link_call.LinkCall.{LinkCall}
+use Rattle.pw_signalling.specs.End.{EndState, fresh}
+use Rattle.label_space.specs.Labels.{numbers_end}
+use Rattle.pw_signalling.specs.declared.told.Told.{Told}
+use Rattle.pw_signalling.specs.Rows.{advertised, lost}
+use Rattle.edge_model.specs.declared.effect.Effect.{Effect}
+use Rattle.edge_model.specs.declared.end_place.EndPlace.{EndPlace}
+use Rattle.edge_model.specs.Session.{clears_ends}
+use Rattle.edge_model.specs.Signal.{with_end_changed}
+use Rattle.edge_model.specs.EndPlaces.{end_places, is_end_of_wire, is_of_wire}
+use Rattle.edge_model.specs.Mend.{advertising}
+use Rattle.edge_model.proofs.LocalLemmas.{and_left}
+use Rattle.edge_model.proofs.PlaceLemmas.{IsEndOf, places_are}
+use Rattle.std.specs.List.{AllByRecursion, list_any}
+use Rattle.std.proofs.lemmas.Option.{slice_get_within}
+use Rattle.edge_model.specs.State.{Peering, EdgeState, empty_edge, end_at, first_label, has_end, priority_in, put_at, with_bits, with_chosen, with_end, with_ends_beside, with_peering, with_priority, with_renewed, with_wire, with_next_label, without_ends, without_peerings}
+use Rattle.edge_model.specs.Work.{changes}
+use Rattle.edge_model.specs.Synced.{InSync}
+use Rattle.edge_model.proofs.SyncLemmas.{synced_first}
+use Rattle.pw_ends.specs.Ends.{EndLists, changed_at, changed_beside, end_in, no_place, place_of, renewed_of, seen_ends}
+use Rattle.net_base.specs.plan.Accepted.{IsChecked}
+use Rattle.edge_forwarding.specs.Forwarding.{ForwardingLists, IsNewForwarding, KeepsForwarding, opened_forwarding, with_forwarding, without_told}
+use Rattle.peer_dialogue.specs.Peering.{at_edge, gone}
+use Rattle.edge_forwarding.specs.Views.{view}
+use Rattle.peer_dialogue.proofs.SpeakerLemmas.{put_same}
+use Rattle.edge_forwarding.proofs.Views.{past_end, same_read, view_at, view_set}
+use Rattle.provider_edge.proofs.ForwardLemmas.{holds_forwarding, seen_forwarding}
+use Rattle.provider_edge.specs.Invariant.{IsEdge}
+use Rattle.provider_edge.specs.Lists.{EdgeLists, Keeps, seen}
+use Rattle.provider_edge.specs.Opening.{AreNewParts, IsNewEdge}
+use Rattle.provider_edge.specs.Spokes.{AreSpokesOf, IsNewSpokes, SpokeLists, unchosen}
+
+-- ---- what always holds
+
+pub holds_peerings : (c : EdgeLists) (peerings : List (Option Peering)) → length peerings ≡ length c.peerings → c.stopped ≡ true → IsEdge c → IsEdge (record c { peerings = peerings })
+holds_peerings c peerings long working is = record {
+  checked = is.checked;
+  peerings = long ∙ is.peerings;
+  places = is.places;
+  wires = is.wires;
+  each_bits = is.each_bits;
+  spokes = is.spokes;
+  plan = is.plan;
+  me = is.me;
+  small = is.small;
+  priorities = is.priorities;
+  synced = λ going. absurd (cc (sym working ∙ going));
+}
+
+pub holds_put : (c : EdgeLists) (peer : EdgeId) (kept : Option Peering) → c.stopped ≡ true → IsEdge c → IsEdge (record c { peerings = slice_set c.peerings peer.0 kept })
+holds_put c peer kept working is = holds_peerings c (slice_set c.peerings peer.0 kept) (length-set c.peerings peer.0 kept) working is
+
+pub holds_ends : (c : EdgeLists) (ends : EndLists) → ends.places ≡ c.ends.places → c.stopped ≡ true → IsEdge c → IsEdge (record c { ends = ends })
+holds_ends c ends same working is = record {
+  checked = is.checked;
+  peerings = is.peerings;
+  places = same ∙ is.places;
+  wires = is.wires;
+  each_bits = is.each_bits;
+  spokes = is.spokes;
+  plan = is.plan;
+  me = is.me;
+  small = is.small;
+  priorities = is.priorities;
+  synced = λ going. absurd (cc (sym working ∙ going));
+}
+
+pub holds_spokes : (c : EdgeLists) (spokes : SpokeLists) → AreSpokesOf c.plan c.me spokes → c.stopped ≡ true → IsEdge c → IsEdge (record c { spokes = spokes })
+holds_spokes c spokes are working is = record {
+  checked = is.checked;
+  peerings = is.peerings;
+  places = is.places;
+  wires = is.wires;
+  each_bits = is.each_bits;
+  spokes = are;
+  plan = is.plan;
+  me = is.me;
+  small = is.small;
+  priorities = is.priorities;
+  synced = λ going. absurd (cc (sym working ∙ going));
+}
+
+pub holds_wires : (c : EdgeLists) (wires : List Bool) → length wires ≡ length c.wires_on → c.stopped ≡ true → IsEdge c → IsEdge (record c { wires_on = wires })
+holds_wires c wires long working is = record {
+  checked = is.checked;
+  peerings = is.peerings;
+  places = is.places;
+  wires = long ∙ is.wires;
+  each_bits = is.each_bits;
+  spokes = is.spokes;
+  plan = is.plan;
+  me = is.me;
+  small = is.small;
+  priorities = is.priorities;
+  synced = λ going. absurd (cc (sym working ∙ going));
+}
+
+-- ---- one session
+
+pub seen_put : (c : EdgeLists) (peer : EdgeId) (kept : Option Peering) → peer.0 < length c.peerings
+    → seen (record c { peerings = slice_set c.peerings peer.0 kept }) ≡ with_peering peer (kept) (seen c)
+unfolding seen with_peering
+seen_put c peer kept within = λ i. record (seen c) { peering = λ k. at k i } where
+  chosen : (k : ℕ) (b : Bool) → nat_eq k peer.0 ≡ b
+      → (cond b kept (view None c.peerings k)) ≡ cond b (kept) ((view None c.peerings k))
+  chosen k true same = ap (λ (n : ℕ). kept) (eqb-true k peer.0 same)
+  chosen k false same = refl
+
+  at : (k : ℕ) → (view None (slice_set c.peerings peer.0 kept) k)
+      ≡ put_at (λ n. (view None c.peerings n)) peer.0 (kept) k
+  at k = (view_at None c.peerings peer.0 kept k within) ∙ chosen k (nat_eq k peer.0) refl
+
+-- what is read within the list
+pub peering_read : (c : EdgeLists) (peer : EdgeId) (kept : Option Peering) → peer.0 < length c.peerings → kept ≡ slice_index_or c.peerings peer.0 kept
+    → kept ≡ (seen c).peering peer.0
+unfolding seen
+peering_read c peer kept within read = (read ∙ same_read c.peerings peer.0 kept None within)
+
+-- past its end nothing is kept
+pub peering_past : (c : EdgeLists) (peer : EdgeId) → length c.peerings ≤ peer.0 → (seen c).peering peer.0 ≡ None
+unfolding seen
+peering_past c peer past = (past_end None c.peerings peer.0 past)
+
+pub seen_past : (c : EdgeLists) (peer : EdgeId) → length c.peerings ≤ peer.0 → seen c ≡ with_peering peer None (seen c)
+seen_past c peer past = sym (put_same peer None (seen c) (peering_past c peer past))
+
+view_gone : (xs : List (Option Peering)) (k : ℕ) → view None (map gone xs) k ≡ None
+view_gone [] k = refl
+view_gone (x ∷ xs) zero = refl
+view_gone (x ∷ xs) (suc k) = view_gone xs k
+
+pub seen_gone : (c : EdgeLists) → seen (record c { peerings = map gone c.peerings }) ≡ without_peerings (seen c)
+unfolding seen without_peerings
+seen_gone c = λ i. record (seen c) { peering = λ k. (view_gone c.peerings k) i }
+
+-- ---- ends
+
+pub ends_at : (c : EdgeLists) (ends : EndLists) (place : EndPlace) (change : EndState → EndState)
+    → seen_ends ends ≡ changed_at place change (seen_ends c.ends) → ends.labels.next ≡ c.ends.labels.next
+    → seen (record c { ends = ends }) ≡ with_end_changed change (Some place) (seen c)
+unfolding seen with_end
+ends_at c ends place change are next = λ i. record (seen c) { ends = are i; next_label = next i }
+
+pub ends_beside : (c : EdgeLists) (ends : EndLists) (peer : EdgeId) (change : EndState → EndState)
+    → seen_ends ends ≡ changed_beside peer change (seen_ends c.ends) → ends.labels.next ≡ c.ends.labels.next
+    → seen (record c { ends = ends }) ≡ with_ends_beside peer change (seen c)
+unfolding seen with_ends_beside
+ends_beside c ends peer change are next = λ i. record (seen c) { ends = are i; next_label = next i }
+
+pub ends_renewed : (c : EdgeLists) (ends : EndLists) (wire : WireId)
+    → seen_ends ends ≡ renewed_of wire (seen_ends c.ends) → ends.labels.next ≡ c.ends.labels.next
+    → seen (record c { ends = ends }) ≡ with_renewed wire (seen c)
+unfolding seen with_renewed
+ends_renewed c ends wire are next = λ i. record (seen c) { ends = are i; next_label = next i }
+
+view_unchosen : (xs : List (Option WireId)) (k : ℕ) → view None (map unchosen xs) k ≡ None
+view_unchosen [] k = refl
+view_unchosen (x ∷ xs) zero = refl
+view_unchosen (x ∷ xs) (suc k) = view_unchosen xs k
+
+ends_fresh : (c : EdgeLists) (ends : EndLists) (spokes : SpokeLists) → seen_ends ends ≡ (λ wire peer. fresh) → ends.labels.next ≡ c.ends.labels.next → spokes.chosen ≡ map unchosen c.spokes.chosen
+    → without_told (seen (record c { ends = ends; spokes = spokes })) ≡ without_ends (seen c)
+unfolding seen without_ends without_told
+ends_fresh c ends spokes are next none = λ i. record (without_told (seen c)) {
+  ends = are i;
+  chosen = λ k. (ap (λ (l : List (Option WireId)). view None l k) none ∙ view_unchosen c.spokes.chosen k) i;
+  next_label = next i;
+}
+
+-- no spoke is chosen any more
+pub spokes_forgotten : (plan : Plan) (me : EdgeId) (old new : SpokeLists) → new ≡ record old { chosen = map unchosen old.chosen } → AreSpokesOf plan me old → AreSpokesOf plan me new
+spokes_forgotten plan me old new is are = subst (AreSpokesOf plan me) (sym is) (record { slots = are.slots; chosen = length-map old.chosen unchosen ∙ are.chosen })
+
+pub holds_forgotten : (c : EdgeLists) (ends : EndLists) (spokes : SpokeLists) (f : ForwardingLists) → ends.places ≡ c.ends.places → spokes ≡ record c.spokes { chosen = map unchosen c.spokes.chosen } → KeepsForwarding c.forwarding f
+    → c.stopped ≡ true → IsEdge c → IsEdge (record c { ends = ends; spokes = spokes; forwarding = f })
+holds_forgotten c ends spokes f same none keeps working is =
+    holds_forwarding (record c { ends = ends; spokes = spokes }) f keeps working
+    (holds_spokes (record c { ends = ends }) spokes (spokes_forgotten c.plan c.me c.spokes spokes none is.spokes) working (holds_ends c ends same working is))
+
+-- each end is as it was opened, of no end anything was told, and no spoke is chosen
+pub ends_forgotten : (c : EdgeLists) (ends : EndLists) (spokes : SpokeLists) (f : ForwardingLists) → c.stopped ≡ true → IsEdge c → ends.places ≡ c.ends.places → spokes ≡ record c.spokes { chosen = map unchosen c.spokes.chosen }
+    → KeepsForwarding c.forwarding f → seen_ends ends ≡ (λ wire peer. fresh) → ends.labels.next ≡ c.ends.labels.next
+    → ((edge : EdgeState) → with_forwarding f edge ≡ without_told (with_forwarding c.forwarding edge))
+    → seen (record c { ends = ends; spokes = spokes; forwarding = f }) ≡ without_ends (seen c)
+ends_forgotten c ends spokes f working is same none keeps are next closed =
+    seen_forwarding without_told (record c { ends = ends; spokes = spokes }) f
+    (holds_spokes (record c { ends = ends }) spokes (spokes_forgotten c.plan c.me c.spokes spokes none is.spokes) working (holds_ends c ends same working is)) keeps closed
+    ∙ ends_fresh c ends spokes are next (ap (λ (s : SpokeLists). s.chosen) none)
+
+-- ---- where no session stands, the ends are lost
+
+pub cleared_not : (peer : EdgeId) (edge : EdgeState) (calls : List LinkCall) (out : List Effect) → has_end edge peer ≡ true → at_edge edge calls out ≡ clears_ends peer (at_edge edge calls out)
+unfolding at_edge
+cleared_not peer edge calls out there = sym (ap (λ (b : Bool). cond b (at_edge edge calls out) (changes (with_ends_beside peer lost) (at_edge edge calls out))) there)
+
+pub cleared : (peer : EdgeId) (edge now : EdgeState) (calls : List LinkCall) (out : List Effect) → has_end edge peer ≡ false → now ≡ with_ends_beside peer lost edge → at_edge now calls out ≡ clears_ends peer (at_edge edge calls out)
+unfolding at_edge changes
+cleared peer edge now calls out gone is =
+    ap (λ (e : EdgeState). record { edge = e; calls = calls; effects = out; idle = false }) is
+    ∙ sym (ap (λ (b : Bool). cond b (record { edge = edge; calls = calls; effects = out; idle = false }) (changes (with_ends_beside peer lost) (record { edge = edge; calls = calls; effects = out; idle = false }))) gone)
+
+-- ---- before the first input
+
+all_same : {X : Type 0} (n k : ℕ) (x : X) → view x (replicate n x) k ≡ x
+all_same zero k x = refl
+all_same (suc n) zero x = refl
+all_same (suc n) (suc k) x = all_same n k x
+
+long_same : {X : Type 0} (n : ℕ) (x : X) → length (replicate n x) ≡ n
+long_same zero x = refl
+long_same (suc n) x = ap suc (long_same n x)
+
+-- the lists of a new edge
+pub record AreNewLists (plan : Plan) (me : EdgeId) (c : EdgeLists) : Type 0 where
+  pub keeps : c.plan ≡ plan
+  pub here : c.me ≡ me
+  pub peerings : c.peerings ≡ replicate (length plan.edges) None
+  pub places : c.ends.places ≡ end_places plan me
+  pub ends : seen_ends c.ends ≡ (λ wire peer. fresh)
+  pub next : c.ends.labels.next ≡ first_label plan me
+  pub wires : c.wires_on ≡ replicate (length plan.wires) true
+  pub zeros : c.bits ≡ replicate (length plan.wires) 0
+  pub priorities : c.priorities ≡ map (λ (row : WirePlan). row.priority) plan.wires
+  pub spokes : IsNewSpokes plan me c.spokes
+  pub forwarding : IsNewForwarding plan me c.forwarding
+  pub going : c.stopped ≡ false
+
+-- those of an edge over parts that have taken no input, whose lists are made by the same plan
+pub new_lists : (plan made : Plan) (me : EdgeId) (c : EdgeLists) → made ≡ plan → c.plan ≡ plan → c.me ≡ me → AreNewParts plan me c.ends c.spokes c.forwarding
+    → c.peerings ≡ replicate (length made.edges) None → c.wires_on ≡ replicate (length made.wires) true → c.bits ≡ replicate (length made.wires) 0
+    → c.priorities ≡ map (λ (row : WirePlan). row.priority) made.wires → c.stopped ≡ false → AreNewLists plan me c
+new_lists plan made me c same keeps here parts peerings wires zeros priorities going = record {
+  keeps = keeps;
+  here = here;
+  peerings = peerings ∙ ap (λ (p : Plan). replicate (length p.edges) None) same;
+  places = parts.places;
+  ends = parts.idle;
+  next = parts.next;
+  wires = wires ∙ ap (λ (p : Plan). replicate (length p.wires) true) same;
+  zeros = zeros ∙ ap (λ (p : Plan). replicate (length p.wires) 0) same;
+  priorities = priorities ∙ ap (λ (p : Plan). map (λ (row : WirePlan). row.priority) p.wires) same;
+  spokes = parts.unchosen;
+  forwarding = parts.unheard;
+  going = going;
+}
+
+-- the priorities of the plan, in a list as in a map
+by_plan : (rows : List WirePlan) (k : ℕ) → slice_index_or (map (λ (row : WirePlan). row.priority) rows) k (priority_in (slice_get rows k)) ≡ priority_in (slice_get rows k)
+by_plan [] k = refl
+by_plan (x ∷ rows) zero = refl
+by_plan (x ∷ rows) (suc k) = by_plan rows k
+
+pub new_is : (plan : Plan) (me : EdgeId) (c : EdgeLists) → AreNewLists plan me c → seen c ≡ empty_edge plan me
+unfolding seen with_forwarding opened_forwarding
+new_is plan me c are = λ i. record {
+  me = are.here i;
+  circuit_on = (are.forwarding.is (empty_edge plan me) i).circuit_on;
+  learned = (are.forwarding.is (empty_edge plan me) i).learned;
+  ticks = (are.forwarding.is (empty_edge plan me) i).ticks;
+  peering = λ k. (ap (λ (l : List (Option Peering)). (view None l k)) are.peerings ∙ (all_same (length plan.edges) k None)) i;
+  wire_on = λ k. (ap (λ (l : List Bool). view true l k) are.wires ∙ all_same (length plan.wires) k true) i;
+  bits = λ k. (ap (λ (l : List ℕ). view 0 l k) are.zeros ∙ all_same (length plan.wires) k 0) i;
+  priority = λ k.
+      (ap (λ (l : List ℕ). slice_index_or l k (priority_in (slice_get c.plan.wires k))) are.priorities
+      ∙ (ap (λ (p : Plan). slice_index_or (map (λ (row : WirePlan). row.priority) plan.wires) k (priority_in (slice_get p.wires k))) are.keeps ∙ by_plan plan.wires k)) i;
+  ends = are.ends i;
+  told_down = (are.forwarding.is (empty_edge plan me) i).told_down;
+  chosen = λ k. (ap (λ (l : List (Option WireId)). view None l k) are.spokes.none ∙ all_same (length plan.services) k None) i;
+  next_label = are.next i;
+}
+
+pub is_new_edge : (plan : Plan) (me : EdgeId) (c : EdgeLists) → AreNewLists plan me c → IsNewEdge plan me c
+is_new_edge plan me c are = record { plan_is = are.keeps; place_is = are.here; empty = new_is plan me c are; going = are.going }
+
+pub holds_new : (plan : Plan) (me : EdgeId) (c : EdgeLists) → IsChecked plan → AreNewLists plan me c → IsEdge c
+holds_new plan me c checked are = record {
+  checked = subst IsChecked (sym are.keeps) checked;
+  peerings = ap (λ (l : List (Option Peering)). length l) are.peerings ∙ (long_same (length plan.edges) None ∙ ap (λ (p : Plan). length p.edges) (sym are.keeps));
+  places = are.places ∙ (ap (λ (p : Plan). end_places p me) (sym are.keeps) ∙ ap (end_places c.plan) (sym are.here));
+  wires = ap (λ (l : List Bool). length l) are.wires ∙ (long_same (length plan.wires) true ∙ ap (λ (p : Plan). length p.wires) (sym are.keeps));
+  each_bits = ap (λ (l : List ℕ). length l) are.zeros ∙ (long_same (length plan.wires) 0 ∙ ap (λ (p : Plan). length p.wires) (sym are.keeps));
+  spokes = subst (λ (p : Plan). AreSpokesOf p c.me c.spokes) (sym are.keeps) (subst (λ (m : EdgeId). AreSpokesOf plan m c.spokes) (sym are.here) are.spokes.are);
+  plan = are.forwarding.keeps ∙ sym are.keeps;
+  me = are.forwarding.here ∙ sym are.here;
+  small = subst (All (λ bits. bits ≤ 31)) (sym are.zeros) (All-replicate (λ bits. bits ≤ 31) (length plan.wires) 0 (omega arith));
+  priorities = ap (λ (l : List ℕ). length l) are.priorities ∙ (length-map plan.wires (λ (row : WirePlan). row.priority) ∙ ap (λ (p : Plan). length p.wires) (sym are.keeps));
+  synced = λ going. subst (λ (p : Plan). InSync p (seen c)) (sym are.keeps) (subst (InSync plan) (sym (new_is plan me c are)) (synced_first plan me));
+}
+
+-- ---- a wire at a place of its own
+
+pub seen_on : (c : EdgeLists) (wire : WireId) (on : Bool) → wire.0 < length c.wires_on
+    → seen (record c { wires_on = slice_set c.wires_on wire.0 on }) ≡ with_wire wire on (seen c)
+unfolding seen with_wire
+seen_on c wire on within = λ i. record (seen c) { wire_on = view_set true c.wires_on wire.0 on within i }
+
+pub seen_bits : (c : EdgeLists) (wire : WireId) (bits : ℕ) → wire.0 < length c.bits
+    → seen (record c { bits = slice_set c.bits wire.0 bits }) ≡ with_bits wire bits (seen c)
+unfolding seen with_bits
+seen_bits c wire bits within = λ i. record (seen c) { bits = view_set 0 c.bits wire.0 bits within i }
+
+pub seen_priority : (c : EdgeLists) (wire : WireId) (priority : ℕ) → wire.0 < length c.priorities
+    → seen (record c { priorities = slice_set c.priorities wire.0 priority }) ≡ with_priority wire priority (seen c)
+unfolding seen with_priority
+seen_priority c wire priority within = λ i. record (seen c) { priority = λ k. view_at (priority_in (slice_get c.plan.wires k)) c.priorities wire.0 priority k within i }
+
+-- ---- the spoke that is chosen for a service
+
+pub spokes_chosen : (plan : Plan) (me : EdgeId) (spokes : SpokeLists) (service : ℕ) (wire : Option WireId) → AreSpokesOf plan me spokes → AreSpokesOf plan me (record spokes { chosen = slice_set spokes.chosen service wire })
+spokes_chosen plan me spokes service wire are = record { slots = are.slots; chosen = length-set spokes.chosen service wire ∙ are.chosen }
+
+pub seen_chosen : (c : EdgeLists) (service : ℕ) (wire : Option WireId) → service < length c.spokes.chosen
+    → seen (record c { spokes = record c.spokes { chosen = slice_set c.spokes.chosen service wire } }) ≡ with_chosen (put_at (seen c).chosen service wire) (seen c)
+unfolding seen with_chosen
+seen_chosen c service wire within = λ i. record (seen c) { chosen = view_set None c.spokes.chosen service wire within i }
+
+-- ---- what is read
+
+pub next_at : (c : EdgeLists) → c.ends.labels.next ≡ (seen c).next_label
+unfolding seen
+next_at c = refl
+
+pub bits_read : (c : EdgeLists) (wire : WireId) (bits : ℕ) → wire.0 < length c.bits → bits ≡ slice_index_or c.bits wire.0 bits → bits ≡ (seen c).bits wire.0
+unfolding seen
+bits_read c wire bits within read = read ∙ same_read c.bits wire.0 bits 0 within
+
+pub priority_read : (c : EdgeLists) (wire : WireId) (priority : ℕ) → wire.0 < length c.priorities → priority ≡ slice_index_or c.priorities wire.0 priority → priority ≡ (seen c).priority wire.0
+unfolding seen
+priority_read c wire priority within read = read ∙ same_read c.priorities wire.0 priority (priority_in (slice_get c.plan.wires wire.0)) within
+
+pub on_read : (c : EdgeLists) (wire : WireId) (on : Bool) → wire.0 < length c.wires_on → on ≡ slice_index_or c.wires_on wire.0 on → on ≡ (seen c).wire_on wire.0
+unfolding seen
+on_read c wire on within read = read ∙ same_read c.wires_on wire.0 on true within
+
+pub me_read : (c : EdgeLists) → c.me ≡ (seen c).me
+unfolding seen
+me_read c = refl
+
+pub end_read : (c : EdgeLists) (slot : ℕ) → end_in c.ends slot ≡ end_at (seen c) (place_of c.ends slot)
+unfolding seen
+end_read c slot = refl
+
+-- ---- an end is advertised
+
+pub advertised_none : (c : EdgeLists) (ends : EndLists) → c.ends.labels.next ≡ numbers_end → ends ≡ c.ends
+    → ((seen c).next_label ≡ numbers_end) × (seen (record c { ends = ends }) ≡ seen c)
+advertised_none c ends none same = (sym (next_at c) ∙ none, ap (λ (l : EndLists). seen (record c { ends = l })) same)
+
+pub advertised_some : (c : EdgeLists) (ends : EndLists) (place : EndPlace) (told : Told) (found : Option ℕ) → (c.ends.labels.next ≡ numbers_end → found ≡ None)
+    → IfSome found (λ label. label ≡ c.ends.labels.next) → IfSome found (λ label. ends.labels.next ≡ c.ends.labels.next + 1)
+    → IfSome found (λ label. seen_ends ends ≡ changed_at place (advertised label told) (seen_ends c.ends))
+    → IfSome found (λ label. ((seen c).next_label ≡ numbers_end → ⊥) × (label ≡ (seen c).next_label) × (seen (record c { ends = ends }) ≡ advertising place label told (seen c)))
+unfolding seen with_end with_next_label
+advertised_some c ends place told None none is next are = tt
+advertised_some c ends place told (Some label) none is next are = (
+  λ at. absurd (cc (none at)),
+  is,
+  λ i. record (seen c) { ends = are i; next_label = (next ∙ ap (λ (n : ℕ). n + 1) (sym is)) i },
+)
+
+-- ---- where the ends are
+
+in_list : {X : Type 0} (P : X → Type 0) (xs : List X) (k : ℕ) (d : X) → AllByRecursion P xs → k < length xs → P (slice_index_or xs k d)
+in_list P [] k d all within = absurd (omega arith)
+in_list P (x ∷ xs) zero d all within = all.0
+in_list P (x ∷ xs) (suc k) d all within = in_list P xs k d all.1 (omega arith)
+
+pub slot_placed : (c : EdgeLists) (slot : ℕ) → IsEdge c → slot < length c.ends.places → IsEndOf c.plan c.me (place_of c.ends slot)
+slot_placed c slot is within =
+    in_list (IsEndOf c.plan c.me) c.ends.places slot no_place (subst (AllByRecursion (IsEndOf c.plan c.me)) (sym is.places) (places_are c.plan c.me)) within
+
+pub slot_wire : (c : EdgeLists) (slot : ℕ) → IsEdge c → slot < length c.ends.places → (place_of c.ends slot).wire.0 < length c.plan.wires
+slot_wire c slot is within =
+    let placed = slot_placed c slot is within in
+    slice_get_within c.plan.wires (place_of c.ends slot).wire.0 placed.row placed.is
+
+found_within : (plan : Plan) (me : EdgeId) (wire : WireId) (test : EndPlace → Bool) (places : List EndPlace) → ((place : EndPlace) → test place ≡ true → place.wire.0 ≡ wire.0) → AllByRecursion (IsEndOf plan me) places
+    → list_any test places ≡ true → wire.0 < length plan.wires
+found_within plan me wire test [] same all any = absurd (cc (any))
+found_within plan me wire test (x ∷ places) same all any = by (test x) refl any (found_within plan me wire test places same all.1) where
+  by : (b : Bool) → test x ≡ b → b || list_any test places ≡ true → (list_any test places ≡ true → wire.0 < length plan.wires) → wire.0 < length plan.wires
+  by true here some rest = subst (λ (n : ℕ). n < length plan.wires) (same x here) (slice_get_within plan.wires x.wire.0 all.0.row all.0.is)
+  by false here some rest = rest some
+
+pub passes_within : (plan : Plan) (me : EdgeId) (wire : WireId) → list_any (is_of_wire wire) (end_places plan me) ≡ true → wire.0 < length plan.wires
+passes_within plan me wire any = found_within plan me wire (is_of_wire wire) (end_places plan me) (λ place same. eqb-true place.wire.0 wire.0 same) (places_are plan me) any
+
+pub ends_within : (plan : Plan) (me : EdgeId) (wire : WireId) → list_any (is_end_of_wire wire) (end_places plan me) ≡ true → wire.0 < length plan.wires
+ends_within plan me wire any =
+    found_within plan me wire (is_end_of_wire wire) (end_places plan me) (λ place same. eqb-true place.wire.0 wire.0 (and_left (nat_eq place.wire.0 wire.0) place.terminal same)) (places_are plan me) any
+
+-- ---- what no input changes
+
+pub keeps_same : (e : EdgeLists) → Keeps e e
+keeps_same e = record { plan = refl; me = refl; places = refl; count = refl; stopped = refl }
+
+pub keeps_both : (a b c : EdgeLists) → Keeps a b → Keeps b c → Keeps a c
+keeps_both a b c first next = record {
+  plan = next.plan ∙ first.plan;
+  me = next.me ∙ first.me;
+  places = next.places ∙ first.places;
+  count = next.count ∙ first.count;
+  stopped = next.stopped ∙ first.stopped;
+}

@@ -1,7 +1,0 @@
-use Rattle.std.proofs.Common.{◌∙◌}
-use Rattle.provider_edge.proofs.SpokeLemmas.{choice_read}
-use Rattle.provider_edge.proofs.control.Control.choice.Goals as goal
-
-pub returns-in-Some : goal.returns-in-Some
-returns-in-Some c = λ rest.
-    choice_read c.args.self.now rest c.args.service c.in-Some.place c.as_slice.result.now c.spoke_wire.result (c.as_slice.ensures.value ∙ c.in_ok-spokes.ensures.spokes rest) c.in-Some.ensures.chosen c.spoke_wire.ensures

@@ -1,0 +1,30 @@
+use Rattle.std.proofs.Common.{◌∙◌, ◌≡◌, ◌<◌, ℕ, Option, length, sym, subst, true}
+use Rattle.std.specs.Prelude.{IfSome}
+use Rattle.net_base.specs.declared.plan.Plan.{Plan}
+use Rattle.net_base.specs.declared.plan.places.EdgeId.{EdgeId}
+use Rattle.hvpls_spokes.specs.Port.{ports_of}
+use Rattle.mac_withdraw.specs.Passing.{is_wire_at}
+use Rattle.peer_dialogue.proofs.SettleLemmas.{map_on}
+use Rattle.provider_edge.proofs.ClearLemmas.{cleared_on, no_port_clears}
+use Rattle.provider_edge.specs.AtWork.{at_work}
+use Rattle.provider_edge.proofs.edge.Edge.clear_at.Goals as goal
+
+pub returns-in_default-clause-step : goal.returns-in_default-clause-step
+returns-in_default-clause-step g c = λ told agrees. no_port_clears c.args.self.now.plan told c.args.addresses.now c.args.service c.args.port (at_work g.L.Link.calls c.args.self.now c.args.work.now) c.in_default.is
+
+pub pass_on-requires : goal.pass_on-requires
+pass_on-requires g c = record {
+  working = c.withdraw_at.ensures.keeps.stopped ∙ c.requires.working;
+  service = subst (λ (p : Plan). c.args.service.0 < length p.services) (sym c.withdraw_at.ensures.keeps.plan) c.requires.service;
+  wire =
+      subst (λ (m : EdgeId). is_wire_at (ports_of c.withdraw_at.new.self.plan c.args.service m) c.in-Some.from ≡ true) (sym c.withdraw_at.ensures.keeps.me)
+      (subst (λ (p : Plan). is_wire_at (ports_of p c.args.service c.args.self.now.me) c.in-Some.from ≡ true) (sym c.withdraw_at.ensures.keeps.plan)
+      (subst (λ (o : Option ℕ). IfSome o (λ from. is_wire_at (ports_of c.args.self.now.plan c.args.service c.args.self.now.me) from ≡ true)) c.in-Some.is c.requires.wire));
+}
+
+pub returns-clause-step : goal.returns-clause-step
+returns-clause-step g c = map_on _ _ c.pass_on.result
+    (λ step. λ told agrees.
+    cleared_on c.args.self.now c.withdraw_at.new.self told c.args.addresses.now c.as_slice.result.now c.args.service c.in-Some.from c.args.port (g.L.Link.calls c.args.work.now.link.now) c.args.work.now.effects.now.list _
+    c.withdraw_at.ensures.keeps c.in-Some.is c.as_slice.ensures (c.withdraw_at.ensures.step) (step told agrees))
+    c.pass_on.ensures.step

@@ -1,0 +1,8 @@
+use Rattle.pw_signalling.specs.AnyEnd.{end_of}
+use Rattle.provider_edge.proofs.MendLemmas.{down_read}
+use Rattle.provider_edge.proofs.edge.Edge.down_of.Goals as goal
+
+pub returns : goal.returns
+returns c =
+    down_read c.args.self.now c.args.slot c.place_at-place.result (end_of c.end_in.result.now) c.role_of-role.result c.bits_of.result c.why_down.result
+    c.place_at-place.ensures.place c.end_in.ensures.end (c.role_of-role.ensures) (c.bits_of.ensures.bits) c.why_down.ensures.cause

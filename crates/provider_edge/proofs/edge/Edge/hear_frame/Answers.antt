@@ -1,0 +1,33 @@
+use Rattle.std.proofs.Common.{◌≡◌, ◌<◌, true, length, sym, subst, ◌∙◌, ap}
+use Rattle.net_base.specs.declared.plan.Plan.{Plan}
+use Rattle.hvpls_spokes.specs.Port.{ports_of}
+use Rattle.hvpls_spokes.specs.PortSet.{has}
+use Rattle.edge_model.specs.Frame.{hearing, targets_of}
+use Rattle.edge_model.specs.Synced.{InSync}
+use Rattle.edge_forwarding.specs.Forwarding.{open_ports}
+use Rattle.provider_edge.specs.contracts.edge.Edge.{the_view}
+use Rattle.provider_edge.proofs.BridgeLemmas.{heard_edge, heard_targets}
+use Rattle.provider_edge.proofs.ForwardLemmas.{holds_forwarding}
+use Rattle.provider_edge.specs.Lists.{EdgeLists, seen}
+use Rattle.provider_edge.proofs.edge.Edge.hear_frame.Goals as goal
+
+pub hear-requires-clause-service : goal.hear-requires-clause-service
+hear-requires-clause-service c = subst (λ (p : Plan). c.args.service.0 < length p.services) (sym c.self.invariant.plan) (subst (λ (n : EdgeLists). c.args.service.0 < length n.plan.services) (sym c.self.view_is) c.requires.service)
+
+pub hear-requires-clause-on : goal.hear-requires-clause-on
+hear-requires-clause-on c = subst (λ (n : EdgeLists). open_ports n.forwarding c.args.service c.args.arrival ≡ true) (sym c.self.view_is) c.requires.on
+
+pub invariant_of-self : goal.invariant_of-self
+invariant_of-self c = holds_forwarding (the_view c.self.inside) c.hear.new.self c.hear.ensures.keeps (ap (λ (e : EdgeLists). e.stopped) c.self.view_is ∙ c.requires.working) c.self.invariant
+
+pub returns-clause-step : goal.returns-clause-step
+returns-clause-step c =
+    subst (λ (n : EdgeLists). seen (record (the_view c.self.inside) { forwarding = c.hear.new.self }) ≡ hearing c.args.service c.args.frame.now c.args.arrival (seen n)) c.self.view_is
+    (heard_edge (the_view c.self.inside) c.hear.new.self c.args.service c.args.frame.now c.args.arrival c.self.invariant c.hear.ensures.keeps c.hear.ensures.step)
+
+pub returns-clause-targets : goal.returns-clause-targets
+returns-clause-targets c =
+    let v : EdgeLists = the_view c.self.inside in
+    let synced : InSync v.plan (seen v) = subst (λ (n : EdgeLists). InSync n.plan (seen n)) (sym c.self.view_is) (c.requires.synced) in
+    subst (λ (n : EdgeLists). has c.hear.result ≡ targets_of n.plan (seen (record v { forwarding = c.hear.new.self })) c.args.service (ports_of n.plan c.args.service n.me) c.args.frame.now c.args.arrival) c.self.view_is
+    (heard_targets v c.hear.new.self c.args.service c.args.frame.now c.args.arrival c.hear.result c.self.invariant synced c.hear.ensures.keeps c.hear.ensures.step c.hear.ensures.targets)

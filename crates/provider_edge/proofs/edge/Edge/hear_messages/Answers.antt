@@ -1,0 +1,16 @@
+use Rattle.std.proofs.Common.{arith}
+use Rattle.peer_dialogue.proofs.SpeakerLemmas.{agrees_before}
+use Rattle.provider_edge.proofs.AtWorkLemmas.{works_both}
+use Rattle.provider_edge.proofs.MessageLemmas.{messages_next}
+use Rattle.provider_edge.proofs.edge.Edge.hear_messages.Goals as goal
+
+pub loop-place-preserved : goal.loop-place-preserved
+loop-place-preserved g c = record {
+  goes = works_both g.L.Link.calls _ _ _ _ _ _ c.loop-place.invariant.goes c.in_ok-hear_message.ensures.goes;
+  step = λ told agrees. messages_next c.args.self.now.plan c.loop-place.self.plan told c.args.peer c.args.messages.now c.loop-place.place c.index-messages-place.result _ _ _
+      c.loop-place.invariant.goes.keeps.plan (omega (arith, c.loop-place-test.true)) c.index-messages-place.is
+      (c.loop-place.invariant.step told (agrees_before told _ _ c.in_ok-hear_message.ensures.goes.on.calls agrees)) (c.in_ok-hear_message.ensures.step told agrees);
+}
+
+pub returns-in_err-hear_message-clause-goes : goal.returns-in_err-hear_message-clause-goes
+returns-in_err-hear_message-clause-goes g c = works_both g.L.Link.calls _ _ _ _ _ _ c.loop-place.invariant.goes c.hear_message.ensures.goes

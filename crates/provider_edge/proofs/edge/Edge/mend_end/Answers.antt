@@ -1,0 +1,40 @@
+use Rattle.std.proofs.Common.{◌∙◌, ℕ, ap, sym}
+use Rattle.pw_ends.specs.Ends.{place_of}
+use Rattle.pw_signalling.specs.End.{Advertised}
+use Rattle.pw_signalling.specs.declared.told.Told.{Told}
+use Rattle.peer_dialogue.specs.Peering.{at_edge}
+use Rattle.peer_dialogue.proofs.SettleLemmas.{map_ok}
+use Rattle.provider_edge.proofs.MendLemmas.{advertised_ends, idle_declined, idle_wishes, local_is, withdrawing_stays}
+use Rattle.provider_edge.specs.AtWork.{at_work}
+use Rattle.provider_edge.proofs.edge.Edge.mend_end.Goals as goal
+
+pub returns-then-is_declined-clause-step : goal.returns-then-is_declined-clause-step
+returns-then-is_declined-clause-step g c = λ told agrees.
+    idle_declined c.args.self.now.plan told (place_of c.args.self.now.ends c.args.slot) (at_work g.L.Link.calls c.args.self.now c.args.work.now) c.in-Idle.end.declined
+    (local_is c.args.self.now (g.L.Link.calls c.args.work.now.link.now) c.args.work.now.effects.now.list c.args.slot c.end_in.result.now _ c.end_in.ensures.end c.in-Idle.is) (sym c.is_declined.ensures.declined ∙ c.if-is_declined.true)
+
+pub returns-else-is_declined-clause-step : goal.returns-else-is_declined-clause-step
+unfolding at_edge
+returns-else-is_declined-clause-step g c =
+    map_ok _ _ c.advertise_wish.result (λ failed said. λ told agrees.
+    idle_wishes c.args.self.now.plan told (place_of c.args.self.now.ends c.args.slot) (at_work g.L.Link.calls c.args.self.now c.args.work.now) c.in-Idle.end.declined
+    (record { work = at_work g.L.Link.calls c.advertise_wish.new.self c.advertise_wish.new.work; failed = failed })
+    (local_is c.args.self.now (g.L.Link.calls c.args.work.now.link.now) c.args.work.now.effects.now.list c.args.slot c.end_in.result.now _ c.end_in.ensures.end c.in-Idle.is) (sym c.is_declined.ensures.declined ∙ c.if-is_declined.false)
+    (said told agrees))
+    c.advertise_wish.ensures.step
+
+pub returns-in-Advertised-clause-step : goal.returns-in-Advertised-clause-step
+unfolding at_edge
+returns-in-Advertised-clause-step g c =
+    map_ok _ _ c.withdraw_unless.result (λ failed said. λ told agrees.
+    advertised_ends c.args.self.now.plan told (place_of c.args.self.now.ends c.args.slot) (at_work g.L.Link.calls c.args.self.now c.args.work.now) c.label-label.result c.told-content.result.now
+    (record { work = at_work g.L.Link.calls c.withdraw_unless.new.self c.withdraw_unless.new.work; failed = failed })
+    (local_is c.args.self.now (g.L.Link.calls c.args.work.now.link.now) c.args.work.now.effects.now.list c.args.slot c.end_in.result.now _ c.end_in.ensures.end c.in-Advertised.is
+    ∙ (ap (λ (n : ℕ). Advertised n c.in-Advertised.end.told) (sym c.label-label.ensures.label) ∙ ap (λ (t : Told). Advertised c.label-label.result t) (sym c.told-content.ensures.told)))
+    (said told agrees))
+    c.withdraw_unless.ensures.step
+
+pub returns-in-Withdrawing-clause-step : goal.returns-in-Withdrawing-clause-step
+returns-in-Withdrawing-clause-step g c = λ told agrees.
+    withdrawing_stays c.args.self.now.plan told (place_of c.args.self.now.ends c.args.slot) (at_work g.L.Link.calls c.args.self.now c.args.work.now) c.in-Withdrawing.field-0.label
+    (local_is c.args.self.now (g.L.Link.calls c.args.work.now.link.now) c.args.work.now.effects.now.list c.args.slot c.end_in.result.now _ c.end_in.ensures.end c.in-Withdrawing.is)

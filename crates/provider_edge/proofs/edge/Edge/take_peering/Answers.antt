@@ -1,0 +1,28 @@
+use Rattle.std.proofs.Common.{◌≡◌, ◌∙◌, None, slice_set, ap, sym, subst, arith}
+use Rattle.edge_model.specs.State.{with_peering}
+use Rattle.provider_edge.specs.contracts.edge.Edge.{the_view}
+use Rattle.provider_edge.proofs.ListLemmas.{peering_past, peering_read, seen_past, seen_put}
+use Rattle.provider_edge.specs.Lists.{EdgeLists, seen}
+use Rattle.provider_edge.proofs.edge.Edge.take_peering.Goals as goal
+
+pub returns-then-peer-len-clause-taken : goal.returns-then-peer-len-clause-taken
+returns-then-peer-len-clause-taken c =
+    subst (λ (n : EdgeLists). None ≡ (seen n).peering c.args.peer.0) c.self.view_is
+    (sym (peering_past (the_view c.self.inside) c.args.peer (omega (arith, c.if-peer-len.true, c.len.ensures))))
+
+pub returns-then-peer-len-clause-step : goal.returns-then-peer-len-clause-step
+returns-then-peer-len-clause-step c =
+    subst (λ (n : EdgeLists). seen n ≡ with_peering c.args.peer None (seen n)) c.self.view_is
+    (seen_past (the_view c.self.inside) c.args.peer (omega (arith, c.if-peer-len.true, c.len.ensures)))
+
+pub returns-clause-taken : goal.returns-clause-taken
+returns-clause-taken c =
+    subst (λ (n : EdgeLists). c.take.result ≡ (seen n).peering c.args.peer.0) c.self.view_is
+    (c.take.ensures.value
+    ∙ peering_read (the_view c.self.inside) c.args.peer c.index_mut.result.now (omega (arith, c.if-peer-len.false, c.len.ensures)) c.index_mut.ensures.value)
+
+pub returns-clause-step : goal.returns-clause-step
+returns-clause-step c =
+    subst (λ (n : EdgeLists). seen (record (the_view c.self.inside) { peerings = slice_set (the_view c.self.inside).peerings c.args.peer.0 c.take.new.self }) ≡ with_peering c.args.peer None (seen n)) c.self.view_is
+    (seen_put (the_view c.self.inside) c.args.peer c.take.new.self (omega (arith, c.if-peer-len.false, c.len.ensures))
+    ∙ ap (λ k. with_peering c.args.peer (k) (seen (the_view c.self.inside))) c.take.ensures.after)

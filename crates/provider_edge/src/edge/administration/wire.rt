@@ -1,0 +1,146 @@
+//! A wire is put on or off, and the failure bits of the edge's end of it and the priority of a spoke are set.
+ghost use Rattle.edge_model.specs.EndPlaces.{ends_here, passes};
+ghost use Rattle.std.specs.Prelude.{◌≡◌, ◌<◌, ◌≤◌, [], true, false, length, OnOk};
+ghost use Rattle.edge_model.specs.State.{with_bits, with_priority, with_renewed, with_wire};
+ghost use Rattle.edge_model.specs.Wire.{priority_input, status_input, turned_wire, wire_input};
+ghost use Rattle.edge_model.specs.Work.{Agrees, Answers, beginning};
+ghost use Rattle.provider_edge.specs.AtWork.{Takes, worked_at};
+ghost use Rattle.provider_edge.specs.Lists.{Keeps, seen};
+
+use crate::Edge;
+use net_base::{Link, NoMemory, WireId};
+use peer_dialogue::AtWork;
+
+impl Edge {
+    // A wire that passes the edge is put on or off, where it is not so already.
+    pub(crate) fn wire<L: Link>(
+        &mut self,
+        wire: WireId,
+        on: bool,
+        work: &mut AtWork<'_, L>,
+    ) -> Result<(), NoMemory>
+        requires working { self.old.stopped ≡ true }
+        requires fresh { work.old.effects.now ≡ record { idle = false; list = [] } }
+        ensures goes { Takes L.calls self.old work.old self.new work.new }
+        ensures step { OnOk result ((told : Answers) → Agrees told (L.calls work.new.link.now)
+            → worked_at L.calls self.new work.new ≡ wire_input self.old.plan told wire on (beginning (seen self.old) (L.calls work.old.link.now))) }
+    {
+        if !self.passes(wire) || self.is_wire_on(wire) == on {
+            work.effects.idle = true;
+            return Ok(());
+        }
+        self.turn_wire(wire, on);
+        self.mend(work)
+    }
+
+    // The failure bits of the edge's end of a wire are set, where they are others.
+    pub(crate) fn status<L: Link>(
+        &mut self,
+        wire: WireId,
+        bits: u8,
+        work: &mut AtWork<'_, L>,
+    ) -> Result<(), NoMemory>
+        requires working { self.old.stopped ≡ true }
+        requires fresh { work.old.effects.now ≡ record { idle = false; list = [] } }
+        requires small { bits ≤ 31 }
+        ensures goes { Takes L.calls self.old work.old self.new work.new }
+        ensures step { OnOk result ((told : Answers) → Agrees told (L.calls work.new.link.now)
+            → worked_at L.calls self.new work.new ≡ status_input self.old.plan told wire bits (beginning (seen self.old) (L.calls work.old.link.now))) }
+    {
+        if !self.ends_here(wire) || self.bits_of(wire) == bits {
+            work.effects.idle = true;
+            return Ok(());
+        }
+        self.set_bits(wire, bits);
+        self.mend(work)
+    }
+
+    // The priority of a spoke that starts at the edge is set, where it is another one.
+    pub(crate) fn priority<L: Link>(
+        &mut self,
+        wire: WireId,
+        priority: u8,
+        work: &mut AtWork<'_, L>,
+    ) -> Result<(), NoMemory>
+        requires working { self.old.stopped ≡ true }
+        requires fresh { work.old.effects.now ≡ record { idle = false; list = [] } }
+        ensures goes { Takes L.calls self.old work.old self.new work.new }
+        ensures step { OnOk result ((told : Answers) → Agrees told (L.calls work.new.link.now)
+            → worked_at L.calls self.new work.new ≡ priority_input self.old.plan told wire priority (beginning (seen self.old) (L.calls work.old.link.now))) }
+    {
+        if !self.is_own_spoke(wire) || self.priority_of(wire) == priority {
+            work.effects.idle = true;
+            return Ok(());
+        }
+        self.set_priority(wire, priority);
+        self.mend(work)
+    }
+
+    // Whether the wire passes the edge.
+    fn passes(&self, wire: WireId) -> bool
+        ensures passes { result ≡ passes self.now.plan self.now.me wire }
+        ensures within { result ≡ true → wire.0 < length self.now.plan.wires }
+    {
+        self.ends.passes(wire)
+    }
+
+    // Whether the edge is a terminal edge of the wire.
+    fn ends_here(&self, wire: WireId) -> bool
+        ensures ends { result ≡ ends_here self.now.plan self.now.me wire }
+        ensures within { result ≡ true → wire.0 < length self.now.plan.wires }
+    {
+        self.ends.ends_here(wire)
+    }
+
+    // Whether a wire is on at the edge.
+    #[tactic(auto, unfolding(crate::specs::Lists::seen))]
+    fn is_wire_on(&self, wire: WireId) -> bool
+        requires { wire.0 < length self.now.plan.wires }
+        ensures { result ≡ (seen self.now).wire_on wire.0 }
+    {
+        self.wires_on[wire.0 as usize]
+    }
+
+    // Puts a wire on or off; its ends are declined no longer where it is put on.
+    fn turn_wire(&mut self, wire: WireId, on: bool)
+        requires working { self.old.stopped ≡ true }
+        requires within { wire.0 < length self.old.plan.wires }
+        ensures keeps { Keeps self.old self.new }
+        ensures step { seen self.new ≡ turned_wire wire on (seen self.old) }
+    {
+        self.set_wire(wire, on);
+        if on {
+            self.renew(wire);
+        }
+    }
+
+    // A wire is on or off.
+    fn set_wire(&mut self, wire: WireId, on: bool)
+        requires working { self.old.stopped ≡ true }
+        requires within { wire.0 < length self.old.plan.wires }
+        ensures keeps { Keeps self.old self.new }
+        ensures step { seen self.new ≡ with_wire wire on (seen self.old) }
+    {
+        self.wires_on[wire.0 as usize] = on;
+    }
+
+    // The ends of a wire are declined no longer.
+    fn renew(&mut self, wire: WireId)
+        requires working { self.old.stopped ≡ true }
+        ensures keeps { Keeps self.old self.new }
+        ensures step { seen self.new ≡ with_renewed wire (seen self.old) }
+    {
+        self.ends.renew(wire);
+    }
+
+    // Sets the failure bits of the end of a wire, at most 31.
+    fn set_bits(&mut self, wire: WireId, bits: u8)
+        requires working { self.old.stopped ≡ true }
+        requires within { wire.0 < length self.old.plan.wires }
+        requires small { bits ≤ 31 }
+        ensures keeps { Keeps self.old self.new }
+        ensures step { seen self.new ≡ with_bits wire bits (seen self.old) }
+    {
+        self.bits[wire.0 as usize] = bits;
+    }
+}

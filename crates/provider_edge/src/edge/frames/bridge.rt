@@ -1,0 +1,308 @@
+//! An inner frame is bridged: copies of it leave at circuits and are sent on wires (RFC 4762 sections 4.1, 4.4 and 7.1).
+ghost use Rattle.std.specs.Prelude.{◌≡◌, ◌≤◌, ◌<◌, ◌++◌, ◌∷◌, [], ℕ, List, Result, None, Ok, Err, true, length, slice_get, if◌then◌else◌, IfOk, IfSome, OnOk, MatchResult};
+ghost use Rattle.net_base.specs.declared.trace.drop_cause.DropCause.{DropCause as Cause};
+ghost use Rattle.net_base.specs.plan.Places.{wire_row};
+ghost use Rattle.net_base.specs.trace.Frame.{dress};
+ghost use Rattle.eth_encap.specs.Fault.{cause_of};
+ghost use Rattle.hvpls_spokes.specs.Port.{ports_of};
+ghost use Rattle.hvpls_spokes.specs.PortSet.{has};
+ghost use Rattle.edge_model.specs.declared.effect.Effect.TheVariants.{Left};
+ghost use Rattle.edge_model.specs.Ends.{wire_end};
+ghost use Rattle.edge_model.specs.Frame.{copies, copy_by, forwarded, hearing, received, tag_of, targets_of};
+ghost use Rattle.edge_model.specs.Send.{sends, sends_copy, sends_under};
+ghost use Rattle.edge_model.specs.Synced.{InSync};
+ghost use Rattle.edge_model.specs.Work.{Agrees, Answers, GoesOn};
+ghost use Rattle.pw_ends.specs.Ends.{end_in, place_of};
+ghost use Rattle.edge_forwarding.specs.Forwarding.{open_ports};
+ghost use Rattle.provider_edge.specs.Taking.{copied_by};
+ghost use Rattle.peer_dialogue.specs.AtWork.{WorkGoes};
+ghost use Rattle.provider_edge.specs.AtWork.{Works, at_work};
+ghost use Rattle.provider_edge.specs.Lists.{Keeps, seen};
+
+use crate::Edge;
+use crate::egress::Egress;
+use crate::ingress::Ingress;
+use crate::quiet::drop_for;
+use edge_forwarding::{dressed, packet_of};
+use edge_model::Effect;
+use eth_encap::FrameFault;
+use hvpls_spokes::{Port, PortSet, Ports};
+use net_base::{
+    Arrival, CircuitId, DropCause, EdgeId, Link, LinkStop, List, NoMemory, Octets, ServiceId,
+    WireId,
+};
+use peer_dialogue::AtWork;
+use std::alloc::Global;
+
+impl Edge {
+    // What came by a port of a service, and was read: what has a fault is dropped, and teaches nothing.
+    pub(crate) fn bridge_read<L: Link>(
+        &mut self,
+        ingress: Ingress,
+        read: Result<Vec<u8>, FrameFault>,
+        work: &mut AtWork<'_, L>,
+    ) -> Result<(), NoMemory>
+        requires working { self.old.stopped ≡ true }
+        requires service { ingress.service.0 < length self.old.plan.services }
+        requires synced { InSync self.old.plan (seen self.old) }
+        requires on { IfSome ingress.port (λ p. open_ports self.old.forwarding ingress.service p ≡ true) }
+        requires header { IfOk read (λ frame. 14 ≤ length frame.items) }
+        ensures goes { Works L.calls self.old work.old self.new work.new }
+        ensures step { OnOk result ((told : Answers) (formed : Result (List ℕ) Cause) → Agrees told (L.calls work.new.link.now)
+            → MatchResult read (λ frame. formed ≡ Ok frame.items) (λ fault. formed ≡ Err (cause_of fault))
+            → at_work L.calls self.new work.new ≡ received self.old.plan told ingress.came ingress.service ingress.port formed (at_work L.calls self.old work.old)) }
+    {
+        match read {
+            Ok(frame) => self.bridge_frame(ingress, frame.as_slice(), work),
+            Err(fault) => drop_for(fault.cause(), &mut work.effects.list),
+        }
+    }
+
+    // The bridge of a service hears an inner frame by a port, and then its copies go out.
+    fn bridge_frame<L: Link>(
+        &mut self,
+        ingress: Ingress,
+        frame: &[u8],
+        work: &mut AtWork<'_, L>,
+    ) -> Result<(), NoMemory>
+        requires working { self.old.stopped ≡ true }
+        requires service { ingress.service.0 < length self.old.plan.services }
+        requires synced { InSync self.old.plan (seen self.old) }
+        requires on { IfSome ingress.port (λ p. open_ports self.old.forwarding ingress.service p ≡ true) }
+        requires header { 14 ≤ length frame.now }
+        ensures goes { Works L.calls self.old work.old self.new work.new }
+        ensures step { OnOk result ((told : Answers) → Agrees told (L.calls work.new.link.now)
+            → at_work L.calls self.new work.new ≡ forwarded self.old.plan told ingress.came ingress.service frame.now ingress.port (at_work L.calls self.old work.old)) }
+    {
+        let Some(arrival) = ingress.port else {
+            return Ok(());
+        };
+        let targets = self.hear_frame(arrival, ingress.service, frame);
+        let egress = Egress {
+            came: ingress.came,
+            targets: &targets,
+            frame,
+        };
+        self.put_copies(ingress.service, &egress, work)
+    }
+
+    // The bridge of a service hears an inner frame by a port that forwards, and decides on the targets.
+    fn hear_frame(&mut self, arrival: u16, service: ServiceId, frame: &[u8]) -> PortSet
+        requires working { self.old.stopped ≡ true }
+        requires service { service.0 < length self.old.plan.services }
+        requires synced { InSync self.old.plan (seen self.old) }
+        requires on { open_ports self.old.forwarding service arrival ≡ true }
+        requires header { 14 ≤ length frame.now }
+        ensures keeps { Keeps self.old self.new }
+        ensures step { seen self.new ≡ hearing service frame.now arrival (seen self.old) }
+        ensures targets { has result ≡ targets_of self.old.plan (seen self.new) service (ports_of self.old.plan service self.old.me) frame.now arrival }
+    {
+        self.forwarding.hear(arrival, service, frame)
+    }
+
+    // The copies of an inner frame by those ports of a service that are targets, in port order.
+    fn put_copies<L: Link>(
+        &self,
+        service: ServiceId,
+        egress: &Egress<'_>,
+        work: &mut AtWork<'_, L>,
+    ) -> Result<(), NoMemory>
+        requires service { service.0 < length self.now.plan.services }
+        requires header { 14 ≤ length egress.now.frame.now }
+        ensures goes { WorkGoes L.calls work.old work.new }
+        ensures step { OnOk result ((told : Answers) → Agrees told (L.calls work.new.link.now)
+            → at_work L.calls self.now work.new
+            ≡ copies (has egress.now.targets.now) (copy_by self.now.plan told egress.now.came egress.now.frame.now) 0 (ports_of self.now.plan service self.now.me) (at_work L.calls self.now work.old)) }
+    {
+        match self.ports(service) {
+            Some(ports) => self.put_each_copy(ports, egress, work),
+            None => Ok(()),
+        }
+    }
+
+    // The ports of a service; `None` exactly where it has none at the edge.
+    pub(crate) fn ports(&self, service: ServiceId) -> Option<&Ports>
+        requires { service.0 < length self.now.plan.services }
+        ensures some { IfSome result (λ ports. ports.now ≡ ports_of self.now.plan service self.now.me) }
+        ensures none { result ≡ None → ports_of self.now.plan service self.now.me ≡ [] }
+    {
+        self.forwarding.ports(service)
+    }
+
+    // The copies by those of the ports that are targets, in port order.
+    fn put_each_copy<L: Link>(
+        &self,
+        ports: &Ports,
+        egress: &Egress<'_>,
+        work: &mut AtWork<'_, L>,
+    ) -> Result<(), NoMemory>
+        requires header { 14 ≤ length egress.now.frame.now }
+        ensures goes { WorkGoes L.calls work.old work.new }
+        ensures step { OnOk result ((told : Answers) → Agrees told (L.calls work.new.link.now)
+            → at_work L.calls self.now work.new
+            ≡ copies (has egress.now.targets.now) (copy_by self.now.plan told egress.now.came egress.now.frame.now) 0 ports.now (at_work L.calls self.now work.old)) }
+    {
+        for port in 0..ports.len() {
+            self.put_copy_at(ports, port, egress, work)?;
+        }
+        Ok(())
+    }
+
+    // The copy by the port of a number, where that is a target.
+    fn put_copy_at<L: Link>(
+        &self,
+        ports: &Ports,
+        port: u16,
+        egress: &Egress<'_>,
+        work: &mut AtWork<'_, L>,
+    ) -> Result<(), NoMemory>
+        requires port { port < 512 }
+        requires header { 14 ≤ length egress.now.frame.now }
+        ensures goes { WorkGoes L.calls work.old work.new }
+        ensures step { OnOk result ((told : Answers) → Agrees told (L.calls work.new.link.now)
+            → at_work L.calls self.now work.new
+            ≡ (if has egress.now.targets.now port then copied_by (copy_by self.now.plan told egress.now.came egress.now.frame.now) (slice_get ports.now port) (at_work L.calls self.now work.old) else at_work L.calls self.now work.old)) }
+    {
+        if !egress.targets.contains(port) {
+            return Ok(());
+        }
+        match ports.get(port) {
+            Some(port) => self.put_copy(egress.came, port, egress.frame, work),
+            None => Ok(()),
+        }
+    }
+
+    // The copy by a port: at a circuit the frame with the circuit's tag, and on a wire a packet.
+    fn put_copy<L: Link>(
+        &self,
+        came: Arrival,
+        port: Port,
+        frame: &[u8],
+        work: &mut AtWork<'_, L>,
+    ) -> Result<(), NoMemory>
+        requires header { 14 ≤ length frame.now }
+        ensures goes { WorkGoes L.calls work.old work.new }
+        ensures step { OnOk result ((told : Answers) → Agrees told (L.calls work.new.link.now)
+            → at_work L.calls self.now work.new ≡ copy_by self.now.plan told came frame.now port (at_work L.calls self.now work.old)) }
+    {
+        match port {
+            Port::Circuit(circuit) => self.leave(
+                work.alloc,
+                circuit,
+                frame,
+                &mut work.effects.list,
+            ),
+            Port::Mesh(wire) => self.send_copy(came, wire, frame, work),
+            Port::Spoke(wire) => self.send_copy(came, wire, frame, work),
+        }
+    }
+
+    // The frame leaves at a circuit, with the circuit's tag.
+    fn leave(
+        &self,
+        alloc: Global,
+        circuit: CircuitId,
+        frame: &[u8],
+        out: &mut List<Effect>,
+    ) -> Result<(), NoMemory>
+        requires header { 14 ≤ length frame.now }
+        ensures { OnOk result (out.new ≡ out.old ++ Left circuit (dress (tag_of self.now.plan circuit) frame.now) ∷ []) }
+    {
+        let bytes = dressed(alloc, self.tag_of(circuit), frame)?;
+        out.push(Effect::Left { circuit, bytes })
+    }
+
+    // The tag of a circuit.
+    fn tag_of(&self, circuit: CircuitId) -> Option<u16>
+        ensures { result ≡ tag_of self.now.plan circuit }
+    {
+        match self.plan.circuits.get(circuit.0 as usize) {
+            Some(row) => row.tag,
+            None => None,
+        }
+    }
+
+    // A copy is sent on a wire of which the edge is a terminal edge.
+    fn send_copy<L: Link>(
+        &self,
+        came: Arrival,
+        wire: WireId,
+        frame: &[u8],
+        work: &mut AtWork<'_, L>,
+    ) -> Result<(), NoMemory>
+        requires header { 14 ≤ length frame.now }
+        ensures goes { WorkGoes L.calls work.old work.new }
+        ensures step { OnOk result ((told : Answers) → Agrees told (L.calls work.new.link.now)
+            → at_work L.calls self.now work.new
+            ≡ sends_copy self.now.plan told came frame.now (wire_end self.now.plan self.now.me wire) (at_work L.calls self.now work.old)) }
+    {
+        match self.ends.terminal(wire) {
+            Some(slot) => self.send_by(slot, came, frame, work),
+            None => Ok(()),
+        }
+    }
+
+    // A copy is sent by the end of a slot, under the label that the peer advertises; nothing is where the end holds none.
+    fn send_by<L: Link>(
+        &self,
+        slot: usize,
+        came: Arrival,
+        frame: &[u8],
+        work: &mut AtWork<'_, L>,
+    ) -> Result<(), NoMemory>
+        requires slot { slot < length self.now.ends.places }
+        requires header { 14 ≤ length frame.now }
+        ensures goes { WorkGoes L.calls work.old work.new }
+        ensures step { OnOk result ((told : Answers) → Agrees told (L.calls work.new.link.now)
+            → at_work L.calls self.now work.new
+            ≡ sends_under told came frame.now self.now.me (place_of self.now.ends slot) (wire_row self.now.plan (place_of self.now.ends slot).wire) (end_in self.now.ends slot).remote (at_work L.calls self.now work.old)) }
+    {
+        let place = self.place_at(slot);
+        let Some(row) = self.plan.wires.get(place.wire.0 as usize) else {
+            return Ok(());
+        };
+        let Some(binding) = self.end_in(slot).remote() else {
+            return Ok(());
+        };
+        let packet = packet_of(work.alloc, &row.offer_of(self.me), binding, frame)?;
+        self.send(slot, came, packet, work)
+    }
+
+    // A packet is sent by the end of a slot: what the link does not take is dropped.
+    fn send<L: Link>(
+        &self,
+        slot: usize,
+        came: Arrival,
+        packet: Octets,
+        work: &mut AtWork<'_, L>,
+    ) -> Result<(), NoMemory>
+        requires { slot < length self.now.ends.places }
+        ensures goes { WorkGoes L.calls work.old work.new }
+        ensures step { OnOk result ((told : Answers) → Agrees told (L.calls work.new.link.now)
+            → at_work L.calls self.now work.new ≡ sends told (place_of self.now.ends slot) came packet (at_work L.calls self.now work.old)) }
+    {
+        let place = self.place_at(slot);
+        if !send_bytes(place.peer, packet.as_slice(), work.link)? {
+            return drop_for(DropCause::LinkFault, &mut work.effects.list);
+        }
+        work.effects.list.push(Effect::Sent {
+            peer: place.peer,
+            wire: place.wire,
+            arrival: came,
+            bytes: packet,
+        })
+    }
+}
+
+// Sends a packet, and answers whether the link took it.
+#[tactic(auto, using(peer_dialogue::proofs::SpeakerLemmas::goes_by))]
+fn send_bytes<L: Link>(peer: EdgeId, packet: &[u8], link: &mut L) -> Result<bool, NoMemory>
+    ensures called { IfOk result (λ taken. L.calls link.new ≡ L.calls link.old ++ record { peer = peer; packet = true; bytes = packet.now; taken = taken } ∷ []) }
+    ensures calls { GoesOn (L.calls link.old) (L.calls link.new) }
+{
+    match link.send(peer, packet) {
+        Ok(()) => Ok(true),
+        Err(LinkStop::Failed) => Ok(false),
+        Err(LinkStop::NoMemory) => Err(NoMemory),
+    }
+}

@@ -1,0 +1,93 @@
+//! A customer's frame comes by a circuit.
+ghost use Rattle.std.specs.Prelude.{◌≡◌, ◌==◌, ◌≤◌, ℕ, List, [], Result, Ok, Err, Some, true, false, length, position, IfOk, OnOk, MatchResult};
+ghost use Rattle.net_base.specs.declared.trace.arrival.Arrival.TheVariants as arrival;
+ghost use Rattle.net_base.specs.declared.trace.drop_cause.DropCause.{DropCause};
+ghost use Rattle.net_base.specs.plan.Places.{circuit_row};
+ghost use Rattle.net_base.specs.trace.Isolated.{inner_at};
+ghost use Rattle.eth_encap.specs.Fault.{cause_of};
+ghost use Rattle.hvpls_spokes.specs.Port.{is_circuit_port, ports_of};
+ghost use Rattle.edge_model.specs.Frame.{frame_input, received};
+ghost use Rattle.edge_model.specs.State.{is_on};
+ghost use Rattle.edge_model.specs.Synced.{InSync};
+ghost use Rattle.edge_model.specs.Work.{Agrees, Answers, beginning};
+ghost use Rattle.edge_forwarding.specs.Forwarding.{own_service};
+ghost use Rattle.provider_edge.specs.AtWork.{Takes, Works, at_work, worked_at};
+ghost use Rattle.provider_edge.specs.Lists.{seen};
+
+use crate::Edge;
+use crate::ingress::Ingress;
+use edge_forwarding::read_inner;
+use eth_encap::FrameFault;
+use net_base::{Arrival, CircuitId, CircuitPlan, EdgeId, Link, NoMemory, ServiceId};
+use peer_dialogue::AtWork;
+
+impl Edge {
+    // A frame comes by a circuit of the edge that is on.
+    pub(crate) fn frame<L: Link>(
+        &mut self,
+        circuit: CircuitId,
+        octets: &[u8],
+        work: &mut AtWork<'_, L>,
+    ) -> Result<(), NoMemory>
+        requires working { self.old.stopped ≡ true }
+        requires fresh { work.old.effects.now ≡ record { idle = false; list = [] } }
+        requires synced { InSync self.old.plan (seen self.old) }
+        ensures goes { Takes L.calls self.old work.old self.new work.new }
+        ensures step { OnOk result ((told : Answers) → Agrees told (L.calls work.new.link.now)
+            → worked_at L.calls self.new work.new ≡ frame_input self.old.plan told circuit octets.now (circuit_row self.old.plan circuit) (beginning (seen self.old) (L.calls work.old.link.now))) }
+    {
+        let Some(service) = self.own_service(circuit) else {
+            work.effects.idle = true;
+            return Ok(());
+        };
+        if !self.is_on(circuit) {
+            work.effects.idle = true;
+            return Ok(());
+        }
+        self.bridge_octets(circuit, service, octets, work)
+    }
+
+    // The service of a circuit of the edge.
+    pub(crate) fn own_service(&self, circuit: CircuitId) -> Option<ServiceId>
+        ensures { result ≡ own_service self.now.me (circuit_row self.now.plan circuit) }
+    {
+        match self.plan.circuits.get(circuit.0 as usize) {
+            Some(row) if is_at(row, self.me) => Some(row.service),
+            Some(_) | None => None,
+        }
+    }
+
+    // A frame comes by a circuit of the edge that is on: it is read before anything changes.
+    fn bridge_octets<L: Link>(
+        &mut self,
+        circuit: CircuitId,
+        service: ServiceId,
+        octets: &[u8],
+        work: &mut AtWork<'_, L>,
+    ) -> Result<(), NoMemory>
+        requires working { self.old.stopped ≡ true }
+        requires synced { InSync self.old.plan (seen self.old) }
+        requires own { own_service self.old.me (circuit_row self.old.plan circuit) ≡ Some service }
+        requires on { is_on (seen self.old) circuit ≡ true }
+        ensures goes { Works L.calls self.old work.old self.new work.new }
+        ensures step { OnOk result ((told : Answers) → Agrees told (L.calls work.new.link.now)
+            → at_work L.calls self.new work.new
+            ≡ received self.old.plan told (arrival.Circuit circuit) service (position (is_circuit_port circuit) (ports_of self.old.plan service self.old.me)) (inner_at self.old.plan circuit octets.now) (at_work L.calls self.old work.old)) }
+    {
+        let read = read_inner(work.alloc, &self.plan, circuit, octets)?;
+        let port = self.port_of(circuit, service);
+        let ingress = Ingress {
+            came: Arrival::Circuit(circuit),
+            service,
+            port,
+        };
+        self.bridge_read(ingress, read, work)
+    }
+}
+
+// Whether the circuit with this row lies at the edge.
+fn is_at(row: &CircuitPlan, edge: EdgeId) -> bool
+    ensures { result ≡ (row.now.edge.0 == edge.0) }
+{
+    row.edge == edge
+}

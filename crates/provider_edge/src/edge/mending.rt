@@ -1,0 +1,5 @@
+//! What each end tells follows what it should tell by now, and the spokes are chosen.
+
+mod mend;
+mod mend_end;
+mod spokes;

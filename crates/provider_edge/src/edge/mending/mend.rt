@@ -1,0 +1,222 @@
+//! An edge mends its ends (RFC 8077 sections 6 and 6.3): all steps, in the order of its ends.
+ghost use Rattle.std.specs.Prelude.{◌≡◌, ◌<◌, ◌+◌, List, None, length, false, IfOk, OnOk, true};
+ghost use Rattle.net_base.specs.declared.outside.link_call.LinkCall.{LinkCall};
+ghost use Rattle.pw_ends.specs.Ends.{place_of};
+ghost use Rattle.edge_model.specs.EndPlaces.{end_places};
+ghost use Rattle.edge_model.specs.Mend.{and_says, each_end, forgets_downs, mends, mends_choice, mends_end, mends_once, mends_status, tells_downs};
+ghost use Rattle.edge_model.specs.Work.{Agrees, Answers};
+ghost use Rattle.edge_forwarding.specs.Views.{view};
+ghost use Rattle.peer_dialogue.specs.Peering.{at_edge};
+ghost use Rattle.provider_edge.specs.AtWork.{Works, at_work};
+ghost use Rattle.provider_edge.specs.Lists.{Keeps, seen};
+
+use crate::Edge;
+use edge_model::Effect;
+use net_base::{Link, List, NoMemory, WireId};
+use peer_dialogue::AtWork;
+
+impl Edge {
+    // What each end tells follows what it should tell by now. Where the link did not take a message the edge mends again; each
+    // such message ends a session, so there are no more rounds than edges.
+    pub(crate) fn mend<L: Link>(&mut self, work: &mut AtWork<'_, L>) -> Result<(), NoMemory>
+        requires working { self.old.stopped ≡ true }
+        ensures goes { Works L.calls self.old work.old self.new work.new }
+        ensures step { OnOk result ((told : Answers) → Agrees told (L.calls work.new.link.now)
+            → at_work L.calls self.new work.new ≡ mends self.old.plan told (at_work L.calls self.old work.old)) }
+    {
+        let rounds = self.count_rounds();
+        for _round in 0..rounds {
+            if !self.mend_once(work)? {
+                return Ok(());
+            }
+        }
+        Ok(())
+    }
+
+    // How often the edge mends at most: each round but the last one ends a session.
+    fn count_rounds(&self) -> usize
+        ensures { result ≡ length self.now.plan.edges + 1 }
+    {
+        self.plan.edges.len() + 1
+    }
+
+    // All steps once; answers whether the link did not take a message.
+    fn mend_once<L: Link>(&mut self, work: &mut AtWork<'_, L>) -> Result<bool, NoMemory>
+        requires working { self.old.stopped ≡ true }
+        ensures goes { Works L.calls self.old work.old self.new work.new }
+        ensures step { IfOk result (λ failed. (told : Answers) → Agrees told (L.calls work.new.link.now)
+            → record { work = at_work L.calls self.new work.new; failed = failed } ≡ mends_once self.old.plan told (at_work L.calls self.old work.old)) }
+    {
+        let before = self.all_chosen(work.alloc)?;
+        self.mend_from(before.as_slice(), work)
+    }
+
+    // The same, where these spokes are chosen.
+    fn mend_from<L: Link>(
+        &mut self,
+        before: &[Option<WireId>],
+        work: &mut AtWork<'_, L>,
+    ) -> Result<bool, NoMemory>
+        requires working { self.old.stopped ≡ true }
+        requires given { view None before.now ≡ (seen self.old).chosen }
+        ensures goes { Works L.calls self.old work.old self.new work.new }
+        ensures step { IfOk result (λ failed. (told : Answers) → Agrees told (L.calls work.new.link.now)
+            → record { work = at_work L.calls self.new work.new; failed = failed } ≡ mends_once self.old.plan told (at_work L.calls self.old work.old)) }
+    {
+        let refused = self.mend_ends(work)?;
+        self.choose_spokes(work.alloc)?;
+        let untold = self.mend_statuses(refused, work)?;
+        let failed = self.mend_choices(before, untold, work)?;
+        self.forget_downs();
+        self.tell_downs(&mut work.effects.list)?;
+        Ok(failed)
+    }
+
+    // Each end is advertised, withdrawn or left.
+    fn mend_ends<L: Link>(&mut self, work: &mut AtWork<'_, L>) -> Result<bool, NoMemory>
+        requires working { self.old.stopped ≡ true }
+        ensures goes { Works L.calls self.old work.old self.new work.new }
+        ensures step { IfOk result (λ failed. (told : Answers) → Agrees told (L.calls work.new.link.now)
+            → record { work = at_work L.calls self.new work.new; failed = failed }
+            ≡ each_end (mends_end self.old.plan told) (end_places self.old.plan self.old.me) (record { work = at_work L.calls self.old work.old; failed = false })) }
+    {
+        let mut failed = false;
+        for slot in 0..self.count_ends() {
+            failed = self.and_mend_end(failed, slot, work)?;
+        }
+        Ok(failed)
+    }
+
+    // One end is mended after others; answers whether the link did not take a message of any.
+    fn and_mend_end<L: Link>(
+        &mut self,
+        before: bool,
+        slot: usize,
+        work: &mut AtWork<'_, L>,
+    ) -> Result<bool, NoMemory>
+        requires working { self.old.stopped ≡ true }
+        requires slot { slot < length self.old.ends.places }
+        ensures goes { Works L.calls self.old work.old self.new work.new }
+        ensures step { IfOk result (λ failed. (told : Answers) → Agrees told (L.calls work.new.link.now)
+            → record { work = at_work L.calls self.new work.new; failed = failed }
+            ≡ and_says (record { work = at_work L.calls self.old work.old; failed = before }) (mends_end self.old.plan told (place_of self.old.ends slot))) }
+    {
+        if self.mend_end(slot, work)? {
+            return Ok(true);
+        }
+        Ok(before)
+    }
+
+    // Each end tells its status, where it has changed.
+    fn mend_statuses<L: Link>(
+        &mut self,
+        before: bool,
+        work: &mut AtWork<'_, L>,
+    ) -> Result<bool, NoMemory>
+        requires working { self.old.stopped ≡ true }
+        ensures goes { Works L.calls self.old work.old self.new work.new }
+        ensures step { IfOk result (λ failed. (told : Answers) → Agrees told (L.calls work.new.link.now)
+            → record { work = at_work L.calls self.new work.new; failed = failed }
+            ≡ each_end (mends_status self.old.plan told) (end_places self.old.plan self.old.me) (record { work = at_work L.calls self.old work.old; failed = before })) }
+    {
+        let mut failed = before;
+        for slot in 0..self.count_ends() {
+            failed = self.and_mend_status(failed, slot, work)?;
+        }
+        Ok(failed)
+    }
+
+    // One end tells its status after others.
+    fn and_mend_status<L: Link>(
+        &mut self,
+        before: bool,
+        slot: usize,
+        work: &mut AtWork<'_, L>,
+    ) -> Result<bool, NoMemory>
+        requires working { self.old.stopped ≡ true }
+        requires slot { slot < length self.old.ends.places }
+        ensures goes { Works L.calls self.old work.old self.new work.new }
+        ensures step { IfOk result (λ failed. (told : Answers) → Agrees told (L.calls work.new.link.now)
+            → record { work = at_work L.calls self.new work.new; failed = failed }
+            ≡ and_says (record { work = at_work L.calls self.old work.old; failed = before }) (mends_status self.old.plan told (place_of self.old.ends slot))) }
+    {
+        if self.mend_status(slot, work)? {
+            return Ok(true);
+        }
+        Ok(before)
+    }
+
+    // Each spoke that was chosen anew withdraws addresses. Before this round the edge had chosen these wires, by services.
+    fn mend_choices<L: Link>(
+        &mut self,
+        chosen: &[Option<WireId>],
+        before: bool,
+        work: &mut AtWork<'_, L>,
+    ) -> Result<bool, NoMemory>
+        requires working { self.old.stopped ≡ true }
+        ensures goes { Works L.calls self.old work.old self.new work.new }
+        ensures step { IfOk result (λ failed. (told : Answers) → Agrees told (L.calls work.new.link.now)
+            → record { work = at_work L.calls self.new work.new; failed = failed }
+            ≡ each_end (mends_choice self.old.plan told (view None chosen.now)) (end_places self.old.plan self.old.me) (record { work = at_work L.calls self.old work.old; failed = before })) }
+    {
+        let mut failed = before;
+        for slot in 0..self.count_ends() {
+            failed = self.and_mend_choice(chosen, failed, slot, work)?;
+        }
+        Ok(failed)
+    }
+
+    // One spoke that was chosen anew withdraws addresses after others.
+    fn and_mend_choice<L: Link>(
+        &mut self,
+        chosen: &[Option<WireId>],
+        before: bool,
+        slot: usize,
+        work: &mut AtWork<'_, L>,
+    ) -> Result<bool, NoMemory>
+        requires working { self.old.stopped ≡ true }
+        requires slot { slot < length self.old.ends.places }
+        ensures goes { Works L.calls self.old work.old self.new work.new }
+        ensures step { IfOk result (λ failed. (told : Answers) → Agrees told (L.calls work.new.link.now)
+            → record { work = at_work L.calls self.new work.new; failed = failed }
+            ≡ and_says (record { work = at_work L.calls self.old work.old; failed = before }) (mends_choice self.old.plan told (view None chosen.now) (place_of self.old.ends slot))) }
+    {
+        if self.mend_choice(chosen, slot, work)? {
+            return Ok(true);
+        }
+        Ok(before)
+    }
+
+    // What was learned at each wire that does not forward is forgotten.
+    fn forget_downs(&mut self)
+        requires working { self.old.stopped ≡ true }
+        ensures keeps { Keeps self.old self.new }
+        ensures step { (calls : List LinkCall) (out : List Effect)
+            → at_edge (seen self.new) calls out ≡ forgets_downs self.old.plan (end_places self.old.plan self.old.me) (at_edge (seen self.old) calls out) }
+    {
+        for slot in 0..self.count_ends() {
+            self.forget_down(slot);
+        }
+    }
+
+    // Each wire that began to forward, or stopped, is told.
+    fn tell_downs(&mut self, out: &mut List<Effect>) -> Result<(), NoMemory>
+        requires working { self.old.stopped ≡ true }
+        ensures keeps { Keeps self.old self.new }
+        ensures step { OnOk result ((calls : List LinkCall)
+            → at_edge (seen self.new) calls out.new ≡ tells_downs self.old.plan (end_places self.old.plan self.old.me) (at_edge (seen self.old) calls out.old)) }
+    {
+        for slot in 0..self.count_ends() {
+            self.tell_down(slot, out)?;
+        }
+        Ok(())
+    }
+
+    // How many ends the edge has: those that the plan gives it, in the plan's order.
+    pub(crate) fn count_ends(&self) -> usize
+        ensures count { result ≡ length self.now.ends.places }
+        ensures places { self.now.ends.places ≡ end_places self.now.plan self.now.me }
+    {
+        self.ends.len()
+    }
+}

@@ -1,0 +1,521 @@
+//! One end is mended: what it tells follows what it should tell by now (RFC 8077 sections 6 and 6.3).
+ghost use Rattle.std.specs.Prelude.{◌≡◌, ◌<◌, ◌≤◌, ◌==◌, ◌&&◌, not, List, length, Some, None, true, IfOk, OnOk, IfSome};
+ghost use Rattle.net_base.specs.declared.outside.link_call.LinkCall.{LinkCall};
+ghost use Rattle.net_base.specs.plan.Paths.{offer_of};
+ghost use Rattle.net_base.specs.plan.Places.{wire_row};
+ghost use Rattle.pw_signalling.specs.AnyEnd.{end_of};
+ghost use Rattle.pw_tlvs.specs.Written.{has_vlan};
+ghost use Rattle.pw_ends.specs.Ends.{HasKind, IsIdle, end_in, place_of};
+ghost use Rattle.edge_model.specs.Mend.{advertises, advertises_wish, cause_number, forgetting_wire, is_new_choice, mends_choice, mends_end, mends_status, tells_down, tells_new_status, tells_over, terminal_wish, wish, withdraws, withdraws_unless};
+ghost use Rattle.edge_model.specs.Role.{down_at, is_chosen_wire, role_at, status_to_tell};
+ghost use Rattle.edge_model.specs.State.{with_told_down};
+ghost use Rattle.edge_model.specs.Work.{Agrees, Answers};
+ghost use Rattle.provider_edge.specs.Mending.{forgotten_down, may_tell_end, mended_down};
+ghost use Rattle.edge_forwarding.specs.Views.{view};
+ghost use Rattle.peer_dialogue.specs.Peering.{at_edge};
+ghost use Rattle.provider_edge.specs.AtWork.{Works, at_work};
+ghost use Rattle.provider_edge.specs.Lists.{Keeps, seen};
+
+use crate::Edge;
+use edge_model::{Effect, EndPlace};
+use net_base::{Down, Label, Link, List, NoMemory, ServiceId, WireId, WirePlan};
+use peer_dialogue::{AtWork, PwMessage, terminal_wish};
+use pw_ends::role_of;
+use pw_signalling::{EndRole, PwEnd, Told};
+use pw_tlvs::PwStatus;
+use spoke_redundancy::status_to_tell;
+
+impl Edge {
+    // An end is advertised, withdrawn or left; answers whether the link did not take a message.
+    pub(crate) fn mend_end<L: Link>(
+        &mut self,
+        slot: usize,
+        work: &mut AtWork<'_, L>,
+    ) -> Result<bool, NoMemory>
+        requires working { self.old.stopped ≡ true }
+        requires slot { slot < length self.old.ends.places }
+        ensures goes { Works L.calls self.old work.old self.new work.new }
+        ensures step { IfOk result (λ failed. (told : Answers) → Agrees told (L.calls work.new.link.now)
+            → record { work = at_work L.calls self.new work.new; failed = failed } ≡ mends_end self.old.plan told (place_of self.old.ends slot) (at_work L.calls self.old work.old)) }
+    {
+        match self.end_in(slot) {
+            PwEnd::Idle(end) => {
+                if end.is_declined() {
+                    return Ok(false);
+                }
+                self.advertise_wish(slot, work)
+            }
+            PwEnd::Advertised(end) => {
+                let label = end.label();
+                let content = *end.told();
+                self.withdraw_unless(slot, label, content, work)
+            }
+            PwEnd::Withdrawing(_) => Ok(false),
+        }
+    }
+
+    // An idle end advertises what it should tell.
+    fn advertise_wish<L: Link>(
+        &mut self,
+        slot: usize,
+        work: &mut AtWork<'_, L>,
+    ) -> Result<bool, NoMemory>
+        requires working { self.old.stopped ≡ true }
+        requires slot { slot < length self.old.ends.places }
+        requires idle { IsIdle (end_in self.old.ends slot).local }
+        ensures goes { Works L.calls self.old work.old self.new work.new }
+        ensures step { IfOk result (λ failed. (told : Answers) → Agrees told (L.calls work.new.link.now)
+            → record { work = at_work L.calls self.new work.new; failed = failed }
+            ≡ advertises_wish told (place_of self.old.ends slot) (wish self.old.plan (seen self.old) (place_of self.old.ends slot)) (at_work L.calls self.old work.old)) }
+    {
+        match self.wish(slot) {
+            Some(told) => self.put_mapping(slot, told, work),
+            None => Ok(false),
+        }
+    }
+
+    // An idle end takes a label and puts a Label Mapping; where no label is left it stays idle.
+    fn put_mapping<L: Link>(
+        &mut self,
+        slot: usize,
+        content: Told,
+        work: &mut AtWork<'_, L>,
+    ) -> Result<bool, NoMemory>
+        requires working { self.old.stopped ≡ true }
+        requires slot { slot < length self.old.ends.places }
+        requires idle { IsIdle (end_in self.old.ends slot).local }
+        requires kind { content.kind ≤ 0x7FFF }
+        requires vlan { has_vlan content.vlan ≡ true }
+        ensures goes { Works L.calls self.old work.old self.new work.new }
+        ensures step { IfOk result (λ failed. (told : Answers) → Agrees told (L.calls work.new.link.now)
+            → record { work = at_work L.calls self.new work.new; failed = failed }
+            ≡ advertises told (place_of self.old.ends slot) content (at_work L.calls self.old work.old)) }
+    {
+        let place = self.place_at(slot);
+        let Some(label) = self.advertise(slot, &content) else {
+            return Ok(false);
+        };
+        let message = PwMessage::Mapping {
+            pw_id: place.pw_id,
+            label,
+            told: content,
+        };
+        self.say(place.peer, &message, work)
+    }
+
+    // An end that advertises withdraws its label, where it should tell nothing by now.
+    fn withdraw_unless<L: Link>(
+        &mut self,
+        slot: usize,
+        label: Label,
+        content: Told,
+        work: &mut AtWork<'_, L>,
+    ) -> Result<bool, NoMemory>
+        requires working { self.old.stopped ≡ true }
+        requires slot { slot < length self.old.ends.places }
+        requires kind { content.kind ≤ 0x7FFF }
+        ensures goes { Works L.calls self.old work.old self.new work.new }
+        ensures step { IfOk result (λ failed. (told : Answers) → Agrees told (L.calls work.new.link.now)
+            → record { work = at_work L.calls self.new work.new; failed = failed }
+            ≡ withdraws_unless told (place_of self.old.ends slot) label content (wish self.old.plan (seen self.old) (place_of self.old.ends slot)) (at_work L.calls self.old work.old)) }
+    {
+        match self.wish(slot) {
+            Some(_) => Ok(false),
+            None => self.put_withdrawal(slot, label, content, work),
+        }
+    }
+
+    // An end withdraws its label, and puts that.
+    fn put_withdrawal<L: Link>(
+        &mut self,
+        slot: usize,
+        label: Label,
+        content: Told,
+        work: &mut AtWork<'_, L>,
+    ) -> Result<bool, NoMemory>
+        requires working { self.old.stopped ≡ true }
+        requires slot { slot < length self.old.ends.places }
+        requires kind { content.kind ≤ 0x7FFF }
+        ensures goes { Works L.calls self.old work.old self.new work.new }
+        ensures step { IfOk result (λ failed. (told : Answers) → Agrees told (L.calls work.new.link.now)
+            → record { work = at_work L.calls self.new work.new; failed = failed }
+            ≡ withdraws told (place_of self.old.ends slot) label content (at_work L.calls self.old work.old)) }
+    {
+        let place = self.place_at(slot);
+        self.withdraw(slot);
+        let message = PwMessage::Withdrawal {
+            pw_id: place.pw_id,
+            label,
+            told: content,
+        };
+        self.say(place.peer, &message, work)
+    }
+
+    // A status that has changed is told; answers whether the link did not take a message.
+    pub(crate) fn mend_status<L: Link>(
+        &mut self,
+        slot: usize,
+        work: &mut AtWork<'_, L>,
+    ) -> Result<bool, NoMemory>
+        requires working { self.old.stopped ≡ true }
+        requires slot { slot < length self.old.ends.places }
+        ensures goes { Works L.calls self.old work.old self.new work.new }
+        ensures step { IfOk result (λ failed. (told : Answers) → Agrees told (L.calls work.new.link.now)
+            → record { work = at_work L.calls self.new work.new; failed = failed } ≡ mends_status self.old.plan told (place_of self.old.ends slot) (at_work L.calls self.old work.old)) }
+    {
+        match self.end_in(slot) {
+            PwEnd::Advertised(end) => {
+                let content = *end.told();
+                self.tell_over(slot, content, work)
+            }
+            PwEnd::Idle(_) => Ok(false),
+            PwEnd::Withdrawing(_) => Ok(false),
+        }
+    }
+
+    // Only an end whose mapping carries a status tells a new one.
+    fn tell_over<L: Link>(
+        &mut self,
+        slot: usize,
+        content: Told,
+        work: &mut AtWork<'_, L>,
+    ) -> Result<bool, NoMemory>
+        requires working { self.old.stopped ≡ true }
+        requires slot { slot < length self.old.ends.places }
+        requires kind { content.kind ≤ 0x7FFF }
+        ensures goes { Works L.calls self.old work.old self.new work.new }
+        ensures step { IfOk result (λ failed. (told : Answers) → Agrees told (L.calls work.new.link.now)
+            → record { work = at_work L.calls self.new work.new; failed = failed }
+            ≡ tells_over told (place_of self.old.ends slot) content (status_to_tell self.old.plan (seen self.old) (place_of self.old.ends slot)) content.status (at_work L.calls self.old work.old)) }
+    {
+        match content.status {
+            Some(last) => self.tell_unless(slot, content, last, work),
+            None => Ok(false),
+        }
+    }
+
+    // A status other than the last one is told.
+    fn tell_unless<L: Link>(
+        &mut self,
+        slot: usize,
+        content: Told,
+        last: PwStatus,
+        work: &mut AtWork<'_, L>,
+    ) -> Result<bool, NoMemory>
+        requires working { self.old.stopped ≡ true }
+        requires slot { slot < length self.old.ends.places }
+        requires kind { content.kind ≤ 0x7FFF }
+        ensures goes { Works L.calls self.old work.old self.new work.new }
+        ensures step { IfOk result (λ failed. (told : Answers) → Agrees told (L.calls work.new.link.now)
+            → record { work = at_work L.calls self.new work.new; failed = failed }
+            ≡ tells_over told (place_of self.old.ends slot) content (status_to_tell self.old.plan (seen self.old) (place_of self.old.ends slot)) (Some last) (at_work L.calls self.old work.old)) }
+    {
+        let status = self.status_to_tell(slot);
+        if last.0 == status.0 {
+            return Ok(false);
+        }
+        self.put_status(slot, content, status, work)
+    }
+
+    // An end tells a new status, and puts that.
+    fn put_status<L: Link>(
+        &mut self,
+        slot: usize,
+        content: Told,
+        status: PwStatus,
+        work: &mut AtWork<'_, L>,
+    ) -> Result<bool, NoMemory>
+        requires working { self.old.stopped ≡ true }
+        requires slot { slot < length self.old.ends.places }
+        requires kind { content.kind ≤ 0x7FFF }
+        ensures goes { Works L.calls self.old work.old self.new work.new }
+        ensures step { IfOk result (λ failed. (told : Answers) → Agrees told (L.calls work.new.link.now)
+            → record { work = at_work L.calls self.new work.new; failed = failed }
+            ≡ tells_new_status told (place_of self.old.ends slot) content status (at_work L.calls self.old work.old)) }
+    {
+        let place = self.place_at(slot);
+        self.tell(slot, status);
+        let message = PwMessage::Status {
+            pw_id: place.pw_id,
+            status,
+            told: content,
+        };
+        self.say(place.peer, &message, work)
+    }
+
+    // A spoke that was chosen anew withdraws addresses; answers whether the link did not take that. Before this round the edge
+    // had chosen these wires, by services.
+    pub(crate) fn mend_choice<L: Link>(
+        &mut self,
+        chosen: &[Option<WireId>],
+        slot: usize,
+        work: &mut AtWork<'_, L>,
+    ) -> Result<bool, NoMemory>
+        requires working { self.old.stopped ≡ true }
+        requires slot { slot < length self.old.ends.places }
+        ensures goes { Works L.calls self.old work.old self.new work.new }
+        ensures step { IfOk result (λ failed. (told : Answers) → Agrees told (L.calls work.new.link.now)
+            → record { work = at_work L.calls self.new work.new; failed = failed }
+            ≡ mends_choice self.old.plan told (view None chosen.now) (place_of self.old.ends slot) (at_work L.calls self.old work.old)) }
+    {
+        if !self.is_new_choice(chosen, slot) {
+            return Ok(false);
+        }
+        self.tell_piece(slot, &[], work)
+    }
+
+    // Whether the spoke of an end is the one that is chosen now, and was not before.
+    fn is_new_choice(&self, chosen: &[Option<WireId>], slot: usize) -> bool
+        requires { slot < length self.now.ends.places }
+        ensures { result ≡ is_new_choice (view None chosen.now) (seen self.now).chosen (place_of self.now.ends slot).wire (wire_row self.now.plan (place_of self.now.ends slot).wire) }
+    {
+        let wire = self.place_at(slot).wire;
+        match self.plan.wires.get(wire.0 as usize) {
+            Some(row) => self.is_new(chosen, wire, row.service),
+            None => false,
+        }
+    }
+
+    // Whether the wire is the one that is chosen for a service now, and was not before.
+    fn is_new(&self, chosen: &[Option<WireId>], wire: WireId, service: ServiceId) -> bool
+        ensures { result ≡ (is_chosen_wire wire ((seen self.now).chosen service.0) && not (is_chosen_wire wire (view None chosen.now service.0))) }
+    {
+        self.is_chosen(wire, service) && !is_wire_of(chosen, wire, service)
+    }
+
+    // What was learned at a wire whose terminal end does not forward is forgotten.
+    pub(crate) fn forget_down(&mut self, slot: usize)
+        requires working { self.old.stopped ≡ true }
+        requires slot { slot < length self.old.ends.places }
+        ensures keeps { Keeps self.old self.new }
+        ensures step { (calls : List LinkCall) (out : List Effect)
+            → at_edge (seen self.new) calls out ≡ forgotten_down self.old.plan (place_of self.old.ends slot) (at_edge (seen self.old) calls out) }
+    {
+        let place = self.place_at(slot);
+        if !place.terminal {
+            return;
+        }
+        if self.down_of(slot).is_some() {
+            self.forget_wire(place.wire);
+        }
+    }
+
+    // What was learned at a wire is forgotten.
+    #[tactic(auto, using(crate::proofs::ForwardLemmas::holds_forwarding, crate::proofs::ForwardLemmas::keeps_forwarding))]
+    fn forget_wire(&mut self, wire: WireId)
+        requires working { self.old.stopped ≡ true }
+        requires within { wire.0 < length self.old.plan.wires }
+        ensures keeps { Keeps self.old self.new }
+        ensures step { seen self.new ≡ forgetting_wire self.old.plan wire (wire_row self.old.plan wire) (seen self.old) }
+    {
+        self.forwarding.forget_wire(wire);
+    }
+
+    // A wire that began to forward, or stopped, is told at its terminal end.
+    pub(crate) fn tell_down(&mut self, slot: usize, out: &mut List<Effect>) -> Result<(), NoMemory>
+        requires working { self.old.stopped ≡ true }
+        requires slot { slot < length self.old.ends.places }
+        ensures keeps { Keeps self.old self.new }
+        ensures step { OnOk result ((calls : List LinkCall)
+            → at_edge (seen self.new) calls out.new ≡ mended_down self.old.plan (place_of self.old.ends slot) (at_edge (seen self.old) calls out.old)) }
+    {
+        let place = self.place_at(slot);
+        if !place.terminal {
+            return Ok(());
+        }
+        let down = self.down_of(slot);
+        self.tell_new_down(place.wire, down, out)
+    }
+
+    // Why an end does not forward is told, where that was not told last.
+    fn tell_new_down(
+        &mut self,
+        wire: WireId,
+        down: Option<Down>,
+        out: &mut List<Effect>,
+    ) -> Result<(), NoMemory>
+        requires working { self.old.stopped ≡ true }
+        requires within { wire.0 < length self.old.plan.wires }
+        ensures keeps { Keeps self.old self.new }
+        ensures step { OnOk result ((place : EndPlace) (calls : List LinkCall) → place.wire ≡ wire
+            → at_edge (seen self.new) calls out.new ≡ tells_down place down (at_edge (seen self.old) calls out.old)) }
+    {
+        if is_same(self.told_last(wire), down) {
+            return Ok(());
+        }
+        self.set_told(wire, down);
+        out.push(Effect::Wire { wire, down })
+    }
+
+    // What was told last of the end of a wire.
+    #[tactic(auto, unfolding(crate::specs::Lists::seen))]
+    fn told_last(&self, wire: WireId) -> Option<Down>
+        requires { wire.0 < length self.now.plan.wires }
+        ensures { result ≡ (seen self.now).told_down wire.0 }
+    {
+        self.forwarding.told_last(wire)
+    }
+
+    // This is told of the end of a wire.
+    #[tactic(auto, using(crate::proofs::ForwardLemmas::holds_forwarding, crate::proofs::ForwardLemmas::keeps_forwarding))]
+    fn set_told(&mut self, wire: WireId, down: Option<Down>)
+        requires working { self.old.stopped ≡ true }
+        requires within { wire.0 < length self.old.plan.wires }
+        ensures keeps { Keeps self.old self.new }
+        ensures step { seen self.new ≡ with_told_down wire down (seen self.old) }
+    {
+        self.forwarding.tell(wire, down);
+    }
+
+    // ---- what an end should tell
+
+    // Where the end of a slot is, at a wire of the plan.
+    #[tactic(auto, using(crate::proofs::ListLemmas::slot_wire))]
+    pub(crate) fn place_at(&self, slot: usize) -> EndPlace
+        requires { slot < length self.now.ends.places }
+        ensures place { result ≡ place_of self.now.ends slot }
+        ensures wire { result.wire.0 < length self.now.plan.wires }
+    {
+        self.ends.place(slot)
+    }
+
+    // The end of a slot. Where it advertises, its PW type has 15 bits.
+    pub(crate) fn end_in(&self, slot: usize) -> &PwEnd
+        requires { slot < length self.now.ends.places }
+        ensures end { end_of result.now ≡ end_in self.now.ends slot }
+        ensures kind { HasKind (end_in self.now.ends slot).local }
+    {
+        self.ends.end(slot)
+    }
+
+    // What an end should tell: nothing unless its wire is on at this edge and the session with its peer is up.
+    fn wish(&self, slot: usize) -> Option<Told>
+        requires { slot < length self.now.ends.places }
+        ensures wish { result ≡ wish self.now.plan (seen self.now) (place_of self.now.ends slot) }
+        ensures kind { IfSome result (λ told. told.kind ≤ 0x7FFF) }
+        ensures vlan { IfSome result (λ told. has_vlan told.vlan ≡ true) }
+    {
+        let place = self.place_at(slot);
+        let row = self.plan.wires.get(place.wire.0 as usize)?;
+        if !self.may_tell(&place) {
+            return None;
+        }
+        self.wish_by(slot, row)
+    }
+
+    // What a terminal end of this wire should tell, where its wire is on and the session with its peer is up.
+    fn wish_by(&self, slot: usize, row: &WirePlan) -> Option<Told>
+        requires slot { slot < length self.now.ends.places }
+        requires row { wire_row self.now.plan (place_of self.now.ends slot).wire ≡ Some row.now }
+        ensures wish { result ≡ terminal_wish self.now.plan (seen self.now) (place_of self.now.ends slot) (offer_of row.now (seen self.now).me.0) }
+        ensures kind { IfSome result (λ told. told.kind ≤ 0x7FFF) }
+        ensures vlan { IfSome result (λ told. has_vlan told.vlan ≡ true) }
+    {
+        let place = self.place_at(slot);
+        let offer = row.offer_of(self.me);
+        let remote = self.end_in(slot).remote();
+        terminal_wish(
+            &offer,
+            remote,
+            self.bits_of(place.wire),
+            self.status_to_tell(slot),
+        )
+    }
+
+    // The wire of an end is on, the session with its peer is up, and the end is a terminal one.
+    #[tactic(auto, unfolding(crate::specs::Lists::seen))]
+    fn may_tell(&self, place: &EndPlace) -> bool
+        requires { place.now.wire.0 < length self.now.plan.wires }
+        ensures { result ≡ may_tell_end (seen self.now) place.now }
+    {
+        self.wires_on[place.wire.0 as usize] && self.is_up(place.peer) && place.terminal
+    }
+
+    // The failure bits of the end of a wire, at most 31.
+    #[tactic(auto, unfolding(crate::specs::Lists::seen))]
+    pub(crate) fn bits_of(&self, wire: WireId) -> u8
+        requires { wire.0 < length self.now.plan.wires }
+        ensures bits { result ≡ (seen self.now).bits wire.0 }
+        ensures small { result ≤ 31 }
+    {
+        self.bits[wire.0 as usize]
+    }
+
+    // What an end is to its service.
+    #[tactic(auto, unfolding(crate::specs::Lists::seen))]
+    fn role_of(&self, slot: usize) -> EndRole
+        requires { slot < length self.now.ends.places }
+        ensures { result ≡ role_at self.now.plan (seen self.now) (place_of self.now.ends slot) }
+    {
+        let wire = self.place_at(slot).wire;
+        match self.plan.wires.get(wire.0 as usize) {
+            Some(row) => role_of(row, self.me, self.is_chosen(wire, row.service)),
+            None => EndRole::Mesh,
+        }
+    }
+
+    // Whether the wire is the one that is chosen for a service.
+    #[tactic(auto, unfolding(crate::specs::Lists::seen))]
+    fn is_chosen(&self, wire: WireId, service: ServiceId) -> bool
+        ensures { result ≡ is_chosen_wire wire ((seen self.now).chosen service.0) }
+    {
+        match self.spokes.chosen(service) {
+            Some(chosen) => chosen == wire,
+            None => false,
+        }
+    }
+
+    // The status that an end tells.
+    fn status_to_tell(&self, slot: usize) -> PwStatus
+        requires { slot < length self.now.ends.places }
+        ensures { result ≡ status_to_tell self.now.plan (seen self.now) (place_of self.now.ends slot) }
+    {
+        let place = self.place_at(slot);
+        status_to_tell(self.role_of(slot), self.bits_of(place.wire))
+    }
+
+    // Why an end does not forward.
+    #[tactic(auto, unfolding(crate::specs::Lists::seen))]
+    pub(crate) fn down_of(&self, slot: usize) -> Option<Down>
+        requires { slot < length self.now.ends.places }
+        ensures { result ≡ down_at self.now.plan (seen self.now) (place_of self.now.ends slot) }
+    {
+        let place = self.place_at(slot);
+        let role = self.role_of(slot);
+        self.end_in(slot).why_down(role, self.bits_of(place.wire))
+    }
+}
+
+// Whether the wire is the one that was chosen for a service.
+fn is_wire_of(chosen: &[Option<WireId>], wire: WireId, service: ServiceId) -> bool
+    ensures { result ≡ is_chosen_wire wire (view None chosen.now service.0) }
+{
+    match chosen.get(service.0 as usize) {
+        Some(Some(chosen)) => *chosen == wire,
+        Some(None) | None => false,
+    }
+}
+
+// Whether two answers why an end does not forward are the same.
+fn is_same(one: Option<Down>, other: Option<Down>) -> bool
+    ensures { result ≡ (cause_number one == cause_number other) }
+{
+    cause_number(one) == cause_number(other)
+}
+
+// The number of a cause in the order of causes, and 0 where there is none.
+fn cause_number(down: Option<Down>) -> u8
+    ensures { result ≡ cause_number down }
+{
+    match down {
+        None => 0,
+        Some(Down::NoLocal) => 1,
+        Some(Down::NoRemote) => 2,
+        Some(Down::CBit) => 3,
+        Some(Down::Kind) => 4,
+        Some(Down::Mtu) => 5,
+        Some(Down::LocalFault) => 6,
+        Some(Down::RemoteFault) => 7,
+        Some(Down::Standby) => 8,
+    }
+}

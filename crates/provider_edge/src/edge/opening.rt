@@ -1,0 +1,146 @@
+//! An edge is opened.
+ghost use Rattle.std.specs.Prelude.{◌≡◌, ◌<◌, None, true, false, length, map, replicate, IfOk};
+ghost use Rattle.net_base.specs.plan.Accepted.{IsChecked};
+ghost use Rattle.pw_signalling.specs.End.{fresh};
+ghost use Rattle.pw_ends.specs.Ends.{seen_ends};
+ghost use Rattle.edge_forwarding.specs.Forwarding.{IsNewForwarding};
+ghost use Rattle.edge_model.specs.EndPlaces.{end_places};
+ghost use Rattle.edge_model.specs.State.{first_label};
+ghost use Rattle.provider_edge.specs.Opening.{AreNewParts, IsNewEdge};
+ghost use Rattle.provider_edge.specs.Spokes.{IsNewSpokes};
+
+use crate::Edge;
+use crate::parts::Parts;
+use crate::spokes::{Spokes, priorities};
+use edge_forwarding::Forwarding;
+use net_base::{EdgeId, NoMemory, Plan};
+use peer_dialogue::Peering;
+use pw_ends::PwEnds;
+use std::alloc::Global;
+use std::rc::Rc;
+
+impl Edge {
+    // The edge over these ends, which have taken no input. Each part goes by value to the function that makes the
+    // next one, so that no function has several parts to drop where memory is refused.
+    pub(crate) fn with_ends(
+        alloc: Global,
+        plan: Rc<Plan>,
+        me: EdgeId,
+        ends: PwEnds,
+    ) -> Result<Edge, NoMemory>
+        requires checked { IsChecked plan.value }
+        requires me { me.0 < length plan.value.edges }
+        requires places { ends.places ≡ end_places plan.value me }
+        requires idle { seen_ends ends ≡ (λ wire peer. fresh) }
+        requires next { ends.labels.next ≡ first_label plan.value me }
+        ensures { IfOk result (λ edge. IsNewEdge plan.value me edge) }
+    {
+        match Spokes::open(alloc, &plan, me, ends.places()) {
+            Ok(spokes) => Edge::with_spokes(alloc, plan, me, ends, spokes),
+            Err(fault) => Err(fault),
+        }
+    }
+
+    // The edge over these ends and spokes, which have taken no input.
+    fn with_spokes(
+        alloc: Global,
+        plan: Rc<Plan>,
+        me: EdgeId,
+        ends: PwEnds,
+        spokes: Spokes,
+    ) -> Result<Edge, NoMemory>
+        requires checked { IsChecked plan.value }
+        requires me { me.0 < length plan.value.edges }
+        requires places { ends.places ≡ end_places plan.value me }
+        requires idle { seen_ends ends ≡ (λ wire peer. fresh) }
+        requires next { ends.labels.next ≡ first_label plan.value me }
+        requires spokes { IsNewSpokes plan.value me spokes }
+        ensures { IfOk result (λ edge. IsNewEdge plan.value me edge) }
+    {
+        match forwarding_over(alloc, &plan, me) {
+            Ok(forwarding) => {
+                let parts = Parts {
+                    ends,
+                    spokes,
+                    forwarding,
+                };
+                Edge::over(alloc, plan, me, parts)
+            }
+            Err(fault) => Err(fault),
+        }
+    }
+
+    // The edge over these parts, which have taken no input.
+    fn over(alloc: Global, plan: Rc<Plan>, me: EdgeId, parts: Parts) -> Result<Edge, NoMemory>
+        requires checked { IsChecked plan.value }
+        requires new { AreNewParts plan.value me parts.ends parts.spokes parts.forwarding }
+        ensures { IfOk result (λ edge. IsNewEdge plan.value me edge) }
+    {
+        match first_lists(alloc, &plan) {
+            Ok(lists) => Ok(Edge {
+                plan,
+                me,
+                peerings: lists.peerings,
+                ends: parts.ends,
+                wires_on: lists.wires_on,
+                bits: lists.bits,
+                priorities: lists.priorities,
+                spokes: parts.spokes,
+                forwarding: parts.forwarding,
+                stopped: false,
+            }),
+            Err(fault) => Err(fault),
+        }
+    }
+}
+
+// What an edge forwards by, over a plan that others hold too.
+fn forwarding_over(alloc: Global, plan: &Rc<Plan>, me: EdgeId) -> Result<Forwarding, NoMemory>
+    requires checked { IsChecked plan.now.value }
+    requires me { me.0 < length plan.now.value.edges }
+    ensures { IfOk result (λ forwarding. IsNewForwarding plan.now.value me forwarding) }
+{
+    Forwarding::open(alloc, plan.clone()?, me)
+}
+
+// The lists of an edge before its first input.
+#[derive(Drop)]
+struct FirstLists {
+    peerings: Vec<Option<Peering>>,
+    wires_on: Vec<bool>,
+    bits: Vec<u8>,
+    priorities: Vec<u8>,
+}
+
+// No session stands, every wire is on without a failure, and spokes have the priorities of the plan.
+fn first_lists(alloc: Global, plan: &Plan) -> Result<FirstLists, NoMemory>
+    ensures peerings { IfOk result (λ lists. lists.peerings.items ≡ replicate (length plan.now.edges) None) }
+    ensures wires { IfOk result (λ lists. lists.wires_on.items ≡ replicate (length plan.now.wires) true) }
+    ensures zeros { IfOk result (λ lists. lists.bits.items ≡ replicate (length plan.now.wires) 0) }
+    ensures priorities { IfOk result (λ lists. lists.priorities.items ≡ map (λ row. row.priority) plan.now.wires) }
+{
+    let count = plan.wires.len();
+    let wires_on = vec![in alloc; true; count]?;
+    let bits = vec![in alloc; 0u8; count]?;
+    let priorities = priorities(alloc, plan)?;
+    let peerings = no_peerings(alloc, plan.edges.len())?;
+    Ok(FirstLists {
+        peerings,
+        wires_on,
+        bits,
+        priorities,
+    })
+}
+
+// No session with any of so many neighbours.
+#[tactic(auto, using(edge_forwarding::proofs::EachLemmas::one_more))]
+fn no_peerings(alloc: Global, count: usize) -> Result<Vec<Option<Peering>>, NoMemory>
+    ensures { IfOk result (λ kept. kept.items ≡ replicate count None) }
+{
+    let mut peerings = Vec::with_capacity(alloc, count)?;
+    for _place in 0..count {
+        peerings.push(None)?;
+    }
+    Ok(peerings)
+}
+

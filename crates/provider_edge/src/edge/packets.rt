@@ -1,0 +1,3 @@
+//! A packet comes from a neighbour.
+
+mod packet;

@@ -1,0 +1,389 @@
+//! A packet comes from a neighbour (RFC 3032 section 2.1, RFC 4448 section 4, RFC 5085 section 5): the first step that applies
+//! decides.
+ghost use Rattle.std.specs.Prelude.{◌≡◌, ◌≤◌, ◌<◌, List, Some, Ok, Err, true, length, option_map, position, is_some, IfOk, IfSome, OnOk, MatchResult};
+ghost use Rattle.net_base.specs.declared.outside.link_call.LinkCall.{LinkCall};
+ghost use Rattle.net_base.specs.declared.plan.wire_plan.WirePlan.{WirePlan};
+ghost use Rattle.net_base.specs.plan.Paths.{offer_of};
+ghost use Rattle.net_base.specs.plan.Places.{mtu_of, wire_row};
+ghost use Rattle.eth_encap.specs.Fault.{cause_of};
+ghost use Rattle.eth_encap.specs.Packet.{entry_of};
+ghost use Rattle.hvpls_spokes.specs.Port.{is_wire_port, ports_of};
+ghost use Rattle.edge_model.specs.declared.effect.Effect.{Effect as Given};
+ghost use Rattle.edge_model.specs.Ends.{is_up};
+ghost use Rattle.edge_model.specs.Packet.{advertiser, alerted, alerts_end, bridges_frame, by_control_word, enters, is_alert, is_channel, labelled, opened_by, owned, packet_input, terminated, unpacked_at};
+ghost use Rattle.edge_model.specs.Role.{down_at};
+ghost use Rattle.edge_model.specs.Send.{drops};
+ghost use Rattle.edge_model.specs.Synced.{InSync};
+ghost use Rattle.edge_model.specs.Work.{Agrees, Answers, Work};
+ghost use Rattle.pw_ends.specs.Ends.{end_in, place_of};
+ghost use Rattle.edge_forwarding.specs.Forwarding.{open_ports};
+ghost use Rattle.peer_dialogue.specs.Peering.{at_edge};
+ghost use Rattle.provider_edge.specs.AtWork.{Works, at_work};
+ghost use Rattle.provider_edge.specs.Lists.{seen};
+
+use crate::Edge;
+use crate::ingress::Ingress;
+use crate::quiet::drop_for;
+use edge_forwarding::{read_payload, without_entry};
+use edge_model::Effect;
+use eth_encap::{FrameFault, StackEntry, read_entry};
+use net_base::{Arrival, DropCause, Link, List, NoMemory, Offer, ServiceId};
+use peer_dialogue::AtWork;
+use std::alloc::Global;
+
+// The label of a router alert (RFC 3032 section 2.1).
+const ROUTER_ALERT: u32 = 1;
+
+// The first label that is not reserved (RFC 3032 section 2.1).
+const LEAST_LABEL: u32 = 16;
+
+// The first nibble of an associated channel header (RFC 4385 section 5).
+const CHANNEL: u8 = 1;
+
+impl Edge {
+    // A packet comes: its first entry is read.
+    pub(crate) fn packet<L: Link>(
+        &mut self,
+        octets: &[u8],
+        work: &mut AtWork<'_, L>,
+    ) -> Result<(), NoMemory>
+        requires working { self.old.stopped ≡ true }
+        requires synced { InSync self.old.plan (seen self.old) }
+        ensures goes { Works L.calls self.old work.old self.new work.new }
+        ensures step { OnOk result ((told : Answers) → Agrees told (L.calls work.new.link.now)
+            → at_work L.calls self.new work.new ≡ packet_input self.old.plan told octets.now (at_work L.calls self.old work.old)) }
+    {
+        match read_entry(octets) {
+            Ok(entry) => self.opened(octets, &entry, work),
+            Err(fault) => drop_for(fault.cause(), &mut work.effects.list),
+        }
+    }
+
+    // A packet with this first entry comes.
+    fn opened<L: Link>(
+        &mut self,
+        octets: &[u8],
+        entry: &StackEntry,
+        work: &mut AtWork<'_, L>,
+    ) -> Result<(), NoMemory>
+        requires working { self.old.stopped ≡ true }
+        requires synced { InSync self.old.plan (seen self.old) }
+        requires read { entry_of octets.now ≡ Ok entry.now }
+        ensures goes { Works L.calls self.old work.old self.new work.new }
+        ensures step { OnOk result ((told : Answers) → Agrees told (L.calls work.new.link.now)
+            → at_work L.calls self.new work.new ≡ opened_by self.old.plan told octets.now (Ok entry.now) (at_work L.calls self.old work.old)) }
+    {
+        let behind = without_entry(octets);
+        if is_alert(entry) {
+            return self.alerted(behind, &mut work.effects.list);
+        }
+        self.labelled(octets, entry, work)
+    }
+
+    // 1. Behind a router alert a second entry is read. Connectivity verification is not offered yet.
+    fn alerted(&self, octets: &[u8], out: &mut List<Effect>) -> Result<(), NoMemory>
+        ensures { OnOk result ((calls : List LinkCall)
+            → at_edge (seen self.now) calls out.new ≡ alerted self.now.plan (entry_of octets.now) (at_edge (seen self.now) calls out.old)) }
+    {
+        match read_entry(octets) {
+            Ok(entry) => drop_for(self.entry_cause(&entry), out),
+            Err(fault) => drop_for(fault.cause(), out),
+        }
+    }
+
+    // Why what has this entry behind a router alert is dropped.
+    fn entry_cause(&self, entry: &StackEntry) -> DropCause
+        ensures { (calls : List LinkCall) (out : List Given)
+            → drops result (at_edge (seen self.now) calls out) ≡ alerted self.now.plan (Ok entry.now) (at_edge (seen self.now) calls out) }
+    {
+        if !entry.bottom {
+            return DropCause::NotBottom;
+        }
+        self.alert_cause(entry.label)
+    }
+
+    // Why connectivity verification under a label is dropped.
+    fn alert_cause(&self, label: u32) -> DropCause
+        ensures { (calls : List LinkCall) (out : List Given)
+            → drops result (at_edge (seen self.now) calls out) ≡ alerts_end (advertiser self.now.plan (seen self.now) label) (at_edge (seen self.now) calls out) }
+    {
+        match self.advertiser(label) {
+            Some(slot) => self.slot_cause(slot),
+            None => DropCause::NoLabel,
+        }
+    }
+
+    // Why connectivity verification at the end of a slot is dropped.
+    fn slot_cause(&self, slot: usize) -> DropCause
+        requires { slot < length self.now.ends.places }
+        ensures { (work : Work) → drops result work ≡ alerts_end (Some (place_of self.now.ends slot)) work }
+    {
+        let place = self.place_at(slot);
+        if place.terminal {
+            return DropCause::NotOffered;
+        }
+        DropCause::NoLabel
+    }
+
+    // The end that advertises a label.
+    fn advertiser(&self, label: u32) -> Option<usize>
+        ensures named { option_map (place_of self.now.ends) result ≡ advertiser self.now.plan (seen self.now) label }
+        ensures slot { IfSome result (λ slot. slot < length self.now.ends.places) }
+    {
+        let _ = &self.ends;
+        self.ends.advertiser(label)
+    }
+
+    // 2. The label is one of the edge's own, at the bottom of the stack.
+    fn labelled<L: Link>(
+        &mut self,
+        octets: &[u8],
+        entry: &StackEntry,
+        work: &mut AtWork<'_, L>,
+    ) -> Result<(), NoMemory>
+        requires working { self.old.stopped ≡ true }
+        requires synced { InSync self.old.plan (seen self.old) }
+        requires long { 4 ≤ length octets.now }
+        ensures goes { Works L.calls self.old work.old self.new work.new }
+        ensures step { OnOk result ((told : Answers) → Agrees told (L.calls work.new.link.now)
+            → at_work L.calls self.new work.new ≡ labelled self.old.plan told octets.now entry.now (at_work L.calls self.old work.old)) }
+    {
+        if entry.label < LEAST_LABEL {
+            return drop_for(DropCause::NoLabel, &mut work.effects.list);
+        }
+        if !entry.bottom {
+            return drop_for(DropCause::NotBottom, &mut work.effects.list);
+        }
+        self.named(octets, entry, work)
+    }
+
+    // The label is that of one end.
+    fn named<L: Link>(
+        &mut self,
+        octets: &[u8],
+        entry: &StackEntry,
+        work: &mut AtWork<'_, L>,
+    ) -> Result<(), NoMemory>
+        requires working { self.old.stopped ≡ true }
+        requires synced { InSync self.old.plan (seen self.old) }
+        requires long { 4 ≤ length octets.now }
+        ensures goes { Works L.calls self.old work.old self.new work.new }
+        ensures step { OnOk result ((told : Answers) → Agrees told (L.calls work.new.link.now)
+            → at_work L.calls self.new work.new
+            ≡ owned self.old.plan told octets.now entry.now (advertiser self.old.plan (seen self.old) entry.now.label) (at_work L.calls self.old work.old)) }
+    {
+        match self.advertiser(entry.label) {
+            Some(slot) => self.owned(octets, entry, slot, work),
+            None => drop_for(DropCause::NoLabel, &mut work.effects.list),
+        }
+    }
+
+    // The end of a slot advertises the label.
+    fn owned<L: Link>(
+        &mut self,
+        octets: &[u8],
+        entry: &StackEntry,
+        slot: usize,
+        work: &mut AtWork<'_, L>,
+    ) -> Result<(), NoMemory>
+        requires working { self.old.stopped ≡ true }
+        requires synced { InSync self.old.plan (seen self.old) }
+        requires long { 4 ≤ length octets.now }
+        requires slot { slot < length self.old.ends.places }
+        ensures goes { Works L.calls self.old work.old self.new work.new }
+        ensures step { OnOk result ((told : Answers) → Agrees told (L.calls work.new.link.now)
+            → at_work L.calls self.new work.new
+            ≡ owned self.old.plan told octets.now entry.now (Some (place_of self.old.ends slot)) (at_work L.calls self.old work.old)) }
+    {
+        let _ = entry;
+        // 3. A switching point passes the packet on; that is to come.
+        let place = self.place_at(slot);
+        if !place.terminal {
+            return Ok(());
+        }
+        self.terminated(slot, without_entry(octets), work)
+    }
+
+    // 4. A terminal end takes what stands behind its label, where it is bound.
+    fn terminated<L: Link>(
+        &mut self,
+        slot: usize,
+        payload: &[u8],
+        work: &mut AtWork<'_, L>,
+    ) -> Result<(), NoMemory>
+        requires working { self.old.stopped ≡ true }
+        requires synced { InSync self.old.plan (seen self.old) }
+        requires slot { slot < length self.old.ends.places }
+        requires terminal { (place_of self.old.ends slot).terminal ≡ true }
+        ensures goes { Works L.calls self.old work.old self.new work.new }
+        ensures step { OnOk result ((told : Answers) → Agrees told (L.calls work.new.link.now)
+            → at_work L.calls self.new work.new
+            ≡ terminated self.old.plan told (place_of self.old.ends slot) (wire_row self.old.plan (place_of self.old.ends slot).wire) (end_in self.old.ends slot).remote payload.now (at_work L.calls self.old work.old)) }
+    {
+        if !self.is_bound(slot) {
+            return drop_for(DropCause::Down, &mut work.effects.list);
+        }
+        let offer = self.offer_at(slot);
+        if !offer.cword {
+            return self.enter(slot, payload, work);
+        }
+        self.by_control_word(slot, payload, work)
+    }
+
+    // Whether the end of a slot holds a binding.
+    fn is_bound(&self, slot: usize) -> bool
+        requires { slot < length self.now.ends.places }
+        ensures { result ≡ is_some (end_in self.now.ends slot).remote }
+    {
+        self.end_in(slot).remote().is_some()
+    }
+
+    // What the edge offers at the end of a slot.
+    #[tactic(auto, using(edge_forwarding::proofs::ForwardingLemmas::row_read))]
+    fn offer_at(&self, slot: usize) -> Offer
+        requires { slot < length self.now.ends.places }
+        ensures row { (row : WirePlan) → wire_row self.now.plan (place_of self.now.ends slot).wire ≡ Some row → result ≡ offer_of row self.now.me.0 }
+        ensures within { (place_of self.now.ends slot).wire.0 < length self.now.plan.wires }
+    {
+        let wire = self.place_at(slot).wire;
+        self.plan.wires.as_slice()[wire.0 as usize].offer_of(self.me)
+    }
+
+    // With a control word: an associated channel is connectivity verification, and else a frame stands behind it.
+    fn by_control_word<L: Link>(
+        &mut self,
+        slot: usize,
+        payload: &[u8],
+        work: &mut AtWork<'_, L>,
+    ) -> Result<(), NoMemory>
+        requires working { self.old.stopped ≡ true }
+        requires synced { InSync self.old.plan (seen self.old) }
+        requires slot { slot < length self.old.ends.places }
+        requires terminal { (place_of self.old.ends slot).terminal ≡ true }
+        ensures goes { Works L.calls self.old work.old self.new work.new }
+        ensures step { OnOk result ((told : Answers) (row : WirePlan) → Agrees told (L.calls work.new.link.now) → wire_row self.old.plan (place_of self.old.ends slot).wire ≡ Some row
+            → at_work L.calls self.new work.new ≡ by_control_word self.old.plan told row (place_of self.old.ends slot) payload.now (at_work L.calls self.old work.old)) }
+    {
+        if payload.is_empty() {
+            return drop_for(DropCause::Short, &mut work.effects.list);
+        }
+        if is_channel(payload) {
+            return drop_for(DropCause::NotOffered, &mut work.effects.list);
+        }
+        self.enter(slot, payload, work)
+    }
+
+    // 5. A frame comes by a wire whose end forwards, and is bridged.
+    fn enter<L: Link>(
+        &mut self,
+        slot: usize,
+        payload: &[u8],
+        work: &mut AtWork<'_, L>,
+    ) -> Result<(), NoMemory>
+        requires working { self.old.stopped ≡ true }
+        requires synced { InSync self.old.plan (seen self.old) }
+        requires slot { slot < length self.old.ends.places }
+        requires terminal { (place_of self.old.ends slot).terminal ≡ true }
+        ensures goes { Works L.calls self.old work.old self.new work.new }
+        ensures step { OnOk result ((told : Answers) (row : WirePlan) → Agrees told (L.calls work.new.link.now) → wire_row self.old.plan (place_of self.old.ends slot).wire ≡ Some row
+            → at_work L.calls self.new work.new ≡ enters self.old.plan told row (place_of self.old.ends slot) payload.now (at_work L.calls self.old work.old)) }
+    {
+        if self.down_of(slot).is_some() {
+            return drop_for(DropCause::Down, &mut work.effects.list);
+        }
+        self.bridge_payload(slot, payload, work)
+    }
+
+    // A frame comes by a wire whose end forwards.
+    fn bridge_payload<L: Link>(
+        &mut self,
+        slot: usize,
+        payload: &[u8],
+        work: &mut AtWork<'_, L>,
+    ) -> Result<(), NoMemory>
+        requires working { self.old.stopped ≡ true }
+        requires synced { InSync self.old.plan (seen self.old) }
+        requires slot { slot < length self.old.ends.places }
+        requires terminal { (place_of self.old.ends slot).terminal ≡ true }
+        requires up { is_up (down_at self.old.plan (seen self.old) (place_of self.old.ends slot)) ≡ true }
+        ensures goes { Works L.calls self.old work.old self.new work.new }
+        ensures step { OnOk result ((told : Answers) (row : WirePlan) → Agrees told (L.calls work.new.link.now) → wire_row self.old.plan (place_of self.old.ends slot).wire ≡ Some row
+            → at_work L.calls self.new work.new ≡ bridges_frame self.old.plan told row (place_of self.old.ends slot) payload.now (at_work L.calls self.old work.old)) }
+    {
+        let place = self.place_at(slot);
+        let service = self.service_at(slot);
+        let port = self.port_at(slot, service);
+        let read = self.read_frame(work.alloc, slot, payload)?;
+        let ingress = Ingress {
+            came: Arrival::Wire(place.wire),
+            service,
+            port,
+        };
+        self.bridge_read(ingress, read, work)
+    }
+
+    // The service of the wire of an end.
+    #[tactic(auto, using(edge_forwarding::proofs::ForwardingLemmas::row_read))]
+    pub(crate) fn service_at(&self, slot: usize) -> ServiceId
+        requires { slot < length self.now.ends.places }
+        ensures row { (row : WirePlan) → wire_row self.now.plan (place_of self.now.ends slot).wire ≡ Some row → result ≡ row.service }
+        ensures within { result.0 < length self.now.plan.services }
+    {
+        let wire = self.place_at(slot).wire;
+        self.plan.wires.as_slice()[wire.0 as usize].service
+    }
+
+    // The port of the wire of a terminal end that forwards; it is open.
+    fn port_at(&self, slot: usize, service: ServiceId) -> Option<u16>
+        requires service { service.0 < length self.now.plan.services }
+        requires synced { InSync self.now.plan (seen self.now) }
+        requires slot { slot < length self.now.ends.places }
+        requires terminal { (place_of self.now.ends slot).terminal ≡ true }
+        requires up { is_up (down_at self.now.plan (seen self.now) (place_of self.now.ends slot)) ≡ true }
+        ensures port { result ≡ position (is_wire_port (place_of self.now.ends slot).wire) (ports_of self.now.plan service self.now.me) }
+        ensures on { IfSome result (λ p. open_ports self.now.forwarding service p ≡ true) }
+    {
+        let place = self.ends.place(slot);
+        self.forwarding.port_of_wire(place.wire, service)
+    }
+
+    // The inner frame of what came by the end of a slot, by the edge's own offer.
+    fn read_frame(
+        &self,
+        alloc: Global,
+        slot: usize,
+        payload: &[u8],
+    ) -> Result<Result<Vec<u8>, FrameFault>, NoMemory>
+        requires { slot < length self.now.ends.places }
+        ensures read { IfOk result (λ read. (row : WirePlan) → wire_row self.now.plan (place_of self.now.ends slot).wire ≡ Some row
+            → MatchResult read (λ frame. unpacked_at self.now.plan row self.now.me payload.now ≡ Ok frame.items) (λ fault. unpacked_at self.now.plan row self.now.me payload.now ≡ Err (cause_of fault))) }
+        ensures header { IfOk result (λ read. IfOk read (λ frame. 14 ≤ length frame.items)) }
+    {
+        let offer = self.offer_at(slot);
+        let mtu = self.mtu_of(self.service_at(slot));
+        read_payload(alloc, &offer, mtu, payload)
+    }
+
+    // The MTU of a service.
+    fn mtu_of(&self, service: ServiceId) -> u16
+        requires { service.0 < length self.now.plan.services }
+        ensures { mtu_of self.now.plan service ≡ Some result }
+    {
+        self.plan.services.as_slice()[service.0 as usize].mtu
+    }
+}
+
+// Whether an entry is a router alert, behind which another entry stands.
+fn is_alert(entry: &StackEntry) -> bool
+    ensures { result ≡ is_alert entry.now }
+{
+    entry.label == ROUTER_ALERT && !entry.bottom
+}
+
+// Whether an associated channel stands behind the label stack.
+fn is_channel(payload: &[u8]) -> bool
+    requires { 1 ≤ length payload.now }
+    ensures { result ≡ is_channel payload.now }
+{
+    payload[0] / 16 == CHANNEL
+}

@@ -1,0 +1,124 @@
+//! Connections of the edge: one stands, one is lost, and the edge restarts.
+ghost use Rattle.std.specs.Prelude.{◌≡◌, ◌<◌, [], true, false, List, None, length, slice_get, slice_index_or, OnOk};
+ghost use Rattle.net_base.specs.declared.trace.state_name.Reason.TheVariants as reason;
+ghost use Rattle.session_core.specs.State.{IsProper};
+ghost use Rattle.session_core.specs.Table.{Closed};
+ghost use Rattle.edge_model.specs.Connection.{connected_input, connects, lost_input, restart_input};
+ghost use Rattle.edge_model.specs.Mend.{mends};
+ghost use Rattle.edge_model.specs.Session.{happens_with_ends};
+ghost use Rattle.edge_model.specs.State.{with_learned, without_ends, without_peerings};
+ghost use Rattle.edge_model.specs.Work.{Agrees, Answers, beginning};
+ghost use Rattle.net_base.specs.declared.outside.link_call.LinkCall.{LinkCall};
+ghost use Rattle.peer_dialogue.specs.Peering.{at_edge, connection_with, peers_between};
+ghost use Rattle.provider_edge.specs.AtWork.{Takes, Works, at_work, worked_at};
+ghost use Rattle.provider_edge.specs.Lists.{Keeps, seen, worked};
+
+use crate::Edge;
+use edge_model::Effect;
+use net_base::{EdgeId, Link, NoMemory, StateName};
+use peer_dialogue::{AtWork, Event, Peering};
+use session_core::Peers;
+
+impl Edge {
+    // The edge's end of a connection with a peer stands, and its session begins.
+    pub(crate) fn connected<L: Link>(
+        &mut self,
+        peer: EdgeId,
+        work: &mut AtWork<'_, L>,
+    ) -> Result<(), NoMemory>
+        requires working { self.old.stopped ≡ true }
+        requires fresh { work.old.effects.now ≡ record { idle = false; list = [] } }
+        ensures goes { Takes L.calls self.old work.old self.new work.new }
+        ensures step { OnOk result ((told : Answers) → Agrees told (L.calls work.new.link.now)
+            → worked_at L.calls self.new work.new ≡ connected_input self.old.plan told peer (beginning (seen self.old) (L.calls work.old.link.now))) }
+    {
+        if !self.plan.joined(self.me, peer) || self.has_end(peer) {
+            work.effects.idle = true;
+            return Ok(());
+        }
+        let Some(peers) = self.peers_with(peer) else {
+            work.effects.idle = true;
+            return Ok(());
+        };
+        self.connect(peer, peers, work)?;
+        self.mend(work)
+    }
+
+    // A connection with a peer stands, and its session begins (RFC 5036 section 2.5.3).
+    fn connect<L: Link>(
+        &mut self,
+        peer: EdgeId,
+        peers: Peers,
+        work: &mut AtWork<'_, L>,
+    ) -> Result<(), NoMemory>
+        requires working { self.old.stopped ≡ true }
+        requires within { peer.0 < length self.old.plan.edges }
+        requires proper { IsProper peers }
+        ensures goes { Works L.calls self.old work.old self.new work.new }
+        ensures step { OnOk result ((told : Answers) → Agrees told (L.calls work.new.link.now)
+            → at_work L.calls self.new work.new ≡ connects told peer (connection_with peers) (at_work L.calls self.old work.old)) }
+    {
+        self.put_peering(peer, Some(Peering::open(peers)));
+        work.effects.list.push(Effect::Session {
+            peer,
+            state: StateName::Initialized,
+        })?;
+        self.happens(peer, Event::Start, work)
+    }
+
+    // The two ends of a session, as the plan has them.
+    fn peers_with(&self, peer: EdgeId) -> Option<Peers>
+        ensures { result ≡ peers_between (slice_get self.now.plan.edges self.now.me.0) (slice_get self.now.plan.edges peer.0) }
+    {
+        let own = self.plan.edges.get(self.me.0 as usize)?;
+        let other = self.plan.edges.get(peer.0 as usize)?;
+        Some(Peers {
+            me: own.address,
+            peer: other.address,
+            keepalive: own.keepalive,
+            max_pdu: own.max_pdu,
+        })
+    }
+
+    // The edge's end of a connection with a peer is lost.
+    pub(crate) fn lost<L: Link>(
+        &mut self,
+        peer: EdgeId,
+        work: &mut AtWork<'_, L>,
+    ) -> Result<(), NoMemory>
+        requires working { self.old.stopped ≡ true }
+        requires fresh { work.old.effects.now ≡ record { idle = false; list = [] } }
+        ensures goes { Takes L.calls self.old work.old self.new work.new }
+        ensures step { OnOk result ((told : Answers) → Agrees told (L.calls work.new.link.now)
+            → worked_at L.calls self.new work.new ≡ lost_input self.old.plan told peer (beginning (seen self.old) (L.calls work.old.link.now))) }
+    {
+        if !self.has_end(peer) {
+            work.effects.idle = true;
+            return Ok(());
+        }
+        self.lose(peer, work)?;
+        self.mend(work)
+    }
+
+    // The edge restarts: it keeps its ticks, what was set of its circuits and wires, and the label that it gives next.
+    pub(crate) fn restart(&mut self)
+        requires working { self.old.stopped ≡ true }
+        ensures keeps { Keeps self.old self.new }
+        ensures step { (calls : List LinkCall) → worked self.new calls (record { idle = false; list = [] }) ≡ restart_input (beginning (seen self.old) calls) }
+    {
+        self.drop_peerings();
+        self.forget_ends();
+        self.clear_bridges();
+    }
+
+    // Each end is as it was opened, what was told of it is forgotten, and no spoke is chosen.
+    fn forget_ends(&mut self)
+        requires working { self.old.stopped ≡ true }
+        ensures keeps { Keeps self.old self.new }
+        ensures step { seen self.new ≡ without_ends (seen self.old) }
+    {
+        self.ends.restarted();
+        self.spokes.clear();
+        self.forwarding.close_wires();
+    }
+}

@@ -1,0 +1,295 @@
+//! Octets of LDP are heard (RFC 5036 section 3.5.3): one PDU after another, and each message of a PDU in turn.
+ghost use Rattle.edge_model.specs.declared.effect.Effect.{Effect};
+ghost use Rattle.net_base.specs.declared.outside.link_call.LinkCall.{LinkCall};
+ghost use Rattle.std.specs.Prelude.{◌≡◌, ◌≤◌, ◌<◌, ◌+◌, ◌++◌, List, ℕ, true, Some, OnOk, false, []};
+ghost use Rattle.std.specs.List.{AllByRecursion};
+ghost use Rattle.net_values.specs.Octets.{AreOctets};
+ghost use Rattle.edge_model.specs.Hear.{acts, acts_on, advice_of, advises, hears, hears_message, hears_messages, hears_one, hears_pdu, octets_input, holds};
+ghost use Rattle.edge_model.specs.State.{has_end};
+ghost use Rattle.edge_model.specs.Work.{Agrees, Answers, beginning};
+ghost use Rattle.peer_dialogue.specs.Heard.{CanBeHeard};
+ghost use Rattle.peer_dialogue.specs.Hearing.{HearsOn, IsWaitingFor};
+ghost use Rattle.peer_dialogue.specs.Peering.{at_edge};
+ghost use Rattle.provider_edge.specs.AtWork.{Takes, Works, at_work, worked_at};
+ghost use Rattle.provider_edge.specs.Hearing.{AreTakenOut};
+ghost use Rattle.provider_edge.specs.Lists.{Keeps, seen};
+
+use crate::Edge;
+use ldp_grammar::{Message, Pdu};
+use net_base::{EdgeId, Link, NoMemory};
+use peer_dialogue::{AtWork, Event, Held, Next, advice_of, binding_in};
+
+impl Edge {
+    // Octets of LDP come from a peer.
+    pub(crate) fn octets<L: Link>(
+        &mut self,
+        peer: EdgeId,
+        octets: &[u8],
+        work: &mut AtWork<'_, L>,
+    ) -> Result<(), NoMemory>
+        requires working { self.old.stopped ≡ true }
+        requires fresh { work.old.effects.now ≡ record { idle = false; list = [] } }
+        ensures goes { Takes L.calls self.old work.old self.new work.new }
+        ensures step { OnOk result ((told : Answers) → Agrees told (L.calls work.new.link.now)
+            → worked_at L.calls self.new work.new ≡ octets_input self.old.plan told peer octets.now ((seen self.old).peering peer.0) (beginning (seen self.old) (L.calls work.old.link.now))) }
+    {
+        let Some(held) = self.take_held(peer) else {
+            work.effects.idle = true;
+            return Ok(());
+        };
+        self.hear(held, peer, octets, work)?;
+        self.mend(work)
+    }
+
+    // Takes out the octets that are held of a peer, where the edge's end of the connection stands.
+    fn take_held(&mut self, peer: EdgeId) -> Option<Held>
+        requires working { self.old.stopped ≡ true }
+        ensures keeps { Keeps self.old self.new }
+        ensures step { AreTakenOut peer ((seen self.old).peering peer.0) (seen self.old) (seen self.new) result }
+    {
+        let Some(mut peering) = self.take_peering(peer) else {
+            return None;
+        };
+        let held = peering.take_held();
+        self.put_peering(peer, Some(peering));
+        Some(held)
+    }
+
+    // Holds octets of a peer, where the edge's end of the connection stands.
+    fn hold(&mut self, peer: EdgeId, held: Held)
+        requires working { self.old.stopped ≡ true }
+        ensures keeps { Keeps self.old self.new }
+        ensures step { (calls : List LinkCall) (out : List Effect) → at_edge (seen self.new) calls out ≡ holds peer held ((seen self.old).peering peer.0) (at_edge (seen self.old) calls out) }
+    {
+        if let Some(mut peering) = self.take_peering(peer) {
+            peering.hold(held);
+            self.put_peering(peer, Some(peering));
+        }
+    }
+
+    // Octets are heard behind those that were held of a peer. PDUs are heard one after another, each within the maximum
+    // that the session then has (RFC 5036 section 3.5.3); those behind the last one are then held. Nothing is
+    // heard after the end of the session.
+    fn hear<L: Link>(
+        &mut self,
+        mut held: Held,
+        peer: EdgeId,
+        octets: &[u8],
+        work: &mut AtWork<'_, L>,
+    ) -> Result<(), NoMemory>
+        requires working { self.old.stopped ≡ true }
+        ensures goes { Works L.calls self.old work.old self.new work.new }
+        ensures step { OnOk result ((told : Answers) → Agrees told (L.calls work.new.link.now)
+            → at_work L.calls self.new work.new ≡ hears self.old.plan told peer (held ++ octets.now) (at_work L.calls self.old work.old)) }
+    {
+        let mut at = 0;
+        'hearing: loop {
+            self.hear_held(&mut held, peer, work)?;
+            if !self.has_end(peer) {
+                return Ok(());
+            }
+            if at == octets.len() {
+                self.hold(peer, held);
+                return Ok(());
+            }
+            at += held.feed_from(work.alloc, octets, at)?;
+        }
+    }
+
+    // All the PDUs that are held are heard, as long as the session stands.
+    fn hear_held<L: Link>(
+        &mut self,
+        held: &mut Held,
+        peer: EdgeId,
+        work: &mut AtWork<'_, L>,
+    ) -> Result<(), NoMemory>
+        requires working { self.old.stopped ≡ true }
+        ensures goes { Works L.calls self.old work.old self.new work.new }
+        ensures waiting { OnOk result (IsWaitingFor ((seen self.new).peering peer.0) held.new) }
+        ensures step { OnOk result ((told : Answers) (more : List ℕ) → Agrees told (L.calls work.new.link.now) → AreOctets more
+            → HearsOn self.old.plan told peer (held.old ++ more) (held.new ++ more) (at_work L.calls self.old work.old) (at_work L.calls self.new work.new)) }
+    {
+        'pdus: loop {
+            let Some(peering) = self.peering(peer) else {
+                return Ok(());
+            };
+            match held.next(work.alloc, peering.max_pdu())? {
+                Next::More => return Ok(()),
+                Next::Fault(fault) => {
+                    return self.happens(peer, Event::Refused(fault), work);
+                }
+                Next::Pdu(pdu) => self.hear_pdu(peer, &pdu, work)?,
+            }
+        }
+    }
+
+    // A PDU is heard: its sender, and then its messages.
+    fn hear_pdu<L: Link>(
+        &mut self,
+        peer: EdgeId,
+        pdu: &Pdu,
+        work: &mut AtWork<'_, L>,
+    ) -> Result<(), NoMemory>
+        requires working { self.old.stopped ≡ true }
+        requires heard { AllByRecursion CanBeHeard pdu.now.messages }
+        ensures goes { Works L.calls self.old work.old self.new work.new }
+        ensures step { OnOk result ((told : Answers) → Agrees told (L.calls work.new.link.now)
+            → at_work L.calls self.new work.new ≡ hears_pdu self.old.plan told peer pdu.now (at_work L.calls self.old work.old)) }
+    {
+        self.happens(peer, Event::Heard(pdu.id), work)?;
+        self.hear_messages(peer, pdu.messages.as_slice(), work)
+    }
+
+    // Messages are heard in turn.
+    fn hear_messages<L: Link>(
+        &mut self,
+        peer: EdgeId,
+        messages: &[Message],
+        work: &mut AtWork<'_, L>,
+    ) -> Result<(), NoMemory>
+        requires working { self.old.stopped ≡ true }
+        requires heard { AllByRecursion CanBeHeard messages.now }
+        ensures goes { Works L.calls self.old work.old self.new work.new }
+        ensures step { OnOk result ((told : Answers) → Agrees told (L.calls work.new.link.now)
+            → at_work L.calls self.new work.new ≡ hears_messages self.old.plan told peer messages.now (at_work L.calls self.old work.old)) }
+    {
+        for place in 0..messages.len() {
+            self.hear_message(peer, &messages[place], work)?;
+        }
+        Ok(())
+    }
+
+    // A message is heard, and the edge mends its ends; after the end of the session none is.
+    fn hear_message<L: Link>(
+        &mut self,
+        peer: EdgeId,
+        message: &Message,
+        work: &mut AtWork<'_, L>,
+    ) -> Result<(), NoMemory>
+        requires working { self.old.stopped ≡ true }
+        requires heard { CanBeHeard message.now }
+        ensures goes { Works L.calls self.old work.old self.new work.new }
+        ensures step { OnOk result ((told : Answers) → Agrees told (L.calls work.new.link.now)
+            → at_work L.calls self.new work.new ≡ hears_message self.old.plan told peer message.now (at_work L.calls self.old work.old)) }
+    {
+        if !self.has_end(peer) {
+            return Ok(());
+        }
+        self.hear_one(peer, message, work)?;
+        self.mend(work)
+    }
+
+    // What a message makes of the session, and what the edge then does.
+    fn hear_one<L: Link>(
+        &mut self,
+        peer: EdgeId,
+        message: &Message,
+        work: &mut AtWork<'_, L>,
+    ) -> Result<(), NoMemory>
+        requires working { self.old.stopped ≡ true }
+        requires heard { CanBeHeard message.now }
+        ensures goes { Works L.calls self.old work.old self.new work.new }
+        ensures step { OnOk result ((told : Answers) → Agrees told (L.calls work.new.link.now)
+            → at_work L.calls self.new work.new ≡ hears_one self.old.plan told peer message.now (at_work L.calls self.old work.old)) }
+    {
+        let was_up = self.is_up(peer);
+        self.happens(peer, Event::Received(message), work)?;
+        if was_up {
+            return self.act(peer, message, work);
+        }
+        Ok(())
+    }
+
+    // A session that was up, and still is, acts on a message.
+    fn act<L: Link>(
+        &mut self,
+        peer: EdgeId,
+        message: &Message,
+        work: &mut AtWork<'_, L>,
+    ) -> Result<(), NoMemory>
+        requires working { self.old.stopped ≡ true }
+        requires heard { CanBeHeard message.now }
+        ensures goes { Works L.calls self.old work.old self.new work.new }
+        ensures step { OnOk result ((told : Answers) → Agrees told (L.calls work.new.link.now)
+            → at_work L.calls self.new work.new ≡ acts self.old.plan told peer message.now true (at_work L.calls self.old work.old)) }
+    {
+        if !self.has_end(peer) {
+            return Ok(());
+        }
+        self.act_on(peer, message, work)
+    }
+
+    // What the edge does on a message, one call each.
+    fn act_on<L: Link>(
+        &mut self,
+        peer: EdgeId,
+        message: &Message,
+        work: &mut AtWork<'_, L>,
+    ) -> Result<(), NoMemory>
+        requires working { self.old.stopped ≡ true }
+        requires heard { CanBeHeard message.now }
+        requires stands { has_end (seen self.old) peer ≡ true }
+        ensures goes { Works L.calls self.old work.old self.new work.new }
+        ensures step { OnOk result ((told : Answers) → Agrees told (L.calls work.new.link.now)
+            → at_work L.calls self.new work.new ≡ acts_on self.old.plan told peer message.now (at_work L.calls self.old work.old)) }
+    {
+        match message {
+            Message::LabelMapping {
+                fec,
+                label,
+                pw_status,
+                points,
+                ..
+            } => {
+                let binding = binding_in(fec, *label, *pw_status, points);
+                self.hear_mapping(peer, fec, &binding, work)
+            }
+            Message::LabelWithdraw { fec, label, .. } => {
+                self.hear_withdraw(peer, fec, label, work)
+            }
+            Message::LabelRelease { fec, label, .. } => {
+                self.hear_release(peer, fec, *label);
+                Ok(())
+            }
+            Message::Notification {
+                status,
+                pw_status,
+                fec,
+                ..
+            } => {
+                self.hear_status(peer, *status, *pw_status, fec.as_ref());
+                Ok(())
+            }
+            Message::AddressWithdraw { fec, macs, .. } => {
+                self.hear_mac_withdraw(peer, fec, macs, work)
+            }
+            Message::Hello { .. }
+            | Message::Initialization { .. }
+            | Message::KeepAlive { .. }
+            | Message::Address { .. }
+            | Message::LabelRequest { .. }
+            | Message::LabelAbort { .. }
+            | Message::Other { .. }
+            | Message::Unprocessed { .. } => self.tell_advice(peer, message, work),
+        }
+    }
+
+    // What is told of a message that is not processed.
+    fn tell_advice<L: Link>(
+        &mut self,
+        peer: EdgeId,
+        message: &Message,
+        work: &mut AtWork<'_, L>,
+    ) -> Result<(), NoMemory>
+        requires working { self.old.stopped ≡ true }
+        requires stands { has_end (seen self.old) peer ≡ true }
+        ensures goes { Works L.calls self.old work.old self.new work.new }
+        ensures step { OnOk result ((told : Answers) → Agrees told (L.calls work.new.link.now)
+            → at_work L.calls self.new work.new ≡ advises told peer (advice_of message.now) (at_work L.calls self.old work.old)) }
+    {
+        match advice_of(message) {
+            Some(reply) => self.advise(peer, reply, work),
+            None => Ok(()),
+        }
+    }
+}

@@ -1,0 +1,232 @@
+//! What an edge keeps of its neighbours: what an event makes of a session, and what is put apart from the events.
+ghost use Rattle.std.specs.Prelude.{◌≡◌, ◌<◌, List, Some, None, length, map, option_copied, IfOk, IfSome, OnOk, true};
+ghost use Rattle.net_base.specs.declared.outside.link_call.LinkCall.{LinkCall};
+ghost use Rattle.net_base.specs.declared.trace.state_name.Reason.TheVariants as reason;
+ghost use Rattle.ldp_codec.specs.declared.decode_fault.DecodeFault.{DecodeFault};
+ghost use Rattle.pw_signalling.specs.Rows.{lost};
+ghost use Rattle.session_core.specs.Messages.{HasData};
+ghost use Rattle.session_core.specs.Table.{Closed, Refused};
+ghost use Rattle.edge_model.specs.declared.effect.Effect.{Effect};
+ghost use Rattle.edge_model.specs.Hear.{advises, was_up};
+ghost use Rattle.edge_model.specs.Session.{clears_ends, happens, happens_with_ends, says};
+ghost use Rattle.edge_model.specs.State.{has_end, with_ends_beside, with_peering, without_peerings};
+ghost use Rattle.edge_model.specs.Work.{Agrees, Answers};
+ghost use Rattle.peer_dialogue.specs.Event.{MayHappen, event_of};
+ghost use Rattle.peer_dialogue.specs.Peering.{at_edge, gone};
+ghost use Rattle.peer_dialogue.specs.PwMessage.{CanBeSaid, numbered};
+ghost use Rattle.provider_edge.specs.AtWork.{Works, at_work};
+ghost use Rattle.provider_edge.specs.Lists.{Keeps, seen};
+
+use crate::Edge;
+use net_base::{EdgeId, Link, NoMemory};
+use peer_dialogue::{AtWork, Event, Peering, PwMessage};
+use session_core::Reply;
+
+impl Edge {
+    // What is kept of a neighbour, where the edge's end of the connection stands.
+    #[tactic(auto, unfolding(crate::specs::Lists::seen))]
+    pub(crate) fn peering(&self, peer: EdgeId) -> Option<&Peering>
+        ensures { option_copied result ≡ (seen self.now).peering peer.0 }
+    {
+        match self.peerings.get(peer.0 as usize) {
+            Some(Some(peering)) => Some(peering),
+            Some(None) | None => None,
+        }
+    }
+
+    // Whether the session with a neighbour is up.
+    pub(crate) fn is_up(&self, peer: EdgeId) -> bool
+        ensures { result ≡ was_up ((seen self.now).peering peer.0) }
+    {
+        match self.peering(peer) {
+            Some(peering) => peering.is_up(),
+            None => false,
+        }
+    }
+
+    // Takes out what is kept of a neighbour.
+    pub(crate) fn take_peering(&mut self, peer: EdgeId) -> Option<Peering>
+        requires working { self.old.stopped ≡ true }
+        ensures keeps { Keeps self.old self.new }
+        ensures taken { result ≡ (seen self.old).peering peer.0 }
+        ensures within { IfSome result (λ peering. peer.0 < length self.old.plan.edges) }
+        ensures step { seen self.new ≡ with_peering peer None (seen self.old) }
+    {
+        if peer.0 as usize >= self.peerings.len() {
+            return None;
+        }
+        self.peerings[peer.0 as usize].take()
+    }
+
+    // Keeps this of a neighbour, or nothing any more.
+    pub(crate) fn put_peering(&mut self, peer: EdgeId, kept: Option<Peering>)
+        requires working { self.old.stopped ≡ true }
+        requires within { peer.0 < length self.old.plan.edges }
+        ensures keeps { Keeps self.old self.new }
+        ensures step { seen self.new ≡ with_peering peer kept (seen self.old) }
+    {
+        self.peerings[peer.0 as usize] = kept;
+    }
+
+    // Each end beside a neighbour is lost.
+    fn lose_ends(&mut self, peer: EdgeId)
+        requires working { self.old.stopped ≡ true }
+        ensures keeps { Keeps self.old self.new }
+        ensures step { seen self.new ≡ with_ends_beside peer lost (seen self.old) }
+    {
+        self.ends.lose(peer);
+    }
+
+    // Where no session with a neighbour stands, each end beside it is lost (RFC 5036 section 3.5.1.1).
+    fn clear_ends(&mut self, peer: EdgeId)
+        requires working { self.old.stopped ≡ true }
+        ensures keeps { Keeps self.old self.new }
+        ensures step { (calls : List LinkCall) (out : List Effect) → at_edge (seen self.new) calls out ≡ clears_ends peer (at_edge (seen self.old) calls out) }
+    {
+        if !self.has_end(peer) {
+            self.lose_ends(peer);
+        }
+    }
+
+    // No session stands any more.
+    pub(crate) fn drop_peerings(&mut self)
+        requires working { self.old.stopped ≡ true }
+        ensures keeps { Keeps self.old self.new }
+        ensures step { seen self.new ≡ without_peerings (seen self.old) }
+    {
+        drop_all(&mut self.peerings);
+    }
+
+    // Something happens to the session with a peer, where it stands; its ends are lost where it ends.
+    pub(crate) fn happens<L: Link>(
+        &mut self,
+        peer: EdgeId,
+        event: Event<'_>,
+        work: &mut AtWork<'_, L>,
+    ) -> Result<(), NoMemory>
+        requires working { self.old.stopped ≡ true }
+        requires may { MayHappen event }
+        ensures goes { Works L.calls self.old work.old self.new work.new }
+        ensures ended { OnOk result ((wrong : DecodeFault) → event_of event.entry ≡ Refused wrong → (seen self.new).peering peer.0 ≡ None) }
+        ensures step { OnOk result ((told : Answers) → Agrees told (L.calls work.new.link.now)
+            → at_work L.calls self.new work.new ≡ happens_with_ends told peer (event_of event.entry) (at_work L.calls self.old work.old)) }
+    {
+        self.moves(peer, event, work)?;
+        self.clear_ends(peer);
+        Ok(())
+    }
+
+    // The same, but for the ends.
+    fn moves<L: Link>(
+        &mut self,
+        peer: EdgeId,
+        event: Event<'_>,
+        work: &mut AtWork<'_, L>,
+    ) -> Result<(), NoMemory>
+        requires working { self.old.stopped ≡ true }
+        requires may { MayHappen event }
+        ensures goes { Works L.calls self.old work.old self.new work.new }
+        ensures ended { OnOk result ((wrong : DecodeFault) → event_of event.entry ≡ Refused wrong → (seen self.new).peering peer.0 ≡ None) }
+        ensures step { OnOk result ((told : Answers) → Agrees told (L.calls work.new.link.now)
+            → at_work L.calls self.new work.new ≡ happens told peer (event_of event.entry) (at_work L.calls self.old work.old)) }
+    {
+        let Some(peering) = self.take_peering(peer) else {
+            return Ok(());
+        };
+        let left = peering.happens(peer, event, work)?;
+        self.put_peering(peer, left);
+        Ok(())
+    }
+
+    // The edge's end of the connection with a peer is lost, and so its session ends, where it stands.
+    pub(crate) fn lose<L: Link>(
+        &mut self,
+        peer: EdgeId,
+        work: &mut AtWork<'_, L>,
+    ) -> Result<(), NoMemory>
+        requires working { self.old.stopped ≡ true }
+        ensures goes { Works L.calls self.old work.old self.new work.new }
+        ensures step { OnOk result ((told : Answers) → Agrees told (L.calls work.new.link.now)
+            → at_work L.calls self.new work.new ≡ happens_with_ends told peer (Closed reason.Closed) (at_work L.calls self.old work.old)) }
+    {
+        self.closes(peer, work)?;
+        self.clear_ends(peer);
+        Ok(())
+    }
+
+    // The same, but for the ends.
+    fn closes<L: Link>(
+        &mut self,
+        peer: EdgeId,
+        work: &mut AtWork<'_, L>,
+    ) -> Result<(), NoMemory>
+        requires working { self.old.stopped ≡ true }
+        ensures goes { Works L.calls self.old work.old self.new work.new }
+        ensures step { OnOk result ((told : Answers) → Agrees told (L.calls work.new.link.now)
+            → at_work L.calls self.new work.new ≡ happens told peer (Closed reason.Closed) (at_work L.calls self.old work.old)) }
+    {
+        let Some(peering) = self.take_peering(peer) else {
+            return Ok(());
+        };
+        peering.lose(peer, work)
+    }
+
+    // Puts a message about a pseudowire to a peer, with the Message ID that is next, and answers whether the link did not
+    // take it; nothing is put where no session stands. A message that the link did not take ends the session, and its ends
+    // are lost.
+    pub(crate) fn say<L: Link>(
+        &mut self,
+        peer: EdgeId,
+        message: &PwMessage<'_>,
+        work: &mut AtWork<'_, L>,
+    ) -> Result<bool, NoMemory>
+        requires working { self.old.stopped ≡ true }
+        requires said { CanBeSaid message.now }
+        ensures goes { Works L.calls self.old work.old self.new work.new }
+        ensures step { IfOk result (λ failed. (told : Answers) → Agrees told (L.calls work.new.link.now)
+            → record { work = at_work L.calls self.new work.new; failed = failed } ≡ says told peer (numbered message.now) (at_work L.calls self.old work.old)) }
+    {
+        let Some(peering) = self.take_peering(peer) else {
+            return Ok(false);
+        };
+        let left = peering.say(peer, message, work)?;
+        let failed = left.is_none();
+        self.put_peering(peer, left);
+        self.clear_ends(peer);
+        Ok(failed)
+    }
+
+    // Puts an advisory to a peer with which a session stands. One that the link did not take ends the session, and its ends
+    // are lost.
+    pub(crate) fn advise<L: Link>(
+        &mut self,
+        peer: EdgeId,
+        reply: Reply,
+        work: &mut AtWork<'_, L>,
+    ) -> Result<(), NoMemory>
+        requires working { self.old.stopped ≡ true }
+        requires data { HasData reply }
+        requires stands { has_end (seen self.old) peer ≡ true }
+        ensures goes { Works L.calls self.old work.old self.new work.new }
+        ensures step { OnOk result ((told : Answers) → Agrees told (L.calls work.new.link.now)
+            → at_work L.calls self.new work.new ≡ advises told peer (Some reply) (at_work L.calls self.old work.old)) }
+    {
+        let Some(peering) = self.take_peering(peer) else {
+            return Ok(());
+        };
+        let left = peering.put(peer, reply, work)?;
+        self.put_peering(peer, left);
+        self.clear_ends(peer);
+        Ok(())
+    }
+}
+
+// No session stands any more.
+#[tactic(auto, using(edge_forwarding::proofs::EachLemmas::each_next))]
+fn drop_all(peerings: &mut Vec<Option<Peering>>)
+    ensures { peerings.new.items ≡ map gone peerings.old.items }
+{
+    for kept in peerings.iter_mut() {
+        *kept = None;
+    }
+}

@@ -1,0 +1,239 @@
+//! A MAC withdraw is heard: the bridge of the wire's service forgets, and the edge passes it on (RFC 4762 section 6.2).
+ghost use Rattle.std.specs.Prelude.{◌≡◌, ◌<◌, ◌≤◌, Some, None, true, length, position, slice_get, if◌then◌else◌, IfSome, OnOk};
+ghost use Rattle.hvpls_spokes.specs.Port.{is_wire_port, ports_of};
+ghost use Rattle.hvpls_spokes.specs.PortSet.{has};
+ghost use Rattle.hvpls_spokes.specs.Role.{role_of};
+ghost use Rattle.mac_withdraw.specs.Passing.{is_wire_at};
+ghost use Rattle.pw_ends.specs.Ends.{place_of};
+ghost use Rattle.edge_model.specs.Clear.{clears_at, clears_by, hears_mac_withdraw, passes_on, tells_at, tells_by, withdrawing_at};
+ghost use Rattle.edge_model.specs.Ends.{wire_end};
+ghost use Rattle.edge_model.specs.Frame.{copies};
+ghost use Rattle.edge_model.specs.Work.{Agrees, Answers};
+ghost use Rattle.provider_edge.specs.Taking.{copied_by};
+ghost use Rattle.provider_edge.specs.AtWork.{Works, at_work};
+ghost use Rattle.provider_edge.specs.Lists.{Keeps, seen};
+
+use crate::Edge;
+use crate::passing::Passing;
+use hvpls_spokes::{Port, role};
+use mac_withdraw::pass_to;
+use net_base::{EdgeId, Link, List, Mac, NoMemory, ServiceId, WireId};
+use peer_dialogue::AtWork;
+use pw_tlvs::PwFec;
+
+impl Edge {
+    // Address Withdraw with a FEC and a MAC list: the bridge of the service of the wire that the FEC names forgets, whatever the
+    // state of its end, and the edge passes the addresses on. Without a known PW ID it changes nothing.
+    pub(crate) fn hear_mac_withdraw<L: Link>(
+        &mut self,
+        peer: EdgeId,
+        fec: &Option<PwFec>,
+        macs: &Option<List<Mac>>,
+        work: &mut AtWork<'_, L>,
+    ) -> Result<(), NoMemory>
+        requires working { self.old.stopped ≡ true }
+        ensures goes { Works L.calls self.old work.old self.new work.new }
+        ensures step { OnOk result ((told : Answers) → Agrees told (L.calls work.new.link.now)
+            → at_work L.calls self.new work.new ≡ hears_mac_withdraw self.old.plan told peer fec.now macs.now (at_work L.calls self.old work.old)) }
+    {
+        let Some(fec) = fec else {
+            return Ok(());
+        };
+        let Some(addresses) = macs else {
+            return Ok(());
+        };
+        let Some(slot) = self.slot_of(peer, fec) else {
+            return Ok(());
+        };
+        self.clear_by(slot, addresses, work)
+    }
+
+    // What came by the end of a slot is for its service, where the end is a terminal one.
+    fn clear_by<L: Link>(
+        &mut self,
+        slot: usize,
+        addresses: &List<Mac>,
+        work: &mut AtWork<'_, L>,
+    ) -> Result<(), NoMemory>
+        requires working { self.old.stopped ≡ true }
+        requires slot { slot < length self.old.ends.places }
+        ensures goes { Works L.calls self.old work.old self.new work.new }
+        ensures step { OnOk result ((told : Answers) → Agrees told (L.calls work.new.link.now)
+            → at_work L.calls self.new work.new ≡ clears_by self.old.plan told addresses.now (Some (place_of self.old.ends slot)) (at_work L.calls self.old work.old)) }
+    {
+        let place = self.place_at(slot);
+        if !place.terminal {
+            return Ok(());
+        }
+        let service = self.service_at(slot);
+        let port = self.wire_port(place.wire, service);
+        self.clear_at(service, port, addresses, work)
+    }
+
+    // The port of a wire of a service.
+    fn wire_port(&self, wire: WireId, service: ServiceId) -> Option<u16>
+        requires { service.0 < length self.now.plan.services }
+        ensures { result ≡ position (is_wire_port wire) (ports_of self.now.plan service self.now.me) }
+    {
+        self.forwarding.port_of_wire(wire, service)
+    }
+
+    // The bridge of a service forgets what came by a port names, and the edge passes it on.
+    fn clear_at<L: Link>(
+        &mut self,
+        service: ServiceId,
+        port: Option<u16>,
+        addresses: &List<Mac>,
+        work: &mut AtWork<'_, L>,
+    ) -> Result<(), NoMemory>
+        requires working { self.old.stopped ≡ true }
+        requires service { service.0 < length self.old.plan.services }
+        requires wire { IfSome port (λ from. is_wire_at (ports_of self.old.plan service self.old.me) from ≡ true) }
+        ensures goes { Works L.calls self.old work.old self.new work.new }
+        ensures step { OnOk result ((told : Answers) → Agrees told (L.calls work.new.link.now)
+            → at_work L.calls self.new work.new ≡ clears_at self.old.plan told addresses.now service port (at_work L.calls self.old work.old)) }
+    {
+        let Some(from) = port else {
+            return Ok(());
+        };
+        self.withdraw_at(service, from, addresses);
+        self.pass_on(service, from, addresses.as_slice(), work)
+    }
+
+    // The bridge of a service forgets what a MAC withdraw by a port names.
+    #[tactic(auto, using(crate::proofs::ForwardLemmas::holds_forwarding, crate::proofs::ForwardLemmas::keeps_forwarding))]
+    fn withdraw_at(&mut self, service: ServiceId, from: u16, addresses: &List<Mac>)
+        requires working { self.old.stopped ≡ true }
+        requires within { service.0 < length self.old.plan.services }
+        ensures keeps { Keeps self.old self.new }
+        ensures step { seen self.new ≡ withdrawing_at service addresses.now from (seen self.old) }
+    {
+        self.forwarding.withdraw(service, from, addresses);
+    }
+
+    // What came by a port goes on by each port to which the edge passes it.
+    fn pass_on<L: Link>(
+        &mut self,
+        service: ServiceId,
+        from: u16,
+        addresses: &[Mac],
+        work: &mut AtWork<'_, L>,
+    ) -> Result<(), NoMemory>
+        requires working { self.old.stopped ≡ true }
+        requires service { service.0 < length self.old.plan.services }
+        requires wire { is_wire_at (ports_of self.old.plan service self.old.me) from ≡ true }
+        ensures goes { Works L.calls self.old work.old self.new work.new }
+        ensures step { OnOk result ((told : Answers) → Agrees told (L.calls work.new.link.now)
+            → at_work L.calls self.new work.new
+            ≡ passes_on self.old.plan told addresses.now service from (role_of self.old.plan service self.old.me) (at_work L.calls self.old work.old)) }
+    {
+        let Some(role) = role(&self.plan, service, self.me) else {
+            return Ok(());
+        };
+        let Some(ports) = self.ports(service) else {
+            return Ok(());
+        };
+        let passed = pass_to(ports, role, from);
+        let count = ports.len();
+        let passing = Passing {
+            service,
+            ports: &passed,
+            addresses,
+        };
+        self.tell_passed(count, &passing, work)
+    }
+
+    // The addresses go on by those of the ports of a service to which the edge passes them, in port order.
+    fn tell_passed<L: Link>(
+        &mut self,
+        count: u16,
+        passing: &Passing<'_>,
+        work: &mut AtWork<'_, L>,
+    ) -> Result<(), NoMemory>
+        requires working { self.old.stopped ≡ true }
+        requires service { passing.now.service.0 < length self.old.plan.services }
+        requires count { count ≡ length (ports_of self.old.plan passing.now.service self.old.me) }
+        requires most { count ≤ 512 }
+        ensures goes { Works L.calls self.old work.old self.new work.new }
+        ensures step { OnOk result ((told : Answers) → Agrees told (L.calls work.new.link.now)
+            → at_work L.calls self.new work.new
+            ≡ copies (has passing.now.ports.now) (tells_at self.old.plan told passing.now.addresses.now) 0 (ports_of self.old.plan passing.now.service self.old.me) (at_work L.calls self.old work.old)) }
+    {
+        for port in 0..count {
+            self.tell_where(port, passing, work)?;
+        }
+        Ok(())
+    }
+
+    // The addresses go on by the port of a number, where the edge passes them to it.
+    fn tell_where<L: Link>(
+        &mut self,
+        port: u16,
+        passing: &Passing<'_>,
+        work: &mut AtWork<'_, L>,
+    ) -> Result<(), NoMemory>
+        requires working { self.old.stopped ≡ true }
+        requires service { passing.now.service.0 < length self.old.plan.services }
+        requires port { port < 512 }
+        ensures goes { Works L.calls self.old work.old self.new work.new }
+        ensures step { OnOk result ((told : Answers) → Agrees told (L.calls work.new.link.now)
+            → at_work L.calls self.new work.new
+            ≡ (if has passing.now.ports.now port then copied_by (tells_at self.old.plan told passing.now.addresses.now) (slice_get (ports_of self.old.plan passing.now.service self.old.me) port) (at_work L.calls self.old work.old) else at_work L.calls self.old work.old)) }
+    {
+        if !passing.ports.contains(port) {
+            return Ok(());
+        }
+        match self.port(passing.service, port) {
+            Some(port) => self.tell_at(port, passing.addresses, work),
+            None => Ok(()),
+        }
+    }
+
+    // The port of a service with a number.
+    fn port(&self, service: ServiceId, port: u16) -> Option<Port>
+        requires { service.0 < length self.now.plan.services }
+        ensures { result ≡ slice_get (ports_of self.now.plan service self.now.me) port }
+    {
+        match self.ports(service) {
+            Some(ports) => ports.get(port),
+            None => None,
+        }
+    }
+
+    // The addresses go on by a port, where it leads to a wire.
+    fn tell_at<L: Link>(
+        &mut self,
+        port: Port,
+        addresses: &[Mac],
+        work: &mut AtWork<'_, L>,
+    ) -> Result<(), NoMemory>
+        requires working { self.old.stopped ≡ true }
+        ensures goes { Works L.calls self.old work.old self.new work.new }
+        ensures step { OnOk result ((told : Answers) → Agrees told (L.calls work.new.link.now)
+            → at_work L.calls self.new work.new ≡ tells_at self.old.plan told addresses.now port (at_work L.calls self.old work.old)) }
+    {
+        match port {
+            Port::Circuit(_) => Ok(()),
+            Port::Mesh(wire) => self.tell_wire(wire, addresses, work),
+            Port::Spoke(wire) => self.tell_wire(wire, addresses, work),
+        }
+    }
+
+    // The addresses go on by a wire, in pieces.
+    fn tell_wire<L: Link>(
+        &mut self,
+        wire: WireId,
+        addresses: &[Mac],
+        work: &mut AtWork<'_, L>,
+    ) -> Result<(), NoMemory>
+        requires working { self.old.stopped ≡ true }
+        ensures goes { Works L.calls self.old work.old self.new work.new }
+        ensures step { OnOk result ((told : Answers) → Agrees told (L.calls work.new.link.now)
+            → at_work L.calls self.new work.new ≡ tells_by told addresses.now (wire_end self.old.plan self.old.me wire) (at_work L.calls self.old work.old)) }
+    {
+        match self.ends.terminal(wire) {
+            Some(slot) => self.tell_pieces(slot, addresses, work),
+            None => Ok(()),
+        }
+    }
+}

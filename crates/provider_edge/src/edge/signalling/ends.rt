@@ -1,0 +1,129 @@
+//! What becomes of the ends of an edge, one call a change.
+ghost use Rattle.std.specs.Prelude.{◌≡◌, ◌<◌, ◌≤◌, ◌+◌, length, Some, None, option_map, IfSome, true};
+ghost use Rattle.label_space.specs.Labels.{numbers_end};
+ghost use Rattle.pw_signalling.specs.Rows.{bound, group_stated, group_unbound, released, stated, telling, unbound};
+ghost use Rattle.pw_ends.specs.Ends.{IsIdle, end_in, place_of};
+ghost use Rattle.edge_model.specs.EndPlaces.{end_named};
+ghost use Rattle.edge_model.specs.Mend.{advertising, telling_status, withdrawing};
+ghost use Rattle.edge_model.specs.Signal.{end_of_fec, with_end_changed};
+ghost use Rattle.edge_model.specs.State.{with_ends_beside};
+ghost use Rattle.provider_edge.specs.Lists.{Keeps, seen};
+
+use crate::Edge;
+use net_base::{EdgeId, Label};
+use pw_signalling::{Binding, Told};
+use pw_tlvs::{PwFec, PwStatus};
+
+impl Edge {
+    // The slot of the end beside a peer with this PW ID.
+    pub(crate) fn slot_named(&self, peer: EdgeId, pw_id: u32) -> Option<usize>
+        ensures named { option_map (place_of self.now.ends) result ≡ end_named self.now.plan self.now.me peer pw_id }
+        ensures slot { IfSome result (λ slot. slot < length self.now.ends.places) }
+    {
+        self.ends.find(peer, pw_id)
+    }
+
+    // The slot of the end that a FEC names, beside the peer that sent it; a FEC without a PW ID names none.
+    pub(crate) fn slot_of(&self, peer: EdgeId, fec: &PwFec) -> Option<usize>
+        ensures named { option_map (place_of self.now.ends) result ≡ end_of_fec self.now.plan (seen self.now) peer fec.now }
+        ensures slot { IfSome result (λ slot. slot < length self.now.ends.places) }
+    {
+        match fec.pw_id {
+            Some(pw_id) => self.slot_named(peer, pw_id),
+            None => None,
+        }
+    }
+
+    // A binding replaces the one that was held.
+    pub(crate) fn bind(&mut self, slot: usize, binding: &Binding)
+        requires working { self.old.stopped ≡ true }
+        requires slot { slot < length self.old.ends.places }
+        ensures keeps { Keeps self.old self.new }
+        ensures step { seen self.new ≡ with_end_changed (bound binding.now) (Some (place_of self.old.ends slot)) (seen self.old) }
+    {
+        self.ends.on_mapping(slot, binding);
+    }
+
+    // The binding goes, where the label is absent or its own.
+    pub(crate) fn unbind(&mut self, slot: usize, label: Option<Label>)
+        requires working { self.old.stopped ≡ true }
+        requires slot { slot < length self.old.ends.places }
+        ensures keeps { Keeps self.old self.new }
+        ensures step { seen self.new ≡ with_end_changed (unbound label) (Some (place_of self.old.ends slot)) (seen self.old) }
+    {
+        self.ends.on_withdraw(slot, label);
+    }
+
+    // Each binding of a peer's group goes.
+    pub(crate) fn unbind_group(&mut self, peer: EdgeId, group: u32)
+        requires working { self.old.stopped ≡ true }
+        ensures keeps { Keeps self.old self.new }
+        ensures step { seen self.new ≡ with_ends_beside peer (group_unbound group) (seen self.old) }
+    {
+        self.ends.on_group_withdraw(peer, group);
+    }
+
+    // The own label is released, or declined.
+    pub(crate) fn release_own(&mut self, slot: usize, label: Option<Label>)
+        requires working { self.old.stopped ≡ true }
+        requires slot { slot < length self.old.ends.places }
+        ensures keeps { Keeps self.old self.new }
+        ensures step { seen self.new ≡ with_end_changed (released label) (Some (place_of self.old.ends slot)) (seen self.old) }
+    {
+        self.ends.on_release(slot, label);
+    }
+
+    // The status of the binding, where one is held.
+    pub(crate) fn state(&mut self, slot: usize, status: PwStatus)
+        requires working { self.old.stopped ≡ true }
+        requires slot { slot < length self.old.ends.places }
+        ensures keeps { Keeps self.old self.new }
+        ensures step { seen self.new ≡ with_end_changed (stated status) (Some (place_of self.old.ends slot)) (seen self.old) }
+    {
+        self.ends.on_status(slot, status);
+    }
+
+    // The status of each binding of a peer's group.
+    pub(crate) fn state_group(&mut self, peer: EdgeId, group: u32, status: PwStatus)
+        requires working { self.old.stopped ≡ true }
+        ensures keeps { Keeps self.old self.new }
+        ensures step { seen self.new ≡ with_ends_beside peer (group_stated group status) (seen self.old) }
+    {
+        self.ends.on_group_status(peer, group, status);
+    }
+
+    // An idle end advertises the next label with its content; `None` exactly where no label is left.
+    pub(crate) fn advertise(&mut self, slot: usize, told: &Told) -> Option<Label>
+        requires working { self.old.stopped ≡ true }
+        requires slot { slot < length self.old.ends.places }
+        requires idle { IsIdle (end_in self.old.ends slot).local }
+        requires kind { told.now.kind ≤ 0x7FFF }
+        ensures keeps { Keeps self.old self.new }
+        ensures none { result ≡ None → ((seen self.old).next_label ≡ numbers_end) × (seen self.new ≡ seen self.old) }
+        ensures step { IfSome result (λ label. ((seen self.old).next_label ≡ numbers_end → ⊥)
+            × (label ≡ (seen self.old).next_label)
+            × (seen self.new ≡ advertising (place_of self.old.ends slot) label told.now (seen self.old))) }
+    {
+        self.ends.advertise(slot, told)
+    }
+
+    // An end withdraws its label.
+    pub(crate) fn withdraw(&mut self, slot: usize)
+        requires working { self.old.stopped ≡ true }
+        requires slot { slot < length self.old.ends.places }
+        ensures keeps { Keeps self.old self.new }
+        ensures step { seen self.new ≡ withdrawing (place_of self.old.ends slot) (seen self.old) }
+    {
+        self.ends.withdraw(slot);
+    }
+
+    // An end tells a new status.
+    pub(crate) fn tell(&mut self, slot: usize, status: PwStatus)
+        requires working { self.old.stopped ≡ true }
+        requires slot { slot < length self.old.ends.places }
+        ensures keeps { Keeps self.old self.new }
+        ensures step { seen self.new ≡ telling_status (place_of self.old.ends slot) status (seen self.old) }
+    {
+        self.ends.tell(slot, status);
+    }
+}
