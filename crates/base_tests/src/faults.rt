@@ -7,6 +7,7 @@ use ldp_stream::StreamFault;
 use net_base::Field;
 use pcap_file::{CaptureFault, CaptureField};
 use provider_edge::EdgeStop;
+use pw_stitch::SwapDrop;
 use vccv_channel::VccvFault;
 
 static OF_FRAMES: [(FrameFault, &str); 7] = [
@@ -35,6 +36,11 @@ static OF_CHANNELS: [(VccvFault, &str); 6] = [
         VccvFault::NotOffered,
         "a control channel that was not agreed on",
     ),
+];
+
+static OF_SWAPS: [(SwapDrop, &str); 2] = [
+    (SwapDrop::NoBinding, "no label is bound on the other side"),
+    (SwapDrop::Expired, "the TTL has run out"),
 ];
 
 static OF_CAPTURES: [(CaptureFault, &str); 6] = [
@@ -104,6 +110,7 @@ fn say_what_is_wrong(rt: HostRuntime) {
     let alloc = rt.alloc();
     all_say(&rt, alloc, OF_FRAMES.as_slice());
     all_say(&rt, alloc, OF_CHANNELS.as_slice());
+    all_say(&rt, alloc, OF_SWAPS.as_slice());
     all_say(&rt, alloc, OF_CAPTURES.as_slice());
     all_say(&rt, alloc, OF_PDUS.as_slice());
     all_say(&rt, alloc, OF_STREAMS.as_slice());

@@ -6,6 +6,7 @@ mod scripts;
 mod sessions;
 mod spokes;
 mod statuses;
+mod stitches;
 mod streams;
 mod tables;
 mod values;

@@ -15,7 +15,7 @@ use Rattle.pw_stitch.specs.declared.side.Side.TheVariants.{Before, After}
 use Rattle.pw_stitch.specs.Accepting.{is_point_at, most_points}
 use Rattle.pw_stitch.specs.Laws.{BreaksLoops, CarriesBothWays, ChangesLabelAlone}
 use Rattle.pw_stitch.specs.Passing.{own_point, past_point}
-use Rattle.pw_stitch.specs.Relabel.{relabelled}
+use Rattle.pw_stitch.specs.Relabelling.{relabelled}
 use Rattle.pw_stitch.specs.Side.{opposite}
 use Rattle.pw_stitch.specs.Stitch.{has_told, is_joined_end}
 use Rattle.pw_stitch.specs.Swap.{label_onward, next_by}

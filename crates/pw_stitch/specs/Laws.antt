@@ -9,7 +9,7 @@ use Rattle.pw_signalling.specs.declared.told.Told.{Told}
 use Rattle.pw_stitch.specs.declared.side.Side.{Side}
 use Rattle.pw_stitch.specs.Accepting.{accepts}
 use Rattle.pw_stitch.specs.Passing.{own_point, wanted}
-use Rattle.pw_stitch.specs.Relabel.{relabelled}
+use Rattle.pw_stitch.specs.Relabelling.{relabelled}
 use Rattle.pw_stitch.specs.Side.{opposite}
 use Rattle.pw_stitch.specs.Stitch.{StitchState, end_on, held_across, is_through}
 use Rattle.pw_stitch.specs.Swap.{IsOfOneSide, swapped, takes_label}

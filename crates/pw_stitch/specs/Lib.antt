@@ -3,7 +3,7 @@ pub mod Change
 pub mod Drop
 pub mod Laws
 pub mod Passing
-pub mod Relabel
+pub mod Relabelling
 pub mod Side
 pub mod Stitch
 pub mod Swap

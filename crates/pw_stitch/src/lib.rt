@@ -2,11 +2,11 @@
 //! it accepts, and how it passes packets on.
 //!
 //! A `Stitch` has an end of each side. `specs/Passing.antt` says what is passed on, `specs/Accepting.antt` what is accepted,
-//! and `specs/Swap.antt` with `specs/Relabel.antt` how a packet goes on.
+//! and `specs/Swap.antt` with `specs/Relabelling.antt` how a packet goes on.
 #![tactic(auto)]
 
 mod accepting;
-mod content;
+mod change;
 mod laws;
 mod next;
 mod relabelling;
@@ -15,7 +15,7 @@ mod stitch;
 mod swap_drop;
 
 pub use accepting::accepts;
-pub use content::is_same_but_status;
+pub use change::is_same_but_status;
 pub use laws::{breaks_loops, carries_both_ways, changes_label_alone};
 pub use next::Next;
 pub use relabelling::relabel;

@@ -1,6 +1,6 @@
 //! A packet gets another label.
 ghost use Rattle.std.specs.Prelude.{◌≡◌, ◌≤◌, length};
-ghost use Rattle.pw_stitch.specs.Relabel.{relabelled};
+ghost use Rattle.pw_stitch.specs.Relabelling.{relabelled};
 
 use byteorder::{BigEndian, ByteOrder};
 use net_base::Label;

@@ -1,5 +1,5 @@
 //! A switching point of one pseudowire.
-ghost use Rattle.std.specs.Prelude.{◌≡◌, ◌≤◌, ◌<◌, ◌+◌, ◌↔◌, length, None, Some, Err, IfOk, IfSome, IsSome, option_copied};
+ghost use Rattle.std.specs.Prelude.{◌≡◌, ◌≤◌, ◌<◌, ◌+◌, ◌↔◌, true, length, None, Some, Err, IfOk, IfSome, IsSome, option_copied};
 ghost use Rattle.pw_signalling.specs.AnyEnd.{end_of};
 ghost use Rattle.pw_stitch.specs.declared.swap_drop.SwapDrop.TheVariants.{NoBinding, Expired};
 ghost use Rattle.pw_stitch.specs.Passing.{own_point, passed_status, past_point, wanted};
@@ -63,10 +63,10 @@ impl Stitch {
         }
     }
 
-    /// What the end of a side should tell its peer (RFC 6073 section 7): all that is held of the peer on the other side, whose
-    /// address is `far`, behind the own point, with the own address and the PW ID of the segment before. `None` exactly where
-    /// no binding is held on the other side: a switching point tells nothing on a side before it was told something on the
-    /// other. What is held there has passed fewer than three switching points.
+    /// What the end of a side should tell its peer (RFC 6073 section 7): all that is held of the peer on the other side, with the own
+    /// point behind the points that are there: this PW ID, the own address, and the address `far` of that peer. `None` exactly
+    /// where no binding is held on the other side, so nothing is told on a side before the other one is bound. What is held there
+    /// has passed fewer than three switching points.
     pub fn wanted(&self, side: Side, own: Addr, far: Addr, pw_id: u32) -> Option<Told>
         requires room { IfSome (held_across side self.now) (λ binding. length binding.told.points < 3) }
         ensures told { result ≡ wanted (own_point pw_id (Some own) (Some far)) (held_across side self.now) }
@@ -94,9 +94,16 @@ impl Stitch {
         }
     }
 
+    /// Whether exactly one side advertises the label, as `swap` asks for.
+    pub fn takes(&self, label: Label) -> bool
+        ensures one { result ≡ true ↔ IsOfOneSide label self.now }
+    {
+        takes_label(label, &self.before) != takes_label(label, &self.after)
+    }
+
     /// How a packet goes on that comes with this label and TTL: by the other side, under the label that is bound there, and with
     /// a TTL that is one less (RFC 6073 section 4, RFC 3032 section 2.4.2). `NoBinding` comes exactly where none is bound there,
-    /// and `Expired` exactly where one is and the TTL is 1. Exactly one side advertises the label, and the TTL is not 0.
+    /// and `Expired` exactly where one is and the TTL is 1. Exactly one side advertises the label (`takes`), and the TTL is not 0.
     pub fn swap(&self, label: Label, ttl: u8) -> Result<Next, SwapDrop>
         requires one { IsOfOneSide label self.now }
         requires living { 1 ≤ ttl }
