@@ -232,10 +232,12 @@ impl Parts {
         ensures fit { IfOk result (λ effects. AllFit self.old.plan effects.list) }
     {
         let mut link = PsnLink::new();
-        match self.edges[me.0 as usize].take(alloc, input, &mut link) {
-            Ok(effects) => Ok(effects),
-            Err(_) => Err(NoMemory),
-        }
+        let effects = match self.edges[me.0 as usize].take(alloc, input, &mut link) {
+            Ok(effects) => effects,
+            Err(_) => return Err(NoMemory),
+        };
+        link.close();
+        Ok(effects)
     }
 
     /// The plan.

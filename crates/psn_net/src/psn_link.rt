@@ -1,5 +1,7 @@
 //! The link of an edge in the network.
 ghost use Rattle.std.specs.Prelude.{◌≡◌, ◌++◌, ◌∷◌, [], true, false};
+ghost use Rattle.edge_model.specs.Work.{Agrees};
+ghost use Rattle.network_model.specs.Absorb.{taken_all};
 ghost use Rattle.net_base.specs.outside.Link.{Counts, IsCallAnswer, call_of};
 
 use crate::call::Call;
@@ -36,6 +38,12 @@ impl PsnLink {
         PsnLink {
             log: CallLog::new(),
         }
+    }
+
+    /// Gives the link up, which took every call.
+    pub fn close(self)
+        ensures { Agrees taken_all self }
+    {
     }
 
     // Takes a call.

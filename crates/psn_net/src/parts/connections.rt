@@ -108,14 +108,16 @@ impl Parts {
     {
         let bytes = self.pipes.front(from, to, count as usize);
         let mut link = PsnLink::new();
-        match self.edges[to.0 as usize].take(
+        let effects = match self.edges[to.0 as usize].take(
             alloc,
             Input::Octets { peer: from, bytes },
             &mut link,
         ) {
-            Ok(effects) => Ok(effects),
-            Err(_) => Err(NoMemory),
-        }
+            Ok(effects) => effects,
+            Err(_) => return Err(NoMemory),
+        };
+        link.close();
+        Ok(effects)
     }
 
     // The pipe gives up the octets.
