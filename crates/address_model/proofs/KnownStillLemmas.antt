@@ -8,7 +8,6 @@ use Rattle.net_base.specs.declared.plan.places.ServiceId.{ServiceId}
 use Rattle.net_base.specs.declared.trace.event.Event.{Event}
 use Rattle.net_base.specs.declared.trace.event.Event.TheVariants.{Frame, Arrive, Discard, Again}
 use Rattle.net_base.specs.plan.Places.{circuit_row}
-use Rattle.hvpls_spokes.specs.declared.port.Port.TheVariants as port
 use Rattle.edge_model.specs.Frame.{hearing}
 use Rattle.edge_model.specs.State.{EdgeState, with_addresses, with_learned}
 use Rattle.edge_model.proofs.LocalLemmas.{and_left, and_right}

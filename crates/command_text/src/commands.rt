@@ -3,7 +3,7 @@ ghost use Rattle.std.specs.Prelude.{◌≡◌, ◌≤◌, ◌+◌, length, IfOk}
 ghost use Rattle.std.specs.List.{All};
 ghost use Rattle.toml.specs.View.{view, items_view};
 ghost use Rattle.command_text.specs.declared.plan_names.PlanNames.{PlanNames};
-ghost use Rattle.command_text.specs.Events.{most_events, repeats_in, tick_in, play_in, one, many_of, part_command, packet_command, command_of, command_in, event_in, plays_after, commands_in};
+ghost use Rattle.command_text.specs.Events.{most_events, repeats_in, tick_in, play_in, one, many_of, part_command, packet_command, command_of, event_in, plays_after, commands_in};
 ghost use Rattle.command_text.specs.Reading.{Gives};
 ghost use Rattle.command_text.specs.Planned.{IsCount, IsAmong, IsInPlanNames};
 

@@ -1,5 +1,5 @@
 //! The events of a document.
-ghost use Rattle.std.specs.Prelude.{◌≡◌, ◌≤◌, length, IfOk};
+ghost use Rattle.std.specs.Prelude.{◌≡◌, IfOk};
 ghost use Rattle.command_text.specs.Events.{connect_in, deliver_in, lose_in, restart_in, frame_event_in, packet_in, wire_switch_in, circuit_switch_in, status_in, priority_event_in, ping_in};
 ghost use Rattle.command_text.specs.Reading.{Gives};
 ghost use Rattle.command_text.specs.Planned.{IsAmong};

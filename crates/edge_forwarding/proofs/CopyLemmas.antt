@@ -1,5 +1,5 @@
 -- A copy of a frame is made of two pieces: what stands up to its addresses, and the rest of it.
-use Rattle.std.proofs.Common.{◌≡◌, ◌+◌, ◌++◌, ◌∷◌, ◌∙◌, [], ℕ, Bool, true, List, Option, Some, None, take, drop, ap, sym, append_assoc, append-nil}
+use Rattle.std.proofs.Common.{◌≡◌, ◌+◌, ◌++◌, ◌∙◌, [], ℕ, Bool, true, List, Option, Some, None, take, drop, ap, sym, append_assoc, append-nil}
 use Rattle.std.proofs.lemmas.List.{drop-take, take-append-drop}
 use Rattle.net_base.specs.trace.Frame.{dress, tag_octets}
 use Rattle.eth_encap.specs.Packet.{control_word, entry_octets, packed}

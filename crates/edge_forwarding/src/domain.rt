@@ -1,5 +1,5 @@
 //! A bridged domain: one service at an edge.
-ghost use Rattle.std.specs.Prelude.{◌≡◌, ◌≤◌, ◌<◌, ◌+◌, ◌==◌, ◌&&◌, not, map, ℕ, true, length, take, drop, slice_get, position, All, IfOk, if◌then◌else◌};
+ghost use Rattle.std.specs.Prelude.{◌≡◌, ◌≤◌, ◌<◌, ◌+◌, ◌==◌, ◌&&◌, not, map, ℕ, true, length, take, drop, slice_get, position, All, IfOk};
 ghost use Rattle.net_base.specs.plan.Accepted.{IsChecked};
 ghost use Rattle.hvpls_spokes.specs.Port.{is_circuit_port, is_wire_port, is_wire};
 ghost use Rattle.hvpls_spokes.specs.PortSet.{has};
@@ -190,8 +190,8 @@ impl Domain {
             .decide(arrival, source, destination, now, &self.forwarding)
     }
 
-    /// The bridge forgets what it has not heard for as long as its age limit.
-    pub fn forget(&mut self, now: u64)
+    /// Addresses age: the bridge forgets what it has not heard for as long as its age limit.
+    pub fn age(&mut self, now: u64)
         requires { NoneAfter now self.old.bridge.entries }
         ensures forgets { self.new ≡ aged_domain now self.old }
         ensures ticks { NoneAfter now self.new.bridge.entries }
@@ -293,24 +293,24 @@ fn clear_kept(kept: &mut Option<Domain>)
     }
 }
 
-/// Each bridge forgets what it has not heard for as long as its age limit.
+/// Addresses age: each bridge forgets what it has not heard for as long as its age limit.
 #[tactic(auto, using(crate::proofs::EachLemmas::each_next, crate::proofs::EachLemmas::each_at))]
-pub fn forget_all(domains: &mut Vec<Option<Domain>>, now: u64)
+pub fn age_all(domains: &mut Vec<Option<Domain>>, now: u64)
     requires { All (KeptNotAfter now) domains.old.items }
     ensures { domains.new.items ≡ map (aged_kept now) domains.old.items }
 {
     for kept in domains.iter_mut() {
-        forget_kept(kept, now);
+        age_kept(kept, now);
     }
 }
 
-// The bridge forgets, where there is one.
-fn forget_kept(kept: &mut Option<Domain>, now: u64)
+// The addresses of a bridge age, where there is one.
+fn age_kept(kept: &mut Option<Domain>, now: u64)
     requires { KeptNotAfter now kept.old }
     ensures { kept.new ≡ aged_kept now kept.old }
 {
     if let Some(domain) = kept {
-        domain.forget(now);
+        domain.age(now);
     }
 }
 

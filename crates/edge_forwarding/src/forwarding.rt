@@ -1,5 +1,5 @@
 //! What an edge forwards by.
-ghost use Rattle.std.specs.Prelude.{◌≡◌, ◌≤◌, ◌<◌, ◌↔◌, ◌⊎◌, ℕ, None, Some, [], length, map, position, replicate, true, IfOk, IfSome, IsNone};
+ghost use Rattle.std.specs.Prelude.{◌≡◌, ◌≤◌, ◌<◌, ◌↔◌, ◌⊎◌, None, Some, [], length, map, position, replicate, true, IfOk, IfSome, IsNone};
 ghost use Rattle.net_base.specs.declared.trace.down.Down.TheVariants.{NoLocal};
 ghost use Rattle.net_base.specs.plan.Accepted.{IsChecked};
 ghost use Rattle.net_base.specs.plan.Places.{circuit_row, service_row, wire_row};
@@ -15,7 +15,7 @@ ghost use Rattle.edge_forwarding.specs.Domain.{age_of};
 ghost use Rattle.edge_forwarding.specs.Forwarding.{IsNewForwarding, IsServiceOf, KeepsForwarding, circuits_in, domain_of, entries_of, forgotten, open_ports, own_service, told_in, with_forwarding, without_told};
 
 use crate::domain::{
-    Domain, clear_all, close_all, forget_all, forget_kept_circuit, forget_kept_wire, open_domains,
+    Domain, age_all, clear_all, close_all, forget_kept_circuit, forget_kept_wire, open_domains,
     turn_kept, turn_kept_wire, withdraw_kept,
 };
 use hvpls_spokes::{PortSet, Ports};
@@ -250,12 +250,12 @@ impl Forwarding {
         self.ticks = next_tick(self.ticks);
     }
 
-    /// Each bridge forgets what it has not heard for as long as its age limit.
-    pub fn forget(&mut self)
+    /// Addresses age: each bridge forgets what it has not heard for as long as its age limit.
+    pub fn age(&mut self)
         ensures keeps { KeepsForwarding self.old self.new }
         ensures step { (edge : EdgeState) → with_forwarding self.new edge ≡ forgetting self.old.plan (with_forwarding self.old edge) }
     {
-        forget_all(&mut self.domains, self.ticks);
+        age_all(&mut self.domains, self.ticks);
     }
 }
 

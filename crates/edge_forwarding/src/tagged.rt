@@ -1,5 +1,5 @@
 //! Frames as they leave at circuits.
-ghost use Rattle.std.specs.Prelude.{◌≡◌, IfOk, IfSome};
+ghost use Rattle.std.specs.Prelude.{◌≡◌, IfOk};
 ghost use Rattle.net_base.specs.trace.Frame.{dress as dressed_frame};
 
 use crate::octets::{join, split_addresses};

@@ -131,7 +131,9 @@ abbrev pub hears_on : Plan → Answers → EdgeId → List ℕ → Option Peerin
 hears_on plan told peer octets None work = work
 hears_on plan told peer octets (Some kept) work = hears plan told peer (kept.held ++ octets) work
 
--- the input `Octets`: it applies where the edge's end of the connection stands; once all is heard, the edge mends its ends
+-- the input `Octets`: it applies where the edge's end of the connection stands. The edge mends its ends after each message, so that
+-- the next one meets ends that tell what they should, and once more when all is heard: a PDU of another sender, or with a fault in
+-- front, ends the session between messages
 abbrev pub octets_input : Plan → Answers → EdgeId → List ℕ → Option Peering → Work → Work
 octets_input plan told peer octets None work = idles work
 octets_input plan told peer octets (Some kept) work = mends plan told (hears_on plan told peer octets (Some kept) work)

@@ -1,5 +1,5 @@
 -- Packets, written and read again.
-use Rattle.std.proofs.Common.{◌≡◌, ◌≤◌, ◌<◌, ◌+◌, ◌*◌, ◌/◌, ◌%◌, ◌++◌, ◌∙◌, ℕ, Bool, true, false, List, [], ◌∷◌, Option, Some, None, Result, Ok, Err, cond, not, is_some, length, take, drop, refl, ap, sym, append_assoc, length-append, nat_eq, nat_lt, arith}
+use Rattle.std.proofs.Common.{◌≡◌, ◌≤◌, ◌<◌, ◌+◌, ◌/◌, ◌%◌, ◌++◌, ◌∙◌, ℕ, Bool, true, false, List, ◌∷◌, Option, Some, None, Result, Ok, Err, cond, not, is_some, length, take, drop, refl, ap, sym, append_assoc, length-append, nat_eq, nat_lt, arith}
 use Rattle.std.proofs.lemmas.Bool.{eq-eqb}
 use Rattle.std.proofs.lemmas.Bool.Decides.{nat_tests}
 use Rattle.byteorder.specs.Endian.{big_number}

@@ -1,6 +1,5 @@
 //! A packet of a pseudowire is read.
 ghost use Rattle.std.specs.Prelude.{◌≡◌, ◌≤◌, ◌+◌, ◌++◌, length, take, drop, Ok, Err, IfOk, IfErr, OnErr};
-ghost use Rattle.net_base.specs.trace.Frame.{of_size};
 ghost use Rattle.eth_encap.specs.Fault.{cause_of};
 ghost use Rattle.eth_encap.specs.Packet.{behind_control, entry_in, entry_of, unpacked, without_tag};
 

@@ -12,7 +12,6 @@ use Rattle.ldp_grammar.specs.declared.message.Message.TheVariants.{Initializatio
 use Rattle.session_core.specs.declared.peers.Peers.{Peers}
 use Rattle.session_core.specs.declared.reply.Reply.TheVariants as reply
 use Rattle.session_core.specs.Parameters.{proposal}
-use Rattle.session_core.specs.Phase.{Phase}
 use Rattle.session_core.specs.Phase as phase
 use Rattle.session_core.specs.State.{is_active, opened}
 use Rattle.session_core.specs.Table.{Goes, Start, Stay, enters_phase, outcome_of}

@@ -6,7 +6,7 @@ use Rattle.net_base.specs.declared.plan.places.WireId.{WireId}
 use Rattle.pw_tlvs.specs.declared.pw_status.PwStatus.{PwStatus}
 use Rattle.pw_signalling.specs.declared.told.Told.{Told}
 use Rattle.pw_signalling.specs.End.{EndState, LocalPart, Idle, Advertised, Withdrawing}
-use Rattle.pw_signalling.specs.Rows.{advertise_part, advertised, group_stated, group_unbound, is_in_group, lost, names, release_part, released, renew_part, renewed, tell_part, telling, withdraw_part, withdrawn}
+use Rattle.pw_signalling.specs.Rows.{advertised, group_stated, group_unbound, is_in_group, lost, names, release_part, released, renew_part, renewed, tell_part, telling, withdraw_part, withdrawn}
 use Rattle.edge_model.specs.declared.end_place.EndPlace.{EndPlace}
 use Rattle.edge_model.specs.Connection.{restarted}
 use Rattle.edge_model.specs.Mend.{advertising, telling_status, withdrawing}

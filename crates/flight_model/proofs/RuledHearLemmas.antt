@@ -34,7 +34,7 @@ use Rattle.edge_model.specs.Work.{Work, changes}
 use Rattle.network_model.specs.Absorb.{taken_all}
 use Rattle.flight_model.specs.Ends.{HasTypes, ends_at}
 use Rattle.flight_model.specs.Messages.{IsSaid}
-use Rattle.flight_model.specs.Rules.{AllMessages, BindsGiven, FarTells, MayName, MayNameAt, NamesTold, TellsExpected, TellsOfWire, told_of}
+use Rattle.flight_model.specs.Rules.{AllMessages, BindsGiven, MayName, MayNameAt, NamesTold, TellsExpected, TellsOfWire, told_of}
 use Rattle.flight_model.proofs.HearingLemmas.{KeptByHearing, withdraws_addresses}
 use Rattle.flight_model.proofs.MendingLemmas.{KeptByRows}
 use Rattle.flight_model.proofs.MentionLemmas.{binds_status, binds_unless, release_of_withdrawal, release_own}

@@ -37,7 +37,7 @@ use Rattle.flight_model.specs.Sound.{CanBeTold}
 use Rattle.flight_model.proofs.KeepLemmas.{KeepsEnds}
 use Rattle.flight_model.proofs.MendingLemmas.{KeptByRows}
 use Rattle.flight_model.proofs.MentionLemmas.{clearance_far, clearance_own, mapping_far, mapping_names, status_far, status_own, withdrawal_far, withdrawal_names}
-use Rattle.flight_model.proofs.NameLemmas.{end_fact, is_same, names_advertising, names_new, names_telling, names_withdrawing, split}
+use Rattle.flight_model.proofs.NameLemmas.{end_fact, is_same, names_advertising, names_new, names_telling, names_withdrawing}
 use Rattle.flight_model.proofs.OfferLemmas.{IsOfWires, clearance_is, content_can, mapping_is, status_is, withdrawal_is}
 use Rattle.flight_model.proofs.PieceLemmas.{IsPiece}
 use Rattle.flight_model.proofs.PlaceLemmas.{IsEndOf, NamedEnd, end_of}

@@ -20,7 +20,7 @@ use Rattle.session_core.specs.declared.reply.Reply.{Reply}
 use Rattle.session_core.specs.declared.reply.Reply.TheVariants as reply
 use Rattle.session_core.specs.Messages.{HasData, message_of}
 use Rattle.session_core.specs.Parameters.{agreed, is_platform, proposal, proposal_refusal}
-use Rattle.session_core.specs.Phase.{Phase, is_agreed}
+use Rattle.session_core.specs.Phase.{Phase}
 use Rattle.session_core.specs.Phase as phase
 use Rattle.session_core.specs.Reasons.{is_fatal, is_keep_alive}
 use Rattle.session_core.specs.State.{SessionState, is_active}

@@ -5,7 +5,6 @@ use Rattle.ldp_grammar.specs.declared.message.Message.{Message}
 use Rattle.ldp_grammar.specs.Written.{written}
 use Rattle.pw_signalling.specs.Rows.{lost}
 use Rattle.session_core.specs.declared.peers.Peers.{Peers}
-use Rattle.session_core.specs.Phase.{Phase}
 use Rattle.session_core.specs.Phase as phase
 use Rattle.edge_model.specs.Put.{having_spoken, message_octets_of, platform_of}
 use Rattle.edge_model.specs.Session.{clears_ends, says}

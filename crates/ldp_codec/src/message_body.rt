@@ -1,5 +1,5 @@
 //! The message that its octets behind the Message ID tell.
-ghost use Rattle.std.specs.Prelude.{◌≡◌, ◌≤◌, ◌<◌, ◌%◌, ◌++◌, ◌∷◌, ℕ, [], true, false, Some, None, List, length, option_copied, IfOk, IfSome};
+ghost use Rattle.std.specs.Prelude.{◌≡◌, ◌≤◌, ◌<◌, ◌%◌, [], true, false, Some, None, List, length, option_copied, IfOk, IfSome};
 ghost use Rattle.pw_tlvs.specs.declared.fec_value.FecValue.{FecValue as FecValueOf};
 ghost use Rattle.pw_tlvs.specs.Fec.{IsFecValue, IsPwFec};
 ghost use Rattle.pw_tlvs.specs.Macs.{AreMacs};

@@ -1,5 +1,5 @@
 //! Which messages can be written, and how long they are.
-ghost use Rattle.std.specs.Prelude.{◌≡◌, ◌≤◌, ◌<◌, ◌+◌, ◌*◌, ◌++◌, ◌∷◌, ℕ, true, length, flat_map};
+ghost use Rattle.std.specs.Prelude.{◌≡◌, ◌≤◌, ◌<◌, ◌+◌, ◌*◌, ◌++◌, true, length, flat_map};
 ghost use Rattle.ldp_grammar.specs.Tlvs.{spell_tlv};
 ghost use Rattle.ldp_grammar.specs.Written.{address_octets, are_whole, fec_tlvs, is_withdrawal, label_tlvs, list_length, mac_count, mac_tlvs, macs_length, message_octets, point_tlvs, session_octets, status_tlvs, transport_tlvs, withdrawn_tlvs, writable, writable_fecs, written_tlvs};
 

@@ -1,6 +1,5 @@
 //! The parts of a message that are about pseudowires, each with a blank before it.
-ghost use Rattle.std.specs.Prelude.{◌≡◌, ◌++◌, ◌∷◌, [], codes, Some, OnOk};
-ghost use Rattle.std.specs.Fmt.{decimal};
+ghost use Rattle.std.specs.Prelude.{◌≡◌, ◌++◌, codes, Some, OnOk};
 ghost use Rattle.text_pieces.specs.Pieces.{spaced};
 ghost use Rattle.message_text.specs.Words.{description_words, element_word, end_word, fec_words, label_words, mac_digits, macs_words, mtu_words, params_words, point_word, point_words, pw_id_word, pw_status_words, segment_word, told_fec_words, vccv_words, vlan_words};
 

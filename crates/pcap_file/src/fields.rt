@@ -1,5 +1,5 @@
 //! The faults of fields.
-ghost use Rattle.std.specs.Prelude.{◌≡◌, ◌≤◌, ◌<◌, ◌+◌, ◌^◌, length, drop, take, None, Some, OnOk, IfOk, IfErr};
+ghost use Rattle.std.specs.Prelude.{◌≡◌, ◌≤◌, ◌<◌, ◌+◌, ◌^◌, length, None, Some, OnOk, IfErr};
 ghost use Rattle.pcap_file.specs.declared.capture_field.CaptureField.TheVariants.{Data as DataOf};
 ghost use Rattle.pcap_file.specs.Fields.{field_place, field_size, value_fault as fault_of_value, field_fault as fault_of, first_field_fault, header_fields, record_fields};
 

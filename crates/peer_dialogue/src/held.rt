@@ -1,5 +1,5 @@
 //! What an edge has heard of a neighbour.
-ghost use Rattle.std.specs.Prelude.{◌≡◌, ◌≤◌, ◌<◌, ◌+◌, ◌++◌, [], length, take, drop, IfOk, OnErr};
+ghost use Rattle.std.specs.Prelude.{◌≡◌, ◌≤◌, ◌<◌, ◌+◌, ◌++◌, [], length, take, drop, IfOk};
 ghost use Rattle.net_values.specs.Octets.{AreOctets};
 ghost use Rattle.peer_dialogue.specs.Hearing.{StandsNext};
 

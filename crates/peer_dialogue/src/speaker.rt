@@ -1,8 +1,6 @@
 //! Who puts messages to a neighbour.
 ghost use Rattle.std.specs.Prelude.{◌≡◌, ◌≤◌, ◌+◌, ◌++◌, ◌∷◌, [], ℕ, List, Some, length, true, false, not, IfOk};
 ghost use Rattle.std.specs.List.{AllByRecursion};
-ghost use Rattle.net_base.specs.declared.outside.link_call.LinkCall.{LinkCall};
-ghost use Rattle.net_base.specs.outside.Link.{IsCallAnswer as IsAnswer};
 ghost use Rattle.ldp_grammar.specs.Written.{message_octets, writable, written};
 ghost use Rattle.session_core.specs.Messages.{HasData, message_of};
 ghost use Rattle.session_core.specs.State.{SessionState};

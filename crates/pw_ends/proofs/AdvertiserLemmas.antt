@@ -1,5 +1,5 @@
 -- The end that advertises a label is the one that owns it, where it has not withdrawn it.
-use Rattle.std.proofs.Common.{◌≡◌, ◌<◌, ◌≤◌, ◌+◌, ◌∙◌, ℕ, zero, suc, Bool, true, false, List, [], ◌∷◌, Option, Some, None, length, get_or, map, position, refl, ap, sym, subst, arith, inl, inr}
+use Rattle.std.proofs.Common.{◌≡◌, ◌<◌, ◌∙◌, ℕ, zero, suc, Bool, true, false, List, [], ◌∷◌, Option, Some, None, length, get_or, map, position, ap, sym, subst, arith, inl, inr}
 use Rattle.std.specs.List.{find}
 use Rattle.std.proofs.lemmas.Bool.{cases_order, eqb-true, false_from_ne_true, true≢false}
 use Rattle.std.proofs.lemmas.List.Quantifiers.{position-Some}

@@ -1,5 +1,5 @@
 //! The pseudowire ends of an edge.
-ghost use Rattle.std.specs.Prelude.{◌≡◌, ◌≤◌, ◌<◌, ◌+◌, ◌==◌, ◌↔◌, ℕ, Some, None, [], length, map, position, replicate, slice_get, option_and_then, option_map, IfOk, IfSome};
+ghost use Rattle.std.specs.Prelude.{◌≡◌, ◌≤◌, ◌<◌, ◌+◌, ◌==◌, ◌↔◌, Some, None, [], length, map, position, replicate, slice_get, option_and_then, option_map, IfOk, IfSome};
 ghost use Rattle.std.specs.List.{find, list_any};
 ghost use Rattle.net_base.specs.plan.Accepted.{IsChecked};
 ghost use Rattle.label_space.specs.Labels.{numbers_end, opened_space, owner_of};

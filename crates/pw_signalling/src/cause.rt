@@ -1,5 +1,5 @@
 //! Why an end that advertises and is bound does not forward.
-ghost use Rattle.std.specs.Prelude.{◌≡◌, not, Some};
+ghost use Rattle.std.specs.Prelude.{◌≡◌, Some};
 ghost use Rattle.pw_signalling.specs.Down.{fails_in, first_cause, mtus_differ, stands_by};
 
 use crate::{EndRole, Told};

@@ -1,5 +1,5 @@
 //! Lists of addresses.
-ghost use Rattle.std.specs.Prelude.{◌≡◌, ◌≤◌, ◌*◌, ◌%◌, ◌+◌, ◌++◌, ◌↔◌, ◌⊎◌, length, take, drop, List, Ok, Err, IfOk, IfErr};
+ghost use Rattle.std.specs.Prelude.{◌≡◌, ◌≤◌, ◌*◌, ◌%◌, ◌+◌, ◌++◌, ◌↔◌, ◌⊎◌, length, take, drop, List, Ok, Err, IfOk};
 ghost use Rattle.net_values.specs.declared.mac.Mac.{Mac};
 ghost use Rattle.pw_tlvs.specs.declared.field_fault.FieldFault.{FieldFault};
 ghost use Rattle.pw_tlvs.specs.declared.macs_fault.MacsFault.TheVariants.{Field as FieldOf, NoMemory as OutOfMemory};

@@ -1,5 +1,5 @@
 //! One sub-TLV at the front of octets.
-ghost use Rattle.std.specs.Prelude.{◌≡◌, ◌≤◌, ◌<◌, ◌+◌, ◌++◌, ◌⊎◌, ℕ, List, length, drop, slice_index, true, false, Some, IfSome, IfNone, IfOk, IfErr, IsSome};
+ghost use Rattle.std.specs.Prelude.{◌≡◌, ◌≤◌, ◌<◌, ◌+◌, ◌++◌, ℕ, List, length, drop, slice_index, true, false, Some, IfSome, IfNone, IfOk, IfErr, IsSome};
 ghost use Rattle.pw_tlvs.specs.declared.registry.Registry.TheVariants.{SwitchingPointPart};
 ghost use Rattle.pw_tlvs.specs.SubTlvs.{SubTlv, counted_in, spell, sub_tlv_row as the_row, row_fits, allows, lone_fault as the_lone_fault, outside_fault as the_outside_fault, IsOutside, IsGood, IsFirstWrong, Stood};
 

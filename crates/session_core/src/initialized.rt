@@ -5,7 +5,6 @@ ghost use Rattle.session_core.specs.declared.reply.Reply.TheVariants as reply;
 ghost use Rattle.ldp_grammar.specs.declared.message.Message.{Message};
 ghost use Rattle.ldp_grammar.specs.declared.message.Message.TheVariants.{Initialization};
 ghost use Rattle.session_core.specs.Phase as phase;
-ghost use Rattle.session_core.specs.Parameters.{proposal_refusal};
 ghost use Rattle.session_core.specs.Reasons.{expects, has_bad_receiver, has_bad_version, has_zero_time, HasEnded, is_acceptable, IsIn, proposes, tells_error, tells_shutdown};
 ghost use Rattle.session_core.specs.Session.{view_of};
 ghost use Rattle.session_core.specs.State.{IsKept, Stands, in_phase, IsProper, opened, is_active};

@@ -1,9 +1,7 @@
 //! Virtual switch instances.
 ghost use Rattle.std.specs.Prelude.{◌≡◌, ◌==◌, ◌<◌, ◌≤◌, ◌&&◌, ℕ, [], filter, not, true, length, IfOk};
-ghost use Rattle.net_values.specs.Mac.{is_group_address};
-ghost use Rattle.hvpls_spokes.specs.Flood.{is_in_flood};
 ghost use Rattle.hvpls_spokes.specs.PortSet.{has};
-ghost use Rattle.mac_table.specs.Addresses.{AreDistinctAddresses, NoneAfter, entry_stays, is_young};
+ghost use Rattle.mac_table.specs.Addresses.{NoneAfter, entry_stays, is_young};
 ghost use Rattle.vsi_bridge.specs.BridgeState.{table_of, most_addresses};
 ghost use Rattle.vsi_bridge.specs.Targets.{heard, is_target, known_port};
 

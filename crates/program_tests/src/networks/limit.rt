@@ -1,5 +1,5 @@
 //! The largest network of one edge floods as much as the limit lets be.
-ghost use Rattle.std.specs.Prelude.{◌≡◌, ◌<◌, length};
+ghost use Rattle.std.specs.Prelude.{◌<◌};
 
 use crate::networks::plans::network_of;
 use net_base::{CircuitId, Event, List};

@@ -1,5 +1,5 @@
 -- The tag comes behind the addresses, and what follows them behind the tag.
-use Rattle.std.proofs.Common.{◌++◌, ◌∙◌, length-append, sym, arith}
+use Rattle.std.proofs.Common.{◌++◌, ◌∙◌, length-append, sym}
 use Rattle.eth_encap.proofs.OctetLemmas.{added_behind}
 use Rattle.eth_encap.proofs.leaving.put_tagged.Goals as goal
 

@@ -1,5 +1,5 @@
 -- The slot beside the label is that of the first end that owns it.
-use Rattle.std.proofs.Common.{◌≡◌, ◌∙◌, Option, length, map, position, ap, subst, IfSome, ◌<◌}
+use Rattle.std.proofs.Common.{◌∙◌, length, map, position, ap, subst, IfSome, ◌<◌}
 use Rattle.pw_signalling.specs.AnyEnd.{end_of}
 use Rattle.pw_ends.specs.Ends.{EndLists, owns_label}
 use Rattle.pw_ends.proofs.OwnerLemmas.{owner_found, owner_within}
