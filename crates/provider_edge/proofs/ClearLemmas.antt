@@ -19,7 +19,7 @@ use Rattle.hvpls_spokes.specs.declared.port.Port.TheVariants as port
 use Rattle.hvpls_spokes.specs.Port.{is_wire_port, ports_of, is_wire}
 use Rattle.hvpls_spokes.specs.Role.{role_of}
 use Rattle.hvpls_spokes.proofs.RowPortLemmas.{wire_behind}
-use Rattle.hvpls_spokes.proofs.WirePortLemmas.{LeadsToWire, found_wire_port}
+use Rattle.hvpls_spokes.proofs.WirePortLemmas.{found_wire_port}
 use Rattle.mac_withdraw.specs.Passing.{is_passed_to, is_wire_at}
 use Rattle.mac_withdraw.specs.Pieces.{pieces_of}
 use Rattle.edge_model.specs.Clear.{clears_at, clears_by, clears_wire, hears_mac_withdraw, passes_on, tells_at, tells_by, withdrawing_at}
@@ -47,12 +47,6 @@ withdraw_acts plan told peer message id addresses fec macs work next at is = is 
 
 pub no_fec_heard : (plan : Plan) (told : Answers) (peer : EdgeId) (fec : Option PwFec) (macs : Option (List Mac)) (work : Work) → fec ≡ None → work ≡ hears_mac_withdraw plan told peer fec macs work
 no_fec_heard plan told peer fec macs work none = sym (ap (λ (f : Option PwFec). hears_mac_withdraw plan told peer f macs work) none)
-
-pub no_list_heard : (plan : Plan) (told : Answers) (peer : EdgeId) (fec : Option PwFec) (macs : Option (List Mac)) (work : Work) → macs ≡ None → work ≡ hears_mac_withdraw plan told peer fec macs work
-no_list_heard plan told peer fec macs work none = sym (ap (λ (m : Option (List Mac)). hears_mac_withdraw plan told peer fec m work) none ∙ still fec) where
-  still : (fec : Option PwFec) → hears_mac_withdraw plan told peer fec None work ≡ work
-  still None = refl
-  still (Some named) = refl
 
 both_heard : (plan : Plan) (told : Answers) (peer : EdgeId) (fec : Option PwFec) (named : PwFec) (macs : Option (List Mac)) (addresses : List Mac) (work : Work) → fec ≡ Some named → macs ≡ Some addresses
     → hears_mac_withdraw plan told peer fec macs work ≡ clears_by plan told addresses (end_of_fec plan work.edge peer named) work
@@ -141,17 +135,6 @@ cleared_on c mid told addresses given service from found calls out next keeps so
     ∙ (ap (λ (m : EdgeId). passes_on c.plan told addresses service from (role_of c.plan service m) after) (keeps.me ∙ sym (me_at c calls out))
     ∙ ap (λ (f : Option ℕ). clears_at c.plan told addresses service f work) (sym some)))))
 
-pub no_role_passes : (plan : Plan) (told : Answers) (addresses : List Mac) (service : ServiceId) (from : ℕ) (role other : Option Role) (work : Work) → role ≡ other → role ≡ None → work ≡ passes_on plan told addresses service from other work
-no_role_passes plan told addresses service from role other work is none = sym (ap (λ (r : Option Role). passes_on plan told addresses service from r work) (sym is ∙ none))
-
-pub no_ports_pass : (c : EdgeLists) (told : Answers) (addresses : List Mac) (service : ServiceId) (from : ℕ) (role : Role) (found other : Option Role) (calls : List LinkCall) (out : List Effect)
-    → found ≡ other → found ≡ Some role → ports_of c.plan service c.me ≡ [] → at_edge (seen c) calls out ≡ passes_on c.plan told addresses service from other (at_edge (seen c) calls out)
-no_ports_pass c told addresses service from role found other calls out is some none =
-    let work : Work = at_edge (seen c) calls out in
-    sym (ap (λ (r : Option Role). passes_on c.plan told addresses service from r work) (sym is ∙ some)
-    ∙ (ap (λ (m : EdgeId). copies (is_passed_to role (ports_of c.plan service m) from) (tells_at c.plan told addresses) 0 (ports_of c.plan service m) work) (me_at c calls out)
-    ∙ ap (λ (ports : List Port). copies (is_passed_to role (ports_of c.plan service c.me) from) (tells_at c.plan told addresses) 0 ports work) none))
-
 pub passed_to : (c : EdgeLists) (told : Answers) (addresses : List Mac) (service : ServiceId) (from : ℕ) (role : Role) (found other : Option Role) (ports : List Port) (passed : ℕ → Bool) (calls : List LinkCall) (out : List Effect) (next : Work)
     → found ≡ other → found ≡ Some role → ports ≡ ports_of c.plan service c.me → ((p : ℕ) → passed p ≡ is_passed_to role ports from p)
     → next ≡ copies passed (tells_at c.plan told addresses) 0 (ports_of c.plan service c.me) (at_edge (seen c) calls out)
@@ -178,9 +161,6 @@ told_by_none tells found other work is none = sym (ap (λ (x : Option Port). cop
 
 pub told_by_some : (tells : Port → Work → Work) (found other : Option Port) (x : Port) (work next : Work) → found ≡ other → found ≡ Some x → next ≡ tells x work → next ≡ copied_by tells other work
 told_by_some tells found other x work next is some told = told ∙ ap (λ (o : Option Port). copied_by tells o work) (sym (sym is ∙ some))
-
-pub told_circuit : (plan : Plan) (told : Answers) (addresses : List Mac) (x y : Port) (work : Work) → x ≡ y → ((w : Work) → tells_at plan told addresses y w ≡ w) → work ≡ tells_at plan told addresses x work
-told_circuit plan told addresses x y work is still = sym (ap (λ (p : Port). tells_at plan told addresses p work) is ∙ still work)
 
 pub told_mesh : (c : EdgeLists) (told : Answers) (addresses : List Mac) (x : Port) (wire : WireId) (calls : List LinkCall) (out : List Effect) (next : Work) → x ≡ port.Mesh wire
     → next ≡ tells_by told addresses (wire_end c.plan c.me wire) (at_edge (seen c) calls out) → next ≡ tells_at c.plan told addresses x (at_edge (seen c) calls out)

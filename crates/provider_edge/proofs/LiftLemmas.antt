@@ -8,14 +8,16 @@ use Rattle.ldp_grammar.specs.declared.message.Message.{Message}
 use Rattle.session_core.specs.declared.reply.Reply.{Reply}
 use Rattle.edge_model.specs.declared.effect.Effect.{Effect}
 use Rattle.edge_model.specs.declared.effect.Effect.TheVariants.{Session}
-use Rattle.edge_model.specs.Connection.{connects}
+use Rattle.edge_model.specs.Connection.{connects, lost_input}
 use Rattle.edge_model.specs.Hear.{advises}
 use Rattle.edge_model.specs.Put.{Spoken, put_reply}
 use Rattle.edge_model.specs.Session.{clears_ends, had_put, happens, happens_to, happens_with_ends, says, says_to}
 use Rattle.edge_model.specs.State.{EdgeState, Peering, has_end, is_there, with_peering}
-use Rattle.edge_model.specs.Work.{Answers, Work, changes, gives}
+use Rattle.edge_model.specs.Work.{Answers, Work, beginning, changes, gives}
 use Rattle.peer_dialogue.specs.Peering.{at_edge, at_peer, had_spoken, is_over, put_message, put_message_to}
 use Rattle.peer_dialogue.proofs.SpeakerLemmas.{put_same, put_twice}
+use Rattle.provider_edge.proofs.EdgeLemmas.{lost_idle}
+use Rattle.provider_edge.specs.Lists.{EdgeLists, seen, worked}
 
 pub peer_edge : (peer : EdgeId) (kept : Option Peering) (edge : EdgeState) (calls : List LinkCall) (out : List Effect) → edge.peering peer.0 ≡ kept → at_peer peer kept edge calls out ≡ at_edge edge calls out
 unfolding at_peer at_edge
@@ -55,13 +57,6 @@ spoken_edge does peer taken left kept edge mid now calls new out given failed re
     ap (λ (w : Work). record { work = w; failed = failed }) (left_edge peer left edge mid now new given took puts)
     ∙ (done ∙ ap does (peer_edge peer kept edge calls out (sym read ∙ is)))
 
--- the edge is the same where nothing was taken out
-pub none_edge : (peer : EdgeId) (taken : Option Peering) (edge now : EdgeState) (calls : List LinkCall) (out : List Effect)
-    → taken ≡ edge.peering peer.0 → taken ≡ None → now ≡ with_peering peer None edge → at_edge now calls out ≡ at_edge edge calls out
-unfolding at_edge
-none_edge peer taken edge now calls out read none took =
-    ap (λ (e : EdgeState). record { edge = e; calls = calls; effects = out; idle = false }) (took ∙ put_same peer None edge (sym read ∙ none))
-
 -- nothing happens where no session stands
 pub happened_none : (told : Answers) (peer : EdgeId) (event : SessionEvent) (taken : Option Peering) (edge now : EdgeState) (calls : List LinkCall) (out : List Effect)
     → taken ≡ edge.peering peer.0 → taken ≡ None → now ≡ with_peering peer None edge
@@ -70,6 +65,14 @@ unfolding at_edge
 happened_none told peer event taken edge now calls out read none took =
     ap (λ (e : EdgeState). record { edge = e; calls = calls; effects = out; idle = false }) (took ∙ put_same peer None edge (sym read ∙ none))
     ∙ ap (λ (x : Option Peering). happens_to told peer event x (record { edge = edge; calls = calls; effects = out; idle = false })) (sym none ∙ read)
+
+-- no end of a connection is lost where none stands
+pub lost_none : (c mid : EdgeLists) (told : Answers) (peer : EdgeId) (taken : Option Peering) (calls : List LinkCall) → taken ≡ (seen c).peering peer.0 → taken ≡ None → seen mid ≡ with_peering peer None (seen c)
+    → worked mid calls (record { idle = true; list = [] }) ≡ lost_input c.plan told peer (beginning (seen c) calls)
+unfolding worked
+lost_none c mid told peer taken calls read none took =
+    ap (λ (e : EdgeState). record { edge = e; calls = calls; effects = []; idle = true }) (took ∙ put_same peer None (seen c) (sym read ∙ none))
+    ∙ lost_idle c told peer calls (ap is_there (sym read ∙ none))
 
 -- ---- a message
 

@@ -155,22 +155,9 @@ downs_past plan [] (suc i) work past = refl
 downs_past plan (x ∷ places) zero work past = absurd (omega arith)
 downs_past plan (x ∷ places) (suc i) work past = downs_past plan places i work (omega arith)
 
-or_true : (b : Bool) → b || true ≡ true
-or_true true = refl
-or_true false = refl
-
-or_false : (b : Bool) → b || false ≡ b
-or_false true = refl
-or_false false = refl
-
--- one end more, at which a message was not taken, or all were
-pub said_failed : (before failed : Bool) (start next : Work) (mend : Work → Spoken) → record { work = next; failed = failed } ≡ mend start → failed ≡ true → record { work = next; failed = true } ≡ and_says (record { work = start; failed = before }) mend
-said_failed before failed start next mend one refused =
-    sym (ap (λ (s : Spoken). record { work = s.work; failed = before || s.failed }) (sym one) ∙ (ap (λ (b : Bool). record { work = next; failed = before || b }) refused ∙ ap (λ (b : Bool). record { work = next; failed = b }) (or_true before)))
-
-pub said_taken : (before failed : Bool) (start next : Work) (mend : Work → Spoken) → record { work = next; failed = failed } ≡ mend start → failed ≡ false → record { work = next; failed = before } ≡ and_says (record { work = start; failed = before }) mend
-said_taken before failed start next mend one taken =
-    sym (ap (λ (s : Spoken). record { work = s.work; failed = before || s.failed }) (sym one) ∙ (ap (λ (b : Bool). record { work = next; failed = before || b }) taken ∙ ap (λ (b : Bool). record { work = next; failed = b }) (or_false before)))
+-- one end more
+pub said_more : (before failed : Bool) (start next : Work) (mend : Work → Spoken) → record { work = next; failed = failed } ≡ mend start → record { work = next; failed = before || failed } ≡ and_says (record { work = start; failed = before }) mend
+said_more before failed start next mend one = ap (λ (s : Spoken). record { work = s.work; failed = before || s.failed }) one
 
 pub ends_next : (mends : Plan → EndPlace → Work → Spoken) (c now : EdgeLists) (i : ℕ) (m next whole : Spoken) → Keeps c now → c.ends.places ≡ end_places c.plan c.me → i < length now.ends.places
     → whole ≡ each_end (mends c.plan) (drop i (end_places c.plan c.me)) m → next ≡ and_says m (mends now.plan (place_of now.ends i))
@@ -262,14 +249,21 @@ pub status_over : (plan : Plan) (told : Answers) (place : EndPlace) (work : Work
     → put ≡ tells_over told place content (status_to_tell plan work.edge place) content.status work → put ≡ mends_status plan told place work
 status_over plan told place work label content put is puts = puts ∙ sym (ap (λ (l : LocalPart). mends_status_of plan told place l work) is)
 
-pub over_same : (told : Answers) (place : EndPlace) (content : Told) (status now last : PwStatus) (work : Work) → status ≡ now → (last.0 == status.0) ≡ true → stays work ≡ tells_over told place content now (Some last) work
-over_same told place content status now last work is same =
-    sym (ap (λ (b : Bool). cond b (stays work) (tells_new_status told place content status work)) same) ∙ ap (λ (s : PwStatus). tells_over told place content s (Some last) work) is
+pub over_none : (told : Answers) (place : EndPlace) (content : Told) (now : PwStatus) (given : Option PwStatus) (work : Work) → given ≡ None → stays work ≡ tells_over told place content now given work
+over_none told place content now given work none = sym (ap (λ (l : Option PwStatus). tells_over told place content now l work) none)
 
-pub over_new : (told : Answers) (place : EndPlace) (content : Told) (status now last : PwStatus) (work : Work) (put : Spoken) → status ≡ now → (last.0 == status.0) ≡ false
-    → put ≡ tells_new_status told place content status work → put ≡ tells_over told place content now (Some last) work
-over_new told place content status now last work put is other puts =
-    puts ∙ (sym (ap (λ (b : Bool). cond b (stays work) (tells_new_status told place content status work)) other) ∙ ap (λ (s : PwStatus). tells_over told place content s (Some last) work) is)
+pub over_same : (told : Answers) (place : EndPlace) (content : Told) (status now : PwStatus) (given : Option PwStatus) (last : PwStatus) (work : Work) → status ≡ now → given ≡ Some last → (last.0 == status.0) ≡ true
+    → stays work ≡ tells_over told place content now given work
+over_same told place content status now given last work is some same =
+    sym (ap (λ (b : Bool). cond b (stays work) (tells_new_status told place content status work)) same)
+    ∙ (ap (λ (s : PwStatus). tells_over told place content s (Some last) work) is ∙ ap (λ (l : Option PwStatus). tells_over told place content now l work) (sym some))
+
+pub over_new : (told : Answers) (place : EndPlace) (content : Told) (status now : PwStatus) (given : Option PwStatus) (last : PwStatus) (work : Work) (put : Spoken) → status ≡ now → given ≡ Some last → (last.0 == status.0) ≡ false
+    → put ≡ tells_new_status told place content status work → put ≡ tells_over told place content now given work
+over_new told place content status now given last work put is some other puts =
+    puts
+    ∙ (sym (ap (λ (b : Bool). cond b (stays work) (tells_new_status told place content status work)) other)
+    ∙ (ap (λ (s : PwStatus). tells_over told place content s (Some last) work) is ∙ ap (λ (l : Option PwStatus). tells_over told place content now l work) (sym some)))
 
 -- the local part of an end that was read
 pub local_is : (c : EdgeLists) (calls : List LinkCall) (out : List Effect) (slot : ℕ) (read end : PwEnd) → end_of read ≡ end_in c.ends slot → read ≡ end

@@ -1,6 +1,5 @@
 -- An edge hears messages and octets, and has ticks.
-use Rattle.std.proofs.Common.{◌≡◌, ◌<◌, ◌≤◌, ◌+◌, ◌-◌, ◌++◌, ◌∙◌, ℕ, zero, suc, Bool, true, false, List, [], ◌∷◌, Option, Some, None, Result, Ok, Err, cond, length, drop, slice_index_or, nat_eq, refl, ap, sym, subst, arith}
-use Rattle.std.proofs.lemmas.Bool.{eqb-true}
+use Rattle.std.proofs.Common.{◌≡◌, ◌<◌, ◌≤◌, ◌+◌, ◌-◌, ◌++◌, ◌∙◌, ℕ, zero, suc, Bool, true, false, List, [], ◌∷◌, Option, Some, None, Result, Ok, Err, cond, length, drop, slice_index_or, refl, ap, sym, subst, arith}
 use Rattle.std.specs.Prelude.{OnOk}
 use Rattle.std.specs.List.{AllByRecursion}
 use Rattle.net_base.specs.declared.outside.link_call.LinkCall.{LinkCall}
@@ -12,7 +11,7 @@ use Rattle.ldp_grammar.specs.declared.pdu.Pdu.{Pdu}
 use Rattle.net_values.specs.Octets.{AreOctets}
 use Rattle.session_core.specs.Table.{Heard, Received, Refused, Ticked}
 use Rattle.edge_model.specs.declared.effect.Effect.{Effect}
-use Rattle.edge_model.specs.Hear.{acts, acts_on, hears, hears_message, hears_messages, hears_on, hears_one, hears_pdu, holds, was_up}
+use Rattle.edge_model.specs.Hear.{acts, hears, hears_message, hears_messages, hears_on, hears_one, hears_pdu, holds, was_up}
 use Rattle.edge_model.specs.Mend.{mends}
 use Rattle.edge_model.proofs.HeldLemmas.{hears_few_held, held_is}
 use Rattle.edge_model.specs.Session.{clears_ends, happens_with_ends}
@@ -21,9 +20,8 @@ use Rattle.edge_model.specs.Tick.{ticks_sessions}
 use Rattle.edge_model.specs.Work.{Answers, Work, changes}
 use Rattle.pw_signalling.specs.Rows.{lost}
 use Rattle.peer_dialogue.specs.Heard.{CanBeHeard}
-use Rattle.peer_dialogue.specs.Hearing.{HearsOn, IsAtFault, IsAtPdu, IsWaiting, IsWaitingFor}
+use Rattle.peer_dialogue.specs.Hearing.{HearsOn, IsAtFault, IsAtPdu, IsWaitingFor}
 use Rattle.peer_dialogue.specs.Peering.{at_edge}
-use Rattle.edge_forwarding.specs.Views.{view}
 use Rattle.peer_dialogue.proofs.HearLemmas.{ended_all, heard_fault, heard_pdu, held_all, messages_more}
 use Rattle.peer_dialogue.proofs.SpeakerLemmas.{put_same, put_twice, read_peer}
 use Rattle.provider_edge.specs.Hearing.{AreTakenOut}
@@ -73,20 +71,6 @@ one_heard plan now told peer message edge calls out up mid work is same happened
     ∙ (ap (acts plan told peer message up) happened
     ∙ ap (λ (b : Bool). acts plan told peer message b (happens_with_ends told peer (Received message) start)) is))
 
-pub acted_none : (plan : Plan) (told : Answers) (peer : EdgeId) (message : Message) (edge : EdgeState) (calls : List LinkCall) (out : List Effect) → has_end edge peer ≡ false
-    → at_edge edge calls out ≡ acts plan told peer message true (at_edge edge calls out)
-unfolding at_edge
-acted_none plan told peer message edge calls out none =
-    let start : Work = record { edge = edge; calls = calls; effects = out; idle = false } in
-    sym (ap (λ (b : Bool). cond b (acts_on plan told peer message start) start) none)
-
-pub acted_some : (plan : Plan) (told : Answers) (peer : EdgeId) (message : Message) (edge : EdgeState) (calls : List LinkCall) (out : List Effect) (work : Work) → has_end edge peer ≡ true
-    → work ≡ acts_on plan told peer message (at_edge edge calls out) → work ≡ acts plan told peer message true (at_edge edge calls out)
-unfolding at_edge
-acted_some plan told peer message edge calls out work there acted =
-    let start : Work = record { edge = edge; calls = calls; effects = out; idle = false } in
-    acted ∙ sym (ap (λ (b : Bool). cond b (acts_on plan told peer message start) start) there)
-
 -- ---- messages
 
 pub heard_at : (messages : List Message) (place : ℕ) (message : Message) → AllByRecursion CanBeHeard messages → place < length messages → message ≡ slice_index_or messages place message → CanBeHeard message
@@ -103,18 +87,14 @@ messages_next plan now told peer messages place message work next whole same wit
     ∙ (messages_more plan told peer messages place message work within at
     ∙ ap (hears_messages plan told peer (drop (place + 1) messages)) (sym (heard ∙ ap (λ (p : Plan). hears_message p told peer message work) same)))
 
-pub pdu_heard : (plan now : Plan) (told : Answers) (peer : EdgeId) (pdu : Pdu) (start mid work : Work) → now ≡ plan
-    → mid ≡ happens_with_ends told peer (Heard pdu.id) start → work ≡ hears_messages now told peer pdu.messages mid → work ≡ hears_pdu plan told peer pdu start
-pdu_heard plan now told peer pdu start mid work same is heard =
-    heard ∙ (ap (λ (p : Plan). hears_messages p told peer pdu.messages mid) same ∙ ap (hears_messages plan told peer pdu.messages) is)
+pub pdu_begun : (plan : Plan) (told : Answers) (peer : EdgeId) (pdu : Pdu) (messages : List Message) (start mid : Work) → mid ≡ happens_with_ends told peer (Heard pdu.id) start → messages ≡ pdu.messages
+    → hears_pdu plan told peer pdu start ≡ hears_messages plan told peer messages mid
+pdu_begun plan told peer pdu messages start mid is all = sym (ap (λ (l : List Message). hears_messages plan told peer l mid) all ∙ ap (hears_messages plan told peer pdu.messages) is)
 
 -- ---- octets
 
 pub waits_none : (x : Option Peering) (held : List ℕ) → x ≡ None → IsWaitingFor x held
 waits_none x held none = subst (λ (o : Option Peering). IsWaitingFor o held) (sym none) tt
-
-pub waits_some : (x : Option Peering) (held : List ℕ) (kept : Peering) (max : ℕ) → Some kept ≡ x → max ≡ kept.session.max_pdu → IsWaiting max held → IsWaitingFor x held
-waits_some x held kept max is same waits = subst (λ (o : Option Peering). IsWaitingFor o held) is (subst (λ (n : ℕ). IsWaiting n held) same waits)
 
 pub pdu_on : (plan now : Plan) (told : Answers) (peer : EdgeId) (held rest more : List ℕ) (pdu : Pdu) (kept : Peering) (max : ℕ) (edge : EdgeState) (calls : List LinkCall) (out : List Effect) (work : Work) → now ≡ plan
     → AreOctets held → AreOctets more → max ≤ 4096 → max ≡ kept.session.max_pdu → Some kept ≡ edge.peering peer.0 → IsAtPdu max held rest pdu
@@ -232,11 +212,6 @@ tick_next told place count id work next whole within is so_far ticked =
     so_far
     ∙ (ap (λ (n : ℕ). ticks_sessions told place n work) left
     ∙ ap (ticks_sessions told (place + 1) (count - (place + 1))) (sym (ticked ∙ ap (λ (n : ℕ). happens_with_ends told (record { 0 = n }) Ticked work) is)))
-
-pub ticks_end : (told : Answers) (place count : ℕ) (work whole : Work) → count ≤ place → whole ≡ ticks_sessions told place (count - place) work → work ≡ whole
-ticks_end told place count work whole past so_far =
-    let none : count - place ≡ 0 = omega arith in
-    sym (so_far ∙ ap (λ (n : ℕ). ticks_sessions told place n work) none)
 
 -- what holds where a call went well
 pub on_two : {A E : Type 0} (P Q R : Type 0) (r : Result A E) → (P → Q → R) → OnOk r P → OnOk r Q → OnOk r R

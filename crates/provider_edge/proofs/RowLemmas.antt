@@ -1,5 +1,5 @@
 -- The rows of the messages about pseudowires, and what an end puts, exit by exit.
-use Rattle.std.proofs.Common.{◌≡◌, ◌==◌, ◌∙◌, ℕ, Bool, true, false, List, [], ◌∷◌, ◌++◌, Option, Some, None, cond, option_map, option_and_then, refl, ap, sym}
+use Rattle.std.proofs.Common.{◌≡◌, ◌==◌, ◌∙◌, ℕ, Bool, true, false, List, [], ◌∷◌, ◌++◌, Option, Some, None, cond, is_some, option_map, option_and_then, refl, ap, sym}
 use Rattle.std.proofs.lemmas.Bool.{eq-eqb, ne_eqb}
 use Rattle.net_base.specs.declared.outside.link_call.LinkCall.{LinkCall}
 use Rattle.net_base.specs.declared.plan.Plan.{Plan}
@@ -21,11 +21,11 @@ use Rattle.edge_model.specs.declared.effect.Effect.{Effect}
 use Rattle.edge_model.specs.declared.effect.Effect.TheVariants.{Wire}
 use Rattle.edge_model.specs.declared.end_place.EndPlace.{EndPlace}
 use Rattle.edge_model.specs.EndPlaces.{end_named}
-use Rattle.edge_model.specs.Mend.{advertises, advertising, cause_number, tells_down, tells_new_status, telling_status, withdrawing, withdraws}
+use Rattle.edge_model.specs.Mend.{advertises, advertises_wish, advertising, cause_number, telling_status, tells_down, tells_new_status, withdrawing, withdraws, withdraws_unless}
 use Rattle.edge_model.specs.Put.{Spoken}
 use Rattle.edge_model.specs.Session.{says}
 use Rattle.edge_model.specs.Signal.{end_of_fec, hears_mapping, hears_release, hears_status, hears_withdraw, maps_to, releases_label, with_end_changed, with_named}
-use Rattle.edge_model.specs.State.{EdgeState, with_ends_beside, with_told_down}
+use Rattle.edge_model.specs.State.{EdgeState, with_told_down}
 use Rattle.edge_model.specs.Work.{Answers, Work, changes, gives}
 use Rattle.peer_dialogue.specs.Peering.{at_edge}
 use Rattle.provider_edge.specs.Hearing.{binds_to}
@@ -54,16 +54,9 @@ pub with_named_some : (plan : Plan) (peer : EdgeId) (fec : PwFec) (one all : End
 unfolding seen
 with_named_some plan peer fec one all x pw_id c now some is = is ∙ ap (λ (p : Option ℕ). with_named plan peer fec one all p (seen c)) (sym some)
 
-pub with_named_none : (plan : Plan) (peer : EdgeId) (fec : PwFec) (one all : EndState → EndState) (x : Option ℕ) (edge now : EdgeState) → x ≡ None
-    → now ≡ with_ends_beside peer all edge → now ≡ with_named plan peer fec one all x edge
-with_named_none plan peer fec one all x edge now none is = is ∙ ap (λ (p : Option ℕ). with_named plan peer fec one all p edge) (sym none)
-
 pub fec_some : (plan : Plan) (c : EdgeLists) (peer : EdgeId) (fec : PwFec) (pw_id : ℕ) (found : Option EndPlace) → fec.pw_id ≡ Some pw_id → found ≡ end_named plan c.me peer pw_id → found ≡ end_of_fec plan (seen c) peer fec
 unfolding seen
 fec_some plan c peer fec pw_id found some is = is ∙ ap (option_and_then (end_named plan c.me peer)) (sym some)
-
-pub fec_none : (plan : Plan) (edge : EdgeState) (peer : EdgeId) (fec : PwFec) → fec.pw_id ≡ None → None ≡ end_of_fec plan edge peer fec
-fec_none plan edge peer fec none = sym (ap (option_and_then (end_named plan edge.me peer)) none)
 
 -- ---- Label Mapping
 
@@ -71,10 +64,6 @@ pub bound_known : (told : Answers) (peer : EdgeId) (fec : PwFec) (binding : Bind
     → now ≡ with_end_changed (bound binding) (Some place) edge → at_edge now calls out ≡ binds_to told peer fec binding x (at_edge edge calls out)
 bound_known told peer fec binding x place edge now calls out some is =
     changed_edge (with_end_changed (bound binding) (Some place)) edge now calls out is ∙ ap (λ (p : Option EndPlace). binds_to told peer fec binding p (at_edge edge calls out)) (sym some)
-
-pub bound_unknown : (told : Answers) (peer : EdgeId) (fec : PwFec) (binding : Binding) (x : Option EndPlace) (start work : Work) → x ≡ None → work ≡ releases_label told peer fec (Some binding.label) start
-    → work ≡ binds_to told peer fec binding x start
-bound_unknown told peer fec binding x start work none is = is ∙ ap (λ (p : Option EndPlace). binds_to told peer fec binding p start) (sym none)
 
 binds_maps : (told : Answers) (peer : EdgeId) (fec : PwFec) (label : ℕ) (status : Option PwStatus) (points : List Point) (x : Option EndPlace) (work : Work)
     → binds_to told peer fec (binding_in fec label status points) x work ≡ maps_to told peer fec label status points x work
@@ -103,22 +92,10 @@ release_heard plan peer fec label edge now calls out is = changed_edge (λ (e : 
 
 -- ---- a status
 
-pub no_status : (plan : Plan) (peer : EdgeId) (code : StatusCode) (status : Option PwStatus) (fec : Option PwFec) (work : Work) → status ≡ None → work ≡ hears_status plan peer code status fec work
-no_status plan peer code status fec work none = sym (ap (λ (s : Option PwStatus). hears_status plan peer code s fec work) none)
-
-pub no_fec : (plan : Plan) (peer : EdgeId) (code : StatusCode) (status : Option PwStatus) (given : PwStatus) (fec : Option PwFec) (work : Work) → status ≡ Some given → fec ≡ None → work ≡ hears_status plan peer code status fec work
-no_fec plan peer code status given fec work some none =
-    sym (ap (λ (s : Option PwStatus). hears_status plan peer code s fec work) some ∙ ap (λ (f : Option PwFec). hears_status plan peer code (Some given) f work) none)
-
 both_there : (plan : Plan) (peer : EdgeId) (code : StatusCode) (status : Option PwStatus) (given : PwStatus) (fec : Option PwFec) (named : PwFec) (work : Work) → status ≡ Some given → fec ≡ Some named
     → hears_status plan peer code status fec work ≡ cond (code.code == pw_status_code) (changes (with_named plan peer named (stated given) (group_stated named.group given) named.pw_id) work) work
 both_there plan peer code status given fec named work some there =
     ap (λ (s : Option PwStatus). hears_status plan peer code s fec work) some ∙ ap (λ (f : Option PwFec). hears_status plan peer code (Some given) f work) there
-
-pub other_code : (plan : Plan) (peer : EdgeId) (code : StatusCode) (status : Option PwStatus) (given : PwStatus) (fec : Option PwFec) (named : PwFec) (work : Work) → status ≡ Some given → fec ≡ Some named → (code.code == pw_status_code) ≡ false
-    → work ≡ hears_status plan peer code status fec work
-other_code plan peer code status given fec named work some there other =
-    sym (both_there plan peer code status given fec named work some there ∙ ap (λ (b : Bool). cond b (changes (with_named plan peer named (stated given) (group_stated named.group given) named.pw_id) work) work) other)
 
 pub status_heard : (plan : Plan) (peer : EdgeId) (code : StatusCode) (status : Option PwStatus) (given : PwStatus) (fec : Option PwFec) (named : PwFec) (edge now : EdgeState) (calls : List LinkCall) (out : List Effect) → status ≡ Some given → fec ≡ Some named → (code.code == pw_status_code) ≡ true
     → now ≡ with_named plan peer named (stated given) (group_stated named.group given) named.pw_id edge
@@ -149,6 +126,23 @@ advertises_some told place content label edge mid calls out put some next advert
     ∙ sym (ap (λ (b : Bool). cond b (record { work = record { edge = edge; calls = calls; effects = out; idle = false }; failed = false })
     (says told place.peer (mapping place.pw_id edge.next_label content) (record { edge = advertising place edge.next_label content edge; calls = calls; effects = out; idle = false })))
     (ne_eqb edge.next_label numbers_end some))))
+
+pub wishes_none : (told : Answers) (place : EndPlace) (wished read : Option Told) (work : Work) → read ≡ wished → read ≡ None → record { work = work; failed = false } ≡ advertises_wish told place wished work
+wishes_none told place wished read work is none = sym (ap (λ (w : Option Told). advertises_wish told place w work) (sym is ∙ none))
+
+pub wishes_some : (told : Answers) (place : EndPlace) (wished read : Option Told) (content : Told) (work : Work) (put : Spoken) → read ≡ wished → read ≡ Some content
+    → put ≡ advertises told place content work → put ≡ advertises_wish told place wished work
+wishes_some told place wished read content work put is some puts = puts ∙ sym (ap (λ (w : Option Told). advertises_wish told place w work) (sym is ∙ some))
+
+pub unless_some : (told : Answers) (place : EndPlace) (label : ℕ) (content : Told) (wished read : Option Told) (work : Work) → read ≡ wished → is_some read ≡ true
+    → record { work = work; failed = false } ≡ withdraws_unless told place label content wished work
+unless_some told place label content wished None work is some = absurd (cc (some))
+unless_some told place label content wished (Some wish) work is some = ap (λ (w : Option Told). withdraws_unless told place label content w work) is
+
+pub unless_none : (told : Answers) (place : EndPlace) (label : ℕ) (content : Told) (wished read : Option Told) (work : Work) (put : Spoken) → read ≡ wished → is_some read ≡ false
+    → put ≡ withdraws told place label content work → put ≡ withdraws_unless told place label content wished work
+unless_none told place label content wished None work put is none puts = puts ∙ ap (λ (w : Option Told). withdraws_unless told place label content w work) is
+unless_none told place label content wished (Some wish) work put is none puts = absurd (cc (none))
 
 pub withdraws_at : (told : Answers) (place : EndPlace) (label : ℕ) (content : Told) (edge mid : EdgeState) (calls : List LinkCall) (out : List Effect) (put : Spoken)
     → mid ≡ withdrawing place edge → put ≡ says told place.peer (withdrawal place.pw_id label content) (at_edge mid calls out) → put ≡ withdraws told place label content (at_edge edge calls out)

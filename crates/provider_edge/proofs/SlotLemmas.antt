@@ -1,32 +1,24 @@
 -- What is read of the ends of an edge by their slots.
-use Rattle.std.proofs.Common.{◌≡◌, ◌<◌, ◌&&◌, ◌∙◌, ℕ, Bool, true, false, not, Option, Some, None, length, option_map, position, ap, sym, subst}
+use Rattle.std.proofs.Common.{◌≡◌, ◌&&◌, ◌∙◌, ℕ, Bool, true, false, not, Option, Some, None, option_map, position, ap, sym, subst}
 use Rattle.std.specs.Prelude.{IfSome}
 use Rattle.std.specs.List.{find}
-use Rattle.net_base.specs.declared.plan.Plan.{Plan}
 use Rattle.net_base.specs.declared.plan.places.WireId.{WireId}
 use Rattle.net_base.specs.declared.plan.wire_plan.WirePlan.{WirePlan}
-use Rattle.net_base.specs.declared.trace.down.Down.{Down}
 use Rattle.net_base.specs.plan.Places.{wire_row}
 use Rattle.pw_signalling.specs.declared.end_role.EndRole.{EndRole}
-use Rattle.pw_signalling.specs.Down.{down}
 use Rattle.pw_signalling.specs.End.{EndState}
 use Rattle.edge_model.specs.declared.end_place.EndPlace.{EndPlace}
 use Rattle.edge_model.specs.EndPlaces.{end_places}
 use Rattle.edge_model.specs.Mend.{is_new_choice}
-use Rattle.edge_model.specs.Role.{down_at, end_role_of, is_chosen_wire, role_at, role_in}
+use Rattle.edge_model.specs.Role.{end_role_of, is_chosen_wire, role_at, role_in}
 use Rattle.edge_model.specs.State.{end_at}
 use Rattle.pw_ends.specs.Ends.{end_in, place_of}
 use Rattle.pw_ends.proofs.IndexLemmas.{named_if, none_at}
-use Rattle.provider_edge.proofs.ListLemmas.{end_read, slot_wire}
+use Rattle.provider_edge.proofs.ListLemmas.{end_read}
 use Rattle.provider_edge.specs.Invariant.{IsEdge}
 use Rattle.provider_edge.specs.Lists.{EdgeLists, seen}
 
 -- ---- the wire of a slot is one of the plan
-
-pub slot_within : (c now : EdgeLists) (slot : ℕ) (place : EndPlace) → c ≡ now → IsEdge c → slot < length now.ends.places → place ≡ place_of c.ends slot → place.wire.0 < length now.plan.wires
-slot_within c now slot place same is within at =
-    subst (λ (n : EdgeLists). place.wire.0 < length n.plan.wires) same
-    (subst (λ (p : EndPlace). p.wire.0 < length c.plan.wires) (sym at) (slot_wire c slot is (subst (λ (n : EdgeLists). slot < length n.ends.places) (sym same) within)))
 
 -- ---- what is asked of the end of a slot
 
@@ -39,18 +31,6 @@ role_read c now slot place row chosen role same at found chooses is =
     ∙ (ap (λ (n : EdgeLists). end_role_of row n.me (is_chosen_wire place.wire ((seen now).chosen row.service.0))) same
     ∙ (ap (λ (r : Option WirePlan). role_in r now.me (seen now).chosen place.wire) (sym (ap (λ (n : EdgeLists). wire_row n.plan place.wire) (sym same) ∙ found))
     ∙ ap (λ (p : EndPlace). role_in (wire_row now.plan p.wire) now.me (seen now).chosen p.wire) at)))
-
-pub down_read : (c now : EdgeLists) (slot : ℕ) (place : EndPlace) (role : EndRole) (bits : ℕ) (end : EndState) (why : Option Down) → c ≡ now → place ≡ place_of c.ends slot
-    → role ≡ role_at now.plan (seen now) (place_of now.ends slot) → bits ≡ (seen now).bits place.wire.0 → end ≡ end_in c.ends slot → why ≡ down role bits end
-    → why ≡ down_at now.plan (seen now) (place_of now.ends slot)
-down_read c now slot place role bits end why same at of_role of_bits of_end is =
-    let here : place ≡ place_of now.ends slot = at ∙ ap (λ (n : EdgeLists). place_of n.ends slot) same in
-    let bit : bits ≡ (seen now).bits (place_of now.ends slot).wire.0 = of_bits ∙ ap (λ (p : EndPlace). (seen now).bits p.wire.0) here in
-    let state : end ≡ end_at (seen now) (place_of now.ends slot) = of_end ∙ (ap (λ (n : EdgeLists). end_in n.ends slot) same ∙ end_read now slot) in
-    is
-    ∙ (ap (λ (r : EndRole). down r bits end) of_role
-    ∙ (ap (λ (b : ℕ). down (role_at now.plan (seen now) (place_of now.ends slot)) b end) bit
-    ∙ ap (λ (e : EndState). down (role_at now.plan (seen now) (place_of now.ends slot)) ((seen now).bits (place_of now.ends slot).wire.0) e) state))
 
 -- ---- a spoke that was chosen anew
 

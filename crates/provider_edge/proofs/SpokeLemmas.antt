@@ -1,8 +1,8 @@
 -- The spokes of a spoke edge by their slots, and the choice among them.
-use Rattle.std.proofs.Common.{◌≡◌, ◌<◌, ◌≤◌, ◌+◌, ◌++◌, ◌∙◌, ◌⊎◌, ◌&&◌, ℕ, zero, suc, Bool, true, false, cond, is_some, not, filter, map, nat_eq, nat_lt, List, [], ◌∷◌, Option, Some, None, length, drop, slice_get, slice_index_or, option_and_then, option_map, position, set, take, append_assoc, append-nil, refl, ap, sym, subst, inl, inr, arith}
+use Rattle.std.proofs.Common.{◌≡◌, ◌<◌, ◌≤◌, ◌+◌, ◌++◌, ◌∙◌, ◌⊎◌, ◌&&◌, ℕ, zero, suc, Bool, true, false, cond, is_some, not, filter, map, nat_eq, nat_lt, List, [], ◌∷◌, Option, Some, None, length, drop, slice_get, slice_index_or, option_and_then, option_map, set, take, append_assoc, append-nil, refl, ap, sym, subst, inl, inr, arith}
 use Rattle.std.proofs.lemmas.Bool.{cases_order, eqb-true}
 use Rattle.std.proofs.lemmas.Bool.Decides.{nat_tests}
-use Rattle.std.proofs.lemmas.List.{drop_all, drop_more, length-map}
+use Rattle.std.proofs.lemmas.List.{drop_all, drop_more}
 use Rattle.std.proofs.lemmas.List.Elements.{All-get_or}
 use Rattle.std.proofs.lemmas.Option.{get_or_from_slice_get, slice_get_within}
 use Rattle.std.specs.List.{All}

@@ -6,7 +6,7 @@ use Rattle.std.proofs.Math.Seq.{drop-nil}
 use Rattle.net_values.specs.declared.mac.Mac.{Mac}
 use Rattle.pw_signalling.specs.End.{LocalPart, Idle, Advertised, Withdrawing}
 use Rattle.pw_signalling.specs.declared.told.Told.{Told}
-use Rattle.mac_withdraw.specs.Pieces.{most_in_piece, piece_count, pieces_from, pieces_of}
+use Rattle.mac_withdraw.specs.Pieces.{piece_count, pieces_from}
 use Rattle.edge_model.specs.Content.{mac_withdrawal}
 use Rattle.edge_model.specs.declared.end_place.EndPlace.{EndPlace}
 use Rattle.edge_model.specs.Put.{Spoken, stays}

@@ -6,7 +6,6 @@ mod edge_stop;
 mod egress;
 mod ingress;
 mod parts;
-mod passing;
 mod quiet;
 mod spokes;
 

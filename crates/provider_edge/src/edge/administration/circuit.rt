@@ -1,10 +1,8 @@
 //! A circuit is turned on or off.
-ghost use Rattle.std.specs.Prelude.{◌≡◌, [], Some, true, false, position, OnOk};
+ghost use Rattle.std.specs.Prelude.{◌≡◌, [], Some, true, false, OnOk};
 ghost use Rattle.net_base.specs.declared.plan.circuit_plan.CircuitPlan.{CircuitPlan};
 ghost use Rattle.net_base.specs.plan.Places.{circuit_row};
-ghost use Rattle.hvpls_spokes.specs.Port.{is_circuit_port, ports_of};
 ghost use Rattle.edge_model.specs.Circuit.{circuit_input, turned};
-ghost use Rattle.edge_model.specs.State.{addresses_of, with_addresses, with_circuit, without_port};
 ghost use Rattle.edge_model.specs.Work.{Agrees, Answers, beginning};
 ghost use Rattle.edge_forwarding.specs.Forwarding.{own_service};
 ghost use Rattle.provider_edge.specs.AtWork.{Takes, worked_at};

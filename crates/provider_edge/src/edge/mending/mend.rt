@@ -1,9 +1,8 @@
 //! An edge mends its ends (RFC 8077 sections 6 and 6.3): all steps, in the order of its ends.
 ghost use Rattle.std.specs.Prelude.{◌≡◌, ◌<◌, ◌+◌, List, None, length, false, IfOk, OnOk, true};
 ghost use Rattle.net_base.specs.declared.outside.link_call.LinkCall.{LinkCall};
-ghost use Rattle.pw_ends.specs.Ends.{place_of};
 ghost use Rattle.edge_model.specs.EndPlaces.{end_places};
-ghost use Rattle.edge_model.specs.Mend.{and_says, each_end, forgets_downs, mends, mends_choice, mends_end, mends_once, mends_status, tells_downs};
+ghost use Rattle.edge_model.specs.Mend.{each_end, forgets_downs, mends, mends_choice, mends_end, mends_once, mends_status, tells_downs};
 ghost use Rattle.edge_model.specs.Work.{Agrees, Answers};
 ghost use Rattle.edge_forwarding.specs.Views.{view};
 ghost use Rattle.peer_dialogue.specs.Peering.{at_edge};
@@ -48,25 +47,10 @@ impl Edge {
             → record { work = at_work L.calls self.new work.new; failed = failed } ≡ mends_once self.old.plan told (at_work L.calls self.old work.old)) }
     {
         let before = self.all_chosen(work.alloc)?;
-        self.mend_from(before.as_slice(), work)
-    }
-
-    // The same, where these spokes are chosen.
-    fn mend_from<L: Link>(
-        &mut self,
-        before: &[Option<WireId>],
-        work: &mut AtWork<'_, L>,
-    ) -> Result<bool, NoMemory>
-        requires working { self.old.stopped ≡ true }
-        requires given { view None before.now ≡ (seen self.old).chosen }
-        ensures goes { Works L.calls self.old work.old self.new work.new }
-        ensures step { IfOk result (λ failed. (told : Answers) → Agrees told (L.calls work.new.link.now)
-            → record { work = at_work L.calls self.new work.new; failed = failed } ≡ mends_once self.old.plan told (at_work L.calls self.old work.old)) }
-    {
         let refused = self.mend_ends(work)?;
         self.choose_spokes(work.alloc)?;
         let untold = self.mend_statuses(refused, work)?;
-        let failed = self.mend_choices(before, untold, work)?;
+        let failed = self.mend_choices(before.as_slice(), untold, work)?;
         self.forget_downs();
         self.tell_downs(&mut work.effects.list)?;
         Ok(failed)
@@ -82,29 +66,9 @@ impl Edge {
     {
         let mut failed = false;
         for slot in 0..self.count_ends() {
-            failed = self.and_mend_end(failed, slot, work)?;
+            failed |= self.mend_end(slot, work)?;
         }
         Ok(failed)
-    }
-
-    // One end is mended after others; answers whether the link did not take a message of any.
-    fn and_mend_end<L: Link>(
-        &mut self,
-        before: bool,
-        slot: usize,
-        work: &mut AtWork<'_, L>,
-    ) -> Result<bool, NoMemory>
-        requires working { self.old.stopped ≡ true }
-        requires slot { slot < length self.old.ends.places }
-        ensures goes { Works L.calls self.old work.old self.new work.new }
-        ensures step { IfOk result (λ failed. (told : Answers) → Agrees told (L.calls work.new.link.now)
-            → record { work = at_work L.calls self.new work.new; failed = failed }
-            ≡ and_says (record { work = at_work L.calls self.old work.old; failed = before }) (mends_end self.old.plan told (place_of self.old.ends slot))) }
-    {
-        if self.mend_end(slot, work)? {
-            return Ok(true);
-        }
-        Ok(before)
     }
 
     // Each end tells its status, where it has changed.
@@ -121,29 +85,9 @@ impl Edge {
     {
         let mut failed = before;
         for slot in 0..self.count_ends() {
-            failed = self.and_mend_status(failed, slot, work)?;
+            failed |= self.mend_status(slot, work)?;
         }
         Ok(failed)
-    }
-
-    // One end tells its status after others.
-    fn and_mend_status<L: Link>(
-        &mut self,
-        before: bool,
-        slot: usize,
-        work: &mut AtWork<'_, L>,
-    ) -> Result<bool, NoMemory>
-        requires working { self.old.stopped ≡ true }
-        requires slot { slot < length self.old.ends.places }
-        ensures goes { Works L.calls self.old work.old self.new work.new }
-        ensures step { IfOk result (λ failed. (told : Answers) → Agrees told (L.calls work.new.link.now)
-            → record { work = at_work L.calls self.new work.new; failed = failed }
-            ≡ and_says (record { work = at_work L.calls self.old work.old; failed = before }) (mends_status self.old.plan told (place_of self.old.ends slot))) }
-    {
-        if self.mend_status(slot, work)? {
-            return Ok(true);
-        }
-        Ok(before)
     }
 
     // Each spoke that was chosen anew withdraws addresses. Before this round the edge had chosen these wires, by services.
@@ -161,30 +105,9 @@ impl Edge {
     {
         let mut failed = before;
         for slot in 0..self.count_ends() {
-            failed = self.and_mend_choice(chosen, failed, slot, work)?;
+            failed |= self.mend_choice(chosen, slot, work)?;
         }
         Ok(failed)
-    }
-
-    // One spoke that was chosen anew withdraws addresses after others.
-    fn and_mend_choice<L: Link>(
-        &mut self,
-        chosen: &[Option<WireId>],
-        before: bool,
-        slot: usize,
-        work: &mut AtWork<'_, L>,
-    ) -> Result<bool, NoMemory>
-        requires working { self.old.stopped ≡ true }
-        requires slot { slot < length self.old.ends.places }
-        ensures goes { Works L.calls self.old work.old self.new work.new }
-        ensures step { IfOk result (λ failed. (told : Answers) → Agrees told (L.calls work.new.link.now)
-            → record { work = at_work L.calls self.new work.new; failed = failed }
-            ≡ and_says (record { work = at_work L.calls self.old work.old; failed = before }) (mends_choice self.old.plan told (view None chosen.now) (place_of self.old.ends slot))) }
-    {
-        if self.mend_choice(chosen, slot, work)? {
-            return Ok(true);
-        }
-        Ok(before)
     }
 
     // What was learned at each wire that does not forward is forgotten.

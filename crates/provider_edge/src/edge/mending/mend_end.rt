@@ -6,7 +6,7 @@ ghost use Rattle.net_base.specs.plan.Places.{wire_row};
 ghost use Rattle.pw_signalling.specs.AnyEnd.{end_of};
 ghost use Rattle.pw_tlvs.specs.Written.{has_vlan};
 ghost use Rattle.pw_ends.specs.Ends.{HasKind, IsIdle, end_in, place_of};
-ghost use Rattle.edge_model.specs.Mend.{advertises, advertises_wish, cause_number, forgetting_wire, is_new_choice, mends_choice, mends_end, mends_status, tells_down, tells_new_status, tells_over, terminal_wish, wish, withdraws, withdraws_unless};
+ghost use Rattle.edge_model.specs.Mend.{advertises, advertises_wish, cause_number, forgetting_wire, is_new_choice, mends_choice, mends_end, mends_status, tells_new_status, terminal_wish, wish, withdraws, withdraws_unless};
 ghost use Rattle.edge_model.specs.Role.{down_at, is_chosen_wire, role_at, status_to_tell};
 ghost use Rattle.edge_model.specs.State.{with_told_down};
 ghost use Rattle.edge_model.specs.Work.{Agrees, Answers};
@@ -43,19 +43,19 @@ impl Edge {
                 if end.is_declined() {
                     return Ok(false);
                 }
-                self.advertise_wish(slot, work)
+                self.put_mapping(slot, work)
             }
             PwEnd::Advertised(end) => {
                 let label = end.label();
                 let content = *end.told();
-                self.withdraw_unless(slot, label, content, work)
+                self.put_withdrawal(slot, label, content, work)
             }
             PwEnd::Withdrawing(_) => Ok(false),
         }
     }
 
-    // An idle end advertises what it should tell.
-    fn advertise_wish<L: Link>(
+    // An idle end advertises what it should tell: it takes a label and puts a Label Mapping. Where no label is left it stays idle.
+    fn put_mapping<L: Link>(
         &mut self,
         slot: usize,
         work: &mut AtWork<'_, L>,
@@ -68,29 +68,9 @@ impl Edge {
             → record { work = at_work L.calls self.new work.new; failed = failed }
             ≡ advertises_wish told (place_of self.old.ends slot) (wish self.old.plan (seen self.old) (place_of self.old.ends slot)) (at_work L.calls self.old work.old)) }
     {
-        match self.wish(slot) {
-            Some(told) => self.put_mapping(slot, told, work),
-            None => Ok(false),
-        }
-    }
-
-    // An idle end takes a label and puts a Label Mapping; where no label is left it stays idle.
-    fn put_mapping<L: Link>(
-        &mut self,
-        slot: usize,
-        content: Told,
-        work: &mut AtWork<'_, L>,
-    ) -> Result<bool, NoMemory>
-        requires working { self.old.stopped ≡ true }
-        requires slot { slot < length self.old.ends.places }
-        requires idle { IsIdle (end_in self.old.ends slot).local }
-        requires kind { content.kind ≤ 0x7FFF }
-        requires vlan { has_vlan content.vlan ≡ true }
-        ensures goes { Works L.calls self.old work.old self.new work.new }
-        ensures step { IfOk result (λ failed. (told : Answers) → Agrees told (L.calls work.new.link.now)
-            → record { work = at_work L.calls self.new work.new; failed = failed }
-            ≡ advertises told (place_of self.old.ends slot) content (at_work L.calls self.old work.old)) }
-    {
+        let Some(content) = self.wish(slot) else {
+            return Ok(false);
+        };
         let place = self.place_at(slot);
         let Some(label) = self.advertise(slot, &content) else {
             return Ok(false);
@@ -103,8 +83,8 @@ impl Edge {
         self.say(place.peer, &message, work)
     }
 
-    // An end that advertises withdraws its label, where it should tell nothing by now.
-    fn withdraw_unless<L: Link>(
+    // An end that advertises withdraws its label, and puts that, where it should tell nothing by now.
+    fn put_withdrawal<L: Link>(
         &mut self,
         slot: usize,
         label: Label,
@@ -119,28 +99,9 @@ impl Edge {
             → record { work = at_work L.calls self.new work.new; failed = failed }
             ≡ withdraws_unless told (place_of self.old.ends slot) label content (wish self.old.plan (seen self.old) (place_of self.old.ends slot)) (at_work L.calls self.old work.old)) }
     {
-        match self.wish(slot) {
-            Some(_) => Ok(false),
-            None => self.put_withdrawal(slot, label, content, work),
+        if self.wish(slot).is_some() {
+            return Ok(false);
         }
-    }
-
-    // An end withdraws its label, and puts that.
-    fn put_withdrawal<L: Link>(
-        &mut self,
-        slot: usize,
-        label: Label,
-        content: Told,
-        work: &mut AtWork<'_, L>,
-    ) -> Result<bool, NoMemory>
-        requires working { self.old.stopped ≡ true }
-        requires slot { slot < length self.old.ends.places }
-        requires kind { content.kind ≤ 0x7FFF }
-        ensures goes { Works L.calls self.old work.old self.new work.new }
-        ensures step { IfOk result (λ failed. (told : Answers) → Agrees told (L.calls work.new.link.now)
-            → record { work = at_work L.calls self.new work.new; failed = failed }
-            ≡ withdraws told (place_of self.old.ends slot) label content (at_work L.calls self.old work.old)) }
-    {
         let place = self.place_at(slot);
         self.withdraw(slot);
         let message = PwMessage::Withdrawal {
@@ -151,7 +112,7 @@ impl Edge {
         self.say(place.peer, &message, work)
     }
 
-    // A status that has changed is told; answers whether the link did not take a message.
+    // A status that has changed is told, where the end's mapping carries one; answers whether the link did not take a message.
     pub(crate) fn mend_status<L: Link>(
         &mut self,
         slot: usize,
@@ -166,55 +127,18 @@ impl Edge {
         match self.end_in(slot) {
             PwEnd::Advertised(end) => {
                 let content = *end.told();
-                self.tell_over(slot, content, work)
+                let Some(last) = content.status else {
+                    return Ok(false);
+                };
+                let status = self.status_to_tell(slot);
+                if last.0 == status.0 {
+                    return Ok(false);
+                }
+                self.put_status(slot, content, status, work)
             }
             PwEnd::Idle(_) => Ok(false),
             PwEnd::Withdrawing(_) => Ok(false),
         }
-    }
-
-    // Only an end whose mapping carries a status tells a new one.
-    fn tell_over<L: Link>(
-        &mut self,
-        slot: usize,
-        content: Told,
-        work: &mut AtWork<'_, L>,
-    ) -> Result<bool, NoMemory>
-        requires working { self.old.stopped ≡ true }
-        requires slot { slot < length self.old.ends.places }
-        requires kind { content.kind ≤ 0x7FFF }
-        ensures goes { Works L.calls self.old work.old self.new work.new }
-        ensures step { IfOk result (λ failed. (told : Answers) → Agrees told (L.calls work.new.link.now)
-            → record { work = at_work L.calls self.new work.new; failed = failed }
-            ≡ tells_over told (place_of self.old.ends slot) content (status_to_tell self.old.plan (seen self.old) (place_of self.old.ends slot)) content.status (at_work L.calls self.old work.old)) }
-    {
-        match content.status {
-            Some(last) => self.tell_unless(slot, content, last, work),
-            None => Ok(false),
-        }
-    }
-
-    // A status other than the last one is told.
-    fn tell_unless<L: Link>(
-        &mut self,
-        slot: usize,
-        content: Told,
-        last: PwStatus,
-        work: &mut AtWork<'_, L>,
-    ) -> Result<bool, NoMemory>
-        requires working { self.old.stopped ≡ true }
-        requires slot { slot < length self.old.ends.places }
-        requires kind { content.kind ≤ 0x7FFF }
-        ensures goes { Works L.calls self.old work.old self.new work.new }
-        ensures step { IfOk result (λ failed. (told : Answers) → Agrees told (L.calls work.new.link.now)
-            → record { work = at_work L.calls self.new work.new; failed = failed }
-            ≡ tells_over told (place_of self.old.ends slot) content (status_to_tell self.old.plan (seen self.old) (place_of self.old.ends slot)) (Some last) (at_work L.calls self.old work.old)) }
-    {
-        let status = self.status_to_tell(slot);
-        if last.0 == status.0 {
-            return Ok(false);
-        }
-        self.put_status(slot, content, status, work)
     }
 
     // An end tells a new status, and puts that.
@@ -311,7 +235,7 @@ impl Edge {
         self.forwarding.forget_wire(wire);
     }
 
-    // A wire that began to forward, or stopped, is told at its terminal end.
+    // A wire that began to forward, or stopped, is told at its terminal end, where that was not told last.
     pub(crate) fn tell_down(&mut self, slot: usize, out: &mut List<Effect>) -> Result<(), NoMemory>
         requires working { self.old.stopped ≡ true }
         requires slot { slot < length self.old.ends.places }
@@ -324,27 +248,14 @@ impl Edge {
             return Ok(());
         }
         let down = self.down_of(slot);
-        self.tell_new_down(place.wire, down, out)
-    }
-
-    // Why an end does not forward is told, where that was not told last.
-    fn tell_new_down(
-        &mut self,
-        wire: WireId,
-        down: Option<Down>,
-        out: &mut List<Effect>,
-    ) -> Result<(), NoMemory>
-        requires working { self.old.stopped ≡ true }
-        requires within { wire.0 < length self.old.plan.wires }
-        ensures keeps { Keeps self.old self.new }
-        ensures step { OnOk result ((place : EndPlace) (calls : List LinkCall) → place.wire ≡ wire
-            → at_edge (seen self.new) calls out.new ≡ tells_down place down (at_edge (seen self.old) calls out.old)) }
-    {
-        if is_same(self.told_last(wire), down) {
+        if is_same(self.told_last(place.wire), down) {
             return Ok(());
         }
-        self.set_told(wire, down);
-        out.push(Effect::Wire { wire, down })
+        self.set_told(place.wire, down);
+        out.push(Effect::Wire {
+            wire: place.wire,
+            down,
+        })
     }
 
     // What was told last of the end of a wire.

@@ -1,15 +1,12 @@
 //! Connections of the edge: one stands, one is lost, and the edge restarts.
-ghost use Rattle.std.specs.Prelude.{◌≡◌, ◌<◌, [], true, false, List, None, length, slice_get, slice_index_or, OnOk};
+ghost use Rattle.std.specs.Prelude.{◌≡◌, ◌<◌, [], true, false, List, length, slice_get, OnOk};
 ghost use Rattle.net_base.specs.declared.trace.state_name.Reason.TheVariants as reason;
 ghost use Rattle.session_core.specs.State.{IsProper};
-ghost use Rattle.session_core.specs.Table.{Closed};
 ghost use Rattle.edge_model.specs.Connection.{connected_input, connects, lost_input, restart_input};
-ghost use Rattle.edge_model.specs.Mend.{mends};
-ghost use Rattle.edge_model.specs.Session.{happens_with_ends};
-ghost use Rattle.edge_model.specs.State.{with_learned, without_ends, without_peerings};
+ghost use Rattle.edge_model.specs.State.{without_ends};
 ghost use Rattle.edge_model.specs.Work.{Agrees, Answers, beginning};
 ghost use Rattle.net_base.specs.declared.outside.link_call.LinkCall.{LinkCall};
-ghost use Rattle.peer_dialogue.specs.Peering.{at_edge, connection_with, peers_between};
+ghost use Rattle.peer_dialogue.specs.Peering.{connection_with, peers_between};
 ghost use Rattle.provider_edge.specs.AtWork.{Takes, Works, at_work, worked_at};
 ghost use Rattle.provider_edge.specs.Lists.{Keeps, seen, worked};
 
@@ -92,11 +89,12 @@ impl Edge {
         ensures step { OnOk result ((told : Answers) → Agrees told (L.calls work.new.link.now)
             → worked_at L.calls self.new work.new ≡ lost_input self.old.plan told peer (beginning (seen self.old) (L.calls work.old.link.now))) }
     {
-        if !self.has_end(peer) {
+        let Some(peering) = self.take_peering(peer) else {
             work.effects.idle = true;
             return Ok(());
-        }
-        self.lose(peer, work)?;
+        };
+        peering.lose(peer, work)?;
+        self.clear_ends(peer);
         self.mend(work)
     }
 

@@ -1,10 +1,10 @@
 //! Octets of LDP are heard (RFC 5036 section 3.5.3): one PDU after another, and each message of a PDU in turn.
 ghost use Rattle.edge_model.specs.declared.effect.Effect.{Effect};
 ghost use Rattle.net_base.specs.declared.outside.link_call.LinkCall.{LinkCall};
-ghost use Rattle.std.specs.Prelude.{◌≡◌, ◌≤◌, ◌<◌, ◌+◌, ◌++◌, List, ℕ, true, Some, OnOk, false, []};
+ghost use Rattle.std.specs.Prelude.{◌≡◌, ◌<◌, ◌+◌, ◌++◌, List, ℕ, true, Some, OnOk, false, []};
 ghost use Rattle.std.specs.List.{AllByRecursion};
 ghost use Rattle.net_values.specs.Octets.{AreOctets};
-ghost use Rattle.edge_model.specs.Hear.{acts, acts_on, advice_of, advises, hears, hears_message, hears_messages, hears_one, hears_pdu, octets_input, holds};
+ghost use Rattle.edge_model.specs.Hear.{acts_on, advice_of, advises, hears, hears_message, hears_one, hears_pdu, octets_input, holds};
 ghost use Rattle.edge_model.specs.State.{has_end};
 ghost use Rattle.edge_model.specs.Work.{Agrees, Answers, beginning};
 ghost use Rattle.peer_dialogue.specs.Heard.{CanBeHeard};
@@ -123,7 +123,7 @@ impl Edge {
         }
     }
 
-    // A PDU is heard: its sender, and then its messages.
+    // A PDU is heard: its sender, and then its messages in turn.
     fn hear_pdu<L: Link>(
         &mut self,
         peer: EdgeId,
@@ -137,22 +137,7 @@ impl Edge {
             → at_work L.calls self.new work.new ≡ hears_pdu self.old.plan told peer pdu.now (at_work L.calls self.old work.old)) }
     {
         self.happens(peer, Event::Heard(pdu.id), work)?;
-        self.hear_messages(peer, pdu.messages.as_slice(), work)
-    }
-
-    // Messages are heard in turn.
-    fn hear_messages<L: Link>(
-        &mut self,
-        peer: EdgeId,
-        messages: &[Message],
-        work: &mut AtWork<'_, L>,
-    ) -> Result<(), NoMemory>
-        requires working { self.old.stopped ≡ true }
-        requires heard { AllByRecursion CanBeHeard messages.now }
-        ensures goes { Works L.calls self.old work.old self.new work.new }
-        ensures step { OnOk result ((told : Answers) → Agrees told (L.calls work.new.link.now)
-            → at_work L.calls self.new work.new ≡ hears_messages self.old.plan told peer messages.now (at_work L.calls self.old work.old)) }
-    {
+        let messages = pdu.messages.as_slice();
         for place in 0..messages.len() {
             self.hear_message(peer, &messages[place], work)?;
         }
@@ -179,7 +164,7 @@ impl Edge {
         self.mend(work)
     }
 
-    // What a message makes of the session, and what the edge then does.
+    // What a message makes of the session, and what the edge then does, where the session was up and still is.
     fn hear_one<L: Link>(
         &mut self,
         peer: EdgeId,
@@ -194,33 +179,14 @@ impl Edge {
     {
         let was_up = self.is_up(peer);
         self.happens(peer, Event::Received(message), work)?;
-        if was_up {
-            return self.act(peer, message, work);
-        }
-        Ok(())
-    }
-
-    // A session that was up, and still is, acts on a message.
-    fn act<L: Link>(
-        &mut self,
-        peer: EdgeId,
-        message: &Message,
-        work: &mut AtWork<'_, L>,
-    ) -> Result<(), NoMemory>
-        requires working { self.old.stopped ≡ true }
-        requires heard { CanBeHeard message.now }
-        ensures goes { Works L.calls self.old work.old self.new work.new }
-        ensures step { OnOk result ((told : Answers) → Agrees told (L.calls work.new.link.now)
-            → at_work L.calls self.new work.new ≡ acts self.old.plan told peer message.now true (at_work L.calls self.old work.old)) }
-    {
-        if !self.has_end(peer) {
+        if !was_up || !self.has_end(peer) {
             return Ok(());
         }
-        self.act_on(peer, message, work)
+        self.act(peer, message, work)
     }
 
     // What the edge does on a message, one call each.
-    fn act_on<L: Link>(
+    fn act<L: Link>(
         &mut self,
         peer: EdgeId,
         message: &Message,

@@ -5,11 +5,11 @@ ghost use Rattle.net_base.specs.declared.trace.state_name.Reason.TheVariants as 
 ghost use Rattle.ldp_codec.specs.declared.decode_fault.DecodeFault.{DecodeFault};
 ghost use Rattle.pw_signalling.specs.Rows.{lost};
 ghost use Rattle.session_core.specs.Messages.{HasData};
-ghost use Rattle.session_core.specs.Table.{Closed, Refused};
+ghost use Rattle.session_core.specs.Table.{Refused};
 ghost use Rattle.edge_model.specs.declared.effect.Effect.{Effect};
 ghost use Rattle.edge_model.specs.Hear.{advises, was_up};
 ghost use Rattle.edge_model.specs.Session.{clears_ends, happens, happens_with_ends, says};
-ghost use Rattle.edge_model.specs.State.{has_end, with_ends_beside, with_peering, without_peerings};
+ghost use Rattle.edge_model.specs.State.{has_end, with_peering, without_peerings};
 ghost use Rattle.edge_model.specs.Work.{Agrees, Answers};
 ghost use Rattle.peer_dialogue.specs.Event.{MayHappen, event_of};
 ghost use Rattle.peer_dialogue.specs.Peering.{at_edge, gone};
@@ -68,23 +68,14 @@ impl Edge {
         self.peerings[peer.0 as usize] = kept;
     }
 
-    // Each end beside a neighbour is lost.
-    fn lose_ends(&mut self, peer: EdgeId)
-        requires working { self.old.stopped ≡ true }
-        ensures keeps { Keeps self.old self.new }
-        ensures step { seen self.new ≡ with_ends_beside peer lost (seen self.old) }
-    {
-        self.ends.lose(peer);
-    }
-
     // Where no session with a neighbour stands, each end beside it is lost (RFC 5036 section 3.5.1.1).
-    fn clear_ends(&mut self, peer: EdgeId)
+    pub(crate) fn clear_ends(&mut self, peer: EdgeId)
         requires working { self.old.stopped ≡ true }
         ensures keeps { Keeps self.old self.new }
         ensures step { (calls : List LinkCall) (out : List Effect) → at_edge (seen self.new) calls out ≡ clears_ends peer (at_edge (seen self.old) calls out) }
     {
         if !self.has_end(peer) {
-            self.lose_ends(peer);
+            self.ends.lose(peer);
         }
     }
 
@@ -111,64 +102,14 @@ impl Edge {
         ensures step { OnOk result ((told : Answers) → Agrees told (L.calls work.new.link.now)
             → at_work L.calls self.new work.new ≡ happens_with_ends told peer (event_of event.entry) (at_work L.calls self.old work.old)) }
     {
-        self.moves(peer, event, work)?;
-        self.clear_ends(peer);
-        Ok(())
-    }
-
-    // The same, but for the ends.
-    fn moves<L: Link>(
-        &mut self,
-        peer: EdgeId,
-        event: Event<'_>,
-        work: &mut AtWork<'_, L>,
-    ) -> Result<(), NoMemory>
-        requires working { self.old.stopped ≡ true }
-        requires may { MayHappen event }
-        ensures goes { Works L.calls self.old work.old self.new work.new }
-        ensures ended { OnOk result ((wrong : DecodeFault) → event_of event.entry ≡ Refused wrong → (seen self.new).peering peer.0 ≡ None) }
-        ensures step { OnOk result ((told : Answers) → Agrees told (L.calls work.new.link.now)
-            → at_work L.calls self.new work.new ≡ happens told peer (event_of event.entry) (at_work L.calls self.old work.old)) }
-    {
         let Some(peering) = self.take_peering(peer) else {
+            self.clear_ends(peer);
             return Ok(());
         };
         let left = peering.happens(peer, event, work)?;
         self.put_peering(peer, left);
-        Ok(())
-    }
-
-    // The edge's end of the connection with a peer is lost, and so its session ends, where it stands.
-    pub(crate) fn lose<L: Link>(
-        &mut self,
-        peer: EdgeId,
-        work: &mut AtWork<'_, L>,
-    ) -> Result<(), NoMemory>
-        requires working { self.old.stopped ≡ true }
-        ensures goes { Works L.calls self.old work.old self.new work.new }
-        ensures step { OnOk result ((told : Answers) → Agrees told (L.calls work.new.link.now)
-            → at_work L.calls self.new work.new ≡ happens_with_ends told peer (Closed reason.Closed) (at_work L.calls self.old work.old)) }
-    {
-        self.closes(peer, work)?;
         self.clear_ends(peer);
         Ok(())
-    }
-
-    // The same, but for the ends.
-    fn closes<L: Link>(
-        &mut self,
-        peer: EdgeId,
-        work: &mut AtWork<'_, L>,
-    ) -> Result<(), NoMemory>
-        requires working { self.old.stopped ≡ true }
-        ensures goes { Works L.calls self.old work.old self.new work.new }
-        ensures step { OnOk result ((told : Answers) → Agrees told (L.calls work.new.link.now)
-            → at_work L.calls self.new work.new ≡ happens told peer (Closed reason.Closed) (at_work L.calls self.old work.old)) }
-    {
-        let Some(peering) = self.take_peering(peer) else {
-            return Ok(());
-        };
-        peering.lose(peer, work)
     }
 
     // Puts a message about a pseudowire to a peer, with the Message ID that is next, and answers whether the link did not

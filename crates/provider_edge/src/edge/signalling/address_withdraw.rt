@@ -1,20 +1,17 @@
 //! A MAC withdraw is heard: the bridge of the wire's service forgets, and the edge passes it on (RFC 4762 section 6.2).
-ghost use Rattle.std.specs.Prelude.{◌≡◌, ◌<◌, ◌≤◌, Some, None, true, length, position, slice_get, if◌then◌else◌, IfSome, OnOk};
+ghost use Rattle.std.specs.Prelude.{◌≡◌, ◌<◌, Some, None, true, length, position, slice_get, OnOk};
 ghost use Rattle.hvpls_spokes.specs.Port.{is_wire_port, ports_of};
-ghost use Rattle.hvpls_spokes.specs.PortSet.{has};
 ghost use Rattle.hvpls_spokes.specs.Role.{role_of};
 ghost use Rattle.mac_withdraw.specs.Passing.{is_wire_at};
 ghost use Rattle.pw_ends.specs.Ends.{place_of};
-ghost use Rattle.edge_model.specs.Clear.{clears_at, clears_by, hears_mac_withdraw, passes_on, tells_at, tells_by, withdrawing_at};
+ghost use Rattle.edge_model.specs.Clear.{clears_by, hears_mac_withdraw, passes_on, tells_at, tells_by, withdrawing_at};
 ghost use Rattle.edge_model.specs.Ends.{wire_end};
-ghost use Rattle.edge_model.specs.Frame.{copies};
 ghost use Rattle.edge_model.specs.Work.{Agrees, Answers};
 ghost use Rattle.provider_edge.specs.Taking.{copied_by};
 ghost use Rattle.provider_edge.specs.AtWork.{Works, at_work};
 ghost use Rattle.provider_edge.specs.Lists.{Keeps, seen};
 
 use crate::Edge;
-use crate::passing::Passing;
 use hvpls_spokes::{Port, role};
 use mac_withdraw::pass_to;
 use net_base::{EdgeId, Link, List, Mac, NoMemory, ServiceId, WireId};
@@ -48,7 +45,7 @@ impl Edge {
         self.clear_by(slot, addresses, work)
     }
 
-    // What came by the end of a slot is for its service, where the end is a terminal one.
+    // What came by the end of a slot is for its service, where the end is a terminal one: the bridge forgets, and the edge passes it on.
     fn clear_by<L: Link>(
         &mut self,
         slot: usize,
@@ -66,8 +63,11 @@ impl Edge {
             return Ok(());
         }
         let service = self.service_at(slot);
-        let port = self.wire_port(place.wire, service);
-        self.clear_at(service, port, addresses, work)
+        let Some(from) = self.wire_port(place.wire, service) else {
+            return Ok(());
+        };
+        self.withdraw_at(service, from, addresses);
+        self.pass_on(service, from, addresses.as_slice(), work)
     }
 
     // The port of a wire of a service.
@@ -76,28 +76,6 @@ impl Edge {
         ensures { result ≡ position (is_wire_port wire) (ports_of self.now.plan service self.now.me) }
     {
         self.forwarding.port_of_wire(wire, service)
-    }
-
-    // The bridge of a service forgets what came by a port names, and the edge passes it on.
-    fn clear_at<L: Link>(
-        &mut self,
-        service: ServiceId,
-        port: Option<u16>,
-        addresses: &List<Mac>,
-        work: &mut AtWork<'_, L>,
-    ) -> Result<(), NoMemory>
-        requires working { self.old.stopped ≡ true }
-        requires service { service.0 < length self.old.plan.services }
-        requires wire { IfSome port (λ from. is_wire_at (ports_of self.old.plan service self.old.me) from ≡ true) }
-        ensures goes { Works L.calls self.old work.old self.new work.new }
-        ensures step { OnOk result ((told : Answers) → Agrees told (L.calls work.new.link.now)
-            → at_work L.calls self.new work.new ≡ clears_at self.old.plan told addresses.now service port (at_work L.calls self.old work.old)) }
-    {
-        let Some(from) = port else {
-            return Ok(());
-        };
-        self.withdraw_at(service, from, addresses);
-        self.pass_on(service, from, addresses.as_slice(), work)
     }
 
     // The bridge of a service forgets what a MAC withdraw by a port names.
@@ -111,7 +89,7 @@ impl Edge {
         self.forwarding.withdraw(service, from, addresses);
     }
 
-    // What came by a port goes on by each port to which the edge passes it.
+    // What came by a port goes on by each port to which the edge passes it, in port order.
     fn pass_on<L: Link>(
         &mut self,
         service: ServiceId,
@@ -134,59 +112,12 @@ impl Edge {
             return Ok(());
         };
         let passed = pass_to(ports, role, from);
-        let count = ports.len();
-        let passing = Passing {
-            service,
-            ports: &passed,
-            addresses,
-        };
-        self.tell_passed(count, &passing, work)
-    }
-
-    // The addresses go on by those of the ports of a service to which the edge passes them, in port order.
-    fn tell_passed<L: Link>(
-        &mut self,
-        count: u16,
-        passing: &Passing<'_>,
-        work: &mut AtWork<'_, L>,
-    ) -> Result<(), NoMemory>
-        requires working { self.old.stopped ≡ true }
-        requires service { passing.now.service.0 < length self.old.plan.services }
-        requires count { count ≡ length (ports_of self.old.plan passing.now.service self.old.me) }
-        requires most { count ≤ 512 }
-        ensures goes { Works L.calls self.old work.old self.new work.new }
-        ensures step { OnOk result ((told : Answers) → Agrees told (L.calls work.new.link.now)
-            → at_work L.calls self.new work.new
-            ≡ copies (has passing.now.ports.now) (tells_at self.old.plan told passing.now.addresses.now) 0 (ports_of self.old.plan passing.now.service self.old.me) (at_work L.calls self.old work.old)) }
-    {
-        for port in 0..count {
-            self.tell_where(port, passing, work)?;
+        for port in 0..ports.len() {
+            if passed.contains(port) {
+                self.tell_at(service, port, addresses, work)?;
+            }
         }
         Ok(())
-    }
-
-    // The addresses go on by the port of a number, where the edge passes them to it.
-    fn tell_where<L: Link>(
-        &mut self,
-        port: u16,
-        passing: &Passing<'_>,
-        work: &mut AtWork<'_, L>,
-    ) -> Result<(), NoMemory>
-        requires working { self.old.stopped ≡ true }
-        requires service { passing.now.service.0 < length self.old.plan.services }
-        requires port { port < 512 }
-        ensures goes { Works L.calls self.old work.old self.new work.new }
-        ensures step { OnOk result ((told : Answers) → Agrees told (L.calls work.new.link.now)
-            → at_work L.calls self.new work.new
-            ≡ (if has passing.now.ports.now port then copied_by (tells_at self.old.plan told passing.now.addresses.now) (slice_get (ports_of self.old.plan passing.now.service self.old.me) port) (at_work L.calls self.old work.old) else at_work L.calls self.old work.old)) }
-    {
-        if !passing.ports.contains(port) {
-            return Ok(());
-        }
-        match self.port(passing.service, port) {
-            Some(port) => self.tell_at(port, passing.addresses, work),
-            None => Ok(()),
-        }
     }
 
     // The port of a service with a number.
@@ -200,22 +131,25 @@ impl Edge {
         }
     }
 
-    // The addresses go on by a port, where it leads to a wire.
+    // The addresses go on by the port of a number, in pieces, where it leads to a wire that ends at the edge.
     fn tell_at<L: Link>(
         &mut self,
-        port: Port,
+        service: ServiceId,
+        port: u16,
         addresses: &[Mac],
         work: &mut AtWork<'_, L>,
     ) -> Result<(), NoMemory>
         requires working { self.old.stopped ≡ true }
+        requires service { service.0 < length self.old.plan.services }
         ensures goes { Works L.calls self.old work.old self.new work.new }
         ensures step { OnOk result ((told : Answers) → Agrees told (L.calls work.new.link.now)
-            → at_work L.calls self.new work.new ≡ tells_at self.old.plan told addresses.now port (at_work L.calls self.old work.old)) }
+            → at_work L.calls self.new work.new
+            ≡ copied_by (tells_at self.old.plan told addresses.now) (slice_get (ports_of self.old.plan service self.old.me) port) (at_work L.calls self.old work.old)) }
     {
-        match port {
-            Port::Circuit(_) => Ok(()),
-            Port::Mesh(wire) => self.tell_wire(wire, addresses, work),
-            Port::Spoke(wire) => self.tell_wire(wire, addresses, work),
+        match self.port(service, port) {
+            Some(Port::Mesh(wire)) => self.tell_wire(wire, addresses, work),
+            Some(Port::Spoke(wire)) => self.tell_wire(wire, addresses, work),
+            Some(Port::Circuit(_)) | None => Ok(()),
         }
     }
 

@@ -1,7 +1,7 @@
 //! What becomes of the ends of an edge, one call a change.
-ghost use Rattle.std.specs.Prelude.{◌≡◌, ◌<◌, ◌≤◌, ◌+◌, length, Some, None, option_map, IfSome, true};
+ghost use Rattle.std.specs.Prelude.{◌≡◌, ◌<◌, ◌≤◌, length, Some, None, option_map, IfSome, true};
 ghost use Rattle.label_space.specs.Labels.{numbers_end};
-ghost use Rattle.pw_signalling.specs.Rows.{bound, group_stated, group_unbound, released, stated, telling, unbound};
+ghost use Rattle.pw_signalling.specs.Rows.{bound, group_stated, group_unbound, released, stated, unbound};
 ghost use Rattle.pw_ends.specs.Ends.{IsIdle, end_in, place_of};
 ghost use Rattle.edge_model.specs.EndPlaces.{end_named};
 ghost use Rattle.edge_model.specs.Mend.{advertising, telling_status, withdrawing};

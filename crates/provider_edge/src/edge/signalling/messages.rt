@@ -4,7 +4,6 @@ ghost use Rattle.std.specs.Prelude.{◌≡◌, ◌≤◌, Some, None, List, OnOk
 ghost use Rattle.net_base.specs.declared.outside.link_call.LinkCall.{LinkCall};
 ghost use Rattle.pw_signalling.specs.Rows.{group_stated, group_unbound, released, stated, unbound};
 ghost use Rattle.edge_model.specs.declared.effect.Effect.{Effect};
-ghost use Rattle.edge_model.specs.EndPlaces.{end_named};
 ghost use Rattle.edge_model.specs.Signal.{end_of_fec, hears_status, hears_withdraw, releases_label, with_end_changed, with_named};
 ghost use Rattle.edge_model.specs.Work.{Agrees, Answers};
 ghost use Rattle.peer_dialogue.specs.Peering.{at_edge};
@@ -89,19 +88,12 @@ impl Edge {
         ensures step { seen self.new ≡ with_named self.old.plan peer fec.now (unbound label) (group_unbound fec.now.group) fec.now.pw_id (seen self.old) }
     {
         match fec.pw_id {
-            Some(pw_id) => self.unbind_one(peer, pw_id, label),
+            Some(pw_id) => {
+                if let Some(slot) = self.slot_named(peer, pw_id) {
+                    self.unbind(slot, label);
+                }
+            }
             None => self.unbind_group(peer, fec.group),
-        }
-    }
-
-    // The binding of the end with this PW ID goes, where it is there.
-    fn unbind_one(&mut self, peer: EdgeId, pw_id: u32, label: Option<Label>)
-        requires working { self.old.stopped ≡ true }
-        ensures keeps { Keeps self.old self.new }
-        ensures step { seen self.new ≡ with_end_changed (unbound label) (end_named self.old.plan self.old.me peer pw_id) (seen self.old) }
-    {
-        if let Some(slot) = self.slot_named(peer, pw_id) {
-            self.unbind(slot, label);
         }
     }
 
@@ -148,19 +140,12 @@ impl Edge {
         ensures step { seen self.new ≡ with_named self.old.plan peer fec.now (stated status) (group_stated fec.now.group status) fec.now.pw_id (seen self.old) }
     {
         match fec.pw_id {
-            Some(pw_id) => self.state_one(peer, pw_id, status),
+            Some(pw_id) => {
+                if let Some(slot) = self.slot_named(peer, pw_id) {
+                    self.state(slot, status);
+                }
+            }
             None => self.state_group(peer, fec.group, status),
-        }
-    }
-
-    // The status of the binding of the end with this PW ID, where it is there.
-    fn state_one(&mut self, peer: EdgeId, pw_id: u32, status: PwStatus)
-        requires working { self.old.stopped ≡ true }
-        ensures keeps { Keeps self.old self.new }
-        ensures step { seen self.new ≡ with_end_changed (stated status) (end_named self.old.plan self.old.me peer pw_id) (seen self.old) }
-    {
-        if let Some(slot) = self.slot_named(peer, pw_id) {
-            self.state(slot, status);
         }
     }
 }

@@ -3,8 +3,6 @@ ghost use Rattle.std.specs.Prelude.{◌≡◌, ◌<◌, ◌≤◌, ◌*◌, leng
 ghost use Rattle.mac_withdraw.specs.Pieces.{pieces_of};
 ghost use Rattle.pw_ends.specs.Ends.{place_of};
 ghost use Rattle.edge_model.specs.Withdraw.{tells_piece, tells_pieces};
-ghost use Rattle.edge_model.specs.Session.{says};
-ghost use Rattle.edge_model.specs.Content.{mac_withdrawal};
 ghost use Rattle.edge_model.specs.Work.{Agrees, Answers};
 ghost use Rattle.provider_edge.specs.AtWork.{Works, at_work};
 
@@ -36,37 +34,17 @@ impl Edge {
         match self.end_in(slot) {
             PwEnd::Advertised(end) => {
                 let content = *end.told();
-                self.put_piece(slot, addresses, content, work)
+                let place = self.place_at(slot);
+                let message = PwMessage::MacWithdrawal {
+                    pw_id: place.pw_id,
+                    addresses,
+                    told: content,
+                };
+                self.say(place.peer, &message, work)
             }
             PwEnd::Idle(_) => Ok(false),
             PwEnd::Withdrawing(_) => Ok(false),
         }
-    }
-
-    // One piece is put by an end with this content.
-    fn put_piece<L: Link>(
-        &mut self,
-        slot: usize,
-        addresses: &[Mac],
-        content: Told,
-        work: &mut AtWork<'_, L>,
-    ) -> Result<bool, NoMemory>
-        requires working { self.old.stopped ≡ true }
-        requires slot { slot < length self.old.ends.places }
-        requires few { length addresses.now ≤ 30 }
-        requires kind { content.kind ≤ 0x7FFF }
-        ensures goes { Works L.calls self.old work.old self.new work.new }
-        ensures step { IfOk result (λ failed. (told : Answers) → Agrees told (L.calls work.new.link.now)
-            → record { work = at_work L.calls self.new work.new; failed = failed }
-            ≡ says told (place_of self.old.ends slot).peer (mac_withdrawal (place_of self.old.ends slot).pw_id addresses.now content) (at_work L.calls self.old work.old)) }
-    {
-        let place = self.place_at(slot);
-        let message = PwMessage::MacWithdrawal {
-            pw_id: place.pw_id,
-            addresses,
-            told: content,
-        };
-        self.say(place.peer, &message, work)
     }
 
     // The addresses are told in pieces, whatever becomes of each.

@@ -1,4 +1,4 @@
-use Rattle.std.proofs.Common.{Some, ap, refl}
+use Rattle.std.proofs.Common.{Some}
 use Rattle.edge_model.specs.Put.{put_reply}
 use Rattle.edge_model.specs.Session.{had_put}
 use Rattle.edge_model.specs.Work.{Work}

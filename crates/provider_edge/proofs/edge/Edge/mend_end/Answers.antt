@@ -16,23 +16,23 @@ returns-then-is_declined-clause-step g c = λ told agrees.
 pub returns-else-is_declined-clause-step : goal.returns-else-is_declined-clause-step
 unfolding at_edge
 returns-else-is_declined-clause-step g c =
-    map_ok _ _ c.advertise_wish.result (λ failed said. λ told agrees.
+    map_ok _ _ c.put_mapping.result (λ failed said. λ told agrees.
     idle_wishes c.args.self.now.plan told (place_of c.args.self.now.ends c.args.slot) (at_work g.L.Link.calls c.args.self.now c.args.work.now) c.in-Idle.end.declined
-    (record { work = at_work g.L.Link.calls c.advertise_wish.new.self c.advertise_wish.new.work; failed = failed })
+    (record { work = at_work g.L.Link.calls c.put_mapping.new.self c.put_mapping.new.work; failed = failed })
     (local_is c.args.self.now (g.L.Link.calls c.args.work.now.link.now) c.args.work.now.effects.now.list c.args.slot c.end_in.result.now _ c.end_in.ensures.end c.in-Idle.is) (sym c.is_declined.ensures.declined ∙ c.if-is_declined.false)
     (said told agrees))
-    c.advertise_wish.ensures.step
+    c.put_mapping.ensures.step
 
 pub returns-in-Advertised-clause-step : goal.returns-in-Advertised-clause-step
 unfolding at_edge
 returns-in-Advertised-clause-step g c =
-    map_ok _ _ c.withdraw_unless.result (λ failed said. λ told agrees.
+    map_ok _ _ c.put_withdrawal.result (λ failed said. λ told agrees.
     advertised_ends c.args.self.now.plan told (place_of c.args.self.now.ends c.args.slot) (at_work g.L.Link.calls c.args.self.now c.args.work.now) c.label-label.result c.told-content.result.now
-    (record { work = at_work g.L.Link.calls c.withdraw_unless.new.self c.withdraw_unless.new.work; failed = failed })
+    (record { work = at_work g.L.Link.calls c.put_withdrawal.new.self c.put_withdrawal.new.work; failed = failed })
     (local_is c.args.self.now (g.L.Link.calls c.args.work.now.link.now) c.args.work.now.effects.now.list c.args.slot c.end_in.result.now _ c.end_in.ensures.end c.in-Advertised.is
     ∙ (ap (λ (n : ℕ). Advertised n c.in-Advertised.end.told) (sym c.label-label.ensures.label) ∙ ap (λ (t : Told). Advertised c.label-label.result t) (sym c.told-content.ensures.told)))
     (said told agrees))
-    c.withdraw_unless.ensures.step
+    c.put_withdrawal.ensures.step
 
 pub returns-in-Withdrawing-clause-step : goal.returns-in-Withdrawing-clause-step
 returns-in-Withdrawing-clause-step g c = λ told agrees.

@@ -1,23 +1,47 @@
 use Rattle.std.proofs.Common.{◌∙◌, ap, sym}
+use Rattle.std.proofs.lemmas.Bool.{eq-eqb, ne_eqb}
+use Rattle.edge_model.specs.Role.{status_to_tell}
 use Rattle.pw_ends.specs.Ends.{place_of}
 use Rattle.pw_signalling.specs.End.{Advertised}
 use Rattle.pw_signalling.specs.declared.told.Told.{Told}
 use Rattle.peer_dialogue.specs.Peering.{at_edge}
 use Rattle.peer_dialogue.proofs.SettleLemmas.{map_ok}
-use Rattle.provider_edge.proofs.MendLemmas.{local_is, status_idle, status_over, status_withdrawing}
+use Rattle.provider_edge.proofs.MendLemmas.{local_is, over_new, over_none, over_same, status_idle, status_over, status_withdrawing}
 use Rattle.provider_edge.specs.AtWork.{at_work}
+use Rattle.provider_edge.specs.Lists.{seen}
 use Rattle.provider_edge.proofs.edge.Edge.mend_status.Goals as goal
 
-pub returns-in-Advertised-clause-step : goal.returns-in-Advertised-clause-step
+pub returns-in_default-clause-step : goal.returns-in_default-clause-step
 unfolding at_edge
-returns-in-Advertised-clause-step g c =
-    map_ok _ _ c.tell_over.result (λ failed said. λ told agrees.
+returns-in_default-clause-step g c = λ told agrees.
     status_over c.args.self.now.plan told (place_of c.args.self.now.ends c.args.slot) (at_work g.L.Link.calls c.args.self.now c.args.work.now) c.in-Advertised.end.label c.told-content.result.now
-    (record { work = at_work g.L.Link.calls c.tell_over.new.self c.tell_over.new.work; failed = failed })
+    _
     (local_is c.args.self.now (g.L.Link.calls c.args.work.now.link.now) c.args.work.now.effects.now.list c.args.slot c.end_in.result.now _ c.end_in.ensures.end c.in-Advertised.is
     ∙ ap (λ (t : Told). Advertised c.in-Advertised.end.label t) (sym c.told-content.ensures.told))
-    (said told agrees))
-    c.tell_over.ensures.step
+    (over_none told (place_of c.args.self.now.ends c.args.slot) c.told-content.result.now (status_to_tell c.args.self.now.plan (seen c.args.self.now) (place_of c.args.self.now.ends c.args.slot)) c.told-content.result.now.status (at_work g.L.Link.calls c.args.self.now c.args.work.now) c.in_default.is)
+
+pub returns-then-last-status-clause-step : goal.returns-then-last-status-clause-step
+unfolding at_edge
+returns-then-last-status-clause-step g c = λ told agrees.
+    status_over c.args.self.now.plan told (place_of c.args.self.now.ends c.args.slot) (at_work g.L.Link.calls c.args.self.now c.args.work.now) c.in-Advertised.end.label c.told-content.result.now
+    _
+    (local_is c.args.self.now (g.L.Link.calls c.args.work.now.link.now) c.args.work.now.effects.now.list c.args.slot c.end_in.result.now _ c.end_in.ensures.end c.in-Advertised.is
+    ∙ ap (λ (t : Told). Advertised c.in-Advertised.end.label t) (sym c.told-content.ensures.told))
+    (over_same told (place_of c.args.self.now.ends c.args.slot) c.told-content.result.now c.status_to_tell-status.result (status_to_tell c.args.self.now.plan (seen c.args.self.now) (place_of c.args.self.now.ends c.args.slot)) c.told-content.result.now.status c.in-Some.last (at_work g.L.Link.calls c.args.self.now c.args.work.now)
+    c.status_to_tell-status.ensures c.in-Some.is (eq-eqb c.in-Some.last.0 c.status_to_tell-status.result.0 c.if-last-status.true))
+
+pub returns-else-last-status-clause-step : goal.returns-else-last-status-clause-step
+unfolding at_edge
+returns-else-last-status-clause-step g c =
+    map_ok _ _ c.put_status.result (λ failed said. λ told agrees.
+    status_over c.args.self.now.plan told (place_of c.args.self.now.ends c.args.slot) (at_work g.L.Link.calls c.args.self.now c.args.work.now) c.in-Advertised.end.label c.told-content.result.now
+    (record { work = at_work g.L.Link.calls c.put_status.new.self c.put_status.new.work; failed = failed })
+    (local_is c.args.self.now (g.L.Link.calls c.args.work.now.link.now) c.args.work.now.effects.now.list c.args.slot c.end_in.result.now _ c.end_in.ensures.end c.in-Advertised.is
+    ∙ ap (λ (t : Told). Advertised c.in-Advertised.end.label t) (sym c.told-content.ensures.told))
+    (over_new told (place_of c.args.self.now.ends c.args.slot) c.told-content.result.now c.status_to_tell-status.result (status_to_tell c.args.self.now.plan (seen c.args.self.now) (place_of c.args.self.now.ends c.args.slot)) c.told-content.result.now.status c.in-Some.last (at_work g.L.Link.calls c.args.self.now c.args.work.now)
+    (record { work = at_work g.L.Link.calls c.put_status.new.self c.put_status.new.work; failed = failed })
+    c.status_to_tell-status.ensures c.in-Some.is (ne_eqb c.in-Some.last.0 c.status_to_tell-status.result.0 c.if-last-status.false) (said told agrees)))
+    c.put_status.ensures.step
 
 pub returns-in-Idle-clause-step : goal.returns-in-Idle-clause-step
 returns-in-Idle-clause-step g c = λ told agrees.

@@ -1,4 +1,4 @@
-use Rattle.std.proofs.Common.{◌∙◌, Bool, Some, ap, refl}
+use Rattle.std.proofs.Common.{◌∙◌, Bool, Some, ap}
 use Rattle.edge_model.specs.Work.{Work}
 use Rattle.peer_dialogue.specs.Peering.{at_edge, had_spoken, is_over, put_message}
 use Rattle.peer_dialogue.specs.PwMessage.{numbered}

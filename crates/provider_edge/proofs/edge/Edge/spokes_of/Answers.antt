@@ -1,4 +1,4 @@
-use Rattle.std.proofs.Common.{◌∙◌, List, ℕ, length, map, ap, arith}
+use Rattle.std.proofs.Common.{◌∙◌, List, ℕ, length, ap}
 use Rattle.std.proofs.lemmas.List.{length-map}
 use Rattle.spoke_redundancy.specs.declared.spoke.Spoke.{Spoke}
 use Rattle.edge_model.specs.Spokes.{spoke_at}

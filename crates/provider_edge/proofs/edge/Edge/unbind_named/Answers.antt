@@ -1,8 +1,18 @@
-use Rattle.pw_signalling.specs.Rows.{unbound, group_unbound}
-use Rattle.provider_edge.proofs.RowLemmas.{with_named_some}
+use Rattle.pw_ends.specs.Ends.{place_of}
+use Rattle.pw_signalling.specs.Rows.{group_unbound, unbound}
+use Rattle.edge_model.specs.EndPlaces.{end_named}
+use Rattle.provider_edge.proofs.RowLemmas.{named_none, named_some, one_none, one_some, with_named_some}
 use Rattle.provider_edge.specs.Lists.{seen}
 use Rattle.provider_edge.proofs.edge.Edge.unbind_named.Goals as goal
 
-pub returns-in-Some-clause-step : goal.returns-in-Some-clause-step
-returns-in-Some-clause-step c =
-    with_named_some c.args.self.now.plan c.args.peer c.args.fec.now (unbound c.args.label) (group_unbound c.args.fec.now.group) c.args.fec.now.pw_id c.in-Some.pw_id c.args.self.now (seen c.unbind_one.new.self) c.in-Some.is (c.unbind_one.ensures.step)
+pub returns-in-Some-slot_named-clause-step : goal.returns-in-Some-slot_named-clause-step
+returns-in-Some-slot_named-clause-step c =
+    with_named_some c.args.self.now.plan c.args.peer c.args.fec.now (unbound c.args.label) (group_unbound c.args.fec.now.group) c.args.fec.now.pw_id c.in-Some.pw_id c.args.self.now (seen c.unbind.new.self) c.in-Some.is
+    (one_some (unbound c.args.label) (end_named c.args.self.now.plan c.args.self.now.me c.args.peer c.in-Some.pw_id) (place_of c.args.self.now.ends c.in-Some-slot_named.slot) (seen c.args.self.now) (seen c.unbind.new.self)
+    (named_some c.slot_named.result c.in-Some-slot_named.slot c.args.self.now.ends _ c.slot_named.ensures.named c.in-Some-slot_named.is) c.unbind.ensures.step)
+
+pub returns-in_default-clause-step : goal.returns-in_default-clause-step
+returns-in_default-clause-step c =
+    with_named_some c.args.self.now.plan c.args.peer c.args.fec.now (unbound c.args.label) (group_unbound c.args.fec.now.group) c.args.fec.now.pw_id c.in-Some.pw_id c.args.self.now (seen c.args.self.now) c.in-Some.is
+    (one_none (unbound c.args.label) (end_named c.args.self.now.plan c.args.self.now.me c.args.peer c.in-Some.pw_id) (seen c.args.self.now)
+    (named_none c.slot_named.result c.args.self.now.ends _ c.slot_named.ensures.named c.in_default.is))

@@ -5,12 +5,12 @@ use Rattle.edge_model.specs.Clear.{tells_at}
 use Rattle.edge_model.specs.Frame.{copies}
 use Rattle.edge_model.specs.Work.{Agrees, Answers}
 use Rattle.provider_edge.specs.AtWork.{Works, at_work}
-use Rattle.provider_edge.proofs.edge.Edge.tell_passed.Given as goal
+use Rattle.provider_edge.proofs.edge.Edge.pass_on.Given as goal
 
 abbrev pub invariant-loop-port : goal.invariant-loop-port
 invariant-loop-port g l = record {
   goes : Works g.L.Link.calls l.fn.self l.fn.work l.self l.work;
   step : (told : Answers) → Agrees told (g.L.Link.calls l.work.link.now)
-      → copies (has l.passing.ports.now) (tells_at l.fn.self.plan told l.passing.addresses.now) l.port (drop l.port (ports_of l.fn.self.plan l.passing.service l.fn.self.me)) (at_work g.L.Link.calls l.self l.work)
-      ≡ copies (has l.passing.ports.now) (tells_at l.fn.self.plan told l.passing.addresses.now) 0 (ports_of l.fn.self.plan l.passing.service l.fn.self.me) (at_work g.L.Link.calls l.fn.self l.fn.work);
+      → copies (has l.passed) (tells_at l.fn.self.plan told l.addresses) l.port (drop l.port (ports_of l.fn.self.plan l.service l.fn.self.me)) (at_work g.L.Link.calls l.self l.work)
+      ≡ copies (has l.passed) (tells_at l.fn.self.plan told l.addresses) 0 (ports_of l.fn.self.plan l.service l.fn.self.me) (at_work g.L.Link.calls l.fn.self l.fn.work);
 }
