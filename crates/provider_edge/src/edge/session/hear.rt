@@ -4,7 +4,7 @@ ghost use Rattle.net_base.specs.declared.outside.link_call.LinkCall.{LinkCall};
 ghost use Rattle.std.specs.Prelude.{◌≡◌, ◌<◌, ◌+◌, ◌++◌, List, ℕ, true, Some, OnOk, false, []};
 ghost use Rattle.std.specs.List.{AllByRecursion};
 ghost use Rattle.net_values.specs.Octets.{AreOctets};
-ghost use Rattle.edge_model.specs.Hear.{acts_on, advice_of, advises, hears, hears_message, hears_one, hears_pdu, octets_input, holds};
+ghost use Rattle.edge_model.specs.Hear.{acts_on, advice_of, advises, hears, hears_message, hears_pdu, octets_input, holds};
 ghost use Rattle.edge_model.specs.State.{has_end};
 ghost use Rattle.edge_model.specs.Work.{Agrees, Answers, beginning};
 ghost use Rattle.peer_dialogue.specs.Heard.{CanBeHeard};
@@ -144,7 +144,8 @@ impl Edge {
         Ok(())
     }
 
-    // A message is heard, and the edge mends its ends; after the end of the session none is.
+    // A message is heard: by the session, and by the edge where the session was up and still is. Then the edge mends its ends. After the
+    // end of the session none is heard.
     fn hear_message<L: Link>(
         &mut self,
         peer: EdgeId,
@@ -160,29 +161,12 @@ impl Edge {
         if !self.has_end(peer) {
             return Ok(());
         }
-        self.hear_one(peer, message, work)?;
-        self.mend(work)
-    }
-
-    // What a message makes of the session, and what the edge then does, where the session was up and still is.
-    fn hear_one<L: Link>(
-        &mut self,
-        peer: EdgeId,
-        message: &Message,
-        work: &mut AtWork<'_, L>,
-    ) -> Result<(), NoMemory>
-        requires working { self.old.stopped ≡ true }
-        requires heard { CanBeHeard message.now }
-        ensures goes { Works L.calls self.old work.old self.new work.new }
-        ensures step { OnOk result ((told : Answers) → Agrees told (L.calls work.new.link.now)
-            → at_work L.calls self.new work.new ≡ hears_one self.old.plan told peer message.now (at_work L.calls self.old work.old)) }
-    {
         let was_up = self.is_up(peer);
         self.happens(peer, Event::Received(message), work)?;
-        if !was_up || !self.has_end(peer) {
-            return Ok(());
+        if was_up && self.has_end(peer) {
+            self.act(peer, message, work)?;
         }
-        self.act(peer, message, work)
+        self.mend(work)
     }
 
     // What the edge does on a message, one call each.

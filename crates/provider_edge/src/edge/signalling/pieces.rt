@@ -10,7 +10,7 @@ use crate::Edge;
 use mac_withdraw::pieces;
 use net_base::{Link, Mac, NoMemory};
 use peer_dialogue::{AtWork, PwMessage};
-use pw_signalling::{PwEnd, Told};
+use pw_signalling::PwEnd;
 
 // The most addresses of one message.
 const MOST_IN_PIECE: usize = 30;
