@@ -1,17 +1,15 @@
-//! What becomes of the ends of an edge, one call a change.
+//! The ends of an edge: how one is found, and what becomes of it where the edge tells of it, one call a change.
 ghost use Rattle.std.specs.Prelude.{◌≡◌, ◌<◌, ◌≤◌, length, Some, None, option_map, IfSome, true};
 ghost use Rattle.label_space.specs.Labels.{numbers_end};
-ghost use Rattle.pw_signalling.specs.Rows.{bound, group_stated, group_unbound, released, stated, unbound};
 ghost use Rattle.pw_ends.specs.Ends.{IsIdle, end_in, place_of};
 ghost use Rattle.edge_model.specs.EndPlaces.{end_named};
 ghost use Rattle.edge_model.specs.Mend.{advertising, telling_status, withdrawing};
-ghost use Rattle.edge_model.specs.Signal.{end_of_fec, with_end_changed};
-ghost use Rattle.edge_model.specs.State.{with_ends_beside};
+ghost use Rattle.edge_model.specs.Signal.{end_of_fec};
 ghost use Rattle.provider_edge.specs.Lists.{Keeps, seen};
 
 use crate::Edge;
 use net_base::{EdgeId, Label};
-use pw_signalling::{Binding, Told};
+use pw_signalling::Told;
 use pw_tlvs::{PwFec, PwStatus};
 
 impl Edge {
@@ -32,64 +30,6 @@ impl Edge {
             Some(pw_id) => self.slot_named(peer, pw_id),
             None => None,
         }
-    }
-
-    // A binding replaces the one that was held.
-    pub(crate) fn bind(&mut self, slot: usize, binding: &Binding)
-        requires working { self.old.stopped ≡ true }
-        requires slot { slot < length self.old.ends.places }
-        ensures keeps { Keeps self.old self.new }
-        ensures step { seen self.new ≡ with_end_changed (bound binding.now) (Some (place_of self.old.ends slot)) (seen self.old) }
-    {
-        self.ends.on_mapping(slot, binding);
-    }
-
-    // The binding goes, where the label is absent or its own.
-    pub(crate) fn unbind(&mut self, slot: usize, label: Option<Label>)
-        requires working { self.old.stopped ≡ true }
-        requires slot { slot < length self.old.ends.places }
-        ensures keeps { Keeps self.old self.new }
-        ensures step { seen self.new ≡ with_end_changed (unbound label) (Some (place_of self.old.ends slot)) (seen self.old) }
-    {
-        self.ends.on_withdraw(slot, label);
-    }
-
-    // Each binding of a peer's group goes.
-    pub(crate) fn unbind_group(&mut self, peer: EdgeId, group: u32)
-        requires working { self.old.stopped ≡ true }
-        ensures keeps { Keeps self.old self.new }
-        ensures step { seen self.new ≡ with_ends_beside peer (group_unbound group) (seen self.old) }
-    {
-        self.ends.on_group_withdraw(peer, group);
-    }
-
-    // The own label is released, or declined.
-    pub(crate) fn release_own(&mut self, slot: usize, label: Option<Label>)
-        requires working { self.old.stopped ≡ true }
-        requires slot { slot < length self.old.ends.places }
-        ensures keeps { Keeps self.old self.new }
-        ensures step { seen self.new ≡ with_end_changed (released label) (Some (place_of self.old.ends slot)) (seen self.old) }
-    {
-        self.ends.on_release(slot, label);
-    }
-
-    // The status of the binding, where one is held.
-    pub(crate) fn state(&mut self, slot: usize, status: PwStatus)
-        requires working { self.old.stopped ≡ true }
-        requires slot { slot < length self.old.ends.places }
-        ensures keeps { Keeps self.old self.new }
-        ensures step { seen self.new ≡ with_end_changed (stated status) (Some (place_of self.old.ends slot)) (seen self.old) }
-    {
-        self.ends.on_status(slot, status);
-    }
-
-    // The status of each binding of a peer's group.
-    pub(crate) fn state_group(&mut self, peer: EdgeId, group: u32, status: PwStatus)
-        requires working { self.old.stopped ≡ true }
-        ensures keeps { Keeps self.old self.new }
-        ensures step { seen self.new ≡ with_ends_beside peer (group_stated group status) (seen self.old) }
-    {
-        self.ends.on_group_status(peer, group, status);
     }
 
     // An idle end advertises the next label with its content; `None` exactly where no label is left.

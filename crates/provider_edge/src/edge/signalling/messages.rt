@@ -39,7 +39,7 @@ impl Edge {
         let Some(slot) = self.slot_of(peer, fec) else {
             return self.release(peer, fec, Some(binding.label), work);
         };
-        self.bind(slot, binding);
+        self.ends.on_mapping(slot, binding);
         Ok(())
     }
 
@@ -90,10 +90,10 @@ impl Edge {
         match fec.pw_id {
             Some(pw_id) => {
                 if let Some(slot) = self.slot_named(peer, pw_id) {
-                    self.unbind(slot, label);
+                    self.ends.on_withdraw(slot, label);
                 }
             }
-            None => self.unbind_group(peer, fec.group),
+            None => self.ends.on_group_withdraw(peer, fec.group),
         }
     }
 
@@ -105,7 +105,7 @@ impl Edge {
         ensures step { seen self.new ≡ with_end_changed (released label) (end_of_fec self.old.plan (seen self.old) peer fec.now) (seen self.old) }
     {
         if let Some(slot) = self.slot_of(peer, fec) {
-            self.release_own(slot, label);
+            self.ends.on_release(slot, label);
         }
     }
 
@@ -142,10 +142,10 @@ impl Edge {
         match fec.pw_id {
             Some(pw_id) => {
                 if let Some(slot) = self.slot_named(peer, pw_id) {
-                    self.state(slot, status);
+                    self.ends.on_status(slot, status);
                 }
             }
-            None => self.state_group(peer, fec.group, status),
+            None => self.ends.on_group_status(peer, fec.group, status),
         }
     }
 }

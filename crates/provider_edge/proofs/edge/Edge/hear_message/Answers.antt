@@ -32,7 +32,7 @@ returns-clause-step g c =
       | else-was_up w ↦ rw w.self-is (rw w.work-is c.in_ok-happens.ensures.goes)
     ] in
     let heard : (told : Answers) → Agrees told (g.L.Link.calls c.if-was_up.work.link.now)
-        → at_work g.L.Link.calls c.if-was_up.self c.if-was_up.work ≡ hears_one c.args.self.now.plan told c.args.peer c.args.message.now (at_work g.L.Link.calls c.args.self.now c.args.work.now) =
+    → at_work g.L.Link.calls c.if-was_up.self c.if-was_up.work ≡ hears_one c.args.self.now.plan told c.args.peer c.args.message.now (at_work g.L.Link.calls c.args.self.now c.args.work.now) =
     elim c.if-was_up.branch [
       | then-was_up+then-has_end+in_ok-act w ↦ rw w.self-is (rw w.work-is (λ told agrees.
           one_heard c.args.self.now.plan c.happens.new.self.plan told c.args.peer c.args.message.now (seen c.args.self.now) (g.L.Link.calls c.args.work.now.link.now) c.args.work.now.effects.now.list true
@@ -42,17 +42,17 @@ returns-clause-step g c =
           (acts_there c.happens.new.self.plan told c.args.peer c.args.message.now (seen c.happens.new.self) (g.L.Link.calls c.happens.new.work.link.now) c.happens.new.work.effects.now.list _ (sym w.has_end-then-was_up.ensures ∙ w.if-has_end.true) (w.in_ok-act.ensures.step told agrees))))
       | else-was_up w ↦ rw w.self-is (rw w.work-is (λ told agrees. elim w.else-was_up.branch [
         | else-was_up-via-then-was_up+else-has_end v ↦
-          one_heard c.args.self.now.plan c.happens.new.self.plan told c.args.peer c.args.message.now (seen c.args.self.now) (g.L.Link.calls c.args.work.now.link.now) c.args.work.now.effects.now.list true
-          (at_work g.L.Link.calls c.happens.new.self c.happens.new.work) (at_work g.L.Link.calls c.happens.new.self c.happens.new.work)
-          (sym v.if-was_up.true ∙ c.is_up-was_up.ensures) c.in_ok-happens.ensures.goes.keeps.plan
-          (c.in_ok-happens.ensures.step told agrees)
-          (acts_not c.happens.new.self.plan told c.args.peer c.args.message.now (seen c.happens.new.self) (g.L.Link.calls c.happens.new.work.link.now) c.happens.new.work.effects.now.list (sym v.has_end-then-was_up.ensures ∙ v.if-has_end.false))
+            one_heard c.args.self.now.plan c.happens.new.self.plan told c.args.peer c.args.message.now (seen c.args.self.now) (g.L.Link.calls c.args.work.now.link.now) c.args.work.now.effects.now.list true
+            (at_work g.L.Link.calls c.happens.new.self c.happens.new.work) (at_work g.L.Link.calls c.happens.new.self c.happens.new.work)
+            (sym v.if-was_up.true ∙ c.is_up-was_up.ensures) c.in_ok-happens.ensures.goes.keeps.plan
+            (c.in_ok-happens.ensures.step told agrees)
+            (acts_not c.happens.new.self.plan told c.args.peer c.args.message.now (seen c.happens.new.self) (g.L.Link.calls c.happens.new.work.link.now) c.happens.new.work.effects.now.list (sym v.has_end-then-was_up.ensures ∙ v.if-has_end.false))
         | else-was_up-via-else-was_up v ↦
-          one_heard c.args.self.now.plan c.happens.new.self.plan told c.args.peer c.args.message.now (seen c.args.self.now) (g.L.Link.calls c.args.work.now.link.now) c.args.work.now.effects.now.list false
-          (at_work g.L.Link.calls c.happens.new.self c.happens.new.work) (at_work g.L.Link.calls c.happens.new.self c.happens.new.work)
-          (sym v.if-was_up.false ∙ c.is_up-was_up.ensures) c.in_ok-happens.ensures.goes.keeps.plan
-          (c.in_ok-happens.ensures.step told agrees) refl
-        ]))
+            one_heard c.args.self.now.plan c.happens.new.self.plan told c.args.peer c.args.message.now (seen c.args.self.now) (g.L.Link.calls c.args.work.now.link.now) c.args.work.now.effects.now.list false
+            (at_work g.L.Link.calls c.happens.new.self c.happens.new.work) (at_work g.L.Link.calls c.happens.new.self c.happens.new.work)
+            (sym v.if-was_up.false ∙ c.is_up-was_up.ensures) c.in_ok-happens.ensures.goes.keeps.plan
+            (c.in_ok-happens.ensures.step told agrees) refl
+      ]))
     ] in
     map_on _ _ c.mend.result
     (λ mended told agrees.
