@@ -1,7 +1,6 @@
 //! A tick passes.
 ghost use Rattle.std.specs.Prelude.{◌≡◌, [], true, false, length, OnOk};
-ghost use Rattle.edge_model.specs.State.{later, with_ticks};
-ghost use Rattle.edge_model.specs.Tick.{forgetting, tick_input, ticks_sessions};
+ghost use Rattle.edge_model.specs.Tick.{tick_input, ticks_sessions};
 ghost use Rattle.edge_model.specs.Work.{Agrees, Answers, beginning};
 ghost use Rattle.provider_edge.specs.AtWork.{Takes, Works, at_work, worked_at};
 ghost use Rattle.provider_edge.specs.Lists.{seen};
@@ -11,7 +10,7 @@ use net_base::{EdgeId, Link, NoMemory};
 use peer_dialogue::{AtWork, Event};
 
 impl Edge {
-    // The edge counts the tick, its sessions have it, its bridges forget, and then it mends its ends.
+    // The edge counts the tick, its sessions have it, its addresses age, and then it mends its ends.
     pub(crate) fn tick<L: Link>(&mut self, work: &mut AtWork<'_, L>) -> Result<(), NoMemory>
         requires working { self.old.stopped ≡ true }
         requires fresh { work.old.effects.now ≡ record { idle = false; list = [] } }
@@ -21,7 +20,7 @@ impl Edge {
     {
         self.count_tick();
         self.tick_sessions(work)?;
-        self.forget();
+        self.age();
         self.mend(work)
     }
 

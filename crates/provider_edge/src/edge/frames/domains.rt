@@ -65,13 +65,13 @@ impl Edge {
         self.forwarding.count_tick();
     }
 
-    // Each bridge forgets what it has not heard for as long as its age limit.
+    // Addresses age: each bridge forgets what it has not heard for as long as its age limit.
     #[tactic(auto, using(crate::proofs::ForwardLemmas::holds_forwarding, crate::proofs::ForwardLemmas::keeps_forwarding))]
-    pub(crate) fn forget(&mut self)
+    pub(crate) fn age(&mut self)
         requires working { self.old.stopped ≡ true }
         ensures keeps { Keeps self.old self.new }
         ensures step { seen self.new ≡ forgetting self.old.plan (seen self.old) }
     {
-        self.forwarding.forget();
+        self.forwarding.age();
     }
 }

@@ -1,0 +1,14 @@
+use Rattle.std.proofs.Common.{◌≡◌, subst, ◌∙◌, ap}
+use Rattle.edge_model.specs.Tick.{forgetting}
+use Rattle.provider_edge.specs.contracts.edge.Edge.{the_view}
+use Rattle.provider_edge.proofs.ForwardLemmas.{holds_forwarding, seen_aged}
+use Rattle.provider_edge.specs.Lists.{EdgeLists, seen}
+use Rattle.provider_edge.proofs.edge.Edge.age.Goals as goal
+
+pub invariant_of-self : goal.invariant_of-self
+invariant_of-self c = holds_forwarding (the_view c.self.inside) c.age.new.self c.age.ensures.keeps (ap (λ (e : EdgeLists). e.stopped) c.self.view_is ∙ c.requires.working) c.self.invariant
+
+pub returns-clause-step : goal.returns-clause-step
+returns-clause-step c =
+    subst (λ (n : EdgeLists). seen (record (the_view c.self.inside) { forwarding = c.age.new.self }) ≡ forgetting n.plan (seen n)) c.self.view_is
+    (seen_aged (the_view c.self.inside) c.age.new.self c.self.invariant c.age.ensures.keeps c.age.ensures.step)
