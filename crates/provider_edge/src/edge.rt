@@ -28,12 +28,11 @@ mod session;
 mod signalling;
 
 use crate::EdgeStop;
-use crate::quiet::nothing;
 use crate::spokes::Spokes;
 use edge_forwarding::Forwarding;
 use edge_model::{Effects, EndPlace, Input};
 use net_base::{
-    CircuitId, Down, EdgeId, Link, NoMemory, Plan, SegKey, ServiceId, StateName, WireId,
+    CircuitId, Down, EdgeId, Link, List, NoMemory, Plan, SegKey, ServiceId, StateName, WireId,
 };
 use peer_dialogue::{AtWork, Peering};
 use pw_ends::PwEnds;
@@ -133,8 +132,17 @@ impl Edge {
             return Err(EdgeStop::Stopped);
         }
         self.stopped = true;
-        match self.work(alloc, input, link) {
-            Ok(effects) => {
+        let mut effects = Effects {
+            idle: false,
+            list: List::new(alloc),
+        };
+        let mut work = AtWork {
+            alloc,
+            link,
+            effects: &mut effects,
+        };
+        match self.work(input, &mut work) {
+            Ok(()) => {
                 self.stopped = false;
                 Ok(effects)
             }
@@ -142,38 +150,9 @@ impl Edge {
         }
     }
 
-    // What the edge makes of an input. Until it is done nothing is said of what was told last of the wires, so the edge counts
-    // as stopped.
-    fn work<L: Link>(
-        &mut self,
-        alloc: Global,
-        input: Input<'_>,
-        link: &mut L,
-    ) -> Result<Effects, NoMemory>
-        requires range { IsInRange input }
-        requires working { self.old.stopped ≡ true }
-        requires synced { InSync self.old.plan (seen self.old) }
-        ensures keeps { Keeps self.old self.new }
-        ensures calls { GoesOn (L.calls link.old) (L.calls link.new) }
-        ensures step { IfOk result (λ effects. (told : Answers) → Agrees told (L.calls link.new)
-            → worked self.new (L.calls link.new) effects ≡ edge_step self.old.plan told input.entry (beginning (seen self.old) (L.calls link.old))) }
-    {
-        let mut effects = nothing(alloc);
-        let mut work = AtWork {
-            alloc,
-            link,
-            effects: &mut effects,
-        };
-        self.work_into(input, &mut work)?;
-        Ok(effects)
-    }
-
-    // The same with what the edge works with, where nothing was given out on the input before.
-    fn work_into<L: Link>(
-        &mut self,
-        input: Input<'_>,
-        work: &mut AtWork<'_, L>,
-    ) -> Result<(), NoMemory>
+    // What the edge makes of an input, on which nothing was given out before. Until it is done nothing is said of what was told
+    // last of the wires, so the edge counts as stopped.
+    fn work<L: Link>(&mut self, input: Input<'_>, work: &mut AtWork<'_, L>) -> Result<(), NoMemory>
         requires range { IsInRange input }
         requires working { self.old.stopped ≡ true }
         requires synced { InSync self.old.plan (seen self.old) }

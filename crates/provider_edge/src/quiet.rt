@@ -1,20 +1,9 @@
-//! Effects that need no memory.
-ghost use Rattle.std.specs.Prelude.{◌≡◌, ◌++◌, ◌∷◌, [], false, OnOk};
+//! What is dropped.
+ghost use Rattle.std.specs.Prelude.{◌≡◌, ◌++◌, ◌∷◌, [], OnOk};
 ghost use Rattle.edge_model.specs.declared.effect.Effect.TheVariants.{Dropped};
 
-use edge_model::{Effect, Effects};
+use edge_model::Effect;
 use net_base::{DropCause, List, NoMemory};
-use std::alloc::Global;
-
-/// Nothing is given out.
-pub fn nothing(alloc: Global) -> Effects
-    ensures { result ≡ record { idle = false; list = [] } }
-{
-    Effects {
-        idle: false,
-        list: List::new(alloc),
-    }
-}
 
 /// A frame or a packet is dropped.
 pub fn drop_for(cause: DropCause, out: &mut List<Effect>) -> Result<(), NoMemory>

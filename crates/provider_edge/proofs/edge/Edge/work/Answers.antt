@@ -13,7 +13,7 @@ use Rattle.peer_dialogue.proofs.SettleLemmas.{map_on}
 use Rattle.peer_dialogue.specs.Peering.{at_edge}
 use Rattle.provider_edge.proofs.AtWorkLemmas.{takes_by}
 use Rattle.provider_edge.proofs.EdgeLemmas.{begun, given_out}
-use Rattle.provider_edge.proofs.edge.Edge.work_into.Goals as goal
+use Rattle.provider_edge.proofs.edge.Edge.work.Goals as goal
 
 pub connected-requires-clause-working : goal.connected-requires-clause-working
 connected-requires-clause-working g c = c.requires.working
