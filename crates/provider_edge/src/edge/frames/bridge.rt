@@ -8,7 +8,7 @@ ghost use Rattle.hvpls_spokes.specs.Port.{ports_of};
 ghost use Rattle.hvpls_spokes.specs.PortSet.{has};
 ghost use Rattle.edge_model.specs.declared.effect.Effect.TheVariants.{Left};
 ghost use Rattle.edge_model.specs.Ends.{wire_end};
-ghost use Rattle.edge_model.specs.Frame.{copies, copy_by, forwarded, hearing, received, tag_of, targets_of};
+ghost use Rattle.edge_model.specs.Frame.{copies, copy_by, hearing, received, tag_of, targets_of};
 ghost use Rattle.edge_model.specs.Send.{sends, sends_copy, sends_under};
 ghost use Rattle.edge_model.specs.Synced.{InSync};
 ghost use Rattle.edge_model.specs.Work.{Agrees, Answers, GoesOn};
@@ -35,8 +35,9 @@ use peer_dialogue::AtWork;
 use std::alloc::Global;
 
 impl Edge {
-    // What came by a port of a service, and was read: what has a fault is dropped, and teaches nothing.
-    pub(crate) fn bridge_read<L: Link>(
+    // What came by a port of a service, and was read: what has a fault is dropped, and teaches nothing. An inner frame is heard by
+    // the bridge of the service, and then its copies go out.
+    pub(crate) fn bridge_frame<L: Link>(
         &mut self,
         ingress: Ingress,
         read: Result<Vec<u8>, FrameFault>,
@@ -52,36 +53,19 @@ impl Edge {
             → MatchResult read (λ frame. formed ≡ Ok frame.items) (λ fault. formed ≡ Err (cause_of fault))
             → at_work L.calls self.new work.new ≡ received self.old.plan told ingress.came ingress.service ingress.port formed (at_work L.calls self.old work.old)) }
     {
-        match read {
-            Ok(frame) => self.bridge_frame(ingress, frame.as_slice(), work),
-            Err(fault) => drop_for(fault.cause(), &mut work.effects.list),
-        }
-    }
-
-    // The bridge of a service hears an inner frame by a port, and then its copies go out.
-    fn bridge_frame<L: Link>(
-        &mut self,
-        ingress: Ingress,
-        frame: &[u8],
-        work: &mut AtWork<'_, L>,
-    ) -> Result<(), NoMemory>
-        requires working { self.old.stopped ≡ true }
-        requires service { ingress.service.0 < length self.old.plan.services }
-        requires synced { InSync self.old.plan (seen self.old) }
-        requires on { IfSome ingress.port (λ p. open_ports self.old.forwarding ingress.service p ≡ true) }
-        requires header { 14 ≤ length frame.now }
-        ensures goes { Works L.calls self.old work.old self.new work.new }
-        ensures step { OnOk result ((told : Answers) → Agrees told (L.calls work.new.link.now)
-            → at_work L.calls self.new work.new ≡ forwarded self.old.plan told ingress.came ingress.service frame.now ingress.port (at_work L.calls self.old work.old)) }
-    {
+        let frame = match read {
+            Ok(frame) => frame,
+            Err(fault) => return drop_for(fault.cause(), &mut work.effects.list),
+        };
         let Some(arrival) = ingress.port else {
             return Ok(());
         };
-        let targets = self.hear_frame(arrival, ingress.service, frame);
+        let octets = frame.as_slice();
+        let targets = self.hear_frame(arrival, ingress.service, octets);
         let egress = Egress {
             came: ingress.came,
             targets: &targets,
-            frame,
+            frame: octets,
         };
         self.put_copies(ingress.service, &egress, work)
     }
@@ -114,10 +98,13 @@ impl Edge {
             → at_work L.calls self.now work.new
             ≡ copies (has egress.now.targets.now) (copy_by self.now.plan told egress.now.came egress.now.frame.now) 0 (ports_of self.now.plan service self.now.me) (at_work L.calls self.now work.old)) }
     {
-        match self.ports(service) {
-            Some(ports) => self.put_each_copy(ports, egress, work),
-            None => Ok(()),
+        let Some(ports) = self.ports(service) else {
+            return Ok(());
+        };
+        for port in 0..ports.len() {
+            self.put_copy(ports, port, egress, work)?;
         }
+        Ok(())
     }
 
     // The ports of a service; `None` exactly where it has none at the edge.
@@ -129,27 +116,9 @@ impl Edge {
         self.forwarding.ports(service)
     }
 
-    // The copies by those of the ports that are targets, in port order.
-    fn put_each_copy<L: Link>(
-        &self,
-        ports: &Ports,
-        egress: &Egress<'_>,
-        work: &mut AtWork<'_, L>,
-    ) -> Result<(), NoMemory>
-        requires header { 14 ≤ length egress.now.frame.now }
-        ensures goes { WorkGoes L.calls work.old work.new }
-        ensures step { OnOk result ((told : Answers) → Agrees told (L.calls work.new.link.now)
-            → at_work L.calls self.now work.new
-            ≡ copies (has egress.now.targets.now) (copy_by self.now.plan told egress.now.came egress.now.frame.now) 0 ports.now (at_work L.calls self.now work.old)) }
-    {
-        for port in 0..ports.len() {
-            self.put_copy_at(ports, port, egress, work)?;
-        }
-        Ok(())
-    }
-
-    // The copy by the port of a number, where that is a target.
-    fn put_copy_at<L: Link>(
+    // The copy by the port of a number, where that is a target: at a circuit the frame with the circuit's tag, and on a wire a
+    // packet.
+    fn put_copy<L: Link>(
         &self,
         ports: &Ports,
         port: u16,
@@ -166,34 +135,18 @@ impl Edge {
         if !egress.targets.contains(port) {
             return Ok(());
         }
-        match ports.get(port) {
-            Some(port) => self.put_copy(egress.came, port, egress.frame, work),
-            None => Ok(()),
-        }
-    }
-
-    // The copy by a port: at a circuit the frame with the circuit's tag, and on a wire a packet.
-    fn put_copy<L: Link>(
-        &self,
-        came: Arrival,
-        port: Port,
-        frame: &[u8],
-        work: &mut AtWork<'_, L>,
-    ) -> Result<(), NoMemory>
-        requires header { 14 ≤ length frame.now }
-        ensures goes { WorkGoes L.calls work.old work.new }
-        ensures step { OnOk result ((told : Answers) → Agrees told (L.calls work.new.link.now)
-            → at_work L.calls self.now work.new ≡ copy_by self.now.plan told came frame.now port (at_work L.calls self.now work.old)) }
-    {
+        let Some(port) = ports.get(port) else {
+            return Ok(());
+        };
         match port {
             Port::Circuit(circuit) => self.leave(
                 work.alloc,
                 circuit,
-                frame,
+                egress.frame,
                 &mut work.effects.list,
             ),
-            Port::Mesh(wire) => self.send_copy(came, wire, frame, work),
-            Port::Spoke(wire) => self.send_copy(came, wire, frame, work),
+            Port::Mesh(wire) => self.send_copy(egress.came, wire, egress.frame, work),
+            Port::Spoke(wire) => self.send_copy(egress.came, wire, egress.frame, work),
         }
     }
 

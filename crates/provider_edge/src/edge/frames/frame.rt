@@ -22,7 +22,7 @@ use net_base::{Arrival, CircuitId, CircuitPlan, EdgeId, Link, NoMemory, ServiceI
 use peer_dialogue::AtWork;
 
 impl Edge {
-    // A frame comes by a circuit of the edge that is on.
+    // A frame comes by a circuit of the edge that is on: it is read before anything changes.
     pub(crate) fn frame<L: Link>(
         &mut self,
         circuit: CircuitId,
@@ -44,7 +44,14 @@ impl Edge {
             work.effects.idle = true;
             return Ok(());
         }
-        self.bridge_octets(circuit, service, octets, work)
+        let read = read_inner(work.alloc, &self.plan, circuit, octets)?;
+        let port = self.port_of(circuit, service);
+        let ingress = Ingress {
+            came: Arrival::Circuit(circuit),
+            service,
+            port,
+        };
+        self.bridge_frame(ingress, read, work)
     }
 
     // The service of a circuit of the edge.
@@ -55,33 +62,6 @@ impl Edge {
             Some(row) if is_at(row, self.me) => Some(row.service),
             Some(_) | None => None,
         }
-    }
-
-    // A frame comes by a circuit of the edge that is on: it is read before anything changes.
-    fn bridge_octets<L: Link>(
-        &mut self,
-        circuit: CircuitId,
-        service: ServiceId,
-        octets: &[u8],
-        work: &mut AtWork<'_, L>,
-    ) -> Result<(), NoMemory>
-        requires working { self.old.stopped ≡ true }
-        requires synced { InSync self.old.plan (seen self.old) }
-        requires own { own_service self.old.me (circuit_row self.old.plan circuit) ≡ Some service }
-        requires on { is_on (seen self.old) circuit ≡ true }
-        ensures goes { Works L.calls self.old work.old self.new work.new }
-        ensures step { OnOk result ((told : Answers) → Agrees told (L.calls work.new.link.now)
-            → at_work L.calls self.new work.new
-            ≡ received self.old.plan told (arrival.Circuit circuit) service (position (is_circuit_port circuit) (ports_of self.old.plan service self.old.me)) (inner_at self.old.plan circuit octets.now) (at_work L.calls self.old work.old)) }
-    {
-        let read = read_inner(work.alloc, &self.plan, circuit, octets)?;
-        let port = self.port_of(circuit, service);
-        let ingress = Ingress {
-            came: Arrival::Circuit(circuit),
-            service,
-            port,
-        };
-        self.bridge_read(ingress, read, work)
     }
 }
 

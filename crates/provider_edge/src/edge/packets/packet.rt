@@ -53,31 +53,14 @@ impl Edge {
         ensures step { OnOk result ((told : Answers) → Agrees told (L.calls work.new.link.now)
             → at_work L.calls self.new work.new ≡ packet_input self.old.plan told octets.now (at_work L.calls self.old work.old)) }
     {
-        match read_entry(octets) {
-            Ok(entry) => self.opened(octets, &entry, work),
-            Err(fault) => drop_for(fault.cause(), &mut work.effects.list),
+        let entry = match read_entry(octets) {
+            Ok(entry) => entry,
+            Err(fault) => return drop_for(fault.cause(), &mut work.effects.list),
+        };
+        if is_alert(&entry) {
+            return self.alerted(without_entry(octets), &mut work.effects.list);
         }
-    }
-
-    // A packet with this first entry comes.
-    fn opened<L: Link>(
-        &mut self,
-        octets: &[u8],
-        entry: &StackEntry,
-        work: &mut AtWork<'_, L>,
-    ) -> Result<(), NoMemory>
-        requires working { self.old.stopped ≡ true }
-        requires synced { InSync self.old.plan (seen self.old) }
-        requires read { entry_of octets.now ≡ Ok entry.now }
-        ensures goes { Works L.calls self.old work.old self.new work.new }
-        ensures step { OnOk result ((told : Answers) → Agrees told (L.calls work.new.link.now)
-            → at_work L.calls self.new work.new ≡ opened_by self.old.plan told octets.now (Ok entry.now) (at_work L.calls self.old work.old)) }
-    {
-        let behind = without_entry(octets);
-        if is_alert(entry) {
-            return self.alerted(behind, &mut work.effects.list);
-        }
-        self.labelled(octets, entry, work)
+        self.labelled(octets, &entry, work)
     }
 
     // 1. Behind a router alert a second entry is read. Connectivity verification is not offered yet.
@@ -134,7 +117,7 @@ impl Edge {
         self.ends.advertiser(label)
     }
 
-    // 2. The label is one of the edge's own, at the bottom of the stack.
+    // 2. The label is that of one end of the edge, at the bottom of the stack.
     fn labelled<L: Link>(
         &mut self,
         octets: &[u8],
@@ -154,48 +137,9 @@ impl Edge {
         if !entry.bottom {
             return drop_for(DropCause::NotBottom, &mut work.effects.list);
         }
-        self.named(octets, entry, work)
-    }
-
-    // The label is that of one end.
-    fn named<L: Link>(
-        &mut self,
-        octets: &[u8],
-        entry: &StackEntry,
-        work: &mut AtWork<'_, L>,
-    ) -> Result<(), NoMemory>
-        requires working { self.old.stopped ≡ true }
-        requires synced { InSync self.old.plan (seen self.old) }
-        requires long { 4 ≤ length octets.now }
-        ensures goes { Works L.calls self.old work.old self.new work.new }
-        ensures step { OnOk result ((told : Answers) → Agrees told (L.calls work.new.link.now)
-            → at_work L.calls self.new work.new
-            ≡ owned self.old.plan told octets.now entry.now (advertiser self.old.plan (seen self.old) entry.now.label) (at_work L.calls self.old work.old)) }
-    {
-        match self.advertiser(entry.label) {
-            Some(slot) => self.owned(octets, entry, slot, work),
-            None => drop_for(DropCause::NoLabel, &mut work.effects.list),
-        }
-    }
-
-    // The end of a slot advertises the label.
-    fn owned<L: Link>(
-        &mut self,
-        octets: &[u8],
-        entry: &StackEntry,
-        slot: usize,
-        work: &mut AtWork<'_, L>,
-    ) -> Result<(), NoMemory>
-        requires working { self.old.stopped ≡ true }
-        requires synced { InSync self.old.plan (seen self.old) }
-        requires long { 4 ≤ length octets.now }
-        requires slot { slot < length self.old.ends.places }
-        ensures goes { Works L.calls self.old work.old self.new work.new }
-        ensures step { OnOk result ((told : Answers) → Agrees told (L.calls work.new.link.now)
-            → at_work L.calls self.new work.new
-            ≡ owned self.old.plan told octets.now entry.now (Some (place_of self.old.ends slot)) (at_work L.calls self.old work.old)) }
-    {
-        let _ = entry;
+        let Some(slot) = self.advertiser(entry.label) else {
+            return drop_for(DropCause::NoLabel, &mut work.effects.list);
+        };
         // 3. A switching point passes the packet on; that is to come.
         let place = self.place_at(slot);
         if !place.terminal {
@@ -204,7 +148,8 @@ impl Edge {
         self.terminated(slot, without_entry(octets), work)
     }
 
-    // 4. A terminal end takes what stands behind its label, where it is bound.
+    // 4. A terminal end takes what stands behind its label, where it is bound. With a control word, an associated channel is
+    // connectivity verification, and else a frame stands behind it.
     fn terminated<L: Link>(
         &mut self,
         slot: usize,
@@ -227,7 +172,13 @@ impl Edge {
         if !offer.cword {
             return self.enter(slot, payload, work);
         }
-        self.by_control_word(slot, payload, work)
+        if payload.is_empty() {
+            return drop_for(DropCause::Short, &mut work.effects.list);
+        }
+        if is_channel(payload) {
+            return drop_for(DropCause::NotOffered, &mut work.effects.list);
+        }
+        self.enter(slot, payload, work)
     }
 
     // Whether the end of a slot holds a binding.
@@ -249,30 +200,6 @@ impl Edge {
         self.plan.wires.as_slice()[wire.0 as usize].offer_of(self.me)
     }
 
-    // With a control word: an associated channel is connectivity verification, and else a frame stands behind it.
-    fn by_control_word<L: Link>(
-        &mut self,
-        slot: usize,
-        payload: &[u8],
-        work: &mut AtWork<'_, L>,
-    ) -> Result<(), NoMemory>
-        requires working { self.old.stopped ≡ true }
-        requires synced { InSync self.old.plan (seen self.old) }
-        requires slot { slot < length self.old.ends.places }
-        requires terminal { (place_of self.old.ends slot).terminal ≡ true }
-        ensures goes { Works L.calls self.old work.old self.new work.new }
-        ensures step { OnOk result ((told : Answers) (row : WirePlan) → Agrees told (L.calls work.new.link.now) → wire_row self.old.plan (place_of self.old.ends slot).wire ≡ Some row
-            → at_work L.calls self.new work.new ≡ by_control_word self.old.plan told row (place_of self.old.ends slot) payload.now (at_work L.calls self.old work.old)) }
-    {
-        if payload.is_empty() {
-            return drop_for(DropCause::Short, &mut work.effects.list);
-        }
-        if is_channel(payload) {
-            return drop_for(DropCause::NotOffered, &mut work.effects.list);
-        }
-        self.enter(slot, payload, work)
-    }
-
     // 5. A frame comes by a wire whose end forwards, and is bridged.
     fn enter<L: Link>(
         &mut self,
@@ -291,25 +218,6 @@ impl Edge {
         if self.down_of(slot).is_some() {
             return drop_for(DropCause::Down, &mut work.effects.list);
         }
-        self.bridge_payload(slot, payload, work)
-    }
-
-    // A frame comes by a wire whose end forwards.
-    fn bridge_payload<L: Link>(
-        &mut self,
-        slot: usize,
-        payload: &[u8],
-        work: &mut AtWork<'_, L>,
-    ) -> Result<(), NoMemory>
-        requires working { self.old.stopped ≡ true }
-        requires synced { InSync self.old.plan (seen self.old) }
-        requires slot { slot < length self.old.ends.places }
-        requires terminal { (place_of self.old.ends slot).terminal ≡ true }
-        requires up { is_up (down_at self.old.plan (seen self.old) (place_of self.old.ends slot)) ≡ true }
-        ensures goes { Works L.calls self.old work.old self.new work.new }
-        ensures step { OnOk result ((told : Answers) (row : WirePlan) → Agrees told (L.calls work.new.link.now) → wire_row self.old.plan (place_of self.old.ends slot).wire ≡ Some row
-            → at_work L.calls self.new work.new ≡ bridges_frame self.old.plan told row (place_of self.old.ends slot) payload.now (at_work L.calls self.old work.old)) }
-    {
         let place = self.place_at(slot);
         let service = self.service_at(slot);
         let port = self.port_at(slot, service);
@@ -319,7 +227,7 @@ impl Edge {
             service,
             port,
         };
-        self.bridge_read(ingress, read, work)
+        self.bridge_frame(ingress, read, work)
     }
 
     // The service of the wire of an end.

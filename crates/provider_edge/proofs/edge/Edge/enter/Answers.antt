@@ -1,8 +1,8 @@
-use Rattle.std.proofs.Common.{◌∙◌, ap, sym}
-use Rattle.edge_model.specs.Ends.{is_up}
+use Rattle.std.proofs.Common.{◌∙◌, sym}
+use Rattle.edge_model.specs.Packet.{unpacked_at}
 use Rattle.pw_ends.specs.Ends.{place_of}
 use Rattle.peer_dialogue.proofs.SettleLemmas.{map_on}
-use Rattle.provider_edge.proofs.PacketLemmas.{enters_here, enters_not, up_at}
+use Rattle.provider_edge.proofs.PacketLemmas.{bridged_payload, enters_here, enters_not}
 use Rattle.provider_edge.specs.Lists.{seen}
 use Rattle.provider_edge.proofs.edge.Edge.enter.Goals as goal
 
@@ -12,11 +12,10 @@ returns-then-is_some-clause-step g c = map_on _ _ c.drop_for.result
     enters_not c.args.self.now.plan told row (place_of c.args.self.now.ends c.args.slot) c.args.payload.now c.down_of.result (seen c.args.self.now) (g.L.Link.calls c.args.work.now.link.now) c.args.work.now.effects.now.list _ (c.down_of.ensures) (sym c.is_some.ensures ∙ c.if-is_some.true) gave)
     c.drop_for.ensures
 
-pub bridge_payload-requires-clause-up : goal.bridge_payload-requires-clause-up
-bridge_payload-requires-clause-up g c = ap is_up (sym (c.down_of.ensures)) ∙ up_at c.down_of.result (sym c.is_some.ensures ∙ c.if-is_some.false)
-
 pub returns-clause-step : goal.returns-clause-step
-returns-clause-step g c = map_on _ _ c.bridge_payload.result
+returns-clause-step g c = map_on _ _ c.bridge_frame.result
     (λ step. λ told row agrees at.
-    enters_here c.args.self.now told row c.args.slot c.args.payload.now c.down_of.result (g.L.Link.calls c.args.work.now.link.now) c.args.work.now.effects.now.list _ (c.down_of.ensures) (sym c.is_some.ensures ∙ c.if-is_some.false) (step told row agrees at))
-    c.bridge_payload.ensures.step
+    enters_here c.args.self.now told row c.args.slot c.args.payload.now c.down_of.result (g.L.Link.calls c.args.work.now.link.now) c.args.work.now.effects.now.list _ c.down_of.ensures (sym c.is_some.ensures ∙ c.if-is_some.false)
+    (bridged_payload c.args.self.now told row c.args.slot c.place_at-place.result c.service_at-service.result c.port_at-port.result c.args.payload.now (g.L.Link.calls c.args.work.now.link.now) c.args.work.now.effects.now.list _ c.place_at-place.ensures.place (c.service_at-service.ensures.row row at) c.port_at-port.ensures.port
+    (step told (unpacked_at c.args.self.now.plan row c.args.self.now.me c.args.payload.now) agrees (c.in_ok-read.ensures.read row at))))
+    c.bridge_frame.ensures.step

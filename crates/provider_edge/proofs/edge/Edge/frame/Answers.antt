@@ -1,20 +1,22 @@
-use Rattle.std.proofs.Common.{◌≡◌, ◌∙◌, position, ap, sym, subst, true, refl}
+use Rattle.std.proofs.Common.{◌≡◌, ◌<◌, ◌∙◌, Ok, Err, length, position, ap, sym, subst, true}
+use Rattle.std.specs.Prelude.{MatchResult}
+use Rattle.net_base.specs.declared.plan.Plan.{Plan}
+use Rattle.net_base.specs.plan.Accepted.{IsChecked}
 use Rattle.net_base.specs.plan.Places.{circuit_row}
 use Rattle.net_base.specs.trace.Isolated.{inner_at}
 use Rattle.net_base.specs.declared.trace.arrival.Arrival.TheVariants as arrival
+use Rattle.eth_encap.specs.Fault.{cause_of}
 use Rattle.hvpls_spokes.specs.Port.{is_circuit_port, ports_of}
 use Rattle.edge_model.specs.declared.effects.Effects.{Effects}
 use Rattle.edge_model.specs.Frame.{frame_input, received}
 use Rattle.edge_model.specs.Work.{beginning}
+use Rattle.provider_edge.specs.AtWork.{at_work}
 use Rattle.peer_dialogue.specs.Peering.{at_edge}
-use Rattle.edge_forwarding.proofs.ForwardingLemmas.{own_circuit}
+use Rattle.edge_forwarding.proofs.ForwardingLemmas.{own_circuit, own_within}
 use Rattle.peer_dialogue.proofs.SettleLemmas.{map_on}
-use Rattle.provider_edge.proofs.AtWorkLemmas.{takes_by}
 use Rattle.provider_edge.proofs.EdgeLemmas.{begun, given_out}
-use Rattle.provider_edge.proofs.EffectLemmas.{goes_nowhere}
-use Rattle.provider_edge.proofs.ListLemmas.{keeps_same}
 use Rattle.provider_edge.proofs.WorkLemmas.{frame_off, frame_on, frame_other}
-use Rattle.provider_edge.specs.Lists.{seen, worked}
+use Rattle.provider_edge.specs.Lists.{EdgeLists, seen, worked}
 use Rattle.provider_edge.proofs.edge.Edge.frame.Goals as goal
 
 pub returns-in_default-clause-step : goal.returns-in_default-clause-step
@@ -30,27 +32,26 @@ returns-then-not-is_on-clause-step g c = λ told agrees.
     subst (λ (e : Effects). worked c.args.self.now (g.L.Link.calls c.args.work.now.link.now) (record e { idle = true }) ≡ frame_input c.args.self.now.plan told c.args.circuit c.args.octets.now (circuit_row c.args.self.now.plan c.args.circuit) (beginning (seen c.args.self.now) (g.L.Link.calls c.args.work.now.link.now))) (sym c.requires.fresh)
     (frame_off c.args.self.now told c.args.circuit c.args.octets.now (circuit_row c.args.self.now.plan c.args.circuit) c.in-Some.service (g.L.Link.calls c.args.work.now.link.now) (sym c.own_service.ensures ∙ c.in-Some.is) (sym c.is_on.ensures ∙ c.if-not-is_on.true))
 
-pub bridge_octets-requires-clause-on : goal.bridge_octets-requires-clause-on
-bridge_octets-requires-clause-on g c = sym c.is_on.ensures ∙ c.if-not-is_on.false
+pub read_inner-requires-clause-circuit : goal.read_inner-requires-clause-circuit
+read_inner-requires-clause-circuit g c =
+    let plan : c.deref.result.now ≡ c.args.self.now.plan = c.deref.ensures ∙ ap (λ (e : EdgeLists). e.plan) c.self.view_is in
+    subst (λ (p : Plan). c.args.circuit.0 < length p.circuits) (sym plan) (own_circuit c.args.self.now.plan c.args.self.now.me c.args.circuit c.in-Some.service (sym c.own_service.ensures ∙ c.in-Some.is))
 
-pub bridge_octets-requires-clause-own : goal.bridge_octets-requires-clause-own
-bridge_octets-requires-clause-own g c = sym c.own_service.ensures ∙ c.in-Some.is
+pub port_of-port-requires : goal.port_of-port-requires
+port_of-port-requires g c = own_within c.args.self.now.plan c.args.self.now.me c.args.circuit c.in-Some.service (subst (λ (n : EdgeLists). IsChecked n.plan) c.self.view_is c.self.invariant.checked) (sym c.own_service.ensures ∙ c.in-Some.is)
+
+pub bridge_frame-requires-clause-service : goal.bridge_frame-requires-clause-service
+bridge_frame-requires-clause-service g c = own_within c.args.self.now.plan c.args.self.now.me c.args.circuit c.in-Some.service (subst (λ (n : EdgeLists). IsChecked n.plan) c.self.view_is c.self.invariant.checked) (sym c.own_service.ensures ∙ c.in-Some.is)
 
 pub returns-clause-step : goal.returns-clause-step
-returns-clause-step g c = map_on _ _ c.bridge_octets.result
+returns-clause-step g c = map_on _ _ c.bridge_frame.result
     (λ step told agrees.
+    let plan : c.deref.result.now ≡ c.args.self.now.plan = c.deref.ensures ∙ ap (λ (e : EdgeLists). e.plan) c.self.view_is in
     frame_on c.args.self.now told c.args.circuit c.args.octets.now (circuit_row c.args.self.now.plan c.args.circuit) c.in-Some.service (g.L.Link.calls c.args.work.now.link.now) _ (sym c.own_service.ensures ∙ c.in-Some.is) (sym c.is_on.ensures ∙ c.if-not-is_on.false)
-    (given_out c.bridge_octets.new.self (g.L.Link.calls c.bridge_octets.new.work.link.now) c.bridge_octets.new.work.effects.now (c.bridge_octets.ensures.goes.on.idle ∙ ap (λ (e : Effects). e.idle) c.requires.fresh)
-    ∙ (step told agrees
+    (given_out c.bridge_frame.new.self (g.L.Link.calls c.bridge_frame.new.work.link.now) c.bridge_frame.new.work.effects.now (c.bridge_frame.ensures.goes.on.idle ∙ ap (λ (e : Effects). e.idle) c.requires.fresh)
+    ∙ (step told (inner_at c.args.self.now.plan c.args.circuit c.args.octets.now) agrees
+    (subst (λ (p : Plan). MatchResult c.in_ok-read.read (λ frame. inner_at p c.args.circuit c.args.octets.now ≡ Ok frame.items) (λ fault. inner_at p c.args.circuit c.args.octets.now ≡ Err (cause_of fault))) plan c.in_ok-read.ensures.read)
+    ∙ (ap (λ port. received c.args.self.now.plan told (arrival.Circuit c.args.circuit) c.in-Some.service port (inner_at c.args.self.now.plan c.args.circuit c.args.octets.now) (at_work g.L.Link.calls c.args.self.now c.args.work.now)) c.port_of-port.ensures.port
     ∙ ap (received c.args.self.now.plan told (arrival.Circuit c.args.circuit) c.in-Some.service (position (is_circuit_port c.args.circuit) (ports_of c.args.self.now.plan c.in-Some.service c.args.self.now.me)) (inner_at c.args.self.now.plan c.args.circuit c.args.octets.now))
-    (ap (λ (e : Effects). at_edge (seen c.args.self.now) (g.L.Link.calls c.args.work.now.link.now) e.list) c.requires.fresh ∙ begun (seen c.args.self.now) (g.L.Link.calls c.args.work.now.link.now)))))
-    c.bridge_octets.ensures.step
-
-pub returns-in_default-clause-goes : goal.returns-in_default-clause-goes
-returns-in_default-clause-goes g c = record { keeps = keeps_same c.args.self.now; link = refl; effects = refl; calls = goes_nowhere (g.L.Link.calls c.args.work.now.link.now) }
-
-pub returns-then-not-is_on-clause-goes : goal.returns-then-not-is_on-clause-goes
-returns-then-not-is_on-clause-goes g c = record { keeps = keeps_same c.args.self.now; link = refl; effects = refl; calls = goes_nowhere (g.L.Link.calls c.args.work.now.link.now) }
-
-pub returns-clause-goes : goal.returns-clause-goes
-returns-clause-goes g c = takes_by g.L.Link.calls _ _ _ _ c.bridge_octets.ensures.goes.keeps c.bridge_octets.ensures.goes.on
+    (ap (λ (e : Effects). at_edge (seen c.args.self.now) (g.L.Link.calls c.args.work.now.link.now) e.list) c.requires.fresh ∙ begun (seen c.args.self.now) (g.L.Link.calls c.args.work.now.link.now))))))
+    c.bridge_frame.ensures.step

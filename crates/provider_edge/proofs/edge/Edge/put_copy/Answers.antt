@@ -1,19 +1,33 @@
+use Rattle.std.proofs.Common.{◌∙◌, sym, slice_get}
+use Rattle.hvpls_spokes.specs.PortSet.{has}
+use Rattle.edge_model.specs.Frame.{copy_by}
 use Rattle.peer_dialogue.proofs.SettleLemmas.{map_on}
-use Rattle.provider_edge.proofs.BridgeLemmas.{copied_circuit, copied_mesh, copied_spoke}
+use Rattle.provider_edge.proofs.BridgeLemmas.{copied_circuit, copied_if, copied_mesh, copied_spoke}
+use Rattle.provider_edge.proofs.ClearLemmas.{told_by_some}
+use Rattle.provider_edge.specs.AtWork.{at_work}
 use Rattle.provider_edge.specs.Lists.{seen}
 use Rattle.provider_edge.proofs.edge.Edge.put_copy.Goals as goal
 
 pub returns-in-Circuit-clause-step : goal.returns-in-Circuit-clause-step
 returns-in-Circuit-clause-step g c = map_on _ _ c.leave.result
-    (λ gave. λ told agrees. copied_circuit c.args.self.now.plan told c.args.came c.args.frame.now c.args.port c.in-Circuit.circuit (seen c.args.self.now) (g.L.Link.calls c.args.work.now.link.now) c.args.work.now.effects.now.list _ c.in-Circuit.is gave)
+    (λ gave. λ told agrees.
+    copied_if (has c.args.egress.now.targets.now c.args.port) (at_work g.L.Link.calls c.args.self.now c.args.work.now) _ _ (sym c.contains.ensures ∙ c.if-not-contains.false)
+    (told_by_some (copy_by c.args.self.now.plan told c.args.egress.now.came c.args.egress.now.frame.now) c.get.result (slice_get c.args.ports.now c.args.port) c.in-Some.port (at_work g.L.Link.calls c.args.self.now c.args.work.now) _ c.get.ensures c.in-Some.is
+    (copied_circuit c.args.self.now.plan told c.args.egress.now.came c.args.egress.now.frame.now c.in-Some.port c.in-Circuit.circuit (seen c.args.self.now) (g.L.Link.calls c.args.work.now.link.now) c.args.work.now.effects.now.list _ c.in-Circuit.is gave)))
     c.leave.ensures
 
 pub returns-in-Mesh-clause-step : goal.returns-in-Mesh-clause-step
 returns-in-Mesh-clause-step g c = map_on _ _ c.send_copy.result
-    (λ step. λ told agrees. copied_mesh c.args.self.now told c.args.came c.args.frame.now c.args.port c.in-Mesh.wire (g.L.Link.calls c.args.work.now.link.now) c.args.work.now.effects.now.list _ c.in-Mesh.is (step told agrees))
+    (λ step. λ told agrees.
+    copied_if (has c.args.egress.now.targets.now c.args.port) (at_work g.L.Link.calls c.args.self.now c.args.work.now) _ _ (sym c.contains.ensures ∙ c.if-not-contains.false)
+    (told_by_some (copy_by c.args.self.now.plan told c.args.egress.now.came c.args.egress.now.frame.now) c.get.result (slice_get c.args.ports.now c.args.port) c.in-Some.port (at_work g.L.Link.calls c.args.self.now c.args.work.now) _ c.get.ensures c.in-Some.is
+    (copied_mesh c.args.self.now told c.args.egress.now.came c.args.egress.now.frame.now c.in-Some.port c.in-Mesh.wire (g.L.Link.calls c.args.work.now.link.now) c.args.work.now.effects.now.list _ c.in-Mesh.is (step told agrees))))
     c.send_copy.ensures.step
 
 pub returns-in-Spoke-clause-step : goal.returns-in-Spoke-clause-step
 returns-in-Spoke-clause-step g c = map_on _ _ c.send_copy-in-Spoke.result
-    (λ step. λ told agrees. copied_spoke c.args.self.now told c.args.came c.args.frame.now c.args.port c.in-Spoke.wire (g.L.Link.calls c.args.work.now.link.now) c.args.work.now.effects.now.list _ c.in-Spoke.is (step told agrees))
+    (λ step. λ told agrees.
+    copied_if (has c.args.egress.now.targets.now c.args.port) (at_work g.L.Link.calls c.args.self.now c.args.work.now) _ _ (sym c.contains.ensures ∙ c.if-not-contains.false)
+    (told_by_some (copy_by c.args.self.now.plan told c.args.egress.now.came c.args.egress.now.frame.now) c.get.result (slice_get c.args.ports.now c.args.port) c.in-Some.port (at_work g.L.Link.calls c.args.self.now c.args.work.now) _ c.get.ensures c.in-Some.is
+    (copied_spoke c.args.self.now told c.args.egress.now.came c.args.egress.now.frame.now c.in-Some.port c.in-Spoke.wire (g.L.Link.calls c.args.work.now.link.now) c.args.work.now.effects.now.list _ c.in-Spoke.is (step told agrees))))
     c.send_copy-in-Spoke.ensures.step

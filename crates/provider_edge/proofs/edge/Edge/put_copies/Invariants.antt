@@ -4,7 +4,7 @@ use Rattle.edge_model.specs.Frame.{copies, copy_by}
 use Rattle.edge_model.specs.Work.{Agrees, Answers}
 use Rattle.peer_dialogue.specs.AtWork.{WorkGoes}
 use Rattle.provider_edge.specs.AtWork.{at_work}
-use Rattle.provider_edge.proofs.edge.Edge.put_each_copy.Given as goal
+use Rattle.provider_edge.proofs.edge.Edge.put_copies.Given as goal
 
 abbrev pub invariant-loop-port : goal.invariant-loop-port
 invariant-loop-port g l = record {
