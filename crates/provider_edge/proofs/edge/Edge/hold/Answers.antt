@@ -1,4 +1,3 @@
-use Rattle.std.proofs.Common.{Some, ap}
 use Rattle.provider_edge.proofs.MessageLemmas.{not_held, now_held}
 use Rattle.provider_edge.specs.Lists.{seen}
 use Rattle.provider_edge.proofs.edge.Edge.hold.Goals as goal

@@ -14,7 +14,6 @@ use Rattle.provider_edge.proofs.LiftLemmas.{happened, left_none, lost_none}
 use Rattle.provider_edge.proofs.ListLemmas.{keeps_both}
 use Rattle.provider_edge.specs.Lists.{seen, worked}
 use Rattle.peer_dialogue.proofs.AtWorkLemmas.{work_both}
-use Rattle.peer_dialogue.proofs.SpeakerLemmas.{agrees_before}
 use Rattle.provider_edge.proofs.AtWorkLemmas.{takes_by}
 use Rattle.provider_edge.specs.AtWork.{at_work}
 use Rattle.provider_edge.proofs.edge.Edge.lost.Goals as goal

@@ -1,11 +1,9 @@
 use Rattle.std.proofs.Common.{◌≡◌, ◌∙◌, ap, sym, subst, true, refl}
 use Rattle.std.proofs.lemmas.Bool.{eq-eqb}
 use Rattle.edge_model.specs.declared.effects.Effects.{Effects}
-use Rattle.net_base.specs.plan.Places.{wire_row}
 use Rattle.edge_model.specs.State.{with_priority}
-use Rattle.edge_model.specs.Wire.{is_own_spoke, priority_input}
+use Rattle.edge_model.specs.Wire.{priority_input}
 use Rattle.edge_model.specs.Work.{beginning, changes}
-use Rattle.provider_edge.specs.contracts.edge.Edge.{the_view}
 use Rattle.peer_dialogue.specs.Peering.{at_edge}
 use Rattle.peer_dialogue.proofs.SettleLemmas.{map_on}
 use Rattle.provider_edge.proofs.edge.Edge.priority.Goals.{then-not-is_own_spoke-via-then-not-is_own_spoke, then-not-is_own_spoke-via-else-not-is_own_spoke+then-priority_of-priority}
@@ -13,7 +11,7 @@ use Rattle.provider_edge.proofs.AtWorkLemmas.{takes_by}
 use Rattle.provider_edge.proofs.EdgeLemmas.{apart_eqb, mended, priority_already, priority_apart, priority_at, priority_set}
 use Rattle.provider_edge.proofs.EffectLemmas.{goes_nowhere}
 use Rattle.provider_edge.proofs.ListLemmas.{keeps_both, keeps_same}
-use Rattle.provider_edge.specs.Lists.{EdgeLists, seen, worked}
+use Rattle.provider_edge.specs.Lists.{seen, worked}
 use Rattle.provider_edge.proofs.edge.Edge.priority.Goals as goal
 
 pub returns-then-not-is_own_spoke-clause-step : goal.returns-then-not-is_own_spoke-clause-step

@@ -1,11 +1,9 @@
 use Rattle.std.proofs.Common.{◌≡◌, ◌∙◌, ap, sym, subst, true, refl}
 use Rattle.std.proofs.lemmas.Bool.{eq-eqb}
 use Rattle.edge_model.specs.declared.effects.Effects.{Effects}
-use Rattle.edge_model.specs.EndPlaces.{ends_here}
 use Rattle.edge_model.specs.State.{with_bits}
 use Rattle.edge_model.specs.Wire.{status_input}
 use Rattle.edge_model.specs.Work.{beginning, changes}
-use Rattle.provider_edge.specs.contracts.edge.Edge.{the_view}
 use Rattle.peer_dialogue.specs.Peering.{at_edge}
 use Rattle.peer_dialogue.proofs.SettleLemmas.{map_on}
 use Rattle.provider_edge.proofs.edge.Edge.status.Goals.{then-not-ends_here-via-then-not-ends_here, then-not-ends_here-via-else-not-ends_here+then-bits_of-bits}
@@ -13,7 +11,7 @@ use Rattle.provider_edge.proofs.AtWorkLemmas.{takes_by}
 use Rattle.provider_edge.proofs.EdgeLemmas.{apart_eqb, bits_at, mended, status_already, status_apart, status_set}
 use Rattle.provider_edge.proofs.EffectLemmas.{goes_nowhere}
 use Rattle.provider_edge.proofs.ListLemmas.{keeps_both, keeps_same}
-use Rattle.provider_edge.specs.Lists.{EdgeLists, seen, worked}
+use Rattle.provider_edge.specs.Lists.{seen, worked}
 use Rattle.provider_edge.proofs.edge.Edge.status.Goals as goal
 
 pub returns-then-not-ends_here-clause-step : goal.returns-then-not-ends_here-clause-step

@@ -1,5 +1,3 @@
-use Rattle.std.proofs.Common.{◌∙◌, Some, ap, refl, sym}
-use Rattle.provider_edge.proofs.ListLemmas.{keeps_both}
 use Rattle.provider_edge.proofs.MessageLemmas.{taken_held, untaken}
 use Rattle.provider_edge.specs.Lists.{seen}
 use Rattle.provider_edge.proofs.edge.Edge.take_held.Goals as goal

@@ -1,10 +1,8 @@
 use Rattle.std.proofs.Common.{◌≡◌, ◌∙◌, Bool, ap, sym, subst, true, refl}
 use Rattle.std.proofs.Math.Bool.{beq}
 use Rattle.edge_model.specs.declared.effects.Effects.{Effects}
-use Rattle.edge_model.specs.EndPlaces.{passes}
 use Rattle.edge_model.specs.Wire.{turned_wire, wire_input}
 use Rattle.edge_model.specs.Work.{beginning, changes}
-use Rattle.provider_edge.specs.contracts.edge.Edge.{the_view}
 use Rattle.peer_dialogue.specs.Peering.{at_edge}
 use Rattle.peer_dialogue.proofs.SettleLemmas.{map_on}
 use Rattle.provider_edge.proofs.edge.Edge.wire.Goals.{then-not-passes-via-then-not-passes, then-not-passes-via-else-not-passes+then-is_wire_on-on}
@@ -12,7 +10,7 @@ use Rattle.provider_edge.proofs.AtWorkLemmas.{takes_by}
 use Rattle.provider_edge.proofs.EdgeLemmas.{mended, turned_at, wire_already, wire_apart, wire_turned}
 use Rattle.provider_edge.proofs.EffectLemmas.{goes_nowhere}
 use Rattle.provider_edge.proofs.ListLemmas.{keeps_both, keeps_same}
-use Rattle.provider_edge.specs.Lists.{EdgeLists, seen, worked}
+use Rattle.provider_edge.specs.Lists.{seen, worked}
 use Rattle.provider_edge.proofs.edge.Edge.wire.Goals as goal
 
 pub returns-then-not-passes-clause-step : goal.returns-then-not-passes-clause-step
