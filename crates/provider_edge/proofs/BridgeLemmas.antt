@@ -165,9 +165,6 @@ heard_targets c f service frame arrival targets is synced keeps step decided =
     ∙ (ap (λ (t : ℕ → Bool). is_target ports t arrival known) (open_forwards c service is synced ∙ same)
     ∙ ap (λ es. is_target ports (port_forwards c.plan now ports) arrival (known_port es (destination frame))) (learned_read (record c { forwarding = f }) service (entries_of (domain_of f service.0)) refl))))
 
-pub forwarded_none : (plan : Plan) (told : Answers) (came : Arrival) (service : ServiceId) (frame : List ℕ) (port : Option ℕ) (work : Work) → port ≡ None → work ≡ forwarded plan told came service frame port work
-forwarded_none plan told came service frame port work none = sym (ap (λ (p : Option ℕ). forwarded plan told came service frame p work) none)
-
 pub forwarded_some : (c now : EdgeLists) (told : Answers) (came : Arrival) (service : ServiceId) (frame : List ℕ) (port : Option ℕ) (arrival : ℕ) (targets : ℕ → Bool) (calls : List LinkCall) (out : List Effect) (x : Work)
     → port ≡ Some arrival → Keeps c now → seen now ≡ hearing service frame arrival (seen c)
     → targets ≡ targets_of c.plan (seen now) service (ports_of c.plan service c.me) frame arrival

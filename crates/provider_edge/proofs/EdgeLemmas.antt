@@ -1,9 +1,8 @@
 -- The inputs of an edge, exit by exit.
-use Rattle.std.proofs.Common.{◌≡◌, ◌<◌, ◌&&◌, ◌++◌, ◌∙◌, ◌==◌, ◌↔◌, Bor, ℕ, zero, suc, Bool, true, false, List, [], ◌∷◌, Option, Some, None, cond, not, length, option_copied, option_map, slice_get, slice_set, slice_index_or, nat_eq, refl, ap, sym, subst, arith}
+use Rattle.std.proofs.Common.{◌≡◌, ◌<◌, ◌&&◌, ◌∙◌, ◌==◌, ◌↔◌, Bor, ℕ, zero, suc, Bool, true, false, List, [], ◌∷◌, Option, Some, None, cond, not, length, option_copied, option_map, slice_get, nat_eq, refl, ap, sym, subst, arith}
 use Rattle.std.proofs.Math.Bool.{beq}
-use Rattle.std.specs.List.{find}
 use Rattle.std.specs.Prelude.{IfSome, IsNone}
-use Rattle.std.proofs.lemmas.Bool.{eq-eqb, eqb-true}
+use Rattle.std.proofs.lemmas.Bool.{eqb-true}
 use Rattle.std.proofs.lemmas.Option.{slice_get_within}
 use Rattle.net_base.specs.declared.outside.link_call.LinkCall.{LinkCall}
 use Rattle.net_base.specs.declared.plan.Plan.{Plan}
@@ -11,14 +10,10 @@ use Rattle.net_base.specs.declared.plan.circuit_plan.CircuitPlan.{CircuitPlan}
 use Rattle.net_base.specs.declared.plan.edge_plan.EdgePlan.{EdgePlan}
 use Rattle.net_base.specs.declared.plan.places.CircuitId.{CircuitId}
 use Rattle.net_base.specs.declared.plan.places.EdgeId.{EdgeId}
-use Rattle.net_base.specs.declared.plan.places.ServiceId.{ServiceId}
 use Rattle.net_base.specs.declared.plan.places.WireId.{WireId}
-use Rattle.vsi_bridge.specs.BridgeState.{BridgeState}
 use Rattle.net_base.specs.declared.trace.state_name.Reason.TheVariants as reason
 use Rattle.net_base.specs.plan.Places.{wire_row}
 use Rattle.net_base.specs.plan.Paths.{are_joined}
-use Rattle.net_base.specs.declared.trace.down.Down.{Down}
-use Rattle.net_base.specs.declared.plan.places.SegKey.{SegKey}
 use Rattle.pw_signalling.specs.End.{EndState}
 use Rattle.session_core.specs.declared.peers.Peers.{Peers}
 use Rattle.session_core.specs.Table.{Closed}
@@ -27,20 +22,17 @@ use Rattle.edge_model.specs.declared.effects.Effects.{Effects}
 use Rattle.edge_model.specs.Circuit.{is_same, turned}
 use Rattle.edge_model.specs.Connection.{connected_input, connects, connects_between, lost_input, peers_of, restart_input}
 use Rattle.edge_model.specs.declared.end_place.EndPlace.{EndPlace}
-use Rattle.edge_model.specs.EndPlaces.{end_places, ends_here, is_end_of_wire, passes}
-use Rattle.edge_model.specs.Hear.{hears, hears_on, octets_input}
+use Rattle.edge_model.specs.EndPlaces.{ends_here, passes}
+use Rattle.edge_model.specs.Hear.{hears_on, octets_input}
 use Rattle.edge_model.specs.Mend.{mends}
-use Rattle.edge_model.specs.Role.{down_at}
 use Rattle.edge_model.specs.Session.{happens_with_ends}
-use Rattle.edge_model.specs.State.{EdgeState, Peering, addresses_of, end_at, has_end, is_there, later, with_bits, with_learned, with_priority, with_ticks, without_ends, without_peerings}
-use Rattle.edge_model.specs.Synced.{InSync, IsSynced}
-use Rattle.edge_model.proofs.PlaceLemmas.{all-map}
+use Rattle.edge_model.specs.State.{EdgeState, Peering, has_end, is_there, later, with_bits, with_learned, with_priority, with_ticks, without_ends, without_peerings}
+use Rattle.edge_model.specs.Synced.{InSync}
 use Rattle.edge_model.specs.Tick.{counted, forgetting, ticks_sessions}
 use Rattle.edge_model.specs.Wire.{is_own_spoke, priority_input, status_input, turned_wire, wire_input}
 use Rattle.edge_model.specs.Work.{Answers, Work, beginning, changes, idles}
 use Rattle.peer_dialogue.specs.Peering.{at_edge, connection_with, peers_between}
 use Rattle.edge_forwarding.specs.Views.{view}
-use Rattle.edge_forwarding.proofs.Views.{same_read, view_at, view_set}
 use Rattle.provider_edge.proofs.WorkLemmas.{other_before, same_already}
 use Rattle.provider_edge.specs.Hearing.{AreTakenOut}
 use Rattle.provider_edge.specs.Invariant.{IsEdge}

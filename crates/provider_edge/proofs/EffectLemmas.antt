@@ -88,7 +88,7 @@ use Rattle.edge_model.specs.Wire.{is_own_spoke, turned_wire}
 use Rattle.edge_model.specs.State.{EdgeState, Peering, end_at, has_end, is_on, is_there, with_bits, with_ends_beside, with_peering, with_priority, with_told_down}
 use Rattle.edge_model.specs.Step.{edge_step}
 use Rattle.edge_model.specs.Tick.{counted, forgetting, ticks_sessions}
-use Rattle.edge_model.specs.Work.{Agrees, Answers, GoesOn, Work, beginning, changes, gives, idles, next_answer, posts, puts}
+use Rattle.edge_model.specs.Work.{Agrees, Answers, Work, beginning, changes, gives, idles, next_answer, posts, puts}
 use Rattle.edge_model.proofs.SyncLemmas.{step_synced}
 use Rattle.edge_model.proofs.PlaceLemmas.{IsEndOf, all-map, places_are}
 use Rattle.edge_forwarding.specs.Views.{view}
@@ -793,6 +793,3 @@ unfolding worked
 steps_synced e now given effects before after is synced steps =
     subst (λ (w : Work). InSync e.plan w.edge) (sym (steps (told_by after) (agrees_itself after)))
     (step_synced e.plan (told_by after) given (beginning (seen e) before) is.checked synced)
-
-pub goes_nowhere : (calls : List LinkCall) → GoesOn calls calls
-goes_nowhere calls = record { more = []; joined = sym (append-nil calls) }

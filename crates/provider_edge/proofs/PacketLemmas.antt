@@ -19,9 +19,8 @@ use Rattle.net_base.specs.plan.Places.{mtu_of, wire_row}
 use Rattle.eth_encap.specs.declared.frame_fault.FrameFault.{FrameFault}
 use Rattle.eth_encap.specs.Fault.{cause_of}
 use Rattle.eth_encap.specs.declared.stack_entry.StackEntry.{StackEntry}
-use Rattle.eth_encap.specs.Packet.{behind_control, entry_in, entry_of, frame_behind, frame_in, live_entry, unpacked, without_tag}
+use Rattle.eth_encap.specs.Packet.{behind_control, entry_of, frame_behind, frame_in, unpacked, without_tag}
 use Rattle.net_base.specs.trace.Frame.{of_size, pair_at, tag_protocol}
-use Rattle.byteorder.specs.Endian.{big_number}
 use Rattle.hvpls_spokes.specs.Port.{is_wire_port, ports_of}
 use Rattle.pw_signalling.specs.declared.binding.Binding.{Binding}
 use Rattle.edge_model.specs.declared.effect.Effect.{Effect}
@@ -30,7 +29,7 @@ use Rattle.edge_model.specs.declared.end_place.EndPlace.{EndPlace}
 use Rattle.edge_model.specs.EndPlaces.{end_places}
 use Rattle.edge_model.specs.Ends.{is_up}
 use Rattle.edge_model.specs.Frame.{received}
-use Rattle.edge_model.specs.Packet.{advertiser, advertises_label, alerted, alerts_end, behind_entry, bridges_frame, by_control_word, by_offer, enters, is_alert, is_channel, labelled, least_label, opened_by, owned, packet_input, switched, terminated, unpacked_at, unpacked_by}
+use Rattle.edge_model.specs.Packet.{advertiser, advertises_label, alerted, alerts_end, behind_entry, bridges_frame, by_control_word, by_offer, enters, is_channel, labelled, least_label, opened_by, owned, packet_input, switched, terminated, unpacked_at, unpacked_by}
 use Rattle.edge_model.specs.Role.{down_at}
 use Rattle.edge_model.specs.Send.{drops}
 use Rattle.edge_model.specs.State.{EdgeState, end_at}
@@ -50,32 +49,10 @@ not_true true is = absurd (cc (is))
 
 -- ---- the first entry
 
-pub entry_long : (octets : List ℕ) (entry : StackEntry) → entry_of octets ≡ Ok entry → 4 ≤ length octets
-entry_long octets entry read = by (nat_lt (length octets) 4) refl read where
-  long : nat_lt (length octets) 4 ≡ false → 4 ≤ length octets
-  long is = grind (arith, nat_tests, is)
-
-  by : (b : Bool) → nat_lt (length octets) 4 ≡ b → cond b (Err cause.Short) (live_entry (entry_in (big_number 4 octets))) ≡ Ok entry → 4 ≤ length octets
-  by true is read = absurd (cc (read))
-  by false is read = long is
-
-pub packet_ok : (plan : Plan) (told : Answers) (octets : List ℕ) (entry : StackEntry) (work x : Work) → entry_of octets ≡ Ok entry → x ≡ opened_by plan told octets (Ok entry) work → x ≡ packet_input plan told octets work
-packet_ok plan told octets entry work x read is = is ∙ ap (λ (r : Result StackEntry DropCause). opened_by plan told octets r work) (sym read)
-
 pub packet_err : (plan : Plan) (told : Answers) (octets : List ℕ) (why : DropCause) (edge : EdgeState) (calls : List LinkCall) (out given : List Effect) → entry_of octets ≡ Err why → given ≡ out ++ Dropped why ∷ []
     → at_edge edge calls given ≡ packet_input plan told octets (at_edge edge calls out)
 packet_err plan told octets why edge calls out given read gave =
     dropped_at why edge calls out given gave ∙ ap (λ (r : Result StackEntry DropCause). opened_by plan told octets r (at_edge edge calls out)) (sym read)
-
-pub opened_alert : (plan : Plan) (told : Answers) (octets behind : List ℕ) (entry : StackEntry) (work x : Work) → is_alert entry ≡ true → behind ≡ behind_entry octets → x ≡ alerted plan (entry_of behind) work → x ≡ opened_by plan told octets (Ok entry) work
-opened_alert plan told octets behind entry work x alert front is =
-    is
-    ∙ (ap (λ (l : List ℕ). alerted plan (entry_of l) work) front
-    ∙ sym (ap (λ (b : Bool). cond b (alerted plan (entry_of (behind_entry octets)) work) (labelled plan told octets entry work)) alert))
-
-pub opened_label : (plan : Plan) (told : Answers) (octets : List ℕ) (entry : StackEntry) (work x : Work) → is_alert entry ≡ false → x ≡ labelled plan told octets entry work → x ≡ opened_by plan told octets (Ok entry) work
-opened_label plan told octets entry work x plain is =
-    is ∙ sym (ap (λ (b : Bool). cond b (alerted plan (entry_of (behind_entry octets)) work) (labelled plan told octets entry work)) plain)
 
 -- ---- behind a router alert
 
@@ -184,9 +161,6 @@ owned_terminal c told octets behind entry slot at calls out x is terminal front 
     ∙ (ap (λ (l : List ℕ). terminated c.plan told place (wire_row c.plan place.wire) (end_in c.ends slot).remote l work) front
     ∙ (ap (λ (r : Option Binding). terminated c.plan told place (wire_row c.plan place.wire) r (behind_entry octets) work) (sym (remote_in c calls out slot))
     ∙ sym (ap (λ (b : Bool). cond b (terminated c.plan told place (wire_row c.plan place.wire) (end_at work.edge place).remote (behind_entry octets) work) (switched c.plan told octets entry place work)) (ap (λ (p : EndPlace). p.terminal) (sym is) ∙ not_false at.terminal terminal))))
-
-pub terminal_at : (place at : EndPlace) → at ≡ place → not at.terminal ≡ false → place.terminal ≡ true
-terminal_at place at is terminal = ap (λ (p : EndPlace). p.terminal) (sym is) ∙ not_false at.terminal terminal
 
 -- ---- a terminal end
 

@@ -1,5 +1,5 @@
 -- An edge before its first input.
-use Rattle.std.specs.Prelude.{◌≡◌, false, length}
+use Rattle.std.specs.Prelude.{◌≡◌, false}
 use Rattle.net_base.specs.declared.plan.Plan.{Plan}
 use Rattle.net_base.specs.declared.plan.places.EdgeId.{EdgeId}
 use Rattle.pw_ends.specs.Ends.{EndLists, seen_ends}

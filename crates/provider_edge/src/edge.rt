@@ -1,5 +1,5 @@
 //! One provider edge.
-ghost use Rattle.std.specs.Prelude.{◌≡◌, ◌<◌, ◌≤◌, ◌↔◌, ◌⊎◌, Some, None, true, false, [], length, replicate, slice_index_or, IfOk, IfErr, IfSome, IsNone, IsErrOf, OnOk, position};
+ghost use Rattle.std.specs.Prelude.{◌≡◌, ◌<◌, ◌≤◌, ◌↔◌, ◌⊎◌, Some, None, true, false, [], length, IfOk, IfErr, IfSome, IsNone, IsErrOf, OnOk, position};
 ghost use Rattle.std.specs.List.{find};
 ghost use Rattle.net_base.specs.plan.Accepted.{IsChecked};
 ghost use Rattle.net_base.specs.plan.Places.{service_row};
@@ -17,7 +17,7 @@ ghost use Rattle.peer_dialogue.specs.Peering.{held_octets, session_name};
 ghost use Rattle.provider_edge.specs.Said.{AllFit, TellsTaken};
 ghost use Rattle.provider_edge.specs.Taking.{IsInRange, StaysLocal};
 ghost use Rattle.provider_edge.specs.AtWork.{Takes, worked_at};
-ghost use Rattle.provider_edge.specs.Lists.{Keeps, seen, worked};
+ghost use Rattle.provider_edge.specs.Lists.{seen, worked};
 
 mod administration;
 mod frames;

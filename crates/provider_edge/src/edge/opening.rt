@@ -143,4 +143,3 @@ fn no_peerings(alloc: Global, count: usize) -> Result<Vec<Option<Peering>>, NoMe
     }
     Ok(peerings)
 }
-

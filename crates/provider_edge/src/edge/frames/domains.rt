@@ -1,10 +1,9 @@
 //! What an edge forwards by: its circuits, and the bridge of each service.
-ghost use Rattle.std.specs.Prelude.{◌≡◌, ◌<◌, ◌↔◌, ◌⊎◌, [], true, Some, None, length, position, IfSome, IsNone};
-ghost use Rattle.net_base.specs.plan.Places.{circuit_row, service_row};
+ghost use Rattle.std.specs.Prelude.{◌≡◌, ◌<◌, [], true, Some, length, position, IfSome};
+ghost use Rattle.net_base.specs.plan.Places.{circuit_row};
 ghost use Rattle.hvpls_spokes.specs.Port.{is_circuit_port, ports_of};
 ghost use Rattle.edge_model.specs.State.{addresses_of, is_on, later, with_addresses, with_circuit, with_learned, with_ticks, without_port};
 ghost use Rattle.edge_model.specs.Tick.{forgetting};
-ghost use Rattle.edge_forwarding.specs.Domain.{age_of};
 ghost use Rattle.edge_forwarding.specs.Forwarding.{open_ports, own_service};
 ghost use Rattle.provider_edge.specs.Lists.{Keeps, seen};
 

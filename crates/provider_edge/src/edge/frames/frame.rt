@@ -1,17 +1,12 @@
 //! A customer's frame comes by a circuit.
-ghost use Rattle.std.specs.Prelude.{◌≡◌, ◌==◌, ◌≤◌, ℕ, List, [], Result, Ok, Err, Some, true, false, length, position, IfOk, OnOk, MatchResult};
-ghost use Rattle.net_base.specs.declared.trace.arrival.Arrival.TheVariants as arrival;
-ghost use Rattle.net_base.specs.declared.trace.drop_cause.DropCause.{DropCause};
+ghost use Rattle.std.specs.Prelude.{◌≡◌, ◌==◌, [], Result, Ok, Some, true, false, OnOk};
 ghost use Rattle.net_base.specs.plan.Places.{circuit_row};
-ghost use Rattle.net_base.specs.trace.Isolated.{inner_at};
-ghost use Rattle.eth_encap.specs.Fault.{cause_of};
-ghost use Rattle.hvpls_spokes.specs.Port.{is_circuit_port, ports_of};
-ghost use Rattle.edge_model.specs.Frame.{frame_input, received};
+ghost use Rattle.edge_model.specs.Frame.{frame_input};
 ghost use Rattle.edge_model.specs.State.{is_on};
 ghost use Rattle.edge_model.specs.Synced.{InSync};
 ghost use Rattle.edge_model.specs.Work.{Agrees, Answers, beginning};
 ghost use Rattle.edge_forwarding.specs.Forwarding.{own_service};
-ghost use Rattle.provider_edge.specs.AtWork.{Takes, Works, at_work, worked_at};
+ghost use Rattle.provider_edge.specs.AtWork.{Takes, worked_at};
 ghost use Rattle.provider_edge.specs.Lists.{seen};
 
 use crate::Edge;

@@ -10,7 +10,7 @@ ghost use Rattle.eth_encap.specs.Packet.{entry_of};
 ghost use Rattle.hvpls_spokes.specs.Port.{is_wire_port, ports_of};
 ghost use Rattle.edge_model.specs.declared.effect.Effect.{Effect as Given};
 ghost use Rattle.edge_model.specs.Ends.{is_up};
-ghost use Rattle.edge_model.specs.Packet.{advertiser, alerted, alerts_end, bridges_frame, by_control_word, enters, is_alert, is_channel, labelled, opened_by, owned, packet_input, terminated, unpacked_at};
+ghost use Rattle.edge_model.specs.Packet.{advertiser, alerted, alerts_end, enters, is_alert, is_channel, labelled, packet_input, terminated, unpacked_at};
 ghost use Rattle.edge_model.specs.Role.{down_at};
 ghost use Rattle.edge_model.specs.Send.{drops};
 ghost use Rattle.edge_model.specs.Synced.{InSync};

@@ -1,6 +1,5 @@
 //! Connections of the edge: one stands, one is lost, and the edge restarts.
 ghost use Rattle.std.specs.Prelude.{◌≡◌, ◌<◌, [], true, false, List, length, slice_get, OnOk};
-ghost use Rattle.net_base.specs.declared.trace.state_name.Reason.TheVariants as reason;
 ghost use Rattle.session_core.specs.State.{IsProper};
 ghost use Rattle.edge_model.specs.Connection.{connected_input, connects, lost_input, restart_input};
 ghost use Rattle.edge_model.specs.State.{without_ends};

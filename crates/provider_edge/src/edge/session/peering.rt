@@ -1,9 +1,7 @@
 //! What an edge keeps of its neighbours: what an event makes of a session, and what is put apart from the events.
 ghost use Rattle.std.specs.Prelude.{◌≡◌, ◌<◌, List, Some, None, length, map, option_copied, IfOk, IfSome, OnOk, true};
 ghost use Rattle.net_base.specs.declared.outside.link_call.LinkCall.{LinkCall};
-ghost use Rattle.net_base.specs.declared.trace.state_name.Reason.TheVariants as reason;
 ghost use Rattle.ldp_codec.specs.declared.decode_fault.DecodeFault.{DecodeFault};
-ghost use Rattle.pw_signalling.specs.Rows.{lost};
 ghost use Rattle.session_core.specs.Messages.{HasData};
 ghost use Rattle.session_core.specs.Table.{Refused};
 ghost use Rattle.edge_model.specs.declared.effect.Effect.{Effect};

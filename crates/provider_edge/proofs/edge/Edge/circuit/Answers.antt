@@ -10,7 +10,7 @@ use Rattle.edge_forwarding.proofs.ForwardingLemmas.{own_row}
 use Rattle.peer_dialogue.proofs.SettleLemmas.{map_on}
 use Rattle.provider_edge.proofs.AtWorkLemmas.{takes_by}
 use Rattle.provider_edge.proofs.EdgeLemmas.{circuit_at, mended}
-use Rattle.provider_edge.proofs.EffectLemmas.{goes_nowhere}
+use Rattle.peer_dialogue.proofs.SpeakerLemmas.{goes_nowhere}
 use Rattle.provider_edge.proofs.ListLemmas.{keeps_both, keeps_same}
 use Rattle.provider_edge.proofs.WorkLemmas.{circuit_already, circuit_done, circuit_other}
 use Rattle.provider_edge.specs.Lists.{seen, worked}

@@ -7,13 +7,12 @@ use Rattle.edge_model.specs.Connection.{connected_input, connects}
 use Rattle.edge_model.specs.State.{has_end}
 use Rattle.edge_model.specs.Work.{beginning}
 use Rattle.peer_dialogue.specs.Peering.{at_edge, connection_with}
-use Rattle.peer_dialogue.proofs.SpeakerLemmas.{agrees_before}
+use Rattle.peer_dialogue.proofs.SpeakerLemmas.{agrees_before, goes_nowhere}
 use Rattle.peer_dialogue.proofs.SettleLemmas.{map_on}
 use Rattle.provider_edge.proofs.edge.Edge.connected.Goals.{then-not-joined-via-then-not-joined, then-not-joined-via-else-not-joined+then-has_end}
 use Rattle.peer_dialogue.proofs.AtWorkLemmas.{work_both}
 use Rattle.provider_edge.proofs.AtWorkLemmas.{takes_by}
 use Rattle.provider_edge.proofs.EdgeLemmas.{apart_test, begun, connected_done, connected_idle, connected_none, joined_test, mended, peer_within, stands_test}
-use Rattle.provider_edge.proofs.EffectLemmas.{goes_nowhere}
 use Rattle.provider_edge.proofs.ListLemmas.{keeps_both, keeps_same}
 use Rattle.provider_edge.proofs.ProperLemmas.{proper_between}
 use Rattle.provider_edge.specs.AtWork.{at_work}

@@ -13,8 +13,8 @@ use Rattle.provider_edge.proofs.edge.Edge.end.Goals as goal
 pub returns-in-Some : goal.returns-in-Some
 returns-in-Some c =
     let here =
-        end_some (the_view c.self.inside) c.args.self.now (is_of_segment c.args.key) c.slot_at.result c.in-Some.slot (end_of c.end.result.now) c.self.view_is c.self.invariant
-        (c.slot_at.ensures ∙ ap (position (is_of_segment c.args.key)) c.places.ensures.places) c.in-Some.is c.end.ensures.end in
+    end_some (the_view c.self.inside) c.args.self.now (is_of_segment c.args.key) c.slot_at.result c.in-Some.slot (end_of c.end.result.now) c.self.view_is c.self.invariant
+    (c.slot_at.ensures ∙ ap (position (is_of_segment c.args.key)) c.places.ensures.places) c.in-Some.is c.end.ensures.end in
     record {
       none = end_asked end_of (end_at (seen c.args.self.now)) (Some c.end.result) (find (is_of_segment c.args.key) (end_places c.args.self.now.plan c.args.self.now.me)) here;
       state = state_asked end_of (end_at (seen c.args.self.now)) (Some c.end.result) (find (is_of_segment c.args.key) (end_places c.args.self.now.plan c.args.self.now.me)) here;

@@ -9,7 +9,7 @@ use Rattle.edge_model.specs.Work.{beginning}
 use Rattle.peer_dialogue.specs.Peering.{at_edge}
 use Rattle.peer_dialogue.proofs.SettleLemmas.{map_on}
 use Rattle.provider_edge.proofs.EdgeLemmas.{begun, lost_done, mended}
-use Rattle.provider_edge.proofs.EffectLemmas.{goes_nowhere}
+use Rattle.peer_dialogue.proofs.SpeakerLemmas.{goes_nowhere}
 use Rattle.provider_edge.proofs.LiftLemmas.{happened, left_none, lost_none}
 use Rattle.provider_edge.proofs.ListLemmas.{keeps_both}
 use Rattle.provider_edge.specs.Lists.{seen, worked}

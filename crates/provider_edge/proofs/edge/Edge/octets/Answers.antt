@@ -5,11 +5,10 @@ use Rattle.edge_model.specs.Hear.{hears, hears_on, octets_input}
 use Rattle.edge_model.specs.Work.{beginning}
 use Rattle.peer_dialogue.proofs.AtWorkLemmas.{work_both}
 use Rattle.peer_dialogue.proofs.SettleLemmas.{map_on}
-use Rattle.peer_dialogue.proofs.SpeakerLemmas.{agrees_before}
+use Rattle.peer_dialogue.proofs.SpeakerLemmas.{agrees_before, goes_nowhere}
 use Rattle.peer_dialogue.specs.Peering.{at_edge}
 use Rattle.provider_edge.proofs.AtWorkLemmas.{takes_by}
 use Rattle.provider_edge.proofs.EdgeLemmas.{begun, mended, octets_done, octets_idle}
-use Rattle.provider_edge.proofs.EffectLemmas.{goes_nowhere}
 use Rattle.provider_edge.proofs.ListLemmas.{keeps_both}
 use Rattle.provider_edge.proofs.MessageLemmas.{held_heard, taken_none}
 use Rattle.provider_edge.specs.AtWork.{at_work}

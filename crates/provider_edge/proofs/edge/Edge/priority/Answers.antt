@@ -9,7 +9,7 @@ use Rattle.peer_dialogue.proofs.SettleLemmas.{map_on}
 use Rattle.provider_edge.proofs.edge.Edge.priority.Goals.{then-not-is_own_spoke-via-then-not-is_own_spoke, then-not-is_own_spoke-via-else-not-is_own_spoke+then-priority_of-priority}
 use Rattle.provider_edge.proofs.AtWorkLemmas.{takes_by}
 use Rattle.provider_edge.proofs.EdgeLemmas.{apart_eqb, mended, priority_already, priority_apart, priority_at, priority_set}
-use Rattle.provider_edge.proofs.EffectLemmas.{goes_nowhere}
+use Rattle.peer_dialogue.proofs.SpeakerLemmas.{goes_nowhere}
 use Rattle.provider_edge.proofs.ListLemmas.{keeps_both, keeps_same}
 use Rattle.provider_edge.specs.Lists.{seen, worked}
 use Rattle.provider_edge.proofs.edge.Edge.priority.Goals as goal

@@ -9,7 +9,7 @@ use Rattle.peer_dialogue.proofs.SettleLemmas.{map_on}
 use Rattle.provider_edge.proofs.edge.Edge.status.Goals.{then-not-ends_here-via-then-not-ends_here, then-not-ends_here-via-else-not-ends_here+then-bits_of-bits}
 use Rattle.provider_edge.proofs.AtWorkLemmas.{takes_by}
 use Rattle.provider_edge.proofs.EdgeLemmas.{apart_eqb, bits_at, mended, status_already, status_apart, status_set}
-use Rattle.provider_edge.proofs.EffectLemmas.{goes_nowhere}
+use Rattle.peer_dialogue.proofs.SpeakerLemmas.{goes_nowhere}
 use Rattle.provider_edge.proofs.ListLemmas.{keeps_both, keeps_same}
 use Rattle.provider_edge.specs.Lists.{seen, worked}
 use Rattle.provider_edge.proofs.edge.Edge.status.Goals as goal

@@ -8,7 +8,7 @@ use Rattle.peer_dialogue.proofs.SettleLemmas.{map_on}
 use Rattle.provider_edge.proofs.edge.Edge.wire.Goals.{then-not-passes-via-then-not-passes, then-not-passes-via-else-not-passes+then-is_wire_on-on}
 use Rattle.provider_edge.proofs.AtWorkLemmas.{takes_by}
 use Rattle.provider_edge.proofs.EdgeLemmas.{mended, turned_at, wire_already, wire_apart, wire_turned}
-use Rattle.provider_edge.proofs.EffectLemmas.{goes_nowhere}
+use Rattle.peer_dialogue.proofs.SpeakerLemmas.{goes_nowhere}
 use Rattle.provider_edge.proofs.ListLemmas.{keeps_both, keeps_same}
 use Rattle.provider_edge.specs.Lists.{seen, worked}
 use Rattle.provider_edge.proofs.edge.Edge.wire.Goals as goal

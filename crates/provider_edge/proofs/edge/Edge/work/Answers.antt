@@ -4,7 +4,7 @@ use Rattle.edge_model.specs.declared.input.Input.{Input}
 use Rattle.edge_model.specs.declared.input.Input.TheVariants as input
 use Rattle.edge_model.specs.Step.{edge_step}
 use Rattle.edge_model.specs.Work.{beginning}
-use Rattle.provider_edge.proofs.EffectLemmas.{goes_nowhere}
+use Rattle.peer_dialogue.proofs.SpeakerLemmas.{goes_nowhere}
 use Rattle.provider_edge.proofs.ListLemmas.{keeps_same}
 use Rattle.provider_edge.proofs.WorkLemmas.{idle_done, input_done}
 use Rattle.provider_edge.specs.Lists.{seen, worked}
