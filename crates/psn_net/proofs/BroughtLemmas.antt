@@ -1,17 +1,30 @@
 -- What an event brings about, and what an effect makes of a network, by the case that it is.
-use Rattle.std.proofs.Common.{◌≡◌, ◌∙◌, ◌++◌, ◌∷◌, [], ℕ, List, Result, Ok, Err, OnOk, ap, sym, subst}
+use Rattle.std.proofs.Common.{◌≡◌, ◌∙◌, ◌++◌, ◌∷◌, [], ℕ, List, Result, Ok, Err, OnOk, ap, append_assoc, sym, subst}
+use Rattle.net_base.specs.declared.plan.Plan.{Plan}
 use Rattle.net_base.specs.declared.trace.entry.Entry.{Entry}
+use Rattle.net_base.specs.declared.trace.entry.Entry.TheVariants.{Did}
 use Rattle.net_base.specs.declared.trace.event.Event.{Event}
 use Rattle.net_base.specs.declared.plan.places.EdgeId.{EdgeId}
 use Rattle.net_values.specs.declared.no_memory.NoMemory.{NoMemory}
 use Rattle.edge_model.specs.declared.effect.Effect.{Effect}
-use Rattle.network_model.specs.Absorb.{absorb_one, entries_told}
-use Rattle.network_model.specs.Step.{brings}
+use Rattle.network_model.specs.Absorb.{Stepped, absorb_one, entries_told}
+use Rattle.network_model.specs.State.{NetworkState}
+use Rattle.network_model.specs.Step.{brings, step}
 use Rattle.psn_net.specs.Lists.{HasStepped, NetLists, seen}
 
-pub brought : (old now : NetLists) (result : Result (Unit {0}) NoMemory) (event case : Event) → event ≡ case
-    → OnOk result (HasStepped old now (brings old.plan case (seen old))) → OnOk result (HasStepped old now (brings old.plan event (seen old)))
-brought old now result event case is done = subst (λ (e : Event). OnOk result (HasStepped old now (brings old.plan e (seen old)))) (sym is) done
+-- an event that was told has brought about what its row says
+pub brought : (old mid now : NetLists) (result : Result (Unit {0}) NoMemory) (copy event case : Event) → copy ≡ event → event ≡ case → mid.plan ≡ old.plan → seen mid ≡ seen old → mid.trace ≡ old.trace ++ Did copy ∷ []
+    → OnOk result (HasStepped mid now (brings mid.plan case (seen mid))) → OnOk result (HasStepped old now (step old.plan (seen old) event))
+brought old mid now (Ok done) copy event case copied is plan state trace stepped = record {
+  state = stepped.state ∙ ap (λ (s : Stepped). s.state) same;
+  told = stepped.told ∙ (ap (λ (s : Stepped). mid.trace ++ s.entries) same
+      ∙ (ap (λ (t : List Entry). t ++ (brings old.plan event (seen old)).entries) trace
+      ∙ (append_assoc old.trace (Did copy ∷ []) (brings old.plan event (seen old)).entries
+      ∙ ap (λ (e : Event). old.trace ++ Did e ∷ (brings old.plan event (seen old)).entries) copied)));
+} where
+  same : brings mid.plan case (seen mid) ≡ brings old.plan event (seen old)
+  same = ap (λ (p : Plan). brings p case (seen mid)) plan ∙ (ap (λ (s : NetworkState). brings old.plan case s) state ∙ ap (λ (e : Event). brings old.plan e (seen old)) (sym is))
+brought old mid now (Err fault) copy event case copied is plan state trace stepped = tt
 
 pub absorbed : (me : EdgeId) (origin hops : ℕ) (old now : NetLists) (result : Result (Unit {0}) NoMemory) (effect case : Effect) → effect ≡ case
     → OnOk result (HasStepped old now (record { state = absorb_one me origin hops case (seen old); entries = entries_told me origin hops case (seen old) }))

@@ -141,12 +141,3 @@ pub ruleset marking_steps = (fresh, marked_one, marked_first, marked_circuit)
 -- before the first event nothing may be delivered
 pub indexed_first : (n : NetLists) (index : IndexLists) → seen n ≡ empty_network n.plan → IsClear index.rows → IsIndexed n index
 indexed_first n index empty clear = record { each = λ i j a b. clear.each i j ∙ sym (ap (λ (s : NetworkState). is_deliverable s i j) empty) }
-
--- an event that was not done
-same_index : (old now : NetLists) (index : IndexLists) → now ≡ old → (old.failed ≡ false → IsIndexed old index) → now.failed ≡ false → IsIndexed now index
-same_index old now index same indexed going = subst (λ (n : NetLists). IsIndexed n index) (sym same) (indexed (ap (λ (n : NetLists). n.failed) (sym same) ∙ going))
-
-pub indexed_still : (old now : NetLists) (index : IndexLists) (event : Event) (stop : NetStop) → Stops old now event stop → (old.failed ≡ false → IsIndexed old index) → now.failed ≡ false → IsIndexed now index
-indexed_still old now index event (Crowded count number) stops indexed going = same_index old now index stops.1 indexed going
-indexed_still old now index event (TooMuch weight number) stops indexed going = same_index old now index stops.1 indexed going
-indexed_still old now index event NoMemory stops indexed going = let wrong : true ≡ false = sym stops ∙ going in absurd (cc (wrong))

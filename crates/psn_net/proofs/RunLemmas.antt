@@ -33,23 +33,31 @@ ran_state plan s t (x ∷ xs) h = by (stop_at t (length s.under_way) x) _ _ (ran
     by None a q f h = f h
     by (Some x) a q f h = absurd (cc (h))
 
--- one event that is done, and one that a limit stops
+-- an event that is done before others, and one that a limit stops
+pub ran_first : (plan : Plan) (old now : NetLists) (event : Event) (es : List Event) → stop_at old.trace (length (seen old).under_way) event ≡ None
+    → seen now ≡ (step plan (seen old) event).state → now.trace ≡ old.trace ++ (step plan (seen old) event).entries → ran plan (seen now) now.trace es ≡ ran plan (seen old) old.trace (event ∷ es)
+ran_first plan old now event es none state trace =
+    let rest : Ended = ran plan (step plan (seen old) event).state (old.trace ++ (step plan (seen old) event).entries) es in
+    (λ i. ran plan (state i) (trace i) es) ∙ sym (ap (λ (o : Option NetStop). unless o (seen old) old.trace rest) none)
+
+refused_first : (plan : Plan) (old now : NetLists) (event : Event) (es : List Event) (stop : NetStop) → stop_at old.trace (length (seen old).under_way) event ≡ Some stop → now ≡ old
+    → ended now (Some stop) ≡ ran plan (seen old) old.trace (event ∷ es)
+refused_first plan old now event es stop met same =
+    let rest : Ended = ran plan (step plan (seen old) event).state (old.trace ++ (step plan (seen old) event).entries) es in
+    ap (λ (n : NetLists). ended n (Some stop)) same ∙ sym (ap (λ (o : Option NetStop). unless o (seen old) old.trace rest) met)
+
+pub halts_first : (plan : Plan) (old now : NetLists) (event : Event) (es : List Event) (stop : NetStop) → Stops old now event stop → RunHalts stop now (ran plan (seen old) old.trace (event ∷ es))
+halts_first plan old now event es (Crowded count number) stops = refused_first plan old now event es (Crowded count number) stops.0 stops.1
+halts_first plan old now event es (TooMuch weight number) stops = refused_first plan old now event es (TooMuch weight number) stops.0 stops.1
+halts_first plan old now event es NoMemory stops = tt
+
+-- the same of one event alone
 pub ran_one : (plan : Plan) (old now : NetLists) (event : Event) → stop_at old.trace (length (seen old).under_way) event ≡ None → seen now ≡ (step plan (seen old) event).state → now.trace ≡ old.trace ++ (step plan (seen old) event).entries
     → ended now None ≡ ran plan (seen old) old.trace (event ∷ [])
-ran_one plan old now event none state trace =
-    let end : Ended = record { state = (step plan (seen old) event).state; trace = old.trace ++ (step plan (seen old) event).entries; stop = None } in
-    (λ i. record { state = state i; trace = trace i; stop = None }) ∙ sym (ap (λ (o : Option NetStop). unless o (seen old) old.trace end) none)
-
-ran_refused : (plan : Plan) (old now : NetLists) (event : Event) (stop : NetStop) → stop_at old.trace (length (seen old).under_way) event ≡ Some stop → now ≡ old
-    → ended now (Some stop) ≡ ran plan (seen old) old.trace (event ∷ [])
-ran_refused plan old now event stop met same =
-    let end : Ended = record { state = (step plan (seen old) event).state; trace = old.trace ++ (step plan (seen old) event).entries; stop = None } in
-    ap (λ (n : NetLists). ended n (Some stop)) same ∙ sym (ap (λ (o : Option NetStop). unless o (seen old) old.trace end) met)
+ran_one plan old now event none state trace = ran_first plan old now event [] none state trace
 
 pub ran_none : (plan : Plan) (old now : NetLists) (event : Event) (stop : NetStop) → Stops old now event stop → RunHalts stop now (ran plan (seen old) old.trace (event ∷ []))
-ran_none plan old now event (Crowded count number) stops = ran_refused plan old now event (Crowded count number) stops.0 stops.1
-ran_none plan old now event (TooMuch weight number) stops = ran_refused plan old now event (TooMuch weight number) stops.0 stops.1
-ran_none plan old now event NoMemory stops = tt
+ran_none plan old now event stop stops = halts_first plan old now event [] stop stops
 
 -- a run that no limit stops has done all of its events
 run_whole : (plan : Plan) (s : NetworkState) (t : List Entry) (es : List Event) (n : NetLists) → ended n None ≡ ran plan s t es → HasRun plan s t es n

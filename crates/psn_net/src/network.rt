@@ -73,7 +73,7 @@ impl Network {
     /// send a packet (a frame, an arrival, a repetition or a ping) and 65,536 or more are under way; network and trace are
     /// then as they were. `NoMemory` where memory was refused; from then on the network is given up, and answers the same to
     /// every event.
-    #[tactic(auto, using(crate::proofs::KeptLemmas::indexed_beside, crate::proofs::IndexLemmas::indexed_still))]
+    #[tactic(auto, using(crate::proofs::WeightLemmas::stops_at, crate::proofs::KeptLemmas::indexed_beside))]
     pub fn apply(&mut self, alloc: Global, event: &Event) -> Result<(), NetStop>
         requires { IsEventOf self.old.plan event.now }
         ensures plan { self.new.plan ≡ self.old.plan }
@@ -84,9 +84,22 @@ impl Network {
         ensures stops { IfErr result (Stops self.old self.new event.now) }
         ensures given_up { self.old.failed ≡ true → IfErr result (λ stop. stop ≡ NetStop.NoMemory) }
     {
-        self.parts.apply(alloc, event)?;
-        mark_after(&mut self.index, &self.parts, event);
-        Ok(())
+        if self.parts.has_failed() {
+            return Err(NetStop::NoMemory);
+        }
+        if let Some(stop) = self.parts.refusal(event) {
+            return Err(stop);
+        }
+        match self.parts.work(alloc, event) {
+            Ok(()) => {
+                mark_after(&mut self.index, &self.parts, event);
+                Ok(())
+            }
+            Err(NoMemory) => {
+                self.parts.fail();
+                Err(NetStop::NoMemory)
+            }
+        }
     }
 
     /// The next delivery: all octets on their way between the first two edges that have something to deliver, in the

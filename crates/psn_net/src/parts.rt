@@ -1,5 +1,5 @@
 //! The parts of a network.
-ghost use Rattle.std.specs.Prelude.{◌≡◌, ◌<◌, ◌≤◌, ◌+◌, ◌++◌, ◌∷◌, ◌^◌, ◌-◌, ◌↔◌, [], min, true, false, length, None, IfErr, IfOk, IfSome, IsSome, OnErr, OnOk};
+ghost use Rattle.std.specs.Prelude.{◌≡◌, ◌<◌, ◌+◌, ◌++◌, ◌∷◌, ◌^◌, ◌-◌, ◌↔◌, [], min, true, false, length, IfOk, IfSome, IsSome, OnErr, OnOk};
 ghost use Rattle.net_base.specs.plan.Accepted.{IsChecked};
 ghost use Rattle.net_base.specs.plan.Planned.{IsEventOf};
 ghost use Rattle.edge_model.specs.Step.{edge_step};
@@ -8,8 +8,7 @@ ghost use Rattle.provider_edge.specs.Said.{AllFit};
 ghost use Rattle.provider_edge.specs.Taking.{IsInRange};
 ghost use Rattle.network_model.specs.Absorb.{begin_at, idle, taken_all};
 ghost use Rattle.network_model.specs.State.{edge_at, empty_network};
-ghost use Rattle.network_model.specs.Step.{brings, step};
-ghost use Rattle.psn_net.specs.Applying.{Stops};
+ghost use Rattle.network_model.specs.Step.{step};
 ghost use Rattle.psn_net.specs.Lists.{HasDriven, HasRoom, HasStepped, Keeps, seen};
 ghost use Rattle.psn_net.specs.Weight.{may_send, stop_at, weight_of};
 
@@ -90,42 +89,9 @@ impl Parts {
         })
     }
 
-    /// Does one event, and adds to the trace what it tells. The event names places of the plan, and its numbers are in
-    /// their ranges; a frame has at most 262,144 octets. A ping does not apply yet, and is told as idle.
-    ///
-    /// `TooMuch` exactly where the trace already weighs more than 268,435,456, and else `Crowded` exactly where the event may
-    /// send a packet (a frame, an arrival, a repetition or a ping) and 65,536 or more are under way; network and trace are
-    /// then as they were. `NoMemory` where memory was refused; from then on the network is given up, and answers the same to
-    /// every event.
-    #[tactic(auto, using(crate::proofs::WeightLemmas::stops_at))]
-    pub fn apply(&mut self, alloc: Global, event: &Event) -> Result<(), NetStop>
-        requires { IsEventOf self.old.plan event.now }
-        ensures plan { self.new.plan ≡ self.old.plan }
-        ensures state { OnOk result (seen self.new ≡ (step self.old.plan (seen self.old) event.now).state) }
-        ensures told { OnOk result (self.new.trace ≡ self.old.trace ++ (step self.old.plan (seen self.old) event.now).entries) }
-        ensures within { OnOk result (stop_at self.old.trace (length (seen self.old).under_way) event.now ≡ None) }
-        ensures going { OnOk result ((self.old.failed ≡ false) × (self.new.failed ≡ false)) }
-        ensures stops { IfErr result (Stops self.old self.new event.now) }
-        ensures given_up { self.old.failed ≡ true → IfErr result (λ stop. stop ≡ NetStop.NoMemory) }
-    {
-        if self.failed {
-            return Err(NetStop::NoMemory);
-        }
-        if let Some(stop) = self.refusal(event) {
-            return Err(stop);
-        }
-        match self.work(alloc, event) {
-            Ok(()) => Ok(()),
-            Err(NoMemory) => {
-                self.failed = true;
-                Err(NetStop::NoMemory)
-            }
-        }
-    }
-
-    // The limit that stops an event, where there is one.
+    /// The limit that stops an event, where there is one.
     #[tactic(auto, unfolding(crate::specs::Weight::stop_at))]
-    fn refusal(&self, event: &Event) -> Option<NetStop>
+    pub fn refusal(&self, event: &Event) -> Option<NetStop>
         ensures { result ≡ stop_at self.now.trace (length (seen self.now).under_way) event.now }
     {
         let weight = self.ledger.weight();
@@ -145,8 +111,8 @@ impl Parts {
         None
     }
 
-    // Tells the event, and then does it.
-    fn work(&mut self, alloc: Global, event: &Event) -> Result<(), NoMemory>
+    /// Tells an event, and then does it.
+    pub fn work(&mut self, alloc: Global, event: &Event) -> Result<(), NoMemory>
         requires { IsEventOf self.old.plan event.now }
         ensures keeps { Keeps self.old self.new }
         ensures step { OnOk result (HasStepped self.old self.new (step self.old.plan (seen self.old) event.now)) }
@@ -154,16 +120,6 @@ impl Parts {
         self.tell(Entry::Did {
             event: event.copy(alloc)?,
         })?;
-        self.bring(alloc, event)
-    }
-
-    // Does the event.
-    fn bring(&mut self, alloc: Global, event: &Event) -> Result<(), NoMemory>
-        requires event { IsEventOf self.old.plan event.now }
-        requires room { HasRoom self.old }
-        ensures keeps { Keeps self.old self.new }
-        ensures step { OnOk result (HasStepped self.old self.new (brings self.old.plan event.now (seen self.old))) }
-    {
         match event {
             Event::Connect { from, to } => self.connect(alloc, *from, *to),
             Event::Deliver { from, to, count } => self.deliver(alloc, *from, *to, *count),
@@ -214,6 +170,14 @@ impl Parts {
         ensures { result ≡ self.now.failed }
     {
         self.failed
+    }
+
+    /// The network is given up, since memory was refused.
+    pub fn fail(&mut self)
+        ensures plan { self.new.plan ≡ self.old.plan }
+        ensures failed { self.new.failed ≡ true }
+    {
+        self.failed = true;
     }
 
     // An edge takes an input, over a link that takes every call.
