@@ -1,5 +1,5 @@
 -- The ends of wires at their terminal edges, by the rows of the plan.
-use Rattle.std.proofs.Common.{◌≡◌, ◌<◌, ◌≤◌, ◌+◌, ◌++◌, ◌∙◌, ◌&&◌, ◌||◌, Bor, ℕ, zero, suc, Bool, true, false, List, [], ◌∷◌, Option, Some, None, IfSome, cond, get_or, length, slice_get, slice_index_or, nat_eq, nat_lt, refl, sym, ap, subst, arith, inl, inr}
+use Rattle.std.proofs.Common.{◌≡◌, ◌<◌, ◌≤◌, ◌+◌, ◌++◌, ◌∙◌, ◌&&◌, ◌||◌, Bor, ℕ, zero, suc, Bool, true, false, List, [], ◌∷◌, Option, Some, None, IfSome, cond, length, slice_get, slice_index_or, nat_eq, nat_lt, refl, sym, ap, subst, arith, inl, inr}
 use Rattle.std.specs.Prelude.{is_some}
 use Rattle.std.specs.List.{list_all, list_any}
 use Rattle.std.proofs.lemmas.Bool.{and_parts, and_from, cases_Bool, eq-eqb, or_left, or_right}
@@ -16,7 +16,7 @@ use Rattle.net_base.specs.plan.Accepted.{IsChecked, IsWireOf}
 use Rattle.net_base.specs.plan.Paths.{first_edge, is_first, is_last, last_edge}
 use Rattle.net_base.specs.plan.RowFaults.{is_edge_of}
 use Rattle.edge_model.specs.declared.end_place.EndPlace.{EndPlace}
-use Rattle.edge_model.specs.EndPlaces.{end_place_at, end_places, ends_here, is_end_of_wire, is_terminal, places_along, places_at, places_from}
+use Rattle.edge_model.specs.EndPlaces.{end_place_at, ends_here, is_end_of_wire, is_terminal, places_along, places_at, places_from}
 use Rattle.edge_model.specs.Ends.{end_forwards, forwards_at, is_up, wire_end}
 use Rattle.edge_model.specs.Role.{down_at}
 use Rattle.edge_model.proofs.CopyLemmas.{found_end}

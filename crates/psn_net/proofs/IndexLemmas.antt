@@ -1,18 +1,12 @@
 -- An index of what may be delivered: it begins without a mark, and is made anew for the edges that were set to work.
-use Rattle.std.proofs.Common.{◌≡◌, ◌==◌, ◌<◌, ◌≤◌, ◌+◌, ◌∷◌, ◌&&◌, ◌||◌, ◌∙◌, subst, [], ℕ, zero, suc, Bool, true, false, not, List, Option, Some, None, cond, refl, ap, sym, arith, nat_eq, nat_lt, length, replicate, slice_index_or}
+use Rattle.std.proofs.Common.{◌≡◌, ◌==◌, ◌<◌, ◌≤◌, ◌+◌, ◌&&◌, ◌||◌, ◌∙◌, subst, ℕ, zero, suc, Bool, true, false, not, List, Option, Some, None, cond, refl, ap, sym, arith, nat_eq, nat_lt, length, replicate, slice_index_or}
 use Rattle.std.proofs.lemmas.Bool.Decides.{nat_tests}
 use Rattle.std.proofs.lemmas.List.{length-replicate}
 use Rattle.net_base.specs.declared.plan.circuit_plan.CircuitPlan.{CircuitPlan}
-use Rattle.net_base.specs.declared.plan.places.CircuitId.{CircuitId}
 use Rattle.net_base.specs.declared.plan.places.EdgeId.{EdgeId}
-use Rattle.net_base.specs.declared.trace.event.Event.{Event}
-use Rattle.net_base.specs.plan.Places.{circuit_row}
 use Rattle.network_model.specs.Connection.{is_deliverable}
 use Rattle.network_model.specs.Delivery.{first_pair}
 use Rattle.network_model.specs.State.{NetworkState, empty_network}
-use Rattle.psn_net.specs.Applying.{Stops}
-use Rattle.psn_net.specs.declared.net_stop.NetStop.{NetStop}
-use Rattle.psn_net.specs.declared.net_stop.NetStop.TheVariants.{Crowded, TooMuch, NoMemory}
 use Rattle.psn_net.specs.DeliveryIndex.{HasMarkedPair, IndexLists, IsClear, IsIndexed, IsIndexedBeside, IsMarked, IsMarkedTo, IsWithin, has_mark, in_word, is_at_edge, put_pair}
 use Rattle.psn_net.specs.Lists.{NetLists, edge_of, seen}
 use Rattle.psn_net.proofs.PairLemmas.{same_pair}

@@ -1,5 +1,5 @@
 -- An event changes what may be delivered only between the edges that it sets to work and others.
-use Rattle.std.proofs.Common.{◌≡◌, ◌<◌, ◌+◌, ◌++◌, ◌&&◌, ◌||◌, ◌∙◌, drop, take, subst, ℕ, zero, suc, Bool, true, false, List, [], ◌∷◌, Option, Some, None, cond, refl, ap, sym, nat_eq, length, inl, inr}
+use Rattle.std.proofs.Common.{◌≡◌, ◌<◌, ◌+◌, ◌++◌, ◌||◌, ◌∙◌, drop, take, subst, ℕ, Bool, true, false, List, [], ◌∷◌, Option, Some, None, cond, refl, ap, sym, nat_eq, length, inl, inr}
 use Rattle.std.proofs.lemmas.Bool.{cases_Bool, eq-eqb, eqb-true}
 use Rattle.net_base.specs.declared.plan.Plan.{Plan}
 use Rattle.net_base.specs.declared.plan.circuit_plan.CircuitPlan.{CircuitPlan}
@@ -26,7 +26,7 @@ use Rattle.network_model.specs.declared.packet.Packet.{Packet}
 use Rattle.network_model.specs.Packet.{again_event, arrive_event, arriving, discard_event, packet_at, packet_work}
 use Rattle.network_model.specs.State.{NetworkState, stands, with_edge, with_frame, with_packet, with_pipe, without_octets_to, without_packet}
 use Rattle.network_model.specs.Step.{step}
-use Rattle.psn_net.specs.DeliveryIndex.{IndexLists, IsIndexed, IsIndexedBeside, has_mark, is_at_edge, sets_to_work}
+use Rattle.psn_net.specs.DeliveryIndex.{IndexLists, IsIndexed, IsIndexedBeside, is_at_edge, sets_to_work}
 use Rattle.psn_net.specs.Lists.{NetLists, seen}
 
 -- the peerings of the other edges stay, and the pipes between them

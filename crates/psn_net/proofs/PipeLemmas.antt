@@ -1,5 +1,5 @@
 -- A pipe in the lists is the pipe in the map.
-use Rattle.std.proofs.Common.{◌≡◌, ◌==◌, ◌<◌, ◌≤◌, ◌+◌, ◌&&◌, ◌∷◌, [], ℕ, Bool, true, false, suc, zero, List, cond, refl, ap, arith, nat_eq, nat_lt, length, slice_index_or, slice_set, ◌∙◌}
+use Rattle.std.proofs.Common.{◌≡◌, ◌==◌, ◌<◌, ◌≤◌, ◌+◌, ◌∷◌, [], ℕ, Bool, true, false, suc, zero, List, cond, refl, ap, arith, nat_lt, length, slice_index_or, slice_set, ◌∙◌}
 use Rattle.std.proofs.lemmas.Bool.Decides.{nat_tests}
 use Rattle.edge_model.specs.State.{put_at}
 use Rattle.std.proofs.lemmas.List.{get_or_past}

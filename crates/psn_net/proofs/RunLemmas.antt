@@ -1,5 +1,5 @@
 -- Runs joined, and what a run that comes to its end or is stopped has done.
-use Rattle.std.proofs.Common.{◌≡◌, ◌++◌, ◌∷◌, [], ◌∙◌, ℕ, List, Option, Some, None, refl, ap, sym, append_assoc, append-nil, length}
+use Rattle.std.proofs.Common.{◌≡◌, ◌++◌, ◌∷◌, [], ◌∙◌, List, Option, Some, None, refl, ap, sym, append_assoc, append-nil, length}
 use Rattle.net_base.specs.declared.plan.Plan.{Plan}
 use Rattle.net_base.specs.declared.trace.entry.Entry.{Entry}
 use Rattle.net_base.specs.declared.trace.event.Event.{Event}
@@ -10,7 +10,7 @@ use Rattle.psn_net.specs.declared.net_stop.NetStop.{NetStop}
 use Rattle.psn_net.specs.declared.net_stop.NetStop.TheVariants.{Crowded, TooMuch, NoMemory}
 use Rattle.psn_net.specs.Applying.{Stops}
 use Rattle.psn_net.specs.Lists.{NetLists, seen}
-use Rattle.psn_net.specs.Runs.{AreDone, Ended, HasRun, HasStopped, IsRunOf, RunHalts, ended, ran, unless}
+use Rattle.psn_net.specs.Runs.{Ended, HasRun, IsRunOf, RunHalts, ended, ran, unless}
 use Rattle.psn_net.specs.Weight.{stop_at}
 
 -- the events after some others

@@ -1,5 +1,5 @@
 -- What `apply` answers.
-use Rattle.std.specs.Prelude.{◌≡◌, true, false, None, Some, length}
+use Rattle.std.specs.Prelude.{◌≡◌, true, Some, length}
 use Rattle.net_base.specs.declared.trace.event.Event.{Event}
 use Rattle.psn_net.specs.declared.net_stop.NetStop.{NetStop}
 use Rattle.psn_net.specs.declared.net_stop.NetStop.TheVariants.{Crowded, TooMuch, NoMemory}

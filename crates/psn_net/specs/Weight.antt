@@ -1,5 +1,5 @@
 -- What a trace weighs, so that a run keeps within the memory of a machine.
-use Rattle.std.specs.Prelude.{◌≡◌, ◌≤◌, ◌+◌, ◌^◌, ◌-◌, ◌&&◌, nat_le, nat_lt, min, ℕ, Bool, true, false, List, [], ◌∷◌, length, Option, Some, None, if◌then◌else◌}
+use Rattle.std.specs.Prelude.{◌≡◌, ◌+◌, ◌^◌, ◌-◌, ◌&&◌, nat_le, nat_lt, min, ℕ, Bool, true, false, List, [], ◌∷◌, length, Option, Some, None, if◌then◌else◌}
 use Rattle.net_base.specs.declared.trace.entry.Entry.{Entry}
 use Rattle.net_base.specs.declared.trace.entry.Entry.TheVariants.{Did, Said, In, Sent, Left}
 use Rattle.net_base.specs.declared.trace.event.Event.{Event}

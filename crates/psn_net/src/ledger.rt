@@ -1,5 +1,5 @@
 //! The trace of a run as it is written.
-ghost use Rattle.std.specs.Prelude.{◌≡◌, ◌<◌, ◌≤◌, ◌+◌, ◌++◌, ◌∷◌, ◌^◌, ◌-◌, [], length, min, OnErr, OnOk, if◌then◌else◌};
+ghost use Rattle.std.specs.Prelude.{◌≡◌, ◌<◌, ◌+◌, ◌++◌, ◌∷◌, ◌^◌, ◌-◌, [], min, OnErr, OnOk, if◌then◌else◌};
 ghost use Rattle.psn_net.specs.Weight.{weight_of, entry_weight, is_event, next_event};
 
 use net_base::{Entry, Event, List, NoMemory, Trace};

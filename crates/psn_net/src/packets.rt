@@ -1,5 +1,5 @@
 //! The packets under way.
-ghost use Rattle.std.specs.Prelude.{◌≡◌, ◌<◌, ◌+◌, ◌++◌, ◌∷◌, ◌^◌, [], length, slice_get, option_copied, IfOk, OnErr, OnOk};
+ghost use Rattle.std.specs.Prelude.{◌≡◌, ◌<◌, ◌+◌, ◌++◌, ◌∷◌, ◌^◌, [], length, slice_get, option_copied, OnErr, OnOk};
 ghost use Rattle.std.specs.List.{find};
 ghost use Rattle.network_model.specs.State.{without_number};
 ghost use Rattle.psn_net.specs.Packets.{is_numbered};

@@ -2,7 +2,7 @@
 ghost use Rattle.std.specs.Prelude.{◌≡◌, ◌++◌, ◌∷◌, [], true, false};
 ghost use Rattle.edge_model.specs.Work.{Agrees};
 ghost use Rattle.network_model.specs.Absorb.{taken_all};
-ghost use Rattle.net_base.specs.outside.Link.{Counts, IsCallAnswer, call_of};
+ghost use Rattle.net_base.specs.outside.Link.{call_of};
 
 use crate::call::Call;
 use crate::call_log::CallLog;
@@ -43,8 +43,7 @@ impl PsnLink {
     /// Gives the link up, which took every call.
     pub fn close(self)
         ensures { Agrees taken_all self }
-    {
-    }
+    {}
 
     // Takes a call.
     #[tactic(auto, using(crate::proofs::LinkLemmas::agrees_more))]

@@ -1,5 +1,5 @@
 //! The events of connections.
-ghost use Rattle.std.specs.Prelude.{◌≡◌, ◌==◌, ◌<◌, ◌++◌, false, drop, length, take, IfOk, OnOk};
+ghost use Rattle.std.specs.Prelude.{◌≡◌, ◌==◌, ◌<◌, false, drop, length, take, IfOk, OnOk};
 ghost use Rattle.network_model.specs.Absorb.{idle};
 ghost use Rattle.network_model.specs.Connection.{connect_event, connected_work, connecting, deliver_event, delivering, hearing_work, lose_event, losing, restart_event};
 ghost use Rattle.network_model.specs.State.{with_pipe, without_octets_to};

@@ -1,5 +1,5 @@
 //! The events of the network.
-ghost use Rattle.std.specs.Prelude.{◌≡◌, ◌<◌, ◌≤◌, ◌+◌, ◌++◌, ◌∷◌, [], Some, length, IfOk, OnOk};
+ghost use Rattle.std.specs.Prelude.{◌≡◌, ◌<◌, ◌≤◌, ◌+◌, Some, length, IfOk, OnOk};
 ghost use Rattle.net_base.specs.plan.Places.{circuit_row};
 ghost use Rattle.edge_model.specs.Step.{edge_step};
 ghost use Rattle.network_model.specs.Absorb.{absorb, begin_at, taken_all};

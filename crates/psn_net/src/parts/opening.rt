@@ -1,5 +1,5 @@
 //! The edges of a network before its first event.
-ghost use Rattle.std.specs.Prelude.{◌≡◌, ◌<◌, ◌≤◌, length, IfOk};
+ghost use Rattle.std.specs.Prelude.{◌≡◌, ◌<◌, length, IfOk};
 ghost use Rattle.net_base.specs.plan.Accepted.{IsChecked};
 ghost use Rattle.psn_net.specs.Lists.{AreOpen};
 

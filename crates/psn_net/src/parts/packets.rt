@@ -1,5 +1,5 @@
 //! Packets under way: one reaches its edge, is lost, or is repeated.
-ghost use Rattle.std.specs.Prelude.{◌≡◌, ◌<◌, ◌+◌, Some, option_copied, IfOk, IfSome, OnOk};
+ghost use Rattle.std.specs.Prelude.{◌≡◌, ◌<◌, Some, option_copied, IfOk, IfSome, OnOk};
 ghost use Rattle.net_base.specs.plan.Planned.{IsEventOf};
 ghost use Rattle.network_model.specs.Absorb.{absorb};
 ghost use Rattle.network_model.specs.Packet.{again_event, arrive_event, discard_event, next_arrival, packet_at, packet_work, repeating};

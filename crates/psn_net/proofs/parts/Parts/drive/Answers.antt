@@ -1,6 +1,5 @@
 use Rattle.std.proofs.Common.{◌<◌, length, slice_set, ap, subst, arith}
 use Rattle.edge_model.specs.Step.{edge_step}
-use Rattle.edge_model.specs.Work.{Agrees}
 use Rattle.network_model.specs.Absorb.{begin_at, taken_all}
 use Rattle.provider_edge.specs.Said.{AllFit}
 use Rattle.psn_net.specs.Lists.{HasDriven, NetLists, seen}

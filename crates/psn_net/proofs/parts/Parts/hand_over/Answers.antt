@@ -1,6 +1,5 @@
 use Rattle.std.proofs.Common.{◌<◌, length, slice_set, take, ap, subst, arith}
 use Rattle.edge_model.specs.declared.input.Input.TheVariants.{Octets}
-use Rattle.edge_model.specs.Work.{Agrees}
 use Rattle.network_model.specs.Absorb.{taken_all}
 use Rattle.network_model.specs.Connection.{hearing_work}
 use Rattle.provider_edge.specs.Said.{AllFit}

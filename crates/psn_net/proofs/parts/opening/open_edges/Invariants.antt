@@ -1,4 +1,3 @@
-use Rattle.std.proofs.Common.{◌≡◌}
 use Rattle.psn_net.specs.Lists.{AreOpen}
 use Rattle.psn_net.proofs.parts.opening.open_edges.Given as goal
 
