@@ -11,11 +11,10 @@ use Rattle.net_base.specs.declared.plan.places.ServiceId.{ServiceId}
 use Rattle.net_base.specs.declared.plan.places.WireId.{WireId}
 use Rattle.net_base.specs.declared.trace.down.Down.{Down}
 use Rattle.net_base.specs.plan.Places.{circuit_row, wire_row}
-use Rattle.net_base.specs.plan.Roles.{is_circuit_at}
 use Rattle.hvpls_spokes.specs.declared.port.Port.{Port}
 use Rattle.hvpls_spokes.specs.declared.port.Port.TheVariants as port
 use Rattle.hvpls_spokes.specs.Port.{is_circuit_port, is_wire_port, ports_of, is_wire}
-use Rattle.hvpls_spokes.proofs.PortsLemmas.{LeadsTo, IsServed, finds_port, found_port, has_circuit_port, same_circuit_port, served_at}
+use Rattle.hvpls_spokes.proofs.PortsLemmas.{LeadsTo, IsServed, finds_port, found_port, same_circuit_port, served_at}
 use Rattle.hvpls_spokes.proofs.RowPortLemmas.{wire_behind}
 use Rattle.hvpls_spokes.proofs.WirePortLemmas.{LeadsToWire, finds_wire_port, found_wire_port, leads_by_mesh, leads_by_spoke, same_wire_port, wired_at}
 use Rattle.edge_model.specs.Ends.{is_up}
@@ -89,12 +88,6 @@ turned_elsewhere plan on told circuit row other me turned p is apart = turns (sl
   turns (Some (port.Circuit c)) at = ap (λ (b : Bool). cond b turned (on c.0)) (sym (differs c at))
   turns (Some (port.Mesh wire)) at = refl
   turns (Some (port.Spoke wire)) at = refl
-
--- a circuit has a port of its service at its edge
-pub circuit_found : (plan : Plan) (circuit : CircuitId) (row : CircuitPlan) (me : EdgeId) → circuit_row plan circuit ≡ Some row → row.edge.0 ≡ me.0 → (p : ℕ) × (position (is_circuit_port circuit) (ports_of plan row.service me) ≡ Some p)
-circuit_found plan circuit row me is at =
-    let serve : is_circuit_at row.service me.0 row ≡ true = rw (eq-eqb row.service.0 row.service.0 refl, eq-eqb row.edge.0 me.0 at) refl in
-    finds_port circuit (ports_of plan row.service me) (has_circuit_port plan row.service me circuit.0 row is serve)
 
 -- the port that is found for a circuit is open where the circuit is on
 pub found_opens : (on : ℕ → Bool) (told : ℕ → Option Down) (circuit : CircuitId) (ports : List Port) (p : ℕ) → position (is_circuit_port circuit) ports ≡ Some p → port_opens on told ports p ≡ on circuit.0

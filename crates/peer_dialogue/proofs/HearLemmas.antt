@@ -3,11 +3,8 @@ use Rattle.std.proofs.Common.{◌≡◌, ◌<◌, ◌≤◌, ◌+◌, ◌++◌, 
 use Rattle.std.proofs.lemmas.List.{append-nil, take-append-drop}
 use Rattle.net_base.specs.declared.plan.Plan.{Plan}
 use Rattle.net_base.specs.declared.plan.places.EdgeId.{EdgeId}
-use Rattle.ldp_codec.specs.Decoded.{refusal_at, refusal_of}
+use Rattle.ldp_codec.specs.Decoded.{refusal_of}
 use Rattle.ldp_codec.specs.declared.decode_fault.DecodeFault.{DecodeFault}
-use Rattle.ldp_codec.specs.declared.decode_fault.DecodeFault.TheVariants as wrong
-use Rattle.ldp_grammar.specs.declared.cause.Cause.{Cause}
-use Rattle.ldp_grammar.specs.declared.cause.Cause.TheVariants as cause
 use Rattle.ldp_grammar.specs.declared.fault.Fault.{Fault}
 use Rattle.ldp_grammar.specs.declared.message.Message.{Message}
 use Rattle.ldp_grammar.specs.declared.pdu.Pdu.{Pdu}
@@ -87,17 +84,6 @@ at_fault max set first old new base refusal same is ready made =
     stands fault (inl before) = absurd (cc (sym ready.going ∙ before))
     stands fault (inr here) = here.1
 
--- the refusal of a fault is not for want of memory
-pub refusal_some : (fault : Fault) → refusal_of fault ≡ wrong.NoMemory → ⊥
-refusal_some fault none = by fault.cause none where
-  by : (c : Cause) → refusal_at c fault.place ≡ wrong.NoMemory → ⊥
-  by cause.Version none = absurd (cc (none))
-  by cause.PduLength none = absurd (cc (none))
-  by cause.MessageLength none = absurd (cc (none))
-  by cause.TlvLength none = absurd (cc (none))
-  by (cause.TlvValue field) none = absurd (cc (none))
-  by (cause.Repeated field) none = absurd (cc (none))
-
 -- ---- octets
 
 front_got : (max : ℕ) (held rest more : List ℕ) (pdu : Pdu) → AreOctets held → AreOctets more → max ≤ 4096 → HasFront max held pdu rest → front_of max (held ++ more) ≡ Got pdu (rest ++ more)
@@ -155,9 +141,6 @@ heard_fault plan told peer held rest more fault refusal kept work now octets oth
   };
 }
 
-pub on_itself : (plan : Plan) (told : Answers) (peer : EdgeId) (octets : List ℕ) (work : Work) → HearsOn plan told peer octets octets work work
-on_itself plan told peer octets work = record { on = λ n within. record { fuel = n; enough = within; is = refl } }
-
 pub on_both : (plan : Plan) (told : Answers) (peer : EdgeId) (a b c : List ℕ) (u v w : Work) → HearsOn plan told peer a b u v → HearsOn plan told peer b c v w → HearsOn plan told peer a c u w
 on_both plan told peer a b c u v w first next = record {
   on = λ n within.
@@ -168,14 +151,6 @@ on_both plan told peer a b c u v w first next = record {
 
 pub on_same : (plan : Plan) (told : Answers) (peer : EdgeId) (a b c : List ℕ) (u v : Work) → b ≡ c → HearsOn plan told peer a b u v → HearsOn plan told peer a c u v
 on_same plan told peer a b c u v same on = subst (λ (l : List ℕ). HearsOn plan told peer a l u v) same on
-
--- once no session stands, nothing more is heard
-pub on_none : (plan : Plan) (told : Answers) (peer : EdgeId) (a b c : List ℕ) (u v : Work) → v.edge.peering peer.0 ≡ None → HearsOn plan told peer a b u v → HearsOn plan told peer a c u v
-on_none plan told peer a b c u v none on = record {
-  on = λ n within.
-      let one = on.on n within in
-      record { fuel = length c; enough = omega arith; is = one.is ∙ (few_none plan told peer one.fuel b v none ∙ sym (few_none plan told peer (length c) c v none)) };
-}
 
 -- all was heard, and the session ended
 pub ended_all : (plan : Plan) (told : Answers) (peer : EdgeId) (octets rest : List ℕ) (work now : Work) → now.edge.peering peer.0 ≡ None → HearsOn plan told peer octets rest work now → now ≡ hears plan told peer octets work

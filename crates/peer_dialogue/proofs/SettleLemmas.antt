@@ -294,7 +294,3 @@ refused_none between (EndedBy why) next event wrong left stands is refused ended
 pub map_on : {A E : Type 0} (P Q : Type 0) (r : Result A E) → (P → Q) → OnOk r P → OnOk r Q
 map_on P Q (Ok x) more here = more here
 map_on P Q (Err stop) more here = tt
-
-pub map_both : {A E : Type 0} (P Q R : A → Type 0) (r : Result A E) → ((x : A) → P x → Q x → R x) → IfOk r P → IfOk r Q → IfOk r R
-map_both P Q R (Ok x) more one other = more x one other
-map_both P Q R (Err stop) more one other = tt

@@ -171,11 +171,6 @@ agrees_before told a b goes agrees = record {
 
 -- ---- replies in order
 
-said_twice : (a b : Bool) (s : SessionState) → having_put b (having_put a s) ≡ having_put (cond a true b) s
-said_twice true true s = refl
-said_twice true false s = refl
-said_twice false b s = refl
-
 pub replies_more : (told : Answers) (peer : EdgeId) (replies : List Reply) (reply : Reply) (place : ℕ) (work next : Work) → slice_get replies place ≡ Some reply → put_reply told peer reply work ≡ record { work = next; failed = false }
     → put_replies told peer (drop place replies) work ≡ put_replies told peer (drop (place + 1) replies) next
 replies_more told peer [] reply place work next at put = absurd (cc (at))

@@ -156,9 +156,6 @@ where_kept c now told addresses service p passed work next keeps is =
     ∙ (ap (λ (plan : Plan). cond passed (copied_by (tells_at plan told addresses) (slice_get (ports_of plan service now.me) p) work) work) keeps.plan
     ∙ ap (λ (m : EdgeId). cond passed (copied_by (tells_at c.plan told addresses) (slice_get (ports_of c.plan service m) p) work) work) keeps.me)
 
-pub told_by_none : (tells : Port → Work → Work) (found other : Option Port) (work : Work) → found ≡ other → found ≡ None → work ≡ copied_by tells other work
-told_by_none tells found other work is none = sym (ap (λ (x : Option Port). copied_by tells x work) (sym is ∙ none))
-
 pub told_by_some : (tells : Port → Work → Work) (found other : Option Port) (x : Port) (work next : Work) → found ≡ other → found ≡ Some x → next ≡ tells x work → next ≡ copied_by tells other work
 told_by_some tells found other x work next is some told = told ∙ ap (λ (o : Option Port). copied_by tells o work) (sym (sym is ∙ some))
 

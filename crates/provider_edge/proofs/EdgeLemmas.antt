@@ -1,5 +1,5 @@
 -- The inputs of an edge, exit by exit.
-use Rattle.std.proofs.Common.{◌≡◌, ◌<◌, ◌&&◌, ◌∙◌, ◌==◌, ◌↔◌, Bor, ℕ, zero, suc, Bool, true, false, List, [], ◌∷◌, Option, Some, None, cond, not, length, option_copied, option_map, slice_get, nat_eq, refl, ap, sym, subst, arith}
+use Rattle.std.proofs.Common.{◌≡◌, ◌<◌, ◌&&◌, ◌∙◌, ◌==◌, ◌↔◌, Bor, ℕ, Bool, true, false, List, [], Option, Some, None, cond, not, length, option_copied, option_map, slice_get, nat_eq, refl, ap, sym, subst}
 use Rattle.std.proofs.Math.Bool.{beq}
 use Rattle.std.specs.Prelude.{IfSome, IsNone}
 use Rattle.std.proofs.lemmas.Bool.{eqb-true}
@@ -26,31 +26,18 @@ use Rattle.edge_model.specs.EndPlaces.{ends_here, passes}
 use Rattle.edge_model.specs.Hear.{hears_on, octets_input}
 use Rattle.edge_model.specs.Mend.{mends}
 use Rattle.edge_model.specs.Session.{happens_with_ends}
-use Rattle.edge_model.specs.State.{EdgeState, Peering, has_end, is_there, later, with_bits, with_learned, with_priority, with_ticks, without_ends, without_peerings}
+use Rattle.edge_model.specs.State.{EdgeState, Peering, has_end, later, with_bits, with_learned, with_priority, with_ticks, without_ends, without_peerings}
 use Rattle.edge_model.specs.Synced.{InSync}
 use Rattle.edge_model.specs.Tick.{counted, forgetting, ticks_sessions}
 use Rattle.edge_model.specs.Wire.{is_own_spoke, priority_input, status_input, turned_wire, wire_input}
 use Rattle.edge_model.specs.Work.{Answers, Work, beginning, changes, idles}
 use Rattle.peer_dialogue.specs.Peering.{at_edge, connection_with, peers_between}
-use Rattle.edge_forwarding.specs.Views.{view}
 use Rattle.provider_edge.proofs.WorkLemmas.{other_before, same_already}
 use Rattle.provider_edge.specs.Hearing.{AreTakenOut}
 use Rattle.provider_edge.specs.Invariant.{IsEdge}
 use Rattle.provider_edge.specs.Lists.{EdgeLists, Keeps, seen, worked}
 
 -- while it works nothing is said of what was told last of the wires
--- ---- octets that are held
-
-there_within : (xs : List (Option Peering)) (k : ℕ) → is_there (view None xs k) ≡ true → k < length xs
-there_within [] k there = absurd (cc (there))
-there_within (x ∷ xs) zero there = omega arith
-there_within (x ∷ xs) (suc k) there = omega (arith, there_within xs k there)
-
--- a peer with which a connection stands is in the plan
-pub end_within : (e : EdgeLists) (peer : EdgeId) → IsEdge e → has_end (seen e) peer ≡ true → peer.0 < length e.plan.edges
-unfolding seen
-end_within e peer is there = omega (arith, there_within e.peerings peer.0 there, is.peerings)
-
 -- ---- inputs
 
 -- what was done before the edge mends
@@ -85,10 +72,6 @@ pub lost_done : (e : EdgeLists) (told : Answers) (peer : EdgeId) (calls : List L
     → work ≡ mends e.plan told (happens_with_ends told peer (Closed reason.Closed) (beginning (seen e) calls)) → work ≡ lost_input e.plan told peer (beginning (seen e) calls)
 lost_done e told peer calls work there is =
     is ∙ sym (ap (λ (b : Bool). cond b (mends e.plan told (happens_with_ends told peer (Closed reason.Closed) (beginning (seen e) calls))) (idles (beginning (seen e) calls))) there)
-
-pub none_by : (x : Option Peering) → is_there x ≡ false → x ≡ None
-none_by None is = refl
-none_by (Some kept) is = absurd (cc (is))
 
 pub octets_idle : (e mid : EdgeLists) (told : Answers) (peer : EdgeId) (octets : List ℕ) (calls : List LinkCall) → (seen e).peering peer.0 ≡ None → seen mid ≡ seen e
     → worked mid calls (record { idle = true; list = [] }) ≡ octets_input e.plan told peer octets ((seen e).peering peer.0) (beginning (seen e) calls)
@@ -328,20 +311,4 @@ edge_going e is synced = record {
   plan = is.plan;
   me = is.me;
   synced = λ going. subst (InSync e.plan) (sym (seen_stopped e false)) synced;
-}
-
--- an edge works
-pub edge_working : (e : EdgeLists) → IsEdge e → IsEdge (record e { stopped = true })
-edge_working e is = record {
-  checked = is.checked;
-  peerings = is.peerings;
-  places = is.places;
-  wires = is.wires;
-  each_bits = is.each_bits;
-  small = is.small;
-  priorities = is.priorities;
-  spokes = is.spokes;
-  plan = is.plan;
-  me = is.me;
-  synced = λ going. absurd (cc going);
 }

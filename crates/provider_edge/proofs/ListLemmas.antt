@@ -1,5 +1,5 @@
 -- An edge, in lists as in maps.
-use Rattle.std.proofs.Common.{◌≡◌, ◌<◌, ◌≤◌, ◌||◌, ◌∙◌, ℕ, zero, suc, Bool, true, false, List, [], ◌∷◌, Option, Some, None, cond, length, map, slice_set, slice_index_or, nat_eq, replicate, ◌+◌, refl, ap, sym, subst, arith, length-set, slice_get}
+use Rattle.std.proofs.Common.{◌≡◌, ◌<◌, ◌≤◌, ◌||◌, ◌∙◌, ℕ, zero, suc, Bool, true, false, List, [], ◌∷◌, Option, Some, None, cond, length, map, slice_set, slice_index_or, nat_eq, replicate, ◌+◌, refl, ap, sym, subst, arith, slice_get}
 use Rattle.std.proofs.lemmas.Bool.{eqb-true}
 use Rattle.std.proofs.lemmas.List.{length-map}
 use Rattle.std.proofs.lemmas.List.Elements.{All-replicate}
@@ -57,9 +57,6 @@ holds_peerings c peerings long working is = record {
   synced = λ going. absurd (cc (sym working ∙ going));
 }
 
-pub holds_put : (c : EdgeLists) (peer : EdgeId) (kept : Option Peering) → c.stopped ≡ true → IsEdge c → IsEdge (record c { peerings = slice_set c.peerings peer.0 kept })
-holds_put c peer kept working is = holds_peerings c (slice_set c.peerings peer.0 kept) (length-set c.peerings peer.0 kept) working is
-
 pub holds_ends : (c : EdgeLists) (ends : EndLists) → ends.places ≡ c.ends.places → c.stopped ≡ true → IsEdge c → IsEdge (record c { ends = ends })
 holds_ends c ends same working is = record {
   checked = is.checked;
@@ -83,21 +80,6 @@ holds_spokes c spokes are working is = record {
   wires = is.wires;
   each_bits = is.each_bits;
   spokes = are;
-  plan = is.plan;
-  me = is.me;
-  small = is.small;
-  priorities = is.priorities;
-  synced = λ going. absurd (cc (sym working ∙ going));
-}
-
-pub holds_wires : (c : EdgeLists) (wires : List Bool) → length wires ≡ length c.wires_on → c.stopped ≡ true → IsEdge c → IsEdge (record c { wires_on = wires })
-holds_wires c wires long working is = record {
-  checked = is.checked;
-  peerings = is.peerings;
-  places = is.places;
-  wires = long ∙ is.wires;
-  each_bits = is.each_bits;
-  spokes = is.spokes;
   plan = is.plan;
   me = is.me;
   small = is.small;
@@ -316,9 +298,6 @@ seen_priority c wire priority within = λ i. record (seen c) { priority = λ k. 
 
 -- ---- the spoke that is chosen for a service
 
-pub spokes_chosen : (plan : Plan) (me : EdgeId) (spokes : SpokeLists) (service : ℕ) (wire : Option WireId) → AreSpokesOf plan me spokes → AreSpokesOf plan me (record spokes { chosen = slice_set spokes.chosen service wire })
-spokes_chosen plan me spokes service wire are = record { slots = are.slots; chosen = length-set spokes.chosen service wire ∙ are.chosen }
-
 pub seen_chosen : (c : EdgeLists) (service : ℕ) (wire : Option WireId) → service < length c.spokes.chosen
     → seen (record c { spokes = record c.spokes { chosen = slice_set c.spokes.chosen service wire } }) ≡ with_chosen (put_at (seen c).chosen service wire) (seen c)
 unfolding seen with_chosen
@@ -337,14 +316,6 @@ bits_read c wire bits within read = read ∙ same_read c.bits wire.0 bits 0 with
 pub priority_read : (c : EdgeLists) (wire : WireId) (priority : ℕ) → wire.0 < length c.priorities → priority ≡ slice_index_or c.priorities wire.0 priority → priority ≡ (seen c).priority wire.0
 unfolding seen
 priority_read c wire priority within read = read ∙ same_read c.priorities wire.0 priority (priority_in (slice_get c.plan.wires wire.0)) within
-
-pub on_read : (c : EdgeLists) (wire : WireId) (on : Bool) → wire.0 < length c.wires_on → on ≡ slice_index_or c.wires_on wire.0 on → on ≡ (seen c).wire_on wire.0
-unfolding seen
-on_read c wire on within read = read ∙ same_read c.wires_on wire.0 on true within
-
-pub me_read : (c : EdgeLists) → c.me ≡ (seen c).me
-unfolding seen
-me_read c = refl
 
 pub end_read : (c : EdgeLists) (slot : ℕ) → end_in c.ends slot ≡ end_at (seen c) (place_of c.ends slot)
 unfolding seen

@@ -1,18 +1,18 @@
 -- What a call answers by what its stages say, and that in a sound surrounding the answer is what the octets call for.
-use Rattle.std.proofs.Common.{true, false, ◌≡◌, ◌<◌, ◌≤◌, ◌⊎◌, ◌∙◌, ℕ, Bool, List, [], ◌∷◌, Option, Some, None, Ok, Err, IfSome, length, inl, inr, refl, ap, sym, subst, arith}
+use Rattle.std.proofs.Common.{true, false, ◌≡◌, ◌<◌, ◌≤◌, ◌∙◌, ℕ, Bool, List, [], ◌∷◌, Option, Some, None, IfSome, length, inl, inr, refl, ap, sym, subst, arith}
 use Rattle.psn_net.specs.Lists.{NetLists}
 use Rattle.psn_net.specs.Runs.{Ended}
-use Rattle.ldp_stream.specs.Parsed.{Ending, Pending, Refused, IsParsed}
+use Rattle.ldp_stream.specs.Parsed.{Ending, Pending, Refused}
 use Rattle.ldp_stream.proofs.ParsedLemmas.{one_parsing}
 use Rattle.scenario_text.specs.Document.{document}
 use Rattle.vplsnet.specs.declared.outcome.Outcome.{Outcome}
 use Rattle.vplsnet.specs.declared.outcome.Outcome.TheVariants.{Done, Usage, ReadFault, WriteFault, TooLong, ScenarioRefused, NotBuilt, Stopped, DecodeRefused, Unfinished, NoMemory}
-use Rattle.vplsnet.specs.Answers.{file_of, limit_of, Makes, IsEndOf, IsMade, IsWhole, IsCutShort, IsTooLong, SaysOutcome, CallsFor, IsTakenWhole, IsSoundOutcome, Completes, IsUnread}
+use Rattle.vplsnet.specs.Answers.{file_of, limit_of, Makes, IsEndOf, IsMade, IsCutShort, SaysOutcome, CallsFor, IsTakenWhole, IsSoundOutcome, Completes, IsUnread}
 use Rattle.vplsnet.specs.Around.{Files, Around, HasWriteFault, IsUntouched, Has, TellsFile}
 use Rattle.vplsnet.specs.Asked.{Asked, Replay, Decode}
 use Rattle.vplsnet.specs.Decode.{IsDecoding, IsDecodedAs}
-use Rattle.vplsnet.specs.Files.{IsLonger, AppendsFront, Writes}
-use Rattle.vplsnet.specs.Replay.{Replays, built_outcome, outcome_by, replay_outcome, whole_run}
+use Rattle.vplsnet.specs.Files.{IsLonger, Writes}
+use Rattle.vplsnet.specs.Replay.{Replays, built_outcome, outcome_by, replay_outcome}
 use Rattle.vplsnet.specs.StreamText.{largest_pdu, outcome_of_ending}
 
 -- why a file was not had is an answer

@@ -1,5 +1,5 @@
 -- The events of commands, one command after another.
-use Rattle.std.proofs.Common.{◌≡◌, ◌<◌, ◌≤◌, ◌+◌, ◌-◌, ◌++◌, ◌∷◌, [], ◌∙◌, ℕ, zero, suc, List, Option, Some, None, refl, ap, sym, subst, arith, length, slice_index_or, drop}
+use Rattle.std.proofs.Common.{◌≡◌, ◌<◌, ◌≤◌, ◌+◌, ◌-◌, ◌∷◌, [], ◌∙◌, ℕ, zero, suc, List, Option, Some, None, refl, ap, sym, subst, arith, length, slice_index_or, drop}
 use Rattle.std.proofs.lemmas.List.{at_drop_more, drop_more}
 use Rattle.net_base.specs.declared.plan.Plan.{Plan}
 use Rattle.net_base.specs.declared.trace.entry.Entry.{Entry}

@@ -1,6 +1,5 @@
 -- What `replay` makes of the octets of its file.
 use Rattle.std.specs.Prelude.{◌≡◌, ◌≢◌, ℕ, Bool, true, false, length, List, [], Option, Some, None, Result, Ok, Err}
-use Rattle.net_base.specs.declared.plan.Plan.{Plan}
 use Rattle.net_base.specs.declared.trace.event.Event.{Event}
 use Rattle.flight_model.specs.Ends.{HasTypes}
 use Rattle.network_model.specs.Run.{run, state_after}

@@ -1,5 +1,5 @@
 //! A scenario's fault in words.
-ghost use Rattle.std.specs.Prelude.{◌≡◌, ◌++◌, ◌∷◌, [], ◌<◌, codes, map, string_bytes, OnOk};
+ghost use Rattle.std.specs.Prelude.{◌≡◌, ◌++◌, ◌∷◌, [], ◌<◌, codes, map, OnOk};
 ghost use Rattle.std.specs.Fmt.{decimal};
 ghost use Rattle.command_text.specs.Places.{masked};
 ghost use Rattle.vplsnet.specs.FaultText.{table_name, place_words, plan_fault_name, plan_fault_place, fault_words};
