@@ -4,6 +4,8 @@
 mod call;
 mod call_log;
 mod delivery_index;
+mod departure;
+mod edge_pair;
 mod ledger;
 mod net_stop;
 mod network;
@@ -13,6 +15,7 @@ mod pipe;
 mod pipe_row;
 mod pipes;
 mod psn_link;
+mod trail;
 
 pub use net_stop::NetStop;
 pub use network::Network;

@@ -4,7 +4,8 @@ ghost use Rattle.std.specs.List.{find};
 ghost use Rattle.network_model.specs.State.{without_number};
 ghost use Rattle.psn_net.specs.Packets.{is_numbered};
 
-use net_base::{EdgeId, NoMemory, Octets, WireId};
+use crate::departure::Departure;
+use net_base::NoMemory;
 use network_model::Packet;
 use std::alloc::Global;
 use std::collections::BTreeMap;
@@ -84,23 +85,30 @@ impl Packets {
 
     /// A packet is sent and has the next number. After `NoMemory` nothing has changed.
     #[tactic(auto, using(crate::proofs::PacketLemmas::kept_steps))]
-    pub fn add(
-        &mut self,
-        wire: WireId,
-        from: EdgeId,
-        to: EdgeId,
-        origin: u64,
-        hops: u64,
-        bytes: Octets,
-    ) -> Result<(), NoMemory>
+    pub fn add(&mut self, departure: Departure) -> Result<(), NoMemory>
         requires { self.old.last + 1 < 2 ^ 64 }
         ensures err { OnErr result (self.new ≡ self.old) }
         ensures ok { OnOk result (self.new ≡ record {
-          list = self.old.list ++ record { number = self.old.last + 1; wire = wire; from = from; to = to; origin = origin; hops = hops; bytes = bytes } ∷ [];
+          list = self.old.list ++ record {
+            number = self.old.last + 1;
+            wire = departure.wire;
+            from = departure.from;
+            to = departure.to;
+            origin = departure.trail.origin;
+            hops = departure.trail.hops;
+            bytes = departure.bytes;
+          } ∷ [];
           last = self.old.last + 1;
         }) }
     {
         let number = self.last + 1;
+        let Departure {
+            wire,
+            from,
+            to,
+            trail,
+            bytes,
+        } = departure;
         self.by_number.insert(
             number,
             Packet {
@@ -108,8 +116,8 @@ impl Packets {
                 wire,
                 from,
                 to,
-                origin,
-                hops,
+                origin: trail.origin,
+                hops: trail.hops,
                 bytes,
             },
         )?;

@@ -6,35 +6,36 @@ ghost use Rattle.network_model.specs.State.{with_packet, with_pipe};
 ghost use Rattle.provider_edge.specs.Said.{AllFit, NamesPlaces};
 ghost use Rattle.psn_net.specs.Lists.{HasRoom, HasStepped, Keeps, seen};
 
+use crate::departure::Departure;
 use crate::parts::Parts;
+use crate::trail::Trail;
 use edge_model::Effect;
-use net_base::{Arrival, EdgeId, Entry, NoMemory, Octets, WireId};
+use net_base::{Arrival, EdgeId, Entry, NoMemory, Octets};
 use std::alloc::Global;
 
 impl Parts {
-    // All that an edge gave out on an input of this origin, which has passed so many segments, in order.
+    // All that an edge gave out on an input that has this trail, in order.
     #[tactic(auto, using(crate::proofs::AbsorbLemmas::absorb_steps))]
     pub(crate) fn absorb(
         &mut self,
         alloc: Global,
         me: EdgeId,
-        origin: u64,
-        hops: u64,
+        trail: Trail,
         effects: Vec<Effect>,
     ) -> Result<(), NoMemory>
         requires me { me.0 < length self.old.plan.edges }
         requires fit { AllFit self.old.plan effects.items }
-        requires passed { hops ≤ self.old.packets.last }
+        requires passed { trail.hops ≤ self.old.packets.last }
         requires room { HasRoom self.old }
         ensures keeps { Keeps self.old self.new }
         ensures room { OnOk result (HasRoom self.new) }
         ensures step { OnOk result (HasStepped self.old self.new (record {
-          state = absorb_all me origin hops effects.items (seen self.old);
-          entries = all_entries_of me origin hops effects.items (seen self.old);
+          state = absorb_all me trail.origin trail.hops effects.items (seen self.old);
+          entries = all_entries_of me trail.origin trail.hops effects.items (seen self.old);
         })) }
     {
         for effect in effects {
-            self.absorb_one(alloc, me, origin, hops, effect)?;
+            self.absorb_one(alloc, me, trail, effect)?;
         }
         Ok(())
     }
@@ -44,20 +45,19 @@ impl Parts {
         &mut self,
         alloc: Global,
         me: EdgeId,
-        origin: u64,
-        hops: u64,
+        trail: Trail,
         effect: Effect,
     ) -> Result<(), NoMemory>
         requires me { me.0 < length self.old.plan.edges }
         requires fit { NamesPlaces self.old.plan effect }
-        requires passed { hops ≤ self.old.packets.last }
+        requires passed { trail.hops ≤ self.old.packets.last }
         requires room { HasRoom self.old }
         ensures keeps { Keeps self.old self.new }
         ensures room { OnOk result (HasRoom self.new) }
         ensures more { OnOk result (self.old.packets.last ≤ self.new.packets.last) }
         ensures step { OnOk result (HasStepped self.old self.new (record {
-          state = absorb_one me origin hops effect (seen self.old);
-          entries = entries_told me origin hops effect (seen self.old);
+          state = absorb_one me trail.origin trail.hops effect (seen self.old);
+          entries = entries_told me trail.origin trail.hops effect (seen self.old);
         })) }
     {
         match effect {
@@ -68,18 +68,24 @@ impl Parts {
                 arrival,
                 bytes,
             } => {
-                let hops = self.one_more(hops);
-                self.send(alloc, me, peer, wire, arrival, origin, hops, bytes)
+                let departure = Departure {
+                    wire,
+                    from: me,
+                    to: peer,
+                    trail: self.one_more(trail),
+                    bytes,
+                };
+                self.send(alloc, departure, arrival)
             }
             Effect::Left { circuit, bytes } => self.tell(Entry::Left {
                 circuit,
-                origin,
-                hops,
+                origin: trail.origin,
+                hops: trail.hops,
                 bytes,
             }),
             Effect::Dropped(cause) => self.tell(Entry::Dropped {
                 edge: me,
-                origin,
+                origin: trail.origin,
                 cause,
             }),
             Effect::Session { peer, state } => self.tell(Entry::Session {
@@ -104,14 +110,17 @@ impl Parts {
         }
     }
 
-    // One segment more than have been passed.
-    fn one_more(&self, hops: u64) -> u64
-        requires passed { hops ≤ self.now.packets.last }
+    // The trail with one segment more.
+    fn one_more(&self, trail: Trail) -> Trail
+        requires passed { trail.hops ≤ self.now.packets.last }
         requires room { HasRoom self.now }
-        ensures { result ≡ hops + 1 }
+        ensures { result ≡ record { origin = trail.origin; hops = trail.hops + 1 } }
     {
         let _told = self.ledger.trace().len();
-        hops + 1
+        Trail {
+            origin: trail.origin,
+            hops: trail.hops + 1,
+        }
     }
 
     // Octets of LDP towards a peer.
@@ -179,67 +188,67 @@ impl Parts {
         self.pipes.clear(from, to);
     }
 
-    // A packet towards a neighbour, which will have passed so many segments.
+    // A packet leaves for a neighbour, and is told.
     fn send(
         &mut self,
         alloc: Global,
-        me: EdgeId,
-        peer: EdgeId,
-        wire: WireId,
+        departure: Departure,
         arrival: Arrival,
-        origin: u64,
-        hops: u64,
-        bytes: Octets,
     ) -> Result<(), NoMemory>
-        requires me { me.0 < length self.old.plan.edges }
-        requires peer { peer.0 < length self.old.plan.edges }
-        requires passed { hops ≤ self.old.packets.last + 1 }
+        requires from { departure.from.0 < length self.old.plan.edges }
+        requires to { departure.to.0 < length self.old.plan.edges }
+        requires passed { departure.trail.hops ≤ self.old.packets.last + 1 }
         requires room { HasRoom self.old }
         ensures keeps { Keeps self.old self.new }
         ensures room { OnOk result (HasRoom self.new) }
         ensures more { OnOk result (self.old.packets.last ≤ self.new.packets.last) }
         ensures step { OnOk result (HasStepped self.old self.new (record {
-          state = with_packet wire me peer origin hops bytes (seen self.old);
-          entries = Entry.Sent ((seen self.old).sent + 1) me peer wire arrival origin hops bytes ∷ [];
+          state = with_packet departure.wire departure.from departure.to departure.trail.origin departure.trail.hops departure.bytes (seen self.old);
+          entries = Entry.Sent ((seen self.old).sent + 1) departure.from departure.to departure.wire arrival departure.trail.origin departure.trail.hops departure.bytes ∷ [];
         })) }
     {
-        let packet = self.add_packet(wire, me, peer, origin, hops, bytes.copy(alloc)?)?;
+        let Departure {
+            wire,
+            from,
+            to,
+            trail,
+            bytes,
+        } = departure;
+        let packet = self.add_packet(Departure {
+            wire,
+            from,
+            to,
+            trail,
+            bytes: bytes.copy(alloc)?,
+        })?;
         self.tell(Entry::Sent {
             packet,
-            from: me,
-            to: peer,
+            from,
+            to,
             wire,
             arrival,
-            origin,
-            hops,
+            origin: trail.origin,
+            hops: trail.hops,
             bytes,
         })
     }
 
     // A packet is under way, and has the next number.
     #[tactic(auto, using(crate::proofs::UnderWayLemmas::packets_more), unfolding(crate::specs::Lists::seen, network_model::specs::State::with_packet))]
-    pub(crate) fn add_packet(
-        &mut self,
-        wire: WireId,
-        from: EdgeId,
-        to: EdgeId,
-        origin: u64,
-        hops: u64,
-        bytes: Octets,
-    ) -> Result<u64, NoMemory>
-        requires from { from.0 < length self.old.plan.edges }
-        requires to { to.0 < length self.old.plan.edges }
-        requires passed { hops ≤ self.old.packets.last + 1 }
+    pub(crate) fn add_packet(&mut self, departure: Departure) -> Result<u64, NoMemory>
+        requires from { departure.from.0 < length self.old.plan.edges }
+        requires to { departure.to.0 < length self.old.plan.edges }
+        requires passed { departure.trail.hops ≤ self.old.packets.last + 1 }
         requires room { HasRoom self.old }
         ensures keeps { Keeps self.old self.new }
         ensures trace { self.new.trace ≡ self.old.trace }
         ensures entered { self.new.entered ≡ self.old.entered }
         ensures last { OnOk result (self.new.packets.last ≡ self.old.packets.last + 1) }
         ensures number { IfOk result (λ number. number ≡ (seen self.old).sent + 1) }
-        ensures state { OnOk result (seen self.new ≡ with_packet wire from to origin hops bytes (seen self.old)) }
+        ensures state { OnOk result (seen self.new ≡ with_packet departure.wire departure.from departure.to departure.trail.origin departure.trail.hops departure.bytes (seen self.old)) }
     {
         let _told = self.ledger.trace().len();
-        self.packets.add(wire, from, to, origin, hops, bytes)?;
+        self.packets.add(departure)?;
         Ok(self.packets.last())
     }
 }

@@ -8,6 +8,7 @@ ghost use Rattle.psn_net.specs.Lists.{HasDriven, HasRoom, HasStepped, Keeps, see
 
 use crate::parts::Parts;
 use crate::psn_link::PsnLink;
+use crate::trail::NO_TRAIL;
 use edge_model::{Effects, Input};
 use net_base::{EdgeId, Entry, NoMemory};
 use std::alloc::Global;
@@ -43,8 +44,8 @@ impl Parts {
     {
         let first = self.drive(alloc, from, Input::Connected { peer: to })?;
         let second = self.drive(alloc, to, Input::Connected { peer: from })?;
-        self.absorb(alloc, from, 0, 0, first.list.into_items())?;
-        self.absorb(alloc, to, 0, 0, second.list.into_items())
+        self.absorb(alloc, from, NO_TRAIL, first.list.into_items())?;
+        self.absorb(alloc, to, NO_TRAIL, second.list.into_items())
     }
 
     // The first octets on their way between two edges are delivered. Where none are and the end that put them is gone, the
@@ -88,7 +89,7 @@ impl Parts {
     {
         let effects = self.hand_over(alloc, from, to, count)?;
         self.give_up(from, to, count);
-        self.absorb(alloc, to, 0, 0, effects.list.into_items())
+        self.absorb(alloc, to, NO_TRAIL, effects.list.into_items())
     }
 
     // The receiver hears the octets, which still lie in the pipe.
@@ -153,7 +154,7 @@ impl Parts {
         ensures keeps { Keeps self.old self.new }
         ensures step { OnOk result (HasStepped self.old self.new (losing self.old.plan me peer (seen self.old))) }
     {
-        self.absorb_input(alloc, me, 0, 0, Input::Lost { peer })
+        self.absorb_input(alloc, me, NO_TRAIL, Input::Lost { peer })
     }
 
     // An edge restarts.
@@ -166,7 +167,7 @@ impl Parts {
     {
         let effects = self.drive(alloc, me, Input::Restart)?;
         self.empty_pipes_to(me);
-        self.absorb(alloc, me, 0, 0, effects.list.into_items())
+        self.absorb(alloc, me, NO_TRAIL, effects.list.into_items())
     }
 
     // Nothing is on the way to an edge any more.

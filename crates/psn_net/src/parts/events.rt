@@ -13,6 +13,7 @@ ghost use Rattle.provider_edge.specs.Taking.{IsInRange};
 ghost use Rattle.psn_net.specs.Lists.{HasAnswered, HasEntered, HasRoom, HasStepped, Keeps, answered, edge_of, seen};
 
 use crate::parts::Parts;
+use crate::trail::{NO_TRAIL, Trail};
 use edge_model::{Effects, Input};
 use net_base::{CircuitId, EdgeId, Entry, List, NoMemory, WireId};
 use std::alloc::Global;
@@ -40,29 +41,28 @@ impl Parts {
         ensures room { OnOk result (HasRoom self.new) }
         ensures step { OnOk result (HasStepped self.old self.new (tick_at self.old.plan me (seen self.old))) }
     {
-        self.absorb_input(alloc, me, 0, 0, Input::Tick)
+        self.absorb_input(alloc, me, NO_TRAIL, Input::Tick)
     }
 
-    // An edge takes an input of this origin, which has passed so many segments, and its work goes into the network.
+    // An edge takes an input that has this trail, and its work goes into the network.
     #[tactic(auto, using(crate::proofs::ConnectionLemmas::input_absorbed))]
     pub(crate) fn absorb_input(
         &mut self,
         alloc: Global,
         me: EdgeId,
-        origin: u64,
-        hops: u64,
+        trail: Trail,
         input: Input<'_>,
     ) -> Result<(), NoMemory>
         requires me { me.0 < length self.old.plan.edges }
         requires range { IsInRange input }
-        requires passed { hops ≤ self.old.packets.last }
+        requires passed { trail.hops ≤ self.old.packets.last }
         requires room { HasRoom self.old }
         ensures keeps { Keeps self.old self.new }
         ensures room { OnOk result (HasRoom self.new) }
-        ensures step { OnOk result (HasStepped self.old self.new (absorb me origin hops (edge_step self.old.plan taken_all input.entry (begin_at (seen self.old) me)) (seen self.old))) }
+        ensures step { OnOk result (HasStepped self.old self.new (absorb me trail.origin trail.hops (edge_step self.old.plan taken_all input.entry (begin_at (seen self.old) me)) (seen self.old))) }
     {
         match self.drive(alloc, me, input) {
-            Ok(effects) => self.absorb(alloc, me, origin, hops, effects.list.into_items()),
+            Ok(effects) => self.absorb(alloc, me, trail, effects.list.into_items()),
             Err(fault) => Err(fault),
         }
     }
@@ -92,7 +92,7 @@ impl Parts {
         if effects.idle {
             return self.tell(Entry::Idle);
         }
-        self.absorb(alloc, me, 0, 0, effects.list.into_items())
+        self.absorb(alloc, me, NO_TRAIL, effects.list.into_items())
     }
 
     // A circuit is turned on or off.
@@ -184,7 +184,8 @@ impl Parts {
             return Ok(());
         }
         let origin = self.enter(alloc, circuit, bytes)?;
-        self.absorb(alloc, me, origin, 0, effects.list.into_items())
+        let trail = Trail { origin, hops: 0 };
+        self.absorb(alloc, me, trail, effects.list.into_items())
     }
 
     /// The edge of a circuit.

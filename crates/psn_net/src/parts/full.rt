@@ -6,6 +6,7 @@ ghost use Rattle.network_model.specs.Calm.{is_full, meshes};
 ghost use Rattle.psn_net.specs.Calm.{is_full_between};
 ghost use Rattle.psn_net.specs.Lists.{seen};
 
+use crate::edge_pair::EdgePair;
 use crate::parts::Parts;
 use hvpls_spokes::{Role, is_mesh_between, role};
 use net_base::{EdgeId, ServiceId, WireId, WirePlan};
@@ -45,7 +46,7 @@ impl Parts {
         ensures { result ≡ is_full_between self.now.plan (seen self.now) service a.0 b.0 }
     {
         !(self.is_core(service, a) && self.is_core(service, b))
-            || (a == b || self.any_meshes(self.wires(), service, a, b))
+            || (a == b || self.any_meshes(self.wires(), service, EdgePair { a, b }))
     }
 
     // The edge is a core edge of the service.
@@ -60,14 +61,14 @@ impl Parts {
 
     // Some of the plan's wires is a mesh wire between the two edges that carries frames.
     #[tactic(auto, using(crate::proofs::CalmLemmas::wire_steps))]
-    fn any_meshes(&self, wires: &[WirePlan], service: ServiceId, a: EdgeId, b: EdgeId) -> bool
+    fn any_meshes(&self, wires: &[WirePlan], service: ServiceId, pair: EdgePair) -> bool
         requires checked { IsChecked self.now.plan }
         requires wires { wires.now ≡ self.now.plan.wires }
         requires few { length wires.now ≤ 1024 }
-        ensures { result ≡ any_wire (meshes self.now.plan (seen self.now) service a.0 b.0) 0 wires.now }
+        ensures { result ≡ any_wire (meshes self.now.plan (seen self.now) service pair.a.0 pair.b.0) 0 wires.now }
     {
         for (place, row) in wires.iter().enumerate() {
-            if self.meshes(service, a, b, WireId(place as u16), row) {
+            if self.meshes(service, pair, WireId(place as u16), row) {
                 return true;
             }
         }
@@ -75,11 +76,11 @@ impl Parts {
     }
 
     // The wire with this row is a mesh wire between the two edges that carries frames.
-    fn meshes(&self, service: ServiceId, a: EdgeId, b: EdgeId, wire: WireId, row: &WirePlan) -> bool
+    fn meshes(&self, service: ServiceId, pair: EdgePair, wire: WireId, row: &WirePlan) -> bool
         requires checked { IsChecked self.now.plan }
         requires row { slice_get self.now.plan.wires wire.0 ≡ Some row.now }
-        ensures { result ≡ meshes self.now.plan (seen self.now) service a.0 b.0 wire.0 row.now }
+        ensures { result ≡ meshes self.now.plan (seen self.now) service pair.a.0 pair.b.0 wire.0 row.now }
     {
-        is_mesh_between(row, service, a, b) && self.carries(wire, row)
+        is_mesh_between(row, service, pair.a, pair.b) && self.carries(wire, row)
     }
 }

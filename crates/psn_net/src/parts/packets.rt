@@ -7,7 +7,9 @@ ghost use Rattle.network_model.specs.State.{without_packet};
 ghost use Rattle.psn_net.specs.Lists.{HasRoom, HasStepped, Keeps, seen};
 ghost use Rattle.psn_net.specs.Packets.{IsPacketOf};
 
+use crate::departure::Departure;
 use crate::parts::Parts;
+use crate::trail::Trail;
 use edge_model::Input;
 use net_base::{Entry, Event, NoMemory};
 use network_model::Packet;
@@ -35,8 +37,11 @@ impl Parts {
         ensures step { OnOk result (HasStepped self.old self.new (absorb packet.now.to packet.now.origin packet.now.hops (packet_work self.old.plan (seen self.old) packet.now) (seen self.old))) }
     {
         let bytes = packet.bytes.as_slice();
-        let input = Input::Packet { bytes };
-        self.absorb_input(alloc, packet.to, packet.origin, packet.hops, input)
+        let trail = Trail {
+            origin: packet.origin,
+            hops: packet.hops,
+        };
+        self.absorb_input(alloc, packet.to, trail, Input::Packet { bytes })
     }
 
     // A packet is lost on its way.
@@ -103,7 +108,13 @@ impl Parts {
             hops,
             bytes,
         } = packet;
-        let copy = self.add_packet(wire, from, to, origin, hops, bytes)?;
+        let copy = self.add_packet(Departure {
+            wire,
+            from,
+            to,
+            trail: Trail { origin, hops },
+            bytes,
+        })?;
         self.tell(Entry::Copied {
             packet: copy,
             of: number,

@@ -11,9 +11,9 @@ invariant-loop-effect l =
     × record {
       keeps : Keeps l.fn.self l.self;
       room : HasRoom l.self;
-      passed : l.hops ≤ l.self.packets.last;
+      passed : l.trail.hops ≤ l.self.packets.last;
       fit : AllFit l.fn.self.plan l.effect-iterator.rest.items;
-      state : absorb_all l.me l.origin l.hops l.effect-iterator.rest.items (seen l.self) ≡ absorb_all l.fn.me l.fn.origin l.fn.hops l.fn.effects.items (seen l.fn.self);
-      told : l.self.trace ++ all_entries_of l.me l.origin l.hops l.effect-iterator.rest.items (seen l.self)
-          ≡ l.fn.self.trace ++ all_entries_of l.fn.me l.fn.origin l.fn.hops l.fn.effects.items (seen l.fn.self);
+      state : absorb_all l.me l.trail.origin l.trail.hops l.effect-iterator.rest.items (seen l.self) ≡ absorb_all l.fn.me l.fn.trail.origin l.fn.trail.hops l.fn.effects.items (seen l.fn.self);
+      told : l.self.trace ++ all_entries_of l.me l.trail.origin l.trail.hops l.effect-iterator.rest.items (seen l.self)
+          ≡ l.fn.self.trace ++ all_entries_of l.fn.me l.fn.trail.origin l.fn.trail.hops l.fn.effects.items (seen l.fn.self);
     }
