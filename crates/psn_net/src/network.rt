@@ -133,6 +133,7 @@ impl Network {
         ensures within { IfSome result (λ pair. (pair.0 < length self.now.plan.edges) × (pair.1 < length self.now.plan.edges)) }
         ensures few { IfSome result (λ pair. (pair.0 < 64) × (pair.1 < 64)) }
     {
+        // Asked so that what always holds of it is at hand for the proof.
         let _count = self.parts.count();
         if self.parts.has_failed() {
             return self.parts.first_deliverable();

@@ -116,6 +116,7 @@ impl Parts {
         requires room { HasRoom self.now }
         ensures { result ≡ record { origin = trail.origin; hops = trail.hops + 1 } }
     {
+        // Asked so that what always holds of it is at hand for the proof.
         let _told = self.ledger.trace().len();
         Trail {
             origin: trail.origin,
@@ -247,6 +248,7 @@ impl Parts {
         ensures number { IfOk result (λ number. number ≡ (seen self.old).sent + 1) }
         ensures state { OnOk result (seen self.new ≡ with_packet departure.wire departure.from departure.to departure.trail.origin departure.trail.hops departure.bytes (seen self.old)) }
     {
+        // Asked so that what always holds of it is at hand for the proof.
         let _told = self.ledger.trace().len();
         self.packets.add(departure)?;
         Ok(self.packets.last())

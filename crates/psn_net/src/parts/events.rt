@@ -205,6 +205,7 @@ impl Parts {
         ensures room { OnOk result (HasRoom self.new) }
         ensures entered { IfOk result (HasEntered self.old self.new circuit bytes.now) }
     {
+        // Asked so that what always holds of it is at hand for the proof.
         let _told = self.ledger.trace().len();
         let number = self.entered + 1;
         self.entered = number;
