@@ -1,5 +1,5 @@
 -- The events of commands, one command after another.
-use Rattle.std.proofs.Common.{◌≡◌, ◌<◌, ◌≤◌, ◌+◌, ◌-◌, ◌∷◌, [], ◌∙◌, ℕ, zero, suc, List, Option, Some, None, refl, ap, sym, subst, arith, length, slice_index_or, drop}
+use Rattle.std.proofs.Common.{◌≡◌, ◌<◌, ◌≤◌, ◌+◌, ◌-◌, ◌∷◌, ◌++◌, [], ◌∙◌, ℕ, zero, suc, List, Option, Some, None, refl, ap, sym, subst, arith, length, slice_index_or, drop}
 use Rattle.std.proofs.lemmas.List.{at_drop_more, drop_more}
 use Rattle.net_base.specs.declared.plan.Plan.{Plan}
 use Rattle.net_base.specs.declared.trace.entry.Entry.{Entry}
@@ -11,9 +11,11 @@ use Rattle.network_model.specs.Run.{state_after}
 use Rattle.network_model.specs.State.{NetworkState}
 use Rattle.network_model.specs.Step.{step}
 use Rattle.psn_net.specs.declared.net_stop.NetStop.{NetStop}
+use Rattle.psn_net.specs.Applying.{Stops}
 use Rattle.psn_net.specs.Lists.{NetLists, seen}
 use Rattle.psn_net.specs.Runs.{Ended, RunHalts, ended, ran}
-use Rattle.psn_net.proofs.RunLemmas.{halts_on, ran_on, ran_state}
+use Rattle.psn_net.specs.Weight.{stop_at}
+use Rattle.psn_net.proofs.RunLemmas.{halts_first, halts_on, ran_first, ran_on, ran_state}
 use Rattle.command_text.specs.declared.command.Command.{Command}
 use Rattle.vplsnet.specs.Made.{arrivals, deliveries, event_and, made, made_by, ticks, turns}
 
@@ -43,17 +45,17 @@ ticks_more n i h = let e : n - i ≡ suc (n - (i + 1)) = omega arith in rw e ref
 pub ticks_end : (n i : ℕ) → n ≤ i → ticks (n - i) ≡ []
 ticks_end n i h = let e : n - i ≡ 0 = omega arith in rw e refl
 
-pub tick_on_at : (plan : Plan) (n : NetLists) (s : NetworkState) (t : List Entry) (count i : ℕ) → i < count
-    → ended n None ≡ ran plan s t (Tick ∷ []) → ran plan (seen n) n.trace (ticks (count - (i + 1))) ≡ ran plan s t (ticks (count - i))
-tick_on_at plan n s t count i below h =
-    ran_on plan s t (Tick ∷ []) (ticks (count - (i + 1))) n h ∙ sym (ap (λ (es : List Event). ran plan s t es) (ticks_more count i below))
+-- a further tick was done, or a limit stopped it, by a network that keeps the plan
+pub tick_done : (plan : Plan) (old now : NetLists) (count i : ℕ) → old.plan ≡ plan → i < count
+    → stop_at old.trace (length (seen old).under_way) Tick ≡ None → seen now ≡ (step old.plan (seen old) Tick).state → now.trace ≡ old.trace ++ (step old.plan (seen old) Tick).entries
+    → ran plan (seen now) now.trace (ticks (count - (i + 1))) ≡ ran plan (seen old) old.trace (ticks (count - i))
+tick_done plan old now count i kept below none state trace =
+    subst (λ (p : Plan). ran p (seen now) now.trace (ticks (count - (i + 1))) ≡ ran p (seen old) old.trace (ticks (count - i))) kept
+    (ran_first old.plan old now Tick (ticks (count - (i + 1))) none state trace ∙ sym (ap (λ (es : List Event). ran old.plan (seen old) old.trace es) (ticks_more count i below)))
 
-pub tick_err_at : (plan : Plan) (n : NetLists) (stop : NetStop) (s : NetworkState) (t : List Entry) (count i : ℕ) → i < count
-    → RunHalts stop n (ran plan s t (Tick ∷ [])) → RunHalts stop n (ran plan s t (ticks (count - i)))
-tick_err_at plan n stop s t count i below h =
-    subst (λ (es : List Event). RunHalts stop n (ran plan s t es)) (sym (ticks_more count i below)) (halts_on plan s t (Tick ∷ []) (ticks (count - (i + 1))) n stop h)
-
-pub ruleset tick_steps = (tick_on_at, tick_err_at, ticks_end)
+pub tick_stopped : (plan : Plan) (old now : NetLists) (stop : NetStop) (count i : ℕ) → i < count → Stops old now Tick stop → RunHalts stop now (ran plan (seen old) old.trace (ticks (count - i)))
+tick_stopped plan old now stop count i below stops =
+    subst (λ (es : List Event). RunHalts stop now (ran plan (seen old) old.trace es)) (sym (ticks_more count i below)) (halts_first plan old now Tick (ticks (count - (i + 1))) stop stops)
 
 -- ---- turns: the next event of a kind, so many times
 
@@ -71,22 +73,22 @@ turns_none : (plan : Plan) (next : NetworkState → Option Event) (s : NetworkSt
 turns_none plan next s zero none = refl
 turns_none plan next s (suc n) none = ap (λ (o : Option Event). event_and o (λ it. turns plan next n (step plan s it).state)) none
 
--- the state after an event that was done
-after_one : (plan : Plan) (n : NetLists) (s : NetworkState) (t : List Entry) (event : Event) → ended n None ≡ ran plan s t (event ∷ []) → seen n ≡ (step plan s event).state
-after_one plan n s t event h = ap (λ (r : Ended). r.state) h ∙ ran_state plan s t (event ∷ []) (sym (ap (λ (r : Ended). r.stop) h))
+-- a further turn was done, or a limit stopped it, by a network that keeps the plan
+turn_done : (next : Plan → NetworkState → Option Event) (plan : Plan) (old now : NetLists) (count i : ℕ) (event : Event) → old.plan ≡ plan → i < count → Some event ≡ next old.plan (seen old)
+    → stop_at old.trace (length (seen old).under_way) event ≡ None → seen now ≡ (step old.plan (seen old) event).state → now.trace ≡ old.trace ++ (step old.plan (seen old) event).entries
+    → ran plan (seen now) now.trace (turns plan (next plan) (count - (i + 1)) (seen now)) ≡ ran plan (seen old) old.trace (turns plan (next plan) (count - i) (seen old))
+turn_done next plan old now count i event kept below found none state trace =
+    subst (λ (p : Plan). ran p (seen now) now.trace (turns p (next p) (count - (i + 1)) (seen now)) ≡ ran p (seen old) old.trace (turns p (next p) (count - i) (seen old))) kept
+    (ap (λ (s : NetworkState). ran old.plan (seen now) now.trace (turns old.plan (next old.plan) (count - (i + 1)) s)) state
+    ∙ (ran_first old.plan old now event (turns old.plan (next old.plan) (count - (i + 1)) (step old.plan (seen old) event).state) none state trace
+    ∙ sym (ap (λ (es : List Event). ran old.plan (seen old) old.trace es) (turns_more old.plan (next old.plan) (seen old) count i event below (sym found)))))
 
-turn_on_at : (plan : Plan) (next : NetworkState → Option Event) (n : NetLists) (s : NetworkState) (t : List Entry) (count i : ℕ) (event : Event) → i < count → next s ≡ Some event
-    → ended n None ≡ ran plan s t (event ∷ []) → ran plan (seen n) n.trace (turns plan next (count - (i + 1)) (seen n)) ≡ ran plan s t (turns plan next (count - i) s)
-turn_on_at plan next n s t count i event below found h =
-    ap (λ (q : NetworkState). ran plan (seen n) n.trace (turns plan next (count - (i + 1)) q)) (after_one plan n s t event h)
-    ∙ (ran_on plan s t (event ∷ []) (turns plan next (count - (i + 1)) (step plan s event).state) n h
-    ∙ sym (ap (λ (es : List Event). ran plan s t es) (turns_more plan next s count i event below found)))
-
-turn_err_at : (plan : Plan) (next : NetworkState → Option Event) (n : NetLists) (stop : NetStop) (s : NetworkState) (t : List Entry) (count i : ℕ) (event : Event) → i < count → next s ≡ Some event
-    → RunHalts stop n (ran plan s t (event ∷ [])) → RunHalts stop n (ran plan s t (turns plan next (count - i) s))
-turn_err_at plan next n stop s t count i event below found h =
-    subst (λ (es : List Event). RunHalts stop n (ran plan s t es)) (sym (turns_more plan next s count i event below found))
-    (halts_on plan s t (event ∷ []) (turns plan next (count - (i + 1)) (step plan s event).state) n stop h)
+turn_stopped : (next : Plan → NetworkState → Option Event) (plan : Plan) (old now : NetLists) (stop : NetStop) (count i : ℕ) (event : Event) → old.plan ≡ plan → i < count → Some event ≡ next old.plan (seen old)
+    → Stops old now event stop → RunHalts stop now (ran plan (seen old) old.trace (turns plan (next plan) (count - i) (seen old)))
+turn_stopped next plan old now stop count i event kept below found stops =
+    subst (λ (p : Plan). RunHalts stop now (ran p (seen old) old.trace (turns p (next p) (count - i) (seen old)))) kept
+    (subst (λ (es : List Event). RunHalts stop now (ran old.plan (seen old) old.trace es)) (sym (turns_more old.plan (next old.plan) (seen old) count i event below (sym found)))
+    (halts_first old.plan old now event (turns old.plan (next old.plan) (count - (i + 1)) (step old.plan (seen old) event).state) stop stops))
 
 -- ---- deliveries
 
@@ -96,23 +98,16 @@ deliveries_end plan s n i h = turns_end plan (next_delivery plan) s n i h
 pub deliveries_none : (plan : Plan) (s : NetworkState) (n : ℕ) → next_delivery plan s ≡ None → deliveries plan n s ≡ []
 deliveries_none plan s n none = turns_none plan (next_delivery plan) s n none
 
-pub delivery_on_at : (plan : Plan) (n : NetLists) (s : NetworkState) (t : List Entry) (count i : ℕ) (event : Event) → i < count → next_delivery plan s ≡ Some event
-    → ended n None ≡ ran plan s t (event ∷ []) → ran plan (seen n) n.trace (deliveries plan (count - (i + 1)) (seen n)) ≡ ran plan s t (deliveries plan (count - i) s)
-delivery_on_at plan n s t count i event below found h = turn_on_at plan (next_delivery plan) n s t count i event below found h
+pub delivery_done : (plan : Plan) (old now : NetLists) (count i : ℕ) (event : Event) → old.plan ≡ plan → i < count → Some event ≡ next_delivery old.plan (seen old)
+    → stop_at old.trace (length (seen old).under_way) event ≡ None → seen now ≡ (step old.plan (seen old) event).state → now.trace ≡ old.trace ++ (step old.plan (seen old) event).entries
+    → ran plan (seen now) now.trace (deliveries plan (count - (i + 1)) (seen now)) ≡ ran plan (seen old) old.trace (deliveries plan (count - i) (seen old))
+delivery_done plan old now count i event kept below found none state trace = turn_done next_delivery plan old now count i event kept below found none state trace
 
-pub delivery_err_at : (plan : Plan) (n : NetLists) (stop : NetStop) (s : NetworkState) (t : List Entry) (count i : ℕ) (event : Event) → i < count → next_delivery plan s ≡ Some event
-    → RunHalts stop n (ran plan s t (event ∷ [])) → RunHalts stop n (ran plan s t (deliveries plan (count - i) s))
-delivery_err_at plan n stop s t count i event below found h = turn_err_at plan (next_delivery plan) n stop s t count i event below found h
+pub delivery_stopped : (plan : Plan) (old now : NetLists) (stop : NetStop) (count i : ℕ) (event : Event) → old.plan ≡ plan → i < count → Some event ≡ next_delivery old.plan (seen old)
+    → Stops old now event stop → RunHalts stop now (ran plan (seen old) old.trace (deliveries plan (count - i) (seen old)))
+delivery_stopped plan old now stop count i event kept below found stops = turn_stopped next_delivery plan old now stop count i event kept below found stops
 
--- a further one was done, by a network that keeps the plan
-pub delivery_done : (plan : Plan) (old new : NetLists) (count i : ℕ) (event : Event) → old.plan ≡ plan → i < count → Some event ≡ next_delivery old.plan (seen old)
-    → ended new None ≡ ran old.plan (seen old) old.trace (event ∷ [])
-    → ran plan (seen new) new.trace (deliveries plan (count - (i + 1)) (seen new)) ≡ ran plan (seen old) old.trace (deliveries plan (count - i) (seen old))
-delivery_done plan old new count i event kept below next done =
-    subst (λ (p : Plan). ran p (seen new) new.trace (deliveries p (count - (i + 1)) (seen new)) ≡ ran p (seen old) old.trace (deliveries p (count - i) (seen old))) kept
-    (delivery_on_at old.plan new (seen old) old.trace count i event below (sym next) done)
-
-pub ruleset delivery_steps = (delivery_on_at, delivery_err_at, deliveries_end, deliveries_none)
+pub ruleset delivery_steps = (deliveries_end, deliveries_none)
 
 -- ---- arrivals
 
@@ -122,20 +117,13 @@ arrivals_end plan s n i h = turns_end plan next_arrival s n i h
 pub arrivals_none : (plan : Plan) (s : NetworkState) (n : ℕ) → next_arrival s ≡ None → arrivals plan n s ≡ []
 arrivals_none plan s n none = turns_none plan next_arrival s n none
 
-pub arrival_on_at : (plan : Plan) (n : NetLists) (s : NetworkState) (t : List Entry) (count i : ℕ) (event : Event) → i < count → next_arrival s ≡ Some event
-    → ended n None ≡ ran plan s t (event ∷ []) → ran plan (seen n) n.trace (arrivals plan (count - (i + 1)) (seen n)) ≡ ran plan s t (arrivals plan (count - i) s)
-arrival_on_at plan n s t count i event below found h = turn_on_at plan next_arrival n s t count i event below found h
+pub arrival_done : (plan : Plan) (old now : NetLists) (count i : ℕ) (event : Event) → old.plan ≡ plan → i < count → Some event ≡ next_arrival (seen old)
+    → stop_at old.trace (length (seen old).under_way) event ≡ None → seen now ≡ (step old.plan (seen old) event).state → now.trace ≡ old.trace ++ (step old.plan (seen old) event).entries
+    → ran plan (seen now) now.trace (arrivals plan (count - (i + 1)) (seen now)) ≡ ran plan (seen old) old.trace (arrivals plan (count - i) (seen old))
+arrival_done plan old now count i event kept below found none state trace = turn_done (λ p. next_arrival) plan old now count i event kept below found none state trace
 
-pub arrival_err_at : (plan : Plan) (n : NetLists) (stop : NetStop) (s : NetworkState) (t : List Entry) (count i : ℕ) (event : Event) → i < count → next_arrival s ≡ Some event
-    → RunHalts stop n (ran plan s t (event ∷ [])) → RunHalts stop n (ran plan s t (arrivals plan (count - i) s))
-arrival_err_at plan n stop s t count i event below found h = turn_err_at plan next_arrival n stop s t count i event below found h
+pub arrival_stopped : (plan : Plan) (old now : NetLists) (stop : NetStop) (count i : ℕ) (event : Event) → old.plan ≡ plan → i < count → Some event ≡ next_arrival (seen old)
+    → Stops old now event stop → RunHalts stop now (ran plan (seen old) old.trace (arrivals plan (count - i) (seen old)))
+arrival_stopped plan old now stop count i event kept below found stops = turn_stopped (λ p. next_arrival) plan old now stop count i event kept below found stops
 
--- a further one was done, by a network that keeps the plan
-pub arrival_done : (plan : Plan) (old new : NetLists) (count i : ℕ) (event : Event) → old.plan ≡ plan → i < count → Some event ≡ next_arrival (seen old)
-    → ended new None ≡ ran old.plan (seen old) old.trace (event ∷ [])
-    → ran plan (seen new) new.trace (arrivals plan (count - (i + 1)) (seen new)) ≡ ran plan (seen old) old.trace (arrivals plan (count - i) (seen old))
-arrival_done plan old new count i event kept below next done =
-    subst (λ (p : Plan). ran p (seen new) new.trace (arrivals p (count - (i + 1)) (seen new)) ≡ ran p (seen old) old.trace (arrivals p (count - i) (seen old))) kept
-    (arrival_on_at old.plan new (seen old) old.trace count i event below (sym next) done)
-
-pub ruleset arrival_steps = (arrival_on_at, arrival_err_at, arrivals_end, arrivals_none)
+pub ruleset arrival_steps = (arrivals_end, arrivals_none)

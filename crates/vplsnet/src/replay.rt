@@ -1,12 +1,8 @@
 //! The command `replay`: the report of a scenario's run.
-ghost use Rattle.std.specs.Prelude.{◌≡◌, ◌≢◌, [], All, IfOk, MatchResult, Some};
+ghost use Rattle.std.specs.Prelude.{◌≡◌, ◌≢◌, All, IfOk, MatchResult};
 ghost use Rattle.net_base.specs.plan.Accepted.{IsChecked};
-ghost use Rattle.network_model.specs.State.{empty_network};
-ghost use Rattle.psn_net.specs.Lists.{seen};
-ghost use Rattle.psn_net.specs.Runs.{ended};
-ghost use Rattle.report_text.specs.Report.{report};
 ghost use Rattle.command_text.specs.Planned.{IsPlanned};
-ghost use Rattle.vplsnet.specs.Replay.{HasRunAs, Replays, ending_by, outcome_by, whole_run};
+ghost use Rattle.vplsnet.specs.Replay.{HasRunAs, Replays, ending_by, outcome_by};
 
 use crate::answer::Answer;
 use crate::built::is_built_scenario;
@@ -51,40 +47,14 @@ fn replay_built(alloc: Global, scenario: &Scenario) -> Result<Answer, NoMemory>
 {
     see_types(&scenario.plan);
     let mut network = Network::open(alloc, &scenario.plan)?;
-    match run_and_report(alloc, scenario, &mut network) {
-        Ok((text, stop)) => Ok(Answer {
-            text,
-            network: Some(network),
-            outcome: outcome_of(stop),
-        }),
-        Err(fault) => {
-            drop(network);
-            Err(fault)
-        }
-    }
-}
-
-// Runs a scenario over the network of its plan, and answers the report and the limit that stopped the run, where one did.
-fn run_and_report(
-    alloc: Global,
-    scenario: &Scenario,
-    network: &mut Network,
-) -> Result<(Vec<u8>, Option<NetStop>), NoMemory>
-    requires plan { network.old.plan ≡ scenario.now.plan }
-    requires state { seen network.old ≡ empty_network scenario.now.plan }
-    requires trace { network.old.trace ≡ [] }
-    requires checked { IsChecked scenario.now.plan }
-    requires planned { All (IsPlanned scenario.now.plan) scenario.now.commands }
-    ensures plan { network.new.plan ≡ scenario.now.plan }
-    ensures ends { IfOk result (λ made. ended network.new made.1 ≡ whole_run scenario.now) }
-    ensures text { IfOk result (λ made. made.0.items ≡ report scenario.now.plan network.new.trace (ending_by made.1)) }
-{
-    let stop = run_over(alloc, network, scenario)?;
+    let stop = run_over(alloc, &mut network, scenario)?;
     let trace = network.trace().as_slice();
-    match report_of(alloc, &scenario.plan, trace, ending_of(stop)) {
-        Ok(text) => Ok((text, stop)),
-        Err(fault) => Err(fault),
-    }
+    let text = report_of(alloc, &scenario.plan, trace, ending_of(stop))?;
+    Ok(Answer {
+        text,
+        network: Some(network),
+        outcome: outcome_of(stop),
+    })
 }
 
 // How the report ends of a run that this limit stopped, or none.

@@ -1,11 +1,10 @@
 //! The run of a scenario: each command makes its events, and the network does them in turn.
-ghost use Rattle.std.specs.Prelude.{◌≡◌, ◌∷◌, [], All, IfOk};
-ghost use Rattle.net_base.specs.plan.Planned.{IsEventOf};
+ghost use Rattle.std.specs.Prelude.{◌≡◌, [], All, IfOk};
 ghost use Rattle.network_model.specs.State.{empty_network};
 ghost use Rattle.psn_net.specs.Lists.{seen};
 ghost use Rattle.psn_net.specs.Runs.{GivesNetwork, ended, ran};
 ghost use Rattle.command_text.specs.Planned.{IsPlanned};
-ghost use Rattle.vplsnet.specs.Made.{arrivals, deliveries, made, made_by, ticks};
+ghost use Rattle.vplsnet.specs.Made.{arrivals, deliveries, made_by, ticks};
 ghost use Rattle.vplsnet.specs.Replay.{whole_run};
 
 use net_base::{Event, NoMemory};
@@ -15,6 +14,7 @@ use std::alloc::Global;
 
 /// Does the events of a scenario over the network of its plan, which is as it was opened. The answer is the limit that
 /// stopped the run, where one did. The one error is want of memory.
+#[tactic(auto, using(crate::proofs::MadeLemmas::made_steps))]
 pub fn run_over(
     alloc: Global,
     network: &mut Network,
@@ -27,34 +27,26 @@ pub fn run_over(
     ensures plan { network.new.plan ≡ scenario.now.plan }
     ensures ends { IfOk result (λ stop. ended network.new stop ≡ whole_run scenario.now) }
 {
-    match run_commands(alloc, network, scenario.commands.as_slice()) {
-        Ok(()) => Ok(None),
-        Err(NetStop::NoMemory) => Err(NoMemory),
-        Err(stop) => Ok(Some(stop)),
-    }
-}
-
-// Does the events of the commands.
-#[tactic(auto, using(crate::proofs::MadeLemmas::made_steps))]
-fn run_commands(alloc: Global, network: &mut Network, commands: &[Command]) -> Result<(), NetStop>
-    requires planned { All (IsPlanned network.old.plan) commands.now }
-    ensures plan { network.new.plan ≡ network.old.plan }
-    ensures ran { GivesNetwork result network.new (ran network.old.plan (seen network.old) network.old.trace (made network.old.plan (seen network.old) commands.now)) }
-{
+    let commands = scenario.commands.as_slice();
     for command in commands {
-        run_command(alloc, network, command)?;
+        match run_command(alloc, network, command) {
+            Ok(()) => {}
+            Err(NetStop::NoMemory) => return Err(NoMemory),
+            Err(stop) => return Ok(Some(stop)),
+        }
     }
-    Ok(())
+    Ok(None)
 }
 
 // Does the events of a command.
+#[tactic(auto, using(psn_net::proofs::RunLemmas::ran_one, psn_net::proofs::RunLemmas::ran_none))]
 fn run_command(alloc: Global, network: &mut Network, command: &Command) -> Result<(), NetStop>
     requires planned { IsPlanned network.old.plan command.now }
     ensures plan { network.new.plan ≡ network.old.plan }
     ensures ran { GivesNetwork result network.new (ran network.old.plan (seen network.old) network.old.trace (made_by network.old.plan (seen network.old) command.now)) }
 {
     match command {
-        Command::One(event) => apply(alloc, network, event),
+        Command::One(event) => network.apply(alloc, event),
         Command::Settle(count) => run_deliveries(alloc, network, *count),
         Command::Flow(count) => run_arrivals(alloc, network, *count),
         Command::Ticks(count) => run_ticks(alloc, network, *count),
@@ -70,7 +62,7 @@ fn run_deliveries(alloc: Global, network: &mut Network, count: u32) -> Result<()
 {
     for _turn in 0..count {
         match network.next_delivery() {
-            Some(event) => apply(alloc, network, &event)?,
+            Some(event) => network.apply(alloc, &event)?,
             None => return Ok(()),
         }
     }
@@ -85,7 +77,7 @@ fn run_arrivals(alloc: Global, network: &mut Network, count: u32) -> Result<(), 
 {
     for _arrival in 0..count {
         match network.next_arrival() {
-            Some(event) => apply(alloc, network, &event)?,
+            Some(event) => network.apply(alloc, &event)?,
             None => return Ok(()),
         }
     }
@@ -93,23 +85,13 @@ fn run_arrivals(alloc: Global, network: &mut Network, count: u32) -> Result<(), 
 }
 
 // Does so many ticks.
-#[tactic(auto, using(crate::proofs::MadeLemmas::tick_steps))]
+#[tactic(auto, using(crate::proofs::MadeLemmas::ticks_end))]
 fn run_ticks(alloc: Global, network: &mut Network, count: u32) -> Result<(), NetStop>
     ensures plan { network.new.plan ≡ network.old.plan }
     ensures ran { GivesNetwork result network.new (ran network.old.plan (seen network.old) network.old.trace (ticks count)) }
 {
     for _done in 0..count {
-        apply(alloc, network, &Event::Tick)?;
+        network.apply(alloc, &Event::Tick)?;
     }
     Ok(())
-}
-
-// Does an event.
-#[tactic(auto, using(psn_net::proofs::RunLemmas::ran_one, psn_net::proofs::RunLemmas::ran_none))]
-fn apply(alloc: Global, network: &mut Network, event: &Event) -> Result<(), NetStop>
-    requires planned { IsEventOf network.old.plan event.now }
-    ensures plan { network.new.plan ≡ network.old.plan }
-    ensures ran { GivesNetwork result network.new (ran network.old.plan (seen network.old) network.old.trace (event.now ∷ [])) }
-{
-    network.apply(alloc, event)
 }

@@ -13,7 +13,14 @@ use vplsnet::{FileShelf, Finish, Outcome, StdSink};
 /// Runs the program over the system's files and standard output. Where it is not done, it tells on standard error
 /// how it ended. Its status is that of the outcome.
 fn main(rt: HostRuntime) -> ExitCode {
-    let finish = finish_of(&rt);
+    let finish = match words_of(&rt) {
+        Ok(words) => {
+            let mut shelf = FileShelf::new(rt.alloc(), &rt);
+            let mut sink = StdSink::new(io::writer(&rt));
+            run(rt.alloc(), words.as_slice(), &mut shelf, &mut sink)
+        }
+        Err(outcome) => Finish::without_run(outcome),
+    };
     if !matches!(finish.outcome, Outcome::Done) {
         // Where standard error takes nothing, the status still tells.
         let _ = tell(&rt, &finish.outcome);
@@ -37,21 +44,19 @@ fn tell(rt: &HostRuntime, outcome: &Outcome) -> io::Result<()>
     rt.stderr().write_all(line.as_slice())
 }
 
-// Runs the words of the command line, without the program's own name.
-fn finish_of(rt: &HostRuntime) -> Finish {
+// The words of the command line, without the program's own name, or how a call ends without them.
+fn words_of(rt: &HostRuntime) -> Result<Vec<String>, Outcome> {
     let args = match env::args(rt) {
         Ok(args) => args,
-        Err(error) => return Finish::without_run(unread_words(&error)),
+        Err(error) => return Err(unread_words(&error)),
     };
     let mut words = Vec::new(rt.alloc());
     for word in args.skip(1) {
         if words.push(word).is_err() {
-            return Finish::without_run(Outcome::NoMemory);
+            return Err(Outcome::NoMemory);
         }
     }
-    let mut shelf = FileShelf::new(rt.alloc(), rt);
-    let mut sink = StdSink::new(io::writer(rt));
-    run(rt.alloc(), words.as_slice(), &mut shelf, &mut sink)
+    Ok(words)
 }
 
 // How a call ends whose words could not be read: words that are no UTF-8 are a usage.

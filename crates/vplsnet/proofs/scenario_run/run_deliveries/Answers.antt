@@ -1,9 +1,20 @@
-use Rattle.std.proofs.Common.{◌∙◌}
-use Rattle.vplsnet.proofs.MadeLemmas.{delivery_done}
+use Rattle.std.proofs.Common.{◌∙◌, subst}
+use Rattle.std.proofs.lemmas.Result.{err_from_is_err_and}
+use Rattle.psn_net.specs.Runs.{Ended, RunHalts}
+use Rattle.vplsnet.proofs.MadeLemmas.{delivery_done, delivery_stopped}
 use Rattle.vplsnet.proofs.scenario_run.run_deliveries.Goals as goal
 
 pub loop-turn-preserved : goal.loop-turn-preserved
 loop-turn-preserved c = record {
   plan = c.in_ok-apply-in-Some.ensures.plan ∙ c.loop-turn.invariant.plan;
-  ran = delivery_done _ _ c.apply.new.network _ _ c.in-Some.event c.loop-turn.invariant.plan c.loop-turn-test.true c.in-Some.ensures.next c.in_ok-apply-in-Some.ensures.ran ∙ c.loop-turn.invariant.ran;
+  ran = delivery_done _ _ c.apply.new.self _ _ c.in-Some.event c.loop-turn.invariant.plan c.loop-turn-test.true c.in-Some.ensures.next
+      c.in_ok-apply-in-Some.ensures.within c.in_ok-apply-in-Some.ensures.state c.in_ok-apply-in-Some.ensures.told ∙ c.loop-turn.invariant.ran;
 }
+
+pub returns-in_err-apply-in-Some-clause-ran : goal.returns-in_err-apply-in-Some-clause-ran
+returns-in_err-apply-in-Some-clause-ran c =
+    let p = err_from_is_err_and c.from_residual.result c.from_residual.ensures.1 in
+    let stop = c.in_err-apply-in-Some.field-0.0 in
+    rw (p.1, p.2) (subst (λ (e : Ended). RunHalts stop c.apply.new.self e) c.loop-turn.invariant.ran
+    (delivery_stopped c.args.network.now.plan c.loop-turn.network c.apply.new.self stop c.args.count c.loop-turn._turn c.in-Some.event c.loop-turn.invariant.plan c.loop-turn-test.true c.in-Some.ensures.next
+    c.in_err-apply-in-Some.ensures.stops))
