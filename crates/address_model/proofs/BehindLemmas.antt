@@ -7,47 +7,34 @@ use Rattle.net_base.specs.declared.plan.wire_plan.WirePlan.{WirePlan}
 use Rattle.net_base.specs.declared.plan.places.CircuitId.{CircuitId}
 use Rattle.net_base.specs.declared.plan.places.ServiceId.{ServiceId}
 use Rattle.net_base.specs.plan.Accepted.{IsChecked}
-use Rattle.net_base.specs.plan.Paths.{is_first, is_last, joins}
+use Rattle.net_base.specs.plan.Paths.{is_first, is_last}
 use Rattle.net_base.specs.plan.Places.{is_mesh_class}
 use Rattle.net_base.specs.plan.Roles.{is_spoke_edge, is_spoke_from, is_wire_of, wire_ends_at}
-use Rattle.net_base.proofs.PathLemmas.{joins_turned}
 use Rattle.hvpls_spokes.specs.Port.{wire_port}
 use Rattle.edge_model.proofs.LocalLemmas.{and_left, and_right}
 use Rattle.network_model.specs.Calm.{carries, is_calm, is_live_spoke}
 use Rattle.network_model.specs.Reach.{far_of, home_of, is_home, reach}
 use Rattle.network_model.specs.State.{NetworkState}
-use Rattle.flood_model.specs.Due.{has_short_paths}
-use Rattle.flood_model.proofs.DueLemmas.{carries_by, forwards}
 use Rattle.flood_model.proofs.LinkLemmas.{IsLink, link_at}
 use Rattle.flood_model.proofs.MeshLemmas.{far_core, mesh_near}
-use Rattle.flood_model.proofs.WirePeerLemmas.{far_is, has_two}
 use Rattle.address_model.proofs.SpokeHomeLemmas.{IsOfService, home_is, live_once, reach_far, reach_mesh, reach_near}
-use Rattle.address_model.proofs.WireEdgeLemmas.{AreSides, HasMeshPeer, IsFar, IsNear, both, mesh_peer, near_spoke, never, sides_ended, sides_joined, starts_spoke}
+use Rattle.flood_model.proofs.WireEdgeLemmas.{AreSides, HasMeshPeer, IsFar, IsNear, both, mesh_peer, near_spoke, never, sides_ended, sides_far, starts_spoke, far_of_far, far_of_near}
 
--- ---- a copy that is sent on by a wire, of which both ends forward
+-- ---- a copy that is sent on by a wire that carries frames
 
 module _ (plan : Plan) (calm : NetworkState) (service : ServiceId) (circuit : CircuitId) (site : IsOfService plan service circuit) (checked : IsChecked plan)
-    (short : has_short_paths plan ≡ true) (calmed : is_calm plan calm service ≡ true)
-    (k : ℕ) (w : WirePlan) (is : slice_get plan.wires k ≡ Some w) (ours : is_wire_of service w ≡ true) (me peer : ℕ) (joined : joins me peer w.path ≡ true)
-    (here : forwards plan calm me k ≡ true) (there : forwards plan calm peer k ≡ true) where
+    (calmed : is_calm plan calm service ≡ true)
+    (k : ℕ) (w : WirePlan) (is : slice_get plan.wires k ≡ Some w) (ours : is_wire_of service w ≡ true) (me peer : ℕ) (ends_here : wire_ends_at service me w ≡ true)
+    (leads : far_of me w.path ≡ Some peer) (carried : carries plan calm k w ≡ true) where
   -- the edge of the circuit
   abbrev circuit_edge : ℕ
   circuit_edge = site.row.edge.0
 
   link : IsLink plan w
-  link = link_at plan k w checked short is
+  link = link_at plan k w checked is
 
   sides : AreSides link.near.0 link.far.0 me peer
-  sides = sides_joined plan w link me peer joined
-
-  carried : carries plan calm k w ≡ true
-  carried = carries_by plan calm k w link ∙ by sides where
-    at : (m n : ℕ) → m ≡ n → forwards plan calm m k ≡ true → forwards plan calm n k ≡ true
-    at m n same sends = subst (λ e. forwards plan calm e k ≡ true) same sends
-
-    by : AreSides link.near.0 link.far.0 me peer → (forwards plan calm link.near.0 k && forwards plan calm link.far.0 k) && true ≡ true
-    by (IsNear near far) = both _ true (both _ _ (at me link.near.0 near here) (at peer link.far.0 far there)) refl
-    by (IsFar far near) = both _ true (both _ _ (at peer link.near.0 near there) (at me link.far.0 far here)) refl
+  sides = sides_far plan service w link me peer ends_here leads
 
   live : is_mesh_class w.class ≡ false → is_live_spoke plan calm service link.near.0 k w ≡ true
   live spoke = both (is_spoke_from service link.near.0 w) (carries plan calm k w) (starts_spoke plan service w link ours spoke) carried
@@ -59,11 +46,15 @@ module _ (plan : Plan) (calm : NetworkState) (service : ServiceId) (circuit : Ci
       → reach plan calm service peer (wire_port k w) circuit ≡ true
   reaches_on by_mesh from_spoke to_spoke = elim (cases_Bool (is_mesh_class w.class)) [
     | inl mesh ↦
-        (let far : far_of peer w.path ≡ Some me = far_is w.path peer me (has_two plan (record { 0 = k }) w short is) (sym (joins_turned w.path me peer) ∙ joined) in
+        (let far : far_of peer w.path ≡ Some me = turned sides in
         reach_mesh plan calm service circuit site peer k me w is mesh far ∙ by_mesh mesh)
     | inr spoke ↦ by spoke sides
   ]
     where
+      turned : AreSides link.near.0 link.far.0 me peer → far_of peer w.path ≡ Some me
+      turned (IsNear near far) = subst (λ e. far_of e w.path ≡ Some me) (sym far) (far_of_far plan w link ∙ ap (λ (e : ℕ). Some e) (sym near))
+      turned (IsFar far near) = subst (λ e. far_of e w.path ≡ Some me) (sym near) (far_of_near plan w link ∙ ap (λ (e : ℕ). Some e) (sym far))
+
       by : is_mesh_class w.class ≡ false → AreSides link.near.0 link.far.0 me peer → reach plan calm service peer (wire_port k w) circuit ≡ true
       by spoke (IsNear near far) = subst (λ e. reach plan calm service e (wire_port k w) circuit ≡ true) (sym far)
           (reach_far plan calm service circuit site k w link is spoke
@@ -95,7 +86,7 @@ module _ (plan : Plan) (calm : NetworkState) (service : ServiceId) (circuit : Ci
       (λ spoke_here far. apart far)
     where
       mesh_end : HasMeshPeer plan service v me
-      mesh_end = mesh_peer plan service j v me checked short came_is came_mesh ends
+      mesh_end = mesh_peer plan service j v me checked came_is came_mesh ends
 
       beside : nat_eq circuit_edge mesh_end.other || (is_spoke_edge plan service circuit_edge && is_home mesh_end.other (home_of plan calm service circuit_edge)) ≡ true
       beside = sym (reach_mesh plan calm service circuit site me j mesh_end.other v came_is came_mesh mesh_end.far) ∙ reached
@@ -140,7 +131,7 @@ module _ (plan : Plan) (calm : NetworkState) (service : ServiceId) (circuit : Ci
   ]
     where
       came : IsLink plan v
-      came = link_at plan j v checked short came_is
+      came = link_at plan j v checked came_is
 
       came_ours : is_wire_of service v ≡ true
       came_ours = and_left (is_wire_of service v) (is_first me v.path || is_last me v.path) ends
@@ -158,14 +149,14 @@ module _ (plan : Plan) (calm : NetworkState) (service : ServiceId) (circuit : Ci
       core_by_mesh mesh = by sides where
         by : AreSides link.near.0 link.far.0 me peer → is_spoke_edge plan service me ≡ false
         by (IsNear near far) =
-            ap (is_spoke_edge plan service) near ∙ mesh_near plan service k w link checked short is (both (is_wire_of service w) (is_mesh_class w.class) ours mesh)
-        by (IsFar far near) = ap (is_spoke_edge plan service) far ∙ far_core plan service k w link checked short is ours
+            ap (is_spoke_edge plan service) near ∙ mesh_near plan service k w link checked is (both (is_wire_of service w) (is_mesh_class w.class) ours mesh)
+        by (IsFar far near) = ap (is_spoke_edge plan service) far ∙ far_core plan service k w link checked is ours
 
       at_near : me ≡ came.near.0 → reach plan calm service peer (wire_port k w) circuit ≡ true
       at_near here = reaches_on
           (λ mesh. never (is_spoke_edge plan service me) starts (core_by_mesh mesh))
           (λ spoke near. twice me near here (live spoke) came_live)
-          (λ spoke far. never (is_spoke_edge plan service me) starts (ap (is_spoke_edge plan service) far ∙ far_core plan service k w link checked short is ours))
+          (λ spoke far. never (is_spoke_edge plan service me) starts (ap (is_spoke_edge plan service) far ∙ far_core plan service k w link checked is ours))
         where
           starts : is_spoke_edge plan service me ≡ true
           starts = ap (is_spoke_edge plan service) here ∙ near_spoke plan service j v came came_is came_ours came_spoke
@@ -182,7 +173,7 @@ module _ (plan : Plan) (calm : NetworkState) (service : ServiceId) (circuit : Ci
           (λ spoke far. apart spoke)
         where
           core : is_spoke_edge plan service me ≡ false
-          core = ap (is_spoke_edge plan service) last ∙ far_core plan service j v came checked short came_is came_ours
+          core = ap (is_spoke_edge plan service) last ∙ far_core plan service j v came checked came_is came_ours
 
           came_there : is_live_spoke plan calm service came.near.0 j v && nat_eq circuit_edge came.near.0 ≡ true
           came_there =

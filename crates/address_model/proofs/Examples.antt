@@ -156,6 +156,6 @@ enters : EntersForSite triangle (network_after triangle (events_of comes_up ++ e
 enters = enters_of triangle (network_after triangle (events_of comes_up ++ events_of floods)) one_service site (circuit 0) answer answer later (reached (comes_up ++ floods)) is_flooded refl on refl refl receives refl spared over
 
 -- so the answer reaches the station's site once
-reaches : ReachesSite 3 (circuit 2) (next_origin (network_after triangle (events_of comes_up ++ events_of floods))) (run triangle (events_of moments)).entries
+reaches : ReachesSite 12 (circuit 2) (next_origin (network_after triangle (events_of comes_up ++ events_of floods))) (run triangle (events_of moments)).entries
 unfolding enters enters_of
-reaches = runs_reach_known triangle (events_of moments) (is_run (events_of moments) (omega arith)) refl (events_of comes_up) (events_of floods) (circuit 0) answer later [] one_service site refl one_site starts refl enters
+reaches = runs_reach_known triangle (events_of moments) (is_run (events_of moments) (omega arith)) (events_of comes_up) (events_of floods) (circuit 0) answer later [] one_service site refl one_site starts refl enters

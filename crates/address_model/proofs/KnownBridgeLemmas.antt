@@ -25,7 +25,7 @@ use Rattle.network_model.specs.Absorb.{taken_all}
 use Rattle.network_model.specs.Calm.{is_calm}
 use Rattle.network_model.specs.State.{NetworkState}
 use Rattle.flood_model.specs.Copy.{IsStillEdge}
-use Rattle.flood_model.specs.Due.{has_short_paths, serves_here, wires_due}
+use Rattle.flood_model.specs.Due.{serves_here, wires_due}
 use Rattle.flood_model.proofs.BridgeLemmas.{circuit_targets, circuits_serve, copies_serve, goes_by, goes_forward, port_serves, wire_targets, wires_serve}
 use Rattle.flood_model.proofs.CountLemmas.{meets}
 use Rattle.flood_model.proofs.LawLemmas.{entry_at}
@@ -57,7 +57,7 @@ one_at_place b n is one = rw (is, one) refl
 
 -- a bridge has heard a frame by a port, and its flood would go by those ports that pass a test
 module _ (plan : Plan) (came : Arrival) (calm : NetworkState) (service : ServiceId) (frame : List ℕ) (edge : EdgeState) (arrival : ℕ) (others : ℕ → Bool) (from : Option ℕ)
-    (checked : IsChecked plan) (short : has_short_paths plan ≡ true) (calmed : is_calm plan calm service ≡ true) (still : IsStillEdge (calm.edges edge.me.0) edge)
+    (checked : IsChecked plan) (calmed : is_calm plan calm service ≡ true) (still : IsStillEdge (calm.edges edge.me.0) edge)
     (floods : (p : ℕ) (x : Port) → slice_get (ports_of plan service edge.me) p ≡ Some x
     → is_target (ports_of plan service edge.me) (port_forwards plan (hearing service frame arrival edge) (ports_of plan service edge.me)) arrival None p ≡ goes_by plan (hearing service frame arrival edge) others from x) where
   abbrev ports : List Port
@@ -71,7 +71,7 @@ module _ (plan : Plan) (came : Arrival) (calm : NetworkState) (service : Service
 
   -- what its copies serve
   abbrev meet : CircuitId → ℕ
-  meet circuit = meets plan calm service circuit (forwarded plan taken_all came service frame (Some arrival) (beginning edge [])).effects
+  meet circuit = meets plan calm service circuit edge.me (forwarded plan taken_all came service frame (Some arrival) (beginning edge [])).effects
 
   -- and what those of a flood would
   abbrev flood : CircuitId → ℕ
@@ -93,7 +93,7 @@ module _ (plan : Plan) (came : Arrival) (calm : NetworkState) (service : Service
         arith,
         tally-append all (circuit_ports 0 plan.circuits service edge.me) (wire_ports 0 plan.wires service edge.me),
         circuits_serve plan came calm service circuit frame edge arrival others from,
-        wires_serve plan came calm service circuit frame edge arrival others from short still,
+        wires_serve plan came calm service circuit frame edge arrival others from checked still,
       )
 
   -- all ports together serve a site once
@@ -107,9 +107,9 @@ module _ (plan : Plan) (came : Arrival) (calm : NetworkState) (service : Service
         arith,
         tally-append all (circuit_ports 0 plan.circuits service edge.me) (wire_ports 0 plan.wires service edge.me),
         circuits_serve plan came calm service circuit frame edge arrival (λ c. true) None,
-        wires_serve plan came calm service circuit frame edge arrival (λ c. true) None short still,
+        wires_serve plan came calm service circuit frame edge arrival (λ c. true) None checked still,
         here,
-        entry_at plan calm service circuit site.row edge.me.0 checked short calmed site.is site.of_service within port,
+        entry_at plan calm service circuit site.row edge.me.0 checked calmed site.is site.of_service within port,
         once (nat_eq site.row.edge.0 edge.me.0),
       )
     where
@@ -173,7 +173,7 @@ module _ (plan : Plan) (came : Arrival) (calm : NetworkState) (service : Service
   -- a port that leads to the site serves it
   lead_serves : (target : CircuitId) → IsSiteOf plan calm service target → (q : ℕ) (lead : LeadsToSite plan calm service target edge.me q) → ServesBy plan came calm service target frame after lead.port
   unfolding with_addresses
-  lead_serves target site q lead = leading_serves plan came calm service target frame after checked short calmed site (heard_still service frame arrival (calm.edges edge.me.0) edge still) q lead
+  lead_serves target site q lead = leading_serves plan came calm service target frame after checked calmed site (heard_still service frame arrival (calm.edges edge.me.0) edge still) q lead
 
   -- that of any bridge of which each known port leads to the site
   pub bridge_serves : (target : CircuitId) → IsSiteOf plan calm service target → edge.me.0 < length plan.edges → has_port plan service edge.me.0 ≡ true
@@ -192,40 +192,40 @@ module _ (plan : Plan) (came : Arrival) (calm : NetworkState) (service : Service
 
 -- a frame that came by a circuit
 pub frame_serves : (plan : Plan) (came : Arrival) (calm : NetworkState) (edge : EdgeState) (at target : CircuitId) (frame : List ℕ) (row : CircuitPlan)
-    → IsChecked plan → has_short_paths plan ≡ true → is_calm plan calm row.service ≡ true → circuit_row plan at ≡ Some row → edge.me ≡ row.edge → IsStillEdge (calm.edges row.edge.0) edge
+    → IsChecked plan → is_calm plan calm row.service ≡ true → circuit_row plan at ≡ Some row → edge.me ≡ row.edge → IsStillEdge (calm.edges row.edge.0) edge
     → IsSiteOf plan calm row.service target → row.edge.0 < length plan.edges → has_port plan row.service row.edge.0 ≡ true
     → ((arrival q : ℕ) → port_at plan edge at row ≡ Some arrival → known_port (addresses_of (hearing row.service frame arrival edge) row.service) (destination frame) ≡ Some q → LeadsToSite plan calm row.service target row.edge q)
     → ServesAsFlood target (λ circuit. cond (serves_here plan row.service edge circuit && not (nat_eq circuit.0 at.0)) 1 0 + wires_due plan calm row.service circuit row.edge.0 None)
-    (λ circuit. meets plan calm row.service circuit (forwarded plan taken_all came row.service frame (port_at plan edge at row) (beginning edge [])).effects)
-frame_serves plan came calm edge at target frame row checked short calmed is me still site within port leads =
+    (λ circuit. meets plan calm row.service circuit edge.me (forwarded plan taken_all came row.service frame (port_at plan edge at row) (beginning edge [])).effects)
+frame_serves plan came calm edge at target frame row checked calmed is me still site within port leads =
     let ports : List Port = ports_of plan row.service edge.me in
     let serve : is_circuit_at row.service edge.me.0 row ≡ true = rw (eq-eqb row.service.0 row.service.0 refl, eq-eqb row.edge.0 edge.me.0 (ap (λ (e : EdgeId). e.0) (sym me))) refl in
     let (arrival, found) = finds_port at ports (has_circuit_port plan row.service edge.me at.0 row is serve) in
     let from : LeadsTo ports arrival at.0 = found_port at ports arrival found in
     let after : EdgeState = hearing row.service frame arrival edge in
-    let served = bridge_serves plan came calm row.service frame edge arrival (λ c. not (nat_eq c at.0)) None checked short calmed (subst (λ (e : EdgeId). IsStillEdge (calm.edges e.0) edge) (sym me) still)
+    let served = bridge_serves plan came calm row.service frame edge arrival (λ c. not (nat_eq c at.0)) None checked calmed (subst (λ (e : EdgeId). IsStillEdge (calm.edges e.0) edge) (sym me) still)
     (λ p x to. circuit_targets plan row.service edge.me after None arrival at.0 p x refl from to) target site
     (subst (λ (e : EdgeId). e.0 < length plan.edges) (sym me) within) (ap (λ (e : EdgeId). has_port plan row.service e.0) me ∙ port)
     (λ q known. subst (λ (e : EdgeId). LeadsToSite plan calm row.service target e q) (sym me) (leads arrival q found known)) in
     subst (λ (e : EdgeId). ServesAsFlood target (λ circuit. cond (serves_here plan row.service edge circuit && not (nat_eq circuit.0 at.0)) 1 0 + wires_due plan calm row.service circuit e.0 None)
-    (λ circuit. meets plan calm row.service circuit (forwarded plan taken_all came row.service frame (port_at plan edge at row) (beginning edge [])).effects)) me
+    (λ circuit. meets plan calm row.service circuit edge.me (forwarded plan taken_all came row.service frame (port_at plan edge at row) (beginning edge [])).effects)) me
     (subst (λ (o : Option ℕ). ServesAsFlood target (λ circuit. cond (serves_here plan row.service edge circuit && not (nat_eq circuit.0 at.0)) 1 0 + wires_due plan calm row.service circuit edge.me.0 None)
-    (λ circuit. meets plan calm row.service circuit (forwarded plan taken_all came row.service frame o (beginning edge [])).effects)) (sym found) served)
+    (λ circuit. meets plan calm row.service circuit edge.me (forwarded plan taken_all came row.service frame o (beginning edge [])).effects)) (sym found) served)
 
 -- a frame that came by a wire
 pub packet_serves : (plan : Plan) (came : Arrival) (calm : NetworkState) (edge : EdgeState) (service : ServiceId) (wire : WireId) (w : WirePlan) (target : CircuitId) (frame : List ℕ)
-    → IsChecked plan → has_short_paths plan ≡ true → is_calm plan calm service ≡ true → wire_row plan wire ≡ Some w → wire_ends_at service edge.me.0 w ≡ true → IsStillEdge (calm.edges edge.me.0) edge
+    → IsChecked plan → is_calm plan calm service ≡ true → wire_row plan wire ≡ Some w → wire_ends_at service edge.me.0 w ≡ true → IsStillEdge (calm.edges edge.me.0) edge
     → IsSiteOf plan calm service target → edge.me.0 < length plan.edges → has_port plan service edge.me.0 ≡ true
     → ((arrival q : ℕ) → position (is_wire_port wire) (ports_of plan service edge.me) ≡ Some arrival → known_port (addresses_of (hearing service frame arrival edge) service) (destination frame) ≡ Some q
     → LeadsToSite plan calm service target edge.me q)
     → ServesAsFlood target (λ circuit. cond (serves_here plan service edge circuit && true) 1 0 + wires_due plan calm service circuit edge.me.0 (Some wire.0))
-    (λ circuit. meets plan calm service circuit (forwarded plan taken_all came service frame (position (is_wire_port wire) (ports_of plan service edge.me)) (beginning edge [])).effects)
-packet_serves plan came calm edge service wire w target frame checked short calmed is ends still site within port leads =
+    (λ circuit. meets plan calm service circuit edge.me (forwarded plan taken_all came service frame (position (is_wire_port wire) (ports_of plan service edge.me)) (beginning edge [])).effects)
+packet_serves plan came calm edge service wire w target frame checked calmed is ends still site within port leads =
     let ports : List Port = ports_of plan service edge.me in
     let (arrival, found) = finds_wire_port wire ports (has_wire_port plan service edge.me wire.0 w is ends) in
     let from : LeadsToWire ports arrival wire.0 = found_wire_port wire ports arrival found in
     let after : EdgeState = hearing service frame arrival edge in
-    let served = bridge_serves plan came calm service frame edge arrival (λ c. true) (Some wire.0) checked short calmed still
+    let served = bridge_serves plan came calm service frame edge arrival (λ c. true) (Some wire.0) checked calmed still
     (λ p x to. wire_targets plan service edge.me after None arrival wire w p x refl is from to) target site within port (λ q known. leads arrival q found known) in
     subst (λ (o : Option ℕ). ServesAsFlood target (λ circuit. cond (serves_here plan service edge circuit && true) 1 0 + wires_due plan calm service circuit edge.me.0 (Some wire.0))
-    (λ circuit. meets plan calm service circuit (forwarded plan taken_all came service frame o (beginning edge [])).effects)) (sym found) served
+    (λ circuit. meets plan calm service circuit edge.me (forwarded plan taken_all came service frame o (beginning edge [])).effects)) (sym found) served

@@ -20,7 +20,6 @@ use Rattle.flight_model.specs.Laws.{AreSettled}
 use Rattle.flight_model.proofs.RuledNetworkLemmas.{IsRuledNetwork}
 use Rattle.packet_model.proofs.ArriveLemmas.{IsSized}
 use Rattle.flood_model.specs.Copy.{IsStill}
-use Rattle.flood_model.specs.Due.{has_short_paths}
 use Rattle.flood_model.proofs.StartLemmas.{owed_to}
 use Rattle.address_model.specs.Points.{Points}
 use Rattle.address_model.specs.Sites.{Sites}
@@ -33,12 +32,12 @@ pub record Starts (plan : Plan) (calm network : NetworkState) (service : Service
   pub entered : stepped.state.entered ≡ network.entered + 1
 
 pub starts : (plan : Plan) (calm network : NetworkState) (site : Sites) (at : CircuitId) (octets frame : List ℕ) (service : ServiceId) (found : Option CircuitPlan)
-    → IsChecked plan → has_short_paths plan ≡ true → is_calm plan calm service ≡ true → ((a b : ℕ) → are_joined_by plan service a b ≡ true → AreSettled plan calm a b) → IsSized (mtu_of plan service) frame
+    → IsChecked plan → is_calm plan calm service ≡ true → ((a b : ℕ) → are_joined_by plan service a b ≡ true → AreSettled plan calm a b) → IsSized (mtu_of plan service) frame
     → IsRuledNetwork plan network → IsStill calm network → circuit_row plan at ≡ found → option_map (λ (row : CircuitPlan). row.service) found ≡ Some service → is_row_on network at found ≡ true → inner_at plan at octets ≡ Ok frame
     → is_site plan calm service (site (destination_of frame)) ≡ true → Points plan (frame_event plan at octets found network).state service site → of_origin (next_origin network) network.under_way ≡ []
     → Starts plan calm network service (site (destination_of frame)) frame at (frame_event plan at octets found network)
-starts plan calm network site at octets frame service None checked short calmed settled sized ruled still is of_service on formed receives points none = absurd (cc (of_service))
-starts plan calm network site at octets frame service (Some row) checked short calmed settled sized ruled still is of_service on formed receives points none =
+starts plan calm network site at octets frame service None checked calmed settled sized ruled still is of_service on formed receives points none = absurd (cc (of_service))
+starts plan calm network site at octets frame service (Some row) checked calmed settled sized ruled still is of_service on formed receives points none =
     let same : row.service ≡ service = cc (of_service) in
     by same calmed settled sized receives points
   where
@@ -49,9 +48,9 @@ starts plan calm network site at octets frame service (Some row) checked short c
         → is_site plan calm s (site (destination_of frame)) ≡ true → Points plan (frame_event plan at octets (Some row) network).state s site
         → Starts plan calm network s (site (destination_of frame)) frame at (frame_event plan at octets (Some row) network)) same
         (λ calm_here settled_here sized_here receives_here points_here. record {
-          serves = entering_serves_site plan calm network site at octets frame row checked short calm_here settled_here sized_here ruled still is on formed receives_here points_here none;
+          serves = entering_serves_site plan calm network site at octets frame row checked calm_here settled_here sized_here ruled still is on formed receives_here points_here none;
           entered =
               ap (λ (stepped : Stepped). stepped.state.entered)
-              (enters_with plan calm network site at octets frame row checked short calm_here settled_here sized_here ruled still is on formed receives_here points_here none)
+              (enters_with plan calm network site at octets frame row checked calm_here settled_here sized_here ruled still is on formed receives_here points_here none)
               ∙ entering_counts at octets row (frame_work plan network at octets row) network;
         })

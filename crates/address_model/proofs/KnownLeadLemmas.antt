@@ -31,10 +31,10 @@ use Rattle.network_model.specs.Reach.{ahead_spoke, ahead_wire, at_edge_of, behin
 use Rattle.network_model.specs.State.{NetworkState}
 use Rattle.flight_model.proofs.SettleLemmas.{apart_turned}
 use Rattle.flood_model.specs.Copy.{IsStillEdge}
-use Rattle.flood_model.specs.Due.{due_towards, has_short_paths}
+use Rattle.flood_model.specs.Due.{due_towards}
 use Rattle.flood_model.proofs.BridgeLemmas.{goes_by, port_serves}
 use Rattle.flood_model.proofs.CopyLemmas.{still_forwards}
-use Rattle.flood_model.proofs.DueLemmas.{carries_by, forwards}
+use Rattle.flood_model.proofs.DueLemmas.{carries_by, forwards, stitches}
 use Rattle.flood_model.proofs.LinkLemmas.{IsLink, link_at}
 use Rattle.flood_model.proofs.MeshLemmas.{mesh_carries}
 use Rattle.flood_model.proofs.SiteLemmas.{IsSiteOf, still_on}
@@ -84,15 +84,19 @@ pub record ServesBy (plan : Plan) (came : Arrival) (calm : NetworkState) (servic
 both : (a : Bool) → a ≡ true → a && true ≡ true
 both a is = rw is refl
 
--- there is another end of a path of two edges
+-- the other terminal edge of a wire
+far_link : (plan : Plan) (row : WirePlan) (link : IsLink plan row) (edge : ℕ) → far_of edge row.path ≡ cond (nat_eq edge link.near.0) (Some link.far.0) (Some link.near.0)
+far_link plan row link edge = rw (link.path, link.ends) refl
+
+-- there is another end
 far_some : (b : Bool) (m n : ℕ) → (far : ℕ) × (cond b (Some m) (Some n) ≡ Some far)
 far_some true m n = (m, refl)
 far_some false m n = (n, refl)
 
 -- what is behind a spoke at one end is ahead of what arrives at the other one
-behind_ahead : (plan : Plan) (service : ServiceId) (circuit : CircuitId) (edge : ℕ) (near last : EdgeId) (far : ℕ) → nat_eq near.0 last.0 ≡ false → far_of edge (near ∷ last ∷ []) ≡ Some far
-    → behind_spoke plan service edge (near ∷ last ∷ []) circuit ≡ ahead_spoke plan service far (near ∷ last ∷ []) circuit
-behind_ahead plan service circuit edge near last far apart is = by (nat_eq edge near.0) refl is where
+behind_ahead : (plan : Plan) (service : ServiceId) (circuit : CircuitId) (edge : ℕ) (near last : EdgeId) (rest : List EdgeId) (far : ℕ) → nat_eq near.0 last.0 ≡ false → cond (nat_eq edge near.0) (Some last.0) (Some near.0) ≡ Some far
+    → behind_spoke plan service edge (near ∷ rest) circuit ≡ ahead_spoke plan service far (near ∷ rest) circuit
+behind_ahead plan service circuit edge near last rest far apart is = by (nat_eq edge near.0) refl is where
   by : (b : Bool) → nat_eq edge near.0 ≡ b → cond b (Some last.0) (Some near.0) ≡ Some far
       → cond b (elsewhere_of plan service edge circuit) (at_edge_of plan service near.0 circuit) ≡ cond (nat_eq far near.0) (at_edge_of plan service far circuit) (elsewhere_of plan service near.0 circuit)
   by true here is =
@@ -104,7 +108,7 @@ behind_ahead plan service circuit edge near last far apart is = by (nat_eq edge 
       rw (eq-eqb far near.0 (sym same)) (ap (λ (n : ℕ). at_edge_of plan service n circuit) same)
 
 module _ (plan : Plan) (came : Arrival) (calm : NetworkState) (service : ServiceId) (circuit : CircuitId) (frame : List ℕ) (edge : EdgeState)
-    (checked : IsChecked plan) (short : has_short_paths plan ≡ true) (calmed : is_calm plan calm service ≡ true)
+    (checked : IsChecked plan) (calmed : is_calm plan calm service ≡ true)
     (site : IsSiteOf plan calm service circuit) (still : IsStillEdge (calm.edges edge.me.0) edge) where
   abbrev Serves : Port → Type 0
   Serves x = ServesBy plan came calm service circuit frame edge x
@@ -126,7 +130,7 @@ module _ (plan : Plan) (came : Arrival) (calm : NetworkState) (service : Service
 
   module _ (wire : WireId) (mesh : Bool) (wired : IsWired plan.wires service edge.me mesh wire.0) where
     link : IsLink plan wired.row
-    link = link_at plan wire.0 wired.row checked short wired.is
+    link = link_at plan wire.0 wired.row checked wired.is
 
     ours : is_wire_of service wired.row ≡ true
     ours = and_left (is_wire_of service wired.row) _ wired.ends
@@ -135,14 +139,14 @@ module _ (plan : Plan) (came : Arrival) (calm : NetworkState) (service : Service
     here_forwards : carries plan calm wire.0 wired.row ≡ true → end_forwards plan edge wire ≡ true
     here_forwards live = still_forwards plan (calm.edges edge.me.0) edge wire still ∙ by (cases_Bool (nat_eq edge.me.0 link.near.0)) where
       ends_forward : forwards plan calm link.near.0 wire.0 && forwards plan calm link.far.0 wire.0 ≡ true
-      ends_forward = and_left (forwards plan calm link.near.0 wire.0 && forwards plan calm link.far.0 wire.0) true (sym (carries_by plan calm wire.0 wired.row link) ∙ live)
+      ends_forward = and_left (forwards plan calm link.near.0 wire.0 && forwards plan calm link.far.0 wire.0) (stitches calm wire.0 link) (sym (carries_by plan calm wire.0 wired.row link) ∙ live)
 
       by : (nat_eq edge.me.0 link.near.0 ≡ true) ⊎ (nat_eq edge.me.0 link.near.0 ≡ false) → end_forwards plan (calm.edges edge.me.0) wire ≡ true
       by (inl near) =
           ap (λ (n : ℕ). end_forwards plan (calm.edges n) wire) (eqb-true edge.me.0 link.near.0 near)
           ∙ and_left (forwards plan calm link.near.0 wire.0) (forwards plan calm link.far.0 wire.0) ends_forward
       by (inr away) =
-          let last : nat_eq edge.me.0 link.far.0 ≡ true = and_right (is_wire_of service wired.row) (nat_eq edge.me.0 link.far.0) (rw (link.path, away) at wired.ends) in
+          let last : nat_eq edge.me.0 link.far.0 ≡ true = and_right (is_wire_of service wired.row) (nat_eq edge.me.0 link.far.0) (rw (link.path, away, link.last edge.me.0) at wired.ends) in
           ap (λ (n : ℕ). end_forwards plan (calm.edges n) wire) (eqb-true edge.me.0 link.far.0 last)
           ∙ and_right (forwards plan calm link.near.0 wire.0) (forwards plan calm link.far.0 wire.0) ends_forward
 
@@ -153,7 +157,7 @@ module _ (plan : Plan) (came : Arrival) (calm : NetworkState) (service : Service
     far : (far : ℕ) × (far_of edge.me.0 wired.row.path ≡ Some far)
     far =
         let (n, is) = far_some (nat_eq edge.me.0 link.near.0) link.far.0 link.near.0 in
-        (n, ap (far_of edge.me.0) link.path ∙ is)
+        (n, far_link plan wired.row link edge.me.0 ∙ is)
 
     awaits_there : (behind : Bool) → behind ≡ true → ((n : ℕ) → far_of edge.me.0 wired.row.path ≡ Some n → ahead_wire plan calm service n wire.0 mesh (Some wired.row) circuit ≡ behind) → due_there ≡ 1
     awaits_there behind is met =
@@ -165,12 +169,12 @@ module _ (plan : Plan) (came : Arrival) (calm : NetworkState) (service : Service
 
   mesh_serves : (wire : WireId) → IsWired plan.wires service edge.me true wire.0 → behind_wire plan calm service edge.me.0 wire.0 true (wire_row plan wire) circuit ≡ true → Serves (port.Mesh wire)
   mesh_serves wire wired reached =
-      let live = mesh_carries plan calm service wire.0 wired.row checked short calmed wired.is (rw (ours wire true wired, wired.class) refl) in
+      let live = mesh_carries plan calm service wire.0 wired.row checked calmed wired.is (rw (ours wire true wired, wired.class) refl) in
       let up : end_forwards plan edge wire ≡ true = here_forwards wire true wired live in
       let behind : beside_far plan calm service (far_of edge.me.0 wired.row.path) circuit ≡ true = ap (λ (r : Option WirePlan). behind_wire plan calm service edge.me.0 wire.0 true r circuit) (sym wired.is) ∙ reached in
       record {
         goes = both (end_forwards plan edge wire) up;
-        serves = end_is_due plan calm service circuit edge wire wired.row short wired.is up
+        serves = end_is_due plan calm service circuit edge wire wired.row checked wired.is up
             ∙ awaits_there wire true wired (beside_far plan calm service (far_of edge.me.0 wired.row.path) circuit) behind
             (λ n there. ap (λ (o : Option ℕ). beside_far plan calm service o circuit) (sym there));
       }
@@ -184,11 +188,11 @@ module _ (plan : Plan) (came : Arrival) (calm : NetworkState) (service : Service
       let l : IsLink plan wired.row = link wire false wired in
       record {
         goes = both (end_forwards plan edge wire) up;
-        serves = end_is_due plan calm service circuit edge wire wired.row short wired.is up
+        serves = end_is_due plan calm service circuit edge wire wired.row checked wired.is up
             ∙ awaits_there wire false wired (is_live plan calm service wire.0 wired.row && behind_spoke plan service edge.me.0 wired.row.path circuit) here
             (λ n there. ap (λ (b : Bool). is_live plan calm service wire.0 wired.row && b)
             (ap (λ (path : List EdgeId). ahead_spoke plan service n path circuit) l.path
-            ∙ (sym (behind_ahead plan service circuit edge.me.0 l.near l.far n l.apart (sym (ap (far_of edge.me.0) l.path) ∙ there))
+            ∙ (sym (behind_ahead plan service circuit edge.me.0 l.near l.far l.rest n l.apart (sym (far_link plan wired.row l edge.me.0) ∙ there))
             ∙ ap (λ (path : List EdgeId). behind_spoke plan service edge.me.0 path circuit) (sym l.path))));
       }
 

@@ -35,7 +35,6 @@ use Rattle.flight_model.proofs.RunLemmas.{run_ordered}
 use Rattle.packet_model.proofs.ArriveLemmas.{IsSized, come_sized}
 use Rattle.packet_model.proofs.RunLemmas.{runs_keep_packet_rule}
 use Rattle.flood_model.specs.Copy.{IsStill}
-use Rattle.flood_model.specs.Due.{has_short_paths}
 use Rattle.flood_model.proofs.CountLemmas.{awaited, due}
 use Rattle.flood_model.proofs.OriginLemmas.{none_of}
 use Rattle.flood_model.proofs.SoFarLemmas.{back_all, front_all}
@@ -53,7 +52,7 @@ use Rattle.address_model.proofs.KnownStillLemmas.{site_still, stretch_still}
 use Rattle.address_model.proofs.KnownWindowLemmas.{PointOn, window_serves_site}
 use Rattle.address_model.proofs.PointsLemmas.{runs_keep_points}
 
-module _ (plan : Plan) (events : List Event) (is_run : IsRun plan events) (short : has_short_paths plan ≡ true) (before during : List Event) (at : CircuitId) (octets : List ℕ) (later after : List Event) (service : ServiceId) (site : Sites)
+module _ (plan : Plan) (events : List Event) (is_run : IsRun plan events) (before during : List Event) (at : CircuitId) (octets : List ℕ) (later after : List Event) (service : ServiceId) (site : Sites)
     (split : events ≡ before ++ (during ++ Frame at octets ∷ (later ++ after))) (one : OneSite plan service site (run plan events).entries) (right : StartsRight plan (network_after plan before) service site)
     (stretch : list_all is_of_stretch during ≡ true) (enters : EntersForSite plan (network_after plan (before ++ during)) service site at octets later) where
   abbrev calm : NetworkState
@@ -121,7 +120,7 @@ module _ (plan : Plan) (events : List Event) (is_run : IsRun plan events) (short
   points : PointOn plan service site entry.state later
   points some rest parts all =
       subst (λ (n : NetworkState). Points plan n service site) there
-      (runs_keep_points plan events is_run short before (during ++ Frame at octets ∷ some) (rest ++ after) service site whole one right each).0
+      (runs_keep_points plan events is_run before (during ++ Frame at octets ∷ some) (rest ++ after) service site whole one right each).0
     where
       there : network_after plan (before ++ (during ++ Frame at octets ∷ some)) ≡ state_after plan entry.state some
       there =
@@ -142,7 +141,7 @@ module _ (plan : Plan) (events : List Event) (is_run : IsRun plan events) (short
   early circuit = apart_before plan origin circuit (empty_network plan) (before ++ during) (omega arith) refl
 
   begins : Starts plan calm network service target frame at (frame_event plan at octets (circuit_row plan at) network)
-  begins = starts plan calm network site at octets frame service (circuit_row plan at) is_run.checked short right.calm settled sized reached.ruled still refl enters.sender enters.on enters.formed on
+  begins = starts plan calm network site at octets frame service (circuit_row plan at) is_run.checked right.calm settled sized reached.ruled still refl enters.sender enters.on enters.formed on
       (points [] later refl refl) (early at).under_way
 
   first : ServesSite plan calm service target frame origin (owed_to at) entry
@@ -159,7 +158,7 @@ module _ (plan : Plan) (events : List Event) (is_run : IsRun plan events) (short
   served : ServesSite plan calm service target frame origin (owed_to at) (record { state = last; entries = entry.entries ++ entries_along plan entry.state later })
   served =
       serves_site_then plan calm service target frame origin (owed_to at) entry (along plan entry.state later) on first
-      (window_serves_site plan calm service site frame origin is_run.checked short right.calm settled sized on entry.state (trace ++ entry.entries) later is_run.types
+      (window_serves_site plan calm service site frame origin is_run.checked right.calm settled sized on entry.state (trace ++ entry.entries) later is_run.types
       (front_all (IsEventOf plan) later after (All-tail (IsEventOf plan) (Frame at octets) (later ++ after) from_frame))
       (step_reached plan network trace (Frame at octets) is_run.checked is_run.types (All-head (IsEventOf plan) (Frame at octets) (later ++ after) from_frame) reached)
       after_entry points enters.spared)
@@ -205,15 +204,15 @@ module _ (plan : Plan) (events : List Event) (is_run : IsRun plan events) (short
       one_at_most true = omega arith
       one_at_most false = omega arith
 
-  within : LeftWithin 3 origin (entries_along plan (empty_network plan) events)
-  within = subst (LeftWithin 3 origin) (sym told)
-      (within-append 3 origin trace ((entry.entries ++ entries_along plan entry.state later) ++ entries_along plan last after) (never_within 3 origin trace (λ circuit. (early circuit).left))
-      (within-append 3 origin (entry.entries ++ entries_along plan entry.state later) (entries_along plan last after) served.serves.within (never_within 3 origin (entries_along plan last after) (λ circuit. (late circuit).left))))
+  within : LeftWithin 12 origin (entries_along plan (empty_network plan) events)
+  within = subst (LeftWithin 12 origin) (sym told)
+      (within-append 12 origin trace ((entry.entries ++ entries_along plan entry.state later) ++ entries_along plan last after) (never_within 12 origin trace (λ circuit. (early circuit).left))
+      (within-append 12 origin (entry.entries ++ entries_along plan entry.state later) (entries_along plan last after) served.serves.within (never_within 12 origin (entries_along plan last after) (λ circuit. (late circuit).left))))
 
-  reaches_site : ReachesSite 3 target origin (entries_along plan (empty_network plan) events)
+  reaches_site : ReachesSite 12 target origin (entries_along plan (empty_network plan) events)
   reaches_site = record { once = once; others = others; within = within }
 
--- a frame to a known station reaches its site once, within three segments
+-- a frame to a known station reaches its site once, within twelve segments
 pub runs_reach_known : RunsReachKnown
-runs_reach_known plan events is_run short before during at octets later after service site split one right stretch enters =
-    reaches_site plan events is_run short before during at octets later after service site split one right stretch enters
+runs_reach_known plan events is_run before during at octets later after service site split one right stretch enters =
+    reaches_site plan events is_run before during at octets later after service site split one right stretch enters

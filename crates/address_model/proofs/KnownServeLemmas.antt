@@ -43,7 +43,7 @@ module _ (plan : Plan) (calm : NetworkState) (service : ServiceId) (target : Cir
       copies = later.serves.copies;
       balance = λ circuit site. omega (arith, times_left-append origin circuit first.entries next.entries, later.serves.balance circuit site);
       none = λ circuit away. omega (arith, times_left-append origin circuit first.entries next.entries, here.serves.none circuit away, later.serves.none circuit away);
-      within = within-append 3 origin first.entries next.entries here.serves.within later.serves.within;
+      within = within-append 12 origin first.entries next.entries here.serves.within later.serves.within;
     };
     same = omega (arith, here.serves.balance target on, here.same, later.same);
     most = λ circuit site. omega (arith, here.serves.balance circuit site, here.most circuit site, later.most circuit site);

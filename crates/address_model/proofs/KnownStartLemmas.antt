@@ -33,12 +33,13 @@ use Rattle.flight_model.specs.Laws.{AreSettled}
 use Rattle.flight_model.proofs.RuledNetworkLemmas.{IsRuledNetwork}
 use Rattle.packet_model.proofs.ArriveLemmas.{IsSized}
 use Rattle.flood_model.specs.Copy.{CarriesCopy, IsStill}
-use Rattle.flood_model.specs.Due.{has_short_paths, serves_here, wires_due}
+use Rattle.flood_model.specs.Due.{serves_here, wires_due}
 use Rattle.flood_model.proofs.CopyLemmas.{copies_carry}
 use Rattle.flood_model.proofs.CountLemmas.{awaited, due, meets}
 use Rattle.flood_model.proofs.HopLemmas.{first_hop}
 use Rattle.flood_model.proofs.LawLemmas.{circuit_port, circuit_within, entry_law}
-use Rattle.flood_model.proofs.ServeLemmas.{Floods, FloodsBy, FloodsNot, IsNear, IsNearCopy, Serves, copies_near, floods, serves_absorb, serves_in}
+use Rattle.flood_model.proofs.ServeLemmas.{Floods, FloodsBy, FloodsNot, IsNearCopy, Serves, copies_near, floods, serves_absorb, serves_in}
+use Rattle.flood_model.specs.Hops.{HasPassed}
 use Rattle.flood_model.proofs.SiteLemmas.{left_within, none_elsewhere, site_of, site_serves}
 use Rattle.flood_model.proofs.StartLemmas.{owed_by, owed_to}
 use Rattle.flood_model.proofs.StillLemmas.{frame_still}
@@ -50,7 +51,7 @@ use Rattle.address_model.proofs.KnownPointLemmas.{entering_leads}
 use Rattle.address_model.proofs.KnownServeLemmas.{ServesSite}
 
 module _ (plan : Plan) (calm network : NetworkState) (site : Sites) (at : CircuitId) (octets frame : List ℕ) (row : CircuitPlan)
-    (checked : IsChecked plan) (short : has_short_paths plan ≡ true) (calmed : is_calm plan calm row.service ≡ true)
+    (checked : IsChecked plan) (calmed : is_calm plan calm row.service ≡ true)
     (settled : (a b : ℕ) → are_joined_by plan row.service a b ≡ true → AreSettled plan calm a b) (sized : IsSized (mtu_of plan row.service) frame)
     (ruled : IsRuledNetwork plan network) (still : IsStill calm network)
     (is : circuit_row plan at ≡ Some row) (on : is_on (edge_at network row.edge) at ≡ true) (formed : inner_at plan at octets ≡ Ok frame)
@@ -120,18 +121,19 @@ module _ (plan : Plan) (calm network : NetworkState) (site : Sites) (at : Circui
   abbrev flood : CircuitId → ℕ
   flood circuit = cond (serves_here plan row.service (edge_at network row.edge) circuit && not (nat_eq circuit.0 at.0)) 1 0 + wires_due plan calm row.service circuit row.edge.0 None
 
-  served : ServesAsFlood target flood (λ circuit. meets plan calm row.service circuit work.effects)
+  served : ServesAsFlood target flood (λ circuit. meets plan calm row.service circuit row.edge work.effects)
   served =
-      subst (λ (w : Work). ServesAsFlood target flood (λ circuit. meets plan calm row.service circuit w.effects)) (sym bridged)
-      (frame_serves plan (arrival.Circuit at) calm (edge_at network row.edge) at target frame row checked short calmed is placed (still.edges row.edge.0) (site_of plan calm row.service target receives)
-      (circuit_within plan at row checked is) (circuit_port plan row.service at row is own_service) leads)
+      subst (λ (w : Work). ServesAsFlood target flood (λ circuit. meets plan calm row.service circuit row.edge w.effects)) (sym bridged)
+      (subst (λ (m : EdgeId). ServesAsFlood target flood (λ circuit. meets plan calm row.service circuit m (forwarded plan taken_all (arrival.Circuit at) row.service frame port (begin_at network row.edge)).effects)) placed
+      (frame_serves plan (arrival.Circuit at) calm (edge_at network row.edge) at target frame row checked calmed is placed (still.edges row.edge.0) (site_of plan calm row.service target receives)
+      (circuit_within plan at row checked is) (circuit_port plan row.service at row is own_service) leads))
 
   -- which is what is owed
   flood_due : (circuit : CircuitId) → is_site plan calm row.service circuit ≡ true → due plan calm row.service circuit origin base + flood circuit ≡ owed_to at circuit
   flood_due circuit here =
       let there = site_of plan calm row.service circuit here in
       let none : due plan calm row.service circuit origin base ≡ 0 = ap (awaited plan calm row.service circuit) none_there in
-      let law = entry_law plan calm row.service circuit at there.row row checked short calmed there.is there.of_service is own_service in
+      let law = entry_law plan calm row.service circuit at there.row row checked calmed there.is there.of_service is own_service in
       let one : cond {A = ℕ} (serves_here plan row.service (edge_at network row.edge) circuit && not (nat_eq circuit.0 at.0)) 1 0 ≡ cond (nat_eq there.row.edge.0 row.edge.0 && not (nat_eq circuit.0 at.0)) 1 0 =
       ap (λ (b : Bool). cond {A = ℕ} (b && not (nat_eq circuit.0 at.0)) 1 0)
       (site_serves plan calm row.service circuit (edge_at network row.edge) row.edge.0 there (ap (λ (m : EdgeId). m.0) placed) (still.edges row.edge.0)) in
@@ -150,10 +152,10 @@ module _ (plan : Plan) (calm network : NetworkState) (site : Sites) (at : Circui
   sends : (sent : ℕ) → Floods plan (edge_at network row.edge) (arrival.Circuit at) row.service frame port work.effects → AllByRecursion (IsNearCopy plan calm row.service frame) (packets_of row.edge origin 0 sent work.effects)
   sends sent (FloodsNot none) = subst (λ (es : List Effect). AllByRecursion (IsNearCopy plan calm row.service frame) (packets_of row.edge origin 0 sent es)) (sym none) tt
   sends sent (FloodsBy from found all) =
-      both_hold (CarriesCopy plan calm row.service frame) (IsNear plan) (packets_of row.edge origin 0 sent work.effects)
+      both_hold (CarriesCopy plan calm row.service frame) (HasPassed plan) (packets_of row.edge origin 0 sent work.effects)
       (copies_carry plan calm network row.edge origin 0 sent (arrival.Circuit at) row.service frame from work.effects checked ruled still quiet settled sized all)
       (copies_near plan (edge_at network row.edge) row.edge origin 0 sent (arrival.Circuit at) row.service frame from work.effects
-      (λ peer wire of_arrival bytes copy r r_is. first_hop peer.0 r) all)
+      (λ peer wire of_arrival bytes copy r r_is. first_hop plan row.edge peer r) all)
 
   nowhere_else : (circuit : CircuitId) (other : NetworkState) → is_site plan calm row.service circuit ≡ false → Floods plan (edge_at network row.edge) (arrival.Circuit at) row.service frame port work.effects
       → times_left origin circuit (all_entries_of row.edge origin 0 work.effects other) ≡ 0
@@ -162,13 +164,13 @@ module _ (plan : Plan) (calm network : NetworkState) (site : Sites) (at : Circui
       none_elsewhere plan calm network row.edge origin 0 (arrival.Circuit at) row.service frame from circuit work.effects other placed (still.edges row.edge.0) away all
 
   abbrev given : CircuitId → ℕ
-  given circuit = due plan calm row.service circuit origin base + meets plan calm row.service circuit work.effects
+  given circuit = due plan calm row.service circuit origin base + meets plan calm row.service circuit row.edge work.effects
 
   absorbed : Serves plan calm row.service frame origin given (absorb row.edge origin 0 work base)
   absorbed =
       serves_absorb plan calm row.service frame origin given row.edge 0 work base rest
       (λ sent. sends sent gives_copies) (λ circuit here. refl) (λ circuit other away. nowhere_else circuit other away gives_copies)
-      (λ other. left_within 3 origin 0 row.edge origin work.effects other (omega arith))
+      (λ other. left_within 12 origin 0 row.edge origin work.effects other (omega arith))
 
   entered : ServesSite plan calm row.service target frame origin (owed_to at) (entering network at octets row work)
   entered = record {

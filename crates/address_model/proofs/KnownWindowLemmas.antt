@@ -28,7 +28,6 @@ use Rattle.network_model.proofs.OtherLemmas.{along, is_of, moves_copy, step_apar
 use Rattle.flight_model.specs.Ends.{HasTypes}
 use Rattle.flight_model.specs.Laws.{AreSettled}
 use Rattle.packet_model.proofs.ArriveLemmas.{IsSized}
-use Rattle.flood_model.specs.Due.{has_short_paths}
 use Rattle.flood_model.proofs.CountLemmas.{due}
 use Rattle.flood_model.proofs.OriginLemmas.{not_named}
 use Rattle.flood_model.proofs.ServeLemmas.{serves_apart, serves_none}
@@ -55,7 +54,7 @@ PointOn plan service site network events = (some rest : List Event) → events �
 both : (a b : Bool) → a ≡ true → b ≡ true → a && b ≡ true
 both a b one other = rw (one, other) refl
 
-module _ (plan : Plan) (calm : NetworkState) (service : ServiceId) (site : Sites) (frame : List ℕ) (origin : ℕ) (checked : IsChecked plan) (short : has_short_paths plan ≡ true) (calmed : is_calm plan calm service ≡ true)
+module _ (plan : Plan) (calm : NetworkState) (service : ServiceId) (site : Sites) (frame : List ℕ) (origin : ℕ) (checked : IsChecked plan) (calmed : is_calm plan calm service ≡ true)
     (settled : (a b : ℕ) → are_joined_by plan service a b ≡ true → AreSettled plan calm a b) (sized : IsSized (mtu_of plan service) frame) (on : is_site plan calm service (site (destination_of frame)) ≡ true) where
   abbrev target : CircuitId
   target = site (destination_of frame)
@@ -82,7 +81,7 @@ module _ (plan : Plan) (calm : NetworkState) (service : ServiceId) (site : Sites
       → IsReached plan network trace → IsAfter plan calm service frame origin network → Points plan (arrive_event plan found network).state service site → Serve network (arrive_event plan found network)
   arrive_serves network trace number None is own reached after points = absurd (cc (own))
   arrive_serves network trace number (Some packet) is own reached after points =
-      arriving_serves_site plan calm network trace service site frame origin number packet checked short calmed settled sized reached.ruled reached.rule after.still on points after.copies is own
+      arriving_serves_site plan calm network trace service site frame origin number packet checked calmed settled sized reached.ruled reached.rule after.still on points after.copies is own
 
   unmoved : (network : NetworkState) (number : ℕ) → not (list_any (is_copy origin number) network.under_way) ≡ true → is_of origin (packet_at network number) ≡ false
   unmoved network number spared = not_named origin number network.under_way (is_not (list_any (is_copy origin number) network.under_way) spared)

@@ -4,7 +4,6 @@ pub mod HeardLemmas
 pub mod KnownArrivalLemmas
 pub mod KnownBridgeLemmas
 pub mod KnownEntryLemmas
-pub mod KnownHopLemmas
 pub mod KnownLeadLemmas
 pub mod KnownLemmas
 pub mod KnownPointLemmas
@@ -20,5 +19,4 @@ pub mod SideLemmas
 pub mod SpokeHomeLemmas
 pub mod StillReachLemmas
 pub mod StretchLemmas
-pub mod WireEdgeLemmas
 pub mod WorkLemmas

@@ -10,37 +10,33 @@ use Rattle.net_base.specs.declared.plan.places.EdgeId.{EdgeId}
 use Rattle.net_base.specs.declared.plan.places.ServiceId.{ServiceId}
 use Rattle.net_base.specs.declared.plan.places.WireId.{WireId}
 use Rattle.net_base.specs.plan.Accepted.{IsChecked}
-use Rattle.net_base.specs.plan.Paths.{joins}
 use Rattle.net_base.specs.plan.Places.{wire_row}
-use Rattle.net_base.specs.plan.Roles.{is_wire_of}
+use Rattle.net_base.specs.plan.Roles.{is_wire_of, wire_ends_at}
 use Rattle.hvpls_spokes.specs.declared.port.Port.{Port}
 use Rattle.hvpls_spokes.specs.declared.port.Port.TheVariants as port
 use Rattle.hvpls_spokes.specs.Port.{is_mesh, is_mesh_port, ports_of, wire_port}
 use Rattle.hvpls_spokes.proofs.PortsLemmas.{IsServed, IsWired, served_at}
 use Rattle.hvpls_spokes.proofs.RowPortLemmas.{wire_behind, wire_leads}
 use Rattle.hvpls_spokes.proofs.WirePortLemmas.{LeadsToWire, same_wire_port}
-use Rattle.edge_model.specs.Ends.{end_forwards}
 use Rattle.edge_model.proofs.LocalLemmas.{and_right}
 use Rattle.edge_model.proofs.PacketLemmas.{mesh_port}
-use Rattle.network_model.specs.Calm.{is_calm}
-use Rattle.network_model.specs.Reach.{is_circuit_of, reach}
+use Rattle.network_model.specs.Calm.{carries, is_calm}
+use Rattle.network_model.specs.Reach.{far_of, is_circuit_of, reach}
 use Rattle.network_model.specs.State.{NetworkState}
-use Rattle.flood_model.specs.Due.{has_short_paths}
 use Rattle.address_model.proofs.BehindLemmas.{from_circuit, from_mesh, from_spoke}
 use Rattle.address_model.proofs.SpokeHomeLemmas.{IsOfService}
 
 module _ (plan : Plan) (calm : NetworkState) (service : ServiceId) (circuit : CircuitId) (site : IsOfService plan service circuit) (checked : IsChecked plan)
-    (short : has_short_paths plan ≡ true) (calmed : is_calm plan calm service ≡ true)
+    (calmed : is_calm plan calm service ≡ true)
     (me peer : EdgeId) (wire : WireId) (row : WirePlan) (is : wire_row plan wire ≡ Some row) (ours : is_wire_of service row ≡ true)
-    (joined : joins me.0 peer.0 row.path ≡ true)
-    (here : end_forwards plan (calm.edges me.0) wire ≡ true) (there : end_forwards plan (calm.edges peer.0) wire ≡ true)
+    (ends : wire_ends_at service me.0 row ≡ true) (leads : far_of me.0 row.path ≡ Some peer.0) (live : carries plan calm wire.0 row ≡ true)
     (arrival p : ℕ) (to : slice_get (ports_of plan service me) p ≡ Some (wire_port wire.0 row)) (other : nat_eq p arrival ≡ false)
     (apart : is_mesh_port (ports_of plan service me) arrival && is_mesh_port (ports_of plan service me) p ≡ false) where
   -- it came by the circuit itself
   by_circuit : (at : CircuitId) → IsServed plan.circuits service me at.0 → is_circuit_of plan service circuit && nat_eq circuit.0 at.0 ≡ true
       → reach plan calm service peer.0 (wire_port wire.0 row) circuit ≡ true
   by_circuit at served reached =
-      from_circuit plan calm service circuit site checked short calmed wire.0 row is ours me.0 peer.0 joined here there
+      from_circuit plan calm service circuit site checked calmed wire.0 row is ours me.0 peer.0 ends leads live
       (subst (λ (r : CircuitPlan). nat_eq r.edge.0 me.0 ≡ true) same (and_right (nat_eq served.row.service.0 service.0) (nat_eq served.row.edge.0 me.0) served.serve))
     where
       place : circuit.0 ≡ at.0
@@ -57,7 +53,7 @@ module _ (plan : Plan) (calm : NetworkState) (service : ServiceId) (circuit : Ci
       → reach plan calm service me.0 (port.Mesh v) circuit ≡ true
       → reach plan calm service peer.0 (wire_port wire.0 row) circuit ≡ true
   by_mesh v came wired reached =
-      from_mesh plan calm service circuit site checked short calmed wire.0 row is ours me.0 peer.0 joined here there
+      from_mesh plan calm service circuit site checked calmed wire.0 row is ours me.0 peer.0 ends leads live
       v.0 wired.row wired.is wired.class wired.ends
       (ap (λ (mesh : Bool). reach plan calm service me.0 (cond mesh (port.Mesh (record { 0 = v.0 })) (port.Spoke (record { 0 = v.0 }))) circuit) wired.class ∙ reached)
       (sym (mesh_port (ports_of plan service me) p wire.0 row to) ∙ spoke)
@@ -70,13 +66,13 @@ module _ (plan : Plan) (calm : NetworkState) (service : ServiceId) (circuit : Ci
       → reach plan calm service me.0 (port.Spoke v) circuit ≡ true
       → reach plan calm service peer.0 (wire_port wire.0 row) circuit ≡ true
   by_spoke v came wired reached =
-      from_spoke plan calm service circuit site checked short calmed wire.0 row is ours me.0 peer.0 joined here there
+      from_spoke plan calm service circuit site checked calmed wire.0 row is ours me.0 peer.0 ends leads live
       v.0 wired.row wired.is wired.class wired.ends
       (ap (λ (mesh : Bool). reach plan calm service me.0 (cond mesh (port.Mesh (record { 0 = v.0 })) (port.Spoke (record { 0 = v.0 }))) circuit) wired.class ∙ reached)
-      (sym (same_wire_port plan service me p arrival wire.0 v.0 leads leads_back) ∙ other)
+      (sym (same_wire_port plan service me p arrival wire.0 v.0 leads_out leads_back) ∙ other)
     where
-      leads : LeadsToWire (ports_of plan service me) p wire.0
-      leads = record { is = ap wire_behind to ∙ wire_leads wire.0 row }
+      leads_out : LeadsToWire (ports_of plan service me) p wire.0
+      leads_out = record { is = ap wire_behind to ∙ wire_leads wire.0 row }
 
       leads_back : LeadsToWire (ports_of plan service me) arrival v.0
       leads_back = record { is = ap wire_behind came }

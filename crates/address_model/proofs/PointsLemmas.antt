@@ -23,18 +23,18 @@ use Rattle.flight_model.proofs.RuledRunLemmas.{run_ruled}
 use Rattle.flight_model.proofs.RunLemmas.{run_ordered}
 use Rattle.packet_model.proofs.RunLemmas.{runs_keep_packet_rule}
 use Rattle.flood_model.specs.Copy.{IsStill}
-use Rattle.flood_model.specs.Due.{has_short_paths}
 use Rattle.flood_model.proofs.CopyLemmas.{still_forwards}
 use Rattle.flood_model.proofs.StartLemmas.{still_self}
 use Rattle.flood_model.proofs.WindowLemmas.{IsReached}
 use Rattle.address_model.specs.Laws.{RunsKeepPoints}
+use Rattle.network_model.specs.Goal.{goal}
 use Rattle.address_model.specs.Points.{ComesFromItsSide, CopiesComeRight, Points, PointsToSite}
 use Rattle.address_model.specs.Sites.{OneSite, Sites}
 use Rattle.address_model.specs.Stretch.{StartsRight, is_of_stretch, is_packet_of}
 use Rattle.address_model.proofs.SideLemmas.{HasSide, KnowsSide}
 use Rattle.address_model.proofs.StillReachLemmas.{still_reach}
 use Rattle.address_model.proofs.StretchLemmas.{IsRight, among_behind, right_still, stretch_right}
-use Rattle.address_model.proofs.WireEdgeLemmas.{never}
+use Rattle.flood_model.proofs.WireEdgeLemmas.{never}
 
 -- ---- what a state of a stretch holds
 
@@ -59,8 +59,8 @@ module _ (plan : Plan) (calm : NetworkState) (service : ServiceId) (site : Sites
         octets = side.come.octets;
         told = side.come.told;
         same_service = side.come.of_service;
-        reaches = λ forwards. still_reach plan calm network still service packet.to.0 (wire_port packet.wire.0 row) side.come.sender
-            ∙ side.behind (sym (still_forwards plan (calm.edges packet.to.0) (network.edges packet.to.0) packet.wire (still.edges packet.to.0)) ∙ forwards);
+        reaches = λ forwards. still_reach plan calm network still service (goal row.path packet.from packet.to).0 (wire_port packet.wire.0 row) side.come.sender
+            ∙ side.behind (sym (still_forwards plan (calm.edges (goal row.path packet.from packet.to).0) (network.edges (goal row.path packet.from packet.to).0) packet.wire (still.edges (goal row.path packet.from packet.to).0)) ∙ forwards);
       }
 
   -- its addresses point to their sites, and its copies come right
@@ -100,7 +100,7 @@ back_all : {X : Type 0} (P : X → Type 0) (xs ys : List X) → All P (xs ++ ys)
 back_all P [] ys all = all
 back_all P (x ∷ xs) ys all = back_all P xs ys (All-tail P x (xs ++ ys) all)
 
-module _ (plan : Plan) (events : List Event) (run : IsRun plan events) (short : has_short_paths plan ≡ true) (before during after : List Event) (service : ServiceId)
+module _ (plan : Plan) (events : List Event) (run : IsRun plan events) (before during after : List Event) (service : ServiceId)
     (site : Sites)
     (split : events ≡ before ++ (during ++ after)) (one : OneSite plan service site (entries_along plan (empty_network plan) events))
     (starts : StartsRight plan (network_after plan before) service site) (stretch : list_all is_of_stretch during ≡ true) where
@@ -138,7 +138,7 @@ module _ (plan : Plan) (events : List Event) (run : IsRun plan events) (short : 
 
   ends_right : IsRight plan calm service site told last
   ends_right =
-      stretch_right plan calm service site told run.checked short starts.calm one calm trace during run.types
+      stretch_right plan calm service site told run.checked starts.calm one calm trace during run.types
       (front_all (IsEventOf plan) during after (back_all (IsEventOf plan) before (during ++ after) planned))
       reached stretch tells (begins_right plan calm service site told starts)
 
@@ -148,5 +148,5 @@ module _ (plan : Plan) (events : List Event) (run : IsRun plan events) (short : 
 
 -- from calm states on
 pub runs_keep_points : RunsKeepPoints
-runs_keep_points plan events run short before during after service site split one starts stretch =
-    points_last plan events run short before during after service site split one starts stretch
+runs_keep_points plan events run before during after service site split one starts stretch =
+    points_last plan events run before during after service site split one starts stretch

@@ -1,6 +1,6 @@
 -- In a stretch each packet on a wire of the service comes from where its frame entered; and so do the copies that a bridge sends of
 -- a frame that came by a port behind which it entered.
-use Rattle.std.proofs.Common.{◌≡◌, ◌&&◌, ◌+◌, ◌∙◌, ℕ, true, false, List, [], ◌∷◌, Some, Ok, nat_eq, slice_get, sym, subst, ap}
+use Rattle.std.proofs.Common.{◌||◌, ◌≡◌, ◌&&◌, ◌+◌, ◌∙◌, ℕ, true, false, List, [], ◌∷◌, Some, Ok, nat_eq, slice_get, sym, subst, ap}
 use Rattle.std.specs.List.{AllByRecursion}
 use Rattle.net_base.specs.declared.plan.Plan.{Plan}
 use Rattle.net_base.specs.declared.plan.wire_plan.WirePlan.{WirePlan}
@@ -10,7 +10,8 @@ use Rattle.net_base.specs.declared.plan.places.WireId.{WireId}
 use Rattle.net_base.specs.declared.trace.arrival.Arrival.{Arrival}
 use Rattle.net_base.specs.declared.trace.entry.Entry.{Entry}
 use Rattle.net_base.specs.plan.Accepted.{IsChecked}
-use Rattle.net_base.specs.plan.Paths.{joins}
+use Rattle.net_base.specs.plan.Paths.{is_first, is_last, joins}
+use Rattle.edge_model.specs.State.{EdgeState, with_learned}
 use Rattle.net_base.specs.plan.Places.{mtu_of, wire_row}
 use Rattle.net_base.specs.plan.Roles.{is_wire_of}
 use Rattle.hvpls_spokes.specs.declared.port.Port.{Port}
@@ -29,12 +30,19 @@ use Rattle.flight_model.proofs.RuledNetworkLemmas.{IsRuledNetwork}
 use Rattle.packet_model.proofs.ArriveLemmas.{IsSized}
 use Rattle.packet_model.proofs.SendLemmas.{HasCome, same_row}
 use Rattle.flood_model.specs.Copy.{IsStill}
-use Rattle.flood_model.specs.Due.{has_short_paths}
 use Rattle.flood_model.proofs.CarryLemmas.{copy_carried, copy_joined}
-use Rattle.flood_model.proofs.CopyLemmas.{CarriesIn, sent_carry, still_forwards}
+use Rattle.flood_model.proofs.CopyLemmas.{CarriesIn, sent_carry, sent_ended, still_forwards}
 use Rattle.address_model.proofs.PassLemmas.{passes_on}
 use Rattle.address_model.proofs.SpokeHomeLemmas.{of_service}
-use Rattle.address_model.proofs.WireEdgeLemmas.{never}
+use Rattle.flood_model.proofs.WireEdgeLemmas.{AreSides, IsFar, IsNear, both, never, sides_far}
+use Rattle.flood_model.proofs.LinkLemmas.{IsLink, link_at}
+use Rattle.flood_model.proofs.WholeLemmas.{wire_whole}
+use Rattle.flood_model.proofs.HopLemmas.{sent_far}
+use Rattle.packet_model.proofs.PackLemmas.{wire_checked}
+use Rattle.network_model.specs.Goal.{goal}
+use Rattle.net_base.specs.plan.Roles.{wire_ends_at}
+use Rattle.network_model.specs.Reach.{far_of}
+use Rattle.network_model.specs.Calm.{carries}
 
 -- ---- where frames come from
 
@@ -44,7 +52,7 @@ pub record HasSide (plan : Plan) (calm : NetworkState) (service : ServiceId) (to
   pub frame : List ℕ
   pub come : HasCome plan told service packet.origin frame
   pub carries : carried plan packet ≡ Ok frame
-  pub behind : end_forwards plan (calm.edges packet.to.0) packet.wire ≡ true → reach plan calm service packet.to.0 (wire_port packet.wire.0 row) come.sender ≡ true
+  pub behind : end_forwards plan (calm.edges (goal row.path packet.from packet.to).0) packet.wire ≡ true → reach plan calm service (goal row.path packet.from packet.to).0 (wire_port packet.wire.0 row) come.sender ≡ true
 
 -- so it is, where the wire is one of the service
 abbrev pub KnowsSide : Plan → NetworkState → ServiceId → List Entry → Packet → Type 0
@@ -61,11 +69,15 @@ pub record ComesBehind (plan : Plan) (calm : NetworkState) (service : ServiceId)
 
 module _ (plan : Plan) (calm network : NetworkState) (service : ServiceId) (told : List Entry) (me : EdgeId) (origin : ℕ) (came : Arrival) (frame : List ℕ)
     (arrival : ℕ)
-    (checked : IsChecked plan) (short : has_short_paths plan ≡ true) (calmed : is_calm plan calm service ≡ true) (ruled : IsRuledNetwork plan network)
+    (checked : IsChecked plan) (calmed : is_calm plan calm service ≡ true) (ruled : IsRuledNetwork plan network)
     (still : IsStill calm network)
     (sized : IsSized (mtu_of plan service) frame) (behind : ComesBehind plan calm service told me origin frame arrival) where
   at : (network.edges me.0).me ≡ me
   at = (ruled.edges me.0).place
+
+  calm_placed : (k : ℕ) → (calm.edges k).me ≡ record { 0 = k }
+  unfolding with_learned
+  calm_placed k = sym (ap (λ (e : EdgeState). e.me) (still.edges k).is) ∙ (ruled.edges k).place
 
   -- a copy that is sent
   copy_side : (hops sent : ℕ) (peer : EdgeId) (wire : WireId) (of_arrival : Arrival) (bytes : List ℕ)
@@ -75,8 +87,8 @@ module _ (plan : Plan) (calm network : NetworkState) (service : ServiceId) (told
     frame = frame;
     come = behind.come;
     carries = copy_carried plan network me origin hops sent came service frame arrival peer wire of_arrival bytes checked ruled copy sized;
-    behind = λ there. passes_on plan calm service behind.come.sender (of_service plan service behind.come.sender behind.come.of_service) checked short calmed
-        me peer wire row is ours joined here there arrival copy.p to copy.by.other apart behind.port behind.at behind.behind;
+    behind = λ there. passes_on plan calm service behind.come.sender (of_service plan service behind.come.sender behind.come.of_service) checked calmed
+        me (goal row.path me peer) wire row is ours ends leads (live there) arrival copy.p to copy.by.other apart behind.port behind.at behind.behind;
   }
     where
       same : copy.row ≡ row
@@ -90,6 +102,27 @@ module _ (plan : Plan) (calm network : NetworkState) (service : ServiceId) (told
       here =
           sym (still_forwards plan (calm.edges me.0) (network.edges me.0) wire (still.edges me.0))
           ∙ (ap (forwards_at plan (network.edges me.0)) copy.here ∙ ap is_up copy.forwards)
+
+      ended : is_first me.0 row.path || is_last me.0 row.path ≡ true
+      ended = ap (λ (r : WirePlan). is_first me.0 r.path || is_last me.0 r.path) (sym same) ∙ sent_ended plan network me came service frame arrival peer wire of_arrival bytes checked ruled copy
+
+      ends : wire_ends_at service me.0 row ≡ true
+      ends = both (is_wire_of service row) (is_first me.0 row.path || is_last me.0 row.path) ours ended
+
+      leads : far_of me.0 row.path ≡ Some (goal row.path me peer).0
+      leads = sent_far row.path me peer (wire_checked plan wire row checked is).once joined ended
+
+      -- where the far terminal edge forwards too, the wire carries frames
+      live : end_forwards plan (calm.edges (goal row.path me peer).0) wire ≡ true → carries plan calm wire.0 row ≡ true
+      live there = by (link_at plan wire.0 row checked is) where
+        by : IsLink plan row → carries plan calm wire.0 row ≡ true
+        by link = side (sides_far plan service row link me.0 (goal row.path me peer).0 ends leads) where
+          from_near : end_forwards plan (calm.edges link.near.0) wire ≡ true → carries plan calm wire.0 row ≡ true
+          from_near up = wire_whole plan calm service wire row link checked calmed calm_placed is ours up
+
+          side : AreSides link.near.0 link.far.0 me.0 (goal row.path me peer).0 → carries plan calm wire.0 row ≡ true
+          side (IsNear near far) = from_near (ap (λ (n : ℕ). end_forwards plan (calm.edges n) wire) (sym near) ∙ here)
+          side (IsFar far near) = from_near (ap (λ (n : ℕ). end_forwards plan (calm.edges n) wire) (sym near) ∙ there)
 
       to : slice_get (ports_of plan service me) copy.p ≡ Some (wire_port wire.0 row)
       to = subst (λ (r : WirePlan). slice_get (ports_of plan service me) copy.p ≡ Some (wire_port wire.0 r)) same

@@ -5,6 +5,7 @@ use Rattle.net_base.specs.declared.plan.Plan.{Plan}
 use Rattle.net_base.specs.declared.plan.circuit_plan.CircuitPlan.{CircuitPlan}
 use Rattle.net_base.specs.declared.plan.wire_plan.WirePlan.{WirePlan}
 use Rattle.net_base.specs.declared.plan.places.CircuitId.{CircuitId}
+use Rattle.net_base.specs.declared.plan.places.EdgeId.{EdgeId}
 use Rattle.net_base.specs.declared.plan.places.ServiceId.{ServiceId}
 use Rattle.net_base.specs.plan.Accepted.{IsChecked}
 use Rattle.net_base.specs.plan.Places.{circuit_row, is_mesh_class, service_of}
@@ -16,7 +17,7 @@ use Rattle.network_model.specs.Reach.{far_of, home_among, home_of, is_home, last
 use Rattle.network_model.specs.State.{NetworkState}
 use Rattle.flood_model.proofs.LawLemmas.{one_live_spoke}
 use Rattle.flood_model.proofs.LinkLemmas.{IsLink}
-use Rattle.address_model.proofs.WireEdgeLemmas.{far_apart}
+use Rattle.flood_model.proofs.WireEdgeLemmas.{far_apart}
 
 -- ---- the home of a spoke edge
 
@@ -76,7 +77,7 @@ pub home_is : (plan : Plan) (calm : NetworkState) (service : ServiceId) (edge k 
     → is_calm plan calm service ≡ true
     → slice_get plan.wires k ≡ Some w → is_live_spoke plan calm service edge k w ≡ true → home_of plan calm service edge ≡ Some link.far.0
 home_is plan calm service edge k w link checked calmed is live =
-    found.home ∙ (ap (λ (r : WirePlan). last_place r.path) same ∙ ap last_place link.path)
+    found.home ∙ (ap (λ (r : WirePlan). last_place r.path) same ∙ (ap last_place link.path ∙ ap (option_map (λ (edge : EdgeId). edge.0)) link.ends))
   where
     found : LeadsHome plan calm service edge 0 plan.wires
     found = leads_home plan calm service edge 0 k w plan.wires is (subst (λ n. is_live_spoke plan calm service edge n w ≡ true) (sym (zero-add k)) live)

@@ -15,7 +15,7 @@ use Rattle.network_model.specs.Calm.{carries, first_forwards, inner_stitched, is
 use Rattle.network_model.specs.Reach.{beside_far, behind_spoke, behind_wire, far_of, home_among, home_of, is_circuit_of, is_home, is_live, is_row_beside, last_place, reach}
 use Rattle.network_model.specs.State.{NetworkState}
 use Rattle.flood_model.specs.Copy.{IsStill}
-use Rattle.flood_model.proofs.CopyLemmas.{still_forwards}
+use Rattle.flood_model.proofs.CopyLemmas.{still_forwards, still_is_stitched}
 
 module _ (plan : Plan) (calm network : NetworkState) (still : IsStill calm network) where
   -- ---- wires carry frames as they did
@@ -32,7 +32,7 @@ module _ (plan : Plan) (calm network : NetworkState) (still : IsStill calm netwo
   still_stitched : (wire : ℕ) (path : List EdgeId) → inner_stitched plan network wire path ≡ inner_stitched plan calm wire path
   still_stitched wire [] = refl
   still_stitched wire (last ∷ []) = refl
-  still_stitched wire (point ∷ next ∷ rest) = refl
+  still_stitched wire (point ∷ next ∷ rest) = λ i. still_is_stitched plan (calm.edges point.0) (network.edges point.0) (record { 0 = wire }) (still.edges point.0) i && still_stitched wire (next ∷ rest) i
 
   still_joined : (wire : ℕ) (path : List EdgeId) → is_joined_up plan network wire path ≡ is_joined_up plan calm wire path
   still_joined wire [] = refl

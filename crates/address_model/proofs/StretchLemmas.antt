@@ -37,7 +37,6 @@ use Rattle.flight_model.specs.Ends.{HasTypes}
 use Rattle.flight_model.proofs.RuledNetworkLemmas.{IsRuledNetwork}
 use Rattle.packet_model.specs.Carried.{IsCarried, KeepsPacketRule}
 use Rattle.flood_model.specs.Copy.{IsStill, IsStillEdge}
-use Rattle.flood_model.specs.Due.{has_short_paths}
 use Rattle.flood_model.proofs.WindowLemmas.{IsReached, step_reached}
 use Rattle.address_model.specs.Points.{PointsToSite}
 use Rattle.address_model.specs.Sites.{OneSite, Sites}
@@ -82,7 +81,7 @@ abbrev pub AreAmong : List Entry → List Entry → Type 0
 AreAmong told entries = (entry : Entry) → Among entry entries → Among entry told
 
 module _ (plan : Plan) (calm : NetworkState) (service : ServiceId) (site : Sites) (told : List Entry)
-    (checked : IsChecked plan) (short : has_short_paths plan ≡ true) (calmed : is_calm plan calm service ≡ true) (one : OneSite plan service site told) where
+    (checked : IsChecked plan) (calmed : is_calm plan calm service ≡ true) (one : OneSite plan service site told) where
   abbrev Right : NetworkState → Type 0
   Right network = IsRight plan calm service site told network
 
@@ -127,7 +126,7 @@ module _ (plan : Plan) (calm : NetworkState) (service : ServiceId) (site : Sites
         absorb_right row.edge (next_origin network) 0 (frame_work plan network circuit octets row) (with_frame network) (entered_right network right)
         (still_learns (calm.edges row.edge.0) (network.edges row.edge.0) (frame_work plan network circuit octets row).edge
         (frame_bridges plan taken_all circuit octets (Some row) (begin_at network row.edge)).edge here.still)
-        (frame_right plan calm network service site told circuit octets row (next_origin network) checked short calmed one ruled
+        (frame_right plan calm network service site told circuit octets row (next_origin network) checked calmed one ruled
         (right_still plan calm service site told network right) here.table is
         (tells (In circuit (next_origin network) octets) (inl refl)))
 
@@ -146,7 +145,7 @@ module _ (plan : Plan) (calm : NetworkState) (service : ServiceId) (site : Sites
       absorb_right packet.to packet.origin packet.hops (packet_work plan network packet) (without_packet packet.number network) (without_right packet.number network right)
       (still_learns (calm.edges packet.to.0) (network.edges packet.to.0) (packet_work plan network packet).edge
       (packet_bridges plan taken_all packet.bytes (begin_at network packet.to)).edge here.still)
-      (packet_right plan calm network service site told trace packet checked short calmed one ruled (right_still plan calm service site told network right) here.table
+      (packet_right plan calm network service site told trace packet checked calmed one ruled (right_still plan calm service site told network right) here.table
       (packet_holds (IsCarried plan network trace) network number packet rule is) (packet_holds (KnowsSide plan calm service told) network number packet right.packets is))
 
   discard_right : (network : NetworkState) (found : Option Packet) → Right network → Right (discard_event found network).state

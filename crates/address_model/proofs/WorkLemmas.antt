@@ -1,6 +1,6 @@
 -- An edge works on a frame or a packet in a stretch: what it learns points to its site, and what it sends comes from where its frame
 -- entered.
-use Rattle.std.proofs.Common.{◌≡◌, ◌&&◌, ◌∙◌, ℕ, Bool, true, false, List, [], ◌∷◌, Option, Some, None, Result, Ok, Err, cond, option_map, nat_eq, position, slice_get, refl, sym, subst, ap, inl, inr}
+use Rattle.std.proofs.Common.{◌+◌, ◌-◌, ◌≡◌, ◌&&◌, ◌∙◌, ℕ, Bool, true, false, List, [], ◌∷◌, Option, Some, None, Result, Ok, Err, cond, option_map, nat_eq, position, slice_get, refl, sym, subst, ap, inl, inr}
 use Rattle.std.proofs.lemmas.Bool.{cases_Bool, eq-eqb, eqb-true}
 use Rattle.std.specs.List.{AllByRecursion}
 use Rattle.net_base.specs.declared.plan.Plan.{Plan}
@@ -22,6 +22,7 @@ use Rattle.hvpls_spokes.specs.declared.port.Port.TheVariants as port
 use Rattle.hvpls_spokes.specs.Port.{is_circuit_port, is_wire_port, ports_of, wire_port}
 use Rattle.hvpls_spokes.proofs.PortsLemmas.{LeadsTo, found_port}
 use Rattle.hvpls_spokes.proofs.WirePortLemmas.{found_wire_port, wire_port_is}
+use Rattle.pw_stitch.specs.Relabelling.{relabelled}
 use Rattle.edge_model.specs.Copies.{AllAreCopies}
 use Rattle.edge_model.specs.declared.effect.Effect.{Effect}
 use Rattle.edge_model.specs.Ends.{end_forwards}
@@ -42,9 +43,15 @@ use Rattle.network_model.proofs.PacketListLemmas.{packets_of}
 use Rattle.flight_model.proofs.RuledNetworkLemmas.{IsRuledNetwork}
 use Rattle.packet_model.specs.Carried.{IsCarried}
 use Rattle.packet_model.proofs.ArriveLemmas.{IsSized, come_sized}
-use Rattle.packet_model.proofs.SendLemmas.{HasCome}
+use Rattle.packet_model.proofs.SendLemmas.{HasCome, same_row}
 use Rattle.flood_model.specs.Copy.{IsStill}
-use Rattle.flood_model.specs.Due.{has_short_paths}
+use Rattle.net_base.specs.declared.plan.wire_plan.WirePlan.{WirePlan}
+use Rattle.network_model.specs.Goal.{goal}
+use Rattle.network_model.proofs.GoalLemmas.{goal_reached}
+use Rattle.edge_model.specs.EndPlaces.{is_terminal}
+use Rattle.packet_model.proofs.PackLemmas.{wire_checked}
+use Rattle.flood_model.proofs.PassingLemmas.{IsNotPassed, IsPassedOn, Passed, PassedOn, passed, passed_carries}
+use Rattle.flood_model.proofs.RelayLemmas.{same_goal}
 use Rattle.flood_model.proofs.ArrivalLemmas.{Arrived, NotTaken, Taken, arrived, arrives_sized, arrives_with}
 use Rattle.flood_model.proofs.CopyLemmas.{still_forwards}
 use Rattle.address_model.specs.Points.{PointsToSite}
@@ -79,7 +86,7 @@ pub record WorksRight (plan : Plan) (calm : NetworkState) (service : ServiceId) 
   pub sent : (hops sent : ℕ) → AllByRecursion (KnowsSide plan calm service told) (packets_of me origin hops sent work.effects)
 
 module _ (plan : Plan) (calm network : NetworkState) (service : ServiceId) (site : Sites) (told : List Entry) (me : EdgeId) (origin : ℕ)
-    (checked : IsChecked plan) (short : has_short_paths plan ≡ true) (calmed : is_calm plan calm service ≡ true) (one : OneSite plan service site told)
+    (checked : IsChecked plan) (calmed : is_calm plan calm service ≡ true) (one : OneSite plan service site told)
     (ruled : IsRuledNetwork plan network) (still : IsStill calm network)
     (before : AllByRecursion (PointsToSite plan calm service site me.0) ((network.edges me.0).learned service.0)) where
   abbrev Right : Work → Type 0
@@ -113,7 +120,7 @@ module _ (plan : Plan) (calm network : NetworkState) (service : ServiceId) (site
   sends came of frame from es sized behind all hops sent = elim (cases_Bool (nat_eq of.0 service.0)) [
     | inl same ↦
         (let is : of ≡ service = ap (λ (n : ℕ). record { 0 = n }) (eqb-true of.0 service.0 same) in
-        copies_side plan calm network service told me origin came frame from checked short calmed ruled still
+        copies_side plan calm network service told me origin came frame from checked calmed ruled still
         (subst (λ (s : ServiceId). IsSized (mtu_of plan s) frame) is sized) (behind same) hops sent es
         (subst (λ (s : ServiceId). AllAreCopies plan (network.edges me.0) came s frame from es) is all))
     | inr other ↦ copies_away plan calm network service of told me origin hops sent came frame from es checked ruled sized other all
@@ -146,7 +153,7 @@ module _ (plan : Plan) (calm network : NetworkState) (service : ServiceId) (site
 
 module _ (plan : Plan) (calm network : NetworkState) (service : ServiceId) (site : Sites) (told : List Entry) (circuit : CircuitId) (octets : List ℕ)
     (row : CircuitPlan) (origin : ℕ)
-    (checked : IsChecked plan) (short : has_short_paths plan ≡ true) (calmed : is_calm plan calm service ≡ true) (one : OneSite plan service site told)
+    (checked : IsChecked plan) (calmed : is_calm plan calm service ≡ true) (one : OneSite plan service site told)
     (ruled : IsRuledNetwork plan network) (still : IsStill calm network)
     (before : AllByRecursion (PointsToSite plan calm service site row.edge.0) ((network.edges row.edge.0).learned service.0))
     (is : circuit_row plan circuit ≡ Some row) (entered : Among (In circuit origin octets) told) where
@@ -191,14 +198,14 @@ module _ (plan : Plan) (calm network : NetworkState) (service : ServiceId) (site
   pub frame_right : WorksRight plan calm service site told row.edge origin (frame_work plan network circuit octets row)
   frame_right = by (is_own (edge_at network row.edge) row && is_on (edge_at network row.edge) circuit) where
     by : (applies : Bool) → WorksRight plan calm service site told row.edge origin (cond applies taken (idles (begin_at network row.edge)))
-    by true = right_received plan calm network service site told row.edge origin checked short calmed one ruled still before (arrival.Circuit circuit) row.service
+    by true = right_received plan calm network service site told row.edge origin checked calmed one ruled still before (arrival.Circuit circuit) row.service
         (port_at plan (edge_at network row.edge) circuit row) (inner_at plan circuit octets) frame_sized frame_behind
-    by false = right_idle plan calm network service site told row.edge origin checked short calmed one ruled still before
+    by false = right_idle plan calm network service site told row.edge origin checked calmed one ruled still before
 
 -- ---- on a packet
 
 module _ (plan : Plan) (calm network : NetworkState) (service : ServiceId) (site : Sites) (told trace : List Entry) (packet : Packet)
-    (checked : IsChecked plan) (short : has_short_paths plan ≡ true) (calmed : is_calm plan calm service ≡ true) (one : OneSite plan service site told)
+    (checked : IsChecked plan) (calmed : is_calm plan calm service ≡ true) (one : OneSite plan service site told)
     (ruled : IsRuledNetwork plan network) (still : IsStill calm network)
     (before : AllByRecursion (PointsToSite plan calm service site packet.to.0) ((network.edges packet.to.0).learned service.0))
     (rule : IsCarried plan network trace packet) (knows : KnowsSide plan calm service told packet) where
@@ -207,10 +214,10 @@ module _ (plan : Plan) (calm network : NetworkState) (service : ServiceId) (site
   same_frame read first other is also = cc
 
   -- where its wire's end forwards, it came by a port behind which its frame entered
-  packet_behind : end_forwards plan (network.edges packet.to.0) packet.wire ≡ true → (p : ℕ)
+  packet_behind : is_terminal rule.row packet.to ≡ true → end_forwards plan (network.edges packet.to.0) packet.wire ≡ true → (p : ℕ)
       → position (is_wire_port packet.wire) (ports_of plan rule.row.service packet.to) ≡ Some p
       → nat_eq rule.row.service.0 service.0 ≡ true → ComesBehind plan calm service told packet.to packet.origin rule.frame p
-  packet_behind forwards p found same = record {
+  packet_behind ended forwards p found same = record {
     come = record {
       sender = side.come.sender;
       octets = side.come.octets;
@@ -221,25 +228,56 @@ module _ (plan : Plan) (calm network : NetworkState) (service : ServiceId) (site
     port = wire_port packet.wire.0 rule.row;
     at = subst (λ (s : ServiceId). slice_get (ports_of plan s packet.to) p ≡ Some (wire_port packet.wire.0 rule.row)) service_is
         (wire_port_is plan rule.row.service packet.to p packet.wire.0 rule.row (found_wire_port packet.wire (ports_of plan rule.row.service packet.to) p found) rule.is);
-    behind = side.behind (sym (still_forwards plan (calm.edges packet.to.0) (network.edges packet.to.0) packet.wire (still.edges packet.to.0)) ∙ forwards);
+    behind = ap (λ (e : EdgeId). reach plan calm service e.0 (wire_port packet.wire.0 rule.row) side.come.sender) (sym reached)
+        ∙ side.behind (ap (λ (e : EdgeId). end_forwards plan (calm.edges e.0) packet.wire) reached ∙ (sym (still_forwards plan (calm.edges packet.to.0) (network.edges packet.to.0) packet.wire (still.edges packet.to.0)) ∙ forwards));
   }
     where
+      reached : goal rule.row.path packet.from packet.to ≡ packet.to
+      reached = goal_reached rule.row.path packet.from packet.to (wire_checked plan packet.wire rule.row checked rule.is).once rule.joined ended
+
       side : HasSide plan calm service told packet rule.row
       side = knows rule.row rule.is same
 
       frame_is : side.frame ≡ rule.frame
-      frame_is = same_frame (carried plan packet) side.frame rule.frame side.carries (arrives_with plan network trace packet checked short ruled rule)
+      frame_is = same_frame (carried plan packet) side.frame rule.frame side.carries (arrives_with plan network trace packet checked ruled rule)
 
       service_is : rule.row.service ≡ service
       service_is = ap (λ (n : ℕ). record { 0 = n }) (eqb-true rule.row.service.0 service.0 same)
 
   pub packet_right : WorksRight plan calm service site told packet.to packet.origin (packet_work plan network packet)
-  packet_right = by (arrived plan network trace packet checked short ruled rule) where
-    by : Arrived plan network packet rule.row rule.frame → WorksRight plan calm service site told packet.to packet.origin (packet_work plan network packet)
-    by (NotTaken dropped) = subst (WorksRight plan calm service site told packet.to packet.origin) (sym dropped.is)
-        (right_dropped plan calm network service site told packet.to packet.origin checked short calmed one ruled still before dropped.why)
-    by (Taken taken) = subst (WorksRight plan calm service site told packet.to packet.origin)
+  packet_right = choose (is_terminal rule.row packet.to) refl where
+    by : is_terminal rule.row packet.to ≡ true → Arrived plan network packet rule.row rule.frame → WorksRight plan calm service site told packet.to packet.origin (packet_work plan network packet)
+    by ended (NotTaken dropped) = subst (WorksRight plan calm service site told packet.to packet.origin) (sym dropped.is)
+        (right_dropped plan calm network service site told packet.to packet.origin checked calmed one ruled still before dropped.why)
+    by ended (Taken taken) = subst (WorksRight plan calm service site told packet.to packet.origin)
         (sym (taken.work ∙ ap (λ (o : Option ℕ). forwarded plan taken_all (arrival.Wire packet.wire) rule.row.service rule.frame o (begin_at network packet.to)) taken.found))
-        (right_forwarded plan calm network service site told packet.to packet.origin checked short calmed one ruled still before
+        (right_forwarded plan calm network service site told packet.to packet.origin checked calmed one ruled still before
         (arrival.Wire packet.wire) rule.row.service rule.frame taken.port
-        (arrives_sized plan network trace packet checked short ruled rule) (λ same. packet_behind taken.forwards taken.port taken.found same))
+        (arrives_sized plan network trace packet checked ruled rule) (λ same. packet_behind ended taken.forwards taken.port taken.found same))
+
+    on_side : (on : PassedOn plan network trace packet checked ruled rule) (number hops : ℕ)
+        → KnowsSide plan calm service told (record { number = number; wire = packet.wire; from = packet.to; to = on.to; origin = packet.origin; hops = hops; bytes = relabelled on.binding.label (rule.packed.ttl - 1) packet.bytes })
+    on_side on number hops row is ours =
+        let side : HasSide plan calm service told packet row = knows row is ours in
+        let same : rule.row ≡ row = same_row rule.row row (sym rule.is ∙ is) in
+        let goals : goal row.path packet.to on.to ≡ goal row.path packet.from packet.to =
+        subst (λ (r : WirePlan). goal r.path packet.to on.to ≡ goal r.path packet.from packet.to) same (same_goal plan network trace packet on.to on.binding number checked ruled rule on.mate_is on.bound) in
+        record {
+          frame = side.frame;
+          come = side.come;
+          carries = passed_carries plan network trace packet checked ruled rule on number packet.origin hops ∙ side.carries;
+          behind = λ there. ap (λ (e : EdgeId). reach plan calm service e.0 (wire_port packet.wire.0 row) side.come.sender) goals
+              ∙ side.behind (ap (λ (e : EdgeId). end_forwards plan (calm.edges e.0) packet.wire) (sym goals) ∙ there);
+        }
+
+    passing : Passed plan network trace packet checked ruled rule → WorksRight plan calm service site told packet.to packet.origin (packet_work plan network packet)
+    passing (IsNotPassed why is none) = subst (WorksRight plan calm service site told packet.to packet.origin) (sym is)
+        (right_dropped plan calm network service site told packet.to packet.origin checked calmed one ruled still before why)
+    passing (IsPassedOn on) = record {
+      table = subst (λ (e : EdgeState). AllByRecursion (PointsToSite plan calm service site packet.to.0) (e.learned service.0)) (sym on.edge) before;
+      sent = λ hops sent. subst (λ (es : List Effect). AllByRecursion (KnowsSide plan calm service told) (packets_of packet.to packet.origin hops sent es)) (sym on.effects) (on_side on (sent + 1) (hops + 1), tt);
+    }
+
+    choose : (b : Bool) → is_terminal rule.row packet.to ≡ b → WorksRight plan calm service site told packet.to packet.origin (packet_work plan network packet)
+    choose true ended = by ended (arrived plan network trace packet checked ruled rule ended)
+    choose false between = passing (passed plan network trace packet checked ruled rule between)

@@ -10,7 +10,6 @@ use Rattle.net_base.specs.trace.Frame.{destination_of}
 use Rattle.flight_model.specs.Laws.{IsRun, network_after}
 use Rattle.network_model.specs.Frame.{next_origin}
 use Rattle.network_model.specs.Run.{run}
-use Rattle.flood_model.specs.Due.{has_short_paths}
 use Rattle.address_model.specs.Known.{EntersForSite, ReachesSite}
 use Rattle.address_model.specs.Points.{CopiesComeRight, Points}
 use Rattle.address_model.specs.Sites.{OneSite, Sites}
@@ -38,8 +37,8 @@ KnownAreReached most plan events = (before during : List Event) (circuit : Circu
     → ReachesSite most (site (destination_of enters.frame)) (next_origin (network_after plan (before ++ during))) (run plan events).entries
 
 abbrev pub RunsKeepPoints : Type 0
-RunsKeepPoints = (plan : Plan) (events : List Event) → IsRun plan events → has_short_paths plan ≡ true → PointsLast plan events
+RunsKeepPoints = (plan : Plan) (events : List Event) → IsRun plan events → PointsLast plan events
 
--- over paths of two edges three segments at most
+-- twelve segments at most
 abbrev pub RunsReachKnown : Type 0
-RunsReachKnown = (plan : Plan) (events : List Event) → IsRun plan events → has_short_paths plan ≡ true → KnownAreReached 3 plan events
+RunsReachKnown = (plan : Plan) (events : List Event) → IsRun plan events → KnownAreReached 12 plan events

@@ -17,6 +17,7 @@ use Rattle.edge_model.specs.Ends.{end_forwards}
 use Rattle.network_model.specs.declared.packet.Packet.{Packet}
 use Rattle.network_model.specs.Reach.{reach}
 use Rattle.network_model.specs.State.{NetworkState}
+use Rattle.network_model.specs.Goal.{goal}
 use Rattle.address_model.specs.Sites.{Sites}
 
 -- the port of the entry leads to the site of its address
@@ -30,14 +31,15 @@ abbrev pub Points : Plan → NetworkState → ServiceId → Sites → Type 0
 Points plan network service site = (edge : ℕ) → AllByRecursion (PointsToSite plan network service site edge) ((network.edges edge).learned service.0)
 
 -- a packet on a wire of the service with this row: the circuit at which its frame entered is behind the port by which it will
--- arrive, where that port forwards. Where it does not, the packet is dropped and teaches nothing
+-- arrive at the terminal edge to which it travels, where that port forwards. Where it does not, the packet is dropped and teaches
+-- nothing
 pub record ComesFromBehind (plan : Plan) (network : NetworkState) (service : ServiceId) (trace : List Entry) (packet : Packet) (row : WirePlan) : Type 0 where
   pub sender : CircuitId
   pub octets : List ℕ
   pub told : Among (In sender packet.origin octets) trace
   pub same_service : service_of plan sender ≡ Some service
-  pub reaches : end_forwards plan (network.edges packet.to.0) packet.wire ≡ true
-      → reach plan network service packet.to.0 (wire_port packet.wire.0 row) sender ≡ true
+  pub reaches : end_forwards plan (network.edges (goal row.path packet.from packet.to).0) packet.wire ≡ true
+      → reach plan network service (goal row.path packet.from packet.to).0 (wire_port packet.wire.0 row) sender ≡ true
 
 -- so it is with a packet under way, where it is on a wire of the service
 abbrev pub ComesFromItsSide : Plan → NetworkState → ServiceId → List Entry → Packet → Type 0

@@ -1,5 +1,5 @@
 -- What a frame and a packet leave of an edge as it was, and what alone they have it give out; and what forgetting leaves.
-use Rattle.std.proofs.Common.{◌≡◌, ◌+◌, ◌&&◌, ◌∙◌, ◌==◌, ℕ, Bool, true, false, List, [], ◌∷◌, Option, Some, None, Result, Ok, Err, cond, refl, length, nat_lt}
+use Rattle.std.proofs.Common.{◌≡◌, ◌+◌, ◌&&◌, ◌∙◌, ◌==◌, ◌-◌, ℕ, Bool, true, false, List, [], ◌∷◌, Option, Some, None, Result, Ok, Err, cond, refl, length, nat_lt}
 use Rattle.net_base.specs.declared.plan.Plan.{Plan}
 use Rattle.net_base.specs.declared.plan.circuit_plan.CircuitPlan.{CircuitPlan}
 use Rattle.net_base.specs.declared.plan.places.CircuitId.{CircuitId}
@@ -13,7 +13,7 @@ use Rattle.net_base.specs.declared.trace.down.Down.{Down}
 use Rattle.net_base.specs.declared.trace.drop_cause.DropCause.{DropCause}
 use Rattle.net_base.specs.declared.trace.drop_cause.DropCause.TheVariants as cause
 use Rattle.net_values.specs.declared.mac.Mac.{Mac}
-use Rattle.net_base.specs.plan.Paths.{offer_of}
+use Rattle.net_base.specs.plan.Paths.{mate, offer_of}
 use Rattle.net_base.specs.plan.Places.{wire_row}
 use Rattle.net_base.specs.trace.Isolated.{inner_at}
 use Rattle.eth_encap.specs.declared.stack_entry.StackEntry.{StackEntry}
@@ -27,10 +27,14 @@ use Rattle.edge_model.specs.Clear.{withdrawing_at}
 use Rattle.edge_model.specs.declared.effect.Effect.{Effect}
 use Rattle.edge_model.specs.declared.effect.Effect.TheVariants as effect
 use Rattle.edge_model.specs.declared.end_place.EndPlace.{EndPlace}
+use Rattle.pw_stitch.specs.declared.swap_drop.SwapDrop.{SwapDrop}
+use Rattle.pw_stitch.specs.Drop.{dropped_for}
+use Rattle.pw_stitch.specs.Relabelling.{relabelled}
+use Rattle.pw_stitch.specs.Swap.{label_onward}
 use Rattle.edge_model.specs.Ends.{is_up, wire_end}
 use Rattle.edge_model.specs.Frame.{bridged, copies, copy_by, forwarded, frame_input, hearing, is_own, port_at, received, targets_of}
 use Rattle.edge_model.specs.Mend.{forgets_down, forgets_downs, forgetting_wire, port_of_wire}
-use Rattle.edge_model.specs.Packet.{advertiser, alerted, alerts_end, behind_entry, bridges_frame, by_control_word, by_offer, enters, is_alert, is_channel, labelled, least_label, opened_by, owned, packet_input, switched, terminated, unpacked_at}
+use Rattle.edge_model.specs.Packet.{switched_by, switched_to, switched_under, towards, advertiser, alerted, alerts_end, behind_entry, bridges_frame, by_control_word, by_offer, enters, is_alert, is_channel, labelled, least_label, opened_by, owned, packet_input, switched, terminated, unpacked_at}
 use Rattle.edge_model.specs.Role.{down_at}
 use Rattle.edge_model.specs.Send.{drops, had_posted, packet_of, sends, sends_copy, sends_under}
 use Rattle.edge_model.specs.State.{EdgeState, end_at, is_on, with_addresses}
@@ -283,12 +287,26 @@ terminated_bridges plan told place None remote payload work = drops_bridges caus
 terminated_bridges plan told place (Some row) None payload work = drops_bridges cause.Down work
 terminated_bridges plan told place (Some row) (Some binding) payload work = by_offer_bridges plan told row place (offer_of row work.edge.me.0).cword payload work
 
+switched_bridges : (plan : Plan) (told : Answers) (octets : List ℕ) (entry : StackEntry) (place : EndPlace) (work : Work) → BridgesOnly work (switched plan told octets entry place work)
+switched_bridges plan told octets entry place work = by (wire_row plan place.wire) where
+  under : (to : EdgeId) (label : Result ℕ SwapDrop) → BridgesOnly work (switched_under told octets entry place to label work)
+  under to (Err why) = drops_bridges (dropped_for why) work
+  under to (Ok label) = sends_bridges told (towards to place) (arrival.Wire place.wire) (relabelled label (entry.ttl - 1) octets) work
+
+  mated : (to : Option EdgeId) → BridgesOnly work (switched_to told octets entry place to work)
+  mated None = bridges_not work
+  mated (Some to) = under to (label_onward (work.edge.ends place.wire.0 to.0).remote entry.ttl)
+
+  by : (row : Option WirePlan) → BridgesOnly work (switched_by told octets entry place row work)
+  by None = bridges_not work
+  by (Some row) = mated (mate row work.edge.me.0 place.peer.0)
+
 owned_bridges : (plan : Plan) (told : Answers) (octets : List ℕ) (entry : StackEntry) (place : Option EndPlace) (work : Work) → BridgesOnly work (owned plan told octets entry place work)
 owned_bridges plan told octets entry None work = drops_bridges cause.NoLabel work
 owned_bridges plan told octets entry (Some place) work = by place.terminal where
   by : (b : Bool) → BridgesOnly work (cond b (terminated plan told place (wire_row plan place.wire) (end_at work.edge place).remote (behind_entry octets) work) (switched plan told octets entry place work))
   by true = terminated_bridges plan told place (wire_row plan place.wire) (end_at work.edge place).remote (behind_entry octets) work
-  by false = bridges_not work
+  by false = switched_bridges plan told octets entry place work
 
 labelled_bridges : (plan : Plan) (told : Answers) (octets : List ℕ) (entry : StackEntry) (work : Work) → BridgesOnly work (labelled plan told octets entry work)
 labelled_bridges plan told octets entry work = by (nat_lt entry.label least_label) entry.bottom where

@@ -22,6 +22,7 @@ pub mod ReleaseLemmas
 mod SessionExamples
 pub mod SessionLemmas
 mod SignalExamples
+mod SwitchExamples
 pub mod SignalLemmas
 pub mod StandbyLemmas
 pub mod StillLemmas

@@ -1,5 +1,5 @@
 -- What an edge gives out on a packet stays behind the wire whose label the packet has.
-use Rattle.std.proofs.Common.{◌≡◌, ◌&&◌, ◌/◌, ◌∙◌, drop, Bool, true, false, ℕ, List, [], ◌∷◌, Option, Some, None, Result, Ok, Err, length, position, slice_get, slice_index, nat_lt, refl, ap, sym, subst, not, nat_eq, cond}
+use Rattle.std.proofs.Common.{◌≡◌, ◌&&◌, ◌/◌, ◌∙◌, ◌-◌, inl, inr, drop, Bool, true, false, ℕ, List, [], ◌∷◌, Option, Some, None, Result, Ok, Err, length, position, slice_get, slice_index, nat_lt, refl, ap, sym, subst, not, nat_eq, cond}
 use Rattle.std.proofs.lemmas.Bool.{and_from, eq-eqb, eqb-true, ne_eqb}
 use Rattle.net_base.specs.declared.outside.link_call.LinkCall.{LinkCall}
 use Rattle.net_base.specs.declared.plan.Plan.{Plan}
@@ -10,7 +10,7 @@ use Rattle.net_base.specs.declared.trace.arrival.Arrival.TheVariants as arrival
 use Rattle.net_base.specs.declared.trace.down.Down.{Down}
 use Rattle.net_base.specs.declared.trace.drop_cause.DropCause.{DropCause}
 use Rattle.net_base.specs.declared.trace.drop_cause.DropCause.TheVariants as cause
-use Rattle.net_base.specs.plan.Paths.{offer_of}
+use Rattle.net_base.specs.plan.Paths.{mate, offer_of}
 use Rattle.net_base.specs.plan.Places.{is_mesh_class, mtu_of, wire_row}
 use Rattle.net_base.specs.plan.Roles.{wire_ends_at}
 use Rattle.hvpls_spokes.specs.declared.port.Port.{Port}
@@ -22,20 +22,23 @@ use Rattle.eth_encap.specs.Packet.{behind_control, entry_of, frame_behind}
 use Rattle.pw_signalling.specs.declared.binding.Binding.{Binding}
 use Rattle.pw_signalling.specs.declared.told.Told.{Told}
 use Rattle.pw_signalling.specs.End.{LocalPart, Idle, Advertised, Withdrawing}
-use Rattle.edge_model.specs.Copies.{AllAreCopies, IsCopy, PacketGoesOut, PacketIsDropped, PacketIsLost, PacketWork}
+use Rattle.edge_model.specs.Copies.{AllAreCopies, IsCopy, PacketGoesOn, PacketGoesOut, PacketIsDropped, PacketIsLost, PacketWork}
 use Rattle.edge_model.specs.declared.effect.Effect.{Effect}
 use Rattle.edge_model.specs.declared.effect.Effect.TheVariants as effect
 use Rattle.edge_model.specs.declared.end_place.EndPlace.{EndPlace}
 use Rattle.edge_model.specs.EndPlaces.{end_places, is_end_of_wire, is_terminal}
+use Rattle.pw_stitch.specs.declared.swap_drop.SwapDrop.TheVariants.{Expired}
+use Rattle.pw_stitch.specs.Relabelling.{relabelled}
+use Rattle.pw_stitch.specs.Swap.{label_onward}
 use Rattle.edge_model.specs.Ends.{is_up, wire_end}
 use Rattle.edge_model.specs.Frame.{forwarded, received}
 use Rattle.edge_model.specs.Local.{AllStayBehind, ComesBy, PacketsStayLocal, StaysBehind}
 use Rattle.edge_model.specs.Mend.{port_of_wire}
-use Rattle.edge_model.specs.Packet.{advertiser, advertises_label, alerted, alerts_end, behind_entry, bridges_frame, by_offer, enters, is_alert, is_channel, labelled, least_label, opened_by, owned, packet_input, switched, terminated, unpacked_at, unpacked_by}
+use Rattle.edge_model.specs.Packet.{switched_by, switched_to, switched_under, towards, advertiser, advertises_label, alerted, alerts_end, behind_entry, bridges_frame, by_offer, enters, is_alert, is_channel, labelled, least_label, opened_by, owned, packet_input, switched, terminated, unpacked_at, unpacked_by}
 use Rattle.edge_model.specs.Role.{down_at}
-use Rattle.edge_model.specs.Send.{drops}
+use Rattle.edge_model.specs.Send.{drops, had_posted}
 use Rattle.edge_model.specs.State.{EdgeState, end_at}
-use Rattle.edge_model.specs.Work.{Answers, Work, beginning, gives}
+use Rattle.edge_model.specs.Work.{Answers, Work, beginning, gives, next_answer, posts}
 use Rattle.edge_model.proofs.CopyLemmas.{forwards_copies, found_among, found_passes, wire_class}
 use Rattle.edge_model.proofs.PlaceLemmas.{IsEndOf, places_are}
 
@@ -110,6 +113,31 @@ module _ (plan : Plan) (told : Answers) (edge : EdgeState) (calls : List LinkCal
   terminated_works entry place (Some row) (Some binding) read owner terminal is bound =
       by_offer_works entry place row binding (offer_of row edge.me.0).cword (record { read = read; owner = owner; terminal = terminal; is = is; bound = bound })
 
+  switched_works : (entry : StackEntry) (place : EndPlace) → entry_of octets ≡ Ok entry → advertiser plan edge entry.label ≡ Some place → place.terminal ≡ false → Works (switched plan told octets entry place begun)
+  unfolding begun gives posts
+  switched_works entry place read owner passing = by (wire_row plan place.wire) refl where
+    posted : (row : WirePlan) → wire_row plan place.wire ≡ Some row → (to : EdgeId) → mate row edge.me.0 place.peer.0 ≡ Some to → (binding : Binding) → (edge.ends place.wire.0 to.0).remote ≡ Some binding → nat_eq entry.ttl 1 ≡ false
+        → (taken : Bool) → Works (had_posted (towards to place) (arrival.Wire place.wire) (relabelled binding.label (entry.ttl - 1) octets) taken begun)
+    posted row is to mate_is binding bound living true = PacketGoesOn (record { place = place; row = row; entry = entry; read = read; owner = owner; passing = passing; is = is; to = to; mate_is = mate_is; binding = binding; bound = bound; living = living; sent = refl })
+    posted row is to mate_is binding bound living false = PacketIsDropped cause.LinkFault refl
+
+    pick : (row : WirePlan) → wire_row plan place.wire ≡ Some row → (to : EdgeId) → mate row edge.me.0 place.peer.0 ≡ Some to → (binding : Binding) → (edge.ends place.wire.0 to.0).remote ≡ Some binding → (b : Bool) → nat_eq entry.ttl 1 ≡ b
+        → Works (switched_under told octets entry place to (cond b (Err Expired) (Ok binding.label)) begun)
+    pick row is to mate_is binding bound true living = dropped cause.Expired
+    pick row is to mate_is binding bound false living = posted row is to mate_is binding bound living (next_answer told begun)
+
+    swap : (row : WirePlan) → wire_row plan place.wire ≡ Some row → (to : EdgeId) → mate row edge.me.0 place.peer.0 ≡ Some to → (remote : Option Binding) → (edge.ends place.wire.0 to.0).remote ≡ remote → Works (switched_under told octets entry place to (label_onward remote entry.ttl) begun)
+    swap row is to mate_is None bound = dropped cause.NoBinding
+    swap row is to mate_is (Some binding) bound = pick row is to mate_is binding bound (nat_eq entry.ttl 1) refl
+
+    mated : (row : WirePlan) → wire_row plan place.wire ≡ Some row → (to : Option EdgeId) → mate row edge.me.0 place.peer.0 ≡ to → Works (switched_to told octets entry place to begun)
+    mated row is None mate_is = PacketIsLost refl
+    mated row is (Some to) mate_is = swap row is to mate_is (edge.ends place.wire.0 to.0).remote refl
+
+    by : (row : Option WirePlan) → wire_row plan place.wire ≡ row → Works (switched_by told octets entry place row begun)
+    by None is = PacketIsLost refl
+    by (Some row) is = mated row is (mate row edge.me.0 place.peer.0) refl
+
   owned_works : (entry : StackEntry) (place : Option EndPlace) → entry_of octets ≡ Ok entry → advertiser plan edge entry.label ≡ place → Works (owned plan told octets entry place begun)
   unfolding begun
   owned_works entry None read owner = dropped cause.NoLabel
@@ -117,7 +145,7 @@ module _ (plan : Plan) (told : Answers) (edge : EdgeState) (calls : List LinkCal
     by : (terminal : Bool) → place.terminal ≡ terminal
         → Works (cond terminal (terminated plan told place (wire_row plan place.wire) (end_at edge place).remote (behind_entry octets) begun) (switched plan told octets entry place begun))
     by true terminal = terminated_works entry place (wire_row plan place.wire) (end_at edge place).remote read owner terminal refl refl
-    by false terminal = PacketIsLost refl
+    by false terminal = switched_works entry place read owner terminal
 
   labelled_works : (entry : StackEntry) → entry_of octets ≡ Ok entry → Works (labelled plan told octets entry begun)
   unfolding begun
@@ -169,7 +197,7 @@ copy_behind plan edge octets frame place row from (effect.Sent peer wire came by
     let leads_on : LeadsToWire ports copy.p wire.0 = record { is = ap wire_behind copy.by.at ∙ wire_leads wire.0 copy.row } in
     let arrives : is_mesh_port ports from ≡ is_mesh_class row.class = mesh_port ports from place.wire.0 row (wire_port_is plan row.service edge.me from place.wire.0 row leads comes.is) in
     let goes : is_mesh_port ports copy.p ≡ is_mesh_class copy.row.class = mesh_port ports copy.p wire.0 copy.row copy.by.at in
-    record {
+    inl (record {
       place = place;
       row = row;
       by = comes;
@@ -179,7 +207,7 @@ copy_behind plan edge octets frame place row from (effect.Sent peer wire came by
       is = copy.is;
       same_service = copy.same_service;
       not_both_mesh = ap (λ (b : Bool). b && is_mesh_class copy.row.class) (sym arrives) ∙ (ap (λ (b : Bool). is_mesh_port ports from && b) (sym goes) ∙ copy.by.apart);
-    }
+    })
 copy_behind plan edge octets frame place row from (effect.Dropped why) comes formed leads copy = tt
 copy_behind plan edge octets frame place row from (effect.Said peer bytes) comes formed leads copy = absurd copy
 copy_behind plan edge octets frame place row from (effect.Session peer state) comes formed leads copy = absurd copy
@@ -199,6 +227,10 @@ work_stays plan edge octets es (PacketIsLost none) = subst (AllStayBehind plan e
 work_stays plan edge octets es (PacketIsDropped why one) = subst (AllStayBehind plan edge octets) (sym one) (tt, tt)
 work_stays plan edge octets es (PacketGoesOut out) =
     copies_behind plan edge octets out.frame out.place out.row out.from es out.comes out.formed (found_wire_port out.place.wire (ports_of plan out.row.service edge.me) out.from out.found) out.copies
+work_stays plan edge octets es (PacketGoesOn out) = subst (AllStayBehind plan edge octets) (sym out.sent) (
+  inr (record { place = out.place; row = out.row; entry = out.entry; read = out.read; owner = out.owner; passing = out.passing; is = out.is; mate_is = out.mate_is; same = refl; from = refl }),
+  tt,
+)
 
 pub packet_stays : (plan : Plan) (told : Answers) (edge : EdgeState) (calls : List LinkCall) (octets : List ℕ) → AllStayBehind plan edge octets (packet_input plan told octets (beginning edge calls)).effects
 packet_stays plan told edge calls octets = work_stays plan edge octets (packet_input plan told octets (beginning edge calls)).effects (packet_work plan told edge calls octets)

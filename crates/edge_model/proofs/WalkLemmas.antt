@@ -1,6 +1,6 @@
 -- Walks over all that an edge does: what holds of no work, of two works in turn and of each single step, holds of the whole. A fact
 -- of two moments of an edge so owes its single steps alone.
-use Rattle.std.proofs.Common.{◌≡◌, ◌+◌, ◌++◌, ◌&&◌, ◌∙◌, ℕ, zero, suc, Bool, true, false, List, [], ◌∷◌, Option, Some, None, Result, Ok, Err, cond, refl, sym, ap, nat_eq, nat_lt, append_assoc, not, length, slice_get}
+use Rattle.std.proofs.Common.{◌≡◌, ◌+◌, ◌++◌, ◌&&◌, ◌∙◌, ◌-◌, ℕ, zero, suc, Bool, true, false, List, [], ◌∷◌, Option, Some, None, Result, Ok, Err, cond, refl, sym, ap, nat_eq, nat_lt, append_assoc, not, length, slice_get}
 use Rattle.net_base.specs.declared.plan.Plan.{Plan}
 use Rattle.net_base.specs.declared.plan.edge_plan.EdgePlan.{EdgePlan}
 use Rattle.net_base.specs.declared.plan.circuit_plan.CircuitPlan.{CircuitPlan}
@@ -17,7 +17,7 @@ use Rattle.net_base.specs.declared.trace.drop_cause.DropCause.TheVariants as cau
 use Rattle.net_base.specs.declared.trace.state_name.Reason.TheVariants as reason
 use Rattle.net_base.specs.declared.trace.state_name.StateName.TheVariants as name
 use Rattle.net_values.specs.declared.mac.Mac.{Mac}
-use Rattle.net_base.specs.plan.Paths.{are_joined, offer_of}
+use Rattle.net_base.specs.plan.Paths.{mate, are_joined, offer_of}
 use Rattle.net_base.specs.plan.Places.{circuit_row, wire_row}
 use Rattle.net_base.specs.trace.Isolated.{inner_at}
 use Rattle.eth_encap.specs.declared.stack_entry.StackEntry.{StackEntry}
@@ -55,11 +55,15 @@ use Rattle.edge_model.specs.Connection.{connected_input, connects_between, lost_
 use Rattle.edge_model.specs.declared.input.Input.{Input}
 use Rattle.edge_model.specs.declared.input.Input.TheVariants.{Connected, Octets, Lost, Restart, Tick, Frame, Packet, Wire, Circuit, Status, Priority, Ping}
 use Rattle.edge_model.specs.EndPlaces.{end_places, ends_here, passes}
+use Rattle.pw_stitch.specs.declared.swap_drop.SwapDrop.{SwapDrop}
+use Rattle.pw_stitch.specs.Drop.{dropped_for}
+use Rattle.pw_stitch.specs.Relabelling.{relabelled}
+use Rattle.pw_stitch.specs.Swap.{label_onward}
 use Rattle.edge_model.specs.Ends.{is_up, wire_end}
 use Rattle.edge_model.specs.Frame.{copies, copy_by, frame_input, hearing, is_own, port_at, received, targets_of}
 use Rattle.edge_model.specs.Hear.{acts, acts_on, advice_of, advises, hears, hears_few, hears_front, hears_message, hears_messages, hears_on, hears_one, hears_pdu, hears_within, holds, octets_input, was_up}
 use Rattle.edge_model.specs.Mend.{advertises, advertises_wish, advertising, and_says, cause_number, each_end, forgets_down, forgets_downs, forgetting_wire, is_new_choice, mends, mends_choice, mends_end, mends_few, mends_local, mends_once, mends_status, mends_status_of, port_of_wire, tells_down, tells_downs, tells_new_status, tells_over, telling_status, then_changes, wish, withdrawing, withdraws, withdraws_unless}
-use Rattle.edge_model.specs.Packet.{advertiser, alerted, alerts_end, behind_entry, bridges_frame, by_offer, enters, is_alert, is_channel, labelled, least_label, opened_by, owned, packet_input, switched, terminated, unpacked_at}
+use Rattle.edge_model.specs.Packet.{switched_by, switched_to, switched_under, towards, advertiser, alerted, alerts_end, behind_entry, bridges_frame, by_offer, enters, is_alert, is_channel, labelled, least_label, opened_by, owned, packet_input, switched, terminated, unpacked_at}
 use Rattle.edge_model.specs.Put.{Spoken, put_reply, stays}
 use Rattle.edge_model.specs.Role.{down_at, status_to_tell}
 use Rattle.edge_model.specs.Send.{drops, packet_of, sends, sends_copy, sends_under}
@@ -622,12 +626,26 @@ module _ (plan : Plan) (told : Answers) (R : Work → Work → Type 0) (steps : 
   terminated_holds place (Some row) None payload work = steps.drops cause.Down work
   terminated_holds place (Some row) (Some binding) payload work = by_offer_holds row place (offer_of row work.edge.me.0).cword payload work
 
+  switched_holds : (octets : List ℕ) (entry : StackEntry) (place : EndPlace) (work : Work) → R work (switched plan told octets entry place work)
+  switched_holds octets entry place work = by (wire_row plan place.wire) where
+    under : (to : EdgeId) (label : Result ℕ SwapDrop) → R work (switched_under told octets entry place to label work)
+    under to (Err why) = steps.drops (dropped_for why) work
+    under to (Ok label) = steps.sends_packet (towards to place) (arrival.Wire place.wire) (relabelled label (entry.ttl - 1) octets) work
+
+    mated : (to : Option EdgeId) → R work (switched_to told octets entry place to work)
+    mated None = steps.hear.mend.same work
+    mated (Some to) = under to (label_onward (work.edge.ends place.wire.0 to.0).remote entry.ttl)
+
+    by : (row : Option WirePlan) → R work (switched_by told octets entry place row work)
+    by None = steps.hear.mend.same work
+    by (Some row) = mated (mate row work.edge.me.0 place.peer.0)
+
   owned_holds : (octets : List ℕ) (entry : StackEntry) (place : Option EndPlace) (work : Work) → R work (owned plan told octets entry place work)
   owned_holds octets entry None work = steps.drops cause.NoLabel work
   owned_holds octets entry (Some place) work = by place.terminal where
     by : (b : Bool) → R work (cond b (terminated plan told place (wire_row plan place.wire) (end_at work.edge place).remote (behind_entry octets) work) (switched plan told octets entry place work))
     by true = terminated_holds place (wire_row plan place.wire) (end_at work.edge place).remote (behind_entry octets) work
-    by false = steps.hear.mend.same work
+    by false = switched_holds octets entry place work
 
   labelled_holds : (octets : List ℕ) (entry : StackEntry) (work : Work) → R work (labelled plan told octets entry work)
   labelled_holds octets entry work = by (nat_lt entry.label least_label) entry.bottom where

@@ -1,6 +1,6 @@
 -- What comes of a frame that the bridge of a service hears by a port: copies of it, each by another port of the service (RFC 4762
 -- sections 4.1, 4.2 and 4.4). Whatever else an edge gives out on a frame or a packet is one drop, or nothing.
-use Rattle.std.specs.Prelude.{◌≡◌, ◌==◌, ◌&&◌, ℕ, true, false, List, [], ◌∷◌, Option, Some, None, Ok, Err, slice_get}
+use Rattle.std.specs.Prelude.{◌≡◌, ◌==◌, ◌-◌, ◌&&◌, ℕ, true, false, List, [], ◌∷◌, Option, Some, None, Ok, Err, slice_get}
 use Rattle.net_base.specs.declared.plan.Plan.{Plan}
 use Rattle.net_base.specs.declared.plan.circuit_plan.CircuitPlan.{CircuitPlan}
 use Rattle.net_base.specs.declared.plan.places.CircuitId.{CircuitId}
@@ -12,7 +12,9 @@ use Rattle.net_base.specs.declared.trace.arrival.Arrival.{Arrival}
 use Rattle.net_base.specs.declared.trace.arrival.Arrival.TheVariants as arrival
 use Rattle.net_base.specs.declared.trace.drop_cause.DropCause.{DropCause}
 use Rattle.net_base.specs.declared.trace.drop_cause.DropCause.TheVariants as cause
-use Rattle.net_base.specs.plan.Paths.{offer_of}
+use Rattle.net_base.specs.plan.Paths.{mate, offer_of}
+use Rattle.eth_encap.specs.declared.stack_entry.StackEntry.{StackEntry}
+use Rattle.eth_encap.specs.Packet.{entry_of}
 use Rattle.net_base.specs.plan.Places.{service_of, wire_row}
 use Rattle.net_base.specs.trace.Isolated.{inner_at}
 use Rattle.net_base.specs.trace.Frame.{dress}
@@ -20,6 +22,7 @@ use Rattle.hvpls_spokes.specs.declared.port.Port.{Port}
 use Rattle.hvpls_spokes.specs.declared.port.Port.TheVariants as port
 use Rattle.hvpls_spokes.specs.Port.{is_mesh_port, ports_of, wire_port}
 use Rattle.pw_signalling.specs.declared.binding.Binding.{Binding}
+use Rattle.pw_stitch.specs.Relabelling.{relabelled}
 use Rattle.edge_model.specs.declared.effect.Effect.{Effect}
 use Rattle.edge_model.specs.declared.effect.Effect.TheVariants.{Left, Sent, Dropped}
 use Rattle.edge_model.specs.declared.end_place.EndPlace.{EndPlace}
@@ -27,7 +30,7 @@ use Rattle.edge_model.specs.Ends.{wire_end}
 use Rattle.edge_model.specs.Frame.{hearing, port_at, port_forwards, tag_of, targets_of}
 use Rattle.edge_model.specs.Local.{ComesBy}
 use Rattle.edge_model.specs.Mend.{port_of_wire}
-use Rattle.edge_model.specs.Packet.{behind_entry, unpacked_at}
+use Rattle.edge_model.specs.Packet.{advertiser, behind_entry, unpacked_at}
 use Rattle.edge_model.specs.Role.{down_at}
 use Rattle.edge_model.specs.Send.{packet_of}
 use Rattle.edge_model.specs.State.{EdgeState, end_at}
@@ -109,7 +112,24 @@ pub record PacketIsCopied (plan : Plan) (edge : EdgeState) (octets : List ℕ) (
   pub found : port_of_wire plan edge place.wire row ≡ Some from
   pub copies : AllAreCopies plan edge (arrival.Wire place.wire) row.service frame from effects
 
+-- it went on along its wire, at a switching point of which the side towards the other neighbour is bound (RFC 6073 section 4)
+pub record PacketIsSwitched (plan : Plan) (edge : EdgeState) (octets : List ℕ) (effects : List Effect) : Type 0 where
+  pub place : EndPlace
+  pub row : WirePlan
+  pub entry : StackEntry
+  pub read : entry_of octets ≡ Ok entry
+  pub owner : advertiser plan edge entry.label ≡ Some place
+  pub passing : place.terminal ≡ false
+  pub is : wire_row plan place.wire ≡ Some row
+  pub to : EdgeId
+  pub mate_is : mate row edge.me.0 place.peer.0 ≡ Some to
+  pub binding : Binding
+  pub bound : (edge.ends place.wire.0 to.0).remote ≡ Some binding
+  pub living : (entry.ttl == 1) ≡ false
+  pub sent : effects ≡ Sent to place.wire (arrival.Wire place.wire) (relabelled binding.label (entry.ttl - 1) octets) ∷ []
+
 pub data PacketWork (plan : Plan) (edge : EdgeState) (octets : List ℕ) (effects : List Effect) : Type 0 where
   PacketIsLost : effects ≡ [] → PacketWork plan edge octets effects
   PacketIsDropped : (why : DropCause) → effects ≡ Dropped why ∷ [] → PacketWork plan edge octets effects
   PacketGoesOut : PacketIsCopied plan edge octets effects → PacketWork plan edge octets effects
+  PacketGoesOn : PacketIsSwitched plan edge octets effects → PacketWork plan edge octets effects

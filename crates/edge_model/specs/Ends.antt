@@ -1,14 +1,15 @@
 -- The ends of wires at an edge: which one is terminal, and whether it forwards (RFC 4762 section 4, RFC 8077 section 6).
-use Rattle.std.specs.Prelude.{Bool, true, false, Option, Some, None}
-use Rattle.std.specs.List.{find}
+use Rattle.std.specs.Prelude.{◌||◌, not, Bool, true, false, Option, Some, None}
+use Rattle.std.specs.List.{find, list_all}
 use Rattle.net_base.specs.declared.plan.Plan.{Plan}
 use Rattle.net_base.specs.declared.plan.places.EdgeId.{EdgeId}
 use Rattle.net_base.specs.declared.plan.places.WireId.{WireId}
 use Rattle.net_base.specs.declared.trace.down.Down.{Down}
+use Rattle.pw_stitch.specs.Stitch.{is_joined_end}
 use Rattle.edge_model.specs.declared.end_place.EndPlace.{EndPlace}
-use Rattle.edge_model.specs.EndPlaces.{end_places, is_end_of_wire}
+use Rattle.edge_model.specs.EndPlaces.{end_places, is_end_of_wire, is_of_wire}
 use Rattle.edge_model.specs.Role.{down_at}
-use Rattle.edge_model.specs.State.{EdgeState}
+use Rattle.edge_model.specs.State.{EdgeState, end_at}
 
 -- the edge's end of a wire of which it is a terminal edge
 abbrev pub wire_end : Plan → EdgeId → WireId → Option EndPlace
@@ -26,6 +27,10 @@ forwards_at plan edge (Some place) = is_up (down_at plan edge place)
 abbrev pub end_forwards : Plan → EdgeState → WireId → Bool
 end_forwards plan edge wire = forwards_at plan edge (wire_end plan edge.me wire)
 
--- The edge, a switching point of the wire, has both sides advertised and bound. What a switching point tells is to come
+-- an end of the wire advertises its label, and is bound
+abbrev pub is_joined_place : EdgeState → WireId → EndPlace → Bool
+is_joined_place edge wire place = not (is_of_wire wire place) || is_joined_end (end_at edge place)
+
+-- the edge, a switching point of the wire, has both sides advertised and bound (RFC 6073 section 4)
 abbrev pub is_stitched : Plan → EdgeState → WireId → Bool
-is_stitched plan edge wire = false
+is_stitched plan edge wire = list_all (is_joined_place edge wire) (end_places plan edge.me)

@@ -1,14 +1,16 @@
 -- Local isolation: what one edge gives out on a frame stays within the service of the frame's circuit, and what it gives out on a
 -- packet within the service of the wire whose label the packet has.
-use Rattle.std.specs.Prelude.{◌≡◌, ◌==◌, ◌&&◌, ℕ, true, false, List, [], ◌∷◌, Some, None, Ok}
+use Rattle.std.specs.Prelude.{◌≡◌, ◌⊎◌, ◌==◌, ◌&&◌, ℕ, true, false, List, [], ◌∷◌, Some, None, Ok}
 use Rattle.net_base.specs.declared.outside.link_call.LinkCall.{LinkCall}
 use Rattle.net_base.specs.declared.plan.Plan.{Plan}
 use Rattle.net_base.specs.declared.plan.places.CircuitId.{CircuitId}
+use Rattle.net_base.specs.declared.plan.places.EdgeId.{EdgeId}
 use Rattle.net_base.specs.declared.plan.places.ServiceId.{ServiceId}
 use Rattle.net_base.specs.declared.plan.places.WireId.{WireId}
 use Rattle.net_base.specs.declared.plan.wire_plan.WirePlan.{WirePlan}
 use Rattle.net_base.specs.declared.trace.arrival.Arrival.{Arrival}
 use Rattle.net_base.specs.declared.trace.arrival.Arrival.TheVariants as arrival
+use Rattle.net_base.specs.plan.Paths.{mate}
 use Rattle.net_base.specs.plan.Places.{circuit_row, is_mesh_class, service_of, wire_row}
 use Rattle.net_base.specs.trace.Isolated.{inner_at}
 use Rattle.net_base.specs.trace.Frame.{dress}
@@ -82,9 +84,22 @@ pub record SentBehind (plan : Plan) (edge : EdgeState) (octets : List ℕ) (wire
   pub same_service : next.service ≡ row.service
   pub not_both_mesh : is_mesh_class row.class && is_mesh_class next.class ≡ false
 
+-- it was sent on along its wire, at a switching point of it, to the neighbour on the other side (RFC 6073 section 4)
+pub record SentOn (plan : Plan) (edge : EdgeState) (octets : List ℕ) (peer : EdgeId) (wire : WireId) (came : Arrival) : Type 0 where
+  pub place : EndPlace
+  pub row : WirePlan
+  pub entry : StackEntry
+  pub read : entry_of octets ≡ Ok entry
+  pub owner : advertiser plan edge entry.label ≡ Some place
+  pub passing : place.terminal ≡ false
+  pub is : wire_row plan place.wire ≡ Some row
+  pub mate_is : mate row edge.me.0 place.peer.0 ≡ Some peer
+  pub same : wire ≡ place.wire
+  pub from : came ≡ arrival.Wire place.wire
+
 abbrev pub StaysBehind : Plan → EdgeState → List ℕ → Effect → Type 0
 StaysBehind plan edge octets (Left at bytes) = LeavesBehind plan edge octets at bytes
-StaysBehind plan edge octets (Sent peer wire came bytes) = SentBehind plan edge octets wire came
+StaysBehind plan edge octets (Sent peer wire came bytes) = SentBehind plan edge octets wire came ⊎ SentOn plan edge octets peer wire came
 StaysBehind plan edge octets effect = Unit {0}
 
 abbrev pub AllStayBehind : Plan → EdgeState → List ℕ → List Effect → Type 0

@@ -1,6 +1,6 @@
 -- A packet comes from a neighbour: five steps, of which the first one that applies decides (RFC 3032 section 2.1, RFC 4448
 -- section 4, RFC 5085 section 5).
-use Rattle.std.specs.Prelude.{◌==◌, ◌&&◌, ◌/◌, not, nat_lt, ℕ, Bool, true, false, List, length, drop, slice_index, Option, Some, None, Result, Ok, Err, if◌then◌else◌}
+use Rattle.std.specs.Prelude.{◌==◌, ◌&&◌, ◌/◌, ◌-◌, not, nat_lt, ℕ, Bool, true, false, List, length, drop, slice_index, Option, Some, None, Result, Ok, Err, if◌then◌else◌}
 use Rattle.std.specs.List.{find}
 use Rattle.net_base.specs.declared.plan.Plan.{Plan}
 use Rattle.net_base.specs.declared.plan.offer.Offer.{Offer}
@@ -9,20 +9,24 @@ use Rattle.net_base.specs.declared.plan.wire_plan.WirePlan.{WirePlan}
 use Rattle.net_base.specs.declared.trace.arrival.Arrival.TheVariants as arrival
 use Rattle.net_base.specs.declared.trace.drop_cause.DropCause.{DropCause}
 use Rattle.net_base.specs.declared.trace.drop_cause.DropCause.TheVariants as cause
-use Rattle.net_base.specs.plan.Paths.{offer_of}
+use Rattle.net_base.specs.plan.Paths.{mate, offer_of}
 use Rattle.net_base.specs.plan.Places.{mtu_of, wire_row}
 use Rattle.net_values.specs.Label.{router_alert}
 use Rattle.eth_encap.specs.declared.stack_entry.StackEntry.{StackEntry}
 use Rattle.eth_encap.specs.Packet.{entry_of, unpacked}
 use Rattle.pw_signalling.specs.declared.binding.Binding.{Binding}
 use Rattle.pw_signalling.specs.End.{LocalPart, Idle, Advertised, Withdrawing}
+use Rattle.pw_stitch.specs.declared.swap_drop.SwapDrop.{SwapDrop}
+use Rattle.pw_stitch.specs.Drop.{dropped_for}
+use Rattle.pw_stitch.specs.Relabelling.{relabelled}
+use Rattle.pw_stitch.specs.Swap.{label_onward}
 use Rattle.edge_model.specs.declared.end_place.EndPlace.{EndPlace}
 use Rattle.edge_model.specs.EndPlaces.{end_places}
 use Rattle.edge_model.specs.Ends.{is_up}
 use Rattle.edge_model.specs.Frame.{received}
 use Rattle.edge_model.specs.Mend.{port_of_wire}
 use Rattle.edge_model.specs.Role.{down_at}
-use Rattle.edge_model.specs.Send.{drops}
+use Rattle.edge_model.specs.Send.{drops, sends}
 use Rattle.edge_model.specs.State.{EdgeState, end_at}
 use Rattle.edge_model.specs.Work.{Work, Answers}
 
@@ -65,10 +69,27 @@ abbrev pub alerted : Plan → Result StackEntry DropCause → Work → Work
 alerted plan (Err why) work = drops why work
 alerted plan (Ok entry) work = if entry.bottom then alerts_end (advertiser plan work.edge entry.label) work else drops cause.NotBottom work
 
--- ---- 3. a switching point passes the packet on (RFC 6073 section 4); that is to come
+-- ---- 3. a switching point passes the packet on (RFC 6073 section 4)
+
+abbrev pub towards : EdgeId → EndPlace → EndPlace
+towards to place = record place { peer = to }
+
+-- under the label that is bound towards the mate, or it is dropped
+abbrev pub switched_under : Answers → List ℕ → StackEntry → EndPlace → EdgeId → Result ℕ SwapDrop → Work → Work
+switched_under told octets entry place to (Err why) work = drops (dropped_for why) work
+switched_under told octets entry place to (Ok label) work = sends told (towards to place) (arrival.Wire place.wire) (relabelled label (entry.ttl - 1) octets) work
+
+-- to the mate, the neighbour on its other side
+abbrev pub switched_to : Answers → List ℕ → StackEntry → EndPlace → Option EdgeId → Work → Work
+switched_to told octets entry place None work = work
+switched_to told octets entry place (Some to) work = switched_under told octets entry place to (label_onward (work.edge.ends place.wire.0 to.0).remote entry.ttl) work
+
+abbrev pub switched_by : Answers → List ℕ → StackEntry → EndPlace → Option WirePlan → Work → Work
+switched_by told octets entry place None work = work
+switched_by told octets entry place (Some row) work = switched_to told octets entry place (mate row work.edge.me.0 place.peer.0) work
 
 abbrev pub switched : Plan → Answers → List ℕ → StackEntry → EndPlace → Work → Work
-switched plan told octets entry place work = work
+switched plan told octets entry place work = switched_by told octets entry place (wire_row plan place.wire) work
 
 -- ---- 5. the end does not forward, or the frame is bridged
 

@@ -1,8 +1,8 @@
 -- What comes of a packet that is carried where it arrives: a drop, or its frame is bridged, where the end of its wire forwards.
-use Rattle.std.proofs.Common.{◌≡◌, ◌≤◌, ◌&&◌, ◌||◌, ◌∙◌, ℕ, zero, suc, Bool, true, false, cond, List, [], ◌∷◌, Option, Some, None, Ok, length, nat_eq, nat_lt, position, slice_get, refl, sym, ap, arith}
-use Rattle.std.proofs.lemmas.Bool.{and_from, eq-eqb, eqb-true, or_parts}
+use Rattle.std.proofs.Common.{reverse, ◌==◌, ◌≡◌, ◌≤◌, ◌&&◌, ◌||◌, ◌∙◌, ℕ, Bool, true, false, cond, List, [], ◌∷◌, Option, Some, None, Ok, length, nat_eq, nat_lt, position, slice_get, refl, sym, ap, arith}
+use Rattle.std.proofs.lemmas.Bool.{and_from, eq-eqb}
 use Rattle.std.proofs.lemmas.Bool.Decides.{nat_tests}
-use Rattle.std.specs.List.{find, list_all}
+use Rattle.std.specs.List.{find}
 use Rattle.net_base.specs.declared.plan.Plan.{Plan}
 use Rattle.net_base.specs.declared.plan.places.EdgeId.{EdgeId}
 use Rattle.net_base.specs.declared.plan.places.WireId.{WireId}
@@ -13,7 +13,7 @@ use Rattle.net_base.specs.declared.trace.drop_cause.DropCause.{DropCause}
 use Rattle.net_base.specs.declared.trace.drop_cause.DropCause.TheVariants as cause
 use Rattle.net_base.specs.declared.trace.entry.Entry.{Entry}
 use Rattle.net_base.specs.plan.Accepted.{IsChecked}
-use Rattle.net_base.specs.plan.Paths.{has_repeat, is_first, is_last, joins, offer_of}
+use Rattle.net_base.specs.plan.Paths.{follows, has_repeat, is_first, is_last, joins, offer_of}
 use Rattle.net_base.specs.plan.Places.{mtu_of, wire_row}
 use Rattle.net_base.proofs.PathLemmas.{joins_turned}
 use Rattle.hvpls_spokes.specs.Port.{is_wire_port, ports_of}
@@ -47,49 +47,50 @@ use Rattle.packet_model.specs.Carried.{IsCarried}
 use Rattle.packet_model.proofs.ArriveLemmas.{IsOwner, IsSized, come_sized, owner_is}
 use Rattle.packet_model.proofs.PackLemmas.{wire_checked}
 use Rattle.packet_model.proofs.SendLemmas.{come_of, same_row, wire_end_is}
-use Rattle.flood_model.specs.Due.{has_short_paths}
+use Rattle.network_model.proofs.WayLemmas.{behind_first, earlier_stands, either_here, joins_is, once_behind, same_number}
+use Rattle.network_model.proofs.ReversedLemmas.{follows_reversed, once_reversed}
+use Rattle.network_model.proofs.GoalLemmas.{begins_first, ends_last}
 use Rattle.flood_model.proofs.CarryLemmas.{packed_carried, packed_entry}
 
 clash : {P : Type 0} → false ≡ true → P
 clash e = absurd (cc)
 
--- ---- paths of two edges
+-- ---- a terminal edge has one neighbour
 
--- a test that all items pass one passes
-all_at : {X : Type 0} (test : X → Bool) (xs : List X) (i : ℕ) (x : X) → list_all test xs ≡ true → slice_get xs i ≡ Some x → test x ≡ true
-all_at test [] i x all is = absurd (cc (is))
-all_at test (y ∷ ys) i x all is = by (test y) refl all i is (λ k every later. all_at test ys k x every later) where
-  by : (b : Bool) → test y ≡ b → b && list_all test ys ≡ true → (i : ℕ) → slice_get (y ∷ ys) i ≡ Some x → ((k : ℕ) → list_all test ys ≡ true → slice_get ys k ≡ Some x → test x ≡ true) → test x ≡ true
-  by false fails every i is rest = clash every
-  by true passes every zero is rest =
-      let same : y ≡ x = cc (is) in
-      ap test (sym same) ∙ passes
-  by true passes every (suc i) is rest = rest i every is
+next_one : (path : List EdgeId) (a b c : ℕ) → has_repeat path ≡ false → follows path a b ≡ true → follows path a c ≡ true → b ≡ c
+next_one [] a b c once one other = clash one
+next_one (last ∷ []) a b c once one other = clash one
+next_one (first ∷ next ∷ rest) a b c once one other =
+    either_here (a == first.0) (b == next.0) (follows (next ∷ rest) a b) one
+    (λ p q. either_here (a == first.0) (c == next.0) (follows (next ∷ rest) a c) other
+    (λ r s. same_number b next.0 q ∙ sym (same_number c next.0 s))
+    (λ t. clash (sym (behind_first first (next ∷ rest) a once (earlier_stands (next ∷ rest) a c t)) ∙ p)))
+    (λ t. either_here (a == first.0) (c == next.0) (follows (next ∷ rest) a c) other
+    (λ r s. clash (sym (behind_first first (next ∷ rest) a once (earlier_stands (next ∷ rest) a b t)) ∙ r))
+    (λ u. next_one (next ∷ rest) a b c (once_behind first (next ∷ rest) once) t u))
 
-pub short_path : (plan : Plan) (wire : WireId) (row : WirePlan) → has_short_paths plan ≡ true → wire_row plan wire ≡ Some row → length row.path ≡ 2
-short_path plan wire row short is = eqb-true (length row.path) 2 (all_at (λ (r : WirePlan). nat_eq (length r.path) 2) plan.wires wire.0 row short is)
+one_beside : (path : List EdgeId) (a b c : ℕ) → has_repeat path ≡ false → is_first a path || is_last a path ≡ true → joins a b path ≡ true → joins a c path ≡ true → b ≡ c
+one_beside path a b c once ended one other = by (is_first a path) (is_last a path) refl refl ended where
+  onward : (k : ℕ) → is_first a path ≡ true → joins a k path ≡ true → follows path a k ≡ true
+  onward k first joined = left (follows path a k) (follows path k a) (begins_first path a k once first) (sym (joins_is path a k) ∙ joined) where
+    left : (p q : Bool) → q ≡ false → p || q ≡ true → p ≡ true
+    left true q none is = refl
+    left false q none is = clash (sym none ∙ is)
 
--- both edges are terminal edges
-two_terminal : (path : List EdgeId) (a b : ℕ) → length path ≡ 2 → joins a b path ≡ true → is_first a path || is_last a path ≡ true
-two_terminal [] a b two joined = clash joined
-two_terminal (last ∷ []) a b two joined = clash joined
-two_terminal (first ∷ last ∷ []) a b two joined = one first.0 last.0 joined where
-  one : (f l : ℕ) → ((nat_eq a f && nat_eq b l) || (nat_eq b f && nat_eq a l)) || false ≡ true → nat_eq a f || nat_eq a l ≡ true
-  one f l joined = grind (arith, nat_tests)
-two_terminal (first ∷ next ∷ more ∷ rest) a b two joined = absurd (omega (arith, two))
+  homeward : (k : ℕ) → is_last a path ≡ true → joins a k path ≡ true → follows (reverse path) a k ≡ true
+  homeward k last joined = follows_reversed path a k ∙ right (follows path a k) (follows path k a) (ends_last path a k once last) (sym (joins_is path a k) ∙ joined) where
+    right : (p q : Bool) → p ≡ false → p || q ≡ true → q ≡ true
+    right true q none is = clash (sym none)
+    right false q none is = is
 
--- and each has one neighbour
-two_beside : (path : List EdgeId) (a b c : ℕ) → length path ≡ 2 → has_repeat path ≡ false → joins a b path ≡ true → joins a c path ≡ true → b ≡ c
-two_beside [] a b c two once one other = clash one
-two_beside (last ∷ []) a b c two once one other = clash one
-two_beside (first ∷ last ∷ []) a b c two once one other = same first.0 last.0 (or_parts (nat_eq last.0 first.0) false (or_parts (nat_eq last.0 first.0 || false) (false || false) once).0).0 one other where
-  same : (f l : ℕ) → nat_eq l f ≡ false → ((nat_eq a f && nat_eq b l) || (nat_eq b f && nat_eq a l)) || false ≡ true → ((nat_eq a f && nat_eq c l) || (nat_eq c f && nat_eq a l)) || false ≡ true → b ≡ c
-  same f l apart one other = grind (arith, nat_tests)
-two_beside (first ∷ next ∷ more ∷ rest) a b c two once one other = absurd (omega (arith, two))
+  by : (f l : Bool) → is_first a path ≡ f → is_last a path ≡ l → f || l ≡ true → b ≡ c
+  by true l first last is = next_one path a b c once (onward b first one) (onward c first other)
+  by false true first last is = next_one (reverse path) a b c (once_reversed path ∙ once) (homeward b last one) (homeward c last other)
+  by false false first last is = clash is
 
 -- ---- what is found by one test and passes another one: something is found by that too
 
-found_too : (first other : EndPlace → Bool) (xs : List EndPlace) (x : EndPlace) → find first xs ≡ Some x → other x ≡ true → (y : EndPlace) × (find other xs ≡ Some y)
+pub found_too : (first other : EndPlace → Bool) (xs : List EndPlace) (x : EndPlace) → find first xs ≡ Some x → other x ≡ true → (y : EndPlace) × (find other xs ≡ Some y)
 found_too first other [] x found passes = absurd (cc (found))
 found_too first other (y ∷ ys) x found passes = by (first y) (other y) refl found (found_too first other ys x) where
   by : (b c : Bool) → other y ≡ c → cond b (Some y) (find first ys) ≡ Some x → (find first ys ≡ Some x → other x ≡ true → (z : EndPlace) × (find other ys ≡ Some z)) → (z : EndPlace) × (cond c (Some y) (find other ys) ≡ Some z)
@@ -105,11 +106,11 @@ up_none : (why : Option Down) → is_up why ≡ true → why ≡ None
 up_none None up = refl
 up_none (Some why) up = absurd (cc (up))
 
-and_false : (b : Bool) → b && false ≡ false
+pub and_false : (b : Bool) → b && false ≡ false
 and_false true = refl
 and_false false = refl
 
-above_reserved : (label : ℕ) → 16 ≤ label → nat_lt label 16 ≡ false
+pub above_reserved : (label : ℕ) → 16 ≤ label → nat_lt label 16 ≡ false
 above_reserved label above = grind (arith, nat_tests)
 
 -- the end of a packet's wire beside the edge that sent it
@@ -134,7 +135,7 @@ pub data Arrived (plan : Plan) (network : NetworkState) (packet : Packet) (row :
   NotTaken : Drops (begin_at network packet.to) (packet_work plan network packet) → Arrived plan network packet row frame
   Taken : IsTaken plan network packet row frame → Arrived plan network packet row frame
 
-module _ (plan : Plan) (network : NetworkState) (trace : List Entry) (packet : Packet) (checked : IsChecked plan) (short : has_short_paths plan ≡ true) (ruled : IsRuledNetwork plan network) (rule : IsCarried plan network trace packet) where
+module _ (plan : Plan) (network : NetworkState) (trace : List Entry) (packet : Packet) (checked : IsChecked plan) (ruled : IsRuledNetwork plan network) (rule : IsCarried plan network trace packet) where
   abbrev edge : EdgeState
   edge = network.edges packet.to.0
 
@@ -167,139 +168,139 @@ module _ (plan : Plan) (network : NetworkState) (trace : List Entry) (packet : P
   given : nat_lt rule.label least_label ≡ false
   given = above_reserved rule.label rule.is_label.above
 
-  -- ---- the end that it comes by
-
-  two : length rule.row.path ≡ 2
-  two = short_path plan packet.wire rule.row short rule.is
-
-  back : joins packet.to.0 packet.from.0 rule.row.path ≡ true
-  back = sym (joins_turned rule.row.path packet.from.0 packet.to.0) ∙ rule.joined
-
-  -- the end that advertises the label
-  owner_beside : (place : EndPlace) → advertiser plan edge rule.label ≡ Some place → IsBeside packet place
-  owner_beside place owner =
-      let own : IsOwner plan edge rule.label place = owner_is plan edge rule.label place owner in
-      let places = rule.named.owner place.wire.0 place.peer.0 own.owned in
-      let row : own.end.row ≡ rule.row = same_row own.end.row rule.row (sym own.end.is ∙ (ap (slice_get plan.wires) places.0 ∙ rule.is)) in
-      record {
-        wire = ap (λ (n : ℕ). record { 0 = n }) places.0;
-        peer = ap (λ (n : ℕ). record { 0 = n }) places.1;
-        terminal = own.end.terminal ∙ (ap (λ (r : WirePlan). is_terminal r edge.me) row ∙ (ap (is_terminal rule.row) at ∙ two_terminal rule.row.path packet.to.0 packet.from.0 two back));
-      }
-
-  -- the end that is found for the wire
-  found_beside : (place : EndPlace) → wire_end plan edge.me packet.wire ≡ Some place → IsBeside packet place
-  found_beside place found =
-      let end : IsEndOf plan edge.me place = wire_end_is plan edge.me packet.wire place found in
-      let ends : IsWireEnd packet.wire place = found_end plan edge.me packet.wire place found in
-      let row : end.row ≡ rule.row = same_row end.row rule.row (sym end.is ∙ (ap (wire_row plan) ends.of_wire ∙ rule.is)) in
-      let joined : joins packet.to.0 place.peer.0 rule.row.path ≡ true =
-      ap (λ (r : WirePlan). joins packet.to.0 place.peer.0 r.path) (sym row) ∙ (ap (λ (k : EdgeId). joins k.0 place.peer.0 end.row.path) (sym at) ∙ end.joined) in
-      record {
-        wire = ends.of_wire;
-        peer = ap (λ (n : ℕ). record { 0 = n }) (two_beside rule.row.path packet.to.0 place.peer.0 packet.from.0 two (wire_checked plan packet.wire rule.row checked rule.is).once joined back);
-        terminal = ends.terminal;
-      }
-
-  -- the two forward alike
-  abbrev down_of : WireId → EdgeId → Option Down
-  down_of wire peer = down (role_in (wire_row plan wire) edge.me edge.chosen wire) (edge.bits wire.0) (edge.ends wire.0 peer.0)
-
-  down_is : (place : EndPlace) → IsBeside packet place → down_at plan edge place ≡ down_of packet.wire packet.from
-  down_is place beside = ap (λ (w : WireId). down_of w place.peer) beside.wire ∙ ap (down_of packet.wire) beside.peer
-
-  same_down : (place other : EndPlace) → IsBeside packet place → IsBeside packet other → down_at plan edge place ≡ down_at plan edge other
-  same_down place other beside too = down_is place beside ∙ sym (down_is other too)
-
-  -- the wire's end forwards where the end that advertises the label does
-  owner_forwards : (place : EndPlace) → advertiser plan edge rule.label ≡ Some place → down_at plan edge place ≡ None → end_forwards plan edge packet.wire ≡ true
-  owner_forwards place owner up =
-      let beside : IsBeside packet place = owner_beside place owner in
-      let passes : is_end_of_wire packet.wire place ≡ true = and_from (nat_eq place.wire.0 packet.wire.0) place.terminal (eq-eqb place.wire.0 packet.wire.0 (ap (λ (w : WireId). w.0) beside.wire)) beside.terminal in
-      let (other, found) = found_too (λ (p : EndPlace). advertises_label rule.label (end_at edge p).local) (is_end_of_wire packet.wire) (end_places plan edge.me) place owner passes in
-      ap (forwards_at plan edge) found ∙ ap is_up (same_down other place (found_beside other found) beside ∙ up)
-
   -- ---- the steps
 
-  opened : packet_work plan network packet ≡ owned plan taken_all packet.bytes entry (advertiser plan edge rule.label) work
+  pub opened : packet_work plan network packet ≡ owned plan taken_all packet.bytes entry (advertiser plan edge rule.label) work
   opened =
       ap (λ r. opened_by plan taken_all packet.bytes r work) arrives_under
       ∙ (ap (λ (b : Bool). cond b (alerted plan (entry_of (behind_entry packet.bytes)) work) (labelled plan taken_all packet.bytes entry work)) (and_false (nat_eq rule.label 1))
       ∙ ap (λ (b : Bool). cond b (drops cause.NoLabel work) (owned plan taken_all packet.bytes entry (advertiser plan edge rule.label) work)) given)
 
-  -- at an end that forwards the frame is bridged
-  bridged_at : (place : EndPlace) → advertiser plan edge rule.label ≡ Some place → down_at plan edge place ≡ None
-      → packet_work plan network packet ≡ forwarded plan taken_all (arrival.Wire packet.wire) rule.row.service rule.frame (position (is_wire_port packet.wire) (ports_of plan rule.row.service packet.to)) work
-  bridged_at place owner up =
-      let beside : IsBeside packet place = owner_beside place owner in
-      let is : wire_row plan place.wire ≡ Some rule.row = ap (wire_row plan) beside.wire ∙ rule.is in
-      let agree : BothAgree (end_at edge place) = forwards_where_both_agree (role_at plan edge place) (edge.bits place.wire.0) (end_at edge place) up in
-      packet_is plan taken_all packet.bytes rule.frame work place rule.row agree.binding
-      (record { entry = entry; read = arrives_under; owner = owner; terminal = beside.terminal; is = is; forwards = up }) refl given agree.bound unpacks
-      ∙ (ap (λ (w : WireId). forwarded plan taken_all (arrival.Wire w) rule.row.service rule.frame (position (is_wire_port w) (ports_of plan rule.row.service edge.me)) work) beside.wire
-      ∙ ap (λ (k : EdgeId). forwarded plan taken_all (arrival.Wire packet.wire) rule.row.service rule.frame (position (is_wire_port packet.wire) (ports_of plan rule.row.service k)) work) at)
+  -- ---- at a terminal edge
 
-  -- the wire has a port of its service there
-  has_port : (place : EndPlace) → advertiser plan edge rule.label ≡ Some place → (p : ℕ) × (position (is_wire_port packet.wire) (ports_of plan rule.row.service packet.to) ≡ Some p)
-  has_port place owner =
-      let beside : IsBeside packet place = owner_beside place owner in
-      let own : IsOwner plan edge rule.label place = owner_is plan edge rule.label place owner in
-      let (p, found) = wire_found plan edge.me place rule.row own.end beside.terminal (ap (wire_row plan) beside.wire ∙ rule.is) in (
-        p,
-        ap (λ (k : EdgeId). position (is_wire_port packet.wire) (ports_of plan rule.row.service k)) (sym at)
-            ∙ (ap (λ (w : WireId). position (is_wire_port w) (ports_of plan rule.row.service edge.me)) (sym beside.wire) ∙ found),
-      )
+  module _ (ended : is_terminal rule.row packet.to ≡ true) where
+    -- ---- the end that it comes by
 
-  -- at one that does not forward it is dropped
-  enters_drops : (place : EndPlace) (why : Down) → down_at plan edge place ≡ Some why → enters plan taken_all rule.row place (behind_entry packet.bytes) work ≡ drops cause.Down work
-  enters_drops place why is_down = ap (λ (d : Option Down). cond (is_up d) (bridges_frame plan taken_all rule.row place (behind_entry packet.bytes) work) (drops cause.Down work)) is_down
+    back : joins packet.to.0 packet.from.0 rule.row.path ≡ true
+    back = sym (joins_turned rule.row.path packet.from.0 packet.to.0) ∙ rule.joined
 
-  offer_drops : (place : EndPlace) (why : Down) (cword : Bool) → down_at plan edge place ≡ Some why → Drops work (by_offer plan taken_all rule.row place cword (behind_entry packet.bytes) work)
-  offer_drops place why false is_down = record { why = cause.Down; is = enters_drops place why is_down }
-  offer_drops place why true is_down = by (nat_eq (length (behind_entry packet.bytes)) 0) (is_channel (behind_entry packet.bytes)) where
-    by : (empty channel : Bool) → Drops work (cond empty (drops cause.Short work) (cond channel (drops cause.NotOffered work) (enters plan taken_all rule.row place (behind_entry packet.bytes) work)))
-    by true channel = record { why = cause.Short; is = refl }
-    by false true = record { why = cause.NotOffered; is = refl }
-    by false false = record { why = cause.Down; is = enters_drops place why is_down }
+    -- the end that advertises the label
+    owner_beside : (place : EndPlace) → advertiser plan edge rule.label ≡ Some place → IsBeside packet place
+    owner_beside place owner =
+        let own : IsOwner plan edge rule.label place = owner_is plan edge rule.label place owner in
+        let places = rule.named.owner place.wire.0 place.peer.0 own.owned in
+        let row : own.end.row ≡ rule.row = same_row own.end.row rule.row (sym own.end.is ∙ (ap (slice_get plan.wires) places.0 ∙ rule.is)) in
+        record {
+          wire = ap (λ (n : ℕ). record { 0 = n }) places.0;
+          peer = ap (λ (n : ℕ). record { 0 = n }) places.1;
+          terminal = own.end.terminal ∙ (ap (λ (r : WirePlan). is_terminal r edge.me) row ∙ (ap (is_terminal rule.row) at ∙ ended));
+        }
 
-  terminated_at : (place : EndPlace) → advertiser plan edge rule.label ≡ Some place
-      → packet_work plan network packet ≡ terminated plan taken_all place (Some rule.row) (end_at edge place).remote (behind_entry packet.bytes) work
-  terminated_at place owner =
-      let beside : IsBeside packet place = owner_beside place owner in
-      opened
-      ∙ (ap (λ (o : Option EndPlace). owned plan taken_all packet.bytes entry o work) owner
-      ∙ (ap (λ (b : Bool). cond b (terminated plan taken_all place (wire_row plan place.wire) (end_at edge place).remote (behind_entry packet.bytes) work) (switched plan taken_all packet.bytes entry place work)) beside.terminal
-      ∙ ap (λ (r : Option WirePlan). terminated plan taken_all place r (end_at edge place).remote (behind_entry packet.bytes) work) (ap (wire_row plan) beside.wire ∙ rule.is)))
+    -- the end that is found for the wire
+    found_beside : (place : EndPlace) → wire_end plan edge.me packet.wire ≡ Some place → IsBeside packet place
+    found_beside place found =
+        let end : IsEndOf plan edge.me place = wire_end_is plan edge.me packet.wire place found in
+        let ends : IsWireEnd packet.wire place = found_end plan edge.me packet.wire place found in
+        let row : end.row ≡ rule.row = same_row end.row rule.row (sym end.is ∙ (ap (wire_row plan) ends.of_wire ∙ rule.is)) in
+        let joined : joins packet.to.0 place.peer.0 rule.row.path ≡ true =
+        ap (λ (r : WirePlan). joins packet.to.0 place.peer.0 r.path) (sym row) ∙ (ap (λ (k : EdgeId). joins k.0 place.peer.0 end.row.path) (sym at) ∙ end.joined) in
+        record {
+          wire = ends.of_wire;
+          peer = ap (λ (n : ℕ). record { 0 = n }) (one_beside rule.row.path packet.to.0 place.peer.0 packet.from.0 (wire_checked plan packet.wire rule.row checked rule.is).once ended joined back);
+          terminal = ends.terminal;
+        }
 
-  at_end : (place : EndPlace) → advertiser plan edge rule.label ≡ Some place → (remote : Option Binding) → (end_at edge place).remote ≡ remote → (why : Option Down) → down_at plan edge place ≡ why
-      → Arrived plan network packet rule.row rule.frame
-  at_end place owner None bound why is_down =
-      NotTaken (record { why = cause.Down; is = terminated_at place owner ∙ ap (λ (b : Option Binding). terminated plan taken_all place (Some rule.row) b (behind_entry packet.bytes) work) bound })
-  at_end place owner (Some binding) bound None up =
-      let (p, found) = has_port place owner in
-      Taken (record { forwards = owner_forwards place owner up; port = p; found = found; work = bridged_at place owner up })
-  at_end place owner (Some binding) bound (Some why) is_down =
-      let dropped : Drops work (by_offer plan taken_all rule.row place (offer_of rule.row edge.me.0).cword (behind_entry packet.bytes) work) = offer_drops place why (offer_of rule.row edge.me.0).cword is_down in
-      NotTaken (record { why = dropped.why; is = terminated_at place owner ∙ (ap (λ (b : Option Binding). terminated plan taken_all place (Some rule.row) b (behind_entry packet.bytes) work) bound ∙ dropped.is) })
+    -- the two forward alike
+    abbrev down_of : WireId → EdgeId → Option Down
+    down_of wire peer = down (role_in (wire_row plan wire) edge.me edge.chosen wire) (edge.bits wire.0) (edge.ends wire.0 peer.0)
 
-  -- whatever comes of it
-  pub arrived : Arrived plan network packet rule.row rule.frame
-  arrived = by (advertiser plan edge rule.label) refl where
-    by : (owner : Option EndPlace) → advertiser plan edge rule.label ≡ owner → Arrived plan network packet rule.row rule.frame
-    by None owner = NotTaken (record { why = cause.NoLabel; is = opened ∙ ap (λ (o : Option EndPlace). owned plan taken_all packet.bytes entry o work) owner })
-    by (Some place) owner = at_end place owner (end_at edge place).remote refl (down_at plan edge place) refl
+    down_is : (place : EndPlace) → IsBeside packet place → down_at plan edge place ≡ down_of packet.wire packet.from
+    down_is place beside = ap (λ (w : WireId). down_of w place.peer) beside.wire ∙ ap (down_of packet.wire) beside.peer
 
-  -- where the wire's end advertises the label and forwards, the frame is bridged
-  pub taken_where : (told : Told) → (edge.ends packet.wire.0 packet.from.0).local ≡ Advertised rule.label told → end_forwards plan edge packet.wire ≡ true
-      → packet_work plan network packet ≡ forwarded plan taken_all (arrival.Wire packet.wire) rule.row.service rule.frame (position (is_wire_port packet.wire) (ports_of plan rule.row.service packet.to)) work
-  taken_where told advertised forwards = by (wire_end plan edge.me packet.wire) refl forwards where
-    by : (found : Option EndPlace) → wire_end plan edge.me packet.wire ≡ found → forwards_at plan edge found ≡ true
+    same_down : (place other : EndPlace) → IsBeside packet place → IsBeside packet other → down_at plan edge place ≡ down_at plan edge other
+    same_down place other beside too = down_is place beside ∙ sym (down_is other too)
+
+    -- the wire's end forwards where the end that advertises the label does
+    owner_forwards : (place : EndPlace) → advertiser plan edge rule.label ≡ Some place → down_at plan edge place ≡ None → end_forwards plan edge packet.wire ≡ true
+    owner_forwards place owner up =
+        let beside : IsBeside packet place = owner_beside place owner in
+        let passes : is_end_of_wire packet.wire place ≡ true = and_from (nat_eq place.wire.0 packet.wire.0) place.terminal (eq-eqb place.wire.0 packet.wire.0 (ap (λ (w : WireId). w.0) beside.wire)) beside.terminal in
+        let (other, found) = found_too (λ (p : EndPlace). advertises_label rule.label (end_at edge p).local) (is_end_of_wire packet.wire) (end_places plan edge.me) place owner passes in
+        ap (forwards_at plan edge) found ∙ ap is_up (same_down other place (found_beside other found) beside ∙ up)
+
+    -- at an end that forwards the frame is bridged
+    bridged_at : (place : EndPlace) → advertiser plan edge rule.label ≡ Some place → down_at plan edge place ≡ None
         → packet_work plan network packet ≡ forwarded plan taken_all (arrival.Wire packet.wire) rule.row.service rule.frame (position (is_wire_port packet.wire) (ports_of plan rule.row.service packet.to)) work
-    by None found up = clash up
-    by (Some place) found up =
-        let beside : IsBeside packet place = found_beside place found in
-        let local : (end_at edge place).local ≡ Advertised rule.label told =
-        ap (λ (w : WireId). (edge.ends w.0 place.peer.0).local) beside.wire ∙ (ap (λ (k : EdgeId). (edge.ends packet.wire.0 k.0).local) beside.peer ∙ advertised) in
-        let passes : advertises_label rule.label (end_at edge place).local ≡ true = ap (advertises_label rule.label) local ∙ eq-eqb rule.label rule.label refl in
-        let (other, owner) = found_too (is_end_of_wire packet.wire) (λ (p : EndPlace). advertises_label rule.label (end_at edge p).local) (end_places plan edge.me) place found passes in
-        bridged_at other owner (same_down other place (owner_beside other owner) beside ∙ up_none (down_at plan edge place) up)
+    bridged_at place owner up =
+        let beside : IsBeside packet place = owner_beside place owner in
+        let is : wire_row plan place.wire ≡ Some rule.row = ap (wire_row plan) beside.wire ∙ rule.is in
+        let agree : BothAgree (end_at edge place) = forwards_where_both_agree (role_at plan edge place) (edge.bits place.wire.0) (end_at edge place) up in
+        packet_is plan taken_all packet.bytes rule.frame work place rule.row agree.binding
+        (record { entry = entry; read = arrives_under; owner = owner; terminal = beside.terminal; is = is; forwards = up }) refl given agree.bound unpacks
+        ∙ (ap (λ (w : WireId). forwarded plan taken_all (arrival.Wire w) rule.row.service rule.frame (position (is_wire_port w) (ports_of plan rule.row.service edge.me)) work) beside.wire
+        ∙ ap (λ (k : EdgeId). forwarded plan taken_all (arrival.Wire packet.wire) rule.row.service rule.frame (position (is_wire_port packet.wire) (ports_of plan rule.row.service k)) work) at)
+
+    -- the wire has a port of its service there
+    has_port : (place : EndPlace) → advertiser plan edge rule.label ≡ Some place → (p : ℕ) × (position (is_wire_port packet.wire) (ports_of plan rule.row.service packet.to) ≡ Some p)
+    has_port place owner =
+        let beside : IsBeside packet place = owner_beside place owner in
+        let own : IsOwner plan edge rule.label place = owner_is plan edge rule.label place owner in
+        let (p, found) = wire_found plan edge.me place rule.row own.end beside.terminal (ap (wire_row plan) beside.wire ∙ rule.is) in (
+          p,
+          ap (λ (k : EdgeId). position (is_wire_port packet.wire) (ports_of plan rule.row.service k)) (sym at)
+              ∙ (ap (λ (w : WireId). position (is_wire_port w) (ports_of plan rule.row.service edge.me)) (sym beside.wire) ∙ found),
+        )
+
+    -- at one that does not forward it is dropped
+    enters_drops : (place : EndPlace) (why : Down) → down_at plan edge place ≡ Some why → enters plan taken_all rule.row place (behind_entry packet.bytes) work ≡ drops cause.Down work
+    enters_drops place why is_down = ap (λ (d : Option Down). cond (is_up d) (bridges_frame plan taken_all rule.row place (behind_entry packet.bytes) work) (drops cause.Down work)) is_down
+
+    offer_drops : (place : EndPlace) (why : Down) (cword : Bool) → down_at plan edge place ≡ Some why → Drops work (by_offer plan taken_all rule.row place cword (behind_entry packet.bytes) work)
+    offer_drops place why false is_down = record { why = cause.Down; is = enters_drops place why is_down }
+    offer_drops place why true is_down = by (nat_eq (length (behind_entry packet.bytes)) 0) (is_channel (behind_entry packet.bytes)) where
+      by : (empty channel : Bool) → Drops work (cond empty (drops cause.Short work) (cond channel (drops cause.NotOffered work) (enters plan taken_all rule.row place (behind_entry packet.bytes) work)))
+      by true channel = record { why = cause.Short; is = refl }
+      by false true = record { why = cause.NotOffered; is = refl }
+      by false false = record { why = cause.Down; is = enters_drops place why is_down }
+
+    terminated_at : (place : EndPlace) → advertiser plan edge rule.label ≡ Some place
+        → packet_work plan network packet ≡ terminated plan taken_all place (Some rule.row) (end_at edge place).remote (behind_entry packet.bytes) work
+    terminated_at place owner =
+        let beside : IsBeside packet place = owner_beside place owner in
+        opened
+        ∙ (ap (λ (o : Option EndPlace). owned plan taken_all packet.bytes entry o work) owner
+        ∙ (ap (λ (b : Bool). cond b (terminated plan taken_all place (wire_row plan place.wire) (end_at edge place).remote (behind_entry packet.bytes) work) (switched plan taken_all packet.bytes entry place work)) beside.terminal
+        ∙ ap (λ (r : Option WirePlan). terminated plan taken_all place r (end_at edge place).remote (behind_entry packet.bytes) work) (ap (wire_row plan) beside.wire ∙ rule.is)))
+
+    at_end : (place : EndPlace) → advertiser plan edge rule.label ≡ Some place → (remote : Option Binding) → (end_at edge place).remote ≡ remote → (why : Option Down) → down_at plan edge place ≡ why
+        → Arrived plan network packet rule.row rule.frame
+    at_end place owner None bound why is_down =
+        NotTaken (record { why = cause.Down; is = terminated_at place owner ∙ ap (λ (b : Option Binding). terminated plan taken_all place (Some rule.row) b (behind_entry packet.bytes) work) bound })
+    at_end place owner (Some binding) bound None up =
+        let (p, found) = has_port place owner in
+        Taken (record { forwards = owner_forwards place owner up; port = p; found = found; work = bridged_at place owner up })
+    at_end place owner (Some binding) bound (Some why) is_down =
+        let dropped : Drops work (by_offer plan taken_all rule.row place (offer_of rule.row edge.me.0).cword (behind_entry packet.bytes) work) = offer_drops place why (offer_of rule.row edge.me.0).cword is_down in
+        NotTaken (record { why = dropped.why; is = terminated_at place owner ∙ (ap (λ (b : Option Binding). terminated plan taken_all place (Some rule.row) b (behind_entry packet.bytes) work) bound ∙ dropped.is) })
+
+    -- whatever comes of it
+    pub arrived : Arrived plan network packet rule.row rule.frame
+    arrived = by (advertiser plan edge rule.label) refl where
+      by : (owner : Option EndPlace) → advertiser plan edge rule.label ≡ owner → Arrived plan network packet rule.row rule.frame
+      by None owner = NotTaken (record { why = cause.NoLabel; is = opened ∙ ap (λ (o : Option EndPlace). owned plan taken_all packet.bytes entry o work) owner })
+      by (Some place) owner = at_end place owner (end_at edge place).remote refl (down_at plan edge place) refl
+
+    -- where the wire's end advertises the label and forwards, the frame is bridged
+    pub taken_where : (told : Told) → (edge.ends packet.wire.0 packet.from.0).local ≡ Advertised rule.label told → end_forwards plan edge packet.wire ≡ true
+        → packet_work plan network packet ≡ forwarded plan taken_all (arrival.Wire packet.wire) rule.row.service rule.frame (position (is_wire_port packet.wire) (ports_of plan rule.row.service packet.to)) work
+    taken_where told advertised forwards = by (wire_end plan edge.me packet.wire) refl forwards where
+      by : (found : Option EndPlace) → wire_end plan edge.me packet.wire ≡ found → forwards_at plan edge found ≡ true
+          → packet_work plan network packet ≡ forwarded plan taken_all (arrival.Wire packet.wire) rule.row.service rule.frame (position (is_wire_port packet.wire) (ports_of plan rule.row.service packet.to)) work
+      by None found up = clash up
+      by (Some place) found up =
+          let beside : IsBeside packet place = found_beside place found in
+          let local : (end_at edge place).local ≡ Advertised rule.label told =
+          ap (λ (w : WireId). (edge.ends w.0 place.peer.0).local) beside.wire ∙ (ap (λ (k : EdgeId). (edge.ends packet.wire.0 k.0).local) beside.peer ∙ advertised) in
+          let passes : advertises_label rule.label (end_at edge place).local ≡ true = ap (advertises_label rule.label) local ∙ eq-eqb rule.label rule.label refl in
+          let (other, owner) = found_too (is_end_of_wire packet.wire) (λ (p : EndPlace). advertises_label rule.label (end_at edge p).local) (end_places plan edge.me) place found passes in
+          bridged_at other owner (same_down other place (owner_beside other owner) beside ∙ up_none (down_at plan edge place) up)

@@ -33,7 +33,7 @@ use Rattle.network_model.specs.Absorb.{taken_all}
 use Rattle.network_model.specs.Reach.{far_of, is_row_at, is_row_of}
 use Rattle.network_model.specs.State.{NetworkState}
 use Rattle.flood_model.specs.Copy.{IsStillEdge}
-use Rattle.flood_model.specs.Due.{due_by, due_towards, has_short_paths, may_flood, serves_here, wires_due}
+use Rattle.flood_model.specs.Due.{due_by, due_towards, may_flood, serves_here, wires_due}
 use Rattle.flood_model.proofs.CountLemmas.{meets, meets-append}
 use Rattle.flood_model.proofs.TallyLemmas.{same_sums, serves_row, tally, tally-append, tally_circuits, tally_wires}
 use Rattle.flood_model.proofs.WirePeerLemmas.{ServesMore, end_is_due, end_serves, wire_serves}
@@ -66,22 +66,22 @@ module _ (plan : Plan) (came : Arrival) (calm : NetworkState) (service : Service
   -- one where a copy by the port serves the circuit
   abbrev pub port_serves : Port → ℕ
   port_serves (port.Circuit at) = cond (nat_eq at.0 circuit.0) 1 0
-  port_serves (port.Mesh wire) = end_serves plan calm service circuit (wire_end plan edge.me wire)
-  port_serves (port.Spoke wire) = end_serves plan calm service circuit (wire_end plan edge.me wire)
+  port_serves (port.Mesh wire) = end_serves plan calm service circuit edge.me (wire_end plan edge.me wire)
+  port_serves (port.Spoke wire) = end_serves plan calm service circuit edge.me (wire_end plan edge.me wire)
 
   by_wire : (wire : WireId) (work : Work) → work.edge ≡ edge → end_forwards plan edge wire ≡ true
-      → ServesMore plan calm service circuit (end_serves plan calm service circuit (wire_end plan edge.me wire)) work (copy_by plan taken_all came frame (port.Mesh wire) work)
+      → ServesMore plan calm service circuit edge.me (end_serves plan calm service circuit edge.me (wire_end plan edge.me wire)) work (copy_by plan taken_all came frame (port.Mesh wire) work)
   by_wire wire work same up =
-      subst (λ (e : EdgeState). ServesMore plan calm service circuit (end_serves plan calm service circuit (wire_end plan e.me wire)) work (copy_by plan taken_all came frame (port.Mesh wire) work)) same
+      subst (λ (e : EdgeState). ServesMore plan calm service circuit e.me (end_serves plan calm service circuit e.me (wire_end plan e.me wire)) work (copy_by plan taken_all came frame (port.Mesh wire) work)) same
       (wire_serves plan came calm service circuit frame wire work (ap (λ (e : EdgeState). end_forwards plan e wire) same ∙ up))
 
   copy_serves : (x : Port) (goes : Bool) (work : Work) → work.edge ≡ edge → (goes ≡ true → forwards plan edge (Some x) ≡ true)
-      → ServesMore plan calm service circuit (cond goes (port_serves x) 0) work (cond goes (copy_by plan taken_all came frame x work) work)
+      → ServesMore plan calm service circuit edge.me (cond goes (port_serves x) 0) work (cond goes (copy_by plan taken_all came frame x work) work)
   unfolding gives
   copy_serves x false work same up = record { edge = refl; meet = omega arith }
   copy_serves (port.Circuit at) true work same up =
       let left : List Effect = effect.Left at (dress (tag_of plan at) frame) ∷ [] in
-      record { edge = refl; meet = omega (arith, meets-append plan calm service circuit work.effects left) }
+      record { edge = refl; meet = omega (arith, meets-append plan calm service circuit edge.me work.effects left) }
   copy_serves (port.Mesh wire) true work same up = by_wire wire work same (up refl)
   copy_serves (port.Spoke wire) true work same up = by_wire wire work same (up refl)
 
@@ -91,7 +91,7 @@ module _ (plan : Plan) (came : Arrival) (calm : NetworkState) (service : Service
 
   pub copies_serve : (targets : ℕ → Bool) (test : Port → Bool) → ((x : Port) → test x ≡ true → forwards plan edge (Some x) ≡ true)
       → (p : ℕ) (ports : List Port) (work : Work) → work.edge ≡ edge → ((q : ℕ) (x : Port) → slice_get ports q ≡ Some x → targets (p + q) ≡ test x)
-      → ServesMore plan calm service circuit (tally (serves_if test) ports) work (copies targets (copy_by plan taken_all came frame) p ports work)
+      → ServesMore plan calm service circuit edge.me (tally (serves_if test) ports) work (copies targets (copy_by plan taken_all came frame) p ports work)
   copies_serve targets test up p [] work same are = record { edge = refl; meet = omega arith }
   copies_serve targets test up p (x ∷ ports) work same are =
       let first : targets p ≡ test x = ap targets (sym (add-zero p)) ∙ are 0 x refl in
@@ -153,16 +153,16 @@ module _ (plan : Plan) (came : Arrival) (calm : NetworkState) (service : Service
   -- the port of a wire
   wire_port_counts : (place : ℕ) (row : WirePlan)
       → count (wire_port place row)
-      ≡ cond (end_forwards plan after (record { 0 = place }) && may_flood plan from place row) (end_serves plan calm service circuit (wire_end plan after.me (record { 0 = place }))) 0
-  wire_port_counts place row = by (is_mesh_class row.class) ∙ ap (λ (may : Bool). cond (end_forwards plan after wire && may) (end_serves plan calm service circuit (wire_end plan after.me wire)) 0) (class_is plan from place row) where
+      ≡ cond (end_forwards plan after (record { 0 = place }) && may_flood plan from place row) (end_serves plan calm service circuit after.me (wire_end plan after.me (record { 0 = place }))) 0
+  wire_port_counts place row = by (is_mesh_class row.class) ∙ ap (λ (may : Bool). cond (end_forwards plan after wire && may) (end_serves plan calm service circuit after.me (wire_end plan after.me wire)) 0) (class_is plan from place row) where
     wire : WireId
     wire = record { 0 = place }
 
-    by : (mesh : Bool) → count (cond mesh (port.Mesh wire) (port.Spoke wire)) ≡ cond (end_forwards plan after wire && class_may plan from place mesh) (end_serves plan calm service circuit (wire_end plan after.me wire)) 0
+    by : (mesh : Bool) → count (cond mesh (port.Mesh wire) (port.Spoke wire)) ≡ cond (end_forwards plan after wire && class_may plan from place mesh) (end_serves plan calm service circuit after.me (wire_end plan after.me wire)) 0
     by true = refl
     by false = refl
 
-  module _ (short : has_short_paths plan ≡ true) (still : IsStillEdge (calm.edges edge.me.0) edge) where
+  module _ (checked : IsChecked plan) (still : IsStillEdge (calm.edges edge.me.0) edge) where
     pub wires_serve : tally count (wire_ports 0 plan.wires service edge.me) ≡ wires_due plan calm service circuit edge.me.0 from
     unfolding with_addresses
     wires_serve =
@@ -174,15 +174,15 @@ module _ (plan : Plan) (came : Arrival) (calm : NetworkState) (service : Service
             let wire : WireId = record { 0 = place } in
             let forward : end_forwards plan after wire ≡ end_forwards plan (calm.edges edge.me.0) wire = still_forwards plan service frame arrival (calm.edges edge.me.0) edge wire still in
             let counted = wire_port_counts place row in
-            let serves : ℕ = end_serves plan calm service circuit (wire_end plan edge.me wire) in
+            let serves : ℕ = end_serves plan calm service circuit edge.me (wire_end plan edge.me wire) in
             let towards : ℕ = due_towards plan calm service circuit place (far_of edge.me.0 row.path) in
             ap (λ (n : ℕ). cond (wire_ends_at service edge.me.0 row) n 0) (counted ∙ ap (λ (up : Bool). cond (up && may_flood plan from place row) serves 0) forward)
             ∙ wire_counts (wire_ends_at service edge.me.0 row) (end_forwards plan (calm.edges edge.me.0) wire) (may_flood plan from place row) serves towards
-            (λ up. end_is_due plan calm service circuit after wire row short is (forward ∙ up))
+            (λ up. end_is_due plan calm service circuit after wire row checked is (forward ∙ up))
 
     -- the copies of a frame that goes by each port that it should
     flood_serves : ((p : ℕ) (x : Port) → slice_get (ports_of plan service edge.me) p ≡ Some x → targets_of plan after service (ports_of plan service edge.me) frame arrival p ≡ goes_by plan after others from x)
-        → meets plan calm service circuit (forwarded plan taken_all came service frame (Some arrival) (beginning edge [])).effects
+        → meets plan calm service circuit edge.me (forwarded plan taken_all came service frame (Some arrival) (beginning edge [])).effects
         ≡ cond (serves_here plan service edge circuit && others circuit.0) 1 0 + wires_due plan calm service circuit edge.me.0 from
     unfolding changes with_addresses
     flood_serves are =
@@ -284,19 +284,19 @@ wire_targets plan service at edge known arrival wire w p x unknown is from to = 
 
 -- a frame that came by a circuit
 pub frame_meets : (plan : Plan) (came : Arrival) (calm : NetworkState) (edge : EdgeState) (at circuit : CircuitId) (frame : List ℕ) (row : CircuitPlan)
-    → IsChecked plan → has_short_paths plan ≡ true → circuit_row plan at ≡ Some row → edge.me ≡ row.edge → IsStillEdge (calm.edges row.edge.0) edge
+    → IsChecked plan → circuit_row plan at ≡ Some row → edge.me ≡ row.edge → IsStillEdge (calm.edges row.edge.0) edge
     → ((arrival : ℕ) → known_port (addresses_of (hearing row.service frame arrival edge) row.service) (destination frame) ≡ None)
-    → meets plan calm row.service circuit (forwarded plan taken_all came row.service frame (port_at plan edge at row) (beginning edge [])).effects
+    → meets plan calm row.service circuit edge.me (forwarded plan taken_all came row.service frame (port_at plan edge at row) (beginning edge [])).effects
     ≡ cond (serves_here plan row.service edge circuit && not (nat_eq circuit.0 at.0)) 1 0 + wires_due plan calm row.service circuit row.edge.0 None
-frame_meets plan came calm edge at circuit frame row checked short is me still unknown =
+frame_meets plan came calm edge at circuit frame row checked is me still unknown =
     let ports : List Port = ports_of plan row.service edge.me in
     let serve : is_circuit_at row.service edge.me.0 row ≡ true = rw (eq-eqb row.service.0 row.service.0 refl, eq-eqb row.edge.0 edge.me.0 (ap (λ (e : EdgeId). e.0) (sym me))) refl in
     let (arrival, found) = finds_port at ports (has_circuit_port plan row.service edge.me at.0 row is serve) in
     let from : LeadsTo ports arrival at.0 = found_port at ports arrival found in
     let after : EdgeState = hearing row.service frame arrival edge in
     let here : IsStillEdge (calm.edges edge.me.0) edge = subst (λ (e : EdgeId). IsStillEdge (calm.edges e.0) edge) (sym me) still in
-    ap (λ (o : Option ℕ). meets plan calm row.service circuit (forwarded plan taken_all came row.service frame o (beginning edge [])).effects) found
-    ∙ (flood_serves plan came calm row.service circuit frame edge arrival (λ c. not (nat_eq c at.0)) None short here
+    ap (λ (o : Option ℕ). meets plan calm row.service circuit edge.me (forwarded plan taken_all came row.service frame o (beginning edge [])).effects) found
+    ∙ (flood_serves plan came calm row.service circuit frame edge arrival (λ c. not (nat_eq c at.0)) None checked here
     (λ p x to. circuit_targets plan row.service edge.me after (known_port (addresses_of after row.service) (destination frame)) arrival at.0 p x (unknown arrival) from to)
     ∙ ap (λ (e : EdgeId). cond (serves_here plan row.service edge circuit && not (nat_eq circuit.0 at.0)) 1 0 + wires_due plan calm row.service circuit e.0 None) me)
 
@@ -306,16 +306,16 @@ and_all false = refl
 
 -- a frame that came by a wire that forwards
 pub packet_meets : (plan : Plan) (came : Arrival) (calm : NetworkState) (edge : EdgeState) (service : ServiceId) (wire : WireId) (w : WirePlan) (circuit : CircuitId) (frame : List ℕ)
-    → IsChecked plan → has_short_paths plan ≡ true → wire_row plan wire ≡ Some w → wire_ends_at service edge.me.0 w ≡ true → IsStillEdge (calm.edges edge.me.0) edge
+    → IsChecked plan → wire_row plan wire ≡ Some w → wire_ends_at service edge.me.0 w ≡ true → IsStillEdge (calm.edges edge.me.0) edge
     → ((arrival : ℕ) → known_port (addresses_of (hearing service frame arrival edge) service) (destination frame) ≡ None)
-    → meets plan calm service circuit (forwarded plan taken_all came service frame (position (is_wire_port wire) (ports_of plan service edge.me)) (beginning edge [])).effects
+    → meets plan calm service circuit edge.me (forwarded plan taken_all came service frame (position (is_wire_port wire) (ports_of plan service edge.me)) (beginning edge [])).effects
     ≡ cond (serves_here plan service edge circuit) 1 0 + wires_due plan calm service circuit edge.me.0 (Some wire.0)
-packet_meets plan came calm edge service wire w circuit frame checked short is ends still unknown =
+packet_meets plan came calm edge service wire w circuit frame checked is ends still unknown =
     let ports : List Port = ports_of plan service edge.me in
     let (arrival, found) = finds_wire_port wire ports (has_wire_port plan service edge.me wire.0 w is ends) in
     let from : LeadsToWire ports arrival wire.0 = found_wire_port wire ports arrival found in
     let after : EdgeState = hearing service frame arrival edge in
-    ap (λ (o : Option ℕ). meets plan calm service circuit (forwarded plan taken_all came service frame o (beginning edge [])).effects) found
-    ∙ (flood_serves plan came calm service circuit frame edge arrival (λ c. true) (Some wire.0) short still
+    ap (λ (o : Option ℕ). meets plan calm service circuit edge.me (forwarded plan taken_all came service frame o (beginning edge [])).effects) found
+    ∙ (flood_serves plan came calm service circuit frame edge arrival (λ c. true) (Some wire.0) checked still
     (λ p x to. wire_targets plan service edge.me after (known_port (addresses_of after service) (destination frame)) arrival wire w p x (unknown arrival) is from to)
     ∙ ap (λ (b : Bool). cond b 1 0 + wires_due plan calm service circuit edge.me.0 (Some wire.0)) (and_all (serves_here plan service edge circuit)))

@@ -1,5 +1,5 @@
 -- Copies of a frame in a window: the packets of a bridge's copies, and what comes of them where they arrive.
-use Rattle.std.proofs.Common.{◌≡◌, ◌+◌, ◌∙◌, ℕ, true, false, List, [], ◌∷◌, Option, Some, None, Result, Ok, position, refl, sym, ap}
+use Rattle.std.proofs.Common.{Bool, ◌||◌, ◌-◌, ◌≡◌, ◌+◌, ◌∙◌, ℕ, true, false, List, [], ◌∷◌, Option, Some, None, Result, Ok, position, refl, sym, ap}
 use Rattle.std.specs.List.{AllByRecursion}
 use Rattle.std.proofs.lemmas.Bool.{eq-eqb, eqb-true}
 use Rattle.net_base.specs.declared.plan.Plan.{Plan}
@@ -18,11 +18,12 @@ use Rattle.hvpls_spokes.specs.Port.{is_wire_port, ports_of}
 use Rattle.eth_encap.specs.declared.stack_entry.StackEntry.{StackEntry}
 use Rattle.eth_encap.specs.Packet.{entry_of}
 use Rattle.pw_signalling.specs.End.{EndState, Advertised}
+use Rattle.pw_stitch.specs.Relabelling.{relabelled}
 use Rattle.edge_model.specs.Copies.{AllAreCopies, SentCopy}
 use Rattle.edge_model.specs.declared.effect.Effect.{Effect}
 use Rattle.edge_model.specs.declared.effect.Effect.TheVariants as effect
 use Rattle.edge_model.specs.declared.end_place.EndPlace.{EndPlace}
-use Rattle.edge_model.specs.Ends.{end_forwards, forwards_at, is_up, wire_end}
+use Rattle.edge_model.specs.Ends.{end_forwards, is_stitched, forwards_at, is_up, wire_end}
 use Rattle.edge_model.specs.Frame.{forwarded}
 use Rattle.edge_model.specs.Send.{drops}
 use Rattle.edge_model.specs.State.{EdgeState, with_learned}
@@ -40,7 +41,16 @@ use Rattle.packet_model.specs.Carried.{IsCarried, IsPacked}
 use Rattle.packet_model.proofs.ArriveLemmas.{IsSized}
 use Rattle.packet_model.proofs.SendLemmas.{IsSender, same_row}
 use Rattle.flood_model.specs.Copy.{CarriesCopy, IsLabelled, IsStill, IsStillEdge}
-use Rattle.flood_model.specs.Due.{has_short_paths}
+use Rattle.network_model.specs.Goal.{start}
+use Rattle.network_model.proofs.GoalLemmas.{goal_reached}
+use Rattle.net_base.specs.plan.Paths.{is_first, is_last}
+use Rattle.net_base.proofs.PathLemmas.{joins_turned}
+use Rattle.edge_model.specs.EndPlaces.{is_terminal}
+use Rattle.edge_model.proofs.CopyLemmas.{found_end}
+use Rattle.edge_model.proofs.PlaceLemmas.{IsEndOf}
+use Rattle.packet_model.proofs.PackLemmas.{wire_checked}
+use Rattle.packet_model.proofs.SendLemmas.{wire_end_is}
+use Rattle.flood_model.proofs.PassingLemmas.{IsNotPassed, IsPassedOn, Passed, passed, passed_carries}
 use Rattle.flood_model.proofs.ArrivalLemmas.{Arrived, NotTaken, Taken, arrived, arrives_sized, arrives_under, arrives_with, taken_where}
 use Rattle.flood_model.proofs.CarryLemmas.{copy_carried, copy_from, copy_joined, copy_packed, packed_entry}
 use Rattle.flood_model.proofs.FarLemmas.{far_advertises}
@@ -74,7 +84,21 @@ pub copy_forwards : (plan : Plan) (calm network : NetworkState) (me : EdgeId) (c
 copy_forwards plan calm network me came service frame arrival peer wire of_arrival bytes still copy =
     sym (still_forwards plan (calm.edges me.0) (network.edges me.0) wire (still.edges me.0)) ∙ (ap (forwards_at plan (network.edges me.0)) copy.here ∙ ap is_up copy.forwards)
 
+-- and is stitched as it was
+pub still_is_stitched : (plan : Plan) (calm edge : EdgeState) (wire : WireId) → IsStillEdge calm edge → is_stitched plan edge wire ≡ is_stitched plan calm wire
+unfolding with_learned
+still_is_stitched plan calm edge wire still = ap (λ (e : EdgeState). is_stitched plan e wire) still.is
+
 -- ---- the packets of copies
+
+-- the sender of a copy is a terminal edge of its wire
+pub sent_ended : (plan : Plan) (network : NetworkState) (me : EdgeId) (came : Arrival) (service : ServiceId) (frame : List ℕ) (arrival : ℕ) (peer : EdgeId) (wire : WireId) (of_arrival : Arrival) (bytes : List ℕ)
+    → IsChecked plan → IsRuledNetwork plan network → (copy : SentCopy plan (network.edges me.0) came service frame arrival peer wire of_arrival bytes) → is_first me.0 copy.row.path || is_last me.0 copy.row.path ≡ true
+sent_ended plan network me came service frame arrival peer wire of_arrival bytes checked ruled copy =
+    let edge : EdgeState = network.edges me.0 in
+    let end : IsEndOf plan edge.me copy.place = wire_end_is plan edge.me wire copy.place copy.here in
+    let row : end.row ≡ copy.row = same_row end.row copy.row (sym end.is ∙ (ap (wire_row plan) (sym copy.same_wire) ∙ copy.is)) in
+    ap (λ (r : WirePlan). is_terminal r me) (sym row) ∙ (ap (λ (k : EdgeId). is_terminal end.row k) (sym (ruled.edges me.0).place) ∙ (sym end.terminal ∙ (found_end plan edge.me wire copy.place copy.here).terminal))
 
 copy_carries : (plan : Plan) (calm network : NetworkState) (me : EdgeId) (origin hops sent : ℕ) (came : Arrival) (service : ServiceId) (frame : List ℕ) (arrival : ℕ) (peer : EdgeId) (wire : WireId) (of_arrival : Arrival) (bytes : List ℕ)
     → IsChecked plan → IsRuledNetwork plan network → IsStill calm network → is_quiet plan calm service ≡ true
@@ -93,12 +117,15 @@ copy_carries plan calm network me origin hops sent came service frame arrival pe
     ap (λ (f : ℕ → ℕ → EndState). (f wire.0 peer.0).remote) (sym (still_ends (calm.edges me.0) (network.edges me.0) (still.edges me.0)))
     ∙ (ap (λ (w : WireId). ((network.edges me.0).ends w.0 peer.0).remote) copy.same_wire
     ∙ (ap (λ (k : EdgeId). ((network.edges me.0).ends copy.place.wire.0 k.0).remote) copy.same_peer ∙ from.bound)) in
+    let ended : is_first me.0 copy.row.path || is_last me.0 copy.row.path ≡ true = sent_ended plan network me came service frame arrival peer wire of_arrival bytes checked ruled copy in
+    let start_here : start copy.row.path me peer ≡ me =
+    goal_reached copy.row.path peer me (wire_checked plan wire copy.row checked copy.is).once (sym (joins_turned copy.row.path me.0 peer.0) ∙ joined) ended in
     record {
       row = copy.row;
       is = copy.is;
       of_service = of_service;
       joined = joined;
-      sends = copy_forwards plan calm network me came service frame arrival peer wire of_arrival bytes still copy;
+      sends = ap (λ (e : EdgeId). end_forwards plan (calm.edges e.0) wire) start_here ∙ copy_forwards plan calm network me came service frame arrival peer wire of_arrival bytes still copy;
       carries = copy_carried plan network me origin hops sent came service frame arrival peer wire of_arrival bytes checked ruled copy sized;
       labelled = record {
         entry = record { label = copy.binding.label; bottom = true; ttl = pack.ttl };
@@ -151,7 +178,7 @@ sent_carry plan network me origin hops sent came service frame arrival (e ∷ es
 -- ---- what comes of a copy where it arrives
 
 -- what was read twice is the same
-same_label : (read : Result StackEntry DropCause) (one other : StackEntry) → read ≡ Ok one → read ≡ Ok other → one.label ≡ other.label
+pub same_label : (read : Result StackEntry DropCause) (one other : StackEntry) → read ≡ Ok one → read ≡ Ok other → one.label ≡ other.label
 same_label read one other first second = cc
 
 same_frame : (read : Result (List ℕ) DropCause) (one other : List ℕ) → read ≡ Ok one → read ≡ Ok other → one ≡ other
@@ -159,23 +186,23 @@ same_frame read one other first second = cc
 
 -- a copy arrives where its wire's end forwards
 pub copy_arrives : (plan : Plan) (calm network : NetworkState) (trace : List Entry) (service : ServiceId) (frame : List ℕ) (packet : Packet)
-    → IsChecked plan → has_short_paths plan ≡ true → IsRuledNetwork plan network → IsStill calm network → IsCarried plan network trace packet → CarriesCopy plan calm service frame packet
+    → IsChecked plan → IsRuledNetwork plan network → IsStill calm network → (rule : IsCarried plan network trace packet) → CarriesCopy plan calm service frame packet → is_terminal rule.row packet.to ≡ true
     → end_forwards plan (calm.edges packet.to.0) packet.wire ≡ true
     → packet_work plan network packet
     ≡ forwarded plan taken_all (arrival.Wire packet.wire) service frame (position (is_wire_port packet.wire) (ports_of plan service packet.to)) (begin_at network packet.to)
-copy_arrives plan calm network trace service frame packet checked short ruled still rule copy forwards =
+copy_arrives plan calm network trace service frame packet checked ruled still rule copy ended forwards =
     let edge : EdgeState = network.edges packet.to.0 in
     let is_still : IsStillEdge (calm.edges packet.to.0) edge = still.edges packet.to.0 in
     let labelled : IsLabelled calm packet = copy.labelled in
     let label : labelled.label ≡ rule.label =
     sym labelled.same
-    ∙ same_label (entry_of packet.bytes) labelled.entry (record { label = rule.label; bottom = true; ttl = rule.packed.ttl }) labelled.read (arrives_under plan network trace packet checked short ruled rule) in
+    ∙ same_label (entry_of packet.bytes) labelled.entry (record { label = rule.label; bottom = true; ttl = rule.packed.ttl }) labelled.read (arrives_under plan network trace packet checked ruled rule) in
     let advertised : (edge.ends packet.wire.0 packet.from.0).local ≡ Advertised rule.label labelled.told =
     ap (λ (f : ℕ → ℕ → EndState). (f packet.wire.0 packet.from.0).local) (still_ends (calm.edges packet.to.0) edge is_still) ∙ (labelled.advertised ∙ ap (λ (n : ℕ). Advertised n labelled.told) label) in
     let same_service : rule.row.service ≡ service =
     ap (λ (r : WirePlan). r.service) (same_row rule.row copy.row (sym rule.is ∙ copy.is)) ∙ ap (λ (n : ℕ). record { 0 = n }) (eqb-true copy.row.service.0 service.0 copy.of_service) in
-    let same : rule.frame ≡ frame = same_frame (carried plan packet) rule.frame frame (arrives_with plan network trace packet checked short ruled rule) copy.carries in
-    taken_where plan network trace packet checked short ruled rule labelled.told advertised (still_forwards plan (calm.edges packet.to.0) edge packet.wire is_still ∙ forwards)
+    let same : rule.frame ≡ frame = same_frame (carried plan packet) rule.frame frame (arrives_with plan network trace packet checked ruled rule) copy.carries in
+    taken_where plan network trace packet checked ruled rule ended labelled.told advertised (still_forwards plan (calm.edges packet.to.0) edge packet.wire is_still ∙ forwards)
     ∙ (ap (λ (s : ServiceId). forwarded plan taken_all (arrival.Wire packet.wire) s rule.frame (position (is_wire_port packet.wire) (ports_of plan s packet.to)) (begin_at network packet.to)) same_service
     ∙ ap (λ (f : List ℕ). forwarded plan taken_all (arrival.Wire packet.wire) service f (position (is_wire_port packet.wire) (ports_of plan service packet.to)) (begin_at network packet.to)) same)
 
@@ -186,10 +213,10 @@ pub record IsDropped (plan : Plan) (network : NetworkState) (packet : Packet) : 
 
 -- a copy is dropped where its wire's end does not forward
 pub copy_drops : (plan : Plan) (calm network : NetworkState) (trace : List Entry) (service : ServiceId) (frame : List ℕ) (packet : Packet)
-    → IsChecked plan → has_short_paths plan ≡ true → IsRuledNetwork plan network → IsStill calm network → IsCarried plan network trace packet → CarriesCopy plan calm service frame packet
+    → IsChecked plan → IsRuledNetwork plan network → IsStill calm network → (rule : IsCarried plan network trace packet) → CarriesCopy plan calm service frame packet → is_terminal rule.row packet.to ≡ true
     → end_forwards plan (calm.edges packet.to.0) packet.wire ≡ false
     → IsDropped plan network packet
-copy_drops plan calm network trace service frame packet checked short ruled still rule copy down = by (arrived plan network trace packet checked short ruled rule) where
+copy_drops plan calm network trace service frame packet checked ruled still rule copy ended down = by (arrived plan network trace packet checked ruled rule ended) where
   by : Arrived plan network packet rule.row rule.frame → IsDropped plan network packet
   by (NotTaken dropped) = record { why = dropped.why; is = dropped.is }
   by (Taken taken) = clash (sym down ∙ (sym (still_forwards plan (calm.edges packet.to.0) (network.edges packet.to.0) packet.wire (still.edges packet.to.0)) ∙ taken.forwards))
@@ -204,21 +231,44 @@ pub record IsBridged (plan : Plan) (network : NetworkState) (packet : Packet) : 
   pub port : ℕ
   pub work : packet_work plan network packet ≡ forwarded plan taken_all (arrival.Wire packet.wire) row.service frame (Some port) (begin_at network packet.to)
 
+-- or it is passed on, with the frame that it carries
+pub record IsPassed (plan : Plan) (network : NetworkState) (packet : Packet) : Type 0 where
+  pub to : EdgeId
+  pub bytes : List ℕ
+  pub edge : (packet_work plan network packet).edge ≡ network.edges packet.to.0
+  pub effects : (packet_work plan network packet).effects ≡ effect.Sent to packet.wire (arrival.Wire packet.wire) bytes ∷ []
+  pub carries : (number origin hops : ℕ) → carried plan (record { number = number; wire = packet.wire; from = packet.to; to = to; origin = origin; hops = hops; bytes = bytes }) ≡ carried plan packet
+
 pub data Arrives (plan : Plan) (network : NetworkState) (packet : Packet) : Type 0 where
   DropsIt : IsDropped plan network packet → Arrives plan network packet
   BridgesIt : IsBridged plan network packet → Arrives plan network packet
+  PassesIt : IsPassed plan network packet → Arrives plan network packet
 
 pub packet_arrives : (plan : Plan) (network : NetworkState) (trace : List Entry) (packet : Packet)
-    → IsChecked plan → has_short_paths plan ≡ true → IsRuledNetwork plan network → IsCarried plan network trace packet → Arrives plan network packet
-packet_arrives plan network trace packet checked short ruled rule = by (arrived plan network trace packet checked short ruled rule) where
-  by : Arrived plan network packet rule.row rule.frame → Arrives plan network packet
-  by (NotTaken dropped) = DropsIt (record { why = dropped.why; is = dropped.is })
-  by (Taken taken) = BridgesIt (record {
+    → IsChecked plan → IsRuledNetwork plan network → IsCarried plan network trace packet → Arrives plan network packet
+packet_arrives plan network trace packet checked ruled rule = choose (is_terminal rule.row packet.to) refl where
+  at_end : (ended : is_terminal rule.row packet.to ≡ true) → Arrived plan network packet rule.row rule.frame → Arrives plan network packet
+  at_end ended (NotTaken dropped) = DropsIt (record { why = dropped.why; is = dropped.is })
+  at_end ended (Taken taken) = BridgesIt (record {
     row = rule.row;
     is = rule.is;
     frame = rule.frame;
-    carries = arrives_with plan network trace packet checked short ruled rule;
-    sized = arrives_sized plan network trace packet checked short ruled rule;
+    carries = arrives_with plan network trace packet checked ruled rule;
+    sized = arrives_sized plan network trace packet checked ruled rule;
     port = taken.port;
     work = taken.work ∙ ap (λ (p : Option ℕ). forwarded plan taken_all (arrival.Wire packet.wire) rule.row.service rule.frame p (begin_at network packet.to)) taken.found;
   })
+
+  passing : (between : is_terminal rule.row packet.to ≡ false) → Passed plan network trace packet checked ruled rule → Arrives plan network packet
+  passing between (IsNotPassed why is no_mate) = DropsIt (record { why = why; is = is })
+  passing between (IsPassedOn on) = PassesIt (record {
+    to = on.to;
+    bytes = relabelled on.binding.label (rule.packed.ttl - 1) packet.bytes;
+    edge = on.edge;
+    effects = on.effects;
+    carries = λ number origin hops. passed_carries plan network trace packet checked ruled rule on number origin hops;
+  })
+
+  choose : (b : Bool) → is_terminal rule.row packet.to ≡ b → Arrives plan network packet
+  choose true ended = at_end ended (arrived plan network trace packet checked ruled rule ended)
+  choose false between = passing between (passed plan network trace packet checked ruled rule between)

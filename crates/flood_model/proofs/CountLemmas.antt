@@ -12,6 +12,9 @@ use Rattle.network_model.specs.Absorb.{absorb_all, absorb_one, all_entries_of, e
 use Rattle.network_model.specs.OnceEach.{times_left}
 use Rattle.network_model.proofs.AbsorbLemmas.{of_origin, pipe_leaves, times_left-append}
 use Rattle.flood_model.specs.Due.{awaits}
+use Rattle.flood_model.specs.Copy.{copy_awaits, heading_on}
+use Rattle.net_base.specs.plan.Places.{wire_row}
+use Rattle.net_base.specs.declared.plan.places.WireId.{WireId}
 use Rattle.network_model.specs.State.{NetworkState, stands, with_packet}
 
 -- ---- what is due to a circuit
@@ -19,38 +22,42 @@ use Rattle.network_model.specs.State.{NetworkState, stands, with_packet}
 -- how many of these packets have
 abbrev pub awaited : Plan → NetworkState → ServiceId → CircuitId → List Packet → ℕ
 awaited plan calm service circuit [] = 0
-awaited plan calm service circuit (p ∷ ps) = cond (awaits plan calm service circuit p.to p.wire) 1 0 + awaited plan calm service circuit ps
+awaited plan calm service circuit (p ∷ ps) = cond (copy_awaits plan calm service circuit p) 1 0 + awaited plan calm service circuit ps
+
+-- what an edge sends to a neighbour has still to serve the circuit
+abbrev pub sent_awaits : Plan → NetworkState → ServiceId → CircuitId → EdgeId → EdgeId → WireId → Bool
+sent_awaits plan calm service circuit me peer wire = awaits plan calm service circuit (heading_on (wire_row plan wire) me peer) wire
 
 abbrev pub due : Plan → NetworkState → ServiceId → CircuitId → ℕ → NetworkState → ℕ
 due plan calm service circuit origin network = awaited plan calm service circuit (of_origin origin network.under_way)
 
 -- how many copies of an edge serve the circuit, at once or later
-abbrev pub meets : Plan → NetworkState → ServiceId → CircuitId → List Effect → ℕ
-meets plan calm service circuit [] = 0
-meets plan calm service circuit (effect.Left at octets ∷ es) = cond (nat_eq at.0 circuit.0) 1 0 + meets plan calm service circuit es
-meets plan calm service circuit (effect.Sent peer wire came octets ∷ es) = cond (awaits plan calm service circuit peer wire) 1 0 + meets plan calm service circuit es
-meets plan calm service circuit (e ∷ es) = meets plan calm service circuit es
+abbrev pub meets : Plan → NetworkState → ServiceId → CircuitId → EdgeId → List Effect → ℕ
+meets plan calm service circuit me [] = 0
+meets plan calm service circuit me (effect.Left at octets ∷ es) = cond (nat_eq at.0 circuit.0) 1 0 + meets plan calm service circuit me es
+meets plan calm service circuit me (effect.Sent peer wire came octets ∷ es) = cond (sent_awaits plan calm service circuit me peer wire) 1 0 + meets plan calm service circuit me es
+meets plan calm service circuit me (e ∷ es) = meets plan calm service circuit me es
 
-pub meets-append : (plan : Plan) (calm : NetworkState) (service : ServiceId) (circuit : CircuitId) (xs ys : List Effect)
-    → meets plan calm service circuit (xs ++ ys) ≡ meets plan calm service circuit xs + meets plan calm service circuit ys
-meets-append plan calm service circuit [] ys = sym (zero-add (meets plan calm service circuit ys))
-meets-append plan calm service circuit (effect.Left at octets ∷ xs) ys = omega (arith, meets-append plan calm service circuit xs ys)
-meets-append plan calm service circuit (effect.Sent peer wire came octets ∷ xs) ys = omega (arith, meets-append plan calm service circuit xs ys)
-meets-append plan calm service circuit (x ∷ xs) ys = meets-append plan calm service circuit xs ys
+pub meets-append : (plan : Plan) (calm : NetworkState) (service : ServiceId) (circuit : CircuitId) (me : EdgeId) (xs ys : List Effect)
+    → meets plan calm service circuit me (xs ++ ys) ≡ meets plan calm service circuit me xs + meets plan calm service circuit me ys
+meets-append plan calm service circuit me [] ys = sym (zero-add (meets plan calm service circuit me ys))
+meets-append plan calm service circuit me (effect.Left at octets ∷ xs) ys = omega (arith, meets-append plan calm service circuit me xs ys)
+meets-append plan calm service circuit me (effect.Sent peer wire came octets ∷ xs) ys = omega (arith, meets-append plan calm service circuit me xs ys)
+meets-append plan calm service circuit me (x ∷ xs) ys = meets-append plan calm service circuit me xs ys
 
 awaited-last : (plan : Plan) (calm : NetworkState) (service : ServiceId) (circuit : CircuitId) (origin : ℕ) (p : Packet) (ps : List Packet) → nat_eq p.origin origin ≡ true
-    → awaited plan calm service circuit (of_origin origin (ps ++ p ∷ [])) ≡ awaited plan calm service circuit (of_origin origin ps) + cond (awaits plan calm service circuit p.to p.wire) 1 0
+    → awaited plan calm service circuit (of_origin origin (ps ++ p ∷ [])) ≡ awaited plan calm service circuit (of_origin origin ps) + cond (copy_awaits plan calm service circuit p) 1 0
 awaited-last plan calm service circuit origin p [] same = rw same (omega arith)
 awaited-last plan calm service circuit origin p (q ∷ ps) same = kept (nat_eq q.origin origin) (awaited-last plan calm service circuit origin p ps same) where
-  kept : (b : Bool) → awaited plan calm service circuit (of_origin origin (ps ++ p ∷ [])) ≡ awaited plan calm service circuit (of_origin origin ps) + cond (awaits plan calm service circuit p.to p.wire) 1 0
+  kept : (b : Bool) → awaited plan calm service circuit (of_origin origin (ps ++ p ∷ [])) ≡ awaited plan calm service circuit (of_origin origin ps) + cond (copy_awaits plan calm service circuit p) 1 0
       → awaited plan calm service circuit (cond b (q ∷ of_origin origin (ps ++ p ∷ [])) (of_origin origin (ps ++ p ∷ [])))
-      ≡ awaited plan calm service circuit (cond b (q ∷ of_origin origin ps) (of_origin origin ps)) + cond (awaits plan calm service circuit p.to p.wire) 1 0
+      ≡ awaited plan calm service circuit (cond b (q ∷ of_origin origin ps) (of_origin origin ps)) + cond (copy_awaits plan calm service circuit p) 1 0
   kept true rest = omega (arith, rest)
   kept false rest = rest
 
 one_due : (plan : Plan) (calm : NetworkState) (service : ServiceId) (circuit : CircuitId) (origin : ℕ) (me : EdgeId) (hops : ℕ) (e : Effect) (network : NetworkState)
     → times_left origin circuit (entries_told me origin hops e network) + due plan calm service circuit origin (absorb_one me origin hops e network)
-    ≡ due plan calm service circuit origin network + meets plan calm service circuit (e ∷ [])
+    ≡ due plan calm service circuit origin network + meets plan calm service circuit me (e ∷ [])
 unfolding with_packet
 one_due plan calm service circuit origin me hops (effect.Left at octets) network = rw (eq-eqb origin origin refl) (omega arith)
 one_due plan calm service circuit origin me hops (effect.Sent peer wire came octets) network = omega (arith, awaited-last plan calm service circuit origin (record { number = network.sent + 1; wire = wire; from = me; to = peer; origin = origin; hops = hops + 1; bytes = octets }) network.under_way (eq-eqb origin origin refl))
@@ -61,7 +68,7 @@ one_due plan calm service circuit origin me hops e network = omega arith
 -- what its edge gives out on a frame is told at once, or due
 pub all_due : (plan : Plan) (calm : NetworkState) (service : ServiceId) (circuit : CircuitId) (origin : ℕ) (me : EdgeId) (hops : ℕ) (es : List Effect) (network : NetworkState)
     → times_left origin circuit (all_entries_of me origin hops es network) + due plan calm service circuit origin (absorb_all me origin hops es network)
-    ≡ due plan calm service circuit origin network + meets plan calm service circuit es
+    ≡ due plan calm service circuit origin network + meets plan calm service circuit me es
 all_due plan calm service circuit origin me hops [] network = omega arith
 all_due plan calm service circuit origin me hops (e ∷ es) network =
     let next : NetworkState = absorb_one me origin hops e network in
@@ -70,5 +77,5 @@ all_due plan calm service circuit origin me hops (e ∷ es) network =
       times_left-append origin circuit (entries_told me origin hops e network) (all_entries_of me origin hops es next),
       one_due plan calm service circuit origin me hops e network,
       all_due plan calm service circuit origin me hops es next,
-      meets-append plan calm service circuit (e ∷ []) es,
+      meets-append plan calm service circuit me (e ∷ []) es,
     )

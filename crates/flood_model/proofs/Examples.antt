@@ -67,9 +67,9 @@ over = refl
 a_window : Window triangle before (circuit 2) broadcast during one_service
 a_window = window_of triangle before (reached comes_up) is_up (circuit 2) broadcast broadcast during one_service refl on refl calm_up flooded spared over
 
--- each site but the sender gets it once, over three segments at most
+-- each site but the sender gets it once, over twelve segments at most
 abbrev events : List Event
 events = events_of (comes_up ++ floods)
 
-served : ServedOnce 3 triangle before (circuit 2) one_service (run triangle events).entries
-served = runs_serve_once triangle events (is_run events (omega arith)) refl before (circuit 2) broadcast during [] one_service refl a_window
+served : ServedOnce 12 triangle before (circuit 2) one_service (run triangle events).entries
+served = runs_serve_once triangle events (is_run events (omega arith)) before (circuit 2) broadcast during [] one_service refl a_window

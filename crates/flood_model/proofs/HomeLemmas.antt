@@ -1,9 +1,10 @@
 -- The home of an edge of a calm service: the core edge of its spoke that carries frames, or the edge itself.
-use Rattle.std.proofs.Common.{◌≡◌, ◌<◌, ◌+◌, ◌==◌, ◌&&◌, ◌||◌, ◌∙◌, not, ℕ, suc, Bool, true, false, List, [], ◌∷◌, Some, cond, length, slice_get, nat_eq, refl, ap, sym, subst, zero-add, add-zero, arith, inl, inr}
+use Rattle.std.proofs.Common.{◌≡◌, ◌<◌, ◌+◌, ◌==◌, ◌&&◌, ◌||◌, ◌∙◌, not, ℕ, suc, Bool, true, false, List, [], ◌∷◌, Some, cond, option_map, length, slice_get, nat_eq, refl, ap, sym, subst, zero-add, add-zero, arith, inl, inr}
 use Rattle.std.proofs.lemmas.Bool.{cases_Bool, eqb-true}
 use Rattle.std.proofs.lemmas.Bool.Decides.{nat_tests}
 use Rattle.net_base.specs.declared.plan.Plan.{Plan}
 use Rattle.net_base.specs.declared.plan.wire_plan.WirePlan.{WirePlan}
+use Rattle.net_base.specs.declared.plan.places.EdgeId.{EdgeId}
 use Rattle.net_base.specs.declared.plan.places.ServiceId.{ServiceId}
 use Rattle.net_base.specs.plan.Accepted.{IsChecked}
 use Rattle.net_base.specs.plan.Paths.{is_first, is_last}
@@ -14,7 +15,7 @@ use Rattle.network_model.specs.Calm.{carries, has_live_spokes, is_calm, is_full,
 use Rattle.network_model.specs.Reach.{home_among, home_of, is_home, last_place}
 use Rattle.network_model.specs.State.{NetworkState}
 use Rattle.network_model.proofs.CalmLemmas.{below_holds}
-use Rattle.flood_model.specs.Due.{has_short_paths, sum_wires}
+use Rattle.flood_model.specs.Due.{sum_wires}
 use Rattle.flood_model.proofs.LinkLemmas.{IsLink, link_at, none_at}
 use Rattle.flood_model.proofs.MeshLemmas.{core_edge, far_core, far_port}
 use Rattle.flood_model.proofs.SumLemmas.{sum-none}
@@ -126,9 +127,9 @@ turned m n = elim (cases_Bool (nat_eq m n)) [
     other m n apart = grind (arith, nat_tests)
 
 -- each edge with a port of a calm service has a home
-pub has_home : (plan : Plan) (calm : NetworkState) (service : ServiceId) (edge : ℕ) → IsChecked plan → has_short_paths plan ≡ true → is_calm plan calm service ≡ true
+pub has_home : (plan : Plan) (calm : NetworkState) (service : ServiceId) (edge : ℕ) → IsChecked plan → is_calm plan calm service ≡ true
     → edge < length plan.edges → has_port plan service edge ≡ true → HasHome plan calm service edge
-has_home plan calm service edge checked short calmed within port = elim (cases_Bool (is_spoke_edge plan service edge)) [
+has_home plan calm service edge checked calmed within port = elim (cases_Bool (is_spoke_edge plan service edge)) [
   | inl spoke ↦ led spoke (live_found plan calm service edge 0 plan.wires (live_count plan calm service edge calmed within spoke))
   | inr none ↦ record {
     home = edge;
@@ -154,16 +155,16 @@ has_home plan calm service edge checked short calmed within port = elim (cases_B
     led spoke wire = record {
       home = link.far.0;
       within = link.far_within;
-      core = core_edge plan service link.far.0 (far_port plan service wire.k wire.row link wire.is ours) (far_core plan service wire.k wire.row link checked short wire.is ours);
+      core = core_edge plan service link.far.0 (far_port plan service wire.k wire.row link wire.is ours) (far_core plan service wire.k wire.row link checked wire.is ours);
       beside = λ d core. rw (spoke, spoke_apart plan service edge d spoke core, home_is) refl;
-      spokes = λ d core. rw (spoke_apart plan service edge d spoke core) (count (wire.sum d) (ap (is_last d) link.path) (turned d link.far.0));
+      spokes = λ d core. rw (spoke_apart plan service edge d spoke core) (count (wire.sum d) (ap (is_last d) link.path ∙ link.last d) (turned d link.far.0));
     }
       where
         link : IsLink plan wire.row
-        link = link_at plan wire.k wire.row checked short wire.is
+        link = link_at plan wire.k wire.row checked wire.is
 
         home_is : home_of plan calm service edge ≡ Some link.far.0
-        home_is = wire.home ∙ ap last_place link.path
+        home_is = wire.home ∙ (ap last_place link.path ∙ ap (option_map (λ (edge : EdgeId). edge.0)) link.ends)
 
         from : is_spoke_from service edge wire.row ≡ true
         from = and_left (is_spoke_from service edge wire.row) (carries plan calm (0 + wire.k) wire.row) wire.live

@@ -15,6 +15,7 @@ pub mod LinkLemmas
 pub mod MeshLemmas
 pub mod OfferLemmas
 pub mod OriginLemmas
+pub mod RelayLemmas
 pub mod RunLemmas
 pub mod ServeArrivalLemmas
 pub mod ServeLemmas
@@ -23,7 +24,11 @@ pub mod SiteLemmas
 pub mod SoFarLemmas
 pub mod StartLemmas
 pub mod StillLemmas
+pub mod StitchLemmas
 pub mod SumLemmas
 pub mod TallyLemmas
+pub mod WholeLemmas
 pub mod WindowLemmas
+pub mod WireEdgeLemmas
 pub mod WirePeerLemmas
+pub mod PassingLemmas

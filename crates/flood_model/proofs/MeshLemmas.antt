@@ -13,7 +13,7 @@ use Rattle.edge_model.proofs.LocalLemmas.{and_left, and_right}
 use Rattle.network_model.specs.Calm.{carries, has_live_spokes, is_calm, is_full, is_quiet, meshes}
 use Rattle.network_model.specs.State.{NetworkState}
 use Rattle.network_model.proofs.CalmLemmas.{any_at, below_holds}
-use Rattle.flood_model.specs.Due.{has_short_paths, sum_wires}
+use Rattle.flood_model.specs.Due.{sum_wires}
 use Rattle.flood_model.proofs.LinkLemmas.{IsLink, is_between, link_at, one_between, starts_none}
 use Rattle.flood_model.proofs.SumLemmas.{FoundWire, sum-at, sum-none, sum-same, wire_found}
 
@@ -61,19 +61,19 @@ mesh_wire plan calm service a b calmed within within_too core core_too apart =
         }
 
 -- the terminal edges of a mesh wire of the service are core edges
-pub mesh_near : (plan : Plan) (service : ServiceId) (k : ℕ) (row : WirePlan) (link : IsLink plan row) → IsChecked plan → has_short_paths plan ≡ true → slice_get plan.wires k ≡ Some row
+pub mesh_near : (plan : Plan) (service : ServiceId) (k : ℕ) (row : WirePlan) (link : IsLink plan row) → IsChecked plan → slice_get plan.wires k ≡ Some row
     → is_mesh_of service row ≡ true → is_spoke_edge plan service link.near.0 ≡ false
-mesh_near plan service k row link checked short is mesh =
-    starts_none plan service k row link link.near.0 checked short is (and_left (is_wire_of service row) (is_mesh_class row.class) mesh)
+mesh_near plan service k row link checked is mesh =
+    starts_none plan service k row link link.near.0 checked is (and_left (is_wire_of service row) (is_mesh_class row.class) mesh)
     (starts (is_mesh_class row.class) link.near.0 link.far.0 (and_right (is_wire_of service row) (is_mesh_class row.class) mesh))
   where
     starts : (m : Bool) (a b : ℕ) → m ≡ true → nat_eq a b || (m && nat_eq a a) ≡ true
     starts m a b is = rw (is, eq-eqb a a refl) (or_right (nat_eq a b) true refl)
 
 -- the last edge of a wire of the service is a core edge
-pub far_core : (plan : Plan) (service : ServiceId) (k : ℕ) (row : WirePlan) (link : IsLink plan row) → IsChecked plan → has_short_paths plan ≡ true → slice_get plan.wires k ≡ Some row
+pub far_core : (plan : Plan) (service : ServiceId) (k : ℕ) (row : WirePlan) (link : IsLink plan row) → IsChecked plan → slice_get plan.wires k ≡ Some row
     → is_wire_of service row ≡ true → is_spoke_edge plan service link.far.0 ≡ false
-far_core plan service k row link checked short is ours = starts_none plan service k row link link.far.0 checked short is ours (rw (eq-eqb link.far.0 link.far.0 refl) refl)
+far_core plan service k row link checked is ours = starts_none plan service k row link link.far.0 checked is ours (rw (eq-eqb link.far.0 link.far.0 refl) refl)
 
 -- the first edge of a wire of the service has a port of it
 pub near_port : (plan : Plan) (service : ServiceId) (k : ℕ) (row : WirePlan) (link : IsLink plan row) → slice_get plan.wires k ≡ Some row
@@ -83,26 +83,26 @@ near_port plan service k row link is ours = port_at plan service link.near.0 k r
 -- and so has its last edge
 pub far_port : (plan : Plan) (service : ServiceId) (k : ℕ) (row : WirePlan) (link : IsLink plan row) → slice_get plan.wires k ≡ Some row
     → is_wire_of service row ≡ true → has_port plan service link.far.0 ≡ true
-far_port plan service k row link is ours = port_at plan service link.far.0 k row is (rw (ours, link.path, eq-eqb link.far.0 link.far.0 refl) (or_right (nat_eq link.far.0 link.near.0) true refl))
+far_port plan service k row link is ours = port_at plan service link.far.0 k row is (rw (ours, link.path, link.last link.far.0, eq-eqb link.far.0 link.far.0 refl) (or_right (nat_eq link.far.0 link.near.0) true refl))
 
 -- each mesh wire of a calm service carries frames
-pub mesh_carries : (plan : Plan) (calm : NetworkState) (service : ServiceId) (k : ℕ) (row : WirePlan) → IsChecked plan → has_short_paths plan ≡ true → is_calm plan calm service ≡ true
+pub mesh_carries : (plan : Plan) (calm : NetworkState) (service : ServiceId) (k : ℕ) (row : WirePlan) → IsChecked plan → is_calm plan calm service ≡ true
     → slice_get plan.wires k ≡ Some row → is_mesh_of service row ≡ true → carries plan calm k row ≡ true
-mesh_carries plan calm service k row checked short calmed is mesh =
+mesh_carries plan calm service k row checked calmed is mesh =
     let ours = and_left (is_wire_of service row) (is_mesh_class row.class) mesh in
-    let near = core_edge plan service link.near.0 (near_port plan service k row link is ours) (mesh_near plan service k row link checked short is mesh) in
-    let far = core_edge plan service link.far.0 (far_port plan service k row link is ours) (far_core plan service k row link checked short is ours) in
+    let near = core_edge plan service link.near.0 (near_port plan service k row link is ours) (mesh_near plan service k row link checked is mesh) in
+    let far = core_edge plan service link.far.0 (far_port plan service k row link is ours) (far_core plan service k row link checked is ours) in
     same (mesh_wire plan calm service link.near.0 link.far.0 calmed link.near_within link.far_within near far link.apart)
   where
     link : IsLink plan row
-    link = link_at plan k row checked short is
+    link = link_at plan k row checked is
 
     between : (l : IsLink plan row) → is_between service l.near.0 l.far.0 row ≡ true
-    between l = rw (mesh, l.path, eq-eqb l.near.0 l.near.0 refl, eq-eqb l.far.0 l.far.0 refl) refl
+    between l = rw (mesh, l.path, l.last l.far.0, eq-eqb l.near.0 l.near.0 refl, eq-eqb l.far.0 l.far.0 refl) refl
 
     same : MeshWire plan calm service link.near.0 link.far.0 → carries plan calm k row ≡ true
     same wire =
-        let place : wire.k ≡ k = eqb-true wire.k k (one_between plan service wire.k k link.near.0 link.far.0 wire.row row checked short wire.is wire.between is (between link)) in
+        let place : wire.k ≡ k = eqb-true wire.k k (one_between plan service wire.k k link.near.0 link.far.0 wire.row row checked wire.is wire.between is (between link)) in
         let rows : Some wire.row ≡ Some row = sym wire.is ∙ (ap (slice_get plan.wires) place ∙ is) in
         let row_is : wire.row ≡ row = cc (rows) in
         ap (λ w. carries plan calm k w) (sym row_is) ∙ (ap (λ n. carries plan calm n wire.row) (sym place) ∙ wire.live)
@@ -112,10 +112,10 @@ abbrev pub by_mesh : ServiceId → ℕ → ℕ → ℕ → WirePlan → ℕ
 by_mesh service a b k row = cond (is_between service a b row) 1 0
 
 -- there is one such wire between two core edges
-pub mesh_sum : (plan : Plan) (calm : NetworkState) (service : ServiceId) (a b : ℕ) → IsChecked plan → has_short_paths plan ≡ true → is_calm plan calm service ≡ true
+pub mesh_sum : (plan : Plan) (calm : NetworkState) (service : ServiceId) (a b : ℕ) → IsChecked plan → is_calm plan calm service ≡ true
     → a < length plan.edges → b < length plan.edges → is_core_edge plan service a ≡ true → is_core_edge plan service b ≡ true
     → sum_wires (by_mesh service a b) 0 plan.wires ≡ cond (nat_eq a b) 0 1
-mesh_sum plan calm service a b checked short calmed within within_too core core_too = elim (cases_Bool (nat_eq a b)) [
+mesh_sum plan calm service a b checked calmed within within_too core core_too = elim (cases_Bool (nat_eq a b)) [
   | inl same ↦ rw same (sum-none (by_mesh service a b) plan.wires (λ k row is. ap (λ (t : Bool). cond {A = ℕ} t 1 0) (none k row is (eqb-true a b same))))
   | inr apart ↦ rw apart (one (mesh_wire plan calm service a b calmed within within_too core core_too apart))
 ]
@@ -125,8 +125,8 @@ mesh_sum plan calm service a b checked short calmed within within_too core core_
 
     none : (k : ℕ) (row : WirePlan) → slice_get plan.wires k ≡ Some row → a ≡ b → is_between service a b row ≡ false
     none k row is same =
-        let link = link_at plan k row checked short is in
-        subst (λ n. is_between service a n row ≡ false) same (rw link.path (twice (is_mesh_of service row) a link.near.0 link.far.0 link.apart))
+        let link = link_at plan k row checked is in
+        subst (λ n. is_between service a n row ≡ false) same (rw (link.path, link.last a) (twice (is_mesh_of service row) a link.near.0 link.far.0 link.apart))
 
     one : MeshWire plan calm service a b → sum_wires (by_mesh service a b) 0 plan.wires ≡ 1
     one wire =
@@ -139,5 +139,5 @@ mesh_sum plan calm service a b checked short calmed within within_too core core_
 
         only : (k : ℕ) (row : WirePlan) → slice_get plan.wires k ≡ Some row → (t : Bool) → is_between service a b row ≡ t
             → cond {A = ℕ} (is_between service a b row) 1 0 ≡ cond (nat_eq k wire.k) (cond (is_between service a b row) 1 0) 0
-        only k row is true there = rw (one_between plan service k wire.k a b row wire.row checked short is there wire.is wire.between) refl
+        only k row is true there = rw (one_between plan service k wire.k a b row wire.row checked is there wire.is wire.between) refl
         only k row is false there = rw there (empty (nat_eq k wire.k))

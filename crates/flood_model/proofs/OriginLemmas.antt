@@ -11,7 +11,7 @@ use Rattle.network_model.specs.Window.{is_copy}
 use Rattle.network_model.proofs.AbsorbLemmas.{of_origin}
 use Rattle.network_model.proofs.CalmLemmas.{none_first, none_later}
 use Rattle.network_model.proofs.OtherLemmas.{is_of}
-use Rattle.flood_model.specs.Due.{awaits}
+use Rattle.flood_model.specs.Copy.{copy_awaits}
 use Rattle.flood_model.proofs.CountLemmas.{awaited}
 
 -- a packet has this number
@@ -39,7 +39,7 @@ of_origin_hold P origin (p ∷ ps) all = by (nat_eq p.origin origin) (of_origin_
 pub record CopyGoes (P : Packet → Type 0) (plan : Plan) (calm : NetworkState) (service : ServiceId) (copies others : List Packet) (packet : Packet) : Type 0 where
   pub here : P packet
   pub rest : AllByRecursion P others
-  pub due : (circuit : CircuitId) → awaited plan calm service circuit copies ≡ cond (awaits plan calm service circuit packet.to packet.wire) 1 0 + awaited plan calm service circuit others
+  pub due : (circuit : CircuitId) → awaited plan calm service circuit copies ≡ cond (copy_awaits plan calm service circuit packet) 1 0 + awaited plan calm service circuit others
 
 module _ (P : Packet → Type 0) (plan : Plan) (calm : NetworkState) (service : ServiceId) (origin number : ℕ) where
   first_goes : (p packet : Packet) (copies : List Packet) → p ≡ packet → P p → AllByRecursion P copies → CopyGoes P plan calm service (p ∷ copies) copies packet

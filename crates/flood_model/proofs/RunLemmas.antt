@@ -1,6 +1,6 @@
 -- Each site of a calm service gets a flooded frame exactly once, in every run: before the frame enters nothing is told of it, in its
 -- window each copy that is due is served, and after the window no copy of it is under way.
-use Rattle.std.proofs.Common.{◌≡◌, ◌+◌, ◌++◌, ◌&&◌, ◌∙◌, ℕ, Bool, true, List, [], ◌∷◌, cond, nat_eq, not, ap, sym, subst, inl, inr, arith, append_assoc, append-nil}
+use Rattle.std.proofs.Common.{◌≡◌, ◌+◌, ◌++◌, ◌&&◌, ◌∙◌, ℕ, Bool, List, [], ◌∷◌, cond, nat_eq, not, ap, sym, subst, inl, inr, arith, append_assoc, append-nil}
 use Rattle.std.proofs.lemmas.Bool.{cases_Bool}
 use Rattle.net_base.specs.declared.plan.Plan.{Plan}
 use Rattle.net_base.specs.declared.plan.places.CircuitId.{CircuitId}
@@ -20,7 +20,6 @@ use Rattle.network_model.proofs.AbsorbLemmas.{of_origin, times_left-append, with
 use Rattle.network_model.proofs.OtherLemmas.{IsApart, along, apart_after, counts_rise, never_within}
 use Rattle.network_model.proofs.RunLemmas.{along-append}
 use Rattle.flight_model.specs.Laws.{IsRun}
-use Rattle.flood_model.specs.Due.{has_short_paths}
 use Rattle.flood_model.specs.Laws.{RunsServeOnce}
 use Rattle.flood_model.proofs.CountLemmas.{awaited, due}
 use Rattle.flood_model.proofs.OriginLemmas.{none_of}
@@ -28,7 +27,7 @@ use Rattle.flood_model.proofs.ServeLemmas.{Serves}
 use Rattle.flood_model.proofs.SoFarLemmas.{early, entered_one, served_so_far}
 use Rattle.flood_model.proofs.StartLemmas.{owed_to}
 
-module _ (plan : Plan) (events : List Event) (run : IsRun plan events) (short : has_short_paths plan ≡ true) (before : List Event) (at : CircuitId) (octets : List ℕ) (during after : List Event) (service : ServiceId)
+module _ (plan : Plan) (events : List Event) (run : IsRun plan events) (before : List Event) (at : CircuitId) (octets : List ℕ) (during after : List Event) (service : ServiceId)
     (split : events ≡ before ++ Frame at octets ∷ (during ++ after)) (window : Window plan before at octets during service) where
   abbrev calm : NetworkState
   calm = state_after plan (empty_network plan) before
@@ -51,13 +50,13 @@ module _ (plan : Plan) (events : List Event) (run : IsRun plan events) (short : 
   whole = subst (λ (es : List Event). Window plan before at octets es service) (sym (append-nil during)) window
 
   nothing_before : (circuit : CircuitId) → IsApart origin circuit (empty_network plan) (along plan (empty_network plan) before)
-  nothing_before circuit = early plan events run short before at octets during [] after service split whole circuit
+  nothing_before circuit = early plan events run before at octets during [] after service split whole circuit
 
   entered : entry.state.entered ≡ calm.entered + 1
-  entered = entered_one plan events run short before at octets during [] after service split whole
+  entered = entered_one plan events run before at octets during [] after service split whole
 
   served : Serves plan calm service whole.frame origin (owed_to at) (record { state = last; entries = entry.entries ++ entries_along plan entry.state during })
-  served = served_so_far plan events run short before at octets during [] after service split whole
+  served = served_so_far plan events run before at octets during [] after service split whole
 
   over : of_origin origin last.under_way ≡ []
   over = none_of origin last.under_way window.over
@@ -93,14 +92,14 @@ module _ (plan : Plan) (events : List Event) (run : IsRun plan events) (short : 
     | inr away ↦ counted circuit ∙ (served.none circuit away ∙ ap (λ (b : Bool). cond {A = ℕ} (b && not (nat_eq circuit.0 at.0)) 1 0) (sym away))
   ]
 
-  within : LeftWithin 3 origin (entries_along plan (empty_network plan) events)
-  within = subst (LeftWithin 3 origin) (sym told)
-      (within-append 3 origin trace ((entry.entries ++ entries_along plan entry.state during) ++ entries_along plan last after) (never_within 3 origin trace (λ circuit. (nothing_before circuit).left))
-      (within-append 3 origin (entry.entries ++ entries_along plan entry.state during) (entries_along plan last after) served.within (never_within 3 origin (entries_along plan last after) (λ circuit. (late circuit).left))))
+  within : LeftWithin 12 origin (entries_along plan (empty_network plan) events)
+  within = subst (LeftWithin 12 origin) (sym told)
+      (within-append 12 origin trace ((entry.entries ++ entries_along plan entry.state during) ++ entries_along plan last after) (never_within 12 origin trace (λ circuit. (nothing_before circuit).left))
+      (within-append 12 origin (entry.entries ++ entries_along plan entry.state during) (entries_along plan last after) served.within (never_within 12 origin (entries_along plan last after) (λ circuit. (late circuit).left))))
 
-  serves_once : ServedOnce 3 plan before at service (entries_along plan (empty_network plan) events)
+  serves_once : ServedOnce 12 plan before at service (entries_along plan (empty_network plan) events)
   serves_once = record { once = once; within = within }
 
--- once at each other site of the service and nowhere else, within three segments
+-- once at each other site of the service and nowhere else, within twelve segments
 pub runs_serve_once : RunsServeOnce
-runs_serve_once plan events run short before at octets during after service split window = serves_once plan events run short before at octets during after service split window
+runs_serve_once plan events run before at octets during after service split window = serves_once plan events run before at octets during after service split window

@@ -26,28 +26,24 @@ use Rattle.network_model.specs.State.{NetworkState, with_edge}
 use Rattle.network_model.proofs.AbsorbLemmas.{of_origin, times_left-append, within-append}
 use Rattle.network_model.proofs.OtherLemmas.{IsApart, never_within}
 use Rattle.network_model.proofs.PacketListLemmas.{absorb_sends, append_holds, packets_of}
-use Rattle.flood_model.specs.Copy.{CarriesCopy}
-use Rattle.flood_model.specs.Hops.{most_hops}
 use Rattle.flood_model.proofs.CountLemmas.{all_due, awaited, due, meets}
 use Rattle.flood_model.proofs.OriginLemmas.{of_origin-append, of_origin_hold}
-
--- a packet has passed so many segments at most
-abbrev pub IsNear : Plan → Packet → Type 0
-IsNear plan packet = (row : WirePlan) → wire_row plan packet.wire ≡ Some row → packet.hops ≤ most_hops packet.to.0 row
+use Rattle.flood_model.specs.Copy.{CarriesCopy}
+use Rattle.flood_model.specs.Hops.{HasPassed, most_hops}
 
 -- a copy of the frame that has
 abbrev pub IsNearCopy : Plan → NetworkState → ServiceId → List ℕ → Packet → Type 0
-IsNearCopy plan calm service frame packet = CarriesCopy plan calm service frame packet × IsNear plan packet
+IsNearCopy plan calm service frame packet = CarriesCopy plan calm service frame packet × HasPassed plan packet
 
 -- ---- what a step serves
 
 -- The copies under way after it; at each site, what left and what is due are what was owed before; and nothing left elsewhere, or
--- after more than three segments.
+-- after more than twelve segments.
 pub record Serves (plan : Plan) (calm : NetworkState) (service : ServiceId) (frame : List ℕ) (origin : ℕ) (owed : CircuitId → ℕ) (stepped : Stepped) : Type 0 where
   pub copies : AllByRecursion (IsNearCopy plan calm service frame) (of_origin origin stepped.state.under_way)
   pub balance : (circuit : CircuitId) → is_site plan calm service circuit ≡ true → times_left origin circuit stepped.entries + due plan calm service circuit origin stepped.state ≡ owed circuit
   pub none : (circuit : CircuitId) → is_site plan calm service circuit ≡ false → times_left origin circuit stepped.entries ≡ 0
-  pub within : LeftWithin 3 origin stepped.entries
+  pub within : LeftWithin 12 origin stepped.entries
 
 module _ (plan : Plan) (calm : NetworkState) (service : ServiceId) (frame : List ℕ) (origin : ℕ) where
   -- nothing is told
@@ -63,7 +59,7 @@ module _ (plan : Plan) (calm : NetworkState) (service : ServiceId) (frame : List
     copies = later.copies;
     balance = λ circuit site. omega (arith, times_left-append origin circuit first.entries next.entries, here.balance circuit site, later.balance circuit site);
     none = λ circuit away. omega (arith, times_left-append origin circuit first.entries next.entries, here.none circuit away, later.none circuit away);
-    within = within-append 3 origin first.entries next.entries here.within later.within;
+    within = within-append 12 origin first.entries next.entries here.within later.within;
   }
 
   -- the event is told before
@@ -83,7 +79,7 @@ module _ (plan : Plan) (calm : NetworkState) (service : ServiceId) (frame : List
     copies = subst (AllByRecursion (IsNearCopy plan calm service frame)) (sym (apart (record { 0 = 0 })).under_way) copies;
     balance = λ circuit site. omega (arith, (apart circuit).left, ap (awaited plan calm service circuit) (apart circuit).under_way);
     none = λ circuit away. (apart circuit).left;
-    within = never_within 3 origin stepped.entries (λ circuit. (apart circuit).left);
+    within = never_within 12 origin stepped.entries (λ circuit. (apart circuit).left);
   }
 
   due_still : (circuit : CircuitId) (me : EdgeId) (edge : EdgeState) (base : NetworkState) → due plan calm service circuit origin (with_edge me edge base) ≡ due plan calm service circuit origin base
@@ -94,9 +90,9 @@ module _ (plan : Plan) (calm : NetworkState) (service : ServiceId) (frame : List
   pub serves_absorb : (owed : CircuitId → ℕ) (me : EdgeId) (hops : ℕ) (work : Work) (base : NetworkState)
       → AllByRecursion (IsNearCopy plan calm service frame) (of_origin origin base.under_way)
       → ((sent : ℕ) → AllByRecursion (IsNearCopy plan calm service frame) (packets_of me origin hops sent work.effects))
-      → ((circuit : CircuitId) → is_site plan calm service circuit ≡ true → due plan calm service circuit origin base + meets plan calm service circuit work.effects ≡ owed circuit)
+      → ((circuit : CircuitId) → is_site plan calm service circuit ≡ true → due plan calm service circuit origin base + meets plan calm service circuit me work.effects ≡ owed circuit)
       → ((circuit : CircuitId) (other : NetworkState) → is_site plan calm service circuit ≡ false → times_left origin circuit (all_entries_of me origin hops work.effects other) ≡ 0)
-      → ((other : NetworkState) → LeftWithin 3 origin (all_entries_of me origin hops work.effects other))
+      → ((other : NetworkState) → LeftWithin 12 origin (all_entries_of me origin hops work.effects other))
       → Serves plan calm service frame origin owed (absorb me origin hops work base)
   serves_absorb owed me hops work base copies sent balance none within =
       let packets : List Packet = packets_of me origin hops base.sent work.effects in
@@ -127,8 +123,8 @@ floods plan came service frame (Some arrival) edge =
 -- its packets have passed one segment more
 pub copies_near : (plan : Plan) (edge : EdgeState) (me : EdgeId) (origin hops sent : ℕ) (came : Arrival) (service : ServiceId) (frame : List ℕ) (arrival : ℕ) (es : List Effect)
     → ((peer : EdgeId) (wire : WireId) (of_arrival : Arrival) (bytes : List ℕ) → SentCopy plan edge came service frame arrival peer wire of_arrival bytes
-    → (row : WirePlan) → wire_row plan wire ≡ Some row → hops + 1 ≤ most_hops peer.0 row)
-    → AllAreCopies plan edge came service frame arrival es → AllByRecursion (IsNear plan) (packets_of me origin hops sent es)
+    → (row : WirePlan) → wire_row plan wire ≡ Some row → hops + 1 ≤ most_hops plan me peer row)
+    → AllAreCopies plan edge came service frame arrival es → AllByRecursion (HasPassed plan) (packets_of me origin hops sent es)
 copies_near plan edge me origin hops sent came service frame arrival [] bound all = tt
 copies_near plan edge me origin hops sent came service frame arrival (effect.Sent peer wire of_arrival bytes ∷ es) bound all =
     (λ row is. bound peer wire of_arrival bytes all.0 row is, copies_near plan edge me origin hops (sent + 1) came service frame arrival es bound all.1)

@@ -26,11 +26,12 @@ use Rattle.network_model.proofs.AbsorbLemmas.{of_origin, times_left-append}
 use Rattle.network_model.proofs.OtherLemmas.{IsApart, along}
 use Rattle.network_model.proofs.RunLemmas.{after-append, along-append}
 use Rattle.flight_model.specs.Laws.{IsRun, network_after}
-use Rattle.flood_model.specs.Due.{awaits, has_short_paths}
+use Rattle.flood_model.specs.Copy.{copy_awaits, heading}
+use Rattle.flood_model.specs.Due.{awaits}
 use Rattle.flood_model.specs.Laws.{RunsShareSites}
-use Rattle.flood_model.specs.Shares.{CopiesHavePassed, HasPassed, IsLeftOut, IsSharedOut, SharesEach, SharesSites, arrival_port, times_ahead}
+use Rattle.flood_model.specs.Shares.{CopiesHavePassed, IsLeftOut, IsSharedOut, SharesSites, arrival_port, times_ahead}
 use Rattle.flood_model.proofs.CountLemmas.{awaited}
-use Rattle.flood_model.proofs.ServeLemmas.{IsNear, IsNearCopy, Serves}
+use Rattle.flood_model.proofs.ServeLemmas.{IsNearCopy, Serves}
 use Rattle.flood_model.proofs.SoFarLemmas.{early, served_so_far}
 use Rattle.flood_model.proofs.StartLemmas.{owed_to}
 
@@ -45,24 +46,21 @@ ahead_awaited plan calm service circuit to wire = by (is_mesh_wire plan wire) wh
 ahead_due : (plan : Plan) (calm : NetworkState) (service : ServiceId) (origin : ℕ) (circuit : CircuitId) (packets : List Packet) → awaited plan calm service circuit (of_origin origin packets) ≡ times_ahead plan calm service origin circuit packets
 ahead_due plan calm service origin circuit [] = refl
 ahead_due plan calm service origin circuit (p ∷ ps) =
-    by (nat_eq p.origin origin) (awaits plan calm service circuit p.to p.wire) (ahead plan calm service p.to.0 (arrival_port plan p.wire) circuit) (ahead_awaited plan calm service circuit p.to p.wire) refl (ahead_due plan calm service origin circuit ps)
+    by (nat_eq p.origin origin) (copy_awaits plan calm service circuit p) (ahead plan calm service (heading plan p).0 (arrival_port plan p.wire) circuit) (ahead_awaited plan calm service circuit (heading plan p) p.wire) refl (ahead_due plan calm service origin circuit ps)
   where
-    by : (own waits before : Bool) → waits ≡ before → awaits plan calm service circuit p.to p.wire ≡ waits → awaited plan calm service circuit (of_origin origin ps) ≡ times_ahead plan calm service origin circuit ps
+    by : (own waits before : Bool) → waits ≡ before → copy_awaits plan calm service circuit p ≡ waits → awaited plan calm service circuit (of_origin origin ps) ≡ times_ahead plan calm service origin circuit ps
         → awaited plan calm service circuit (cond own (p ∷ of_origin origin ps) (of_origin origin ps)) ≡ cond (own && before) 1 0 + times_ahead plan calm service origin circuit ps
     by true waits before same is rest = omega (arith, ap (λ (b : Bool). cond {A = ℕ} b 1 0) (is ∙ same), rest)
     by false waits before same is rest = omega (arith, rest)
 
 -- ---- how far the copies have come
 
-passed_near : (plan : Plan) (packet : Packet) → IsNear plan packet → HasPassed 1 plan packet
-passed_near plan packet near row is = omega (arith, near row is)
-
-copies_passed : (plan : Plan) (calm : NetworkState) (service : ServiceId) (frame : List ℕ) (origin : ℕ) (packets : List Packet) → AllByRecursion (IsNearCopy plan calm service frame) (of_origin origin packets) → CopiesHavePassed 1 plan origin packets
+copies_passed : (plan : Plan) (calm : NetworkState) (service : ServiceId) (frame : List ℕ) (origin : ℕ) (packets : List Packet) → AllByRecursion (IsNearCopy plan calm service frame) (of_origin origin packets) → CopiesHavePassed plan origin packets
 copies_passed plan calm service frame origin [] all = tt
 copies_passed plan calm service frame origin (p ∷ ps) all = elim (cases_Bool (nat_eq p.origin origin)) [
   | inl own ↦
       (let each : AllByRecursion (IsNearCopy plan calm service frame) (p ∷ of_origin origin ps) = rw own at all in
-      (λ is. passed_near plan p each.0.1, copies_passed plan calm service frame origin ps each.1))
+      (λ is. each.0.1, copies_passed plan calm service frame origin ps each.1))
   | inr other ↦
       (let rest : AllByRecursion (IsNearCopy plan calm service frame) (of_origin origin ps) = rw other at all in
       (λ is. apart (nat_eq p.origin origin) (eq-eqb p.origin origin is) other, copies_passed plan calm service frame origin ps rest))
@@ -82,7 +80,7 @@ left_out left before sum = (omega (arith, sum), omega (arith, sum))
 
 -- ---- a moment of a window
 
-module _ (plan : Plan) (events : List Event) (is_run : IsRun plan events) (short : has_short_paths plan ≡ true) (before : List Event) (at : CircuitId) (octets : List ℕ) (during rest after : List Event) (service : ServiceId)
+module _ (plan : Plan) (events : List Event) (is_run : IsRun plan events) (before : List Event) (at : CircuitId) (octets : List ℕ) (during rest after : List Event) (service : ServiceId)
     (split : events ≡ before ++ Frame at octets ∷ (during ++ after)) (window : Window plan before at octets (during ++ rest) service) where
   abbrev calm : NetworkState
   calm = network_after plan before
@@ -103,10 +101,10 @@ module _ (plan : Plan) (events : List Event) (is_run : IsRun plan events) (short
   so_far = before ++ Frame at octets ∷ during
 
   served : Serves plan calm service window.frame origin (owed_to at) (record { state = now; entries = told })
-  served = served_so_far plan events is_run short before at octets during rest after service split window
+  served = served_so_far plan events is_run before at octets during rest after service split window
 
   nothing_before : (circuit : CircuitId) → IsApart origin circuit (empty_network plan) (along plan (empty_network plan) before)
-  nothing_before circuit = early plan events is_run short before at octets during rest after service split window circuit
+  nothing_before circuit = early plan events is_run before at octets during rest after service split window circuit
 
   state_is : network_after plan so_far ≡ now
   state_is = after-append plan (empty_network plan) before (Frame at octets ∷ during)
@@ -140,7 +138,7 @@ module _ (plan : Plan) (events : List Event) (is_run : IsRun plan events) (short
     both : (a b : Bool) → a ≡ true → b ≡ true → a && b ≡ true
     both a b one other = rw (one, other) refl
 
-  shares : SharesSites 1 plan before at service (network_after plan so_far) (run plan so_far).entries
+  shares : SharesSites plan before at service (network_after plan so_far) (run plan so_far).entries
   shares = record {
     others = λ circuit site away.
         shared_out (times_left origin circuit (run plan so_far).entries) (times_ahead plan calm service origin circuit (network_after plan so_far).under_way)
@@ -148,24 +146,8 @@ module _ (plan : Plan) (events : List Event) (is_run : IsRun plan events) (short
     at_sender =
         left_out (times_left origin at (run plan so_far).entries) (times_ahead plan calm service origin at (network_after plan so_far).under_way)
         (balance at sends ∙ ap (λ (b : Bool). cond {A = ℕ} (not b) 1 0) (eq-eqb at.0 at.0 refl));
-    passed = subst (λ (n : NetworkState). CopiesHavePassed 1 plan origin n.under_way) (sym state_is) (copies_passed plan calm service window.frame origin now.under_way served.copies);
+    passed = subst (λ (n : NetworkState). CopiesHavePassed plan origin n.under_way) (sym state_is) (copies_passed plan calm service window.frame origin now.under_way served.copies);
   }
 
 pub runs_share_sites : RunsShareSites
-runs_share_sites plan events run short before at octets so_far rest after service split window = shares plan events run short before at octets so_far rest after service split window
-
--- ---- over wires of more segments
-
-passed_widens : (plan : Plan) (origin : ℕ) (packets : List Packet) → CopiesHavePassed 1 plan origin packets → CopiesHavePassed 4 plan origin packets
-passed_widens plan origin [] passed = tt
-passed_widens plan origin (packet ∷ packets) passed = (λ same row is. omega (arith, passed.0 same row is), passed_widens plan origin packets passed.1)
-
--- where a wire has at most four segments, and so far it has one
-pub shares_widen : (plan : Plan) (events : List Event) → SharesEach 1 plan events → SharesEach 4 plan events
-shares_widen plan events each before sender octets so_far rest after service joined window =
-    let shares = each before sender octets so_far rest after service joined window in
-    record {
-      others = shares.others;
-      at_sender = shares.at_sender;
-      passed = passed_widens plan (next_origin (network_after plan before)) (network_after plan (before ++ Frame sender octets ∷ so_far)).under_way shares.passed;
-    }
+runs_share_sites plan events run before at octets so_far rest after service split window = shares plan events run before at octets so_far rest after service split window

@@ -36,7 +36,6 @@ use Rattle.flight_model.proofs.RuledRunLemmas.{run_ruled}
 use Rattle.flight_model.proofs.RunLemmas.{run_ordered}
 use Rattle.packet_model.proofs.ArriveLemmas.{IsSized, come_sized}
 use Rattle.packet_model.proofs.RunLemmas.{runs_keep_packet_rule}
-use Rattle.flood_model.specs.Due.{has_short_paths}
 use Rattle.flood_model.proofs.EntryLemmas.{flooded_unlearned}
 use Rattle.flood_model.proofs.ServeLemmas.{Serves, serves_then, serves_told}
 use Rattle.flood_model.proofs.StartLemmas.{entering_is, entering_serves, owed_to, still_self}
@@ -61,12 +60,12 @@ record Starts (plan : Plan) (calm : NetworkState) (service : ServiceId) (frame :
   entered : stepped.state.entered ≡ calm.entered + 1
 
 starts : (plan : Plan) (calm : NetworkState) (at : CircuitId) (octets frame : List ℕ) (service : ServiceId) (during : List Event) (found : Option CircuitPlan)
-    → IsChecked plan → has_short_paths plan ≡ true → is_calm plan calm service ≡ true → ((a b : ℕ) → are_joined_by plan service a b ≡ true → AreSettled plan calm a b) → IsSized (mtu_of plan service) frame
+    → IsChecked plan → is_calm plan calm service ≡ true → ((a b : ℕ) → are_joined_by plan service a b ≡ true → AreSettled plan calm a b) → IsSized (mtu_of plan service) frame
     → IsRuledNetwork plan calm → circuit_row plan at ≡ found → option_map (λ (row : CircuitPlan). row.service) found ≡ Some service → is_row_on calm at found ≡ true → inner_at plan at octets ≡ Ok frame
     → is_flooded_frame plan calm service frame (Frame at octets ∷ during) ≡ true → of_origin (next_origin calm) calm.under_way ≡ []
     → Starts plan calm service frame at (frame_event plan at octets found calm)
-starts plan calm at octets frame service during None checked short calmed settled sized ruled is of_service on formed floods none = absurd (cc (of_service))
-starts plan calm at octets frame service during (Some row) checked short calmed settled sized ruled is of_service on formed floods none =
+starts plan calm at octets frame service during None checked calmed settled sized ruled is of_service on formed floods none = absurd (cc (of_service))
+starts plan calm at octets frame service during (Some row) checked calmed settled sized ruled is of_service on formed floods none =
     let same : row.service ≡ service = cc (of_service) in
     by same calmed settled sized floods
   where
@@ -77,9 +76,9 @@ starts plan calm at octets frame service during (Some row) checked short calmed 
         (λ calm_here settled_here sized_here floods_here.
         let unknown = unknown_heard plan calm at octets frame row during checked is on formed floods_here in
         record {
-          serves = entering_serves plan calm at octets frame row checked short calm_here settled_here sized_here ruled is on formed unknown none;
+          serves = entering_serves plan calm at octets frame row checked calm_here settled_here sized_here ruled is on formed unknown none;
           entered =
-              ap (λ (stepped : Stepped). stepped.state.entered) (entering_is plan calm at octets frame row checked short calm_here settled_here sized_here ruled is on formed unknown none)
+              ap (λ (stepped : Stepped). stepped.state.entered) (entering_is plan calm at octets frame row checked calm_here settled_here sized_here ruled is on formed unknown none)
               ∙ entering_counts at octets row (frame_work plan calm at octets row) calm;
         })
 
@@ -107,7 +106,7 @@ front_untaught plan network service address (e ∷ xs) ys none =
 
 -- ---- from the entry on
 
-module _ (plan : Plan) (events : List Event) (run : IsRun plan events) (short : has_short_paths plan ≡ true) (before : List Event) (at : CircuitId) (octets : List ℕ) (during rest after : List Event) (service : ServiceId)
+module _ (plan : Plan) (events : List Event) (run : IsRun plan events) (before : List Event) (at : CircuitId) (octets : List ℕ) (during rest after : List Event) (service : ServiceId)
     (split : events ≡ before ++ Frame at octets ∷ (during ++ after)) (window : Window plan before at octets (during ++ rest) service) where
   abbrev calm : NetworkState
   calm = state_after plan (empty_network plan) before
@@ -151,7 +150,7 @@ module _ (plan : Plan) (events : List Event) (run : IsRun plan events) (short : 
   early circuit = apart_before plan origin circuit (empty_network plan) before (omega arith) refl
 
   begins : Starts plan calm service frame at (frame_event plan at octets (circuit_row plan at) calm)
-  begins = starts plan calm at octets frame service (during ++ rest) (circuit_row plan at) run.checked short window.calm settled sized reached.ruled refl window.sender window.on window.formed window.flooded (early at).under_way
+  begins = starts plan calm at octets frame service (during ++ rest) (circuit_row plan at) run.checked window.calm settled sized reached.ruled refl window.sender window.on window.formed window.flooded (early at).under_way
 
   first : Serves plan calm service frame origin (owed_to at) entry
   first = serves_told plan calm service frame origin (owed_to at) (Frame at octets) (frame_event plan at octets (circuit_row plan at) calm) begins.serves
@@ -168,7 +167,7 @@ module _ (plan : Plan) (events : List Event) (run : IsRun plan events) (short : 
     | inl group ↦ inl group
     | inr stays ↦
         inr (
-          step_unlearned plan calm trace origin service (destination_of frame) (Frame at octets) run.checked short reached.ruled reached.rule refl stays.first stays.now,
+          step_unlearned plan calm trace origin service (destination_of frame) (Frame at octets) run.checked reached.ruled reached.rule refl stays.first stays.now,
           front_untaught plan entry.state service (destination_of frame) during rest stays.later,
         )
   ]
@@ -181,7 +180,7 @@ module _ (plan : Plan) (events : List Event) (run : IsRun plan events) (short : 
   pub served_so_far : Serves plan calm service frame origin (owed_to at) (record { state = state_after plan entry.state during; entries = entry.entries ++ entries_along plan entry.state during })
   served_so_far =
       serves_then plan calm service frame origin (owed_to at) entry (along plan entry.state during) first
-      (window_serves plan calm service frame origin run.checked short window.calm settled sized entry.state (trace ++ entry.entries) during run.types
+      (window_serves plan calm service frame origin run.checked window.calm settled sized entry.state (trace ++ entry.entries) during run.types
       (front_all (IsEventOf plan) during after (All-tail (IsEventOf plan) (Frame at octets) (during ++ after) from_frame))
       (step_reached plan calm trace (Frame at octets) run.checked run.types (All-head (IsEventOf plan) (Frame at octets) (during ++ after) from_frame) reached)
       after_entry unknown (front_spare plan origin entry.state during rest window.spared))

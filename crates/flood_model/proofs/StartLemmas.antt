@@ -31,13 +31,14 @@ use Rattle.flight_model.specs.Laws.{AreSettled}
 use Rattle.flight_model.proofs.RuledNetworkLemmas.{IsRuledNetwork}
 use Rattle.packet_model.proofs.ArriveLemmas.{IsSized}
 use Rattle.flood_model.specs.Copy.{CarriesCopy, IsStill}
-use Rattle.flood_model.specs.Due.{has_short_paths, serves_here, wires_due}
+use Rattle.flood_model.specs.Hops.{HasPassed}
+use Rattle.flood_model.specs.Due.{serves_here, wires_due}
 use Rattle.flood_model.proofs.BridgeLemmas.{frame_meets}
 use Rattle.flood_model.proofs.CopyLemmas.{copies_carry}
 use Rattle.flood_model.proofs.CountLemmas.{awaited, due, meets}
 use Rattle.flood_model.proofs.HopLemmas.{first_hop}
 use Rattle.flood_model.proofs.LawLemmas.{entry_law}
-use Rattle.flood_model.proofs.ServeLemmas.{Floods, FloodsBy, FloodsNot, IsNear, IsNearCopy, Serves, copies_near, floods, serves_absorb, serves_in}
+use Rattle.flood_model.proofs.ServeLemmas.{Floods, FloodsBy, FloodsNot, IsNearCopy, Serves, copies_near, floods, serves_absorb, serves_in}
 use Rattle.flood_model.proofs.SiteLemmas.{left_within, none_elsewhere, site_of, site_serves}
 
 -- nothing has changed of a network itself
@@ -57,7 +58,7 @@ owed_by false true both = absurd (cc (both refl))
 owed_by false false both = refl
 
 module _ (plan : Plan) (calm : NetworkState) (at : CircuitId) (octets frame : List ℕ) (row : CircuitPlan)
-    (checked : IsChecked plan) (short : has_short_paths plan ≡ true) (calmed : is_calm plan calm row.service ≡ true)
+    (checked : IsChecked plan) (calmed : is_calm plan calm row.service ≡ true)
     (settled : (a b : ℕ) → are_joined_by plan row.service a b ≡ true → AreSettled plan calm a b) (sized : IsSized (mtu_of plan row.service) frame)
     (ruled : IsRuledNetwork plan calm) (is : circuit_row plan at ≡ Some row) (on : is_on (edge_at calm row.edge) at ≡ true) (formed : inner_at plan at octets ≡ Ok frame)
     (unknown : (arrival : ℕ) → known_port (addresses_of (hearing row.service frame arrival (edge_at calm row.edge)) row.service) (destination frame) ≡ None)
@@ -102,17 +103,18 @@ module _ (plan : Plan) (calm : NetworkState) (at : CircuitId) (octets frame : Li
   rest : AllByRecursion (IsNearCopy plan calm row.service frame) (of_origin origin base.under_way)
   rest = subst (AllByRecursion (IsNearCopy plan calm row.service frame)) (sym none_there) tt
 
-  met : (circuit : CircuitId) → meets plan calm row.service circuit work.effects
+  met : (circuit : CircuitId) → meets plan calm row.service circuit row.edge work.effects
       ≡ cond (serves_here plan row.service (edge_at calm row.edge) circuit && not (nat_eq circuit.0 at.0)) 1 0 + wires_due plan calm row.service circuit row.edge.0 None
   met circuit =
-      ap (λ (w : Work). meets plan calm row.service circuit w.effects) bridged
-      ∙ frame_meets plan (arrival.Circuit at) calm (edge_at calm row.edge) at circuit frame row checked short is placed ((still_self calm).edges row.edge.0) unknown
+      ap (λ (w : Work). meets plan calm row.service circuit row.edge w.effects) bridged
+      ∙ (ap (λ (m : EdgeId). meets plan calm row.service circuit m (forwarded plan taken_all (arrival.Circuit at) row.service frame port (begin_at calm row.edge)).effects) (sym placed)
+      ∙ frame_meets plan (arrival.Circuit at) calm (edge_at calm row.edge) at circuit frame row checked is placed ((still_self calm).edges row.edge.0) unknown)
 
-  balanced : (circuit : CircuitId) → is_site plan calm row.service circuit ≡ true → due plan calm row.service circuit origin base + meets plan calm row.service circuit work.effects ≡ owed_to at circuit
+  balanced : (circuit : CircuitId) → is_site plan calm row.service circuit ≡ true → due plan calm row.service circuit origin base + meets plan calm row.service circuit row.edge work.effects ≡ owed_to at circuit
   balanced circuit site =
       let there = site_of plan calm row.service circuit site in
       let none : due plan calm row.service circuit origin base ≡ 0 = ap (awaited plan calm row.service circuit) none_there in
-      let law = entry_law plan calm row.service circuit at there.row row checked short calmed there.is there.of_service is (eq-eqb row.service.0 row.service.0 refl) in
+      let law = entry_law plan calm row.service circuit at there.row row checked calmed there.is there.of_service is (eq-eqb row.service.0 row.service.0 refl) in
       let served : cond {A = ℕ} (serves_here plan row.service (edge_at calm row.edge) circuit && not (nat_eq circuit.0 at.0)) 1 0 ≡ cond (nat_eq there.row.edge.0 row.edge.0 && not (nat_eq circuit.0 at.0)) 1 0 =
       ap (λ (b : Bool). cond {A = ℕ} (b && not (nat_eq circuit.0 at.0)) 1 0)
       (site_serves plan calm row.service circuit (edge_at calm row.edge) row.edge.0 there (ap (λ (m : EdgeId). m.0) placed) ((still_self calm).edges row.edge.0)) in
@@ -131,10 +133,10 @@ module _ (plan : Plan) (calm : NetworkState) (at : CircuitId) (octets frame : Li
   sends : (sent : ℕ) → Floods plan (edge_at calm row.edge) (arrival.Circuit at) row.service frame port work.effects → AllByRecursion (IsNearCopy plan calm row.service frame) (packets_of row.edge origin 0 sent work.effects)
   sends sent (FloodsNot none) = subst (λ (es : List Effect). AllByRecursion (IsNearCopy plan calm row.service frame) (packets_of row.edge origin 0 sent es)) (sym none) tt
   sends sent (FloodsBy from found all) =
-      both_hold (CarriesCopy plan calm row.service frame) (IsNear plan) (packets_of row.edge origin 0 sent work.effects)
+      both_hold (CarriesCopy plan calm row.service frame) (HasPassed plan) (packets_of row.edge origin 0 sent work.effects)
       (copies_carry plan calm calm row.edge origin 0 sent (arrival.Circuit at) row.service frame from work.effects checked ruled (still_self calm) quiet settled sized all)
       (copies_near plan (edge_at calm row.edge) row.edge origin 0 sent (arrival.Circuit at) row.service frame from work.effects
-      (λ peer wire of_arrival bytes copy r r_is. first_hop peer.0 r) all)
+      (λ peer wire of_arrival bytes copy r r_is. first_hop plan row.edge peer r) all)
 
   nowhere_else : (circuit : CircuitId) (other : NetworkState) → is_site plan calm row.service circuit ≡ false → Floods plan (edge_at calm row.edge) (arrival.Circuit at) row.service frame port work.effects
       → times_left origin circuit (all_entries_of row.edge origin 0 work.effects other) ≡ 0
@@ -146,7 +148,7 @@ module _ (plan : Plan) (calm : NetworkState) (at : CircuitId) (octets frame : Li
   absorbed =
       serves_absorb plan calm row.service frame origin (owed_to at) row.edge 0 work base rest
       (λ sent. sends sent flooding) balanced (λ circuit other away. nowhere_else circuit other away flooding)
-      (λ other. left_within 3 origin 0 row.edge origin work.effects other (omega arith))
+      (λ other. left_within 12 origin 0 row.edge origin work.effects other (omega arith))
 
   -- the frame enters
   pub entering_is : frame_event plan at octets (Some row) calm ≡ entering calm at octets row (frame_work plan calm at octets row)

@@ -1,6 +1,6 @@
 -- While frames enter and packets arrive, are lost or repeated, nothing but addresses and packets changes; and a destination that no
 -- bridge has learned, and nothing teaches, stays unlearned.
-use Rattle.std.proofs.Common.{◌≡◌, ◌<◌, ◌&&◌, ◌||◌, ◌∙◌, ℕ, Bool, true, false, List, [], ◌∷◌, Option, Some, None, Result, Ok, Err, cond, option_map, length, refl, ap, sym, subst, nat_eq, inl, inr}
+use Rattle.std.proofs.Common.{◌+◌, ◌≡◌, ◌<◌, ◌&&◌, ◌||◌, ◌∙◌, ℕ, Bool, true, false, List, [], ◌∷◌, Option, Some, None, Result, Ok, Err, cond, option_map, length, refl, ap, sym, subst, nat_eq, inl, inr}
 use Rattle.std.proofs.lemmas.Bool.{cases_Bool, eq-eqb, eqb-true}
 use Rattle.std.proofs.lemmas.List.Folds.{list_any-append}
 use Rattle.std.specs.List.{AllByRecursion, list_any}
@@ -52,9 +52,8 @@ use Rattle.network_model.proofs.PacketListLemmas.{absorb_sends, copy_of, holds_b
 use Rattle.flight_model.proofs.RuledNetworkLemmas.{IsRuledNetwork}
 use Rattle.packet_model.specs.Carried.{IsCarried, KeepsPacketRule}
 use Rattle.packet_model.proofs.ArriveLemmas.{IsSized, come_sized}
-use Rattle.flood_model.specs.Due.{has_short_paths}
 use Rattle.flood_model.specs.Copy.{IsStill, IsStillEdge}
-use Rattle.flood_model.proofs.CopyLemmas.{Arrives, BridgesIt, CarriesIn, DropsIt, packet_arrives, sent_carry}
+use Rattle.flood_model.proofs.CopyLemmas.{Arrives, BridgesIt, CarriesIn, DropsIt, PassesIt, packet_arrives, sent_carry}
 
 -- ---- what holds of each edge
 
@@ -276,6 +275,11 @@ packet_leaves plan network service address packet checked ruled absent untaught 
     subst (LeavesUnlearned plan service address packet.to) (sym bridges.work)
     (leaves_forwarded plan network service address packet.to checked ruled absent (arrival.Wire packet.wire) bridges.row.service bridges.frame bridges.port bridges.sized
     (sym (teaches_as plan bridges.row.service service address bridges.frame packet bridges.row bridges.is refl bridges.carries) ∙ untaught))
+packet_leaves plan network service address packet checked ruled absent untaught (PassesIt passes) = record {
+  table = subst (HasNot plan service address packet.to.0) (sym passes.edge) absent;
+  sent = λ origin hops sent. subst (λ (es : List Effect). AllByRecursion (Unteaching plan service address) (packets_of packet.to origin hops sent es)) (sym passes.effects)
+      (ap (λ (read : Result (List ℕ) DropCause). is_row_of_service service (wire_row plan packet.wire) && is_sourced address read) (passes.carries (sent + 1) origin (hops + 1)) ∙ untaught, tt);
+}
 
 -- ---- the network
 
@@ -322,13 +326,13 @@ module _ (plan : Plan) (service : ServiceId) (address : List ℕ) where
   found_untaught : (network : NetworkState) (number : ℕ) (packet : Packet) → IsUnlearned plan service address network → packet_at network number ≡ Some packet → packet_teaches plan service address packet ≡ false
   found_untaught network number packet unlearned is = packet_holds (Unteaching plan service address) network number packet (each_unteaching plan service address network.under_way unlearned.packets) is
 
-  arrive_unlearned : (network : NetworkState) (trace : List Entry) (number : ℕ) (found : Option Packet) → IsChecked plan → has_short_paths plan ≡ true → IsRuledNetwork plan network → KeepsPacketRule plan network trace → packet_at network number ≡ found
+  arrive_unlearned : (network : NetworkState) (trace : List Entry) (number : ℕ) (found : Option Packet) → IsChecked plan → IsRuledNetwork plan network → KeepsPacketRule plan network trace → packet_at network number ≡ found
       → IsUnlearned plan service address network → IsUnlearned plan service address (arrive_event plan found network).state
-  arrive_unlearned network trace number None checked short ruled rule is unlearned = unlearned
-  arrive_unlearned network trace number (Some packet) checked short ruled rule is unlearned =
+  arrive_unlearned network trace number None checked ruled rule is unlearned = unlearned
+  arrive_unlearned network trace number (Some packet) checked ruled rule is unlearned =
       absorb_unlearned packet.to packet.origin packet.hops (packet_work plan network packet) (without_packet packet.number network) (without_unlearned packet.number network unlearned)
       (packet_leaves plan network service address packet checked ruled (unlearned.tables packet.to.0) (found_untaught network number packet unlearned is)
-      (packet_arrives plan network trace packet checked short ruled (packet_holds (IsCarried plan network trace) network number packet rule is)))
+      (packet_arrives plan network trace packet checked ruled (packet_holds (IsCarried plan network trace) network number packet rule is)))
 
   discard_unlearned : (network : NetworkState) (found : Option Packet) → IsUnlearned plan service address network → IsUnlearned plan service address (discard_event found network).state
   discard_unlearned network None unlearned = unlearned
@@ -349,13 +353,13 @@ module _ (plan : Plan) (service : ServiceId) (address : List ℕ) where
 
 -- what is unlearned stays so on an event of a window that does not teach it
 pub step_unlearned : (plan : Plan) (network : NetworkState) (trace : List Entry) (origin : ℕ) (service : ServiceId) (address : List ℕ) (event : Event)
-    → IsChecked plan → has_short_paths plan ≡ true → IsRuledNetwork plan network → KeepsPacketRule plan network trace → spares network origin event ≡ true
+    → IsChecked plan → IsRuledNetwork plan network → KeepsPacketRule plan network trace → spares network origin event ≡ true
     → teaches plan network service address event ≡ false
     → IsUnlearned plan service address network → IsUnlearned plan service address (step plan network event).state
-step_unlearned plan network trace origin service address (Frame circuit octets) checked short ruled rule spared untaught unlearned =
+step_unlearned plan network trace origin service address (Frame circuit octets) checked ruled rule spared untaught unlearned =
     frame_unlearned plan service address network circuit octets (circuit_row plan circuit) checked ruled refl untaught unlearned
-step_unlearned plan network trace origin service address (Arrive number) checked short ruled rule spared untaught unlearned =
-    arrive_unlearned plan service address network trace number (packet_at network number) checked short ruled rule refl unlearned
-step_unlearned plan network trace origin service address (Discard number) checked short ruled rule spared untaught unlearned = discard_unlearned plan service address network (packet_at network number) unlearned
-step_unlearned plan network trace origin service address (Again number) checked short ruled rule spared untaught unlearned = again_unlearned plan service address network number (packet_at network number) refl unlearned
-step_unlearned plan network trace origin service address event checked short ruled rule spared untaught unlearned = absurd (cc (spared))
+step_unlearned plan network trace origin service address (Arrive number) checked ruled rule spared untaught unlearned =
+    arrive_unlearned plan service address network trace number (packet_at network number) checked ruled rule refl unlearned
+step_unlearned plan network trace origin service address (Discard number) checked ruled rule spared untaught unlearned = discard_unlearned plan service address network (packet_at network number) unlearned
+step_unlearned plan network trace origin service address (Again number) checked ruled rule spared untaught unlearned = again_unlearned plan service address network number (packet_at network number) refl unlearned
+step_unlearned plan network trace origin service address event checked ruled rule spared untaught unlearned = absurd (cc (spared))

@@ -34,7 +34,6 @@ use Rattle.packet_model.specs.Carried.{KeepsPacketRule}
 use Rattle.packet_model.proofs.ArriveLemmas.{IsSized}
 use Rattle.packet_model.proofs.StepLemmas.{step_keeps_rule}
 use Rattle.flood_model.specs.Copy.{IsStill}
-use Rattle.flood_model.specs.Due.{has_short_paths}
 use Rattle.flood_model.proofs.ServeArrivalLemmas.{arriving_serves}
 use Rattle.flood_model.proofs.CountLemmas.{due}
 use Rattle.flood_model.proofs.OriginLemmas.{not_named}
@@ -67,14 +66,14 @@ StaysUnknown plan service frame network events =
 
 -- and so it does after one event
 step_unknown : (plan : Plan) (network : NetworkState) (trace : List Entry) (origin : ℕ) (service : ServiceId) (frame : List ℕ) (event : Event) (events : List Event)
-    → IsChecked plan → has_short_paths plan ≡ true → IsReached plan network trace → spares network origin event ≡ true → StaysUnknown plan service frame network (event ∷ events)
+    → IsChecked plan → IsReached plan network trace → spares network origin event ≡ true → StaysUnknown plan service frame network (event ∷ events)
     → StaysUnknown plan service frame (step plan network event).state events
-step_unknown plan network trace origin service frame event events checked short reached spared (inl group) = inl group
-step_unknown plan network trace origin service frame event events checked short reached spared (inr unlearned) =
+step_unknown plan network trace origin service frame event events checked reached spared (inl group) = inl group
+step_unknown plan network trace origin service frame event events checked reached spared (inr unlearned) =
     let here : Bool = teaches plan network service (destination_of frame) event in
     let later : Bool = some_teach plan (step plan network event).state service (destination_of frame) events in
     inr (
-      step_unlearned plan network trace origin service (destination_of frame) event checked short reached.ruled reached.rule spared (none_first here later unlearned.1) unlearned.0,
+      step_unlearned plan network trace origin service (destination_of frame) event checked reached.ruled reached.rule spared (none_first here later unlearned.1) unlearned.0,
       none_later here later unlearned.1,
     )
 
@@ -86,7 +85,7 @@ pub record IsAfter (plan : Plan) (calm : NetworkState) (service : ServiceId) (fr
   pub copies : AllByRecursion (IsNearCopy plan calm service frame) (of_origin origin network.under_way)
   pub issued : origin ≤ network.entered
 
-module _ (plan : Plan) (calm : NetworkState) (service : ServiceId) (frame : List ℕ) (origin : ℕ) (checked : IsChecked plan) (short : has_short_paths plan ≡ true) (calmed : is_calm plan calm service ≡ true)
+module _ (plan : Plan) (calm : NetworkState) (service : ServiceId) (frame : List ℕ) (origin : ℕ) (checked : IsChecked plan) (calmed : is_calm plan calm service ≡ true)
     (settled : (a b : ℕ) → are_joined_by plan service a b ≡ true → AreSettled plan calm a b) (sized : IsSized (mtu_of plan service) frame) where
   -- what is due is owed
   abbrev owes : NetworkState → CircuitId → ℕ
@@ -108,7 +107,7 @@ module _ (plan : Plan) (calm : NetworkState) (service : ServiceId) (frame : List
       → Serves plan calm service frame origin (owes network) (arrive_event plan found network)
   arrive_serves network trace number None is own reached after unlearned = absurd (cc (own))
   arrive_serves network trace number (Some packet) is own reached after unlearned =
-      arriving_serves plan calm network trace service frame origin number packet checked short calmed settled sized reached.ruled reached.rule after.still unlearned after.copies is own
+      arriving_serves plan calm network trace service frame origin number packet checked calmed settled sized reached.ruled reached.rule after.still after.copies is own unlearned
 
   unlearned_now : (network : NetworkState) (events : List Event) → StaysUnknown plan service frame network events → (goes_to_group frame ≡ true) ⊎ IsUnlearned plan service (destination_of frame) network
   unlearned_now network events (inl group) = inl group
@@ -148,5 +147,5 @@ module _ (plan : Plan) (calm : NetworkState) (service : ServiceId) (frame : List
       serves_then plan calm service frame origin (owes network) first (along plan first.state es) serves
       (window_serves first.state (trace ++ first.entries) es types (All-tail (IsEventOf plan) e es planned)
       (step_reached plan network trace e checked types (All-head (IsEventOf plan) e es planned) reached) next
-      (step_unknown plan network trace origin service frame e es checked short reached here unknown)
+      (step_unknown plan network trace origin service frame e es checked reached here unknown)
       (and_right (spares network origin e) (all_spare plan origin first.state es) spared))

@@ -1,9 +1,6 @@
 -- The end of an edge at a wire with a path of two edges is beside the wire's other edge, and what it sends has to serve what is due
 -- there.
-use Rattle.std.proofs.Common.{◌≡◌, ◌==◌, ◌&&◌, ◌||◌, ◌+◌, ◌∙◌, ℕ, zero, suc, Bool, true, false, List, [], ◌∷◌, Option, Some, None, cond, length, slice_get, nat_eq, refl, ap, sym, arith, inl, inr}
-use Rattle.std.proofs.lemmas.Bool.{cases_Bool, eqb-true}
-use Rattle.std.proofs.lemmas.Bool.Decides.{nat_tests}
-use Rattle.std.specs.List.{list_all}
+use Rattle.std.proofs.Common.{◌≡◌, ◌||◌, ◌+◌, ◌∙◌, ℕ, true, List, [], ◌∷◌, Option, Some, None, cond, refl, ap, sym, arith}
 use Rattle.net_base.specs.declared.plan.Plan.{Plan}
 use Rattle.net_base.specs.declared.plan.wire_plan.WirePlan.{WirePlan}
 use Rattle.net_base.specs.declared.plan.places.CircuitId.{CircuitId}
@@ -26,44 +23,22 @@ use Rattle.edge_model.specs.Send.{packet_of, sends_copy, sends_under}
 use Rattle.edge_model.specs.State.{EdgeState, end_at}
 use Rattle.edge_model.specs.Work.{Work, gives, posts}
 use Rattle.edge_model.proofs.CopyLemmas.{found_end}
-use Rattle.edge_model.proofs.LocalLemmas.{and_left, and_right}
 use Rattle.edge_model.proofs.PlaceLemmas.{IsEndOf}
 use Rattle.network_model.specs.Absorb.{taken_all}
 use Rattle.network_model.specs.Reach.{far_of}
 use Rattle.network_model.specs.State.{NetworkState}
 use Rattle.packet_model.proofs.SendLemmas.{same_row, wire_end_is}
-use Rattle.flood_model.specs.Due.{awaits, due_towards, has_short_paths}
-use Rattle.flood_model.proofs.CountLemmas.{meets, meets-append}
+use Rattle.flood_model.specs.Due.{awaits, due_towards}
+use Rattle.flood_model.specs.Copy.{heading_on}
+use Rattle.network_model.specs.Goal.{goal}
+use Rattle.flood_model.proofs.HopLemmas.{sent_far}
+use Rattle.packet_model.proofs.PackLemmas.{wire_checked}
+use Rattle.net_base.specs.plan.Accepted.{IsChecked}
+use Rattle.net_base.specs.plan.Paths.{is_first, is_last}
+use Rattle.edge_model.specs.EndPlaces.{is_terminal}
+use Rattle.flood_model.proofs.CountLemmas.{sent_awaits, meets, meets-append}
 
 -- ---- a path of two edges
-
--- a test of each item of a list holds of one
-all_hold : {A : Type 0} (test : A → Bool) (xs : List A) (i : ℕ) (x : A) → list_all test xs ≡ true → slice_get xs i ≡ Some x → test x ≡ true
-all_hold test [] i x all is = absurd (cc (is))
-all_hold test (y ∷ ys) zero x all is =
-    let same : y ≡ x = cc (is) in
-    ap test (sym same) ∙ and_left (test y) (list_all test ys) all
-all_hold test (y ∷ ys) (suc i) x all is = all_hold test ys i x (and_right (test y) (list_all test ys) all) is
-
--- the path of a wire has two edges
-pub has_two : (plan : Plan) (wire : WireId) (row : WirePlan) → has_short_paths plan ≡ true → wire_row plan wire ≡ Some row → nat_eq (length row.path) 2 ≡ true
-has_two plan wire row short is = all_hold (λ (r : WirePlan). nat_eq (length r.path) 2) plan.wires wire.0 row short is
-
-peer_last : (me peer first last : ℕ) → (me == first) ≡ true → ((me == first && peer == last) || (peer == first && me == last)) || false ≡ true → last ≡ peer
-peer_last me peer first last here joined = grind (arith, nat_tests)
-
-peer_first : (me peer first last : ℕ) → (me == first) ≡ false → ((me == first && peer == last) || (peer == first && me == last)) || false ≡ true → first ≡ peer
-peer_first me peer first last away joined = grind (arith, nat_tests)
-
--- of two edges that a path of two edges joins, each is the far one of the other
-pub far_is : (path : List EdgeId) (me peer : ℕ) → nat_eq (length path) 2 ≡ true → joins me peer path ≡ true → far_of me path ≡ Some peer
-far_is [] me peer two joined = absurd (cc (two))
-far_is (last ∷ []) me peer two joined = absurd (cc (two))
-far_is (first ∷ next ∷ more ∷ rest) me peer two joined = absurd (omega (arith, eqb-true (length (first ∷ next ∷ more ∷ rest)) 2 two))
-far_is (first ∷ last ∷ []) me peer two joined = elim (cases_Bool (nat_eq me first.0)) [
-  | inl here ↦ rw here (ap Some (peer_last me peer first.0 last.0 here joined))
-  | inr away ↦ rw away (ap Some (peer_first me peer first.0 last.0 away joined))
-]
 
 -- ---- what an end sends
 
@@ -72,49 +47,52 @@ up_is_none None up = refl
 up_is_none (Some why) up = absurd (cc (up))
 
 -- one where a copy that the end sends has still to serve the circuit
-abbrev pub end_serves : Plan → NetworkState → ServiceId → CircuitId → Option EndPlace → ℕ
-end_serves plan calm service circuit None = 0
-end_serves plan calm service circuit (Some place) = cond (awaits plan calm service circuit place.peer place.wire) 1 0
+abbrev pub end_serves : Plan → NetworkState → ServiceId → CircuitId → EdgeId → Option EndPlace → ℕ
+end_serves plan calm service circuit me None = 0
+end_serves plan calm service circuit me (Some place) = cond (sent_awaits plan calm service circuit me place.peer place.wire) 1 0
 
 -- what an end serves that forwards is what is due towards the other edge of its wire
 pub end_is_due : (plan : Plan) (calm : NetworkState) (service : ServiceId) (circuit : CircuitId) (edge : EdgeState) (wire : WireId) (row : WirePlan)
-    → has_short_paths plan ≡ true → wire_row plan wire ≡ Some row → forwards_at plan edge (wire_end plan edge.me wire) ≡ true
-    → end_serves plan calm service circuit (wire_end plan edge.me wire) ≡ due_towards plan calm service circuit wire.0 (far_of edge.me.0 row.path)
-end_is_due plan calm service circuit edge wire row short is up = by (wire_end plan edge.me wire) refl up where
+    → IsChecked plan → wire_row plan wire ≡ Some row → forwards_at plan edge (wire_end plan edge.me wire) ≡ true
+    → end_serves plan calm service circuit edge.me (wire_end plan edge.me wire) ≡ due_towards plan calm service circuit wire.0 (far_of edge.me.0 row.path)
+end_is_due plan calm service circuit edge wire row checked is up = by (wire_end plan edge.me wire) refl up where
   by : (place : Option EndPlace) → wire_end plan edge.me wire ≡ place → forwards_at plan edge place ≡ true
-      → end_serves plan calm service circuit place ≡ due_towards plan calm service circuit wire.0 (far_of edge.me.0 row.path)
+      → end_serves plan calm service circuit edge.me place ≡ due_towards plan calm service circuit wire.0 (far_of edge.me.0 row.path)
   by None found up = absurd (cc (up))
   by (Some place) found up =
       let end : IsEndOf plan edge.me place = wire_end_is plan edge.me wire place found in
       let of_wire : place.wire ≡ wire = (found_end plan edge.me wire place found).of_wire in
       let rows : end.row ≡ row = same_row end.row row (sym end.is ∙ (ap (wire_row plan) of_wire ∙ is)) in
       let joined : joins edge.me.0 place.peer.0 row.path ≡ true = ap (λ (r : WirePlan). joins edge.me.0 place.peer.0 r.path) (sym rows) ∙ end.joined in
-      let far : far_of edge.me.0 row.path ≡ Some place.peer.0 = far_is row.path edge.me.0 place.peer.0 (has_two plan wire row short is) joined in
-      ap (λ (w : WireId). cond {A = ℕ} (awaits plan calm service circuit place.peer w) 1 0) of_wire ∙ ap (due_towards plan calm service circuit wire.0) (sym far)
+      let ended : is_first edge.me.0 row.path || is_last edge.me.0 row.path ≡ true = ap (λ (r : WirePlan). is_terminal r edge.me) (sym rows) ∙ (sym end.terminal ∙ (found_end plan edge.me wire place found).terminal) in
+      let far : far_of edge.me.0 row.path ≡ Some (goal row.path edge.me place.peer).0 = sent_far row.path edge.me place.peer (wire_checked plan wire row checked is).once joined ended in
+      ap (λ (w : WireId). cond {A = ℕ} (sent_awaits plan calm service circuit edge.me place.peer w) 1 0) of_wire
+      ∙ (ap (λ (o : Option WirePlan). cond {A = ℕ} (awaits plan calm service circuit (heading_on o edge.me place.peer) wire) 1 0) is
+      ∙ ap (due_towards plan calm service circuit wire.0) (sym far))
 
 -- ---- what an edge at work has given out
 
 -- the edge is the one that it was, and what it has given out serves the circuit as often more
-pub record ServesMore (plan : Plan) (calm : NetworkState) (service : ServiceId) (circuit : CircuitId) (count : ℕ) (old new : Work) : Type 0 where
+pub record ServesMore (plan : Plan) (calm : NetworkState) (service : ServiceId) (circuit : CircuitId) (me : EdgeId) (count : ℕ) (old new : Work) : Type 0 where
   pub edge : new.edge ≡ old.edge
-  pub meet : meets plan calm service circuit new.effects ≡ meets plan calm service circuit old.effects + count
+  pub meet : meets plan calm service circuit me new.effects ≡ meets plan calm service circuit me old.effects + count
 
 -- a copy on a wire whose end forwards
 pub wire_serves : (plan : Plan) (came : Arrival) (calm : NetworkState) (service : ServiceId) (circuit : CircuitId) (frame : List ℕ) (wire : WireId) (work : Work)
     → forwards_at plan work.edge (wire_end plan work.edge.me wire) ≡ true
-    → ServesMore plan calm service circuit (end_serves plan calm service circuit (wire_end plan work.edge.me wire)) work (sends_copy plan taken_all came frame (wire_end plan work.edge.me wire) work)
+    → ServesMore plan calm service circuit work.edge.me (end_serves plan calm service circuit work.edge.me (wire_end plan work.edge.me wire)) work (sends_copy plan taken_all came frame (wire_end plan work.edge.me wire) work)
 unfolding gives posts
 wire_serves plan came calm service circuit frame wire work up = by (wire_end plan work.edge.me wire) refl up where
   under : (place : EndPlace) (end : IsEndOf plan work.edge.me place) (agree : BothAgree (end_at work.edge place)) (row : Option WirePlan) (remote : Option Binding) → row ≡ Some end.row → remote ≡ Some agree.binding
-      → ServesMore plan calm service circuit (cond (awaits plan calm service circuit place.peer place.wire) 1 0) work (sends_under taken_all came frame work.edge.me place row remote work)
+      → ServesMore plan calm service circuit work.edge.me (cond (sent_awaits plan calm service circuit work.edge.me place.peer place.wire) 1 0) work (sends_under taken_all came frame work.edge.me place row remote work)
   under place end agree None remote is bound = absurd (cc (is))
   under place end agree (Some row) None is bound = absurd (cc (bound))
   under place end agree (Some row) (Some binding) is bound =
       let sent : List Effect = effect.Sent place.peer place.wire came (packet_of (offer_of row work.edge.me.0) binding frame) ∷ [] in
-      record { edge = refl; meet = omega (arith, meets-append plan calm service circuit work.effects sent) }
+      record { edge = refl; meet = omega (arith, meets-append plan calm service circuit work.edge.me work.effects sent) }
 
   by : (place : Option EndPlace) → wire_end plan work.edge.me wire ≡ place → forwards_at plan work.edge place ≡ true
-      → ServesMore plan calm service circuit (end_serves plan calm service circuit place) work (sends_copy plan taken_all came frame place work)
+      → ServesMore plan calm service circuit work.edge.me (end_serves plan calm service circuit work.edge.me place) work (sends_copy plan taken_all came frame place work)
   by None found up = absurd (cc (up))
   by (Some place) found up =
       let end : IsEndOf plan work.edge.me place = wire_end_is plan work.edge.me wire place found in

@@ -20,7 +20,6 @@ use Rattle.flight_model.proofs.PlaceLemmas.{IsEndOf}
 use Rattle.flight_model.proofs.RowLemmas.{clash}
 use Rattle.flight_model.proofs.WorkLemmas.{same_place}
 use Rattle.flight_model.specs.Ends.{HasTypes}
-use Rattle.flood_model.proofs.LinkLemmas.{IsLink, link_at}
 use Rattle.flood_model.specs.Due.{has_short_paths}
 use Rattle.hvpls_spokes.specs.Port.{is_wire_port, ports_of, wire_port}
 use Rattle.hvpls_spokes.specs.Role as roles
@@ -35,6 +34,7 @@ use Rattle.mac_withdraw.specs.Pieces.{pieces_of}
 use Rattle.move_model.proofs.ChoiceLemmas.{again, piece_tells}
 use Rattle.move_model.proofs.ForgetLemmas.{Forgets, hear_steps_forget}
 use Rattle.move_model.proofs.PendingLemmas.{all_weaker, tells_on}
+use Rattle.move_model.proofs.ShortLinkLemmas.{IsShortLink, short_link}
 use Rattle.move_model.proofs.SpeakLemmas.{Speaks, speaks_first}
 use Rattle.move_model.proofs.StayLemmas.{rows_speak, speaks_on}
 use Rattle.move_model.proofs.WireLemmas.{HasPortAt, IsLinkEnd, IsMeshLink, IsSpokeLink, link_end, mesh_link, port_found, service_is, spoke_link}
@@ -155,12 +155,12 @@ module _ (plan : Plan) (service : ServiceId) (me peer : EdgeId) (wire : WireId) 
   end = link_end plan me peer wire row checked short is joined
 
   ends : Rattle.net_base.specs.plan.Roles.wire_ends_at service me.0 row ≡ true
-  ends = on_it (link_at plan wire.0 row checked short is)
+  ends = on_it (short_link plan wire.0 row checked short is)
     where
       either : (ours : Bool) (a b n f : ℕ) → ours ≡ true → ((a == n && b == f) || (b == n && a == f)) || false ≡ true → ours && ((a == n) || (a == f)) ≡ true
       either ours a b n f one is = rw one (grind (arith, nat_tests))
 
-      on_it : IsLink plan row → Rattle.net_base.specs.plan.Roles.wire_ends_at service me.0 row ≡ true
+      on_it : IsShortLink plan row → Rattle.net_base.specs.plan.Roles.wire_ends_at service me.0 row ≡ true
       on_it link = rw link.path (either (is_wire_of service row) me.0 peer.0 link.near.0 link.far.0 of_service (rw link.path at joined))
 
   pub found_port : HasPortAt plan service me wire row

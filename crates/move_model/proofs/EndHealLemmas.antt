@@ -9,8 +9,6 @@ use Rattle.flight_model.proofs.WorkLemmas.{same_place}
 use Rattle.flight_model.specs.Bound.{some_message}
 use Rattle.flight_model.specs.Ends.{IsOrdered, ends_at}
 use Rattle.flood_model.proofs.FarLemmas.{are_settled}
-use Rattle.flood_model.proofs.LinkLemmas.{IsLink, link_at}
-use Rattle.flood_model.proofs.WirePeerLemmas.{far_is, has_two}
 use Rattle.flood_model.specs.Due.{has_short_paths}
 use Rattle.hvpls_spokes.proofs.PortsLemmas.{IsWired, served_at}
 use Rattle.hvpls_spokes.specs.Port.{ports_of}
@@ -20,6 +18,7 @@ use Rattle.mac_table.specs.declared.mac_entry.MacEntry.{MacEntry}
 use Rattle.move_model.proofs.ForwardLemmas.{all_by_place, all_get}
 use Rattle.move_model.proofs.LiveLemmas.{other_of}
 use Rattle.move_model.proofs.LiveSpokeLemmas.{IsLiveAt, live_at, live_same, quiet_way, spoke_at_link}
+use Rattle.move_model.proofs.ShortLinkLemmas.{IsShortLink, far_is, has_two, short_link}
 use Rattle.move_model.proofs.WireLemmas.{IsMeshLink, IsSpokeLink, mesh_link, spoke_link}
 use Rattle.move_model.specs.Clearing.{clears}
 use Rattle.move_model.specs.Healing.{ByMesh, BySpoke, EntryHeals, Heals, IsAtLive, IsRight, IsSpokeTo, IsWithdrawalPending, LeadsHome, WillBeRight, chosen_in, learned_in}
@@ -80,17 +79,17 @@ edge_within plan circuit row checked is = (row_holds (IsCircuitOf plan) plan.cir
 -- ---- spokes and mesh wires behind ports
 
 -- a spoke that carries frames, and what is behind it
-pub record IsBehindSpoke (plan : Plan) (service : ServiceId) (network : NetworkState) (edge : ℕ) (wire : WireId) (row : WirePlan) (link : IsLink plan row) (circuit : CircuitId) : Type 0 where
+pub record IsBehindSpoke (plan : Plan) (service : ServiceId) (network : NetworkState) (edge : ℕ) (wire : WireId) (row : WirePlan) (link : IsShortLink plan row) (circuit : CircuitId) : Type 0 where
   pub from : is_spoke_from service link.near.0 row ≡ true
   pub live : carries plan network wire.0 row ≡ true
   pub behind : cond (edge == link.near.0) (elsewhere_of plan service edge circuit) (at_edge_of plan service link.near.0 circuit) ≡ true
 
-pub spoke_reach : (plan : Plan) (service : ServiceId) (network : NetworkState) (edge : ℕ) (wire : WireId) (row : WirePlan) (link : IsLink plan row) (circuit : CircuitId) → wire_row plan wire ≡ Some row
+pub spoke_reach : (plan : Plan) (service : ServiceId) (network : NetworkState) (edge : ℕ) (wire : WireId) (row : WirePlan) (link : IsShortLink plan row) (circuit : CircuitId) → wire_row plan wire ≡ Some row
     → reach plan network service edge (port.Spoke wire) circuit
     ≡ (is_live_spoke plan network service link.near.0 wire.0 row && cond (edge == link.near.0) (elsewhere_of plan service edge circuit) (at_edge_of plan service link.near.0 circuit))
 spoke_reach plan service network edge wire row link circuit is = rw (is, link.path) refl
 
-pub behind_is : (plan : Plan) (service : ServiceId) (network : NetworkState) (edge : ℕ) (wire : WireId) (row : WirePlan) (link : IsLink plan row) (circuit : CircuitId) → wire_row plan wire ≡ Some row → reach plan network service edge (port.Spoke wire) circuit ≡ true
+pub behind_is : (plan : Plan) (service : ServiceId) (network : NetworkState) (edge : ℕ) (wire : WireId) (row : WirePlan) (link : IsShortLink plan row) (circuit : CircuitId) → wire_row plan wire ≡ Some row → reach plan network service edge (port.Spoke wire) circuit ≡ true
     → IsBehindSpoke plan service network edge wire row link circuit
 behind_is plan service network edge wire row link circuit is reached =
     let both = sym (spoke_reach plan service network edge wire row link circuit is) ∙ reached in
@@ -101,7 +100,7 @@ behind_is plan service network edge wire row link circuit is reached =
       behind = right_part (is_live_spoke plan network service link.near.0 wire.0 row) _ both;
     }
 
-pub reach_spoke : (plan : Plan) (service : ServiceId) (network : NetworkState) (edge : ℕ) (wire : WireId) (row : WirePlan) (link : IsLink plan row) (circuit : CircuitId) → wire_row plan wire ≡ Some row → IsBehindSpoke plan service network edge wire row link circuit
+pub reach_spoke : (plan : Plan) (service : ServiceId) (network : NetworkState) (edge : ℕ) (wire : WireId) (row : WirePlan) (link : IsShortLink plan row) (circuit : CircuitId) → wire_row plan wire ≡ Some row → IsBehindSpoke plan service network edge wire row link circuit
     → reach plan network service edge (port.Spoke wire) circuit ≡ true
 reach_spoke plan service network edge wire row link circuit is behind = spoke_reach plan service network edge wire row link circuit is
     ∙ both_parts (is_live_spoke plan network service link.near.0 wire.0 row) _ (both_parts (is_spoke_from service link.near.0 row) (carries plan network wire.0 row) behind.from behind.live) behind.behind
@@ -118,13 +117,13 @@ pub record IsPortWire (plan : Plan) (service : ServiceId) (edge : ℕ) (mesh : B
   pub is : wire_row plan wire ≡ Some row
   pub ends : Rattle.net_base.specs.plan.Roles.wire_ends_at service edge row ≡ true
   pub class : is_mesh_class row.class ≡ mesh
-  pub link : IsLink plan row
+  pub link : IsShortLink plan row
   pub peer : EdgeId
   pub joined : joins edge peer.0 row.path ≡ true
 
 port_wire : (plan : Plan) (service : ServiceId) (edge : ℕ) (mesh : Bool) (wire : WireId) → IsChecked plan → has_short_paths plan ≡ true → IsWired plan.wires service (record { 0 = edge }) mesh wire.0 → IsPortWire plan service edge mesh wire
 port_wire plan service edge mesh wire checked short wired =
-    let link : IsLink plan wired.row = link_at plan wire.0 wired.row checked short wired.is in
+    let link : IsShortLink plan wired.row = short_link plan wire.0 wired.row checked short wired.is in
     let other = other_of plan service (record { 0 = edge }) wired.row link wired.ends in
     record { row = wired.row; is = wired.is; ends = wired.ends; class = wired.class; link = link; peer = other.peer; joined = other.joined }
 
@@ -138,7 +137,7 @@ pub of_mesh : (plan : Plan) (service : ServiceId) (edge : ℕ) (wire : WireId) (
 of_mesh plan service edge wire at = both_parts (is_wire_of service at.row) (is_mesh_class at.row.class) (left_part (is_wire_of service at.row) (is_first edge at.row.path || is_last edge at.row.path) at.ends) at.class
 
 -- of two ends the other one
-pub at_far : (plan : Plan) (service : ServiceId) (edge : ℕ) (row : WirePlan) (link : IsLink plan row) → Rattle.net_base.specs.plan.Roles.wire_ends_at service edge row ≡ true → (edge == link.near.0) ≡ false → edge ≡ link.far.0
+pub at_far : (plan : Plan) (service : ServiceId) (edge : ℕ) (row : WirePlan) (link : IsShortLink plan row) → Rattle.net_base.specs.plan.Roles.wire_ends_at service edge row ≡ true → (edge == link.near.0) ≡ false → edge ≡ link.far.0
 at_far plan service edge row link ends away = eqb-true edge link.far.0 (rw away at (rw link.path at (right_part (is_wire_of service row) (is_first edge row.path || is_last edge row.path) ends)))
 
 -- ---- a calm state
@@ -217,7 +216,7 @@ module _ (plan : Plan) (service : ServiceId) (site : Sites) (calm network : Netw
       wired : IsPortWire plan service e false wire
       wired = spoke_port plan service e entry.port wire checked short leads
 
-      link : IsLink plan wired.row
+      link : IsShortLink plan wired.row
       link = wired.link
 
       was : IsBehindSpoke plan service calm e wire wired.row wired.link circuit

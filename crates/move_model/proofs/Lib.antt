@@ -1,3 +1,4 @@
+pub mod ShortLinkLemmas
 pub mod WireLemmas
 pub mod PendingLemmas
 pub mod SpeakLemmas

@@ -12,7 +12,6 @@ use Rattle.edge_model.specs.declared.end_place.EndPlace.{EndPlace}
 use Rattle.flight_model.proofs.PlaceLemmas.{find_holds}
 use Rattle.flight_model.proofs.RowLemmas.{clash}
 use Rattle.flight_model.proofs.WorkLemmas.{same_place}
-use Rattle.flood_model.proofs.LinkLemmas.{IsLink, link_at}
 use Rattle.flood_model.specs.Due.{has_short_paths}
 use Rattle.hvpls_spokes.proofs.PortsLemmas.{IsWired}
 use Rattle.hvpls_spokes.proofs.WirePortLemmas.{LeadsToWire, found_wire_port, leads_by_spoke, same_wire_port, wired_at}
@@ -20,6 +19,7 @@ use Rattle.hvpls_spokes.specs.Port.{is_wire_port, ports_of}
 use Rattle.hvpls_spokes.specs.declared.port.Port.TheVariants as port
 use Rattle.mac_table.specs.declared.mac_entry.MacEntry.{MacEntry}
 use Rattle.move_model.proofs.ForwardLemmas.{all_by_place, filter_at}
+use Rattle.move_model.proofs.ShortLinkLemmas.{IsShortLink, short_link}
 use Rattle.move_model.proofs.WireLemmas.{HasPortAt, IsLinkEnd, link_end, port_found, service_is}
 use Rattle.move_model.specs.Healing.{IsAtLive}
 use Rattle.net_base.specs.declared.plan.Plan.{Plan}
@@ -46,7 +46,7 @@ right_part : (a b : Bool) → a && b ≡ true → b ≡ true
 right_part true b h = h
 right_part false b h = clash h
 
-pub other_of : (plan : Plan) (service : ServiceId) (me : EdgeId) (row : WirePlan) → IsLink plan row → Rattle.net_base.specs.plan.Roles.wire_ends_at service me.0 row ≡ true → HasOther plan me row
+pub other_of : (plan : Plan) (service : ServiceId) (me : EdgeId) (row : WirePlan) → IsShortLink plan row → Rattle.net_base.specs.plan.Roles.wire_ends_at service me.0 row ≡ true → HasOther plan me row
 other_of plan service me row link ends = by (me.0 == link.near.0) refl where
   ends_there : (me.0 == link.near.0) || (me.0 == link.far.0) ≡ true
   ends_there = rw link.path at (right_part (is_wire_of service row) (is_first me.0 row.path || is_last me.0 row.path) ends)
@@ -92,7 +92,7 @@ mends_live plan service me work checked short placed = all_by_place (IsAtLive pl
     row = wired.row
 
     other : HasOther plan me row
-    other = other_of plan service me row (link_at plan wire.0 row checked short wired.is) wired.ends
+    other = other_of plan service me row (short_link plan wire.0 row checked short wired.is) wired.ends
 
     end : IsLinkEnd plan me other.peer wire row
     end = link_end plan me other.peer wire row checked short wired.is other.joined

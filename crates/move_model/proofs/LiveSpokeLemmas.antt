@@ -8,13 +8,13 @@ use Rattle.flight_model.proofs.SettleLemmas.{apart_turned}
 use Rattle.flight_model.proofs.WorkLemmas.{same_place}
 use Rattle.flight_model.specs.Ends.{IsOrdered}
 use Rattle.flight_model.specs.Facts.{flight}
-use Rattle.flood_model.proofs.DueLemmas.{carries_by, forwards}
+use Rattle.flood_model.proofs.DueLemmas.{forwards}
 use Rattle.flood_model.proofs.HomeLemmas.{LiveSpoke, live_count, live_found}
-use Rattle.flood_model.proofs.LinkLemmas.{IsLink, link_at}
 use Rattle.flood_model.proofs.MeshLemmas.{mesh_wire}
 use Rattle.flood_model.specs.Due.{has_short_paths}
 use Rattle.move_model.proofs.ForwardLemmas.{forwards_chosen}
 use Rattle.move_model.proofs.HearHealLemmas.{MeshesTo}
+use Rattle.move_model.proofs.ShortLinkLemmas.{IsShortLink, short_link}
 use Rattle.move_model.proofs.WireLemmas.{IsLinkEnd, IsSpokeLink, link_end, spoke_link}
 use Rattle.move_model.specs.Healing.{IsSpokeTo}
 use Rattle.net_base.specs.declared.plan.Plan.{Plan}
@@ -96,10 +96,10 @@ chosen_forwards plan service edge x wire home checked short placed spoke up = by
 -- ---- the spoke that carries frames
 
 -- a wire of two edges that carries frames forwards at both
-pub carries_ends : (plan : Plan) (network : NetworkState) (k : ℕ) (row : WirePlan) (link : IsLink plan row) → carries plan network k row ≡ true
+pub carries_ends : (plan : Plan) (network : NetworkState) (k : ℕ) (row : WirePlan) (link : IsShortLink plan row) → carries plan network k row ≡ true
     → (end_forwards plan (network.edges link.near.0) (record { 0 = k }) ≡ true) × (end_forwards plan (network.edges link.far.0) (record { 0 = k }) ≡ true)
 carries_ends plan network k row link live =
-    let both = left_of (forwards plan network link.near.0 k && forwards plan network link.far.0 k) true (sym (carries_by plan network k row link) ∙ live) in
+    let both = left_of (forwards plan network link.near.0 k && forwards plan network link.far.0 k) true (rw link.path at live) in
     (left_of (forwards plan network link.near.0 k) (forwards plan network link.far.0 k) both, right_of (forwards plan network link.near.0 k) (forwards plan network link.far.0 k) both)
 
 -- a spoke of the service, by its place
@@ -112,10 +112,10 @@ pub record IsLiveAt (plan : Plan) (service : ServiceId) (network : NetworkState)
   pub chosen : (network.edges x).chosen service.0 ≡ Some wire
 
 -- a spoke from an edge leads to the far edge of its path
-pub spoke_at_link : (plan : Plan) (service : ServiceId) (x k : ℕ) (row : WirePlan) (link : IsLink plan row) → slice_get plan.wires k ≡ Some row → is_spoke_from service x row ≡ true → IsSpokeTo plan service x (record { 0 = k }) link.far.0
+pub spoke_at_link : (plan : Plan) (service : ServiceId) (x k : ℕ) (row : WirePlan) (link : IsShortLink plan row) → slice_get plan.wires k ≡ Some row → is_spoke_from service x row ≡ true → IsSpokeTo plan service x (record { 0 = k }) link.far.0
 spoke_at_link plan service x k row link is from = record { row = row; is = is; from = from; to = ap (is_last link.far.0) link.path ∙ same_place link.far.0 }
 
-pub near_of : (plan : Plan) (service : ServiceId) (x : ℕ) (row : WirePlan) (link : IsLink plan row) → is_spoke_from service x row ≡ true → x ≡ link.near.0
+pub near_of : (plan : Plan) (service : ServiceId) (x : ℕ) (row : WirePlan) (link : IsShortLink plan row) → is_spoke_from service x row ≡ true → x ≡ link.near.0
 near_of plan service x row link from = eqb-true x link.near.0 (ap (is_first x) (sym link.path) ∙ right_of (is_wire_of service row && not (is_mesh_class row.class)) (is_first x row.path) from)
 
 pub live_at : (plan : Plan) (service : ServiceId) (network : NetworkState) (x : ℕ) → IsChecked plan → has_short_paths plan ≡ true → IsOrdered plan network → is_calm plan network service ≡ true → x < length plan.edges → is_spoke_edge plan service x ≡ true
@@ -127,7 +127,7 @@ live_at plan service network x checked short ordered calm within starts = from (
 
   from : LiveSpoke plan network service x 0 plan.wires → IsLiveAt plan service network x
   from found =
-      let link : IsLink plan found.row = link_at plan found.k found.row checked short found.is in
+      let link : IsShortLink plan found.row = short_link plan found.k found.row checked short found.is in
       let live : is_live_spoke plan network service x found.k found.row ≡ true = subst (λ (n : ℕ). is_live_spoke plan network service x n found.row ≡ true) (no_more found.k) found.live in
       let starts_here : is_spoke_from service x found.row ≡ true = left_of (is_spoke_from service x found.row) (carries plan network found.k found.row) live in
       let carried : carries plan network found.k found.row ≡ true = right_of (is_spoke_from service x found.row) (carries plan network found.k found.row) live in
@@ -210,7 +210,7 @@ pub has_meshes : (plan : Plan) (network : NetworkState) (service : ServiceId) �
     → is_core_edge plan service a ≡ true → is_core_edge plan service b ≡ true → nat_eq b a ≡ false → MeshesTo plan service a b
 has_meshes plan network service checked short calm a b within also one other apart =
     let found = mesh_wire plan network service a b calm within also one other (apart_turned b a apart) in
-    let link : IsLink plan found.row = link_at plan found.k found.row checked short found.is in
+    let link : IsShortLink plan found.row = short_link plan found.k found.row checked short found.is in
     record {
       wire = record { 0 = found.k };
       row = found.row;

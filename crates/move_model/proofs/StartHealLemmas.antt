@@ -17,7 +17,6 @@ use Rattle.flight_model.specs.Ends.{IsOrdered}
 use Rattle.flight_model.specs.Facts.{flight}
 use Rattle.flight_model.specs.Laws.{AreSettled, IsRun, IsUp, network_after}
 use Rattle.flood_model.proofs.FarLemmas.{are_settled}
-use Rattle.flood_model.proofs.LinkLemmas.{IsLink, link_at}
 use Rattle.flood_model.proofs.MeshLemmas.{mesh_carries, near_port}
 use Rattle.flood_model.specs.Due.{has_short_paths}
 use Rattle.hvpls_spokes.specs.Port.{ports_of}
@@ -30,6 +29,7 @@ use Rattle.move_model.proofs.ForwardLemmas.{advertises_it, forwards_whole}
 use Rattle.move_model.proofs.LiveSpokeLemmas.{IsLiveAt, carries_ends, forwards_end, has_meshes, home_same, live_at, live_same, near_of, quiet_way, spoke_at_link}
 use Rattle.move_model.proofs.MendedHealLemmas.{HasMended, run_mended}
 use Rattle.move_model.proofs.PendingLemmas.{all_weaker}
+use Rattle.move_model.proofs.ShortLinkLemmas.{IsShortLink, short_link, whole}
 use Rattle.move_model.proofs.WireLemmas.{IsLinkEnd, IsMeshLink, IsSpokeLink, link_end, mesh_link, spoke_link}
 use Rattle.move_model.specs.Clearing.{IsMildWay}
 use Rattle.move_model.specs.Healing.{EntryHeals, Heals, IsAtLive, IsRight, IsSpokeTo, IsSteady, IsWireBetween, IsWithdrawalPending, KeepsMesh, LeadsHome, chosen_in, is_advertising, learned_in}
@@ -91,8 +91,8 @@ port_inside plan service e checked short port = by (list_any (is_circuit_at serv
     | inr away ↦ subst (λ (n : ℕ). n < length plan.edges) (sym (at_far plan service e found.row link found.passes away)) link.far_within
   ]
     where
-      link : IsLink plan found.row
-      link = link_at plan found.k found.row checked short found.is
+      link : IsShortLink plan found.row
+      link = short_link plan found.k found.row checked short found.is
 
   by : (b : Bool) → list_any (is_circuit_at service e) plan.circuits ≡ b → b || list_any (Rattle.net_base.specs.plan.Roles.wire_ends_at service e) plan.wires ≡ true → e < length plan.edges
   by true is some = of_circuit (has_row (is_circuit_at service e) plan.circuits is)
@@ -135,8 +135,8 @@ module _ (plan : Plan) (service : ServiceId) (site : Sites) (network : NetworkSt
 
   mesh_here : (a : ℕ) → KeepsMesh plan service a (network.edges a)
   mesh_here a = record { told = told; on = on; whole = whole } where
-    link_of : (wire : WireId) (row : WirePlan) → wire_row plan wire ≡ Some row → IsLink plan row
-    link_of wire row is = link_at plan wire.0 row checked short is
+    link_of : (wire : WireId) (row : WirePlan) → wire_row plan wire ≡ Some row → IsShortLink plan row
+    link_of wire row is = short_link plan wire.0 row checked short is
 
     ends_of : (b n f c : ℕ) → ((b == n && c == f) || (c == n && b == f)) || false ≡ true → (b == n) ≡ false → b ≡ f
     ends_of b n f c is away = grind (arith, nat_tests)
@@ -147,11 +147,11 @@ module _ (plan : Plan) (service : ServiceId) (site : Sites) (network : NetworkSt
       | inr away ↦ subst (λ (n : ℕ). end_forwards plan (network.edges n) wire ≡ true) (sym (ends_of a link.near.0 link.far.0 peer (rw link.path at joined) away)) both.1
     ]
       where
-        link : IsLink plan row
+        link : IsShortLink plan row
         link = link_of wire row is
 
         both : (end_forwards plan (network.edges link.near.0) wire ≡ true) × (end_forwards plan (network.edges link.far.0) wire ≡ true)
-        both = carries_ends plan network wire.0 row link (mesh_carries plan network service wire.0 row checked short starts.calm is mesh)
+        both = carries_ends plan network wire.0 row link (mesh_carries plan network service wire.0 row checked starts.calm is mesh)
 
     end_is : (wire : WireId) (row : WirePlan) (peer : ℕ) → wire_row plan wire ≡ Some row → joins a peer row.path ≡ true → IsLinkEnd plan (record { 0 = a }) (record { 0 = peer }) wire row
     end_is wire row peer is joined = link_end plan (record { 0 = a }) (record { 0 = peer }) wire row checked short is joined
@@ -209,11 +209,11 @@ module _ (plan : Plan) (service : ServiceId) (site : Sites) (network : NetworkSt
     spoke_is = spoke_link plan service x wire home checked short spoke
 
     inside : x < length plan.edges
-    inside = port_inside plan service x checked short (near_inside (link_at plan wire.0 spoke.row checked short spoke.is))
+    inside = port_inside plan service x checked short (near_inside (short_link plan wire.0 spoke.row checked short spoke.is))
       where
-        near_inside : IsLink plan spoke.row → has_port plan service x ≡ true
+        near_inside : IsShortLink plan spoke.row → has_port plan service x ≡ true
         near_inside link = subst (λ (n : ℕ). has_port plan service n ≡ true) (sym (near_of plan service x spoke.row link spoke.from))
-            (near_port plan service wire.0 spoke.row link spoke.is (ap (λ (s : ServiceId). s.0 == service.0) spoke_is.of_service ∙ same_place service.0))
+            (near_port plan service wire.0 spoke.row (whole plan spoke.row link) spoke.is (ap (λ (s : ServiceId). s.0 == service.0) spoke_is.of_service ∙ same_place service.0))
 
     live : IsLiveAt plan service network x
     live = lives x inside spoke_is.starts

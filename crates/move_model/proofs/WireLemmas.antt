@@ -6,9 +6,7 @@ use Rattle.edge_model.specs.declared.end_place.EndPlace.{EndPlace}
 use Rattle.flight_model.proofs.PlaceLemmas.{Finds, IsEndOf, IsFound, IsNamed, NamedEnd, end_of, find_holds, find_some, named_is, places_are, places_named, wire_apart}
 use Rattle.flight_model.proofs.PlanLemmas.{row_holds}
 use Rattle.flight_model.proofs.RowLemmas.{clash}
-use Rattle.flood_model.proofs.LinkLemmas.{IsLink, link_at}
 use Rattle.flood_model.proofs.MeshLemmas.{core_edge, far_core, far_port, mesh_near, near_port}
-use Rattle.flood_model.proofs.WirePeerLemmas.{far_is, has_two}
 use Rattle.flood_model.specs.Due.{has_short_paths}
 use Rattle.hvpls_spokes.proofs.WirePortLemmas.{finds_wire_port, found_wire_port, has_wire_port, wire_port_is}
 use Rattle.hvpls_spokes.specs.Port.{is_wire_port, ports_of, wire_port}
@@ -28,6 +26,7 @@ use Rattle.std.proofs.Common.{Bool, List, Some, [], ap, arith, false, inl, inr, 
 use Rattle.std.proofs.lemmas.Bool.Decides.{nat_tests}
 use Rattle.std.proofs.lemmas.Bool.{cases_Bool, eq-eqb, eqb-true}
 use Rattle.std.specs.List.{AllByRecursion, find, list_any}
+use Rattle.move_model.proofs.ShortLinkLemmas.{IsShortLink, far_is, has_two, short_link, whole}
 
 -- ---- the two edges of a wire
 
@@ -71,14 +70,14 @@ spoke_link plan service edge wire home checked short spoke = record {
   by_service = any_at (λ (r : WirePlan). is_wire_of service r && joins edge home r.path) plan.wires wire.0 row spoke.is (and_both (is_wire_of service row) (joins edge home row.path) ours joined);
   starts = any_at (is_spoke_from service edge) plan.wires wire.0 row spoke.is spoke.from;
   core = subst (λ (n : ℕ). is_core_edge plan service n ≡ true) (sym last)
-      (core_edge plan service link.far.0 (far_port plan service wire.0 row link spoke.is ours) (far_core plan service wire.0 row link checked short spoke.is ours));
+      (core_edge plan service link.far.0 (far_port plan service wire.0 row (whole plan row link) spoke.is ours) (far_core plan service wire.0 row (whole plan row link) checked spoke.is ours));
 }
   where
     row : WirePlan
     row = spoke.row
 
-    link : IsLink plan row
-    link = link_at plan wire.0 row checked short spoke.is
+    link : IsShortLink plan row
+    link = short_link plan wire.0 row checked short spoke.is
 
     ours : is_wire_of service row ≡ true
     ours = both_left (is_wire_of service row) (not (is_mesh_class row.class)) (both_left (is_wire_of service row && not (is_mesh_class row.class)) (is_first edge row.path) spoke.from)
@@ -122,8 +121,8 @@ mesh_link plan service a b wire row checked short is mesh joined = record {
   far = far_is row.path a b (has_two plan wire row short is) joined;
 }
   where
-    link : IsLink plan row
-    link = link_at plan wire.0 row checked short is
+    link : IsShortLink plan row
+    link = short_link plan wire.0 row checked short is
 
     ours : is_wire_of service row ≡ true
     ours = both_left (is_wire_of service row) (is_mesh_class row.class) mesh
@@ -132,10 +131,10 @@ mesh_link plan service a b wire row checked short is mesh joined = record {
     on_path a b n f is = (grind (arith, nat_tests), grind (arith, nat_tests))
 
     near_is : is_core_edge plan service link.near.0 ≡ true
-    near_is = core_edge plan service link.near.0 (near_port plan service wire.0 row link is ours) (mesh_near plan service wire.0 row link checked short is mesh)
+    near_is = core_edge plan service link.near.0 (near_port plan service wire.0 row (whole plan row link) is ours) (mesh_near plan service wire.0 row (whole plan row link) checked is mesh)
 
     far_is_core : is_core_edge plan service link.far.0 ≡ true
-    far_is_core = core_edge plan service link.far.0 (far_port plan service wire.0 row link is ours) (far_core plan service wire.0 row link checked short is ours)
+    far_is_core = core_edge plan service link.far.0 (far_port plan service wire.0 row (whole plan row link) is ours) (far_core plan service wire.0 row (whole plan row link) checked is ours)
 
     core_of : (e : ℕ) → (e == link.near.0) || (e == link.far.0) ≡ true → is_core_edge plan service e ≡ true
     core_of e there = elim (cases_Bool (e == link.near.0)) [
@@ -206,12 +205,12 @@ link_end plan me peer wire row checked short is joined = record {
     there = named_is plan me peer row.pw_id near.place near.named
 
     ends : is_first me.0 row.path || is_last me.0 row.path ≡ true
-    ends = on_it (link_at plan wire.0 row checked short is)
+    ends = on_it (short_link plan wire.0 row checked short is)
       where
         either : (a b n f : ℕ) → ((a == n && b == f) || (b == n && a == f)) || false ≡ true → (a == n) || (a == f) ≡ true
         either a b n f is = grind (arith, nat_tests)
 
-        on_it : IsLink plan row → is_first me.0 row.path || is_last me.0 row.path ≡ true
+        on_it : IsShortLink plan row → is_first me.0 row.path || is_last me.0 row.path ≡ true
         on_it link = rw link.path (either me.0 peer.0 link.near.0 link.far.0 (rw link.path at joined))
 
     first_passes : is_end_of_wire wire near.place ≡ true

@@ -4,6 +4,7 @@ mod ConnectionExamples
 pub mod EdgeLemmas
 mod Examples
 pub mod FloodLemmas
+pub mod GoalLemmas
 pub mod InnerLemmas
 pub mod KnownLemmas
 pub mod OtherLemmas
@@ -11,6 +12,9 @@ mod PacketExamples
 pub mod PacketListLemmas
 pub mod PlaceLemmas
 pub mod PlanLemmas
+pub mod PointLemmas
 pub mod QuietLemmas
+pub mod ReversedLemmas
 pub mod RunLemmas
 pub mod SplitLemmas
+pub mod WayLemmas

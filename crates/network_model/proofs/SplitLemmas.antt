@@ -1,5 +1,5 @@
 -- Split horizon holds of every run.
-use Rattle.std.proofs.Common.{◌≡◌, ◌&&◌, ◌∙◌, ℕ, Bool, true, false, List, [], ◌∷◌, Option, Some, None, cond, refl, ap, sym, subst}
+use Rattle.std.proofs.Common.{◌≡◌, ◌⊎◌, inl, inr, nat_eq, ◌||◌, ◌&&◌, ◌∙◌, ℕ, Bool, true, false, List, [], ◌∷◌, Option, Some, None, cond, refl, ap, sym, subst}
 use Rattle.net_base.specs.declared.plan.Plan.{Plan}
 use Rattle.net_base.specs.declared.plan.circuit_plan.CircuitPlan.{CircuitPlan}
 use Rattle.net_base.specs.declared.plan.places.CircuitId.{CircuitId}
@@ -11,11 +11,12 @@ use Rattle.net_base.specs.declared.trace.entry.Entry.TheVariants.{Left, Sent}
 use Rattle.net_base.specs.declared.trace.event.Event.{Event}
 use Rattle.net_base.specs.declared.trace.event.Event.TheVariants.{Frame, Arrive, Discard, Again}
 use Rattle.net_base.specs.plan.Places.{circuit_row, is_mesh_class, is_mesh_row, is_mesh_wire}
-use Rattle.net_base.specs.trace.Split.{Split, SplitSent}
+use Rattle.net_base.specs.plan.Paths.{mate_on}
+use Rattle.net_base.specs.trace.Split.{Split, SplitSent, is_before_last, is_inside, is_inside_row, is_switching_point}
 use Rattle.net_base.proofs.TraceLemmas.{split-append}
 use Rattle.edge_model.specs.declared.effect.Effect.{Effect}
 use Rattle.edge_model.specs.declared.effect.Effect.TheVariants as effect
-use Rattle.edge_model.specs.Local.{AllStayBehind, AllStayBeside, SentBehind}
+use Rattle.edge_model.specs.Local.{AllStayBehind, AllStayBeside, SentBehind, SentOn}
 use Rattle.edge_model.specs.State.{EdgeState}
 use Rattle.edge_model.proofs.LocalLemmas.{input_stays}
 use Rattle.edge_model.proofs.PacketLemmas.{packet_stays}
@@ -27,6 +28,7 @@ use Rattle.network_model.specs.Packet.{again_event, arrive_event, discard_event,
 use Rattle.network_model.specs.Run.{entries_along}
 use Rattle.network_model.specs.State.{NetworkState, edge_at, empty_network}
 use Rattle.network_model.specs.Step.{step}
+use Rattle.network_model.proofs.PlaceLemmas.{IsPlaced, step_placed}
 use Rattle.network_model.proofs.QuietLemmas.{NoneGoesOut, step_signals}
 
 -- what an edge sends on an input came by a circuit, or by another wire that is not a mesh wire as it is
@@ -65,10 +67,30 @@ sent_behind plan edge me octets wire came behind =
     subst (λ (a : Arrival). SplitSent plan me wire a) (sym behind.from)
     (λ out into. absurd (not_both (is_mesh_class behind.row.class) (is_mesh_class behind.next.class) behind.not_both_mesh (sym there ∙ out) (sym here ∙ into)))
 
-behind_split : (plan : Plan) (edge : EdgeState) (me : EdgeId) (octets : List ℕ) (es : List Effect) → AllStayBehind plan edge octets es → AllSplit plan me es
-behind_split plan edge me octets [] all = tt
-behind_split plan edge me octets (effect.Sent peer wire came bytes ∷ es) all = (sent_behind plan edge me octets wire came all.0, behind_split plan edge me octets es all.1)
-behind_split plan edge me octets (e ∷ es) all = behind_split plan edge me octets es all.1
+-- an edge with a mate stands between the ends of the path
+mate_inside : (path : List EdgeId) (me : EdgeId) (from : ℕ) (to : EdgeId) → mate_on path me.0 from ≡ Some to → is_inside me path ≡ true
+mate_inside [] me from to is = absurd (cc (is))
+mate_inside (last ∷ []) me from to is = absurd (cc (is))
+mate_inside (before ∷ last ∷ []) me from to is = absurd (cc (is))
+mate_inside (before ∷ point ∷ next ∷ rest) me from to is = by (nat_eq me.0 point.0) refl (λ later. mate_inside (point ∷ next ∷ rest) me from to later) where
+  by : (b : Bool) → nat_eq me.0 point.0 ≡ b → (mate_on (point ∷ next ∷ rest) me.0 from ≡ Some to → is_before_last me (next ∷ rest) ≡ true) → b || is_before_last me (next ∷ rest) ≡ true
+  by true here behind = refl
+  by false away behind = behind (rw away at is)
+
+sent_on : (plan : Plan) (edge : EdgeState) (me : EdgeId) (octets : List ℕ) (peer : EdgeId) (wire : WireId) (came : Arrival) → edge.me ≡ me → SentOn plan edge octets peer wire came → SplitSent plan me wire came
+sent_on plan edge me octets peer wire came same on =
+    let inside : is_switching_point plan me wire ≡ true =
+    ap (λ (w : WireId). is_switching_point plan me w) on.same
+    ∙ (ap (is_inside_row me) on.is ∙ subst (λ (e : EdgeId). is_inside e on.row.path ≡ true) same (mate_inside on.row.path edge.me on.place.peer.0 peer on.mate_is)) in
+    subst (λ (a : Arrival). SplitSent plan me wire a) (sym on.from) (λ out into. (sym on.same, inside))
+
+behind_split : (plan : Plan) (edge : EdgeState) (me : EdgeId) (octets : List ℕ) (es : List Effect) → edge.me ≡ me → AllStayBehind plan edge octets es → AllSplit plan me es
+behind_split plan edge me octets [] same all = tt
+behind_split plan edge me octets (effect.Sent peer wire came bytes ∷ es) same all = (by all.0, behind_split plan edge me octets es same all.1) where
+  by : SentBehind plan edge octets wire came ⊎ SentOn plan edge octets peer wire came → SplitSent plan me wire came
+  by (inl behind) = sent_behind plan edge me octets wire came behind
+  by (inr on) = sent_on plan edge me octets peer wire came same on
+behind_split plan edge me octets (e ∷ es) same all = behind_split plan edge me octets es same all.1
 
 frame_split : (plan : Plan) (network : NetworkState) (circuit : CircuitId) (octets : List ℕ) (row : Option CircuitPlan) → circuit_row plan circuit ≡ row → Split plan (frame_event plan circuit octets row network).entries
 frame_split plan network circuit octets None is = (tt, tt)
@@ -81,11 +103,11 @@ frame_split plan network circuit octets (Some row) is = taken (frame_work plan n
         (beside_split plan circuit row.edge octets (frame_work plan network circuit octets row).effects (input_stays plan taken_all (edge_at network row.edge) [] circuit octets (Some row) is)),
   )
 
-arrive_split : (plan : Plan) (network : NetworkState) (found : Option Packet) → Split plan (arrive_event plan found network).entries
-arrive_split plan network None = (tt, tt)
-arrive_split plan network (Some packet) =
+arrive_split : (plan : Plan) (network : NetworkState) (found : Option Packet) → IsPlaced network → Split plan (arrive_event plan found network).entries
+arrive_split plan network None placed = (tt, tt)
+arrive_split plan network (Some packet) placed =
     effects_split plan packet.to packet.origin packet.hops _ (packet_work plan network packet).effects
-    (behind_split plan (edge_at network packet.to) packet.to packet.bytes (packet_work plan network packet).effects (packet_stays plan taken_all (edge_at network packet.to) [] packet.bytes))
+    (behind_split plan (edge_at network packet.to) packet.to packet.bytes (packet_work plan network packet).effects (placed.me packet.to.0) (packet_stays plan taken_all (edge_at network packet.to) [] packet.bytes))
 
 discard_split : (plan : Plan) (network : NetworkState) (found : Option Packet) → Split plan (discard_event found network).entries
 discard_split plan network None = (tt, tt)
@@ -102,17 +124,17 @@ none_split plan (Left circuit origin hops octets ∷ es) none = absurd none
 none_split plan (Sent packet from to wire came origin hops octets ∷ es) none = absurd none
 none_split plan (e ∷ es) none = (tt, none_split plan es none)
 
-step_split : (plan : Plan) (network : NetworkState) (event : Event) → Split plan (step plan network event).entries
-step_split plan network (Frame circuit octets) = (tt, frame_split plan network circuit octets (circuit_row plan circuit) refl)
-step_split plan network (Arrive number) = (tt, arrive_split plan network (packet_at network number))
-step_split plan network (Discard number) = (tt, discard_split plan network (packet_at network number))
-step_split plan network (Again number) = (tt, again_split plan network (packet_at network number))
-step_split plan network event = none_split plan (step plan network event).entries (step_signals plan network event refl).tells
+step_split : (plan : Plan) (network : NetworkState) (event : Event) → IsPlaced network → Split plan (step plan network event).entries
+step_split plan network (Frame circuit octets) placed = (tt, frame_split plan network circuit octets (circuit_row plan circuit) refl)
+step_split plan network (Arrive number) placed = (tt, arrive_split plan network (packet_at network number) placed)
+step_split plan network (Discard number) placed = (tt, discard_split plan network (packet_at network number))
+step_split plan network (Again number) placed = (tt, again_split plan network (packet_at network number))
+step_split plan network event placed = none_split plan (step plan network event).entries (step_signals plan network event refl).tells
 
-pub along_split : (plan : Plan) (network : NetworkState) (events : List Event) → Split plan (entries_along plan network events)
-along_split plan network [] = tt
-along_split plan network (e ∷ es) =
-    split-append plan (step plan network e).entries (entries_along plan (step plan network e).state es) (step_split plan network e) (along_split plan (step plan network e).state es)
+pub along_split : (plan : Plan) (network : NetworkState) (events : List Event) → IsPlaced network → Split plan (entries_along plan network events)
+along_split plan network [] placed = tt
+along_split plan network (e ∷ es) placed =
+    split-append plan (step plan network e).entries (entries_along plan (step plan network e).state es) (step_split plan network e placed) (along_split plan (step plan network e).state es (step_placed plan network e placed))
 
 pub run_split : RunsAreSplit
-run_split plan events checked = along_split plan (empty_network plan) events
+run_split plan events checked = along_split plan (empty_network plan) events (record { me = λ k. refl })

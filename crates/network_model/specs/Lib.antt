@@ -4,6 +4,7 @@ pub mod Circuit
 pub mod Connection
 pub mod Delivery
 pub mod Frame
+pub mod Goal
 pub mod KnownOnce
 pub mod Laws
 pub mod OnceEach

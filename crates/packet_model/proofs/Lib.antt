@@ -3,3 +3,4 @@ pub mod PackLemmas
 pub mod RunLemmas
 pub mod SendLemmas
 pub mod StepLemmas
+pub mod SwitchLemmas

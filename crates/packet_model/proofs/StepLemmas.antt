@@ -17,7 +17,7 @@ use Rattle.net_base.specs.plan.Places.{circuit_row}
 use Rattle.net_base.specs.plan.Planned.{IsEventOf}
 use Rattle.net_base.specs.trace.Isolated.{Among, CameIn, IsolatedAfter, IsolatedEntry, inner_at}
 use Rattle.net_base.proofs.TraceLemmas.{among-last}
-use Rattle.edge_model.specs.Copies.{AllAreCopies, FrameGoesOut, FrameIsDropped, FrameIsIdle, FrameWork, LeftCopy, PacketGoesOut, PacketIsDropped, PacketIsLost, PacketWork}
+use Rattle.edge_model.specs.Copies.{AllAreCopies, FrameGoesOut, FrameIsDropped, FrameIsIdle, FrameWork, LeftCopy, PacketGoesOn, PacketGoesOut, PacketIsDropped, PacketIsLost, PacketWork}
 use Rattle.edge_model.specs.declared.effect.Effect.{Effect}
 use Rattle.edge_model.specs.declared.effect.Effect.TheVariants as effect
 use Rattle.edge_model.specs.State.{EdgeState}
@@ -39,6 +39,7 @@ use Rattle.flight_model.proofs.RuledNetworkLemmas.{IsRuledNetwork}
 use Rattle.flight_model.proofs.StableLemmas.{brings_may_name}
 use Rattle.packet_model.specs.Carried.{IsCarried, KeepsPacketRule}
 use Rattle.packet_model.proofs.ArriveLemmas.{arrives_come}
+use Rattle.packet_model.proofs.SwitchLemmas.{goes_on}
 use Rattle.packet_model.proofs.SendLemmas.{HasCome, come_of, come_on, copies_carried, entered_of}
 
 -- ---- what is carried stays so
@@ -184,6 +185,11 @@ packet_right plan network trace packet es checked ruled carried (PacketGoesOut o
     right_copies plan network trace packet.to packet.origin (arrival.Wire out.place.wire) out.row.service out.frame out.from es checked ruled
     (arrives_come plan network trace packet es checked carried (ruled.edges packet.to.0).place out)
     out.copies
+packet_right plan network trace packet es checked ruled carried (PacketGoesOn out) =
+    subst (GoesRight plan network trace packet.to packet.origin) (sym out.sent) (record {
+      carried = λ hops sent. (goes_on plan network trace packet es checked ruled carried (ruled.edges packet.to.0).place out (sent + 1) (hops + 1), tt);
+      isolated = λ hops other. (tt, tt);
+    })
 
 -- ---- what an event brings
 

@@ -5,13 +5,13 @@ use Rattle.net_base.specs.declared.plan.Plan.{Plan}
 use Rattle.net_base.specs.declared.plan.wire_plan.WirePlan.{WirePlan}
 use Rattle.net_base.specs.declared.plan.places.ServiceId.{ServiceId}
 use Rattle.net_base.specs.plan.Accepted.{IsChecked}
-use Rattle.net_base.specs.plan.Paths.{is_first, is_last, joins}
+use Rattle.net_base.specs.plan.Paths.{is_first, is_last}
 use Rattle.net_base.specs.plan.Places.{is_mesh_class}
 use Rattle.net_base.specs.plan.Roles.{is_spoke_edge, is_spoke_from, is_wire_of, wire_ends_at}
 use Rattle.edge_model.proofs.LocalLemmas.{and_left, and_right}
 use Rattle.network_model.specs.Reach.{far_of}
 use Rattle.network_model.proofs.CalmLemmas.{any_at}
-use Rattle.flood_model.specs.Due.{has_short_paths}
+use Rattle.flood_model.proofs.LawLemmas.{sides}
 use Rattle.flood_model.proofs.LinkLemmas.{IsLink, link_at}
 use Rattle.flood_model.proofs.MeshLemmas.{far_core, mesh_near}
 
@@ -31,26 +31,17 @@ pub data AreSides (near far me peer : ℕ) : Type 0 where
   IsNear : me ≡ near → peer ≡ far → AreSides near far me peer
   IsFar : me ≡ far → peer ≡ near → AreSides near far me peer
 
--- two edges that a wire joins are its terminal edges
-pub sides_joined : (plan : Plan) (w : WirePlan) (link : IsLink plan w) (me peer : ℕ) → joins me peer w.path ≡ true → AreSides link.near.0 link.far.0 me peer
-sides_joined plan w link me peer joined = by link.near.0 link.far.0 (rw link.path at joined) where
-  by : (a b : ℕ) → ((nat_eq me a && nat_eq peer b) || (nat_eq peer a && nat_eq me b)) || false ≡ true → AreSides a b me peer
-  by a b is = elim (cases_Bool (nat_eq me a && nat_eq peer b)) [
-    | inl near ↦ IsNear (eqb-true me a (and_left (nat_eq me a) (nat_eq peer b) near)) (eqb-true peer b (and_right (nat_eq me a) (nat_eq peer b) near))
-    | inr other ↦
-        (let far : nat_eq peer a && nat_eq me b ≡ true = last (nat_eq me a && nat_eq peer b) (nat_eq peer a && nat_eq me b) other is in
-        IsFar (eqb-true me b (and_right (nat_eq peer a) (nat_eq me b) far)) (eqb-true peer a (and_left (nat_eq peer a) (nat_eq me b) far)))
-  ]
-    where
-      last : (p q : Bool) → p ≡ false → (p || q) || false ≡ true → q ≡ true
-      last false true none is = refl
-      last false false none is = absurd (cc (is))
-      last true q none is = absurd (cc (none))
+-- a terminal edge and the other one
+pub sides_far : (plan : Plan) (service : ServiceId) (w : WirePlan) (link : IsLink plan w) (me peer : ℕ) → wire_ends_at service me w ≡ true → far_of me w.path ≡ Some peer → AreSides link.near.0 link.far.0 me peer
+sides_far plan service w link me peer ends far = elim (sides plan service w me peer link ends far) [
+  | inl near ↦ IsNear near.0 near.1
+  | inr last ↦ IsFar last.0 last.1
+]
 
 -- an edge where a wire ends is one of them
 pub sides_ended : (plan : Plan) (service : ServiceId) (w : WirePlan) (link : IsLink plan w) (me : ℕ) → wire_ends_at service me w ≡ true
     → (me ≡ link.near.0) ⊎ (me ≡ link.far.0)
-sides_ended plan service w link me ends = by link.near.0 link.far.0 (and_right _ _ (rw link.path at ends)) where
+sides_ended plan service w link me ends = by link.near.0 link.far.0 (and_right _ _ (rw (link.path, link.last me) at ends)) where
   by : (a b : ℕ) → nat_eq me a || nat_eq me b ≡ true → (me ≡ a) ⊎ (me ≡ b)
   by a b is = elim (cases_Bool (nat_eq me a)) [
     | inl near ↦ inl (eqb-true me a near)
@@ -72,10 +63,10 @@ far_apart plan w link = elim (cases_Bool (nat_eq link.far.0 link.near.0)) [
 ]
 
 -- each is the far one of the other
-far_of_near : (plan : Plan) (w : WirePlan) (link : IsLink plan w) → far_of link.near.0 w.path ≡ Some link.far.0
-far_of_near plan w link = rw (link.path, eq-eqb link.near.0 link.near.0 refl) refl
+pub far_of_near : (plan : Plan) (w : WirePlan) (link : IsLink plan w) → far_of link.near.0 w.path ≡ Some link.far.0
+far_of_near plan w link = rw (link.path, link.ends, eq-eqb link.near.0 link.near.0 refl) refl
 
-far_of_far : (plan : Plan) (w : WirePlan) (link : IsLink plan w) → far_of link.far.0 w.path ≡ Some link.near.0
+pub far_of_far : (plan : Plan) (w : WirePlan) (link : IsLink plan w) → far_of link.far.0 w.path ≡ Some link.near.0
 far_of_far plan w link = rw (link.path, far_apart plan w link) refl
 
 -- the first edge of a spoke is a spoke edge
@@ -92,27 +83,27 @@ pub record HasMeshPeer (plan : Plan) (service : ServiceId) (v : WirePlan) (me : 
   pub core_here : is_spoke_edge plan service me ≡ false
   pub apart : nat_eq me other ≡ false
 
-pub mesh_peer : (plan : Plan) (service : ServiceId) (j : ℕ) (v : WirePlan) (me : ℕ) → IsChecked plan → has_short_paths plan ≡ true → slice_get plan.wires j ≡ Some v
+pub mesh_peer : (plan : Plan) (service : ServiceId) (j : ℕ) (v : WirePlan) (me : ℕ) → IsChecked plan → slice_get plan.wires j ≡ Some v
     → is_mesh_class v.class ≡ true → wire_ends_at service me v ≡ true → HasMeshPeer plan service v me
-mesh_peer plan service j v me checked short is mesh ends = elim (sides_ended plan service v link me ends) [
+mesh_peer plan service j v me checked is mesh ends = elim (sides_ended plan service v link me ends) [
   | inl near ↦ subst (HasMeshPeer plan service v) (sym near) (record {
     other = link.far.0;
     far = far_of_near plan v link;
-    core = far_core plan service j v link checked short is ours;
-    core_here = mesh_near plan service j v link checked short is mesh_ours;
+    core = far_core plan service j v link checked is ours;
+    core_here = mesh_near plan service j v link checked is mesh_ours;
     apart = link.apart;
   })
   | inr last ↦ subst (HasMeshPeer plan service v) (sym last) (record {
     other = link.near.0;
     far = far_of_far plan v link;
-    core = mesh_near plan service j v link checked short is mesh_ours;
-    core_here = far_core plan service j v link checked short is ours;
+    core = mesh_near plan service j v link checked is mesh_ours;
+    core_here = far_core plan service j v link checked is ours;
     apart = far_apart plan v link;
   })
 ]
   where
     link : IsLink plan v
-    link = link_at plan j v checked short is
+    link = link_at plan j v checked is
 
     ours : is_wire_of service v ≡ true
     ours = and_left (is_wire_of service v) (is_first me v.path || is_last me v.path) ends
