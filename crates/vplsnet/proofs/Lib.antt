@@ -3,7 +3,7 @@ pub mod AnswerLemmas
 pub mod FaultLemmas
 pub mod FileLemmas
 pub mod MadeLemmas
-pub mod OnceLemmas
 pub mod PlannedLemmas
 pub mod ReplayLemmas
+pub mod ShortLemmas
 pub mod StreamLemmas

@@ -1,5 +1,5 @@
 -- The run of an accepted scenario keeps every promise.
-use Rattle.std.proofs.Common.{◌≡◌, ◌++◌, ◌∷◌, true, ℕ, List, [], Option, Some, None, Ok, length, subst, sym, arith}
+use Rattle.std.proofs.Common.{◌≡◌, ◌++◌, ◌∷◌, true, ℕ, List, [], Option, Some, None, Ok, length, subst, sym}
 use Rattle.std.specs.List.{All}
 use Rattle.net_base.specs.declared.plan.Plan.{Plan}
 use Rattle.net_base.specs.declared.trace.entry.Entry.{Entry}
@@ -17,7 +17,7 @@ use Rattle.network_model.proofs.KnownLemmas.{run_serves_known_once}
 use Rattle.packet_model.proofs.RunLemmas.{runs_are_isolated, runs_keep_packet_rule}
 use Rattle.flood_model.specs.Due.{has_short_paths}
 use Rattle.flood_model.proofs.RunLemmas.{runs_serve_once}
-use Rattle.flood_model.proofs.ShareLemmas.{runs_share_sites, shares_widen}
+use Rattle.flood_model.proofs.ShareLemmas.{runs_share_sites}
 use Rattle.address_model.proofs.KnownLemmas.{runs_reach_known}
 use Rattle.address_model.proofs.PointsLemmas.{runs_keep_points}
 use Rattle.move_model.proofs.HealLemmas.{runs_heal_moves}
@@ -32,8 +32,8 @@ use Rattle.vplsnet.specs.declared.outcome.Outcome.{Outcome}
 use Rattle.vplsnet.specs.Built.{is_built}
 use Rattle.vplsnet.specs.Promises.{KeepsPromises}
 use Rattle.vplsnet.specs.Replay.{HasRunAs, IsReplay, Replays, events_of, outcome_by}
-use Rattle.vplsnet.proofs.OnceLemmas.{built_short, known_widens, once_widens}
 use Rattle.vplsnet.proofs.PlannedLemmas.{All-first, made_planned}
+use Rattle.vplsnet.proofs.ShortLemmas.{built_short}
 
 -- the first events of a run are a run
 run_of_first : (plan : Plan) (events before after : List Event) → events ≡ before ++ after → IsRun plan events → IsRun plan before
@@ -48,11 +48,11 @@ promises_kept plan events run short = record {
   isolated = runs_are_isolated plan events run;
   split = run_split plan events run.checked;
   packets = λ before after joined. runs_keep_packet_rule plan before (first before after joined);
-  once = once_widens 3 12 plan events (omega arith) (runs_serve_once plan events run short);
-  shared = shares_widen plan events (runs_share_sites plan events run short);
+  once = runs_serve_once plan events run;
+  shared = runs_share_sites plan events run;
   known = run_serves_known_once plan events run.checked;
-  points = runs_keep_points plan events run short;
-  stations = known_widens 3 12 plan events (omega arith) (runs_reach_known plan events run short);
+  points = runs_keep_points plan events run;
+  stations = runs_reach_known plan events run;
   moves = runs_heal_moves plan events run short;
   table = λ before after joined a b. runs_follow_table plan before (first before after joined) a b;
   up = λ before after joined a b. runs_come_up plan before (first before after joined) a b;

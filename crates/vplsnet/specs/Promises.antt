@@ -54,8 +54,8 @@ pub record KeepsPromises (plan : Plan) (events : List Event) : Type 0 where
   -- each flooded frame reaches each site once, within twelve segments
   pub once : OnceEach 12 plan events
   -- and at each moment before that each other site was served, or is ahead of one copy under way, which has passed four segments at
-  -- most for each wire that it crosses
-  pub shared : SharesEach 4 plan events
+  -- most for each wire before its own, and there one more than switching points
+  pub shared : SharesEach plan events
   -- each frame to a known station leaves by one port at most
   pub known : KnownOnce plan events
   -- learned addresses that point to the sites of their stations keep to it as frames and packets come
