@@ -1,5 +1,5 @@
 -- What an edge gives out: it names what is in the plan, and tells what the link took.
-use Rattle.std.proofs.Common.{◌≡◌, ◌<◌, ◌≤◌, ◌+◌, ◌++◌, ◌&&◌, ◌||◌, ◌∙◌, ℕ, zero, suc, Bool, true, false, List, [], ◌∷◌, Option, Some, None, Result, Ok, Err, cond, filter, length, nat_eq, nat_lt, not, slice_get, slice_index_or, refl, ap, sym, subst, arith, append_assoc}
+use Rattle.std.proofs.Common.{◌≡◌, ◌<◌, ◌≤◌, ◌+◌, ◌-◌, ◌++◌, ◌&&◌, ◌||◌, ◌∙◌, ℕ, zero, suc, Bool, true, false, List, [], ◌∷◌, Option, Some, None, Result, Ok, Err, cond, filter, length, nat_eq, nat_lt, not, slice_get, slice_index_or, refl, ap, sym, subst, arith, append_assoc}
 use Rattle.std.proofs.lemmas.Bool.Decides.{nat_tests}
 use Rattle.std.proofs.lemmas.List.{append-nil}
 use Rattle.std.proofs.lemmas.Option.{get_or_from_slice_get, slice_get_within}
@@ -21,9 +21,10 @@ use Rattle.net_base.specs.declared.trace.state_name.StateName.TheVariants as nam
 use Rattle.net_base.specs.outside.Link.{call_of}
 use Rattle.net_base.specs.plan.Accepted.{IsChecked, IsWireOf}
 use Rattle.net_base.specs.declared.plan.wire_plan.WirePlan.{WirePlan}
-use Rattle.net_base.specs.plan.Paths.{are_joined, joins, offer_of}
+use Rattle.net_base.specs.plan.Paths.{are_joined, joins, mate, mate_on, offer_of}
 use Rattle.net_base.specs.plan.RowFaults.{is_edge_of}
 use Rattle.std.specs.List.{AllByRecursion, find, list_all}
+use Rattle.std.specs.Option.{option_or}
 use Rattle.std.proofs.lemmas.Bool.{eqb-true}
 use Rattle.std.proofs.lemmas.List.Elements.{All-get_or}
 use Rattle.net_base.specs.declared.plan.places.WireId.{WireId}
@@ -55,6 +56,10 @@ use Rattle.hvpls_spokes.proofs.PortsLemmas.{IsServed, served_at}
 use Rattle.eth_encap.specs.declared.stack_entry.StackEntry.{StackEntry}
 use Rattle.eth_encap.specs.Packet.{entry_of}
 use Rattle.pw_signalling.specs.declared.binding.Binding.{Binding}
+use Rattle.pw_stitch.specs.declared.swap_drop.SwapDrop.{SwapDrop}
+use Rattle.pw_stitch.specs.Drop.{dropped_for}
+use Rattle.pw_stitch.specs.Relabelling.{relabelled}
+use Rattle.pw_stitch.specs.Swap.{label_onward}
 use Rattle.edge_model.specs.declared.effect.Effect.{Effect}
 use Rattle.edge_model.specs.declared.effect.Effect.TheVariants.{Said, Sent, Left, Dropped, Session, Wire, Pong, Closed}
 use Rattle.edge_model.specs.declared.effects.Effects.{Effects}
@@ -71,7 +76,7 @@ use Rattle.mac_withdraw.specs.Passing.{is_passed_to}
 use Rattle.mac_withdraw.specs.Pieces.{pieces_of}
 use Rattle.edge_model.specs.Clear.{clears_at, clears_by, clears_wire, hears_mac_withdraw, passes_on, tells_at, tells_by, withdrawing_at}
 use Rattle.edge_model.specs.Withdraw.{tells_piece, tells_piece_by, tells_pieces}
-use Rattle.edge_model.specs.Packet.{advertiser, alerted, alerts_end, behind_entry, bridges_frame, by_offer, enters, is_alert, is_channel, labelled, least_label, opened_by, owned, packet_input, switched, terminated, unpacked_at}
+use Rattle.edge_model.specs.Packet.{advertiser, alerted, alerts_end, behind_entry, bridges_frame, by_offer, enters, is_alert, is_channel, labelled, least_label, opened_by, owned, packet_input, switched, switched_by, switched_to, switched_under, terminated, towards, unpacked_at}
 use Rattle.edge_model.specs.Send.{drops, had_posted, packet_of, sends, sends_copy, sends_under}
 use Rattle.edge_model.specs.Synced.{InSync}
 use Rattle.edge_model.specs.Put.{Spoken, message_octets_of, octets_of, put_octets, put_replies, put_reply, put_reply_to, puts_on, with_spoken, stays}
@@ -247,12 +252,53 @@ terminated_kept plan Holds kept checked told place None remote payload work here
 terminated_kept plan Holds kept checked told place (Some row) None payload work here = kept.dropped causes.Down work here
 terminated_kept plan Holds kept checked told place (Some row) (Some binding) payload work here = offered_kept plan Holds kept checked told row place (offer_of row work.edge.me.0).cword payload work here
 
+-- the mate at a switching point is an edge of the plan
+mate_within : (plan : Plan) (path : List EdgeId) (me from : ℕ) (to : EdgeId) → list_all (is_edge_of plan) path ≡ true → mate_on path me from ≡ Some to → to.0 < length plan.edges
+mate_within plan [] me from to all is = absurd (cc (is))
+mate_within plan (last ∷ []) me from to all is = absurd (cc (is))
+mate_within plan (before ∷ last ∷ []) me from to all is = absurd (cc (is))
+mate_within plan (before ∷ point ∷ next ∷ rest) me from to all is =
+    let tail : list_all (is_edge_of plan) (point ∷ next ∷ rest) ≡ true = and_other (is_edge_of plan before) (list_all (is_edge_of plan) (point ∷ next ∷ rest)) all in
+    let further : list_all (is_edge_of plan) (next ∷ rest) ≡ true = and_other (is_edge_of plan point) (list_all (is_edge_of plan) (next ∷ rest)) tail in
+    by (nat_eq me point.0 && nat_eq from before.0) (nat_eq me point.0 && nat_eq from next.0)
+    (below_edges plan next (and_one (is_edge_of plan next) (list_all (is_edge_of plan) rest) further))
+    (below_edges plan before (and_one (is_edge_of plan before) (list_all (is_edge_of plan) (point ∷ next ∷ rest)) all))
+    (λ later. mate_within plan (point ∷ next ∷ rest) me from to tail later) is
+  where
+    same : (edge : EdgeId) → edge.0 < length plan.edges → Some edge ≡ Some to → to.0 < length plan.edges
+    same edge below eq =
+        let it : edge ≡ to = cc (eq) in
+        subst (λ (e : EdgeId). e.0 < length plan.edges) it below
+
+    by : (a b : Bool) → next.0 < length plan.edges → before.0 < length plan.edges → (mate_on (point ∷ next ∷ rest) me from ≡ Some to → to.0 < length plan.edges)
+        → option_or (cond a (Some next) (cond b (Some before) None)) (mate_on (point ∷ next ∷ rest) me from) ≡ Some to → to.0 < length plan.edges
+    by true b one two later eq = same next one eq
+    by false true one two later eq = same before two eq
+    by false false one two later eq = later eq
+
+switched_kept : (plan : Plan) (Holds : Work → Type 0) → AreKept plan Holds → IsChecked plan → (told : Answers) (octets : List ℕ) (entry : StackEntry) (place : EndPlace) (work : Work) → Holds work → Holds (switched plan told octets entry place work)
+switched_kept plan Holds kept checked told octets entry place work here = by (wire_row plan place.wire) refl where
+  under : (to : EdgeId) → IsPlaced plan (towards to place) → (label : Result ℕ SwapDrop) → Holds (switched_under told octets entry place to label work)
+  under to placed (Err why) = kept.dropped (dropped_for why) work here
+  under to placed (Ok label) = sends_kept plan Holds kept told (towards to place) (arrival.Wire place.wire) (relabelled label (entry.ttl - 1) octets) work placed here
+
+  mated : (row : WirePlan) → wire_row plan place.wire ≡ Some row → (to : Option EdgeId) → mate row work.edge.me.0 place.peer.0 ≡ to → Holds (switched_to told octets entry place to work)
+  mated row is None mate_is = here
+  mated row is (Some to) mate_is =
+      let within : place.wire.0 < length plan.wires = slice_get_within plan.wires place.wire.0 row is in
+      let wire : IsWireOf plan row = subst (IsWireOf plan) (get_or_from_slice_get plan.wires place.wire.0 row row is) (All-get_or (IsWireOf plan) plan.wires place.wire.0 row within checked.wires) in
+      under to (record { peer = mate_within plan row.path work.edge.me.0 place.peer.0 to wire.edges mate_is; wire = within }) (label_onward (work.edge.ends place.wire.0 to.0).remote entry.ttl)
+
+  by : (row : Option WirePlan) → wire_row plan place.wire ≡ row → Holds (switched_by told octets entry place row work)
+  by None is = here
+  by (Some row) is = mated row is (mate row work.edge.me.0 place.peer.0) refl
+
 owned_kept : (plan : Plan) (Holds : Work → Type 0) → AreKept plan Holds → IsChecked plan → (told : Answers) (octets : List ℕ) (entry : StackEntry) (end : Option EndPlace) (work : Work) → Holds work → Holds (owned plan told octets entry end work)
 owned_kept plan Holds kept checked told octets entry None work here = kept.dropped causes.NoLabel work here
 owned_kept plan Holds kept checked told octets entry (Some place) work here = by place.terminal where
   by : (b : Bool) → Holds (cond b (terminated plan told place (wire_row plan place.wire) (end_at work.edge place).remote (behind_entry octets) work) (switched plan told octets entry place work))
   by true = terminated_kept plan Holds kept checked told place (wire_row plan place.wire) (end_at work.edge place).remote (behind_entry octets) work here
-  by false = here
+  by false = switched_kept plan Holds kept checked told octets entry place work here
 
 labelled_kept : (plan : Plan) (Holds : Work → Type 0) → AreKept plan Holds → IsChecked plan → (told : Answers) (octets : List ℕ) (entry : StackEntry) (work : Work) → Holds work → Holds (labelled plan told octets entry work)
 labelled_kept plan Holds kept checked told octets entry work here = by (nat_lt entry.label least_label) where

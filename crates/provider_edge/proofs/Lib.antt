@@ -17,6 +17,7 @@ pub mod RowLemmas
 pub mod SlotLemmas
 pub mod SpokeLemmas
 pub mod StayLemmas
+pub mod SwitchLemmas
 pub mod SyncLemmas
 pub mod WorkLemmas
 pub mod WithdrawLemmas

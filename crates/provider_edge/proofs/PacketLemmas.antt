@@ -143,9 +143,11 @@ owned_none plan told octets entry end edge calls out given none gave =
 pub owned_some : (plan : Plan) (told : Answers) (octets : List ℕ) (entry : StackEntry) (end : Option EndPlace) (place : EndPlace) (work x : Work) → end ≡ Some place → x ≡ owned plan told octets entry (Some place) work → x ≡ owned plan told octets entry end work
 owned_some plan told octets entry end place work x some is = is ∙ ap (λ (e : Option EndPlace). owned plan told octets entry e work) (sym some)
 
-pub owned_between : (plan : Plan) (told : Answers) (octets : List ℕ) (entry : StackEntry) (place at : EndPlace) (work : Work) → at ≡ place → not at.terminal ≡ true → work ≡ owned plan told octets entry (Some place) work
-owned_between plan told octets entry place at work is other =
-    sym (ap (λ (b : Bool). cond b (terminated plan told place (wire_row plan place.wire) (end_at work.edge place).remote (behind_entry octets) work) (switched plan told octets entry place work)) (ap (λ (p : EndPlace). p.terminal) (sym is) ∙ not_true at.terminal other))
+pub owned_between : (plan : Plan) (told : Answers) (octets : List ℕ) (entry : StackEntry) (place at : EndPlace) (work x : Work) → at ≡ place → not at.terminal ≡ true → x ≡ switched plan told octets entry place work
+    → x ≡ owned plan told octets entry (Some place) work
+owned_between plan told octets entry place at work x is other same =
+    same
+    ∙ sym (ap (λ (b : Bool). cond b (terminated plan told place (wire_row plan place.wire) (end_at work.edge place).remote (behind_entry octets) work) (switched plan told octets entry place work)) (ap (λ (p : EndPlace). p.terminal) (sym is) ∙ not_true at.terminal other))
 
 remote_in : (c : EdgeLists) (calls : List LinkCall) (out : List Effect) (slot : ℕ) → (end_at (at_edge (seen c) calls out).edge (place_of c.ends slot)).remote ≡ (end_in c.ends slot).remote
 unfolding seen at_edge
@@ -179,12 +181,12 @@ unbound_end plan told place row remote bound payload edge calls out given is apa
     down None = refl
     down (Some row) = refl
 
-row_there : {X : Type 0} (xs : List X) (k : ℕ) → k < length xs → (x : X) × (slice_get xs k ≡ Some x)
+pub row_there : {X : Type 0} (xs : List X) (k : ℕ) → k < length xs → (x : X) × (slice_get xs k ≡ Some x)
 row_there [] k within = absurd (omega (arith, within))
 row_there (x ∷ xs) zero within = (x, refl)
 row_there (x ∷ xs) (suc k) within = row_there xs k (omega (arith, within))
 
-me_of : (c : EdgeLists) (calls : List LinkCall) (out : List Effect) → (at_edge (seen c) calls out).edge.me ≡ c.me
+pub me_of : (c : EdgeLists) (calls : List LinkCall) (out : List Effect) → (at_edge (seen c) calls out).edge.me ≡ c.me
 unfolding seen at_edge
 me_of c calls out = refl
 

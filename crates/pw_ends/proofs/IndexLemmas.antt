@@ -19,7 +19,7 @@ placed true i n len = grind (arith, nat_tests)
 placed false i n len = grind (arith, nat_tests)
 
 -- the same by its number
-slot_from_position : (i : ℕ) (p : EndPlace → Bool) (xs : List EndPlace) → slot_from i p xs ≡ cond (nat_lt (position_or_len p xs) (length xs)) (Some (i + position_or_len p xs)) None
+pub slot_from_position : (i : ℕ) (p : EndPlace → Bool) (xs : List EndPlace) → slot_from i p xs ≡ cond (nat_lt (position_or_len p xs) (length xs)) (Some (i + position_or_len p xs)) None
 slot_from_position i p [] = refl
 slot_from_position i p (x ∷ xs) = ap (λ o. cond (p x) (Some i) o) (slot_from_position (i + 1) p xs) ∙ placed (p x) i (position_or_len p xs) (length xs)
 

@@ -1,4 +1,5 @@
 pub mod AdvertiserLemmas
+pub mod BesideLemmas
 pub mod IndexLemmas
 pub mod KeptLemmas
 pub mod NoneLemmas

@@ -1,5 +1,5 @@
 //! Where an edge has ends.
-ghost use Rattle.std.specs.Prelude.{◌≡◌, ◌≤◌, ◌<◌, IfOk, IfSome, Some, None, length, option_and_then, position, slice_get, slice_index_or};
+ghost use Rattle.std.specs.Prelude.{◌≡◌, ◌≤◌, ◌<◌, ◌+◌, ℕ, IfOk, IfSome, Some, None, drop, length, option_and_then, option_map, position, slice_get, slice_index_or};
 ghost use Rattle.std.specs.List.{find, list_any};
 ghost use Rattle.net_base.specs.plan.Accepted.{IsChecked};
 ghost use Rattle.hvpls_spokes.specs.Search.{place_if};
@@ -7,7 +7,7 @@ ghost use Rattle.edge_model.specs.EndPlaces.{end_places, is_end_of_wire, is_name
 ghost use Rattle.pw_ends.specs.Kept.{AreApart};
 ghost use Rattle.pw_ends.specs.Names.{FindsSlots, end_name_of};
 ghost use Rattle.pw_ends.specs.Order.{AreEndsInOrder, end_precedes_wire};
-ghost use Rattle.pw_ends.specs.Ends.{no_place};
+ghost use Rattle.pw_ends.specs.Ends.{is_at, no_place};
 
 use crate::plan_places::end_places;
 use edge_model::EndPlace;
@@ -107,6 +107,13 @@ impl PlaceList {
         first_terminal(self.list.as_slice(), wire)
     }
 
+    /// The slot of the end of a wire beside a peer.
+    pub(crate) fn beside(&self, wire: WireId, peer: EdgeId) -> Option<usize>
+        ensures { result ≡ position (is_at wire.0 peer.0) self.now }
+    {
+        first_beside(self.list.as_slice(), wire, peer)
+    }
+
     /// Whether the edge is a terminal edge of the wire.
     #[tactic(auto, using(hvpls_spokes::proofs::SearchLemmas::any_found))]
     pub(crate) fn ends_here(&self, wire: WireId) -> bool
@@ -140,11 +147,35 @@ fn first_terminal(places: &[EndPlace], wire: WireId) -> Option<usize>
     }
 }
 
+// The first slot of an end of a wire beside a peer. The ends of a wire stand beside each other.
+fn first_beside(places: &[EndPlace], wire: WireId, peer: EdgeId) -> Option<usize>
+    requires { AreEndsInOrder places.now }
+    ensures { result ≡ position (is_at wire.0 peer.0) places.now }
+{
+    let first = count_before(places, wire);
+    let (_, ends) = places.split_at(first);
+    match place_beside(ends, wire, peer) {
+        Some(place) => Some(first + place),
+        None => None,
+    }
+}
+
+// The first of these ends that is one of a wire beside a peer.
+fn place_beside(ends: &[EndPlace], wire: WireId, peer: EdgeId) -> Option<usize>
+    ensures place { result ≡ position (is_at wire.0 peer.0) ends.now }
+    ensures within { IfSome result (λ place. place < length ends.now) }
+{
+    ends.iter()
+        .position(|end| wire == end.wire && peer == end.peer)
+}
+
 // How many ends are of earlier wires.
 fn count_before(places: &[EndPlace], wire: WireId) -> usize
     requires { AreEndsInOrder places.now }
     ensures wire { position (is_of_wire wire) places.now ≡ place_if (is_of_wire wire) result (slice_get places.now result) }
     ensures terminal { position (is_end_of_wire wire) places.now ≡ place_if (is_end_of_wire wire) result (slice_get places.now result) }
+    ensures beside { (peer : ℕ) → position (is_at wire.0 peer) places.now ≡ option_map (λ n. result + n) (position (is_at wire.0 peer) (drop result places.now)) }
+    ensures bound { result ≤ length places.now }
 {
     places.partition_point(|place| precedes(place, wire))
 }

@@ -13,7 +13,7 @@ ghost use Rattle.edge_model.specs.State.{first_label};
 ghost use Rattle.pw_ends.specs.Changes.{changed, changed_each, changed_in};
 ghost use Rattle.pw_ends.specs.Kept.{AreApart, IsOwner, freed_one, left_label, segment_of};
 ghost use Rattle.pw_ends.specs.Owned.{without_one};
-ghost use Rattle.pw_ends.specs.Ends.{HasKind, IsIdle, changed_at, changed_beside, end_in, end_there, owns_label, place_of, renewed_of, seen_ends};
+ghost use Rattle.pw_ends.specs.Ends.{HasKind, IsIdle, changed_at, changed_beside, end_in, end_there, is_at, owns_label, place_of, renewed_of, seen_ends};
 
 use crate::end_change::EndChange;
 use crate::end_slots::{advertise_at, change_at, idle_ends, own_label_at};
@@ -149,6 +149,19 @@ impl PwEnds {
         ensures slot { result ≡ position (is_end_of_wire wire) self.now.places }
     {
         self.places.terminal(wire)
+    }
+
+    /// The slot of the end of a wire beside a peer, without a walk over the ends of earlier wires; `None` exactly where there is
+    /// no such end.
+    #[tactic(auto, using(crate::proofs::BesideLemmas::beside_steps))]
+    pub fn beside(&self, wire: WireId, peer: EdgeId) -> Option<usize>
+        ensures slot { result ≡ position (is_at wire.0 peer.0) self.now.places }
+        ensures within { IfSome result (λ slot. slot < length self.now.places) }
+        ensures wire { IfSome result (λ slot. (place_of self.now slot).wire ≡ wire) }
+        ensures peer { IfSome result (λ slot. (place_of self.now slot).peer ≡ peer) }
+        ensures untold { result ≡ None → seen_ends self.now wire.0 peer.0 ≡ fresh }
+    {
+        self.places.beside(wire, peer)
     }
 
     /// The end of a slot. Where it advertises, its PW type has 15 bits. A label that it owns is that of its segment and side

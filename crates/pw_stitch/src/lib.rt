@@ -20,5 +20,5 @@ pub use laws::{breaks_loops, carries_both_ways, changes_label_alone};
 pub use next::Next;
 pub use relabelling::relabel;
 pub use side::Side;
-pub use stitch::Stitch;
+pub use stitch::{Stitch, label_onward};
 pub use swap_drop::SwapDrop;

@@ -169,9 +169,10 @@ fn takes_label(label: Label, end: &PwEnd) -> bool
     }
 }
 
-// The label under which a packet goes on, by what is held of the peer to which it goes.
-fn label_onward(binding: Option<&Binding>, ttl: u8) -> Result<Label, SwapDrop>
-    ensures { result ≡ label_onward (option_copied binding.entry) ttl }
+/// The label under which a packet goes on, by what is held of the peer to which it goes, where that is bound and the TTL with which
+/// the packet came is not 1 (RFC 6073 section 4, RFC 3032 section 2.4.2).
+pub fn label_onward(binding: Option<&Binding>, ttl: u8) -> Result<Label, SwapDrop>
+    ensures label { result ≡ label_onward (option_copied binding.entry) ttl }
 {
     match binding {
         None => Err(SwapDrop::NoBinding),

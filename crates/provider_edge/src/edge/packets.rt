@@ -1,3 +1,4 @@
 //! A packet comes from a neighbour.
 
 mod packet;
+mod switched;

@@ -222,7 +222,7 @@ impl Edge {
     }
 
     // A packet is sent by the end of a slot: what the link does not take is dropped.
-    fn send<L: Link>(
+    pub(crate) fn send<L: Link>(
         &self,
         slot: usize,
         came: Arrival,

@@ -127,6 +127,7 @@ impl Edge {
         requires working { self.old.stopped ≡ true }
         requires synced { InSync self.old.plan (seen self.old) }
         requires long { 4 ≤ length octets.now }
+        requires living { 1 ≤ entry.now.ttl }
         ensures goes { Works L.calls self.old work.old self.new work.new }
         ensures step { OnOk result ((told : Answers) → Agrees told (L.calls work.new.link.now)
             → at_work L.calls self.new work.new ≡ labelled self.old.plan told octets.now entry.now (at_work L.calls self.old work.old)) }
@@ -140,10 +141,9 @@ impl Edge {
         let Some(slot) = self.advertiser(entry.label) else {
             return drop_for(DropCause::NoLabel, &mut work.effects.list);
         };
-        // 3. A switching point passes the packet on; that is to come.
         let place = self.place_at(slot);
         if !place.terminal {
-            return Ok(());
+            return self.switch(slot, octets, entry, work);
         }
         self.terminated(slot, without_entry(octets), work)
     }

@@ -2,6 +2,7 @@
 use Rattle.std.proofs.Common.{rules, of_calls}
 use Rattle.std.proofs.lemmas.Fn.{always_returns_same}
 use Rattle.pw_ends.specs.Order.{end_precedes_wire}
+use Rattle.pw_ends.proofs.BesideLemmas.{beside_behind}
 use Rattle.pw_ends.proofs.OrderLemmas.{of_wire_behind, terminal_behind}
 use Rattle.pw_ends.proofs.place_list.count_before.Goals as goal
 
@@ -14,3 +15,8 @@ pub returns-clause-terminal : goal.returns-clause-terminal
 returns-clause-terminal c =
     let ends = c.partition_point.ensures.partitioned (end_precedes_wire c.args.wire) (always_returns_same _ _ _ (λ a r f k. search (rules, of_calls))) in
     terminal_behind c.args.wire c.args.places.now c.partition_point.result c.requires c.partition_point.ensures.bound ends
+
+pub returns-clause-beside : goal.returns-clause-beside
+returns-clause-beside c = λ peer.
+    let ends = c.partition_point.ensures.partitioned (end_precedes_wire c.args.wire) (always_returns_same _ _ _ (λ a r f k. search (rules, of_calls))) in
+    beside_behind c.args.wire peer c.args.places.now c.partition_point.result c.requires c.partition_point.ensures.bound ends

@@ -25,11 +25,13 @@ returns-in_default-clause-step g c = map_on _ _ c.drop_for-in_default.result
     c.drop_for-in_default.ensures
 
 pub returns-then-not-place-clause-step : goal.returns-then-not-place-clause-step
-returns-then-not-place-clause-step g c = λ told agrees.
+returns-then-not-place-clause-step g c = map_on _ _ c.switch.result
+    (λ step. λ told agrees.
     labelled_here c.args.self.now told c.args.octets.now c.args.entry.now (g.L.Link.calls c.args.work.now.link.now) c.args.work.now.effects.now.list _ c.if-entry-lt-LEAST_LABEL.false c.if-not-entry.false
     (owned_some c.args.self.now.plan told c.args.octets.now c.args.entry.now (advertiser c.args.self.now.plan (seen c.args.self.now) c.args.entry.now.label) (place_of c.args.self.now.ends c.in-Some.slot) (at_work g.L.Link.calls c.args.self.now c.args.work.now) _
     (named_some (place_of c.args.self.now.ends) c.advertiser.result c.in-Some.slot _ c.advertiser.ensures.named c.in-Some.is)
-    (owned_between c.args.self.now.plan told c.args.octets.now c.args.entry.now (place_of c.args.self.now.ends c.in-Some.slot) c.place_at-place.result (at_work g.L.Link.calls c.args.self.now c.args.work.now) c.place_at-place.ensures.place c.if-not-place.true))
+    (owned_between c.args.self.now.plan told c.args.octets.now c.args.entry.now (place_of c.args.self.now.ends c.in-Some.slot) c.place_at-place.result (at_work g.L.Link.calls c.args.self.now c.args.work.now) _ c.place_at-place.ensures.place c.if-not-place.true (step told agrees))))
+    c.switch.ensures.step
 
 pub returns-clause-step : goal.returns-clause-step
 returns-clause-step g c = map_on _ _ c.terminated.result

@@ -1,0 +1,103 @@
+//! A switching point passes a packet on to its other neighbour on the wire (RFC 6073 section 4).
+ghost use Rattle.std.specs.Prelude.{◌≡◌, ◌≤◌, ◌<◌, ◌-◌, Some, length, option_copied, IfOk, IfSome, OnOk};
+ghost use Rattle.net_base.specs.declared.plan.wire_plan.WirePlan.{WirePlan};
+ghost use Rattle.net_base.specs.plan.Paths.{mate};
+ghost use Rattle.net_base.specs.plan.Places.{wire_row};
+ghost use Rattle.pw_stitch.specs.Relabelling.{relabelled};
+ghost use Rattle.pw_stitch.specs.Swap.{label_onward};
+ghost use Rattle.edge_model.specs.Packet.{switched, switched_under};
+ghost use Rattle.edge_model.specs.Work.{Agrees, Answers};
+ghost use Rattle.pw_ends.specs.Ends.{end_in, place_of};
+ghost use Rattle.peer_dialogue.specs.AtWork.{WorkGoes};
+ghost use Rattle.provider_edge.specs.AtWork.{at_work};
+
+use crate::Edge;
+use crate::quiet::drop_for;
+use eth_encap::StackEntry;
+use net_base::{Arrival, DropCause, EdgeId, Label, Link, List, NoMemory, Octets};
+use peer_dialogue::AtWork;
+use pw_stitch::{label_onward, relabel};
+use std::alloc::Global;
+
+// The octets of an entry of a label stack (RFC 3032 section 2.1).
+const ENTRY: usize = 4;
+
+impl Edge {
+    // 3. A packet came under the label of the end of a slot, which is not terminal: it goes on by the other end of the wire.
+    pub(crate) fn switch<L: Link>(
+        &self,
+        slot: usize,
+        octets: &[u8],
+        entry: &StackEntry,
+        work: &mut AtWork<'_, L>,
+    ) -> Result<(), NoMemory>
+        requires slot { slot < length self.now.ends.places }
+        requires long { 4 ≤ length octets.now }
+        requires living { 1 ≤ entry.now.ttl }
+        ensures goes { WorkGoes L.calls work.old work.new }
+        ensures step { OnOk result ((told : Answers) → Agrees told (L.calls work.new.link.now)
+            → at_work L.calls self.now work.new ≡ switched self.now.plan told octets.now entry.now (place_of self.now.ends slot) (at_work L.calls self.now work.old)) }
+    {
+        let Some(mate) = self.mate_at(slot) else {
+            return Ok(());
+        };
+        let wire = self.place_at(slot).wire;
+        let Some(onward) = self.ends.beside(wire, mate) else {
+            return drop_for(DropCause::NoBinding, &mut work.effects.list);
+        };
+        self.send_on(onward, octets, entry, work)
+    }
+
+    // The neighbour on the other side of the switching point, seen from that of the end of a slot; `None` exactly where the edge
+    // is no switching point between two of the wire's edges.
+    #[tactic(auto, using(edge_forwarding::proofs::ForwardingLemmas::row_read))]
+    fn mate_at(&self, slot: usize) -> Option<EdgeId>
+        requires { slot < length self.now.ends.places }
+        ensures mate { (row : WirePlan) → wire_row self.now.plan (place_of self.now.ends slot).wire ≡ Some row → result ≡ mate row self.now.me.0 (place_of self.now.ends slot).peer.0 }
+        ensures within { (place_of self.now.ends slot).wire.0 < length self.now.plan.wires }
+    {
+        let place = self.place_at(slot);
+        self.plan.wires.as_slice()[place.wire.0 as usize].mate(self.me, place.peer)
+    }
+
+    // A packet goes on by the end of a slot, under the label that is bound there.
+    fn send_on<L: Link>(
+        &self,
+        slot: usize,
+        octets: &[u8],
+        entry: &StackEntry,
+        work: &mut AtWork<'_, L>,
+    ) -> Result<(), NoMemory>
+        requires slot { slot < length self.now.ends.places }
+        requires long { 4 ≤ length octets.now }
+        requires living { 1 ≤ entry.now.ttl }
+        ensures goes { WorkGoes L.calls work.old work.new }
+        ensures step { OnOk result ((told : Answers) → Agrees told (L.calls work.new.link.now)
+            → at_work L.calls self.now work.new
+            ≡ switched_under told octets.now entry.now (place_of self.now.ends slot) (place_of self.now.ends slot).peer (label_onward (end_in self.now.ends slot).remote entry.now.ttl) (at_work L.calls self.now work.old)) }
+    {
+        let label = match label_onward(self.end_in(slot).remote(), entry.ttl) {
+            Ok(label) => label,
+            Err(why) => return drop_for(why.cause(), &mut work.effects.list),
+        };
+        let packet = under_label(work.alloc, label, entry.ttl - 1, octets)?;
+        let came = Arrival::Wire(self.place_at(slot).wire);
+        self.send(slot, came, packet, work)
+    }
+}
+
+// A packet with another label and another TTL, in one buffer that is taken for it.
+#[tactic(auto, using(crate::proofs::SwitchLemmas::relabelled_front))]
+fn under_label(alloc: Global, label: Label, ttl: u8, octets: &[u8]) -> Result<Octets, NoMemory>
+    requires { 4 ≤ length octets.now }
+    ensures { IfOk result (λ packet. packet ≡ relabelled label ttl octets.now) }
+{
+    let (front, behind) = octets.split_at(ENTRY);
+    let mut entry = [0; ENTRY];
+    entry.copy_from_slice(front);
+    relabel(label, ttl, &mut entry);
+    let mut packet = List::with_capacity(alloc, octets.len())?;
+    packet.extend_from_slice(&entry)?;
+    packet.extend_from_slice(behind)?;
+    Ok(packet)
+}
