@@ -16,6 +16,7 @@ pub mod ProperLemmas
 pub mod RowLemmas
 pub mod SlotLemmas
 pub mod SpokeLemmas
+pub mod StitchLemmas
 pub mod StayLemmas
 pub mod SwitchLemmas
 pub mod SyncLemmas

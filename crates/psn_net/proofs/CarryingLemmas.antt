@@ -1,9 +1,10 @@
 -- The ends of wires at their terminal edges, by the rows of the plan.
-use Rattle.std.proofs.Common.{◌≡◌, ◌<◌, ◌≤◌, ◌+◌, ◌++◌, ◌∙◌, ◌&&◌, ◌||◌, Bor, ℕ, zero, suc, Bool, true, false, List, [], ◌∷◌, Option, Some, None, IfSome, cond, length, slice_get, slice_index_or, nat_eq, nat_lt, refl, sym, ap, subst, arith, inl, inr}
+use Rattle.std.proofs.Common.{◌≡◌, ◌<◌, ◌≤◌, ◌+◌, ◌-◌, ◌++◌, ◌∙◌, ◌&&◌, ◌||◌, Bor, ℕ, zero, suc, Bool, true, false, List, [], ◌∷◌, Option, Some, None, IfSome, cond, drop, get_or, length, slice_get, slice_index_or, nat_eq, nat_lt, refl, sym, ap, subst, arith, inl, inr}
 use Rattle.std.specs.Prelude.{is_some}
 use Rattle.std.specs.List.{list_all, list_any}
 use Rattle.std.proofs.lemmas.Bool.{and_parts, and_from, cases_Bool, eq-eqb, or_left, or_right}
 use Rattle.std.proofs.lemmas.Bool.Decides.{nat_tests}
+use Rattle.std.proofs.lemmas.List.{drop_more}
 use Rattle.std.proofs.lemmas.List.Elements.{All-get_or}
 use Rattle.std.proofs.lemmas.List.Folds.{list_any-append}
 use Rattle.std.proofs.lemmas.Option.{get_or_from_slice_get, slice_get_within}
@@ -17,13 +18,13 @@ use Rattle.net_base.specs.plan.Paths.{first_edge, is_first, is_last, last_edge}
 use Rattle.net_base.specs.plan.RowFaults.{is_edge_of}
 use Rattle.edge_model.specs.declared.end_place.EndPlace.{EndPlace}
 use Rattle.edge_model.specs.EndPlaces.{end_place_at, ends_here, is_end_of_wire, is_terminal, places_along, places_at, places_from}
-use Rattle.edge_model.specs.Ends.{end_forwards, forwards_at, is_up, wire_end}
+use Rattle.edge_model.specs.Ends.{end_forwards, forwards_at, is_stitched, is_up, wire_end}
 use Rattle.edge_model.specs.Role.{down_at}
 use Rattle.edge_model.proofs.CopyLemmas.{found_end}
 use Rattle.edge_model.proofs.PacketLemmas.{wire_end_is}
 use Rattle.edge_model.proofs.SyncLemmas.{ends_here_is}
 use Rattle.provider_edge.specs.Lists.{EdgeLists, seen}
-use Rattle.network_model.specs.Calm.{first_forwards, is_joined_up, last_forwards}
+use Rattle.network_model.specs.Calm.{first_forwards, inner_stitched, last_forwards}
 use Rattle.network_model.specs.State.{NetworkState}
 use Rattle.psn_net.specs.Lists.{IsNetwork, NetLists, no_edge}
 
@@ -98,12 +99,51 @@ last_forwards_is plan network wire [] = refl
 last_forwards_is plan network wire (last ∷ []) = refl
 last_forwards_is plan network wire (first ∷ next ∷ rest) = last_forwards_is plan network wire (next ∷ rest)
 
--- a path without a switching point has one or two edges
-pub joined_up_is : (plan : Plan) (network : NetworkState) (wire : ℕ) (path : List EdgeId) → is_joined_up plan network wire path ≡ (nat_lt 0 (length path) && nat_lt (length path) 3)
-joined_up_is plan network wire [] = refl
-joined_up_is plan network wire (first ∷ []) = refl
-joined_up_is plan network wire (first ∷ last ∷ []) = refl
-joined_up_is plan network wire (first ∷ point ∷ next ∷ rest) = grind (arith, nat_tests)
+-- ---- the edges between them
+
+-- the edges of a wire of the plan are edges of the plan; so are those behind the first
+rest_of : (plan : Plan) (path : List EdgeId) (first : EdgeId) (rest : List EdgeId) → path ≡ first ∷ rest → list_all (is_edge_of plan) path ≡ true → list_all (is_edge_of plan) rest ≡ true
+rest_of plan path first rest at all = (and_parts (is_edge_of plan first) (list_all (is_edge_of plan) rest) (ap (list_all (is_edge_of plan)) (sym at) ∙ all)).1
+
+pub rest_within : (plan : Plan) (wire : ℕ) (row : WirePlan) (first : EdgeId) (rest : List EdgeId) → IsChecked plan → slice_get plan.wires wire ≡ Some row → row.path ≡ first ∷ rest → list_all (is_edge_of plan) rest ≡ true
+rest_within plan wire row first rest checked is at = rest_of plan row.path first rest at (row_of plan wire row checked is).edges
+
+-- one of them is an edge of the plan
+each_of : (plan : Plan) (path : List EdgeId) (place : ℕ) (d : EdgeId) → list_all (is_edge_of plan) path ≡ true → place < length path → (get_or path place d).0 < length plan.edges
+each_of plan [] place d all within = absurd (omega (arith, within))
+each_of plan (edge ∷ rest) zero d all within = edge_within plan edge (and_parts (is_edge_of plan edge) (list_all (is_edge_of plan) rest) all).0
+each_of plan (edge ∷ rest) (suc place) d all within = each_of plan rest place d (and_parts (is_edge_of plan edge) (list_all (is_edge_of plan) rest) all).1 (omega (arith, within))
+
+pub each_within : (plan : Plan) (path : List EdgeId) (place : ℕ) (d : EdgeId) → list_all (is_edge_of plan) path ≡ true → place < length path - 1 → (get_or path place d).0 < length plan.edges
+each_within plan path place d all within = each_of plan path place d all (omega (arith, within))
+
+module _ (plan : Plan) (network : NetworkState) (wire : ℕ) where
+  -- one edge that is not the last, and those behind it
+  inner_at : (path : List EdgeId) (place : ℕ) (d : EdgeId) → place < length path - 1
+      → inner_stitched plan network wire (drop place path) ≡ (is_stitched plan (network.edges (get_or path place d).0) (record { 0 = wire }) && inner_stitched plan network wire (drop (place + 1) path))
+  inner_at path place d within =
+      let point : EdgeId = get_or path place d in
+      let next : drop (place + 1) path ≡ get_or path (place + 1) d ∷ drop (place + 1 + 1) path = drop_more path (place + 1) d (omega (arith, within)) in
+      ap (inner_stitched plan network wire) (drop_more path place d (omega (arith, within)))
+      ∙ (ap (λ (ys : List EdgeId). inner_stitched plan network wire (point ∷ ys)) next
+      ∙ sym (ap (λ (ys : List EdgeId). is_stitched plan (network.edges point.0) (record { 0 = wire }) && inner_stitched plan network wire ys) next))
+
+  pub inner_more : (path : List EdgeId) (place : ℕ) (d : EdgeId) → place < length path - 1 → is_stitched plan (network.edges (get_or path place d).0) (record { 0 = wire }) ≡ true
+      → inner_stitched plan network wire (drop place path) ≡ inner_stitched plan network wire (drop (place + 1) path)
+  inner_more path place d within here = inner_at path place d within ∙ ap (λ b. b && inner_stitched plan network wire (drop (place + 1) path)) here
+
+  pub inner_fails : (path : List EdgeId) (place : ℕ) (d : EdgeId) → place < length path - 1 → is_stitched plan (network.edges (get_or path place d).0) (record { 0 = wire }) ≡ false
+      → inner_stitched plan network wire (drop place path) ≡ false
+  inner_fails path place d within here = inner_at path place d within ∙ ap (λ b. b && inner_stitched plan network wire (drop (place + 1) path)) here
+
+  pub inner_end : (path : List EdgeId) (place : ℕ) → length path - 1 ≤ place → inner_stitched plan network wire (drop place path) ≡ true
+  inner_end [] zero past = refl
+  inner_end [] (suc place) past = refl
+  inner_end (last ∷ []) zero past = refl
+  inner_end (edge ∷ next ∷ rest) zero past = absurd (omega (arith, past))
+  inner_end (edge ∷ rest) (suc place) past = inner_end rest place (omega (arith, past))
+
+pub ruleset stitching_steps = (each_within, inner_more, inner_fails, inner_end)
 
 -- ---- a terminal edge of a wire has an end of it
 

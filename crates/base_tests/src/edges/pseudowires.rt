@@ -46,12 +46,15 @@ const UP: [Step; 3] = [
     Step::Hears(A, KEEP_ALIVE_OF_A),
 ];
 
-const RELEASES_A_GROUP: [Step; 7] = [
+const RELEASES_A_GROUP: [Step; 10] = [
     Step::Put(2, A, MAPPING_OF_B),
+    Step::Stitched(false),
     Step::Hears(A, MAPPING_OF_A),
     Step::Bound(16),
+    Step::Stitched(true),
     Step::Hears(A, WITHDRAW_7),
     Step::Bound(0),
+    Step::Stitched(false),
     Step::Put(3, A, RELEASE_7),
     Step::Calls(4),
 ];

@@ -53,6 +53,8 @@ pub enum Step {
     Learned(usize),
     Bound(u32),
     NextLabel(u32),
+    /// The edge's ends of the one wire advertise a label and are bound, or one of them is not so.
+    Stitched(bool),
     /// So many ticks have passed, the edge bridges this service or does not, and it is stopped or is not.
     Passed(u64),
     Bridged(u16, bool),
@@ -219,6 +221,7 @@ fn agrees_in_edge(edge: &Edge, step: Step) -> bool {
         Step::Learned(count) => learned(edge) == count,
         Step::Bound(label) => bound_label(edge) == label,
         Step::NextLabel(label) => edge.next_label() == label,
+        Step::Stitched(stitched) => edge.is_stitched(WireId(0)) == stitched,
         Step::Passed(ticks) => edge.ticks() == ticks,
         Step::Bridged(service, has) => edge.bridge(ServiceId(service)).is_some() == has,
         Step::Stopped(stopped) => edge.is_stopped() == stopped,

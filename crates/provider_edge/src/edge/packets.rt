@@ -1,4 +1,5 @@
 //! A packet comes from a neighbour.
 
 mod packet;
+mod stitched;
 mod switched;

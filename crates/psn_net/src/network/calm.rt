@@ -16,7 +16,8 @@ impl Network {
     }
 
     /// Whether a service is full: each two core edges of it have a mesh wire of it that forwards at both ends (RFC 4762 section
-    /// 4.4). A core edge has a port of the service, and starts no spoke of it. It takes no memory.
+    /// 4.4), and is stitched at each edge between them (RFC 6073 section 4). A core edge has a port of the service, and starts no
+    /// spoke of it. It takes no memory.
     pub fn is_full(&self, service: ServiceId) -> bool
         ensures { result ≡ is_full self.now.plan (seen self.now) service }
     {
@@ -24,7 +25,7 @@ impl Network {
     }
 
     /// Whether a service is calm: it is quiet and full, and each edge that starts a spoke of it has exactly one spoke that forwards
-    /// at both ends (RFC 4762 sections 4.4 and 10.2). It takes no memory.
+    /// at both ends (RFC 4762 sections 4.4 and 10.2), and is stitched at each edge between them. It takes no memory.
     pub fn is_calm(&self, service: ServiceId) -> bool
         ensures { result ≡ is_calm self.now.plan (seen self.now) service }
     {

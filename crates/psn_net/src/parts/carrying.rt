@@ -1,16 +1,17 @@
 //! Which wires carry frames.
-ghost use Rattle.std.specs.Prelude.{◌≡◌, ◌<◌, Some, length, slice_get};
+ghost use Rattle.std.specs.Prelude.{◌≡◌, ◌<◌, Some, true, length, slice_get};
+ghost use Rattle.std.specs.List.{list_all};
 ghost use Rattle.net_base.specs.plan.Accepted.{IsChecked};
-ghost use Rattle.net_base.specs.plan.Paths.{first_edge, last_edge};
-ghost use Rattle.edge_model.specs.Ends.{end_forwards, is_up};
+ghost use Rattle.net_base.specs.plan.RowFaults.{is_edge_of};
+ghost use Rattle.edge_model.specs.Ends.{end_forwards, is_stitched, is_up};
 ghost use Rattle.provider_edge.specs.Lists.{seen as seen_edge};
-ghost use Rattle.network_model.specs.Calm.{carries, first_forwards, is_joined_up, last_forwards};
+ghost use Rattle.network_model.specs.Calm.{carries, first_forwards, inner_stitched, is_joined_up, last_forwards};
 ghost use Rattle.network_model.specs.State.{edge_at};
 ghost use Rattle.psn_net.specs.Lists.{seen};
 
 use crate::parts::Parts;
 use hvpls_spokes::is_terminal;
-use net_base::{Down, EdgeId, WireId, WirePlan};
+use net_base::{Down, EdgeId, WireId, WirePlan, first_of, last_of};
 use provider_edge::Edge;
 
 impl Parts {
@@ -50,13 +51,40 @@ impl Parts {
         }
     }
 
-    // The path has an edge, and each of its switching points is stitched. None is so far, so it has none.
-    #[tactic(auto, using(crate::proofs::CarryingLemmas::joined_up_is))]
+    // The path has an edge, and each of its switching points is stitched.
+    #[tactic(auto, using(crate::proofs::CarryingLemmas::rest_within))]
     fn is_joined_up(&self, wire: WireId, row: &WirePlan) -> bool
+        requires checked { IsChecked self.now.plan }
+        requires row { slice_get self.now.plan.wires wire.0 ≡ Some row.now }
         ensures { result ≡ is_joined_up self.now.plan (seen self.now) wire.0 row.now.path }
     {
-        let count = row.path.len();
-        0 < count && count < 3
+        match row.path.as_slice() {
+            [_first, rest @ ..] => self.are_stitched(wire, rest),
+            [] => false,
+        }
+    }
+
+    // Each of these edges but the last one is stitched.
+    #[tactic(auto, using(crate::proofs::CarryingLemmas::stitching_steps))]
+    fn are_stitched(&self, wire: WireId, path: &[EdgeId]) -> bool
+        requires { list_all (is_edge_of self.now.plan) path.now ≡ true }
+        ensures { result ≡ inner_stitched self.now.plan (seen self.now) wire.0 path.now }
+    {
+        let points = path.len().saturating_sub(1);
+        for place in 0..points {
+            if !self.is_stitched(path[place], wire) {
+                return false;
+            }
+        }
+        true
+    }
+
+    // Each end that an edge has of the wire advertises its label and is bound.
+    fn is_stitched(&self, edge: EdgeId, wire: WireId) -> bool
+        requires { edge.0 < length self.now.plan.edges }
+        ensures { result ≡ is_stitched self.now.plan (edge_at (seen self.now) edge) wire }
+    {
+        self.edge_at(edge).is_stitched(wire)
     }
 
     // An edge's terminal end of the wire forwards.
@@ -98,22 +126,4 @@ fn is_up(down: Option<Down>) -> bool
     ensures { result ≡ is_up down }
 {
     down.is_none()
-}
-
-// The first edge of a path.
-fn first_of(path: &[EdgeId]) -> Option<EdgeId>
-    ensures { result ≡ first_edge path.now }
-{
-    match path {
-        [first, ..] => Some(*first),
-        [] => None,
-    }
-}
-
-// The last edge of a path.
-#[tactic(auto, using(net_base::proofs::PathLemmas::last_edge_is))]
-fn last_of(path: &[EdgeId]) -> Option<EdgeId>
-    ensures { result ≡ last_edge path.now }
-{
-    path.last().copied()
 }
