@@ -22,7 +22,7 @@ use Rattle.edge_model.specs.Content.{mac_withdrawal, mapping, status_notificatio
 use Rattle.edge_model.specs.declared.effect.Effect.TheVariants.{Wire}
 use Rattle.edge_model.specs.declared.end_place.EndPlace.{EndPlace}
 use Rattle.edge_model.specs.EndPlaces.{end_places}
-use Rattle.edge_model.specs.Mend.{advertises_wish, advertising, and_says, each_end, forgets_downs, is_new_choice, mends, mends_choice, mends_end, mends_few, mends_local, mends_once, mends_status, mends_status_of, tells_down, tells_downs, tells_over, telling_status, then_changes, wish, withdrawing, withdraws_unless}
+use Rattle.edge_model.specs.Mend.{advertises_wish, advertising, and_says, each_end, forgets_downs, is_new_choice, mends, mends_choice, mends_end, mends_few, mends_local, mends_once, mends_status, mends_status_of, tells_down, tells_downs, tells_over, telling_status, then_changes, wish, withdrawing, withdraws_unless, stands, withdraws}
 use Rattle.edge_model.specs.Mended.{HasFitPaths, MendsAtOnce}
 use Rattle.edge_model.specs.Put.{Spoken, having_spoken, message_octets_of, put_octets, stays, with_spoken}
 use Rattle.edge_model.specs.Role.{down_at, status_to_tell}
@@ -191,11 +191,13 @@ module _ (plan : Plan) (told : Answers) (n : ℕ) where
     idle (Some content) = left content (nat_eq work.edge.next_label numbers_end)
 
     told_it : (label : ℕ) (content : Told) (wished : Option Told) → Loses n work (withdraws_unless told place label content wished work)
-    told_it label content None =
-        let said : Loses n (changes (withdrawing place) work) (says told place.peer (withdrawal place.pw_id label content) (changes (withdrawing place) work)) =
-        says_loses n told place.peer (withdrawal place.pw_id label content) (changes (withdrawing place) work) within in
-        record { few = said.few; less = said.less }
-    told_it label content (Some wished) = stays_loses n work
+    told_it label content wished = by (stands place content wished) where
+      by : (b : Bool) → Loses n work (cond b (stays work) (withdraws told place label content work))
+      by true = stays_loses n work
+      by false =
+          let said : Loses n (changes (withdrawing place) work) (says told place.peer (withdrawal place.pw_id label content) (changes (withdrawing place) work)) =
+          says_loses n told place.peer (withdrawal place.pw_id label content) (changes (withdrawing place) work) within in
+          record { few = said.few; less = said.less }
 
     of : (local : LocalPart) → Loses n work (mends_local plan told place local work)
     of (Idle true) = stays_loses n work

@@ -255,7 +255,7 @@ hear_steps plan told k = record {
   holds = λ peer kept octets work is fits.
       set_fits k peer (Some (record kept { held = octets })) work (λ here. subst HasFitMaximum is (fits_now k peer work fits here)) fits;
   releases = λ peer fec label work fits. says_fits told k peer (release fec label) work fits;
-  binds = λ peer fec place binding work there is fits. changes_fit k (with_end_changed (bound binding) (Some place)) work (changed_keeps (bound binding) (Some place) work.edge) fits;
+  binds = λ peer fec place binding work there is taken fits. changes_fit k (with_end_changed (bound binding) (Some place)) work (changed_keeps (bound binding) (Some place) work.edge) fits;
   unbinds = λ peer fec label work there fits.
       changes_fit k (with_named plan peer fec (unbound label) (group_unbound fec.group) fec.pw_id) work (named_keeps plan peer fec (unbound label) (group_unbound fec.group) fec.pw_id work.edge) fits;
   released = λ peer fec label work there fits.

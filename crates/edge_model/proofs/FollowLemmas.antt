@@ -8,7 +8,7 @@ use Rattle.net_base.specs.declared.plan.places.CircuitId.{CircuitId}
 use Rattle.net_base.specs.declared.plan.places.EdgeId.{EdgeId}
 use Rattle.net_base.specs.declared.plan.places.WireId.{WireId}
 use Rattle.net_base.specs.declared.plan.wire_plan.WirePlan.{WirePlan}
-use Rattle.net_base.specs.plan.Paths.{offer_of}
+use Rattle.net_base.specs.plan.Paths.{mate, offer_of}
 use Rattle.net_base.specs.plan.Places.{wire_row}
 use Rattle.pw_tlvs.specs.declared.pw_fec.PwFec.{PwFec}
 use Rattle.pw_signalling.specs.declared.told.Told.{Told}
@@ -24,7 +24,7 @@ use Rattle.edge_model.specs.declared.end_place.EndPlace.{EndPlace}
 use Rattle.edge_model.specs.declared.input.Input.{Input}
 use Rattle.edge_model.specs.EndPlaces.{end_named, end_places, is_named}
 use Rattle.edge_model.specs.Hear.{hears_message, hears_one}
-use Rattle.edge_model.specs.Mend.{advertising, forgetting_wire, is_up_with, mends, telling_status, terminal_wish, wish, wish_of, withdrawing}
+use Rattle.edge_model.specs.Mend.{passed_wish, advertising, forgetting_wire, is_up_with, mends, telling_status, terminal_wish, wish, wish_of, withdrawing}
 use Rattle.edge_model.specs.Put.{message_octets_of, put_octets, put_reply}
 use Rattle.edge_model.specs.Send.{sends}
 use Rattle.edge_model.specs.Session.{clears_ends, had_put, had_said, happens, happens_with_ends, says, says_to}
@@ -163,14 +163,16 @@ end_of_fec_beside plan edge peer fec place is = by fec.pw_id is where
 -- an end that should tell something has a session that is up, one that tells something has a session
 pub wish_up : (plan : Plan) (edge : EdgeState) (place : EndPlace) (content : Told) → wish plan edge place ≡ Some content → is_up_with (edge.peering place.peer.0) ≡ true
 wish_up plan edge place content is = of_row (wire_row plan place.wire) is where
-  by : (row : WirePlan) (on up terminal : Bool) → cond ((on && up) && terminal) (terminal_wish plan edge place (offer_of row edge.me.0)) None ≡ Some content → up ≡ true
-  by row true true terminal is = refl
-  by row true false terminal is = absurd (cc (is))
-  by row false up terminal is = absurd (cc (is))
+  by : (told : Option Told) (on up : Bool) → cond (on && up) told None ≡ Some content → up ≡ true
+  by told true true is = refl
+  by told true false is = absurd (cc (is))
+  by told false up is = absurd (cc (is))
 
   of_row : (row : Option WirePlan) → wish_of plan edge place row ≡ Some content → is_up_with (edge.peering place.peer.0) ≡ true
   of_row None is = absurd (cc (is))
-  of_row (Some row) is = by row (edge.wire_on place.wire.0) (is_up_with (edge.peering place.peer.0)) place.terminal is
+  of_row (Some row) is =
+      by (cond place.terminal (terminal_wish plan edge place (offer_of row edge.me.0)) (passed_wish plan edge place row))
+      (edge.wire_on place.wire.0) (is_up_with (edge.peering place.peer.0)) is
 
 up_stands : (kept : Option Peering) → is_up_with kept ≡ true → kept ≡ None → ⊥
 up_stands None up none = absurd (cc (up))
@@ -237,7 +239,7 @@ hear_follows plan told = record {
   advises = advises_follows told;
   holds = λ peer kept octets work is. changes_follow (with_peering peer (Some (record kept { held = octets }))) work (peering_follows peer (record kept { held = octets }) work.edge);
   releases = λ peer fec label work. says_follows told peer (release fec label) work;
-  binds = λ peer fec place binding work there is.
+  binds = λ peer fec place binding work there is taken.
       changes_follow (with_end_changed (bound binding) (Some place)) work
       (changed_follows peer (bound binding) (Some place) work.edge (λ p same. end_of_fec_beside plan work.edge peer fec p (is ∙ same)) there);
   unbinds = λ peer fec label work there.

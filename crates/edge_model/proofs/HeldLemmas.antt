@@ -11,7 +11,7 @@ use Rattle.net_base.specs.declared.trace.state_name.Reason.{Reason}
 use Rattle.net_base.specs.declared.trace.state_name.Reason.TheVariants as reason
 use Rattle.net_base.specs.declared.trace.state_name.StateName.TheVariants as name
 use Rattle.net_values.specs.declared.mac.Mac.{Mac}
-use Rattle.net_base.specs.plan.Paths.{offer_of}
+use Rattle.net_base.specs.plan.Paths.{mate, offer_of}
 use Rattle.net_base.specs.plan.Places.{wire_row}
 use Rattle.hvpls_spokes.specs.declared.edge_role.Role.{Role}
 use Rattle.hvpls_spokes.specs.declared.port.Port.{Port}
@@ -33,7 +33,7 @@ use Rattle.pw_tlvs.specs.declared.pw_fec.PwFec.{PwFec}
 use Rattle.pw_tlvs.specs.declared.pw_status.PwStatus.{PwStatus}
 use Rattle.pw_signalling.specs.declared.told.Told.{Told}
 use Rattle.pw_signalling.specs.End.{EndState, LocalPart, Idle, Advertised, Withdrawing}
-use Rattle.pw_signalling.specs.Rows.{group_stated, group_unbound, lost, released, stated, unbound}
+use Rattle.pw_signalling.specs.Rows.{group_stated, group_unbound, lost, released, stated, unbound, bound}
 use Rattle.session_core.specs.declared.reply.Reply.{Reply}
 use Rattle.session_core.specs.Phase.{Phase}
 use Rattle.session_core.specs.Phase as phase
@@ -42,22 +42,24 @@ use Rattle.session_core.specs.State.{SessionState, is_active}
 use Rattle.session_core.specs.StatusCodes.{about_none, data_of}
 use Rattle.session_core.specs.Table.{SessionEvent, Outcome, Stay, Goes, Ends, Heard, Received, Refused, outcome_of, table}
 use Rattle.edge_model.specs.Clear.{clears_at, clears_by, clears_wire, hears_mac_withdraw, passes_on, tells_at, tells_by, withdrawing_at}
-use Rattle.edge_model.specs.Content.{mac_withdrawal, mapping, pw_status_code, release, status_notification, withdrawal}
+use Rattle.edge_model.specs.Content.{mac_withdrawal, mapping, pw_status_code, release, status_notification, withdrawal, binding_in}
 use Rattle.edge_model.specs.declared.effect.Effect.TheVariants as effect
 use Rattle.edge_model.specs.declared.end_place.EndPlace.{EndPlace}
 use Rattle.edge_model.specs.EndPlaces.{end_named, end_places}
 use Rattle.edge_model.specs.Ends.{wire_end}
 use Rattle.edge_model.specs.Frame.{copies}
 use Rattle.edge_model.specs.Hear.{acts, acts_on, advice_of, advises, hears_few, hears_front, hears_message, hears_messages, hears_one, hears_pdu, hears_within, holds, was_up}
-use Rattle.edge_model.specs.Mend.{advertises_wish, advertising, and_says, cause_number, each_end, forgets_down, forgets_downs, forgetting_wire, is_new_choice, is_up_with, mends, mends_again, mends_choice, mends_end, mends_few, mends_local, mends_once, mends_status, mends_status_of, port_of_wire, telling_status, tells_down, tells_downs, tells_over, terminal_wish, then_changes, wish, wish_of, withdrawing, withdraws_unless}
+use Rattle.edge_model.specs.Mend.{passed_wish, advertises_wish, advertising, and_says, cause_number, each_end, forgets_down, forgets_downs, forgetting_wire, is_new_choice, is_up_with, mends, mends_again, mends_choice, mends_end, mends_few, mends_local, mends_once, mends_status, mends_status_of, port_of_wire, telling_status, tells_down, tells_downs, tells_over, terminal_wish, then_changes, wish, wish_of, withdrawing, withdraws_unless, stands, withdraws}
 use Rattle.edge_model.specs.Put.{Spoken, having_spoken, message_octets_of, octets_of, put_octets, put_replies, put_reply, put_reply_to, puts_on, with_spoken, stays}
 use Rattle.edge_model.specs.Role.{down_at, status_to_tell}
 use Rattle.edge_model.specs.Session.{clears_ends, comes_of, ends, had_put, had_said, happens, happens_to, happens_with_ends, is_same_phase, says, says_to, tells_change, went_on, with_session}
-use Rattle.edge_model.specs.Signal.{end_of_fec, hears_status, hears_withdraw, maps_to, releases_label, with_end_changed, with_named}
+use Rattle.edge_model.specs.Signal.{end_of_fec, hears_status, hears_withdraw, maps_to, releases_label, with_end_changed, with_named, takes_content}
 use Rattle.edge_model.specs.Spokes.{choosing}
 use Rattle.edge_model.specs.State.{EdgeState, Peering, end_at, has_end, is_there, put_at, with_addresses, with_chosen, with_end, with_ends_beside, with_next_label, with_peering, with_told_down}
 use Rattle.edge_model.specs.Withdraw.{tells_piece, tells_piece_by, tells_pieces}
 use Rattle.edge_model.specs.Work.{Work, Answers, changes, gives, next_answer, puts}
+use Rattle.edge_model.specs.Across.{end_beyond}
+use Rattle.pw_signalling.specs.declared.binding.Binding.{Binding}
 
 -- ---- what is kept for a peer becomes something else
 
@@ -217,7 +219,11 @@ wish_held plan other edge place = of (wire_row plan place.wire) where
   of : (row : Option WirePlan) → wish_of plan (reheld other edge) place row ≡ wish_of plan edge place row
   of None = refl
   of (Some row) =
-      ap (λ (up : Bool). cond ((edge.wire_on place.wire.0 && up) && place.terminal) (terminal_wish plan edge place (offer_of row edge.me.0)) None) (same (edge.peering place.peer.0))
+      ap (λ (up : Bool).
+        cond (edge.wire_on place.wire.0 && up)
+        (cond place.terminal (terminal_wish plan edge place (offer_of row edge.me.0)) (passed_wish plan edge place row))
+        None)
+      (same (edge.peering place.peer.0))
 
 abbrev MendsAlike : Holding → (Work → Spoken) → Type 0
 MendsAlike other mend = (work : Work) → mend (rehold other work) ≡ rehold_spoken other (mend work)
@@ -237,8 +243,10 @@ advertises_held told other place (Some content) work = by (nat_eq work.edge.next
 withdraws_held : (told : Answers) (other : Holding) (place : EndPlace) (label : ℕ) (content : Told) (wished : Option Told) (work : Work)
     → withdraws_unless told place label content wished (rehold other work) ≡ rehold_spoken other (withdraws_unless told place label content wished work)
 unfolding changes with_end
-withdraws_held told other place label content None work = says_held told other place.peer (withdrawal place.pw_id label content) (changes (withdrawing place) work)
-withdraws_held told other place label content (Some wished) work = refl
+withdraws_held told other place label content wished work = by (stands place content wished) where
+  by : (b : Bool) → cond b (stays (rehold other work)) (withdraws told place label content (rehold other work)) ≡ rehold_spoken other (cond b (stays work) (withdraws told place label content work))
+  by true = refl
+  by false = says_held told other place.peer (withdrawal place.pw_id label content) (changes (withdrawing place) work)
 
 mends_end_held : (plan : Plan) (told : Answers) (other : Holding) (place : EndPlace) → MendsAlike other (mends_end plan told place)
 mends_end_held plan told other place work = of (end_at work.edge place).local where
@@ -369,11 +377,21 @@ mends_held plan told other work = mends_few_held plan told other (suc (length pl
 releases_held : (told : Answers) (other : Holding) (peer : EdgeId) (fec : PwFec) (label : Option ℕ) (work : Work) → releases_label told peer fec label (rehold other work) ≡ rehold other (releases_label told peer fec label work)
 releases_held told other peer fec label work = ap (λ (s : Spoken). s.work) (says_held told other peer (release fec label) work)
 
-maps_held : (told : Answers) (other : Holding) (peer : EdgeId) (fec : PwFec) (label : ℕ) (status : Option PwStatus) (points : List Point) (place : Option EndPlace) (work : Work)
-    → maps_to told peer fec label status points place (rehold other work) ≡ rehold other (maps_to told peer fec label status points place work)
+maps_held : (plan : Plan) (told : Answers) (other : Holding) (peer : EdgeId) (fec : PwFec) (binding : Binding) (place : Option EndPlace) (work : Work)
+    → maps_to plan told peer fec binding place (rehold other work) ≡ rehold other (maps_to plan told peer fec binding place work)
 unfolding changes with_end
-maps_held told other peer fec label status points None work = releases_held told other peer fec (Some label) work
-maps_held told other peer fec label status points (Some place) work = refl
+maps_held plan told other peer fec binding None work = releases_held told other peer fec (Some binding.label) work
+maps_held plan told other peer fec binding (Some place) work = by (takes_content plan work.edge.me place binding.told) where
+  takes : Work → Work
+  takes w = changes (with_end_changed (bound binding) (Some place)) w
+
+  drops_it : Work → Work
+  drops_it w = changes (with_end_changed (unbound None) (Some place)) w
+
+  by : (b : Bool) → cond b (takes (rehold other work)) (releases_label told peer fec (Some binding.label) (drops_it (rehold other work)))
+      ≡ rehold other (cond b (takes work) (releases_label told peer fec (Some binding.label) (drops_it work)))
+  by true = refl
+  by false = releases_held told other peer fec (Some binding.label) (drops_it work)
 
 changed_held : (other : Holding) (change : EndState → EndState) (place : Option EndPlace) (edge : EdgeState) → with_end_changed change place (reheld other edge) ≡ reheld other (with_end_changed change place edge)
 unfolding with_end
@@ -461,10 +479,10 @@ clears_by_held : (plan : Plan) (told : Answers) (other : Holding) (addresses : L
     → clears_by plan told addresses place (rehold other work) ≡ rehold other (clears_by plan told addresses place work)
 clears_by_held plan told other addresses None work = refl
 clears_by_held plan told other addresses (Some place) work = by place.terminal where
-  by : (b : Bool) → cond b (clears_wire plan told addresses place (wire_row plan place.wire) (rehold other work)) (rehold other work)
-      ≡ rehold other (cond b (clears_wire plan told addresses place (wire_row plan place.wire) work) work)
+  by : (b : Bool) → cond b (clears_wire plan told addresses place (wire_row plan place.wire) (rehold other work)) (tells_by told addresses (end_beyond plan work.edge.me place) (rehold other work))
+      ≡ rehold other (cond b (clears_wire plan told addresses place (wire_row plan place.wire) work) (tells_by told addresses (end_beyond plan work.edge.me place) work))
   by true = clears_wire_held plan told other addresses place (wire_row plan place.wire) work
-  by false = refl
+  by false = tells_by_held told other addresses (end_beyond plan work.edge.me place) work
 
 mac_withdraw_held : (plan : Plan) (told : Answers) (other : Holding) (peer : EdgeId) (fec : Option PwFec) (addresses : Option (List Mac)) (work : Work)
     → hears_mac_withdraw plan told peer fec addresses (rehold other work) ≡ rehold other (hears_mac_withdraw plan told peer fec addresses work)
@@ -480,7 +498,7 @@ advises_held told other peer (Some reply) work =
     ap (λ (s : Spoken). (had_said peer s).work) (put_reply_held told other peer reply work) ∙ ap (λ (s : Spoken). s.work) (had_said_held other peer (put_reply told peer reply work))
 
 acts_on_held : (plan : Plan) (told : Answers) (other : Holding) (peer : EdgeId) (message : Message) (work : Work) → acts_on plan told peer message (rehold other work) ≡ rehold other (acts_on plan told peer message work)
-acts_on_held plan told other peer (LabelMapping id fec label status points) work = maps_held told other peer fec label status points (end_of_fec plan work.edge peer fec) work
+acts_on_held plan told other peer (LabelMapping id fec label status points) work = maps_held plan told other peer fec (binding_in fec label status points) (end_of_fec plan work.edge peer fec) work
 acts_on_held plan told other peer (LabelWithdraw id fec label) work = withdraw_held plan told other peer fec label work
 acts_on_held plan told other peer (LabelRelease id fec label) work =
     changes_held other (λ edge. with_end_changed (released label) (end_of_fec plan edge peer fec) edge) work (changed_held other (released label) (end_of_fec plan work.edge peer fec) work.edge)

@@ -133,7 +133,7 @@ hear_rises plan told = record {
   advises = λ peer reply work. session_rises work (had_said peer (put_reply told peer reply work)).work (advice_works told any peer reply work refl);
   holds = λ peer kept octets work is. keeps (with_peering peer (Some (record kept { held = octets }))) work refl;
   releases = λ peer fec label work. session_rises work (says told peer (release fec label) work).work (says_works told any peer (release fec label) work refl);
-  binds = λ peer fec place binding work there is. keeps (with_end_changed (bound binding) (Some place)) work (changed_keeps (bound binding) (Some place) work.edge);
+  binds = λ peer fec place binding work there is taken. keeps (with_end_changed (bound binding) (Some place)) work (changed_keeps (bound binding) (Some place) work.edge);
   unbinds = λ peer fec label work there.
       keeps (with_named plan peer fec (unbound label) (group_unbound fec.group) fec.pw_id) work (named_keeps plan peer fec (unbound label) (group_unbound fec.group) fec.pw_id work.edge);
   released = λ peer fec label work there.

@@ -8,7 +8,7 @@ use Rattle.net_base.specs.declared.plan.places.ServiceId.{ServiceId}
 use Rattle.net_base.specs.declared.plan.places.WireId.{WireId}
 use Rattle.net_base.specs.declared.plan.wire_plan.WirePlan.{WirePlan}
 use Rattle.net_base.specs.declared.trace.down.Down.{Down}
-use Rattle.net_base.specs.plan.Paths.{offer_of}
+use Rattle.net_base.specs.plan.Paths.{mate, offer_of}
 use Rattle.net_base.specs.plan.Places.{wire_row}
 use Rattle.label_space.specs.Labels.{numbers_end}
 use Rattle.mac_table.specs.declared.mac_entry.MacEntry.{MacEntry}
@@ -21,15 +21,15 @@ use Rattle.pw_signalling.specs.declared.end_role.EndRole.TheVariants as role
 use Rattle.pw_signalling.specs.declared.told.Told.{Told}
 use Rattle.pw_signalling.specs.Down.{down}
 use Rattle.pw_signalling.specs.End.{EndState, LocalPart, Idle, Advertised, Withdrawing}
-use Rattle.pw_signalling.specs.Rows.{advertised, telling, withdrawn}
+use Rattle.pw_signalling.specs.Rows.{advertised, telling, withdrawn, with_status}
 use Rattle.spoke_redundancy.specs.Telling.{is_not_chosen}
 use Rattle.edge_model.specs.Content.{content_of, mac_withdrawal, mapping, status_notification, withdrawal}
 use Rattle.edge_model.specs.declared.effect.Effect.TheVariants.{Wire}
 use Rattle.edge_model.specs.declared.end_place.EndPlace.{EndPlace}
 use Rattle.edge_model.specs.EndPlaces.{end_places, is_terminal}
-use Rattle.edge_model.specs.Mend.{advertises_wish, advertising, and_says, cause_number, each_end, forgets_down, forgets_downs, forgetting_wire, is_new_choice, is_up_with, mends, mends_again, mends_choice, mends_end, mends_few, mends_local, mends_once, mends_status, mends_status_of, port_of_wire, status_held, status_offered, telling_status, tells_down, tells_downs, tells_over, tells_status, then_changes, wish, wish_of, withdrawing, withdraws_unless}
+use Rattle.edge_model.specs.Mend.{passed_wish, advertises_wish, advertising, and_says, cause_number, each_end, forgets_down, forgets_downs, forgetting_wire, is_new_choice, is_up_with, mends, mends_again, mends_choice, mends_end, mends_few, mends_local, mends_once, mends_status, mends_status_of, port_of_wire, status_held, status_offered, telling_status, tells_down, tells_downs, tells_over, tells_status, then_changes, wish, wish_of, withdrawing, withdraws_unless, stands, withdraws, passed_from, terminal_wish}
 use Rattle.edge_model.specs.Put.{Spoken, having_spoken, message_octets_of, put_octets, with_spoken, stays}
-use Rattle.edge_model.specs.Role.{down_at, is_chosen, role_in, status_to_tell}
+use Rattle.edge_model.specs.Role.{down_at, is_chosen, role_in, status_to_tell, own_status}
 use Rattle.edge_model.specs.Session.{had_said, says, says_to}
 use Rattle.edge_model.specs.Spokes.{choosing}
 use Rattle.edge_model.specs.State.{EdgeState, Peering, addresses_of, end_at, with_addresses, with_chosen, with_end, with_next_label, with_peering, with_told_down, without_port}
@@ -39,18 +39,22 @@ use Rattle.edge_model.proofs.BridgeLemmas.{LearnsOnly, forgets_downs_only, forge
 use Rattle.edge_model.proofs.ChoiceLemmas.{HasChosen, choice_same, choosing_is, choosing_not, telling_down}
 use Rattle.edge_model.proofs.MendLemmas.{TakesAll, mends_once_takes, mends_takes, says_nothing, says_taken}
 use Rattle.edge_model.proofs.PlaceLemmas.{IsEndOf, places_are}
+use Rattle.edge_model.specs.Across.{held_beyond, held_from, held_of, mate_of}
+use Rattle.pw_stitch.specs.Change.{is_same_but_status}
+use Rattle.pw_stitch.specs.Passing.{passed_status}
+use Rattle.pw_stitch.proofs.ChangeLemmas.{same_without_status}
 
 -- ---- an end that tells what it should
 
--- an end that should tell something advertises, where a label is left and its last one was not declined; one that should tell
+-- an end that should tell something advertises it, where a label is left and its last one was not declined; one that should tell
 -- nothing does not
-abbrev tells_wish : (wished none_left : Bool) → LocalPart → Bool
-tells_wish wished none_left (Idle declined) = declined || (not wished || none_left)
-tells_wish wished none_left (Advertised label content) = wished
-tells_wish wished none_left (Withdrawing label) = true
+abbrev tells_wish : EndPlace → Option Told → (none_left : Bool) → LocalPart → Bool
+tells_wish place wished none_left (Idle declined) = declined || (not (is_some wished) || none_left)
+tells_wish place wished none_left (Advertised label content) = stands place content wished
+tells_wish place wished none_left (Withdrawing label) = true
 
 abbrev pub is_mended : Plan → EdgeState → EndPlace → Bool
-is_mended plan edge place = tells_wish (is_some (wish plan edge place)) (nat_eq edge.next_label numbers_end) (end_at edge place).local
+is_mended plan edge place = tells_wish place (wish plan edge place) (nat_eq edge.next_label numbers_end) (end_at edge place).local
 
 -- the status that it has told, where it has told one, is the one of now
 abbrev is_status : ℕ → Option PwStatus → Bool
@@ -89,14 +93,13 @@ mends_end_not plan told place work = of (end_at work.edge place).local where
   idle None e = refl
   idle (Some content) e = left content none_left e
 
-  told_it : (label : ℕ) (content : Told) (wished : Option Told) → is_some wished ≡ true → withdraws_unless told place label content wished work ≡ stays work
-  told_it label content None e = absurd (cc (e))
-  told_it label content (Some wished) e = refl
+  told_it : (label : ℕ) (content : Told) (b : Bool) → b ≡ true → cond b (stays work) (withdraws told place label content work) ≡ stays work
+  told_it label content b e = rw e refl
 
-  of : (local : LocalPart) → tells_wish (is_some (wish plan work.edge place)) none_left local ≡ true → mends_local plan told place local work ≡ stays work
+  of : (local : LocalPart) → tells_wish place (wish plan work.edge place) none_left local ≡ true → mends_local plan told place local work ≡ stays work
   of (Idle true) e = refl
   of (Idle false) e = idle (wish plan work.edge place) e
-  of (Advertised label content) e = told_it label content (wish plan work.edge place) e
+  of (Advertised label content) e = told_it label content (stands place content (wish plan work.edge place)) e
   of (Withdrawing label) e = refl
 
 mends_status_not : (plan : Plan) (told : Answers) (place : EndPlace) (work : Work) → is_told plan work.edge place ≡ true → mends_status plan told place work ≡ stays work
@@ -311,11 +314,28 @@ steady_then a b c first next = record {
   ups = λ k. next.ups k ∙ first.ups k;
 }
 
+held_steady : (a b : EdgeState) (wire : WireId) → IsSteady a b → held_of b wire ≡ held_of a wire
+held_steady a b wire steady = λ i k. steady.remotes wire.0 k i
+
 status_steady : (plan : Plan) (a b : EdgeState) (place : EndPlace) → IsSteady a b → status_to_tell plan b place ≡ status_to_tell plan a place
-status_steady plan a b place steady =
-    ap (λ (bits : ℕ → ℕ). combined (bits place.wire.0) (is_not_chosen (role_in (wire_row plan place.wire) b.me b.chosen place.wire))) steady.bits
-    ∙ (ap (λ (me : EdgeId). combined (a.bits place.wire.0) (is_not_chosen (role_in (wire_row plan place.wire) me b.chosen place.wire))) steady.me
-    ∙ ap (λ (chosen : ℕ → Option WireId). combined (a.bits place.wire.0) (is_not_chosen (role_in (wire_row plan place.wire) a.me chosen place.wire))) steady.chosen)
+status_steady plan a b place steady = by place.terminal where
+  row : Option WirePlan
+  row = wire_row plan place.wire
+
+  own : own_status plan b place ≡ own_status plan a place
+  own =
+      ap (λ (bits : ℕ → ℕ). combined (bits place.wire.0) (is_not_chosen (role_in row b.me b.chosen place.wire))) steady.bits
+      ∙ (ap (λ (me : EdgeId). combined (a.bits place.wire.0) (is_not_chosen (role_in row me b.chosen place.wire))) steady.me
+      ∙ ap (λ (chosen : ℕ → Option WireId). combined (a.bits place.wire.0) (is_not_chosen (role_in row a.me chosen place.wire))) steady.chosen)
+
+  beyond : held_beyond plan b place ≡ held_beyond plan a place
+  beyond =
+      ap (λ (held : ℕ → Option Binding). held_from held (mate_of b.me place row)) (held_steady a b place.wire steady)
+      ∙ ap (λ (me : EdgeId). held_from (held_of a place.wire) (mate_of me place row)) steady.me
+
+  by : (terminal : Bool) → cond terminal (own_status plan b place) (passed_status (held_beyond plan b place)) ≡ cond terminal (own_status plan a place) (passed_status (held_beyond plan a place))
+  by true = own
+  by false = ap passed_status beyond
 
 wish_steady : (plan : Plan) (a b : EdgeState) (place : EndPlace) → IsSteady a b → wish plan b place ≡ wish plan a place
 wish_steady plan a b place steady = of (wire_row plan place.wire) where
@@ -323,23 +343,25 @@ wish_steady plan a b place steady = of (wire_row plan place.wire) where
   w = place.wire.0
 
   -- what is wished, of these parts of an edge
-  wished : WirePlan → (me : EdgeId) (on up : Bool) (bits : ℕ) (remote : Option Binding) (status : PwStatus) → Option Told
-  wished row me on up bits remote status =
-      cond ((on && up) && place.terminal)
-      (cond (tells_status (method_by (offer_of row me.0).status (status_held remote)) || nat_eq bits 0)
-      (Some (content_of (offer_of row me.0) (cond (offer_of row me.0).status (Some status) None)))
-      None)
+  wished : WirePlan → (me : EdgeId) (on up : Bool) (bits : ℕ) (held : ℕ → Option Binding) (status : PwStatus) → Option Told
+  wished row me on up bits held status =
+      cond (on && up)
+      (cond place.terminal
+        (cond (tells_status (method_by (offer_of row me.0).status (status_held (held place.peer.0))) || nat_eq bits 0)
+        (Some (content_of (offer_of row me.0) (cond (offer_of row me.0).status (Some status) None)))
+        None)
+        (passed_from plan row me held (mate row me.0 place.peer.0)))
       None
 
   of : (row : Option WirePlan) → wish_of plan b place row ≡ wish_of plan a place row
   of None = refl
   of (Some row) =
-      ap (λ (me : EdgeId). wished row me (b.wire_on w) (is_up_with (b.peering place.peer.0)) (b.bits w) (end_at b place).remote (status_to_tell plan b place)) steady.me
-      ∙ (ap (λ (on : ℕ → Bool). wished row a.me (on w) (is_up_with (b.peering place.peer.0)) (b.bits w) (end_at b place).remote (status_to_tell plan b place)) steady.wires
-      ∙ (ap (λ (up : Bool). wished row a.me (a.wire_on w) up (b.bits w) (end_at b place).remote (status_to_tell plan b place)) (steady.ups place.peer.0)
-      ∙ (ap (λ (bits : ℕ → ℕ). wished row a.me (a.wire_on w) (is_up_with (a.peering place.peer.0)) (bits w) (end_at b place).remote (status_to_tell plan b place)) steady.bits
-      ∙ (ap (λ (remote : Option Binding). wished row a.me (a.wire_on w) (is_up_with (a.peering place.peer.0)) (a.bits w) remote (status_to_tell plan b place)) (steady.remotes w place.peer.0)
-      ∙ ap (λ (status : PwStatus). wished row a.me (a.wire_on w) (is_up_with (a.peering place.peer.0)) (a.bits w) (end_at a place).remote status) (status_steady plan a b place steady)))))
+      ap (λ (me : EdgeId). wished row me (b.wire_on w) (is_up_with (b.peering place.peer.0)) (b.bits w) (held_of b place.wire) (status_to_tell plan b place)) steady.me
+      ∙ (ap (λ (on : ℕ → Bool). wished row a.me (on w) (is_up_with (b.peering place.peer.0)) (b.bits w) (held_of b place.wire) (status_to_tell plan b place)) steady.wires
+      ∙ (ap (λ (up : Bool). wished row a.me (a.wire_on w) up (b.bits w) (held_of b place.wire) (status_to_tell plan b place)) (steady.ups place.peer.0)
+      ∙ (ap (λ (bits : ℕ → ℕ). wished row a.me (a.wire_on w) (is_up_with (a.peering place.peer.0)) (bits w) (held_of b place.wire) (status_to_tell plan b place)) steady.bits
+      ∙ (ap (λ (held : ℕ → Option Binding). wished row a.me (a.wire_on w) (is_up_with (a.peering place.peer.0)) (a.bits w) held (status_to_tell plan b place)) (held_steady a b place.wire steady)
+      ∙ ap (λ (status : PwStatus). wished row a.me (a.wire_on w) (is_up_with (a.peering place.peer.0)) (a.bits w) (held_of a place.wire) status) (status_steady plan a b place steady)))))
 
 -- ---- one end has another state
 
@@ -419,11 +441,23 @@ record EndMends (plan : Plan) (place : EndPlace) (old new : EdgeState) : Type 0 
   mended : is_mended plan new place ≡ true
 
 -- an end is mended by what it should tell, whether a label is left, and what it tells
-mended_by : (plan : Plan) (edge : EdgeState) (place : EndPlace) (wished none_left : Bool) (local : LocalPart) → is_some (wish plan edge place) ≡ wished → nat_eq edge.next_label numbers_end ≡ none_left
-    → (end_at edge place).local ≡ local → is_mended plan edge place ≡ tells_wish wished none_left local
+mended_by : (plan : Plan) (edge : EdgeState) (place : EndPlace) (wished : Option Told) (none_left : Bool) (local : LocalPart) → wish plan edge place ≡ wished → nat_eq edge.next_label numbers_end ≡ none_left
+    → (end_at edge place).local ≡ local → is_mended plan edge place ≡ tells_wish place wished none_left local
 mended_by plan edge place wished none_left local w n l =
-    ap (λ (b : Bool). tells_wish b (nat_eq edge.next_label numbers_end) (end_at edge place).local) w
-    ∙ (ap (λ (b : Bool). tells_wish wished b (end_at edge place).local) n ∙ ap (tells_wish wished none_left) l)
+    ap (λ (o : Option Told). tells_wish place o (nat_eq edge.next_label numbers_end) (end_at edge place).local) w
+    ∙ (ap (λ (b : Bool). tells_wish place wished b (end_at edge place).local) n ∙ ap (tells_wish place wished none_left) l)
+
+-- what an end should tell still stands where it has told just that
+stands_itself : (place : EndPlace) (content : Told) → stands place content (Some content) ≡ true
+stands_itself place content = by place.terminal where
+  by : (terminal : Bool) → terminal || is_same_but_status content content ≡ true
+  by true = refl
+  by false = (same_without_status content content).1 refl
+
+-- whether it still stands does not go by the status that was told
+stands_alike : (place : EndPlace) (content : Told) (status : PwStatus) (wished : Option Told) → stands place (with_status status content) wished ≡ stands place content wished
+stands_alike place content status None = refl
+stands_alike place content status (Some wished) = refl
 
 end_mends : (plan : Plan) (told : Answers) (place : EndPlace) (work : Work) → (mends_end plan told place work).failed ≡ false → EndMends plan place work.edge (mends_end plan told place work).work.edge
 unfolding changes with_end with_next_label
@@ -443,9 +477,10 @@ end_mends plan told place work = of (end_at work.edge place).local refl where
       (λ none. absurd (wrong none)) spoken in
       record {
         step = step;
-        mended = mended_by plan said.work.edge place true (nat_eq said.work.edge.next_label numbers_end) (Advertised a.next_label content)
-            (ap (λ (o : Option Told). is_some o) (wish_steady plan a said.work.edge place step.steady ∙ wished)) refl
-            (ap (λ (e : EndState). e.local) (changed_end place end (a.next_label + 1) a said.work.edge spoken) ∙ ap (λ (l : LocalPart). (advertised a.next_label content (record { local = l; remote = (end_at a place).remote })).local) is);
+        mended = mended_by plan said.work.edge place (Some content) (nat_eq said.work.edge.next_label numbers_end) (Advertised a.next_label content)
+            (wish_steady plan a said.work.edge place step.steady ∙ wished) refl
+            (ap (λ (e : EndState). e.local) (changed_end place end (a.next_label + 1) a said.work.edge spoken) ∙ ap (λ (l : LocalPart). (advertised a.next_label content (record { local = l; remote = (end_at a place).remote })).local) is)
+            ∙ stands_itself place content;
       }
     where
       wrong : nat_eq a.next_label numbers_end ≡ true → ⊥
@@ -455,7 +490,7 @@ end_mends plan told place work = of (end_at work.edge place).local refl where
 
   idle : (end_at a place).local ≡ Idle false → (wished : Option Told) → wish plan a place ≡ wished → (advertises_wish told place wished work).failed ≡ false
       → EndMends plan place a (advertises_wish told place wished work).work.edge
-  idle is None wished none = stayed (mended_by plan a place false (nat_eq a.next_label numbers_end) (Idle false) (ap (λ (o : Option Told). is_some o) wished) refl is)
+  idle is None wished none = stayed (mended_by plan a place None (nat_eq a.next_label numbers_end) (Idle false) wished refl is)
   idle is (Some content) wished none = by (nat_eq a.next_label numbers_end) refl none where
     begun : Work
     begun = changes (advertising place a.next_label content) work
@@ -465,12 +500,12 @@ end_mends plan told place work = of (end_at work.edge place).local refl where
 
     by : (b : Bool) → nat_eq a.next_label numbers_end ≡ b → (cond b (stays work) (says told place.peer message begun)).failed ≡ false
         → EndMends plan place a (cond b (stays work) (says told place.peer message begun)).work.edge
-    by true left none = stayed (mended_by plan a place true true (Idle false) (ap (λ (o : Option Told). is_some o) wished) left is)
+    by true left none = stayed (mended_by plan a place (Some content) true (Idle false) wished left is)
     by false left none = advertises_it content is wished left (says told place.peer message begun) (says_spoken told place.peer message begun none)
 
-  told_it : (label : ℕ) (content : Told) → (end_at a place).local ≡ Advertised label content → (wished : Option Told) → wish plan a place ≡ wished → (withdraws_unless told place label content wished work).failed ≡ false
-      → EndMends plan place a (withdraws_unless told place label content wished work).work.edge
-  told_it label content is None wished none = after (says told place.peer message begun) (says_spoken told place.peer message begun none) where
+  told_it : (label : ℕ) (content : Told) → (end_at a place).local ≡ Advertised label content → (b : Bool) → stands place content (wish plan a place) ≡ b
+      → (cond b (stays work) (withdraws told place label content work)).failed ≡ false → EndMends plan place a (cond b (stays work) (withdraws told place label content work)).work.edge
+  told_it label content is false changed none = after (says told place.peer message begun) (says_spoken told place.peer message begun none) where
     begun : Work
     begun = changes (withdrawing place) work
 
@@ -482,24 +517,24 @@ end_mends plan told place work = of (end_at work.edge place).local refl where
         let end : EndState = withdrawn (end_at a place) in
         record {
           step = changed_step place end a.next_label a said.work.edge refl (λ left. left) spoken;
-          mended = mended_by plan said.work.edge place (is_some (wish plan said.work.edge place)) (nat_eq said.work.edge.next_label numbers_end) (Withdrawing label) refl refl
+          mended = mended_by plan said.work.edge place (wish plan said.work.edge place) (nat_eq said.work.edge.next_label numbers_end) (Withdrawing label) refl refl
               (ap (λ (e : EndState). e.local) (changed_end place end a.next_label a said.work.edge spoken) ∙ ap (λ (l : LocalPart). (withdrawn (record { local = l; remote = (end_at a place).remote })).local) is);
         }
-  told_it label content is (Some wished) same none =
-      stayed (mended_by plan a place true (nat_eq a.next_label numbers_end) (Advertised label content) (ap (λ (o : Option Told). is_some o) same) refl is)
+  told_it label content is true still none =
+      stayed (mended_by plan a place (wish plan a place) (nat_eq a.next_label numbers_end) (Advertised label content) refl refl is ∙ still)
 
   of : (local : LocalPart) → (end_at a place).local ≡ local → (mends_local plan told place local work).failed ≡ false → EndMends plan place a (mends_local plan told place local work).work.edge
-  of (Idle true) is none = stayed (mended_by plan a place (is_some (wish plan a place)) (nat_eq a.next_label numbers_end) (Idle true) refl refl is)
+  of (Idle true) is none = stayed (mended_by plan a place (wish plan a place) (nat_eq a.next_label numbers_end) (Idle true) refl refl is)
   of (Idle false) is none = idle is (wish plan a place) refl none
-  of (Advertised label content) is none = told_it label content is (wish plan a place) refl none
-  of (Withdrawing label) is none = stayed (mended_by plan a place (is_some (wish plan a place)) (nat_eq a.next_label numbers_end) (Withdrawing label) refl refl is)
+  of (Advertised label content) is none = told_it label content is (stands place content (wish plan a place)) refl none
+  of (Withdrawing label) is none = stayed (mended_by plan a place (wish plan a place) (nat_eq a.next_label numbers_end) (Withdrawing label) refl refl is)
 
 -- ---- a status is told
 
 record EndTells (plan : Plan) (place : EndPlace) (old new : EdgeState) : Type 0 where
   step : EndStep place old new
   -- it advertises as before
-  same : (wished none_left : Bool) → tells_wish wished none_left (end_at new place).local ≡ tells_wish wished none_left (end_at old place).local
+  same : (at : EndPlace) (wished : Option Told) (none_left : Bool) → tells_wish at wished none_left (end_at new place).local ≡ tells_wish at wished none_left (end_at old place).local
   -- and forwards as before in each role
   downs : (role : EndRole) (bits : ℕ) → down role bits (end_at new place) ≡ down role bits (end_at old place)
   told : is_told plan new place ≡ true
@@ -514,7 +549,7 @@ end_tells plan told place work = of (end_at work.edge place).local refl where
   status = status_to_tell plan a place
 
   stayed : is_told plan a place ≡ true → EndTells plan place a a
-  stayed now = record { step = step_not place a; same = λ wished none_left. refl; downs = λ role bits. refl; told = now }
+  stayed now = record { step = step_not place a; same = λ at wished none_left. refl; downs = λ role bits. refl; told = now }
 
   after : (label : ℕ) (content : Told) → (end_at a place).local ≡ Advertised label content → (said : Spoken) → IsSpoken (telling_status place status a) said.work.edge → EndTells plan place a said.work.edge
   after label content is said spoken =
@@ -524,7 +559,7 @@ end_tells plan told place work = of (end_at work.edge place).local refl where
       ap (λ (e : EndState). e.local) (changed_end place end a.next_label a said.work.edge spoken) ∙ ap (λ (l : LocalPart). (telling status (record { local = l; remote = (end_at a place).remote })).local) is in
       record {
         step = step;
-        same = λ wished none_left. ap (tells_wish wished none_left) there ∙ ap (tells_wish wished none_left) (sym is);
+        same = λ at wished none_left. ap (tells_wish at wished none_left) there ∙ (stands_alike at content status wished ∙ ap (tells_wish at wished none_left) (sym is));
         downs = λ role bits. ap (down role bits) (changed_end place end a.next_label a said.work.edge spoken) ∙ telling_down role bits status (end_at a place);
         told = ap (λ (l : LocalPart). tells_now (status_to_tell plan said.work.edge place).0 l) there
             ∙ (ap (λ (s : PwStatus). nat_eq status.0 s.0) (status_steady plan a said.work.edge place step.steady) ∙ eq-eqb status.0 status.0 refl);
@@ -561,25 +596,28 @@ mended_like plan edge p q w k t =
     ap (λ (n : ℕ). is_mended plan edge (like n p.peer.0 p.terminal)) w
     ∙ (ap (λ (n : ℕ). is_mended plan edge (like q.wire.0 n p.terminal)) k ∙ ap (λ (b : Bool). is_mended plan edge (like q.wire.0 q.peer.0 b)) t)
 
-told_like : (plan : Plan) (edge : EdgeState) (p q : EndPlace) → p.wire.0 ≡ q.wire.0 → p.peer.0 ≡ q.peer.0 → is_told plan edge p ≡ is_told plan edge q
-told_like plan edge p q w k = ap (λ (n : ℕ). is_told plan edge (like n p.peer.0 false)) w ∙ ap (λ (n : ℕ). is_told plan edge (like q.wire.0 n false)) k
+told_like : (plan : Plan) (edge : EdgeState) (p q : EndPlace) → p.wire.0 ≡ q.wire.0 → p.peer.0 ≡ q.peer.0 → p.terminal ≡ q.terminal → is_told plan edge p ≡ is_told plan edge q
+told_like plan edge p q w k t =
+    ap (λ (n : ℕ). is_told plan edge (like n p.peer.0 p.terminal)) w
+    ∙ (ap (λ (n : ℕ). is_told plan edge (like q.wire.0 n p.terminal)) k ∙ ap (λ (b : Bool). is_told plan edge (like q.wire.0 q.peer.0 b)) t)
 
 -- fewer labels are left
-fewer : (wished none_left then_none : Bool) (local : LocalPart) → (none_left ≡ true → then_none ≡ true) → tells_wish wished none_left local ≡ true → tells_wish wished then_none local ≡ true
-fewer wished none_left then_none (Idle true) left is = refl
-fewer false none_left then_none (Idle false) left is = refl
-fewer true none_left then_none (Idle false) left is = left is
-fewer wished none_left then_none (Advertised label content) left is = is
-fewer wished none_left then_none (Withdrawing label) left is = refl
+fewer : (place : EndPlace) (wished : Option Told) (none_left then_none : Bool) (local : LocalPart) → (none_left ≡ true → then_none ≡ true) → tells_wish place wished none_left local ≡ true
+    → tells_wish place wished then_none local ≡ true
+fewer place wished none_left then_none (Idle true) left is = refl
+fewer place None none_left then_none (Idle false) left is = refl
+fewer place (Some content) none_left then_none (Idle false) left is = left is
+fewer place wished none_left then_none (Advertised label content) left is = is
+fewer place wished none_left then_none (Withdrawing label) left is = refl
 
 -- where the end tells as before, it stays mended
 mended_still : (plan : Plan) (place : EndPlace) (old new : EdgeState) → IsSteady old new → (nat_eq old.next_label numbers_end ≡ true → nat_eq new.next_label numbers_end ≡ true)
-    → ((wished none_left : Bool) → tells_wish wished none_left (end_at new place).local ≡ tells_wish wished none_left (end_at old place).local)
+    → ((wished : Option Told) (none_left : Bool) → tells_wish place wished none_left (end_at new place).local ≡ tells_wish place wished none_left (end_at old place).local)
     → is_mended plan old place ≡ true → is_mended plan new place ≡ true
 mended_still plan place old new steady left same is =
-    ap (λ (o : Option Told). tells_wish (is_some o) (nat_eq new.next_label numbers_end) (end_at new place).local) (wish_steady plan old new place steady)
-    ∙ (same (is_some (wish plan old place)) (nat_eq new.next_label numbers_end)
-    ∙ fewer (is_some (wish plan old place)) (nat_eq old.next_label numbers_end) (nat_eq new.next_label numbers_end) (end_at old place).local left is)
+    ap (λ (o : Option Told). tells_wish place o (nat_eq new.next_label numbers_end) (end_at new place).local) (wish_steady plan old new place steady)
+    ∙ (same (wish plan old place) (nat_eq new.next_label numbers_end)
+    ∙ fewer place (wish plan old place) (nat_eq old.next_label numbers_end) (nat_eq new.next_label numbers_end) (end_at old place).local left is)
 
 and_first : (a b : Bool) → a && b ≡ true → a ≡ true
 and_first true b e = refl
@@ -597,7 +635,7 @@ mends_keeps plan p q old new mends side is = elim (cases_Bool (is_at q p.wire.0 
       mended_like plan new p q w k (side w) ∙ mends.mended)
   | inr apart ↦
       mended_still plan p old new mends.step.steady mends.step.labels
-      (λ wished none_left. ap (λ (e : EndState). tells_wish wished none_left e.local) (mends.step.others p.wire.0 p.peer.0 apart)) is
+      (λ wished none_left. ap (λ (e : EndState). tells_wish p wished none_left e.local) (mends.step.others p.wire.0 p.peer.0 apart)) is
 ]
 
 tells_keeps_mended : (plan : Plan) (p q : EndPlace) (old new : EdgeState) → EndTells plan q old new → is_mended plan old p ≡ true → is_mended plan new p ≡ true
@@ -605,21 +643,22 @@ tells_keeps_mended plan p q old new tells is = mended_still plan p old new tells
   end_like : (edge : EdgeState) → p.wire.0 ≡ q.wire.0 → p.peer.0 ≡ q.peer.0 → end_at edge p ≡ end_at edge q
   end_like edge w k = ap (λ (n : ℕ). edge.ends n p.peer.0) w ∙ ap (edge.ends q.wire.0) k
 
-  same : (wished none_left : Bool) → tells_wish wished none_left (end_at new p).local ≡ tells_wish wished none_left (end_at old p).local
+  same : (wished : Option Told) (none_left : Bool) → tells_wish p wished none_left (end_at new p).local ≡ tells_wish p wished none_left (end_at old p).local
   same wished none_left = elim (cases_Bool (is_at q p.wire.0 p.peer.0)) [
     | inl here ↦
         (let w : p.wire.0 ≡ q.wire.0 = eqb-true p.wire.0 q.wire.0 (and_first (nat_eq p.wire.0 q.wire.0) (nat_eq p.peer.0 q.peer.0) here) in
         let k : p.peer.0 ≡ q.peer.0 = eqb-true p.peer.0 q.peer.0 (and_second (nat_eq p.wire.0 q.wire.0) (nat_eq p.peer.0 q.peer.0) here) in
-        ap (λ (e : EndState). tells_wish wished none_left e.local) (end_like new w k)
-        ∙ (tells.same wished none_left ∙ ap (λ (e : EndState). tells_wish wished none_left e.local) (sym (end_like old w k))))
-    | inr apart ↦ ap (λ (e : EndState). tells_wish wished none_left e.local) (tells.step.others p.wire.0 p.peer.0 apart)
+        ap (λ (e : EndState). tells_wish p wished none_left e.local) (end_like new w k)
+        ∙ (tells.same p wished none_left ∙ ap (λ (e : EndState). tells_wish p wished none_left e.local) (sym (end_like old w k))))
+    | inr apart ↦ ap (λ (e : EndState). tells_wish p wished none_left e.local) (tells.step.others p.wire.0 p.peer.0 apart)
   ]
 
-tells_keeps_told : (plan : Plan) (p q : EndPlace) (old new : EdgeState) → EndTells plan q old new → is_told plan old p ≡ true → is_told plan new p ≡ true
-tells_keeps_told plan p q old new tells is = elim (cases_Bool (is_at q p.wire.0 p.peer.0)) [
+tells_keeps_told : (plan : Plan) (p q : EndPlace) (old new : EdgeState) → EndTells plan q old new → (p.wire.0 ≡ q.wire.0 → p.terminal ≡ q.terminal) → is_told plan old p ≡ true → is_told plan new p ≡ true
+tells_keeps_told plan p q old new tells side is = elim (cases_Bool (is_at q p.wire.0 p.peer.0)) [
   | inl here ↦
-      told_like plan new p q (eqb-true p.wire.0 q.wire.0 (and_first (nat_eq p.wire.0 q.wire.0) (nat_eq p.peer.0 q.peer.0) here))
-      (eqb-true p.peer.0 q.peer.0 (and_second (nat_eq p.wire.0 q.wire.0) (nat_eq p.peer.0 q.peer.0) here)) ∙ tells.told
+      (let w : p.wire.0 ≡ q.wire.0 = eqb-true p.wire.0 q.wire.0 (and_first (nat_eq p.wire.0 q.wire.0) (nat_eq p.peer.0 q.peer.0) here) in
+      let k : p.peer.0 ≡ q.peer.0 = eqb-true p.peer.0 q.peer.0 (and_second (nat_eq p.wire.0 q.wire.0) (nat_eq p.peer.0 q.peer.0) here) in
+      told_like plan new p q w k (side w) ∙ tells.told)
   | inr apart ↦
       ap (λ (s : PwStatus). tells_now s.0 (end_at new p).local) (status_steady plan old new p tells.step.steady)
       ∙ (ap (λ (e : EndState). tells_now (status_to_tell plan old p).0 e.local) (tells.step.others p.wire.0 p.peer.0 apart) ∙ is)
@@ -692,7 +731,7 @@ spoken_steady old new spoken = record {
 spoken_mended : (plan : Plan) (p : EndPlace) (old new : EdgeState) → IsSpoken old new → is_mended plan old p ≡ true → is_mended plan new p ≡ true
 spoken_mended plan p old new spoken is =
     mended_still plan p old new (spoken_steady old new spoken) (λ none. ap (λ (n : ℕ). nat_eq n numbers_end) spoken.labels ∙ none)
-    (λ wished none_left. ap (λ (ends : ℕ → ℕ → EndState). tells_wish wished none_left (ends p.wire.0 p.peer.0).local) spoken.ends) is
+    (λ wished none_left. ap (λ (ends : ℕ → ℕ → EndState). tells_wish p wished none_left (ends p.wire.0 p.peer.0).local) spoken.ends) is
 
 spoken_told : (plan : Plan) (p : EndPlace) (old new : EdgeState) → IsSpoken old new → is_told plan old p ≡ true → is_told plan new p ≡ true
 spoken_told plan p old new spoken is =
@@ -754,7 +793,7 @@ module _ (plan : Plan) (told : Answers) (me : EdgeId) where
       mended = λ p is. tells_keeps_mended plan p q work.edge (mends_status plan told q work).work.edge (end_tells plan told q work none) (stays.mended p is);
     };
     makes = λ q work here none stays. (end_tells plan told q work none).told;
-    keeps = λ p q work one other none stays is. tells_keeps_told plan p q work.edge (mends_status plan told q work).work.edge (end_tells plan told q work none) is;
+    keeps = λ p q work one other none stays is. tells_keeps_told plan p q work.edge (mends_status plan told q work).work.edge (end_tells plan told q work none) (λ w. same_side plan me p q one other w) is;
   }
 
 -- ---- the edge chooses
@@ -763,10 +802,11 @@ module _ (plan : Plan) (told : Answers) (me : EdgeId) where
 wish_there : (plan : Plan) (chosen : ℕ → Option WireId) (edge : EdgeState) (place : EndPlace) → is_some (wish plan (with_chosen chosen edge) place) ≡ is_some (wish plan edge place)
 unfolding with_chosen
 wish_there plan chosen edge place = of (wire_row plan place.wire) where
-  there : (up tells : Bool) (one other : Told) → is_some (cond up (cond tells (Some one) None) None) ≡ is_some (cond up (cond tells (Some other) None) None)
-  there true true one other = refl
-  there true false one other = refl
-  there false tells one other = refl
+  there : (up terminal tells : Bool) (one other : Told) (passed : Option Told) → is_some (cond up (cond terminal (cond tells (Some one) None) passed) None) ≡ is_some (cond up (cond terminal (cond tells (Some other) None) passed) None)
+  there true true true one other passed = refl
+  there true true false one other passed = refl
+  there true false tells one other passed = refl
+  there false terminal tells one other passed = refl
 
   content : EdgeState → WirePlan → Told
   content e row = content_of (offer_of row e.me.0) (status_offered plan e place (offer_of row e.me.0))
@@ -774,16 +814,49 @@ wish_there plan chosen edge place = of (wire_row plan place.wire) where
   of : (row : Option WirePlan) → is_some (wish_of plan (with_chosen chosen edge) place row) ≡ is_some (wish_of plan edge place row)
   of None = refl
   of (Some row) =
-      there ((edge.wire_on place.wire.0 && is_up_with (edge.peering place.peer.0)) && place.terminal)
+      there (edge.wire_on place.wire.0 && is_up_with (edge.peering place.peer.0)) place.terminal
       (tells_status (method_by (offer_of row edge.me.0).status (status_held (end_at edge place).remote)) || nat_eq (edge.bits place.wire.0) 0)
       (content (with_chosen chosen edge) row) (content edge row)
+      (passed_wish plan edge place row)
+
+-- nor of what a switching point should tell
+wish_passed_there : (plan : Plan) (chosen : ℕ → Option WireId) (edge : EdgeState) (place : EndPlace) → place.terminal ≡ false → wish plan (with_chosen chosen edge) place ≡ wish plan edge place
+unfolding with_chosen
+wish_passed_there plan chosen edge place switching = of (wire_row plan place.wire) where
+  passes_on : (up : Bool) (one passed : Option Told) → cond up (cond place.terminal one passed) None ≡ cond up passed None
+  passes_on up one passed = ap (λ (b : Bool). cond up (cond b one passed) None) switching
+
+  of : (row : Option WirePlan) → wish_of plan (with_chosen chosen edge) place row ≡ wish_of plan edge place row
+  of None = refl
+  of (Some row) =
+      let up : Bool = edge.wire_on place.wire.0 && is_up_with (edge.peering place.peer.0) in
+      passes_on up (terminal_wish plan (with_chosen chosen edge) place (offer_of row edge.me.0)) (passed_wish plan edge place row)
+      ∙ sym (passes_on up (terminal_wish plan edge place (offer_of row edge.me.0)) (passed_wish plan edge place row))
+
+-- a terminal end is mended by whether it should tell something
+tells_some : (place : EndPlace) → place.terminal ≡ true → (one other : Option Told) (none_left : Bool) (local : LocalPart) → is_some one ≡ is_some other
+    → tells_wish place one none_left local ≡ tells_wish place other none_left local
+tells_some place terminal one other none_left (Idle declined) same = ap (λ (b : Bool). declined || (not b || none_left)) same
+tells_some place terminal None None none_left (Advertised label content) same = refl
+tells_some place terminal None (Some b) none_left (Advertised label content) same = absurd (cc (same))
+tells_some place terminal (Some a) None none_left (Advertised label content) same = absurd (cc (same))
+tells_some place terminal (Some a) (Some b) none_left (Advertised label content) same =
+    ap (λ (t : Bool). t || is_same_but_status content a) terminal ∙ sym (ap (λ (t : Bool). t || is_same_but_status content b) terminal)
+tells_some place terminal one other none_left (Withdrawing label) same = refl
 
 -- so an end that was mended is once the edge has chosen
 choosing_mended : (plan : Plan) (place : EndPlace) (work : Work) → is_mended plan work.edge place ≡ true → is_mended plan (changes (choosing plan) work).edge place ≡ true
 unfolding changes with_chosen
-choosing_mended plan place work is =
-    let next : EdgeState = (changes (choosing plan) work).edge in
-    ap (λ (wished : Bool). tells_wish wished (nat_eq next.next_label numbers_end) (end_at next place).local) (wish_there plan next.chosen work.edge place) ∙ is
+choosing_mended plan place work is = by place.terminal refl where
+  next : EdgeState
+  next = (changes (choosing plan) work).edge
+
+  none_left : Bool
+  none_left = nat_eq next.next_label numbers_end
+
+  by : (terminal : Bool) → place.terminal ≡ terminal → is_mended plan next place ≡ true
+  by true terminal = tells_some place terminal (wish plan next place) (wish plan work.edge place) none_left (end_at next place).local (wish_there plan next.chosen work.edge place) ∙ is
+  by false switching = ap (λ (o : Option Told). tells_wish place o none_left (end_at next place).local) (wish_passed_there plan next.chosen work.edge place switching) ∙ is
 
 -- it is the same edge
 choosing_me : (plan : Plan) (work : Work) → (changes (choosing plan) work).edge.me ≡ work.edge.me

@@ -44,6 +44,7 @@ use Rattle.edge_model.proofs.MendLemmas.{says_nothing, says_taken}
 use Rattle.edge_model.proofs.PlaceLemmas.{all-append, all-map}
 use Rattle.edge_model.proofs.SessionLemmas.{IsBesides, says_works}
 use Rattle.edge_model.proofs.SyncLemmas.{wire_end_is}
+use Rattle.edge_model.specs.Across.{end_beyond}
 
 -- ---- a session that stands stood before
 
@@ -483,7 +484,7 @@ hears_is : (plan : Plan) (told : Answers) (peer : EdgeId) (fec : PwFec) (address
 unfolding changes with_addresses
 hears_is plan told peer fec addresses service from work comes =
     ap (λ (o : Option EndPlace). clears_by plan told addresses o work) comes.named
-    ∙ (ap (λ (b : Bool). cond b (clears_wire plan told addresses comes.place (wire_row plan comes.place.wire) work) work) comes.terminal
+    ∙ (ap (λ (b : Bool). cond b (clears_wire plan told addresses comes.place (wire_row plan comes.place.wire) work) (tells_by told addresses (end_beyond plan work.edge.me comes.place) work)) comes.terminal
     ∙ (ap (λ (o : Option WirePlan). clears_wire plan told addresses comes.place o work) comes.is
     ∙ (ap (λ (o : Option ℕ). clears_at plan told addresses comes.row.service o work) comes.found
     ∙ (ap (λ (s : ServiceId). clears_at plan told addresses s (Some from) work) comes.of_service

@@ -33,7 +33,7 @@ use Rattle.edge_model.specs.declared.end_place.EndPlace.{EndPlace}
 use Rattle.edge_model.specs.EndPlaces.{end_named, ends_here, passes}
 use Rattle.edge_model.specs.Frame.{is_own}
 use Rattle.edge_model.specs.Hear.{acts_on, hears, hears_message, hears_messages, hears_on, hears_one, hears_pdu, octets_input}
-use Rattle.edge_model.specs.Mend.{advertises, advertises_wish, advertising, and_says, cause_number, each_end, forgets_downs, forgetting_wire, is_new_choice, mends, mends_choice, mends_end, mends_local, mends_once, mends_status, mends_status_of, tells_down, tells_downs, tells_new_status, tells_over, telling_status, wish, withdrawing, withdraws, withdraws_unless}
+use Rattle.edge_model.specs.Mend.{advertises, advertises_wish, advertising, and_says, cause_number, each_end, forgets_downs, forgetting_wire, is_new_choice, mends, mends_choice, mends_end, mends_local, mends_once, mends_status, mends_status_of, tells_down, tells_downs, tells_new_status, tells_over, telling_status, wish, withdrawing, withdraws, withdraws_unless, stands}
 use Rattle.edge_model.specs.Put.{Spoken, put_reply, stays}
 use Rattle.edge_model.specs.Role.{down_at, status_to_tell}
 use Rattle.edge_model.specs.Session.{had_said, happens_with_ends, says}
@@ -200,8 +200,10 @@ advertises_wish_signals told place None work = signals_not work
 advertises_wish_signals told place (Some content) work = advertises_end_signals told place content work
 
 pub withdraws_unless_signals : (told : Answers) (place : EndPlace) (label : ℕ) (content : Told) (wished : Option Told) (work : Work) → IsSignalWork work (withdraws_unless told place label content wished work).work
-withdraws_unless_signals told place label content None work = withdraws_signals told place label content work
-withdraws_unless_signals told place label content (Some wished) work = signals_not work
+withdraws_unless_signals told place label content wished work = by (stands place content wished) where
+  by : (b : Bool) → IsSignalWork work (cond b (stays work) (withdraws told place label content work)).work
+  by true = signals_not work
+  by false = withdraws_signals told place label content work
 
 pub mends_local_signals : (plan : Plan) (told : Answers) (place : EndPlace) (local : LocalPart) (work : Work) → IsSignalWork work (mends_local plan told place local work).work
 mends_local_signals plan told place (Idle true) work = signals_not work
@@ -295,7 +297,7 @@ hear_signals plan told = record {
   advises = λ peer reply work. session_signals work (had_said peer (put_reply told peer reply work)).work (advice_works told any peer reply work refl);
   holds = λ peer kept octets work is. changes_signals (with_peering peer (Some (record kept { held = octets }))) work (held_signals peer (Some (record kept { held = octets })) work.edge);
   releases = λ peer fec label work. says_signals told peer (release fec label) work;
-  binds = λ peer fec place binding work there is. changes_signals (with_end_changed (bound binding) (Some place)) work (changed_signals (bound binding) (Some place) work.edge);
+  binds = λ peer fec place binding work there is taken. changes_signals (with_end_changed (bound binding) (Some place)) work (changed_signals (bound binding) (Some place) work.edge);
   unbinds = λ peer fec label work there.
       changes_signals (with_named plan peer fec (unbound label) (group_unbound fec.group) fec.pw_id) work (named_signals plan peer fec (unbound label) (group_unbound fec.group) fec.pw_id work.edge);
   released = λ peer fec label work there.

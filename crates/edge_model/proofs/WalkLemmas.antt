@@ -1,6 +1,6 @@
 -- Walks over all that an edge does: what holds of no work, of two works in turn and of each single step, holds of the whole. A fact
 -- of two moments of an edge so owes its single steps alone.
-use Rattle.std.proofs.Common.{◌≡◌, ◌+◌, ◌++◌, ◌&&◌, ◌∙◌, ◌-◌, ℕ, zero, suc, Bool, true, false, List, [], ◌∷◌, Option, Some, None, Result, Ok, Err, cond, refl, sym, ap, nat_eq, nat_lt, append_assoc, not, length, slice_get}
+use Rattle.std.proofs.Common.{◌≡◌, ◌+◌, ◌++◌, ◌&&◌, ◌∙◌, ◌-◌, ℕ, zero, suc, Bool, true, false, List, [], ◌∷◌, Option, Some, None, Result, Ok, Err, cond, refl, sym, ap, nat_eq, nat_lt, append_assoc, not, length, slice_get, option_and_then, subst}
 use Rattle.net_base.specs.declared.plan.Plan.{Plan}
 use Rattle.net_base.specs.declared.plan.edge_plan.EdgePlan.{EdgePlan}
 use Rattle.net_base.specs.declared.plan.circuit_plan.CircuitPlan.{CircuitPlan}
@@ -45,7 +45,7 @@ use Rattle.pw_signalling.specs.Rows.{bound, group_stated, group_unbound, stated,
 use Rattle.label_space.specs.Labels.{numbers_end}
 use Rattle.pw_tlvs.specs.declared.pw_status.PwStatus.{PwStatus}
 use Rattle.pw_signalling.specs.declared.told.Told.{Told}
-use Rattle.pw_signalling.specs.End.{LocalPart, Idle, Advertised, Withdrawing}
+use Rattle.pw_signalling.specs.End.{EndState, LocalPart, Idle, Advertised, Withdrawing}
 use Rattle.edge_model.specs.declared.effect.Effect.TheVariants as effect
 use Rattle.edge_model.specs.declared.end_place.EndPlace.{EndPlace}
 use Rattle.edge_model.specs.Content.{binding_in, mac_withdrawal, mapping, pw_status_code, status_notification, withdrawal}
@@ -54,21 +54,22 @@ use Rattle.edge_model.specs.Clear.{clears_at, clears_by, clears_wire, hears_mac_
 use Rattle.edge_model.specs.Connection.{connected_input, connects_between, lost_input, opened_with, restart_input}
 use Rattle.edge_model.specs.declared.input.Input.{Input}
 use Rattle.edge_model.specs.declared.input.Input.TheVariants.{Connected, Octets, Lost, Restart, Tick, Frame, Packet, Wire, Circuit, Status, Priority, Ping}
-use Rattle.edge_model.specs.EndPlaces.{end_places, ends_here, passes}
+use Rattle.edge_model.specs.EndPlaces.{end_named, end_places, ends_here, passes}
 use Rattle.pw_stitch.specs.declared.swap_drop.SwapDrop.{SwapDrop}
 use Rattle.pw_stitch.specs.Drop.{dropped_for}
 use Rattle.pw_stitch.specs.Relabelling.{relabelled}
 use Rattle.pw_stitch.specs.Swap.{label_onward}
+use Rattle.edge_model.specs.Across.{end_beyond}
 use Rattle.edge_model.specs.Ends.{is_up, wire_end}
 use Rattle.edge_model.specs.Frame.{copies, copy_by, frame_input, hearing, is_own, port_at, received, targets_of}
 use Rattle.edge_model.specs.Hear.{acts, acts_on, advice_of, advises, hears, hears_few, hears_front, hears_message, hears_messages, hears_on, hears_one, hears_pdu, hears_within, holds, octets_input, was_up}
-use Rattle.edge_model.specs.Mend.{advertises, advertises_wish, advertising, and_says, cause_number, each_end, forgets_down, forgets_downs, forgetting_wire, is_new_choice, mends, mends_choice, mends_end, mends_few, mends_local, mends_once, mends_status, mends_status_of, port_of_wire, tells_down, tells_downs, tells_new_status, tells_over, telling_status, then_changes, wish, withdrawing, withdraws, withdraws_unless}
+use Rattle.edge_model.specs.Mend.{advertises, advertises_wish, advertising, and_says, cause_number, each_end, forgets_down, forgets_downs, forgetting_wire, is_new_choice, mends, mends_choice, mends_end, mends_few, mends_local, mends_once, mends_status, mends_status_of, port_of_wire, tells_down, tells_downs, tells_new_status, tells_over, telling_status, then_changes, wish, stands, withdrawing, withdraws, withdraws_unless}
 use Rattle.edge_model.specs.Packet.{switched_by, switched_to, switched_under, towards, advertiser, alerted, alerts_end, behind_entry, bridges_frame, by_offer, enters, is_alert, is_channel, labelled, least_label, opened_by, owned, packet_input, switched, terminated, unpacked_at}
 use Rattle.edge_model.specs.Put.{Spoken, put_reply, stays}
 use Rattle.edge_model.specs.Role.{down_at, status_to_tell}
 use Rattle.edge_model.specs.Send.{drops, packet_of, sends, sends_copy, sends_under}
 use Rattle.edge_model.specs.Session.{had_said, happens_with_ends, says}
-use Rattle.edge_model.specs.Signal.{end_of_fec, hears_mapping, hears_release, hears_status, hears_withdraw, maps_to, releases_label, with_end_changed, with_named}
+use Rattle.edge_model.specs.Signal.{end_of_fec, hears_mapping, hears_release, hears_status, hears_withdraw, maps_to, releases_label, takes_content, with_end_changed, with_named}
 use Rattle.edge_model.specs.Spokes.{choosing}
 use Rattle.edge_model.specs.State.{EdgeState, Peering, end_at, has_end, is_on, with_addresses, with_bits, with_chosen, with_end, with_next_label, with_peering, with_priority, with_told_down}
 use Rattle.edge_model.specs.Step.{edge_step}
@@ -96,7 +97,7 @@ pub record MendSteps (plan : Plan) (told : Answers) (R : Work → Work → Type 
       → R work (says told place.peer (mapping place.pw_id work.edge.next_label content) (changes (advertising place work.edge.next_label content) work)).work
   -- one is withdrawn
   pub withdraws : (place : EndPlace) (label : ℕ) (content : Told) (work : Work) → IsEndAt plan work.edge.me place
-      → (end_at work.edge place).local ≡ Advertised label content → wish plan work.edge place ≡ None
+      → (end_at work.edge place).local ≡ Advertised label content → stands place content (wish plan work.edge place) ≡ false
       → R work (withdraws told place label content work).work
   -- the edge chooses among its spokes
   pub chooses : (work : Work) → R work (changes (choosing plan) work)
@@ -157,11 +158,13 @@ module _ (plan : Plan) (told : Answers) (R : Work → Work → Type 0) (steps : 
   withdraws_walks : (place : EndPlace) (label : ℕ) (content : Told) (wished : Option Told) (work : Work) → IsEndAt plan work.edge.me place
       → (end_at work.edge place).local ≡ Advertised label content → wish plan work.edge place ≡ wished → Walks R work (withdraws_unless told place label content wished work).work
   unfolding changes with_end
-  withdraws_walks place label content None work here told_it is = record {
-    holds = steps.withdraws place label content work here told_it is;
-    me = (says_works told any place.peer (withdrawal place.pw_id label content) (changes (withdrawing place) work) refl).edge.me;
-  }
-  withdraws_walks place label content (Some wished) work here told_it is = walks_not steps work
+  withdraws_walks place label content wished work here told_it is = by (stands place content wished) refl where
+    by : (b : Bool) → stands place content wished ≡ b → Walks R work (cond b (stays work) (withdraws told place label content work)).work
+    by true still = walks_not steps work
+    by false changed = record {
+      holds = steps.withdraws place label content work here told_it (ap (stands place content) is ∙ changed);
+      me = (says_works told any place.peer (withdrawal place.pw_id label content) (changes (withdrawing place) work) refl).edge.me;
+    }
 
   mends_local_walks : (place : EndPlace) (local : LocalPart) (work : Work) → IsEndAt plan work.edge.me place → (end_at work.edge place).local ≡ local → Walks R work (mends_local plan told place local work).work
   mends_local_walks place (Idle true) work here is = walks_not steps work
@@ -325,7 +328,7 @@ pub record HearSteps (plan : Plan) (told : Answers) (R : Work → Work → Type 
   -- the rows of messages about pseudowires, in a session that stands
   pub releases : (peer : EdgeId) (fec : PwFec) (label : Option ℕ) (work : Work) → R work (releases_label told peer fec label work)
   pub binds : (peer : EdgeId) (fec : PwFec) (place : EndPlace) (binding : Binding) (work : Work) → has_end work.edge peer ≡ true → end_of_fec plan work.edge peer fec ≡ Some place
-      → R work (changes (with_end_changed (bound binding) (Some place)) work)
+      → takes_content plan work.edge.me place binding.told ≡ true → R work (changes (with_end_changed (bound binding) (Some place)) work)
   pub unbinds : (peer : EdgeId) (fec : PwFec) (label : Option ℕ) (work : Work) → has_end work.edge peer ≡ true
       → R work (changes (with_named plan peer fec (unbound label) (group_unbound fec.group) fec.pw_id) work)
   pub released : (peer : EdgeId) (fec : PwFec) (label : Option ℕ) (work : Work) → has_end work.edge peer ≡ true → R work (hears_release plan peer fec label work)
@@ -334,6 +337,14 @@ pub record HearSteps (plan : Plan) (told : Answers) (R : Work → Work → Type 
   -- what a MAC withdraw by a port names is forgotten
   pub clears : (service : ServiceId) (addresses : List Mac) (from : ℕ) (work : Work) → R work (changes (withdrawing_at service addresses from) work)
 
+-- an end that is named by its PW ID is changed alone
+pub named_alone : (plan : Plan) (peer : EdgeId) (fec : PwFec) (place : EndPlace) (one all : EndState → EndState) (edge : EdgeState) → end_of_fec plan edge peer fec ≡ Some place
+    → with_named plan peer fec one all fec.pw_id edge ≡ with_end_changed one (Some place) edge
+named_alone plan peer fec place one all edge is = by fec.pw_id is where
+  by : (pw_id : Option ℕ) → option_and_then (end_named plan edge.me peer) pw_id ≡ Some place → with_named plan peer fec one all pw_id edge ≡ with_end_changed one (Some place) edge
+  by None none = absurd (cc (none))
+  by (Some pw_id) found = ap (λ (o : Option EndPlace). with_end_changed one o edge) found
+
 module _ (plan : Plan) (told : Answers) (R : Work → Work → Type 0) (steps : HearSteps plan told R) where
   pub advises_holds : (peer : EdgeId) (advice : Option Reply) (work : Work) → R work (advises told peer advice work)
   advises_holds peer None work = steps.mend.same work
@@ -341,14 +352,27 @@ module _ (plan : Plan) (told : Answers) (R : Work → Work → Type 0) (steps : 
 
   -- ---- the rows
 
-  maps_to_holds : (peer : EdgeId) (fec : PwFec) (label : ℕ) (status : Option PwStatus) (points : List Point) (place : Option EndPlace) (work : Work)
-      → has_end work.edge peer ≡ true → end_of_fec plan work.edge peer fec ≡ place → R work (maps_to told peer fec label status points place work)
-  maps_to_holds peer fec label status points None work there is = steps.releases peer fec (Some label) work
-  maps_to_holds peer fec label status points (Some place) work there is = steps.binds peer fec place (binding_in fec label status points) work there is
+  refuses_holds : (peer : EdgeId) (fec : PwFec) (place : EndPlace) (binding : Binding) (work : Work) → has_end work.edge peer ≡ true → end_of_fec plan work.edge peer fec ≡ Some place
+      → R work (releases_label told peer fec (Some binding.label) (changes (with_end_changed (unbound None) (Some place)) work))
+  unfolding changes
+  refuses_holds peer fec place binding work there is =
+      let gone : Work = changes (with_end_changed (unbound None) (Some place)) work in
+      steps.mend.joined work gone (releases_label told peer fec (Some binding.label) gone)
+      (subst (λ (edge : EdgeState). R work (record work { edge = edge })) (named_alone plan peer fec place (unbound None) (group_unbound fec.group) work.edge is) (steps.unbinds peer fec None work there))
+      (steps.releases peer fec (Some binding.label) gone)
+
+  maps_to_holds : (peer : EdgeId) (fec : PwFec) (binding : Binding) (place : Option EndPlace) (work : Work) → has_end work.edge peer ≡ true → end_of_fec plan work.edge peer fec ≡ place
+      → R work (maps_to plan told peer fec binding place work)
+  maps_to_holds peer fec binding None work there is = steps.releases peer fec (Some binding.label) work
+  maps_to_holds peer fec binding (Some place) work there is = by (takes_content plan work.edge.me place binding.told) refl where
+    by : (b : Bool) → takes_content plan work.edge.me place binding.told ≡ b
+        → R work (cond b (changes (with_end_changed (bound binding) (Some place)) work) (releases_label told peer fec (Some binding.label) (changes (with_end_changed (unbound None) (Some place)) work)))
+    by true taken = steps.binds peer fec place binding work there is taken
+    by false refused = refuses_holds peer fec place binding work there is
 
   pub hears_mapping_holds : (peer : EdgeId) (fec : PwFec) (label : ℕ) (status : Option PwStatus) (points : List Point) (work : Work)
       → has_end work.edge peer ≡ true → R work (hears_mapping plan told peer fec label status points work)
-  hears_mapping_holds peer fec label status points work there = maps_to_holds peer fec label status points (end_of_fec plan work.edge peer fec) work there refl
+  hears_mapping_holds peer fec label status points work there = maps_to_holds peer fec (binding_in fec label status points) (end_of_fec plan work.edge peer fec) work there refl
 
   pub hears_withdraw_holds : (peer : EdgeId) (fec : PwFec) (label : Option ℕ) (work : Work) → has_end work.edge peer ≡ true → R work (hears_withdraw plan told peer fec label work)
   hears_withdraw_holds peer fec label work there =
@@ -410,9 +434,9 @@ module _ (plan : Plan) (told : Answers) (R : Work → Work → Type 0) (steps : 
   clears_by_holds : (addresses : List Mac) (place : Option EndPlace) (work : Work) → R work (clears_by plan told addresses place work)
   clears_by_holds addresses None work = steps.mend.same work
   clears_by_holds addresses (Some place) work = by place.terminal where
-    by : (b : Bool) → R work (cond b (clears_wire plan told addresses place (wire_row plan place.wire) work) work)
+    by : (b : Bool) → R work (cond b (clears_wire plan told addresses place (wire_row plan place.wire) work) (tells_by told addresses (end_beyond plan work.edge.me place) work))
     by true = clears_wire_holds addresses place (wire_row plan place.wire) work
-    by false = steps.mend.same work
+    by false = tells_by_holds addresses (end_beyond plan work.edge.me place) work
 
   pub hears_mac_withdraw_holds : (peer : EdgeId) (fec : Option PwFec) (addresses : Option (List Mac)) (work : Work) → R work (hears_mac_withdraw plan told peer fec addresses work)
   hears_mac_withdraw_holds peer None addresses work = steps.mend.same work

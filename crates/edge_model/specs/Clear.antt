@@ -16,6 +16,7 @@ use Rattle.mac_table.specs.Addresses.{entry_stays}
 use Rattle.mac_withdraw.specs.Passing.{is_passed_to}
 use Rattle.mac_withdraw.specs.Pieces.{pieces_of}
 use Rattle.edge_model.specs.declared.end_place.EndPlace.{EndPlace}
+use Rattle.edge_model.specs.Across.{end_beyond}
 use Rattle.edge_model.specs.Ends.{wire_end}
 use Rattle.edge_model.specs.Frame.{copies}
 use Rattle.edge_model.specs.Mend.{port_of_wire}
@@ -58,11 +59,13 @@ abbrev pub clears_wire : Plan → Answers → List Mac → EndPlace → Option W
 clears_wire plan told addresses place None work = work
 clears_wire plan told addresses place (Some row) work = clears_at plan told addresses row.service (port_of_wire plan work.edge place.wire row) work
 
--- the end that is named; what a switching point passes on is to come
+-- at the end that is named; a switching point tells its other side
 abbrev pub clears_by : Plan → Answers → List Mac → Option EndPlace → Work → Work
 clears_by plan told addresses None work = work
 clears_by plan told addresses (Some place) work =
-    if place.terminal then clears_wire plan told addresses place (wire_row plan place.wire) work else work
+    if place.terminal
+    then clears_wire plan told addresses place (wire_row plan place.wire) work
+    else tells_by told addresses (end_beyond plan work.edge.me place) work
 
 -- Address Withdraw with a FEC and a MAC list acts on the service of the wire that is named, whatever the state of its end; without
 -- a known PW ID it changes nothing

@@ -46,6 +46,10 @@ is_named peer pw_id place = place.peer.0 == peer.0 && place.pw_id == pw_id
 abbrev pub end_named : Plan → EdgeId → EdgeId → ℕ → Option EndPlace
 end_named plan me peer pw_id = find (is_named peer pw_id) (end_places plan me)
 
+-- the end of a wire beside a neighbour
+abbrev pub is_at : ℕ → ℕ → EndPlace → Bool
+is_at wire peer place = wire == place.wire.0 && peer == place.peer.0
+
 -- the wire passes the edge
 abbrev pub is_of_wire : WireId → EndPlace → Bool
 is_of_wire wire place = place.wire.0 == wire.0

@@ -1,3 +1,4 @@
+pub mod Across
 pub mod Aging
 pub mod Circuit
 pub mod Clear

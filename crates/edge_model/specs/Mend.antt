@@ -7,7 +7,8 @@ use Rattle.net_base.specs.declared.plan.places.WireId.{WireId}
 use Rattle.net_base.specs.declared.plan.wire_plan.WirePlan.{WirePlan}
 use Rattle.net_base.specs.declared.trace.down.Down.{Down}
 use Rattle.net_base.specs.declared.trace.down.Down.TheVariants as cause
-use Rattle.net_base.specs.plan.Paths.{offer_of}
+use Rattle.net_base.specs.declared.plan.places.EdgeId.{EdgeId}
+use Rattle.net_base.specs.plan.Paths.{edge_address, mate, offer_of}
 use Rattle.net_base.specs.plan.Places.{wire_row}
 use Rattle.hvpls_spokes.specs.Port.{is_wire_port, ports_of}
 use Rattle.label_space.specs.Labels.{numbers_end}
@@ -19,10 +20,13 @@ use Rattle.pw_signalling.specs.declared.binding.Binding.{Binding}
 use Rattle.pw_signalling.specs.declared.told.Told.{Told}
 use Rattle.pw_signalling.specs.End.{LocalPart, Idle, Advertised, Withdrawing}
 use Rattle.pw_signalling.specs.Rows.{advertised, telling, withdrawn}
+use Rattle.pw_stitch.specs.Change.{is_same_but_status}
+use Rattle.pw_stitch.specs.Passing.{own_point, wanted}
 use Rattle.session_core.specs.Phase.{Phase}
 use Rattle.session_core.specs.Phase as phase
 use Rattle.edge_model.specs.declared.effect.Effect.TheVariants.{Wire}
 use Rattle.edge_model.specs.declared.end_place.EndPlace.{EndPlace}
+use Rattle.edge_model.specs.Across.{held_of}
 use Rattle.edge_model.specs.Content.{content_of, mapping, status_notification, withdrawal}
 use Rattle.edge_model.specs.EndPlaces.{end_places}
 use Rattle.edge_model.specs.Put.{Spoken, stays}
@@ -76,14 +80,22 @@ terminal_wish plan edge place offer =
     then Some (content_of offer (status_offered plan edge place offer))
     else None
 
--- What an end should tell: nothing unless its wire is on at this edge and the session with its peer is up. What a switching
--- point passes on is to come
+-- what a switching point holds from the neighbour on the other side, behind its own point (RFC 6073 section 7)
+abbrev pub passed_from : Plan → WirePlan → EdgeId → (ℕ → Option Binding) → Option EdgeId → Option Told
+passed_from plan row me held None = None
+passed_from plan row me held (Some from) = wanted (own_point row.pw_id (edge_address plan me) (edge_address plan from)) (held from.0)
+
+abbrev pub passed_wish : Plan → EdgeState → EndPlace → WirePlan → Option Told
+passed_wish plan edge place row = passed_from plan row edge.me (held_of edge place.wire) (mate row edge.me.0 place.peer.0)
+
+-- a terminal end tells of itself, and a switching point what it has from its other side
+abbrev pub wish_by : Plan → EdgeState → EndPlace → WirePlan → Option Told
+wish_by plan edge place row = if place.terminal then terminal_wish plan edge place (offer_of row edge.me.0) else passed_wish plan edge place row
+
+-- what an end should tell: nothing unless its wire is on at this edge and the session with its peer is up
 abbrev pub wish_of : Plan → EdgeState → EndPlace → Option WirePlan → Option Told
 wish_of plan edge place None = None
-wish_of plan edge place (Some row) =
-    if (edge.wire_on place.wire.0 && is_up_with (edge.peering place.peer.0)) && place.terminal
-    then terminal_wish plan edge place (offer_of row edge.me.0)
-    else None
+wish_of plan edge place (Some row) = if edge.wire_on place.wire.0 && is_up_with (edge.peering place.peer.0) then wish_by plan edge place row else None
 
 abbrev pub wish : Plan → EdgeState → EndPlace → Option Told
 wish plan edge place = wish_of plan edge place (wire_row plan place.wire)
@@ -111,9 +123,14 @@ withdrawing place edge = with_end place (withdrawn (end_at edge place)) edge
 abbrev pub withdraws : Answers → EndPlace → ℕ → Told → Work → Spoken
 withdraws told place label content work = says told place.peer (withdrawal place.pw_id label content) (changes (withdrawing place) work)
 
+-- what an end has told still stands: a terminal end's offer while it tells anything, and what a switching point passes on while no more
+-- than its status has changed (RFC 6073 section 10)
+abbrev pub stands : EndPlace → Told → Option Told → Bool
+stands place content None = false
+stands place content (Some wished) = place.terminal || is_same_but_status content wished
+
 abbrev pub withdraws_unless : Answers → EndPlace → ℕ → Told → Option Told → Work → Spoken
-withdraws_unless told place label content None work = withdraws told place label content work
-withdraws_unless told place label content (Some wished) work = stays work
+withdraws_unless told place label content wished work = if stands place content wished then stays work else withdraws told place label content work
 
 abbrev pub mends_local : Plan → Answers → EndPlace → LocalPart → Work → Spoken
 mends_local plan told place (Idle declined) work = if declined then stays work else advertises_wish told place (wish plan work.edge place) work

@@ -12,7 +12,9 @@ use Rattle.pw_status.specs.Status.{combined}
 use Rattle.pw_signalling.specs.declared.end_role.EndRole.{EndRole}
 use Rattle.pw_signalling.specs.declared.end_role.EndRole.TheVariants as role
 use Rattle.pw_signalling.specs.Down.{down}
+use Rattle.pw_stitch.specs.Passing.{passed_status}
 use Rattle.spoke_redundancy.specs.Telling.{is_not_chosen}
+use Rattle.edge_model.specs.Across.{held_beyond}
 use Rattle.edge_model.specs.declared.end_place.EndPlace.{EndPlace}
 use Rattle.edge_model.specs.State.{EdgeState, end_at}
 
@@ -41,10 +43,14 @@ role_in (Some row) me chosen wire = end_role_of row me (is_chosen chosen wire ro
 abbrev pub role_at : Plan → EdgeState → EndPlace → EndRole
 role_at plan edge place = role_in (wire_row plan place.wire) edge.me edge.chosen place.wire
 
--- the status that an end tells: its own failure bits, and that it stands by where it was not chosen (RFC 4446 section 3.5, RFC
--- 6870 section 5.2)
+-- the status of a terminal end: its own failure bits, and that it stands by where it was not chosen (RFC 4446 section 3.5, RFC 6870
+-- section 5.2)
+abbrev pub own_status : Plan → EdgeState → EndPlace → PwStatus
+own_status plan edge place = combined (edge.bits place.wire.0) (is_not_chosen (role_at plan edge place))
+
+-- the status that an end tells: a switching point passes on that of its other side (RFC 6073 section 10)
 abbrev pub status_to_tell : Plan → EdgeState → EndPlace → PwStatus
-status_to_tell plan edge place = combined (edge.bits place.wire.0) (is_not_chosen (role_at plan edge place))
+status_to_tell plan edge place = if place.terminal then own_status plan edge place else passed_status (held_beyond plan edge place)
 
 -- why an end does not forward
 abbrev pub down_at : Plan → EdgeState → EndPlace → Option Down

@@ -10,7 +10,8 @@ use Rattle.net_base.specs.declared.plan.places.EdgeId.{EdgeId}
 use Rattle.net_base.specs.declared.plan.places.WireId.{WireId}
 use Rattle.pw_signalling.specs.End.{EndState, fresh}
 use Rattle.edge_model.specs.declared.end_place.EndPlace.{EndPlace}
-use Rattle.pw_ends.specs.Ends.{EndLists, is_at, look, no_place, place_of, seen_ends}
+use Rattle.pw_ends.specs.Ends.{EndLists, look, no_place, place_of, seen_ends}
+use Rattle.edge_model.specs.EndPlaces.{is_at}
 use Rattle.pw_ends.specs.Order.{AreEndsInOrder, PrecedesEnd, end_precedes_wire}
 use Rattle.pw_ends.proofs.IndexLemmas.{none_at, slot_from, slot_from_position, slot_from_start, slot_in}
 

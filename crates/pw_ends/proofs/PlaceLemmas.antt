@@ -13,8 +13,7 @@ use Rattle.net_base.specs.plan.Accepted.{IsChecked, IsEdgePlan, IsWireOf}
 use Rattle.net_base.specs.plan.Paths.{has_repeat}
 use Rattle.label_space.specs.Labels.{numbers_end}
 use Rattle.edge_model.specs.declared.end_place.EndPlace.{EndPlace}
-use Rattle.edge_model.specs.EndPlaces.{end_place_at, end_places, places_along, places_at, places_from}
-use Rattle.pw_ends.specs.Ends.{is_at}
+use Rattle.edge_model.specs.EndPlaces.{end_place_at, end_places, is_at, places_along, places_at, places_from}
 use Rattle.pw_ends.specs.Kept.{AreApart}
 
 left : (a b : Bool) → (a || b) ≡ false → a ≡ false

@@ -13,7 +13,8 @@ use Rattle.edge_model.specs.State.{put_at}
 use Rattle.pw_ends.specs.declared.which_ends.WhichEnds.{WhichEnds}
 use Rattle.pw_ends.specs.declared.which_ends.WhichEnds.TheVariants as which
 use Rattle.pw_ends.specs.Changes.{changed_each, changed_in, is_meant}
-use Rattle.pw_ends.specs.Ends.{EndLists, changed_at, changed_beside, end_in, is_at, look, no_place, place_of, renewed_of, seen_ends}
+use Rattle.pw_ends.specs.Ends.{EndLists, changed_at, changed_beside, end_in, look, no_place, place_of, renewed_of, seen_ends}
+use Rattle.edge_model.specs.EndPlaces.{is_at}
 use Rattle.pw_ends.specs.Kept.{AreApart}
 
 -- ---- one end

@@ -1,5 +1,5 @@
 -- The pseudowire ends of an edge as contracts see them: lists by slots, and by `seen_ends` a map from wires and neighbours.
-use Rattle.std.specs.Prelude.{◌==◌, ◌&&◌, ◌≤◌, ℕ, Bool, false, List, [], ◌∷◌, Option, Some, None, slice_index_or, if◌then◌else◌}
+use Rattle.std.specs.Prelude.{◌==◌, ◌≤◌, ℕ, Bool, false, List, [], ◌∷◌, Option, Some, None, slice_index_or, if◌then◌else◌}
 use Rattle.net_base.specs.declared.plan.places.EdgeId.{EdgeId}
 use Rattle.net_base.specs.declared.plan.places.WireId.{WireId}
 use Rattle.label_space.specs.Labels.{LabelNumbers}
@@ -7,6 +7,7 @@ use Rattle.pw_signalling.specs.End.{EndState, LocalPart, Idle, Advertised, Withd
 use Rattle.pw_signalling.specs.Laws.{own_label}
 use Rattle.pw_signalling.specs.Rows.{renewed}
 use Rattle.edge_model.specs.declared.end_place.EndPlace.{EndPlace}
+use Rattle.edge_model.specs.EndPlaces.{is_at}
 use Rattle.edge_model.specs.State.{put_at}
 
 -- the ends by their slots: where each one is, and its state; and the labels, whose next one the edge gives next
@@ -14,10 +15,6 @@ pub record EndLists : Type 0 where
   pub places : List EndPlace
   pub ends : List EndState
   pub labels : LabelNumbers
-
--- the end of a wire beside a neighbour
-abbrev pub is_at : ℕ → ℕ → EndPlace → Bool
-is_at wire peer place = wire == place.wire.0 && peer == place.peer.0
 
 -- the state of the first end of a wire beside a neighbour; of an end that is not there nothing was told
 abbrev pub look : List EndPlace → List EndState → ℕ → ℕ → EndState

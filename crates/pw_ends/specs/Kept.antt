@@ -7,7 +7,8 @@ use Rattle.label_space.specs.Labels.{AreBelow, LabelNumbers, freed, owner_of}
 use Rattle.pw_signalling.specs.End.{EndState}
 use Rattle.pw_signalling.specs.Laws.{own_label}
 use Rattle.edge_model.specs.declared.end_place.EndPlace.{EndPlace}
-use Rattle.pw_ends.specs.Ends.{HasKind, is_at, is_label}
+use Rattle.pw_ends.specs.Ends.{HasKind, is_label}
+use Rattle.edge_model.specs.EndPlaces.{is_at}
 use Rattle.pw_ends.specs.Owned.{OwnedList, slot_of}
 
 -- no two places are of one wire and beside one neighbour

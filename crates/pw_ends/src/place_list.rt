@@ -3,11 +3,11 @@ ghost use Rattle.std.specs.Prelude.{◌≡◌, ◌≤◌, ◌<◌, ◌+◌, ℕ,
 ghost use Rattle.std.specs.List.{find, list_any};
 ghost use Rattle.net_base.specs.plan.Accepted.{IsChecked};
 ghost use Rattle.hvpls_spokes.specs.Search.{place_if};
-ghost use Rattle.edge_model.specs.EndPlaces.{end_places, is_end_of_wire, is_named, is_of_wire};
+ghost use Rattle.edge_model.specs.EndPlaces.{end_places, is_at, is_end_of_wire, is_named, is_of_wire};
 ghost use Rattle.pw_ends.specs.Kept.{AreApart};
 ghost use Rattle.pw_ends.specs.Names.{FindsSlots, end_name_of};
 ghost use Rattle.pw_ends.specs.Order.{AreEndsInOrder, end_precedes_wire};
-ghost use Rattle.pw_ends.specs.Ends.{is_at, no_place};
+ghost use Rattle.pw_ends.specs.Ends.{no_place};
 
 use crate::plan_places::end_places;
 use edge_model::EndPlace;

@@ -7,13 +7,13 @@ ghost use Rattle.pw_signalling.specs.AnyEnd.{end_of};
 ghost use Rattle.pw_signalling.specs.End.{fresh};
 ghost use Rattle.pw_signalling.specs.Laws.{own_label};
 ghost use Rattle.pw_signalling.specs.Rows.{advertised, bound, group_stated, group_unbound, lost, released, stated, telling, unbound, withdrawn};
-ghost use Rattle.edge_model.specs.EndPlaces.{end_places, is_end_of_wire, is_named, is_of_wire};
+ghost use Rattle.edge_model.specs.EndPlaces.{end_places, is_at, is_end_of_wire, is_named, is_of_wire};
 ghost use Rattle.edge_model.specs.Packet.{advertises_label};
 ghost use Rattle.edge_model.specs.State.{first_label};
 ghost use Rattle.pw_ends.specs.Changes.{changed, changed_each, changed_in};
 ghost use Rattle.pw_ends.specs.Kept.{AreApart, IsOwner, freed_one, left_label, segment_of};
 ghost use Rattle.pw_ends.specs.Owned.{without_one};
-ghost use Rattle.pw_ends.specs.Ends.{HasKind, IsIdle, changed_at, changed_beside, end_in, end_there, is_at, owns_label, place_of, renewed_of, seen_ends};
+ghost use Rattle.pw_ends.specs.Ends.{HasKind, IsIdle, changed_at, changed_beside, end_in, end_there, owns_label, place_of, renewed_of, seen_ends};
 
 use crate::end_change::EndChange;
 use crate::end_slots::{advertise_at, change_at, idle_ends, own_label_at};

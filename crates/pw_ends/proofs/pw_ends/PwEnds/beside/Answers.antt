@@ -1,6 +1,7 @@
 -- What stands at the slot that is found.
 use Rattle.std.proofs.Common.{◌∙◌, ap, position}
-use Rattle.pw_ends.specs.Ends.{EndLists, is_at}
+use Rattle.pw_ends.specs.Ends.{EndLists}
+use Rattle.edge_model.specs.EndPlaces.{is_at}
 use Rattle.pw_ends.proofs.BesideLemmas.{beside_peer, beside_place}
 use Rattle.pw_ends.proofs.pw_ends.PwEnds.beside.Goals as goal
 
