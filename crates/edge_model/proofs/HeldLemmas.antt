@@ -220,9 +220,9 @@ wish_held plan other edge place = of (wire_row plan place.wire) where
   of None = refl
   of (Some row) =
       ap (λ (up : Bool).
-        cond (edge.wire_on place.wire.0 && up)
-        (cond place.terminal (terminal_wish plan edge place (offer_of row edge.me.0)) (passed_wish plan edge place row))
-        None)
+      cond (edge.wire_on place.wire.0 && up)
+      (cond place.terminal (terminal_wish plan edge place (offer_of row edge.me.0)) (passed_wish plan edge place row))
+      None)
       (same (edge.peering place.peer.0))
 
 abbrev MendsAlike : Holding → (Work → Spoken) → Type 0

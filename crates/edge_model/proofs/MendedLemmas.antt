@@ -347,10 +347,10 @@ wish_steady plan a b place steady = of (wire_row plan place.wire) where
   wished row me on up bits held status =
       cond (on && up)
       (cond place.terminal
-        (cond (tells_status (method_by (offer_of row me.0).status (status_held (held place.peer.0))) || nat_eq bits 0)
-        (Some (content_of (offer_of row me.0) (cond (offer_of row me.0).status (Some status) None)))
-        None)
-        (passed_from plan row me held (mate row me.0 place.peer.0)))
+      (cond (tells_status (method_by (offer_of row me.0).status (status_held (held place.peer.0))) || nat_eq bits 0)
+      (Some (content_of (offer_of row me.0) (cond (offer_of row me.0).status (Some status) None)))
+      None)
+      (passed_from plan row me held (mate row me.0 place.peer.0)))
       None
 
   of : (row : Option WirePlan) → wish_of plan b place row ≡ wish_of plan a place row
