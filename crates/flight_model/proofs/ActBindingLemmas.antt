@@ -13,12 +13,12 @@ use Rattle.pw_tlvs.specs.Written.{writable_fec}
 use Rattle.pw_signalling.specs.End.{EndState}
 use Rattle.pw_signalling.specs.Rows.{bound, group_stated, group_unbound, released, stated, unbound}
 use Rattle.session_core.specs.declared.peers.Peers.{Peers}
-use Rattle.edge_model.specs.Content.{binding_in, pw_status_code, release}
+use Rattle.edge_model.specs.Content.{binding_in, pw_status_code, release, told_with}
 use Rattle.edge_model.specs.declared.end_place.EndPlace.{EndPlace}
 use Rattle.edge_model.specs.EndPlaces.{end_named}
 use Rattle.edge_model.specs.Hear.{acts_on}
 use Rattle.edge_model.specs.Session.{says}
-use Rattle.edge_model.specs.Signal.{end_of_fec, hears_mapping, hears_status, hears_withdraw, maps_to, with_end_changed, with_named}
+use Rattle.edge_model.specs.Signal.{end_of_fec, hears_mapping, hears_status, hears_withdraw, maps_to, releases_label, takes_content, with_end_changed, with_named}
 use Rattle.edge_model.specs.State.{EdgeState, Peering, end_at, is_there, with_end, with_ends_beside}
 use Rattle.edge_model.specs.Work.{Work, changes}
 use Rattle.network_model.specs.Absorb.{taken_all}
@@ -28,6 +28,8 @@ use Rattle.flight_model.specs.Ends.{ends_at}
 use Rattle.flight_model.specs.Meeting.{Spares}
 use Rattle.flight_model.specs.Messages.{IsSaid, IsSound}
 use Rattle.flight_model.specs.Pair.{IsStanding}
+use Rattle.flight_model.specs.Rules.{TellsOfWire, TellsPlan}
+use Rattle.flight_model.proofs.AcceptLemmas.{takes_told}
 use Rattle.flight_model.proofs.EdgeBindingLemmas.{HasSameEnds, clash, end_beside_other, end_label}
 use Rattle.flight_model.proofs.HeardBindingLemmas.{HearsAs, bound_hears, bound_hears_unknown, bound_hears_withdrawal, mapping_known, mapping_unknown, other_code, release_heard, status_heard_as, unknown_released, withdraw_heard}
 use Rattle.flight_model.proofs.HearingLemmas.{withdraws_addresses}
@@ -104,19 +106,21 @@ named_peering plan peer fec one all None edge = beside_peering peer all edge
 named_peering plan peer fec one all (Some n) edge = changed_peering one (end_named plan edge.me peer n) edge
 
 module _ (plan : Plan) (peer : EdgeId) (checked : IsChecked plan) (far : EdgeState) (out : List ℕ) (messages : List Message) (kept : Peering) (work : Work) (has : HasSaid plan work.edge.me peer.0 far out work) (at : work.edge.peering peer.0 ≡ Some kept) where
-  mapping_leaves : (id : ℕ) (fec : PwFec) (label : ℕ) (status : Option PwStatus) (points : List Point) → IsSound (LabelMapping id fec label status points)
+  mapping_leaves : (id : ℕ) (fec : PwFec) (label : ℕ) (status : Option PwStatus) (points : List Point) → IsSound (LabelMapping id fec label status points) → TellsOfWire plan peer.0 work.edge.me.0 fec (told_with fec status points)
       → LeavesBound plan work.edge.me peer.0 far out (LabelMapping id fec label status points ∷ messages) work
       → LeavesBound plan work.edge.me peer.0 far out messages (hears_mapping plan taken_all peer fec label status points work)
-  mapping_leaves id fec label status points sound leaves = by_place (end_of_fec plan work.edge peer fec) refl where
-    by_place : (found : Option EndPlace) → end_of_fec plan work.edge peer fec ≡ found → LeavesBound plan work.edge.me peer.0 far out messages (maps_to taken_all peer fec label status points found work)
+  mapping_leaves id fec label status points sound tells leaves = by_place (end_of_fec plan work.edge peer fec) refl where
+    by_place : (found : Option EndPlace) → end_of_fec plan work.edge peer fec ≡ found → LeavesBound plan work.edge.me peer.0 far out messages (maps_to plan taken_all peer fec (binding_in fec label status points) found work)
     by_place None none =
         release_leaves plan work.edge.me peer far out (LabelMapping id fec label status points ∷ messages) messages fec (Some label) kept work has at
         (release_is fec (Some label) (writable_kind fec (second_of (is_some fec.pw_id) (writable_fec fec) sound.1)) sound.0.1.group sound.0.1.pw_id sound.0.2)
         (λ id2 ms is. bound_hears_unknown plan work.edge.me peer id id2 fec label status points work.edge far ms messages (mapping_unknown plan peer id fec label status points work.edge checked none)
         (unknown_released plan peer fec label work.edge checked none) is) leaves
-    by_place (Some place) named =
-        heard_leaves plan work.edge.me peer far out (LabelMapping id fec label status points) messages (with_end_changed (bound (binding_in fec label status points)) (Some place)) work (λ pw_id own. refl)
-        (changed_peering (bound (binding_in fec label status points)) (Some place) work.edge) (mapping_known plan peer id fec label status points place work.edge checked named) leaves
+    by_place (Some place) named = subst (λ (b : Bool). LeavesBound plan work.edge.me peer.0 far out messages (cond b (changes (with_end_changed (bound (binding_in fec label status points)) (Some place)) work)
+          (releases_label taken_all peer fec (Some label) (changes (with_end_changed (unbound None) (Some place)) work))))
+        (sym (takes_told plan work.edge.me peer fec place (told_with fec status points) checked tells named))
+        (heard_leaves plan work.edge.me peer far out (LabelMapping id fec label status points) messages (with_end_changed (bound (binding_in fec label status points)) (Some place)) work (λ pw_id own. refl)
+        (changed_peering (bound (binding_in fec label status points)) (Some place) work.edge) (mapping_known plan peer id fec label status points place work.edge checked named) leaves)
 
   withdraw_leaves : (id : ℕ) (fec : PwFec) (label : Option ℕ) → IsSound (LabelWithdraw id fec label) → LeavesBound plan work.edge.me peer.0 far out (LabelWithdraw id fec label ∷ messages) work
       → LeavesBound plan work.edge.me peer.0 far out messages (hears_withdraw plan taken_all peer fec label work)
@@ -139,19 +143,19 @@ module _ (plan : Plan) (peer : EdgeId) (checked : IsChecked plan) (far : EdgeSta
         (named_peering plan peer fec (stated status) (group_stated fec.group status) fec.pw_id work.edge) (status_heard_as plan peer id code status fec work.edge checked right) leaves
     by_code false wrong = unchanged_leaves plan work.edge.me peer far out (Notification id code (Some status) (Some fec)) messages work (λ pw_id own. refl) (other_code plan peer id code status fec work.edge wrong) leaves
 
-  pub acts_leaves : (m : Message) (other : Peers) → IsSaid other m → withdraws_addresses m ≡ false → LeavesBound plan work.edge.me peer.0 far out (m ∷ messages) work → LeavesBound plan work.edge.me peer.0 far out messages (acts_on plan taken_all peer m work)
-  acts_leaves (Initialization id params) other said plain leaves =
+  pub acts_leaves : (m : Message) (other : Peers) → IsSaid other m → withdraws_addresses m ≡ false → TellsPlan plan peer.0 work.edge.me.0 m → LeavesBound plan work.edge.me peer.0 far out (m ∷ messages) work → LeavesBound plan work.edge.me peer.0 far out messages (acts_on plan taken_all peer m work)
+  acts_leaves (Initialization id params) other said plain tells leaves =
       unchanged_leaves plan work.edge.me peer far out (Initialization id params) messages work (λ pw_id own. refl) (record { label = refl; local = λ wire row is joined. refl; remote = λ wire row next near is joined alone. refl }) leaves
-  acts_leaves (KeepAlive id) other said plain leaves =
+  acts_leaves (KeepAlive id) other said plain tells leaves =
       unchanged_leaves plan work.edge.me peer far out (KeepAlive id) messages work (λ pw_id own. refl) (record { label = refl; local = λ wire row is joined. refl; remote = λ wire row next near is joined alone. refl }) leaves
-  acts_leaves (Notification id code status fec) other said plain leaves = status_leaves id code status fec leaves
-  acts_leaves (AddressWithdraw id addresses fec macs) other said plain leaves = clash (sym plain)
-  acts_leaves (LabelMapping id fec label status points) other said plain leaves = mapping_leaves id fec label status points said leaves
-  acts_leaves (LabelWithdraw id fec label) other said plain leaves = withdraw_leaves id fec label said leaves
-  acts_leaves (LabelRelease id fec label) other said plain leaves =
+  acts_leaves (Notification id code status fec) other said plain tells leaves = status_leaves id code status fec leaves
+  acts_leaves (AddressWithdraw id addresses fec macs) other said plain tells leaves = clash (sym plain)
+  acts_leaves (LabelMapping id fec label status points) other said plain tells leaves = mapping_leaves id fec label status points said tells leaves
+  acts_leaves (LabelWithdraw id fec label) other said plain tells leaves = withdraw_leaves id fec label said leaves
+  acts_leaves (LabelRelease id fec label) other said plain tells leaves =
       heard_leaves plan work.edge.me peer far out (LabelRelease id fec label) messages (λ edge. with_end_changed (released label) (end_of_fec plan edge peer fec) edge) work (λ pw_id own. refl)
       (changed_peering (released label) (end_of_fec plan work.edge peer fec) work.edge) (release_heard plan peer id fec label work.edge checked) leaves
-  acts_leaves m other said plain leaves = absurd said
+  acts_leaves m other said plain tells leaves = absurd said
 
 -- ---- for every other place
 
@@ -208,10 +212,20 @@ module _ (plan : Plan) (peer : EdgeId) (place : ℕ) (apart : nat_eq place peer.
 
   maps_spare : (fec : PwFec) (label : ℕ) (status : Option PwStatus) (points : List Point) (work : Work) → SparesWires place work (hears_mapping plan taken_all peer fec label status points work)
   maps_spare fec label status points work = by_place (end_of_fec plan work.edge peer fec) refl where
-    by_place : (found : Option EndPlace) → end_of_fec plan work.edge peer fec ≡ found → SparesWires place work (maps_to taken_all peer fec label status points found work)
+    end_spares : (end : EndPlace) (change : EndState → EndState) → end_of_fec plan work.edge peer fec ≡ Some end → SparesWires place work (changes (with_end_changed change (Some end)) work)
+    end_spares end change named = changes_spare place (with_end_changed change (Some end)) work (changed_peering change (Some end) work.edge)
+        (subst (λ (found : Option EndPlace). HasSameEnds place work.edge (with_end_changed change found work.edge)) named (fec_same change fec.pw_id work.edge))
+
+    takes : (end : EndPlace) → end_of_fec plan work.edge peer fec ≡ Some end → (b : Bool) → SparesWires place work (cond b (changes (with_end_changed (bound (binding_in fec label status points)) (Some end)) work)
+        (releases_label taken_all peer fec (Some label) (changes (with_end_changed (unbound None) (Some end)) work)))
+    takes end named true = end_spares end (bound (binding_in fec label status points)) named
+    takes end named false =
+        wires_then place work (changes (with_end_changed (unbound None) (Some end)) work) (releases_label taken_all peer fec (Some label) (changes (with_end_changed (unbound None) (Some end)) work)) (end_spares end (unbound None) named)
+        (says_spare place peer (release fec (Some label)) (changes (with_end_changed (unbound None) (Some end)) work) apart)
+
+    by_place : (found : Option EndPlace) → end_of_fec plan work.edge peer fec ≡ found → SparesWires place work (maps_to plan taken_all peer fec (binding_in fec label status points) found work)
     by_place None none = says_spare place peer (release fec (Some label)) work apart
-    by_place (Some end) named = changes_spare place (with_end_changed (bound (binding_in fec label status points)) (Some end)) work (changed_peering (bound (binding_in fec label status points)) (Some end) work.edge)
-        (subst (λ (found : Option EndPlace). HasSameEnds place work.edge (with_end_changed (bound (binding_in fec label status points)) found work.edge)) named (fec_same (bound (binding_in fec label status points)) fec.pw_id work.edge))
+    by_place (Some end) named = takes end named (takes_content plan work.edge.me end (told_with fec status points))
 
   states_spare : (code : StatusCode) (status : Option PwStatus) (fec : Option PwFec) (work : Work) → SparesWires place work (hears_status plan peer code status fec work)
   states_spare code None fec work = wires_same place work

@@ -54,16 +54,16 @@ idle_bound pw_id next (Idle declined) far idle none = record { agrees = none; wi
 idle_bound pw_id next (Advertised label told) far idle none = clash idle
 idle_bound pw_id next (Withdrawing label) far idle none = clash idle
 
-pub low_end : (up : Bool) (e : EndState) → up ≡ false → IsSoundEnd up e → (is_idle e.local ≡ true) × (e.remote ≡ None)
-low_end true e low sound = clash (sym low)
-low_end false e low sound = sound
+pub low_end : (limit : ℕ) (up : Bool) (e : EndState) → up ≡ false → IsSoundEnd limit up e → (is_idle e.local ≡ true) × (e.remote ≡ None)
+low_end limit true e low sound = clash (sym low)
+low_end limit false e low sound = sound
 
-low_bound : (plan : Plan) (a b : ℕ) (one other : EdgeState) → TellsSoundly one → TellsSoundly other → is_up_with (one.peering b) ≡ false → is_up_with (other.peering a) ≡ false → AreBound plan a b one other [] []
-low_bound plan a b one other sound sound' low low' = record {
-  near = λ wire row is joined. idle_bound row.pw_id one.next_label (one.ends wire.0 b).local (other.ends wire.0 a).remote (low_end (is_up_with (one.peering b)) (one.ends wire.0 b) low (sound.ends wire.0 b)).0
-      (low_end (is_up_with (other.peering a)) (other.ends wire.0 a) low' (sound'.ends wire.0 a)).1;
-  far = λ wire row is joined. idle_bound row.pw_id other.next_label (other.ends wire.0 a).local (one.ends wire.0 b).remote (low_end (is_up_with (other.peering a)) (other.ends wire.0 a) low' (sound'.ends wire.0 a)).0
-      (low_end (is_up_with (one.peering b)) (one.ends wire.0 b) low (sound.ends wire.0 b)).1;
+low_bound : {limit limit2 : ℕ → ℕ} → (plan : Plan) (a b : ℕ) (one other : EdgeState) → TellsSoundly limit one → TellsSoundly limit2 other → is_up_with (one.peering b) ≡ false → is_up_with (other.peering a) ≡ false → AreBound plan a b one other [] []
+low_bound {limit} {limit2} plan a b one other sound sound' low low' = record {
+  near = λ wire row is joined. idle_bound row.pw_id one.next_label (one.ends wire.0 b).local (other.ends wire.0 a).remote (low_end (limit wire.0) (is_up_with (one.peering b)) (one.ends wire.0 b) low (sound.ends wire.0 b)).0
+      (low_end (limit2 wire.0) (is_up_with (other.peering a)) (other.ends wire.0 a) low' (sound'.ends wire.0 a)).1;
+  far = λ wire row is joined. idle_bound row.pw_id other.next_label (other.ends wire.0 a).local (one.ends wire.0 b).remote (low_end (limit2 wire.0) (is_up_with (other.peering a)) (other.ends wire.0 a) low' (sound'.ends wire.0 a)).0
+      (low_end (limit wire.0) (is_up_with (one.peering b)) (one.ends wire.0 b) low (sound.ends wire.0 b)).1;
 }
 
 -- what an end that has opened has said
@@ -85,8 +85,8 @@ module _ (plan : Plan) (network : NetworkState) (me peer : EdgeId) (one other : 
   abbrev On : Work → Type 0
   On work = ConnectsOn plan network (peers_of one other) (peers_of other one) me peer work × HoldsAll (λ place. nat_eq place peer.0) (λ place. held network me.0 place) work
 
-  on_steady : IsSteady me On
-  on_steady = held_steady me (ConnectsOn plan network (peers_of one other) (peers_of other one) me peer) (λ place. nat_eq place peer.0) (λ place. held network me.0 place) (connects_steady plan network (peers_of one other) (peers_of other one) me peer)
+  on_steady : IsSteady plan me On
+  on_steady = held_steady plan me (ConnectsOn plan network (peers_of one other) (peers_of other one) me peer) (λ place. nat_eq place peer.0) (λ place. held network me.0 place) (connects_steady plan network (peers_of one other) (peers_of other one) me peer)
 
   opens_talk : (active : Bool) (p : Phase) → is_talk active p None [] [] ≡ true
   opens_talk active phase.Initialized = refl

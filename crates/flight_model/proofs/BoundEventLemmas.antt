@@ -34,6 +34,9 @@ use Rattle.network_model.specs.Wire.{priority_event, status_event, wire_event}
 use Rattle.flight_model.specs.Bound.{AreAnswers, AreBoundBy, LeavesBound}
 use Rattle.flight_model.specs.Ends.{HasTypes, IsOrdered, WorksOn, ends_at}
 use Rattle.flight_model.specs.Facts.{HoldsOfTwo, LeavesFor, Turns, flight}
+use Rattle.flight_model.specs.Laws.{KeepsToldRule, TellsContents}
+use Rattle.flight_model.specs.Rules.{AllMessages, TellsPlan}
+use Rattle.flight_model.proofs.UniqueLemmas.{said_once}
 use Rattle.flight_model.specs.Messages.{octets_of_all}
 use Rattle.flight_model.specs.Pair.{ArePaired}
 use Rattle.flight_model.proofs.BoundHearLemmas.{HearsAll, all_kept, heard_bound, held_after}
@@ -269,7 +272,7 @@ priority_bounds plan me wire priority network checked types ordered bounds =
 
 -- ---- octets are delivered
 
-module _ (plan : Plan) (from to : EdgeId) (count : ℕ) (network : NetworkState) (kept : Peering) (checked : IsChecked plan) (types : HasTypes plan) (ordered : IsOrdered plan network) (bounds : Bounds plan network) (apart : nat_eq from.0 to.0 ≡ false)
+module _ (plan : Plan) (from to : EdgeId) (count : ℕ) (network : NetworkState) (kept : Peering) (checked : IsChecked plan) (types : HasTypes plan) (ordered : IsOrdered plan network) (bounds : Bounds plan network) (told : KeepsToldRule plan network) (apart : nat_eq from.0 to.0 ≡ false)
     (at : (network.edges to.0).peering from.0 ≡ Some kept) where
   pipe : List ℕ
   pipe = network.pipes from.0 to.0
@@ -323,17 +326,27 @@ module _ (plan : Plan) (from to : EdgeId) (count : ℕ) (network : NetworkState)
         (sym (no_more ((network.edges from.0).peering to.0) (flight network to.0 from.0)) ∙ out_is) (ap (λ (o : Option Peering). held_by o ++ network.pipes from.0 to.0) at ∙ pair.back_is) near far;
   }
 
+  -- what the edge is still to hear is planned
+  planned : AllMessages (TellsPlan plan from.0 to.0) pair.answers
+  unfolding pipe
+  planned =
+      let contents : TellsContents plan network from.0 to.0 = told from.0 to.0 apart in
+      subst (AllMessages (TellsPlan plan from.0 to.0))
+      (said_once (ends_at plan from.0 to.0) contents.messages pair.answers pair.talk.here.between.two contents.on_way.said pair.talk.answered
+      (sym contents.on_way.octets ∙ (ap (λ (o : Option Peering). held_by o ++ network.pipes from.0 to.0) at ∙ pair.back_is)))
+      contents.planned.told
+
   hears_all : HearsAll plan later to from off checked types (λ place. held network to.0 place) start.answers pair.answers (begin_at network to)
   unfolding later pipe
   hears_all = (
     (hears_begin plan from to (drop count pipe) network kept ordered apart at pair, λ place here. held_now ((network.edges to.0).peering place)),
-    (
+    ((
       hears_begin plan from to (drop count pipe) network kept ordered apart at pair,
       λ place away. elim (cases_Bool (nat_eq place from.0)) [
         | inl same ↦ rw same (subst (λ (k : ℕ). LeavesBound plan to k (later.edges k) (flight later to.0 k) pair.answers (begin_at network to)) (sym (eqb-true place from.0 same)) (moved_leaves from.0 pair.answers peer_leaves))
         | inr gone ↦ rw gone (moved_leaves place (start.answers place) (begins_bound plan network to place bounds start away))
       ],
-    ),
+    ), planned),
   )
 
   heard : HasHeard from (ends_at plan from.0 to.0) (HearsAll plan later to from off checked types (λ place. held network to.0 place) start.answers) (later.pipes from.0 to.0) (hears_few plan taken_all from (suc (length octets)) octets (begin_at network to))
@@ -369,16 +382,16 @@ module _ (plan : Plan) (from to : EdgeId) (count : ℕ) (network : NetworkState)
       (λ a b between away gone. rw (pipe_edges from to (drop count pipe) network, pipe_to from to (drop count pipe) network a b gone, pipe_to from to (drop count pipe) network b a away) (bounds a b between))
       (leaves_octets plan later to checked types still_held still_heard still_are work deliver_bound)
 
-delivering_bounds : (plan : Plan) (from to : EdgeId) (count : ℕ) (network : NetworkState) (near : Option Peering) → IsChecked plan → HasTypes plan → IsOrdered plan network → Bounds plan network → nat_eq from.0 to.0 ≡ false
+delivering_bounds : (plan : Plan) (from to : EdgeId) (count : ℕ) (network : NetworkState) (near : Option Peering) → IsChecked plan → HasTypes plan → IsOrdered plan network → Bounds plan network → KeepsToldRule plan network → nat_eq from.0 to.0 ≡ false
     → (network.edges to.0).peering from.0 ≡ near → is_there near ≡ true → Bounds plan (delivering plan from to count network).state
-delivering_bounds plan from to count network None checked types ordered bounds apart at up = clash up
-delivering_bounds plan from to count network (Some kept) checked types ordered bounds apart at up = rw at (delivered_bounds plan from to count network kept checked types ordered bounds apart at)
+delivering_bounds plan from to count network None checked types ordered bounds told apart at up = clash up
+delivering_bounds plan from to count network (Some kept) checked types ordered bounds told apart at up = rw at (delivered_bounds plan from to count network kept checked types ordered bounds told apart at)
 
-pub deliver_bounds : (plan : Plan) (from to : EdgeId) (count : ℕ) (network : NetworkState) → IsChecked plan → HasTypes plan → IsOrdered plan network → Bounds plan network → Bounds plan (deliver_event plan from to count network).state
-deliver_bounds plan from to count network checked types ordered bounds = by_stand (stands network to.0 from.0) refl where
+pub deliver_bounds : (plan : Plan) (from to : EdgeId) (count : ℕ) (network : NetworkState) → IsChecked plan → HasTypes plan → IsOrdered plan network → Bounds plan network → KeepsToldRule plan network → Bounds plan (deliver_event plan from to count network).state
+deliver_bounds plan from to count network checked types ordered bounds told = by_stand (stands network to.0 from.0) refl where
   some : stands network to.0 from.0 ≡ true → (drained : Bool) → Bounds plan (cond drained (losing plan to from network) (delivering plan from to count network)).state
   some is true = losing_bounds plan to from network checked types ordered bounds is
-  some is false = delivering_bounds plan from to count network ((network.edges to.0).peering from.0) checked types ordered bounds (stands_apart plan network from.0 to.0 ordered is) refl is
+  some is false = delivering_bounds plan from to count network ((network.edges to.0).peering from.0) checked types ordered bounds told (stands_apart plan network from.0 to.0 ordered is) refl is
 
   which : stands network to.0 from.0 ≡ true → (any : Bool) → Bounds plan (cond any (cond (is_drained_pipe network from.0 to.0) (losing plan to from network) (delivering plan from to count network)) (idle network)).state
   which is true = some is (is_drained_pipe network from.0 to.0)

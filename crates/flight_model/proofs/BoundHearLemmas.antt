@@ -64,8 +64,8 @@ module _ (plan : Plan) (network : NetworkState) (me peer : EdgeId) (apart : nat_
   abbrev pub HearsHeld : List Message → Work → Type 0
   HearsHeld messages work = HearsOn plan network me peer messages work × HoldsAll (λ place. nat_eq place peer.0) held work
 
-  steady_held : (messages : List Message) → IsSteady me (HearsHeld messages)
-  steady_held messages = held_steady me (HearsOn plan network me peer messages) (λ place. nat_eq place peer.0) held (hears_steady plan network me peer apart messages)
+  steady_held : (messages : List Message) → IsSteady plan me (HearsHeld messages)
+  steady_held messages = held_steady plan me (HearsOn plan network me peer messages) (λ place. nat_eq place peer.0) held (hears_steady plan network me peer apart messages)
 
   event_held : (event : SessionEvent) (work : Work) → HoldsAll (λ place. nat_eq place peer.0) held work → HoldsAll (λ place. nat_eq place peer.0) held (happens_with_ends taken_all peer event work)
   event_held event work holds place here = subst (HoldsOctets (held place)) (sym (event_spare place peer event work here).spares.kept) (holds place here)
@@ -140,5 +140,5 @@ module _ (plan : Plan) (network : NetworkState) (me peer : EdgeId) (apart : nat_
           ),
           λ place off. leaves_same plan me place (network.edges place) (flight network me.0 place) (answers_for plan network me peer apart checked types others heard.later place) heard.last
               (holds peer heard.rest (heard.last.edge.peering peer.0) heard.last) (holding_said heard.rest (heard.last.edge.peering peer.0) heard.last place)
-              (there_then place heard.rest (heard.last.edge.peering peer.0) heard.last refl) (holding_same heard.rest (heard.last.edge.peering peer.0) heard.last place refl) (heard.keeps.1.1 place off),
+              (there_then place heard.rest (heard.last.edge.peering peer.0) heard.last refl) (holding_same heard.rest (heard.last.edge.peering peer.0) heard.last place refl) (heard.keeps.1.0.1 place off),
         )

@@ -29,43 +29,48 @@ use Rattle.flight_model.specs.Binding.{is_withdrawing}
 use Rattle.flight_model.specs.Bound.{AreBound, IsBoundBy, is_waited_for}
 use Rattle.flight_model.specs.Ends.{HasTypes, IsOrdered, ends_at}
 use Rattle.flight_model.specs.Facts.{flight}
-use Rattle.flight_model.specs.Laws.{BothStand, HasAgreed, IsRun, IsStillBetween, IsUnbound, OfWires, RunsAgreeAfterFlight, RunsSettle, network_after}
+use Rattle.flight_model.specs.Laws.{BothStand, HasAgreed, IsRun, IsStillBetween, IsUnbound, KeepsToldRule, OfWires, RunsAgreeAfterFlight, RunsSettle, network_after}
 use Rattle.flight_model.specs.Pair.{ArePaired}
+use Rattle.flight_model.specs.Sound.{point_limit}
 use Rattle.flight_model.proofs.BoundConnectLemmas.{connect_bounds, low_end}
 use Rattle.flight_model.proofs.BoundEventLemmas.{Bounds, again_bounds, arrive_bounds, circuit_bounds, deliver_bounds, discard_bounds, frame_bounds, lose_bounds, restart_bounds, priority_bounds, status_bounds, tick_bounds, wire_bounds}
 use Rattle.flight_model.proofs.EdgeBindingLemmas.{clash}
+use Rattle.flight_model.proofs.PlanLemmas.{both_in}
+use Rattle.flight_model.proofs.RuledNetworkLemmas.{IsRuledNetwork}
+use Rattle.flight_model.proofs.RuledRunLemmas.{brings_ruled, empty_ruled, keeps_told_rule}
 use Rattle.flight_model.proofs.RunLemmas.{both_apart, empty_ordered, none_said, run_ordered, runs_come_up, step_keeps}
 
 -- ---- runs
 
-brings_bounds : (plan : Plan) (event : Event) (network : NetworkState) → IsChecked plan → HasTypes plan → IsEventOf plan event → IsOrdered plan network → Bounds plan network → Bounds plan (brings plan event network).state
-brings_bounds plan (Connect from to) network checked types planned ordered bounds = connect_bounds plan from to network checked types ordered bounds
-brings_bounds plan (Deliver from to count) network checked types planned ordered bounds = deliver_bounds plan from to count network checked types ordered bounds
-brings_bounds plan (Lose me peer) network checked types planned ordered bounds = lose_bounds plan me peer network checked types ordered bounds
-brings_bounds plan (Restart me) network checked types planned ordered bounds = restart_bounds plan me network bounds
-brings_bounds plan Tick network checked types planned ordered bounds = tick_bounds plan network checked types ordered bounds
-brings_bounds plan (Frame circuit octets) network checked types planned ordered bounds = frame_bounds plan circuit octets (circuit_row plan circuit) network checked types ordered bounds
-brings_bounds plan (Circuit circuit on) network checked types planned ordered bounds = circuit_bounds plan circuit on (circuit_row plan circuit) network checked types ordered bounds
-brings_bounds plan (Wire me wire on) network checked types planned ordered bounds = wire_bounds plan me wire on network checked types ordered bounds
-brings_bounds plan (Status me wire bits) network checked types planned ordered bounds = status_bounds plan me wire bits network checked types planned.2 ordered bounds
-brings_bounds plan (Priority me wire priority) network checked types planned ordered bounds = priority_bounds plan me wire priority network checked types ordered bounds
-brings_bounds plan (Arrive number) network checked types planned ordered bounds = arrive_bounds plan (packet_at network number) network checked types ordered bounds
-brings_bounds plan (Discard number) network checked types planned ordered bounds = discard_bounds plan (packet_at network number) network bounds
-brings_bounds plan (Again number) network checked types planned ordered bounds = again_bounds plan (packet_at network number) network bounds
-brings_bounds plan (Ping me wire) network checked types planned ordered bounds = bounds
+brings_bounds : (plan : Plan) (event : Event) (network : NetworkState) → IsChecked plan → HasTypes plan → IsEventOf plan event → IsOrdered plan network → KeepsToldRule plan network → Bounds plan network → Bounds plan (brings plan event network).state
+brings_bounds plan (Connect from to) network checked types planned ordered told bounds = connect_bounds plan from to network checked types ordered bounds
+brings_bounds plan (Deliver from to count) network checked types planned ordered told bounds = deliver_bounds plan from to count network checked types ordered bounds told
+brings_bounds plan (Lose me peer) network checked types planned ordered told bounds = lose_bounds plan me peer network checked types ordered bounds
+brings_bounds plan (Restart me) network checked types planned ordered told bounds = restart_bounds plan me network bounds
+brings_bounds plan Tick network checked types planned ordered told bounds = tick_bounds plan network checked types ordered bounds
+brings_bounds plan (Frame circuit octets) network checked types planned ordered told bounds = frame_bounds plan circuit octets (circuit_row plan circuit) network checked types ordered bounds
+brings_bounds plan (Circuit circuit on) network checked types planned ordered told bounds = circuit_bounds plan circuit on (circuit_row plan circuit) network checked types ordered bounds
+brings_bounds plan (Wire me wire on) network checked types planned ordered told bounds = wire_bounds plan me wire on network checked types ordered bounds
+brings_bounds plan (Status me wire bits) network checked types planned ordered told bounds = status_bounds plan me wire bits network checked types planned.2 ordered bounds
+brings_bounds plan (Priority me wire priority) network checked types planned ordered told bounds = priority_bounds plan me wire priority network checked types ordered bounds
+brings_bounds plan (Arrive number) network checked types planned ordered told bounds = arrive_bounds plan (packet_at network number) network checked types ordered bounds
+brings_bounds plan (Discard number) network checked types planned ordered told bounds = discard_bounds plan (packet_at network number) network bounds
+brings_bounds plan (Again number) network checked types planned ordered told bounds = again_bounds plan (packet_at network number) network bounds
+brings_bounds plan (Ping me wire) network checked types planned ordered told bounds = bounds
 
-after_bounds : (plan : Plan) (events : List Event) (network : NetworkState) → IsChecked plan → HasTypes plan → All (IsEventOf plan) events → IsOrdered plan network → Bounds plan network → Bounds plan (state_after plan network events)
-after_bounds plan [] network checked types planned ordered bounds = bounds
-after_bounds plan (e ∷ es) network checked types planned ordered bounds =
-    after_bounds plan es (step plan network e).state checked types (All-tail (IsEventOf plan) e es planned) (step_keeps plan e network checked types (All-head (IsEventOf plan) e es planned) ordered).ordered
-    (brings_bounds plan e network checked types (All-head (IsEventOf plan) e es planned) ordered bounds)
+after_bounds : (plan : Plan) (events : List Event) (network : NetworkState) → IsChecked plan → HasTypes plan → All (IsEventOf plan) events → IsOrdered plan network → IsRuledNetwork plan network → Bounds plan network → Bounds plan (state_after plan network events)
+after_bounds plan [] network checked types planned ordered ruled bounds = bounds
+after_bounds plan (e ∷ es) network checked types planned ordered ruled bounds =
+    let here : IsEventOf plan e = All-head (IsEventOf plan) e es planned in
+    after_bounds plan es (step plan network e).state checked types (All-tail (IsEventOf plan) e es planned) (step_keeps plan e network checked types here ordered).ordered (brings_ruled plan e network checked types here ordered ruled)
+    (brings_bounds plan e network checked types here ordered (keeps_told_rule plan network ordered ruled) bounds)
 
 -- no end stands yet
 empty_bounds : (plan : Plan) → Bounds plan (empty_network plan)
 empty_bounds plan a b apart = record { bound = λ messages answers said answered out_is back_is near far. clash near }
 
 pub run_bounds : (plan : Plan) (events : List Event) → IsRun plan events → Bounds plan (network_after plan events)
-run_bounds plan events run = after_bounds plan events (empty_network plan) run.checked run.types run.planned (empty_ordered plan run.checked) (empty_bounds plan)
+run_bounds plan events run = after_bounds plan events (empty_network plan) run.checked run.types run.planned (empty_ordered plan run.checked) (empty_ruled plan run.checked) (empty_bounds plan)
 
 -- the ends of wires between two edges whose ends stand, with the messages on their way
 pub record AreBoundNow (plan : Plan) (network : NetworkState) (a b : ℕ) : Type 0 where
@@ -112,28 +117,6 @@ below (suc n) test k all less = elim (cases_Bool (nat_eq k n)) [
   where
     further : (k n : ℕ) → nat_lt k (suc n) ≡ true → nat_eq k n ≡ false → nat_lt k n ≡ true
     further k n less other = grind (arith, nat_tests)
-
--- an edge that a path joins to another one is in the plan
-both_in : (plan : Plan) (path : List EdgeId) (a b : ℕ) → list_all (is_edge_of plan) path ≡ true → joins a b path ≡ true → (nat_lt a (length plan.edges) ≡ true) × (nat_lt b (length plan.edges) ≡ true)
-both_in plan [] a b all joined = clash joined
-both_in plan (last ∷ []) a b all joined = clash joined
-both_in plan (first ∷ next ∷ rest) a b all joined = elim (cases_Bool ((nat_eq a first.0 && nat_eq b next.0) || (nat_eq b first.0 && nat_eq a next.0))) [
-  | inl here ↦ among first.0 next.0 (and_left (is_edge_of plan first) (list_all (is_edge_of plan) (next ∷ rest)) all) (and_left (is_edge_of plan next) (list_all (is_edge_of plan) rest) (and_right (is_edge_of plan first) (list_all (is_edge_of plan) (next ∷ rest)) all)) here
-  | inr later ↦ both_in plan (next ∷ rest) a b (and_right (is_edge_of plan first) (list_all (is_edge_of plan) (next ∷ rest)) all) (rw later at joined)
-]
-  where
-    n : ℕ
-    n = length plan.edges
-
-    two : (f g : ℕ) → nat_lt f n ≡ true → nat_lt g n ≡ true → (p q : Bool) → nat_eq a f && nat_eq b g ≡ p → nat_eq b f && nat_eq a g ≡ q → p || q ≡ true → (nat_lt a n ≡ true) × (nat_lt b n ≡ true)
-    two f g less less' true q one other some =
-        (rw (eqb-true a f (and_left (nat_eq a f) (nat_eq b g) one)) less, rw (eqb-true b g (and_right (nat_eq a f) (nat_eq b g) one)) less')
-    two f g less less' false true one other some =
-        (rw (eqb-true a g (and_right (nat_eq b f) (nat_eq a g) other)) less', rw (eqb-true b f (and_left (nat_eq b f) (nat_eq a g) other)) less)
-    two f g less less' false false one other some = clash some
-
-    among : (f g : ℕ) → nat_lt f n ≡ true → nat_lt g n ≡ true → (nat_eq a f && nat_eq b g) || (nat_eq b f && nat_eq a g) ≡ true → (nat_lt a n ≡ true) × (nat_lt b n ≡ true)
-    among f g less less' here = two f g less less' (nat_eq a f && nat_eq b g) (nat_eq b f && nat_eq a g) refl refl here
 
 any_wire : (plan : Plan) (service : ServiceId) (a b : ℕ) (rows : List WirePlan) → All (IsWireOf plan) rows → list_any (λ (wire : WirePlan). is_wire_of service wire && joins a b wire.path) rows ≡ true
     → (nat_lt a (length plan.edges) ≡ true) × (nat_lt b (length plan.edges) ≡ true)
@@ -204,8 +187,8 @@ gone_up (Some kept) gone = clash (sym gone)
 
 unbound : (plan : Plan) (network : NetworkState) (a b : ℕ) → IsOrdered plan network → stands network a b ≡ false → stands network b a ≡ false → OfWires plan network a b IsUnbound
 unbound plan network a b ordered gone gone' wire row is joined =
-    let one = low_end (is_up_with ((network.edges a).peering b)) ((network.edges a).ends wire.0 b) (gone_up ((network.edges a).peering b) gone) ((ordered.sound a).ends wire.0 b) in
-    let other = low_end (is_up_with ((network.edges b).peering a)) ((network.edges b).ends wire.0 a) (gone_up ((network.edges b).peering a) gone') ((ordered.sound b).ends wire.0 a) in
+    let one = low_end (point_limit plan a wire.0) (is_up_with ((network.edges a).peering b)) ((network.edges a).ends wire.0 b) (gone_up ((network.edges a).peering b) gone) ((ordered.sound a).ends wire.0 b) in
+    let other = low_end (point_limit plan b wire.0) (is_up_with ((network.edges b).peering a)) ((network.edges b).ends wire.0 a) (gone_up ((network.edges b).peering a) gone') ((ordered.sound b).ends wire.0 a) in
     record { one_idle = one.0; other_idle = other.0; near = one.1; far = other.1 }
 
 pub runs_settle : RunsSettle

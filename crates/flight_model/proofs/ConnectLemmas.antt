@@ -30,7 +30,7 @@ use Rattle.flight_model.specs.Ends.{HasTypes, IsOrdered, IsPaired, KeepsOrder, e
 use Rattle.flight_model.specs.Facts.{flight}
 use Rattle.flight_model.specs.Meeting.{IsFine, Shows, Spares, TellWell}
 use Rattle.flight_model.specs.Messages.{AreSaid, octets_of_all}
-use Rattle.flight_model.specs.Sound.{TellsSoundly}
+use Rattle.flight_model.specs.Sound.{TellsSoundly, point_limit}
 use Rattle.flight_model.specs.Pair.{AreEnds, ArePaired, IsStanding, is_in_step}
 use Rattle.flight_model.specs.Flight.{is_empty}
 use Rattle.flight_model.proofs.BetweenLemmas.{LeavesOthers, back_between, connected_two, out_between}
@@ -160,8 +160,8 @@ connects_spares place peer kept work apart =
     (spares_then place there told _ (session_spares place peer name.Initialized there) (event_spares place peer Start told apart))
 
 -- ends beside a peer whose session begins
-open_sound : (peer : EdgeId) (kept : Peering) (work : Work) → work.edge.peering peer.0 ≡ None → kept.session.phase ≡ phase.Initialized → TellsSoundly work.edge
-    → TellsSoundly (gives (Session peer name.Initialized) (changes (with_peering peer (Some kept)) work)).edge
+open_sound : {limit : ℕ → ℕ} → (peer : EdgeId) (kept : Peering) (work : Work) → work.edge.peering peer.0 ≡ None → kept.session.phase ≡ phase.Initialized → TellsSoundly limit work.edge
+    → TellsSoundly limit (gives (Session peer name.Initialized) (changes (with_peering peer (Some kept)) work)).edge
 unfolding gives changes with_peering
 open_sound peer kept work none state sound = record {
   least = sound.least;
@@ -185,14 +185,14 @@ opened_low own other me peer work has = elim (cases_Bool (is_active own)) [
 -- the end beside the peer has opened, and all other neighbours are in step
 pub record ConnectsOn (plan : Plan) (network : NetworkState) (own other : Peers) (me peer : EdgeId) (work : Work) : Type 0 where
   pub opened : HasOpened own other me peer work
-  pub sound : TellsSoundly work.edge
+  pub sound : TellsSoundly (point_limit plan me.0) work.edge
   pub alone : work.edge.peering me.0 ≡ None
   pub left : LeftBut plan network me (λ k. nat_eq k peer.0) work
 
 low_clash : {P : Type 0} (up : Bool) → up ≡ true → up ≡ false → P
 low_clash up e f = clash (sym f ∙ e)
 
-pub connects_steady : (plan : Plan) (network : NetworkState) (own other : Peers) (me peer : EdgeId) → IsSteady me (ConnectsOn plan network own other me peer)
+pub connects_steady : (plan : Plan) (network : NetworkState) (own other : Peers) (me peer : EdgeId) → IsSteady plan me (ConnectsOn plan network own other me peer)
 connects_steady plan network own other me peer = record {
   placed = λ work on. on.opened.fine.place;
   sound = λ work on. on.sound;
@@ -246,7 +246,7 @@ mended_on plan network me peer one other checked types ordered between ends none
 pub record HasConnected (plan : Plan) (network : NetworkState) (me peer : EdgeId) (work : Work) : Type 0 where
   pub place : work.edge.me ≡ me
   pub well : TellWell work.effects
-  pub sound : TellsSoundly work.edge
+  pub sound : TellsSoundly (point_limit plan me.0) work.edge
   pub alone : work.edge.peering me.0 ≡ None
   pub left : LeftBut plan network me (λ k. nat_eq k peer.0) work
 
@@ -265,7 +265,7 @@ connecting_keeps plan network from to first second between ordered one other pai
     two = connected_two (IsPaired plan) network from to first second (pair_turned plan) between ordered.two (leaves_others plan network from to first one) (leaves_others plan network to from second other) pair;
     alone = λ a. by_place (λ k e. e.peering k ≡ None) a one.alone other.alone (ordered.alone a);
     placed = λ a. by_place (λ k e. e.me ≡ record { 0 = k }) a one.place other.place (ordered.placed a);
-    sound = λ a. by_place (λ k e. TellsSoundly e) a one.sound other.sound (ordered.sound a);
+    sound = λ a. by_place (λ k e. TellsSoundly (point_limit plan k) e) a one.sound other.sound (ordered.sound a);
   };
   good = good-append _ _ (all_good from 0 0 first.effects (with_edge to second.edge (with_edge from first.edge network)) one.well)
       (all_good to 0 0 second.effects (absorb_all from 0 0 first.effects (with_edge to second.edge (with_edge from first.edge network))) other.well);

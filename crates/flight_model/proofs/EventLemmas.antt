@@ -25,7 +25,7 @@ use Rattle.flight_model.specs.Facts.{HoldsBut, flight}
 use Rattle.flight_model.specs.Flight.{is_empty}
 use Rattle.flight_model.specs.Messages.{octets_of_all}
 use Rattle.flight_model.specs.Pair.{ArePaired, AreTalking}
-use Rattle.flight_model.specs.Sound.{TellsSoundly}
+use Rattle.flight_model.specs.Sound.{TellsSoundly, point_limit}
 use Rattle.flight_model.proofs.HearLemmas.{HearsOn, heard_works, hears_kept}
 use Rattle.flight_model.proofs.HearingLemmas.{few_heard, message_heard}
 use Rattle.flight_model.proofs.MendingLemmas.{mends_keep}
@@ -108,15 +108,15 @@ pub same_edges : (me : EdgeId) (network : NetworkState) → (without_octets_to m
 unfolding without_octets_to
 same_edges me network = refl
 
-restart_sound : (me : EdgeId) (network : NetworkState) → TellsSoundly (network.edges me.0) → TellsSoundly (restart_input (begin_at network me)).edge
+restart_sound : (limit : ℕ → ℕ) (me : EdgeId) (network : NetworkState) → TellsSoundly limit (network.edges me.0) → TellsSoundly limit (restart_input (begin_at network me)).edge
 unfolding changes with_learned without_ends without_peerings
-restart_sound me network sound = record { least = sound.least; most = sound.most; bits = sound.bits; ends = λ wire peer. fresh_sound false }
+restart_sound limit me network sound = record { least = sound.least; most = sound.most; bits = sound.bits; ends = λ wire peer. fresh_sound (limit wire) false }
 
 restart_works : (plan : Plan) (me : EdgeId) (network : NetworkState) → IsOrdered plan network → WorksOn plan (without_octets_to me network) me (restart_input (begin_at network me))
 unfolding changes with_learned without_ends without_peerings
 restart_works plan me network ordered = record {
   fine = record { place = ordered.placed me.0; idle = refl; well = tt };
-  sound = restart_sound me network (ordered.sound me.0);
+  sound = restart_sound (point_limit plan me.0) me network (ordered.sound me.0);
   alone = refl;
   left = λ place away.
       let pair = ordered.two me.0 place (apart_turned place me.0 away) in
@@ -137,7 +137,7 @@ restart_others : (plan : Plan) (me : EdgeId) (network : NetworkState) → IsOrde
 restart_others plan me network ordered a b apart away gone =
     rw (same_edges me network, away_from me network a b gone, away_from me network b a away) (ordered.two a b apart)
 
-restart_apart : (plan : Plan) (me : EdgeId) (network : NetworkState) → IsOrdered plan network → AreOthers me (without_octets_to me network)
+restart_apart : (plan : Plan) (me : EdgeId) (network : NetworkState) → IsOrdered plan network → AreOthers plan me (without_octets_to me network)
 unfolding without_octets_to
 restart_apart plan me network ordered = record { alone = λ a away. ordered.alone a; placed = λ a away. ordered.placed a; sound = λ a away. ordered.sound a }
 
@@ -204,7 +204,7 @@ deliver_others : (plan : Plan) (from to : EdgeId) (octets : List ℕ) (network :
 deliver_others plan from to octets network ordered a b apart away gone =
     rw (pipe_edges from to octets network, pipe_to from to octets network a b gone, pipe_to from to octets network b a away) (ordered.two a b apart)
 
-deliver_apart : (plan : Plan) (from to : EdgeId) (octets : List ℕ) (network : NetworkState) → IsOrdered plan network → AreOthers to (with_pipe from to octets network)
+deliver_apart : (plan : Plan) (from to : EdgeId) (octets : List ℕ) (network : NetworkState) → IsOrdered plan network → AreOthers plan to (with_pipe from to octets network)
 unfolding with_pipe
 deliver_apart plan from to octets network ordered = record { alone = λ a away. ordered.alone a; placed = λ a away. ordered.placed a; sound = λ a away. ordered.sound a }
 

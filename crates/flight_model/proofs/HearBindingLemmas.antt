@@ -33,7 +33,8 @@ use Rattle.flight_model.specs.Ends.{HasTypes, ends_at}
 use Rattle.flight_model.specs.Facts.{flight}
 use Rattle.flight_model.specs.Messages.{IsSaid}
 use Rattle.flight_model.specs.Pair.{AreTalking, StayInStep}
-use Rattle.flight_model.specs.Sound.{IsSoundEnd}
+use Rattle.flight_model.specs.Rules.{AllMessages, TellsPlan}
+use Rattle.flight_model.specs.Sound.{IsSoundEnd, point_limit}
 use Rattle.flight_model.proofs.ActBindingLemmas.{acts_leaves, acts_spare, spared_leaves, unchanged_leaves}
 use Rattle.flight_model.proofs.EdgeBindingLemmas.{clash}
 use Rattle.flight_model.proofs.EventBindingLemmas.{event_spare, goes_on, leaves_event, leaves_no_event}
@@ -41,6 +42,7 @@ use Rattle.flight_model.proofs.HeardBindingLemmas.{HearsAs, bound_hears}
 use Rattle.flight_model.proofs.HearingLemmas.{KeptByHearing, withdraws_addresses}
 use Rattle.flight_model.proofs.HearLemmas.{HearsOn, hears_kept, hears_steady}
 use Rattle.flight_model.proofs.LeaveLemmas.{leaves_none}
+use Rattle.flight_model.proofs.MendingLemmas.{KeptByRows}
 use Rattle.flight_model.proofs.ReactLemmas.{heard_in_step, received_in_step}
 use Rattle.flight_model.proofs.RowBindingLemmas.{LeavesAll, SaysAll, rows_leave}
 use Rattle.flight_model.proofs.SaidLemmas.{fatal_ends}
@@ -118,6 +120,18 @@ session_says_none : (m : Message) (pw_id label : ℕ) → is_session m ≡ true 
 session_says_none (LabelWithdraw id fec label) pw_id own is = clash is
 session_says_none m pw_id own is = refl
 
+-- rows keep what does not go by the work
+rows_beside : (plan : Plan) (me : EdgeId) (I : Work → Type 0) (Q : Type 0) → KeptByRows plan me I → KeptByRows plan me (λ work. I work × Q)
+rows_beside plan me I Q rows = record {
+  placed = λ work both. rows.placed work both.0;
+  advertises = λ place content work at is wished some both. (rows.advertises place content work at is wished some both.0, both.1);
+  withdraws = λ place label content work at is changed both. (rows.withdraws place label content work at is changed both.0, both.1);
+  tells = λ place label content last work at is told other both. (rows.tells place label content last work at is told other both.0, both.1);
+  clears = λ place label content addresses work at is piece both. (rows.clears place label content addresses work at is piece both.0, both.1);
+  tells_down = λ place down work at both. (rows.tells_down place down work at both.0, both.1);
+  others = λ change work keeps peering both. (rows.others change work keeps peering both.0, both.1);
+}
+
 module _ (plan : Plan) (network : NetworkState) (me peer : EdgeId) (apart : nat_eq me.0 peer.0 ≡ false) (checked : IsChecked plan) (types : HasTypes plan) (others : ℕ → List Message) where
   -- what the edge is still to hear of each place: these of the peer
   abbrev pub answers_for : List Message → ℕ → List Message
@@ -127,8 +141,12 @@ module _ (plan : Plan) (network : NetworkState) (me peer : EdgeId) (apart : nat_
   LeavesFor messages work = LeavesAll plan me checked network.edges (flight network me.0) (answers_for messages) work
 
   -- an edge that hears the peer, and keeps the ends of wires of each place bound
+  abbrev pub HearsLeaving : List Message → Work → Type 0
+  HearsLeaving messages work = HearsOn plan network me peer messages work × LeavesFor messages work
+
+  -- and that is still to hear what is planned
   abbrev pub HearsBound : List Message → Work → Type 0
-  HearsBound messages work = HearsOn plan network me peer messages work × LeavesFor messages work
+  HearsBound messages work = HearsLeaving messages work × AllMessages (TellsPlan plan peer.0 me.0) messages
 
   Bound : ℕ → List Message → Work → Type 0
   Bound place messages work = LeavesBound plan me place (network.edges place) (flight network me.0 place) messages work
@@ -185,12 +203,12 @@ module _ (plan : Plan) (network : NetworkState) (me peer : EdgeId) (apart : nat_
   not_up phase.OpenRec up = refl
   not_up phase.Operational up = up
 
-  none_held : (up : Bool) (e : EndState) → up ≡ false → IsSoundEnd up e → e.remote ≡ None
-  none_held true e is sound = clash (sym is)
-  none_held false e is sound = sound.1
+  none_held : (limit : ℕ) (up : Bool) (e : EndState) → up ≡ false → IsSoundEnd limit up e → e.remote ≡ None
+  none_held limit true e is sound = clash (sym is)
+  none_held limit false e is sound = sound.1
 
   received_leaves : (m : Message) (messages : List Message) (kept : Peering) (work : Work) → work.edge.peering peer.0 ≡ Some kept → IsSaid (ends_at plan peer.0 me.0) m → (is_up_phase kept.session.phase ≡ false) ⊎ (is_fatal m ≡ true)
-      → HearsBound (m ∷ messages) work → LeavesFor messages (happens_with_ends taken_all peer (Received m) work)
+      → HearsLeaving (m ∷ messages) work → LeavesFor messages (happens_with_ends taken_all peer (Received m) work)
   received_leaves m messages kept work at said ends hears =
       event_leaves (m ∷ messages) messages (Received m) work (λ k ms t. received_in_step (ends_at plan me.0 peer.0) (ends_at plan peer.0 me.0) k ((network.edges peer.0).peering me.0) ms messages m t)
       (λ k there goes ms bound. follows k there goes ms bound ends) hears.0 hears.1
@@ -207,24 +225,24 @@ module _ (plan : Plan) (network : NetworkState) (me peer : EdgeId) (apart : nat_
       follows k there goes ms bound (inl up) =
           let is : is_session m ≡ true = session_goes k.session (ends_at plan peer.0 me.0) m (ap (λ (p : Peering). is_up_phase p.session.phase) (sym (same_kept k there)) ∙ up) said goes in
           bound_hears plan me peer m work.edge work.edge (network.edges peer.0) ms messages (λ pw_id own. session_says_none m pw_id own is)
-          (session_heard_as plan me peer m work.edge is (λ wire. none_held (is_up_with (work.edge.peering peer.0)) (work.edge.ends wire peer.0) (ap is_up_with at ∙ not_up kept.session.phase up) (hears.0.sound.ends wire peer.0))) bound
+          (session_heard_as plan me peer m work.edge is (λ wire. none_held (point_limit plan me.0 wire) (is_up_with (work.edge.peering peer.0)) (work.edge.ends wire peer.0) (ap is_up_with at ∙ not_up kept.session.phase up) (hears.0.sound.ends wire peer.0))) bound
 
   acting_leaves : (m : Message) (messages : List Message) (kept : Peering) (work : Work) → work.edge.peering peer.0 ≡ Some kept → IsSaid (ends_at plan peer.0 me.0) m → withdraws_addresses m ≡ false
-      → HearsBound (m ∷ messages) work → LeavesFor messages (acts_on plan taken_all peer m work)
+      → TellsPlan plan peer.0 me.0 m → HearsLeaving (m ∷ messages) work → LeavesFor messages (acts_on plan taken_all peer m work)
   unfolding Bound
-  acting_leaves m messages kept work at said plain hears =
+  acting_leaves m messages kept work at said plain tells hears =
       by_place (m ∷ messages) messages work (acts_on plan taken_all peer m work)
       (λ bound. own bound) (λ place there bound. spared_leaves plan me place (network.edges place) (flight network me.0 place) (others place) work (acts_on plan taken_all peer m work) (acts_spare plan peer place there m (ends_at plan peer.0 me.0) work said plain) bound) hears.1
     where
       Acts : EdgeId → Type 0
-      Acts k = HasSaid plan k peer.0 (network.edges peer.0) (flight network me.0 peer.0) work → LeavesBound plan k peer.0 (network.edges peer.0) (flight network me.0 peer.0) (m ∷ messages) work
+      Acts k = TellsPlan plan peer.0 k.0 m → HasSaid plan k peer.0 (network.edges peer.0) (flight network me.0 peer.0) work → LeavesBound plan k peer.0 (network.edges peer.0) (flight network me.0 peer.0) (m ∷ messages) work
           → LeavesBound plan k peer.0 (network.edges peer.0) (flight network me.0 peer.0) messages (acts_on plan taken_all peer m work)
 
       as_placed : Acts work.edge.me
-      as_placed has leaves = acts_leaves plan peer checked (network.edges peer.0) (flight network me.0 peer.0) messages kept work has at m (ends_at plan peer.0 me.0) said plain leaves
+      as_placed planned has leaves = acts_leaves plan peer checked (network.edges peer.0) (flight network me.0 peer.0) messages kept work has at m (ends_at plan peer.0 me.0) said plain planned leaves
 
       own : LeavesBound plan me peer.0 (network.edges peer.0) (flight network me.0 peer.0) (m ∷ messages) work → LeavesBound plan me peer.0 (network.edges peer.0) (flight network me.0 peer.0) messages (acts_on plan taken_all peer m work)
-      own leaves = subst Acts hears.0.meets.fine.place as_placed
+      own leaves = subst Acts hears.0.meets.fine.place as_placed tells
           (record { messages = hears.0.meets.messages; answers = cond (is_there (work.edge.peering peer.0)) (m ∷ messages) []; out_is = hears.0.meets.out_is; talk = hears.0.meets.talk }) leaves
 
   -- a MAC withdraw says nothing of the ends of wires
@@ -241,19 +259,27 @@ module _ (plan : Plan) (network : NetworkState) (me peer : EdgeId) (apart : nat_
   bound_kept =
       let base : KeptByHearing plan me peer (ends_at plan peer.0 me.0) (HearsOn plan network me peer) = hears_kept plan network me peer apart checked types in
       record {
-        window = λ messages kept work at hears. base.window messages kept work at hears.0;
+        window = λ messages kept work at hears. base.window messages kept work at hears.0.0;
         sender = λ messages work hears. (
-          base.sender messages work hears.0,
-          event_leaves messages messages (Heard (platform_of (ends_at plan peer.0 me.0).me)) work (λ kept ms t. heard_in_step (ends_at plan me.0 peer.0) (ends_at plan peer.0 me.0) kept ((network.edges peer.0).peering me.0) ms messages t)
-              (λ kept at goes ms bound. bound) hears.0 hears.1,
+          (
+            base.sender messages work hears.0.0,
+            event_leaves messages messages (Heard (platform_of (ends_at plan peer.0 me.0).me)) work (λ kept ms t. heard_in_step (ends_at plan me.0 peer.0) (ends_at plan peer.0 me.0) kept ((network.edges peer.0).peering me.0) ms messages t)
+                (λ kept at goes ms bound. bound) hears.0.0 hears.0.1,
+          ),
+          hears.1,
         );
         gone = λ m messages work at hears. (
-          base.gone m messages work at hears.0,
-          by_place (m ∷ messages) messages work work (λ bound. leaves_none plan me peer.0 (network.edges peer.0) (flight network me.0 peer.0) messages work at) (λ place there bound. bound) hears.1,
+          (
+            base.gone m messages work at hears.0.0,
+            by_place (m ∷ messages) messages work work (λ bound. leaves_none plan me peer.0 (network.edges peer.0) (flight network me.0 peer.0) messages work at) (λ place there bound. bound) hears.0.1,
+          ),
+          hears.1.1,
         );
-        event = λ m messages kept work at said ends hears. (base.event m messages kept work at said ends hears.0, received_leaves m messages kept work at said ends hears);
-        acts = λ m messages kept work at up said plain pseudowires hears. (base.acts m messages kept work at up said plain pseudowires hears.0, acting_leaves m messages kept work at said pseudowires hears);
-        goes_by = λ m messages kept work at up said addresses hears. (base.goes_by m messages kept work at up said addresses hears.0, by_leaves m messages work addresses hears.1);
-        mends = λ messages. rows_leave plan me checked network.edges (flight network me.0) (answers_for messages) types (HearsOn plan network me peer messages)
-            (steady_rows plan me checked types (HearsOn plan network me peer messages) (hears_steady plan network me peer apart messages)) (λ work hears. hears.sound) (λ work hears. said_all messages work hears);
+        event = λ m messages kept work at said ends hears. ((base.event m messages kept work at said ends hears.0.0, received_leaves m messages kept work at said ends hears.0), hears.1.1);
+        acts = λ m messages kept work at up said plain pseudowires hears.
+            ((base.acts m messages kept work at up said plain pseudowires hears.0.0, acting_leaves m messages kept work at said pseudowires hears.1.0 hears.0), hears.1.1);
+        goes_by = λ m messages kept work at up said addresses hears. ((base.goes_by m messages kept work at up said addresses hears.0.0, by_leaves m messages work addresses hears.0.1), hears.1.1);
+        mends = λ messages. rows_beside plan me (HearsLeaving messages) (AllMessages (TellsPlan plan peer.0 me.0) messages)
+            (rows_leave plan me checked network.edges (flight network me.0) (answers_for messages) types (HearsOn plan network me peer messages)
+            (steady_rows plan me checked types (HearsOn plan network me peer messages) (hears_steady plan network me peer apart messages)) (λ work hears. hears.sound) (λ work hears. said_all messages work hears));
       }

@@ -21,7 +21,7 @@ use Rattle.flight_model.specs.Facts.{flight}
 use Rattle.flight_model.specs.Meeting.{IsFine, Meets, Spares, closes}
 use Rattle.flight_model.specs.Messages.{octets_of_all}
 use Rattle.flight_model.specs.Pair.{AreTalking, StayInStep}
-use Rattle.flight_model.specs.Sound.{TellsSoundly}
+use Rattle.flight_model.specs.Sound.{TellsSoundly, point_limit}
 use Rattle.flight_model.proofs.ActLemmas.{steady_acts}
 use Rattle.flight_model.proofs.HearingLemmas.{HasHeard, KeptByHearing}
 use Rattle.flight_model.proofs.MeetLemmas.{happens_meets}
@@ -73,7 +73,7 @@ meets_up own other me peer kept far out m answers work at up meets = record {
 
 pub record HearsOn (plan : Plan) (network : NetworkState) (me peer : EdgeId) (answers : List Message) (work : Work) : Type 0 where
   pub meets : Meets (ends_at plan me.0 peer.0) (ends_at plan peer.0 me.0) me peer ((network.edges peer.0).peering me.0) (flight network me.0 peer.0) answers work
-  pub sound : TellsSoundly work.edge
+  pub sound : TellsSoundly (point_limit plan me.0) work.edge
   pub alone : work.edge.peering me.0 ≡ None
   pub left : LeftBut plan network me (λ k. nat_eq k peer.0) work
 
@@ -93,7 +93,7 @@ module _ (plan : Plan) (network : NetworkState) (me peer : EdgeId) (apart : nat_
   abbrev besides : ℕ → Bool
   besides k = nat_eq k peer.0
 
-  pub hears_steady : (answers : List Message) → IsSteady me (HearsOn plan network me peer answers)
+  pub hears_steady : (answers : List Message) → IsSteady plan me (HearsOn plan network me peer answers)
   hears_steady answers = record {
     placed = λ work hears. hears.meets.fine.place;
     sound = λ work hears. hears.sound;
@@ -182,7 +182,7 @@ module _ (plan : Plan) (network : NetworkState) (me peer : EdgeId) (apart : nat_
         },
       )
 
-  held_sound : (kept : Peering) (rest : List ℕ) (work : Work) → work.edge.peering peer.0 ≡ Some kept → TellsSoundly work.edge → TellsSoundly (holds peer rest (Some kept) work).edge
+  held_sound : (kept : Peering) (rest : List ℕ) (work : Work) → work.edge.peering peer.0 ≡ Some kept → TellsSoundly (point_limit plan me.0) work.edge → TellsSoundly (point_limit plan me.0) (holds peer rest (Some kept) work).edge
   unfolding changes with_peering
   held_sound kept rest work at sound = record {
     least = sound.least;

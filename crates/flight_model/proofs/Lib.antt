@@ -1,3 +1,4 @@
+pub mod AcceptLemmas
 pub mod ActBindingLemmas
 pub mod ActLemmas
 pub mod BetweenLemmas

@@ -15,7 +15,7 @@ use Rattle.edge_model.specs.declared.effect.Effect.TheVariants.{Wire}
 use Rattle.edge_model.specs.declared.end_place.EndPlace.{EndPlace}
 use Rattle.edge_model.specs.Content.{mac_withdrawal, mapping}
 use Rattle.edge_model.specs.EndPlaces.{end_places}
-use Rattle.edge_model.specs.Mend.{advertises_wish, advertising, cause_number, each_end, forgets_down, forgets_downs, forgetting_wire, is_new_choice, mends, mends_again, mends_choice, mends_end, mends_few, mends_local, mends_once, mends_status, mends_status_of, tells_down, tells_downs, tells_new_status, tells_over, wish, withdraws, withdraws_unless}
+use Rattle.edge_model.specs.Mend.{advertises_wish, advertising, cause_number, each_end, forgets_down, forgets_downs, forgetting_wire, is_new_choice, mends, mends_again, mends_choice, mends_end, mends_few, mends_local, mends_once, mends_status, mends_status_of, stands, tells_down, tells_downs, tells_new_status, tells_over, wish, withdraws}
 use Rattle.edge_model.specs.Put.{Spoken, stays}
 use Rattle.edge_model.specs.Role.{down_at, status_to_tell}
 use Rattle.edge_model.specs.Session.{says}
@@ -36,8 +36,8 @@ pub record KeptByRows (plan : Plan) (me : EdgeId) (I : Work → Type 0) : Type 0
   -- an idle end advertises the next label
   pub advertises : (place : EndPlace) (content : Told) (work : Work) → IsEndOf plan me place → (end_at work.edge place).local ≡ Idle false → wish plan work.edge place ≡ Some content
       → work.edge.next_label == numbers_end ≡ false → I work → I (says taken_all place.peer (mapping place.pw_id work.edge.next_label content) (changes (advertising place work.edge.next_label content) work)).work
-  -- an end that should tell nothing withdraws its label
-  pub withdraws : (place : EndPlace) (label : ℕ) (content : Told) (work : Work) → IsEndOf plan me place → (end_at work.edge place).local ≡ Advertised label content → wish plan work.edge place ≡ None
+  -- an end withdraws its label where what it has told does not stand
+  pub withdraws : (place : EndPlace) (label : ℕ) (content : Told) (work : Work) → IsEndOf plan me place → (end_at work.edge place).local ≡ Advertised label content → stands place content (wish plan work.edge place) ≡ false
       → I work → I (withdraws taken_all place label content work).work
   -- an end that has told a status tells another one
   pub tells : (place : EndPlace) (label : ℕ) (content : Told) (last : PwStatus) (work : Work) → IsEndOf plan me place → (end_at work.edge place).local ≡ Advertised label content → content.status ≡ Some last
@@ -67,14 +67,15 @@ module _ (plan : Plan) (me : EdgeId) (I : Work → Type 0) (kept : KeptByRows pl
     by_wish at None wished = i
     by_wish at (Some content) wished = by_label content at wished (work.edge.next_label == numbers_end) refl
 
-    unless : (label : ℕ) (content : Told) → (end_at work.edge place).local ≡ Advertised label content → (wished : Option Told) → wish plan work.edge place ≡ wished → I (withdraws_unless taken_all place label content wished work).work
-    unless label content at None wished = kept.withdraws place label content work is at wished i
-    unless label content at (Some other) wished = i
+    unless : (label : ℕ) (content : Told) → (end_at work.edge place).local ≡ Advertised label content → (still : Bool) → stands place content (wish plan work.edge place) ≡ still
+        → I (cond still (stays work) (withdraws taken_all place label content work)).work
+    unless label content at true still = i
+    unless label content at false changed = kept.withdraws place label content work is at changed i
 
     by_local : (local : LocalPart) → (end_at work.edge place).local ≡ local → I (mends_local plan taken_all place local work).work
     by_local (Idle true) at = i
     by_local (Idle false) at = by_wish at (wish plan work.edge place) refl
-    by_local (Advertised label content) at = unless label content at (wish plan work.edge place) refl
+    by_local (Advertised label content) at = unless label content at (stands place content (wish plan work.edge place)) refl
     by_local (Withdrawing label) at = i
 
   pub status_keeps : (place : EndPlace) → IsEndOf plan me place → (work : Work) → I work → I (mends_status plan taken_all place work).work

@@ -18,8 +18,9 @@ use Rattle.hvpls_spokes.specs.Role as roles
 use Rattle.mac_withdraw.specs.Passing.{is_passed_to}
 use Rattle.mac_withdraw.specs.Pieces.{pieces_of}
 use Rattle.edge_model.specs.declared.end_place.EndPlace.{EndPlace}
+use Rattle.edge_model.specs.Across.{end_beside, end_beyond, mate_of}
 use Rattle.edge_model.specs.Clear.{clears_at, clears_by, clears_wire, hears_mac_withdraw, passes_on, tells_at, tells_by, withdrawing_at}
-use Rattle.edge_model.specs.EndPlaces.{end_places, is_end_of_wire}
+use Rattle.edge_model.specs.EndPlaces.{end_places, is_at, is_end_of_wire}
 use Rattle.edge_model.specs.Ends.{wire_end}
 use Rattle.edge_model.specs.Frame.{copies}
 use Rattle.edge_model.specs.Mend.{port_of_wire}
@@ -41,6 +42,13 @@ forgetting_rest service addresses from edge = (record { me = refl; wire_on = ref
 -- the terminal end of a wire is one of the edge
 pub wire_end_is : (plan : Plan) (me : EdgeId) (wire : WireId) (place : EndPlace) → wire_end plan me wire ≡ Some place → IsEndOf plan me place
 wire_end_is plan me wire place e = (find_holds (IsEndOf plan me) (is_end_of_wire wire) (end_places plan me) place (places_are plan me) e).holds
+
+-- and so is the end on the other side of one
+end_beyond_is : (plan : Plan) (me : EdgeId) (place other : EndPlace) → end_beyond plan me place ≡ Some other → IsEndOf plan me other
+end_beyond_is plan me place other = by_mate (mate_of me place (wire_row plan place.wire)) where
+  by_mate : (peer : Option EdgeId) → end_beside plan me place.wire peer ≡ Some other → IsEndOf plan me other
+  by_mate None e = absurd (cc)
+  by_mate (Some peer) e = (find_holds (IsEndOf plan me) (is_at place.wire.0 peer.0) (end_places plan me) other (places_are plan me) e).holds
 
 module _ (plan : Plan) (me : EdgeId) (I : Work → Type 0) (kept : KeptByRows plan me I) where
   pieces_keep : (place : EndPlace) → IsEndOf plan me place → (pieces : List (List Mac)) → AllByRecursion IsPiece pieces → (work : Work) → I work → I (tells_pieces taken_all place pieces work)
@@ -81,12 +89,19 @@ module _ (plan : Plan) (me : EdgeId) (I : Work → Type 0) (kept : KeptByRows pl
     row_keeps place None work i = i
     row_keeps place (Some row) work i = service_keeps row.service (port_of_wire plan work.edge place.wire row) work i
 
+    beyond_keeps : (place : EndPlace) (work : Work) → I work → I (tells_by taken_all addresses (end_beyond plan work.edge.me place) work)
+    beyond_keeps place work i = by_end (end_beyond plan work.edge.me place) refl where
+      by_end : (found : Option EndPlace) → end_beyond plan work.edge.me place ≡ found → I (tells_by taken_all addresses found work)
+      by_end None e = i
+      by_end (Some other) e =
+          pieces_keep other (subst (λ (k : EdgeId). IsEndOf plan k other) (kept.placed work i) (end_beyond_is plan work.edge.me place other e)) (pieces_of addresses) (pieces_are addresses are) work i
+
     end_keeps : (found : Option EndPlace) (work : Work) → I work → I (clears_by plan taken_all addresses found work)
     end_keeps None work i = i
     end_keeps (Some place) work i = by_side place.terminal where
-      by_side : (terminal : Bool) → I (cond terminal (clears_wire plan taken_all addresses place (wire_row plan place.wire) work) work)
+      by_side : (terminal : Bool) → I (cond terminal (clears_wire plan taken_all addresses place (wire_row plan place.wire) work) (tells_by taken_all addresses (end_beyond plan work.edge.me place) work))
       by_side true = row_keeps place (wire_row plan place.wire) work i
-      by_side false = i
+      by_side false = beyond_keeps place work i
 
   pub withdraw_keeps : (peer : EdgeId) (fec : PwFec) (addresses : List Mac) → AreSixOctetsEach addresses → (work : Work) → I work → I (hears_mac_withdraw plan taken_all peer (Some fec) (Some addresses) work)
   withdraw_keeps peer fec addresses are work i = end_keeps addresses are (end_of_fec plan work.edge peer fec) work i

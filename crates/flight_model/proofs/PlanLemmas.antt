@@ -1,17 +1,19 @@
 -- What a checked plan says of the two ends of a connection.
-use Rattle.std.proofs.Common.{◌≡◌, ◌<◌, ◌⊎◌, ◌∙◌, ℕ, Bool, true, false, nat_eq, List, [], ◌∷◌, Some, slice_get, refl, sym, subst, inl, inr, arith}
-use Rattle.std.proofs.lemmas.Bool.{cases_Bool, cases_lt}
+use Rattle.std.proofs.Common.{◌≡◌, ◌<◌, ◌⊎◌, ◌&&◌, ◌||◌, ◌∙◌, ℕ, Bool, true, false, length, nat_eq, nat_lt, List, [], ◌∷◌, Some, slice_get, refl, sym, subst, inl, inr, arith}
+use Rattle.std.proofs.lemmas.Bool.{cases_Bool, cases_lt, eqb-true}
 use Rattle.std.proofs.lemmas.Bool.Decides.{nat_tests}
 use Rattle.std.proofs.lemmas.List.Elements.{All-get_or, All-head, All-tail}
 use Rattle.std.proofs.lemmas.Option.{get_or_from_slice_get, slice_get_within}
 use Rattle.std.proofs.lemmas.Slice.Eq.{bytes_eq-Decides}
-use Rattle.std.specs.List.{All, list_any}
+use Rattle.std.specs.List.{All, list_all, list_any}
 use Rattle.std.specs.Str.{bytes_eq}
 use Rattle.net_base.specs.declared.plan.Plan.{Plan}
 use Rattle.net_base.specs.declared.plan.edge_plan.EdgePlan.{EdgePlan}
+use Rattle.net_base.specs.declared.plan.places.EdgeId.{EdgeId}
 use Rattle.net_base.specs.declared.plan.wire_plan.WirePlan.{WirePlan}
 use Rattle.net_base.specs.plan.Accepted.{IsChecked, IsEdgePlan, IsWireOf}
 use Rattle.net_base.specs.plan.Paths.{are_joined, joins}
+use Rattle.net_base.specs.plan.RowFaults.{is_edge_of}
 use Rattle.net_base.proofs.PathLemmas.{joins_apart, joins_turned}
 use Rattle.session_core.specs.Laws.{IsAddress}
 use Rattle.edge_model.specs.Connection.{peers_of}
@@ -43,7 +45,7 @@ one_before a b apart = elim (cases_lt a b) [
   | inr behind ↦ inr (grind (arith, nat_tests))
 ]
 
-addresses_apart : (plan : Plan) (a b : ℕ) (one other : EdgePlan) → IsChecked plan → slice_get plan.edges a ≡ Some one → slice_get plan.edges b ≡ Some other → nat_eq a b ≡ false → bytes_eq one.address.0 other.address.0 ≡ false
+pub addresses_apart : (plan : Plan) (a b : ℕ) (one other : EdgePlan) → IsChecked plan → slice_get plan.edges a ≡ Some one → slice_get plan.edges b ≡ Some other → nat_eq a b ≡ false → bytes_eq one.address.0 other.address.0 ≡ false
 addresses_apart plan a b one other checked first second apart = elim (one_before a b apart) [
   | inl before ↦ before_apart plan a b one other checked first second before
   | inr behind ↦ turned other.address.0 one.address.0 (before_apart plan b a other one checked second first behind)
@@ -93,3 +95,35 @@ any_same one other (row ∷ rows) same = rw (same row, any_same one other rows s
 
 pub joined_turned : (plan : Plan) (a b : ℕ) → are_joined plan a b ≡ are_joined plan b a
 joined_turned plan a b = any_same (λ (row : WirePlan). joins a b row.path) (λ (row : WirePlan). joins b a row.path) plan.wires (λ row. joins_turned row.path a b)
+
+-- ---- paths
+
+and_left : (a b : Bool) → a && b ≡ true → a ≡ true
+and_left true b h = refl
+and_left false b h = clash h
+
+and_right : (a b : Bool) → a && b ≡ true → b ≡ true
+and_right true b h = h
+and_right false b h = clash h
+
+-- an edge that a path joins to another one is in the plan
+pub both_in : (plan : Plan) (path : List EdgeId) (a b : ℕ) → list_all (is_edge_of plan) path ≡ true → joins a b path ≡ true → (nat_lt a (length plan.edges) ≡ true) × (nat_lt b (length plan.edges) ≡ true)
+both_in plan [] a b all joined = clash joined
+both_in plan (last ∷ []) a b all joined = clash joined
+both_in plan (first ∷ next ∷ rest) a b all joined = elim (cases_Bool ((nat_eq a first.0 && nat_eq b next.0) || (nat_eq b first.0 && nat_eq a next.0))) [
+  | inl here ↦ among first.0 next.0 (and_left (is_edge_of plan first) (list_all (is_edge_of plan) (next ∷ rest)) all) (and_left (is_edge_of plan next) (list_all (is_edge_of plan) rest) (and_right (is_edge_of plan first) (list_all (is_edge_of plan) (next ∷ rest)) all)) here
+  | inr later ↦ both_in plan (next ∷ rest) a b (and_right (is_edge_of plan first) (list_all (is_edge_of plan) (next ∷ rest)) all) (rw later at joined)
+]
+  where
+    n : ℕ
+    n = length plan.edges
+
+    two : (f g : ℕ) → nat_lt f n ≡ true → nat_lt g n ≡ true → (p q : Bool) → nat_eq a f && nat_eq b g ≡ p → nat_eq b f && nat_eq a g ≡ q → p || q ≡ true → (nat_lt a n ≡ true) × (nat_lt b n ≡ true)
+    two f g less less' true q one other some =
+        (rw (eqb-true a f (and_left (nat_eq a f) (nat_eq b g) one)) less, rw (eqb-true b g (and_right (nat_eq a f) (nat_eq b g) one)) less')
+    two f g less less' false true one other some =
+        (rw (eqb-true a g (and_right (nat_eq b f) (nat_eq a g) other)) less', rw (eqb-true b f (and_left (nat_eq b f) (nat_eq a g) other)) less)
+    two f g less less' false false one other some = clash some
+
+    among : (f g : ℕ) → nat_lt f n ≡ true → nat_lt g n ≡ true → (nat_eq a f && nat_eq b g) || (nat_eq b f && nat_eq a g) ≡ true → (nat_lt a n ≡ true) × (nat_lt b n ≡ true)
+    among f g less less' here = two f g less less' (nat_eq a f && nat_eq b g) (nat_eq b f && nat_eq a g) refl refl here

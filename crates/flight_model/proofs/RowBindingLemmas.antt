@@ -3,12 +3,10 @@ use Rattle.std.proofs.Common.{◌≡◌, ◌==◌, ◌+◌, ◌++◌, ◌∙◌,
 use Rattle.std.proofs.lemmas.Bool.{cases_Bool, eqb-true}
 use Rattle.label_space.specs.Labels.{numbers_end}
 use Rattle.net_base.specs.declared.plan.Plan.{Plan}
-use Rattle.net_base.specs.declared.plan.offer.Offer.{Offer}
 use Rattle.net_base.specs.declared.plan.places.EdgeId.{EdgeId}
 use Rattle.net_base.specs.declared.trace.down.Down.{Down}
 use Rattle.net_values.specs.declared.mac.Mac.{Mac}
 use Rattle.net_base.specs.plan.Accepted.{IsChecked}
-use Rattle.net_base.specs.plan.Paths.{offer_of}
 use Rattle.net_values.specs.Label.{IsLabel}
 use Rattle.ldp_grammar.specs.declared.message.Message.{Message}
 use Rattle.pw_tlvs.specs.declared.pw_status.PwStatus.{PwStatus}
@@ -19,7 +17,7 @@ use Rattle.pw_signalling.specs.Rows.{advertise_part, advertised, tell_part, tell
 use Rattle.edge_model.specs.declared.effect.Effect.TheVariants.{Wire}
 use Rattle.edge_model.specs.declared.end_place.EndPlace.{EndPlace}
 use Rattle.edge_model.specs.Content.{mac_withdrawal, mapping, status_notification, withdrawal}
-use Rattle.edge_model.specs.Mend.{advertising, is_up_with, telling_status, wish, withdrawing}
+use Rattle.edge_model.specs.Mend.{advertising, is_up_with, stands, telling_status, wish, withdrawing}
 use Rattle.edge_model.specs.Role.{status_to_tell}
 use Rattle.edge_model.specs.Session.{says}
 use Rattle.edge_model.specs.State.{EdgeState, Peering, end_at, is_there, with_end, with_next_label, with_told_down}
@@ -29,17 +27,17 @@ use Rattle.flight_model.specs.Bound.{AreBound, HasSaid, IsBoundBy, LeavesBound, 
 use Rattle.flight_model.specs.Ends.{HasTypes, ends_at}
 use Rattle.flight_model.specs.Meeting.{said_to}
 use Rattle.flight_model.specs.Pair.{IsStanding}
-use Rattle.flight_model.specs.Sound.{TellsSoundly}
+use Rattle.flight_model.specs.Sound.{TellsSoundly, point_limit}
 use Rattle.flight_model.proofs.BindingLemmas.{binding_advertises, binding_goes_on, binding_says_other, binding_tells, binding_withdraws}
 use Rattle.flight_model.proofs.EdgeBindingLemmas.{SaysOf, bound_says, clash, end_beside_other, end_label, end_of_other, end_there}
 use Rattle.flight_model.proofs.KeepLemmas.{KeepsEnds}
 use Rattle.flight_model.proofs.LeaveLemmas.{leaves_goes, leaves_same, leaves_spoken}
 use Rattle.flight_model.proofs.MendingLemmas.{KeptByRows}
-use Rattle.flight_model.proofs.OfferLemmas.{IsOfWires, clearance_is, mapping_is, status_is, withdrawal_is}
+use Rattle.flight_model.proofs.OfferLemmas.{IsOfWires, clearance_is, mapping_sound, status_is, withdrawal_is}
 use Rattle.flight_model.proofs.PieceLemmas.{IsPiece}
 use Rattle.flight_model.proofs.PlaceLemmas.{IsEndOf}
 use Rattle.flight_model.proofs.SpokenLemmas.{HasSpoken, says_spoken}
-use Rattle.flight_model.proofs.SteadyLemmas.{WishesOffer, advertised_up, end_small, next_is_label, offer_field, offer_fits, status_small, wishes}
+use Rattle.flight_model.proofs.SteadyLemmas.{WishesSoundly, advertised_up, end_small, next_is_label, status_small, wishes}
 use Rattle.flight_model.proofs.WorkLemmas.{said-append, same_end}
 use Rattle.flight_model.proofs.WorksLemmas.{changed_edge}
 
@@ -203,28 +201,27 @@ module _ (plan : Plan) (me : EdgeId) (checked : IsChecked plan) (fars : ℕ → 
           (leaves place.peer.0 apart)
 
   -- what is kept of an edge at work beside it
-  module _ (types : HasTypes plan) (I : Work → Type 0) (rows : KeptByRows plan me I) (sound : (work : Work) → I work → TellsSoundly work.edge) (said : (work : Work) → I work → SaysAll work) where
+  module _ (types : HasTypes plan) (I : Work → Type 0) (rows : KeptByRows plan me I) (sound : (work : Work) → I work → TellsSoundly (point_limit plan me.0) work.edge) (said : (work : Work) → I work → SaysAll work) where
     abbrev pub KeepsAll : Work → Type 0
     KeepsAll work = I work × LeavesAll work
 
     all_advertise : (place : EndPlace) (content : Told) (work : Work) → IsEndOf plan me place → (end_at work.edge place).local ≡ Idle false → wish plan work.edge place ≡ Some content
         → work.edge.next_label == numbers_end ≡ false → KeepsAll work → KeepsAll (says taken_all place.peer (mapping place.pw_id work.edge.next_label content) (changes (advertising place work.edge.next_label content) work)).work
     all_advertise place content work is at wished some all =
-        let tells : TellsSoundly work.edge = sound work all.0 in
-        let offer : Offer = offer_of is.row work.edge.me.0 in
-        let told : WishesOffer work.edge place offer content = wishes plan work.edge place is.row content tells is.is wished in
+        let tells : TellsSoundly (point_limit plan me.0) work.edge = sound work all.0 in
+        let told : WishesSoundly work.edge place content = wishes plan me checked types work.edge place content tells is wished in
         let label : IsLabel work.edge.next_label = next_is_label work.edge tells some in (
           rows.advertises place content work is at wished some all.0,
           row_leaves place (mapping place.pw_id work.edge.next_label content) (advertising place work.edge.next_label content) work is told.up (advertising_peering place work.edge.next_label content work.edge)
               (λ id. advertising_says place content id work.edge at) (advertising_else place work.edge.next_label content work.edge)
-              (rw told.is (mapping_is place.pw_id work.edge.next_label offer told.status (end_small plan me place checked is) label told.state (offer_field plan me place work.edge.me.0 types is) (offer_fits plan me place work.edge.me.0 checked is)))
+              (mapping_sound place.pw_id work.edge.next_label content (end_small plan me place checked is) label told.sound)
               (said work all.0) all.1,
         )
 
-    all_withdraw : (place : EndPlace) (label : ℕ) (content : Told) (work : Work) → IsEndOf plan me place → (end_at work.edge place).local ≡ Advertised label content → wish plan work.edge place ≡ None
+    all_withdraw : (place : EndPlace) (label : ℕ) (content : Told) (work : Work) → IsEndOf plan me place → (end_at work.edge place).local ≡ Advertised label content → stands place content (wish plan work.edge place) ≡ false
         → KeepsAll work → KeepsAll (says taken_all place.peer (withdrawal place.pw_id label content) (changes (withdrawing place) work)).work
     all_withdraw place label content work is at wished all =
-        let can = advertised_up (is_up_with (work.edge.peering place.peer.0)) (end_at work.edge place) label content ((sound work all.0).ends place.wire.0 place.peer.0) at in (
+        let can = advertised_up (point_limit plan me.0 place.wire.0) (is_up_with (work.edge.peering place.peer.0)) (end_at work.edge place) label content ((sound work all.0).ends place.wire.0 place.peer.0) at in (
           rows.withdraws place label content work is at wished all.0,
           row_leaves place (withdrawal place.pw_id label content) (withdrawing place) work is can.0 (end_peering place (withdrawn (end_at work.edge place)) work.edge)
               (λ id. withdrawing_says place label content content id work.edge at) (end_beside_other place (withdrawn (end_at work.edge place)) work.edge)
@@ -236,7 +233,7 @@ module _ (plan : Plan) (me : EdgeId) (checked : IsChecked plan) (fars : ℕ → 
         → KeepsAll (says taken_all place.peer (status_notification place.pw_id (status_to_tell plan work.edge place) content) (changes (telling_status place (status_to_tell plan work.edge place)) work)).work
     all_tell place label content last work is at told other all =
         let status : PwStatus = status_to_tell plan work.edge place in
-        let can = advertised_up (is_up_with (work.edge.peering place.peer.0)) (end_at work.edge place) label content ((sound work all.0).ends place.wire.0 place.peer.0) at in (
+        let can = advertised_up (point_limit plan me.0 place.wire.0) (is_up_with (work.edge.peering place.peer.0)) (end_at work.edge place) label content ((sound work all.0).ends place.wire.0 place.peer.0) at in (
           rows.tells place label content last work is at told other all.0,
           row_leaves place (status_notification place.pw_id status content) (telling_status place status) work is can.0 (end_peering place (telling status (end_at work.edge place)) work.edge)
               (λ id. telling_says place label content content status id work.edge at) (end_beside_other place (telling status (end_at work.edge place)) work.edge)
@@ -246,7 +243,7 @@ module _ (plan : Plan) (me : EdgeId) (checked : IsChecked plan) (fars : ℕ → 
     all_clear : (place : EndPlace) (label : ℕ) (content : Told) (addresses : List Mac) (work : Work) → IsEndOf plan me place → (end_at work.edge place).local ≡ Advertised label content → IsPiece addresses
         → KeepsAll work → KeepsAll (says taken_all place.peer (mac_withdrawal place.pw_id addresses content) work).work
     all_clear place label content addresses work is at piece all =
-        let can = advertised_up (is_up_with (work.edge.peering place.peer.0)) (end_at work.edge place) label content ((sound work all.0).ends place.wire.0 place.peer.0) at in (
+        let can = advertised_up (point_limit plan me.0 place.wire.0) (is_up_with (work.edge.peering place.peer.0)) (end_at work.edge place) label content ((sound work all.0).ends place.wire.0 place.peer.0) at in (
           rows.clears place label content addresses work is at piece all.0,
           subst (λ (w : Work). LeavesAll (says taken_all place.peer (mac_withdrawal place.pw_id addresses content) w).work) (unchanged_is work)
               (row_leaves place (mac_withdrawal place.pw_id addresses content) (λ edge. edge) work is can.0 refl (λ id. clearing_says place addresses content id work.edge) (λ wire peer away. refl)

@@ -1,5 +1,5 @@
 -- What an edge hears of a neighbour keeps the rules of labels and of told contents.
-use Rattle.std.proofs.Common.{◌≡◌, ◌≤◌, ◌==◌, ◌&&◌, ◌∙◌, ℕ, Bool, true, false, cond, nat_eq, List, Option, Some, None, refl, sym, ap, subst, arith}
+use Rattle.std.proofs.Common.{◌≡◌, ◌≤◌, ◌<◌, ◌^◌, ◌==◌, ◌&&◌, ◌∙◌, ℕ, Bool, true, false, cond, nat_eq, List, Option, Some, None, refl, sym, ap, subst, arith}
 use Rattle.std.specs.Prelude.{nat_le}
 use Rattle.std.specs.Option.{option_and_then}
 use Rattle.std.proofs.lemmas.Bool.Decides.{nat_tests}
@@ -28,13 +28,14 @@ use Rattle.edge_model.specs.Content.{bare_fec_of, binding_in, pw_status_code, re
 use Rattle.edge_model.specs.EndPlaces.{end_named}
 use Rattle.edge_model.specs.Hear.{acts_on}
 use Rattle.edge_model.specs.Put.{platform_of}
-use Rattle.edge_model.specs.Signal.{end_of_fec, hears_status, maps_to, releases_label, with_end_changed, with_named}
+use Rattle.edge_model.specs.Signal.{end_of_fec, hears_status, maps_to, releases_label, takes_content, with_end_changed, with_named}
 use Rattle.edge_model.specs.State.{EdgeState, Peering, end_at, with_end}
 use Rattle.edge_model.specs.Work.{Work, changes}
 use Rattle.network_model.specs.Absorb.{taken_all}
 use Rattle.flight_model.specs.Ends.{HasTypes, ends_at}
 use Rattle.flight_model.specs.Messages.{IsSaid}
 use Rattle.flight_model.specs.Rules.{AllMessages, BindsGiven, MayName, MayNameAt, NamesTold, TellsExpected, TellsOfWire, told_of}
+use Rattle.flight_model.proofs.AcceptLemmas.{takes_told}
 use Rattle.flight_model.proofs.HearingLemmas.{KeptByHearing, withdraws_addresses}
 use Rattle.flight_model.proofs.MendingLemmas.{KeptByRows}
 use Rattle.flight_model.proofs.MentionLemmas.{binds_status, binds_unless, release_of_withdrawal, release_own}
@@ -46,7 +47,7 @@ use Rattle.flight_model.proofs.RowLemmas.{clash}
 use Rattle.flight_model.proofs.RuledMendLemmas.{rows_ruled}
 use Rattle.flight_model.proofs.RuledSessionLemmas.{event_ruled, says_ruled}
 use Rattle.flight_model.proofs.SaidLemmas.{ready}
-use Rattle.flight_model.proofs.ToldLemmas.{NamesStatus, TellsAt, far_status, far_unless, label_status, label_unless, local_tells, near_released, release_of_withdrawal_tells, remote_tells}
+use Rattle.flight_model.proofs.ToldLemmas.{NamesStatus, TellsAt, far_status, far_unless, fits_status, fits_unless, local_tells, near_released, release_of_withdrawal_tells, remote_tells}
 
 -- the messages that are still to be heard of a neighbour are ruled by how the edge began
 pub record IsHearing (plan : Plan) (others : ℕ → EdgeState) (me peer : ℕ) (first : EdgeState) (held : ℕ → Option (List ℕ)) (messages : List Message) (work : Work) : Type 0 where
@@ -133,7 +134,7 @@ module _ (plan : Plan) (checked : IsChecked plan) (types : HasTypes plan) (other
   unbound_changes label None work works = same_changes work works
   unbound_changes label (Some place) work works = end_changes place (unbound label (end_at work.edge place)) work (λ l owned. owned)
       (remote_tells plan me.0 place.wire.0 place.peer.0 (end_at work.edge place) (unless_named label (end_at work.edge place).remote) (λ row is joined far. far_unless plan row place.peer.0 me.0 label (end_at work.edge place).remote far)
-      (label_unless label (end_at work.edge place).remote (works.edge.tells place.wire.0 place.peer.0).label) (works.edge.tells place.wire.0 place.peer.0))
+      (fits_unless label (end_at work.edge place).remote (works.edge.tells place.wire.0 place.peer.0).held) (works.edge.tells place.wire.0 place.peer.0))
       (λ gone. binds_unless (others place.peer.0) place.wire.0 me.0 label (end_at work.edge place).remote ((works.left place.peer.0 gone).bound place.wire.0)) works
 
   -- a FEC without parameters names a PW ID
@@ -173,30 +174,35 @@ module _ (plan : Plan) (checked : IsChecked plan) (types : HasTypes plan) (other
       equal e = cc
 
   mapping_heard : (id : ℕ) (fec : PwFec) (label : ℕ) (status : Option PwStatus) (points : List Point) (work : Work) → Ruled (LabelMapping id fec label status points) → At work
-      → At (maps_to taken_all peer fec label status points (end_of_fec plan work.edge peer fec) work)
+      → At (maps_to plan taken_all peer fec (binding_in fec label status points) (end_of_fec plan work.edge peer fec) work)
   mapping_heard id fec label status points work ruled works =
       let tells : TellsOfWire plan peer.0 me.0 fec (told_with fec status points) = ruled.tells in
       let near : NamedEnd plan me peer tells.wire tells.row = end_of plan me peer tells.wire tells.row checked tells.is (turned tells.row tells.joined) in
       let far : NamedEnd plan peer me tells.wire tells.row = end_of plan peer me tells.wire tells.row checked tells.is tells.joined in
       let binding : Binding = binding_in fec label status points in
+      let taken : takes_content plan work.edge.me near.place binding.told ≡ true =
+      subst (λ (k : EdgeId). takes_content plan k near.place binding.told ≡ true) (sym works.edge.place)
+      (takes_told plan me peer fec near.place binding.told checked tells (ap (option_and_then (end_named plan me peer)) tells.named ∙ near.named)) in
       let may : MayName (others peer.0) far.place.wire.0 me.0 label =
       subst (λ (o : Option EndPlace). MayNameAt (others peer.0) me.0 o label) (fec_end plan (others peer.0) peer me fec tells.row.pw_id far.place placed tells.named far.named) ruled.own in
       let given : MayName (others near.place.peer.0) near.place.wire.0 me.0 label =
       subst (λ (k : EdgeId). MayName (others k.0) near.place.wire.0 me.0 label) (sym near.peer_is)
       (subst (λ (w : WireId). MayName (others peer.0) w.0 me.0 label) (far.wire_is ∙ sym near.wire_is) may) in
-      subst (λ (o : Option EndPlace). At (maps_to taken_all peer fec label status points o work)) (sym (fec_end plan work.edge me peer fec tells.row.pw_id near.place works.edge.place tells.named near.named))
+      subst (λ (o : Option EndPlace). At (maps_to plan taken_all peer fec (binding_in fec label status points) o work)) (sym (fec_end plan work.edge me peer fec tells.row.pw_id near.place works.edge.place tells.named near.named))
+      (subst (λ (b : Bool). At (cond b (changes (with_end_changed (bound binding) (Some near.place)) work)
+        (releases_label taken_all peer fec (Some label) (changes (with_end_changed (unbound None) (Some near.place)) work)))) (sym taken)
       (changes_keep plan others me.0 first held (with_end_changed (bound binding) (Some near.place)) work
       (end_changes near.place (bound binding (end_at work.edge near.place)) work (λ l owned. owned)
       (remote_tells plan me.0 near.place.wire.0 near.place.peer.0 (end_at work.edge near.place) (Some binding)
       (λ row is joined held_before. subst (λ (k : EdgeId). TellsExpected plan row k.0 me.0 binding.told) (sym near.peer_is)
       (subst (λ (r : WirePlan). TellsExpected plan r peer.0 me.0 binding.told) (row_of tells.wire near.place.wire tells.row row near.wire_is tells.is is) tells.tells))
-      ruled.ready.fits.2 (works.edge.tells near.place.wire.0 near.place.peer.0))
-      (λ gone. given) works) works)
+      (ruled.ready.fits.2, ruled.ready.fits.3) (works.edge.tells near.place.wire.0 near.place.peer.0))
+      (λ gone. given) works) works))
 
   -- ---- statuses
 
-  states : (fec : PwFec) (status : PwStatus) (work : Work) → NamesStatus plan peer.0 me.0 fec → At work → At (changes (with_named plan peer fec (stated status) (group_stated fec.group status) fec.pw_id) work)
-  states fec status work names works =
+  states : (fec : PwFec) (status : PwStatus) (work : Work) → status.0 < 2 ^ 32 → NamesStatus plan peer.0 me.0 fec → At work → At (changes (with_named plan peer fec (stated status) (group_stated fec.group status) fec.pw_id) work)
+  states fec status work small names works =
       let near : NamedEnd plan me peer names.wire names.row = end_of plan me peer names.wire names.row checked names.is (turned names.row names.joined) in
       let named : end_named plan work.edge.me peer names.row.pw_id ≡ Some near.place = ap (λ (k : EdgeId). end_named plan k peer names.row.pw_id) works.edge.place ∙ near.named in
       subst (λ (o : Option ℕ). At (changes (with_named plan peer fec (stated status) (group_stated fec.group status) o) work)) (sym (bare_named names.row fec (told_of (expected plan names.row peer.0 me.0) None) names.bare))
@@ -207,7 +213,7 @@ module _ (plan : Plan) (checked : IsChecked plan) (types : HasTypes plan) (other
       (λ row is joined tells. far_status plan row near.place.peer.0 me.0 status (end_at work.edge near.place).remote
       (subst (λ (k : EdgeId). (expected plan row k.0 me.0).offer.status ≡ true) (sym near.peer_is)
       (subst (λ (r : WirePlan). (expected plan r peer.0 me.0).offer.status ≡ true) (row_of names.wire near.place.wire names.row row near.wire_is names.is is) names.carries)) tells)
-      (label_status status (end_at work.edge near.place).remote (works.edge.tells near.place.wire.0 near.place.peer.0).label) (works.edge.tells near.place.wire.0 near.place.peer.0))
+      (fits_status status (end_at work.edge near.place).remote small (works.edge.tells near.place.wire.0 near.place.peer.0).held) (works.edge.tells near.place.wire.0 near.place.peer.0))
       (λ gone. binds_status (others near.place.peer.0) near.place.wire.0 me.0 status (end_at work.edge near.place).remote ((works.left near.place.peer.0 gone).bound near.place.wire.0)) works)) works)
 
   status_heard : (id : ℕ) (code : StatusCode) (status : Option PwStatus) (fec : Option PwFec) (work : Work) → Ruled (Notification id code status fec) → At work → At (hears_status plan peer code status fec work)
@@ -216,7 +222,7 @@ module _ (plan : Plan) (checked : IsChecked plan) (types : HasTypes plan) (other
   status_heard id code (Some status) None work ruled works = works
   status_heard id code (Some status) (Some fec) work ruled works = by_code (code.code == pw_status_code) where
     by_code : (b : Bool) → At (cond b (changes (with_named plan peer fec (stated status) (group_stated fec.group status) fec.pw_id) work) work)
-    by_code true = states fec status work ruled.tells works
+    by_code true = states fec status work ruled.ready.fits.3 ruled.tells works
     by_code false = works
 
   -- ---- one message

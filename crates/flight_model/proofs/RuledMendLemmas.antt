@@ -1,6 +1,7 @@
 -- Mending keeps the rules of labels and of told contents.
-use Rattle.std.proofs.Common.{◌≡◌, ◌≤◌, ◌<◌, ◌^◌, ◌+◌, ◌==◌, ◌&&◌, ◌||◌, ◌∙◌, ℕ, Bool, true, false, cond, nat_eq, List, Option, Some, None, refl, sym, ap, subst, arith}
-use Rattle.std.specs.Prelude.{is_some}
+use Rattle.std.proofs.Common.{◌≡◌, ◌≤◌, ◌<◌, ◌^◌, ◌+◌, ◌==◌, ◌&&◌, ◌||◌, ◌∙◌, ℕ, Bool, true, false, cond, map, nat_eq, List, [], ◌∷◌, Option, Some, None, refl, sym, ap, subst, arith}
+use Rattle.std.proofs.lemmas.List.{length-map}
+use Rattle.std.specs.List.{AllByRecursion}
 use Rattle.std.proofs.lemmas.Bool.Decides.{nat_tests}
 use Rattle.net_base.specs.declared.plan.Plan.{Plan}
 use Rattle.net_base.specs.declared.plan.offer.Offer.{Offer}
@@ -10,90 +11,80 @@ use Rattle.net_base.specs.declared.plan.wire_plan.WirePlan.{WirePlan}
 use Rattle.net_base.specs.declared.trace.down.Down.{Down}
 use Rattle.net_values.specs.declared.mac.Mac.{Mac}
 use Rattle.net_base.specs.plan.Accepted.{IsChecked, IsOffer, IsWireOf}
-use Rattle.net_base.specs.plan.Paths.{expected, follows, is_first, joins, offer_of}
+use Rattle.net_base.specs.plan.Paths.{edge_address, expected, follows, joins, mate_on, offer_of, points_on, way_from}
+use Rattle.net_base.proofs.PathLemmas.{joins_turned, mate_back, mate_joined, place_of}
 use Rattle.net_base.specs.plan.Places.{wire_row}
 use Rattle.net_values.specs.Label.{IsLabel}
 use Rattle.label_space.specs.Labels.{numbers_end}
 use Rattle.pw_tlvs.specs.declared.pw_status.PwStatus.{PwStatus}
+use Rattle.pw_tlvs.specs.Written.{IsPointInRange}
+use Rattle.ldp_grammar.specs.Written.{IsState, point_tlvs}
 use Rattle.pw_status.proofs.StatusLemmas.{combined_most}
 use Rattle.pw_status.specs.Status.{method_by}
+use Rattle.pw_signalling.specs.declared.binding.Binding.{Binding}
 use Rattle.pw_signalling.specs.declared.told.Told.{Told}
 use Rattle.pw_signalling.specs.End.{EndState, Idle, Advertised}
 use Rattle.pw_signalling.specs.Rows.{advertised, telling, withdrawn}
+use Rattle.pw_stitch.specs.Passing.{own_point, passed_status, stated_or_clear, wanted}
 use Rattle.spoke_redundancy.specs.Telling.{is_not_chosen}
+use Rattle.edge_model.specs.Across.{held_from, held_of, mate_of}
 use Rattle.edge_model.specs.declared.effect.Effect.TheVariants.{Wire}
 use Rattle.edge_model.specs.declared.end_place.EndPlace.{EndPlace}
 use Rattle.edge_model.specs.Content.{content_of, mac_withdrawal, mapping, status_notification, withdrawal}
-use Rattle.edge_model.specs.EndPlaces.{end_named, is_terminal}
-use Rattle.edge_model.specs.Mend.{advertising, is_up_with, status_held, status_offered, telling_status, tells_status, terminal_wish, wish, withdrawing}
+use Rattle.edge_model.specs.EndPlaces.{end_named}
+use Rattle.edge_model.specs.Mend.{advertising, is_up_with, passed_from, passed_wish, status_held, status_offered, telling_status, tells_status, terminal_wish, wish, wish_by, wish_of, withdrawing}
 use Rattle.edge_model.specs.Role.{role_at, status_to_tell}
 use Rattle.edge_model.specs.Session.{says}
 use Rattle.edge_model.specs.State.{EdgeState, end_at, with_end, with_next_label, with_told_down}
 use Rattle.edge_model.specs.Work.{Work, changes, gives}
 use Rattle.network_model.specs.Absorb.{taken_all}
 use Rattle.flight_model.specs.Ends.{AreFieldOffers, HasTypes, IsFieldOffer, ends_at}
-use Rattle.flight_model.specs.Rules.{BindsGiven, MayName, NearTells, TellsExpected, part_owns}
-use Rattle.flight_model.specs.Sound.{CanBeTold}
+use Rattle.flight_model.specs.Messages.{HaveOctets}
+use Rattle.flight_model.specs.Rules.{BindsGiven, FarTells, MayName, NearTells, TellsExpected, part_owns, point_of}
+use Rattle.flight_model.specs.Sound.{CanBeTold, IsSoundTold}
+use Rattle.network_model.proofs.PointLemmas.{points_three}
+use Rattle.network_model.proofs.WayLemmas.{joins_is}
+use Rattle.flight_model.proofs.AcceptLemmas.{wanted_tells}
 use Rattle.flight_model.proofs.KeepLemmas.{KeepsEnds}
 use Rattle.flight_model.proofs.MendingLemmas.{KeptByRows}
 use Rattle.flight_model.proofs.MentionLemmas.{clearance_far, clearance_own, mapping_far, mapping_names, status_far, status_own, withdrawal_far, withdrawal_names}
 use Rattle.flight_model.proofs.NameLemmas.{end_fact, is_same, names_advertising, names_new, names_telling, names_withdrawing}
-use Rattle.flight_model.proofs.OfferLemmas.{IsOfWires, clearance_is, content_can, mapping_is, status_is, withdrawal_is}
+use Rattle.flight_model.proofs.OfferLemmas.{IsOfWires, clearance_is, content_can, mapping_sound, offer_sound, own_in_range, own_octets, status_is, withdrawal_is}
 use Rattle.flight_model.proofs.PieceLemmas.{IsPiece}
 use Rattle.flight_model.proofs.PlaceLemmas.{IsEndOf, NamedEnd, end_of}
 use Rattle.flight_model.proofs.PlanLemmas.{row_holds}
 use Rattle.flight_model.proofs.RuledLemmas.{ChangesEnds, IsQuietStep, IsRuled, WorksRuled, changes_keep, quiet_keeps}
 use Rattle.flight_model.proofs.RuledSessionLemmas.{SaysNothing, gives_quiet, says_ruled}
 use Rattle.flight_model.proofs.SaidLemmas.{ready}
+use Rattle.flight_model.proofs.SteadyLemmas.{edge_address_is}
 use Rattle.flight_model.proofs.TellLemmas.{TellsOwnOffer, tells_own_offer}
-use Rattle.flight_model.proofs.ToldLemmas.{TellsAt, clearance_tells, has_status, local_tells, mapping_tells, near_advertised, near_told, near_withdrawn, notification_tells, offer_tells, withdrawal_tells}
+use Rattle.flight_model.proofs.ToldLemmas.{HeldFits, TellsAt, TellsOwn, clearance_tells, has_status, local_tells, mapping_tells, near_advertised, near_told, near_withdrawn, notification_tells, offer_tells, withdrawal_tells}
 
 clash : {P : Type 0} → false ≡ true → P
 clash e = absurd (cc)
 
 -- ---- what an end should tell
 
--- a terminal end should tell its own offer, with a status where the offer has one
-pub record IsOwnOffer (row : WirePlan) (me : EdgeId) (place : EndPlace) (content : Told) : Type 0 where
-  pub status : Option PwStatus
-  pub terminal : place.terminal ≡ true
-  pub content_is : content ≡ content_of (offer_of row me.0) status
-  pub carries : is_some status ≡ (offer_of row me.0).status
-  pub small : Rattle.ldp_grammar.specs.Written.IsState status
+pub status_small : (plan : Plan) (edge : EdgeState) (me : ℕ) (place : EndPlace) → edge.bits place.wire.0 ≤ 31 → TellsOwn plan me edge → (status_to_tell plan edge place).0 < 2 ^ 32
+status_small plan edge me place low tells = by_side place.terminal (own (edge.bits place.wire.0) (is_not_chosen (role_at plan edge place)) low) (across (mate_of edge.me place (wire_row plan place.wire))) where
+  own : (bits : ℕ) (standby : Bool) → bits ≤ 31 → (combined bits standby).0 < 2 ^ 32
+  own bits standby low = omega (arith, low, combined_most bits standby)
 
-pub status_small : (plan : Plan) (edge : EdgeState) (place : EndPlace) → edge.bits place.wire.0 ≤ 31 → (status_to_tell plan edge place).0 < 2 ^ 32
-status_small plan edge place low = omega (arith, low, combined_most (edge.bits place.wire.0) (is_not_chosen (role_at plan edge place)))
+  stated : (status : Option PwStatus) → IsState status → (stated_or_clear status).0 < 2 ^ 32
+  stated None small = omega arith
+  stated (Some status) small = small
 
-wish_is : (plan : Plan) (edge : EdgeState) (me : EdgeId) (place : EndPlace) (row : WirePlan) (content : Told) → edge.me ≡ me → edge.bits place.wire.0 ≤ 31 → wire_row plan place.wire ≡ Some row → wish plan edge place ≡ Some content
-    → IsOwnOffer row me place content
-wish_is plan edge me place row content at low is wished = by_gate (edge.wire_on place.wire.0 && is_up_with (edge.peering place.peer.0)) place.terminal refl (rw is at wished) where
-  offered : (carries : Bool) → (offer_of row edge.me.0).status ≡ carries → place.terminal ≡ true → content ≡ content_of (offer_of row edge.me.0) (cond carries (Some (status_to_tell plan edge place)) None) → IsOwnOffer row me place content
-  offered true has terminal same = record {
-    status = Some (status_to_tell plan edge place);
-    terminal = terminal;
-    content_is = same ∙ ap (λ (k : EdgeId). content_of (offer_of row k.0) (Some (status_to_tell plan edge place))) at;
-    carries = sym has ∙ ap (λ (k : EdgeId). (offer_of row k.0).status) at;
-    small = status_small plan edge place low;
-  }
-  offered false has terminal same = record {
-    status = None;
-    terminal = terminal;
-    content_is = same ∙ ap (λ (k : EdgeId). content_of (offer_of row k.0) None) at;
-    carries = sym has ∙ ap (λ (k : EdgeId). (offer_of row k.0).status) at;
-    small = tt;
-  }
+  of_held : (held : Option Binding) → HeldFits held → (passed_status held).0 < 2 ^ 32
+  of_held None fits = omega arith
+  of_held (Some binding) fits = stated binding.told.status fits.1
 
-  by_method : (told : Bool) → place.terminal ≡ true → cond told (Some (content_of (offer_of row edge.me.0) (status_offered plan edge place (offer_of row edge.me.0)))) None ≡ Some content → IsOwnOffer row me place content
-  by_method true terminal e = offered (offer_of row edge.me.0).status refl terminal (same e)
-    where
-      same : {a b : Told} → Some a ≡ Some b → b ≡ a
-      same e = cc
-  by_method false terminal e = absurd (cc)
+  across : (from : Option EdgeId) → (passed_status (held_from (held_of edge place.wire) from)).0 < 2 ^ 32
+  across None = omega arith
+  across (Some from) = of_held (edge.ends place.wire.0 from.0).remote (tells place.wire.0 from.0).held
 
-  by_gate : (open_now terminal : Bool) → place.terminal ≡ terminal → cond (open_now && terminal) (terminal_wish plan edge place (offer_of row edge.me.0)) None ≡ Some content → IsOwnOffer row me place content
-  by_gate true true terminal e = by_method (tells_status (method_by (offer_of row edge.me.0).status (status_held (end_at edge place).remote)) || edge.bits place.wire.0 == 0) terminal e
-  by_gate true false terminal e = absurd (cc)
-  by_gate false terminal at_end e = absurd (cc)
+  by_side : (b : Bool) {one passed : PwStatus} → one.0 < 2 ^ 32 → passed.0 < 2 ^ 32 → (cond b one passed).0 < 2 ^ 32
+  by_side true one passed = one
+  by_side false one passed = passed
 
 -- ---- what can be written
 
@@ -123,6 +114,39 @@ told_can plan wire row from to label told types is tells label_is =
       kind = subst (λ (k : ℕ). k ≤ 0x7FFF) (sym (ap (λ (t : Told). t.kind) tells.content)) can.kind;
       group = subst (λ (k : ℕ). k < 2 ^ 32) (sym (ap (λ (t : Told). t.group) tells.content)) can.group;
     }
+
+-- the points that are expected fit
+points_fit : (plan : Plan) (row : WirePlan) → HasTypes plan → row.pw_id < 2 ^ 32 → (way : List EdgeId) → AllByRecursion IsPointInRange (map point_of (points_on plan row way)) × HaveOctets (point_tlvs (map point_of (points_on plan row way)))
+points_fit plan row types small [] = (tt, tt)
+points_fit plan row types small (last ∷ []) = (tt, tt)
+points_fit plan row types small (before ∷ point ∷ rest) =
+    let later = points_fit plan row types small (point ∷ rest) in
+    let near = edge_address_is plan point types in
+    let far = edge_address_is plan before types in
+    ((own_in_range row.pw_id (edge_address plan point) (edge_address plan before) small near far, later.0), (own_octets row.pw_id (edge_address plan point) (edge_address plan before) near far, later.1))
+
+-- what the plan has an edge tell is a content of a Label Mapping
+pub told_sound : (plan : Plan) (wire : WireId) (row : WirePlan) (from to : ℕ) (told : Told) → IsChecked plan → HasTypes plan → wire_row plan wire ≡ Some row → joins from to row.path ≡ true → TellsExpected plan row from to told → IsState told.status
+    → IsSoundTold 3 told
+told_sound plan wire row from to told checked types is joined tells state =
+    let fit : IsWireOf plan row = wire_fits plan wire row checked is in
+    let base : IsSoundTold 3 (content_of (expected plan row from to).offer told.status) =
+    offer_sound 3 (expected plan row from to).offer told.status state
+    (one_of (follows row.path from to) row.near row.far IsFieldOffer (offer_fits plan wire row types is).near (offer_fits plan wire row types is).far)
+    (one_of (follows row.path from to) row.near row.far IsOffer fit.near fit.far) in
+    let points = points_fit plan row types (pw_id_fits plan wire row checked is) (way_from row.path from to) in
+    subst (IsSoundTold 3) (sym tells.content) (record {
+      kind = base.kind;
+      group = base.group;
+      mtu = base.mtu;
+      description = base.description;
+      vlan = base.vlan;
+      octets = base.octets;
+      status = base.status;
+      few = subst (λ (n : ℕ). n ≤ 3) (sym (length-map (expected plan row from to).points point_of)) (points_three plan row from to fit.once fit.most (sym (joins_is row.path from to) ∙ joined));
+      points = points.0;
+      point_octets = points.1;
+    })
 
 label_below : (n : ℕ) → n < numbers_end → n ≤ 1048575
 label_below n low = omega (arith, low)
@@ -165,12 +189,80 @@ module _ (plan : Plan) (checked : IsChecked plan) (types : HasTypes plan) (other
   unfolding changes
   changed change work = refl
 
-  -- an end tells what it wishes
-  wish_tells : (place : EndPlace) (row : WirePlan) (content : Told) → wire_row plan place.wire ≡ Some row → joins me.0 place.peer.0 row.path ≡ true → place.terminal ≡ is_terminal row me → IsOwnOffer row me place content
-      → TellsExpected plan row me.0 place.peer.0 content
-  wish_tells place row content is joined terminal own =
-      let offer : TellsOwnOffer plan row me.0 place.peer.0 = tells_own_offer plan row me place.peer (wire_fits plan place.wire row checked is).once joined (sym terminal ∙ own.terminal) in
-      subst (TellsExpected plan row me.0 place.peer.0) (sym own.content_is) (offer_tells plan row me.0 place.peer.0 own.status offer own.carries)
+  -- an end tells what it wishes: a terminal end its own offer, and another one what it holds on its other side
+  abbrev WishTells : EndPlace → WirePlan → Told → Type 0
+  WishTells place row content = TellsExpected plan row me.0 place.peer.0 content × IsState content.status
+
+  offer_wished : (place : EndPlace) (edge : EdgeState) (content : Told) → edge.me ≡ me → edge.bits place.wire.0 ≤ 31 → TellsOwn plan me.0 edge → (end_is : IsEndOf plan me place) → place.terminal ≡ true
+      → terminal_wish plan edge place (offer_of end_is.row edge.me.0) ≡ Some content → WishTells place end_is.row content
+  offer_wished place edge content at low tells end_is terminal wished =
+      by_method (tells_status (method_by (offer_of end_is.row edge.me.0).status (status_held (end_at edge place).remote)) || edge.bits place.wire.0 == 0) wished
+    where
+      own : TellsOwnOffer plan end_is.row me.0 place.peer.0
+      own = tells_own_offer plan end_is.row me place.peer (wire_fits plan place.wire end_is.row checked end_is.is).once end_is.joined (sym end_is.terminal ∙ terminal)
+
+      same : {a b : Told} → Some a ≡ Some b → a ≡ b
+      same e = cc
+
+      offered : (carries : Bool) → (offer_of end_is.row me.0).status ≡ carries → (status : PwStatus) → status.0 < 2 ^ 32
+          → TellsExpected plan end_is.row me.0 place.peer.0 (content_of (offer_of end_is.row me.0) (cond carries (Some status) None)) × IsState (cond carries (Some status) None)
+      offered true has status small = (offer_tells plan end_is.row me.0 place.peer.0 (Some status) own (sym has), small)
+      offered false has status small = (offer_tells plan end_is.row me.0 place.peer.0 None own (sym has), tt)
+
+      by_method : (told : Bool) → cond told (Some (content_of (offer_of end_is.row edge.me.0) (status_offered plan edge place (offer_of end_is.row edge.me.0)))) None ≡ Some content
+          → TellsExpected plan end_is.row me.0 place.peer.0 content × IsState content.status
+      by_method true e =
+          subst (λ (c : Told). TellsExpected plan end_is.row me.0 place.peer.0 c × IsState c.status)
+          (ap (λ (k : EdgeId). content_of (offer_of end_is.row k.0) (status_offered plan edge place (offer_of end_is.row k.0))) (sym at) ∙ same e)
+          (offered (offer_of end_is.row me.0).status refl (status_to_tell plan edge place) (status_small plan edge me.0 place low tells))
+      by_method false e = absurd (cc)
+
+  -- the neighbour on the other side of an end is the one from which it has what it passes on
+  passed_back : (place : EndPlace) (end_is : IsEndOf plan me place) (from : EdgeId) → mate_on end_is.row.path me.0 place.peer.0 ≡ Some from → mate_on end_is.row.path me.0 from.0 ≡ Some place.peer
+  passed_back place end_is from is = placed_at (mate_on end_is.row.path me.0 from.0) (mate_back end_is.row.path me.0 place.peer.0 from (wire_fits plan place.wire end_is.row checked end_is.is).once is) where
+    placed_at : (o : Option EdgeId) → place_of o ≡ Some place.peer.0 → o ≡ Some place.peer
+    placed_at None e = absurd (cc)
+    placed_at (Some edge) e = ap (λ (k : EdgeId). Some k) (ap (λ (n : ℕ). record { 0 = n }) (number e)) where
+      number : {m n : ℕ} → Some m ≡ Some n → m ≡ n
+      number e = cc
+
+  passed_wished : (place : EndPlace) (edge : EdgeState) (content : Told) → edge.me ≡ me → TellsOwn plan me.0 edge → (end_is : IsEndOf plan me place) → passed_wish plan edge place end_is.row ≡ Some content → WishTells place end_is.row content
+  passed_wished place edge content at tells end_is wished =
+      by_mate (mate_on end_is.row.path me.0 place.peer.0) refl
+      (ap (λ (k : EdgeId). passed_from plan end_is.row k (held_of edge place.wire) (mate_on end_is.row.path k.0 place.peer.0)) (sym at) ∙ wished)
+    where
+      same : {a b : Told} → Some a ≡ Some b → a ≡ b
+      same e = cc
+
+      by_held : (from : EdgeId) → mate_on end_is.row.path me.0 place.peer.0 ≡ Some from → (held : Option Binding) → (edge.ends place.wire.0 from.0).remote ≡ held
+          → wanted (own_point end_is.row.pw_id (edge_address plan me) (edge_address plan from)) held ≡ Some content → TellsExpected plan end_is.row me.0 place.peer.0 content × IsState content.status
+      by_held from mated None there e = absurd (cc)
+      by_held from mated (Some binding) there e =
+          let far : FarTells plan end_is.row from.0 me.0 (edge.ends place.wire.0 from.0).remote =
+          (tells place.wire.0 from.0).far end_is.row end_is.is (sym (joins_turned end_is.row.path me.0 from.0) ∙ mate_joined end_is.row.path me.0 place.peer.0 from mated) in
+          subst (λ (c : Told). TellsExpected plan end_is.row me.0 place.peer.0 c × IsState c.status) (same e) (
+            wanted_tells plan end_is.row me from place.peer binding.told (wire_fits plan place.wire end_is.row checked end_is.is).once (passed_back place end_is from mated) (subst (FarTells plan end_is.row from.0 me.0) there far),
+            (subst HeldFits there (tells place.wire.0 from.0).held).1,
+          )
+
+      by_mate : (from : Option EdgeId) → mate_on end_is.row.path me.0 place.peer.0 ≡ from → passed_from plan end_is.row me (held_of edge place.wire) from ≡ Some content
+          → TellsExpected plan end_is.row me.0 place.peer.0 content × IsState content.status
+      by_mate None mated e = absurd (cc)
+      by_mate (Some from) mated e = by_held from mated (edge.ends place.wire.0 from.0).remote refl e
+
+  wish_tells : (place : EndPlace) (edge : EdgeState) (content : Told) → edge.me ≡ me → edge.bits place.wire.0 ≤ 31 → TellsOwn plan me.0 edge → (end_is : IsEndOf plan me place) → wish plan edge place ≡ Some content
+      → WishTells place end_is.row content
+  wish_tells place edge content at low tells end_is wished =
+      by_gate (edge.wire_on place.wire.0 && is_up_with (edge.peering place.peer.0)) (ap (wish_of plan edge place) (sym end_is.is) ∙ wished)
+    where
+      by_side : (terminal : Bool) → place.terminal ≡ terminal → cond terminal (terminal_wish plan edge place (offer_of end_is.row edge.me.0)) (passed_wish plan edge place end_is.row) ≡ Some content
+          → TellsExpected plan end_is.row me.0 place.peer.0 content × IsState content.status
+      by_side true terminal e = offer_wished place edge content at low tells end_is terminal e
+      by_side false passes e = passed_wished place edge content at tells end_is e
+
+      by_gate : (open_now : Bool) → cond open_now (wish_by plan edge place end_is.row) None ≡ Some content → TellsExpected plan end_is.row me.0 place.peer.0 content × IsState content.status
+      by_gate true e = by_side place.terminal refl e
+      by_gate false e = absurd (cc)
 
   -- the edge with the advertisement
   advertising_changes : (place : EndPlace) (content : Told) (work : Work) → (end_is : IsEndOf plan me place) → (end_at work.edge place).local ≡ Idle false → work.edge.next_label == numbers_end ≡ false
@@ -196,8 +288,8 @@ module _ (plan : Plan) (checked : IsChecked plan) (types : HasTypes plan) (other
   advertises_ruled : (place : EndPlace) (content : Told) (work : Work) → IsEndOf plan me place → (end_at work.edge place).local ≡ Idle false → wish plan work.edge place ≡ Some content → work.edge.next_label == numbers_end ≡ false
       → At work → At (says taken_all place.peer (mapping place.pw_id work.edge.next_label content) (changes (advertising place work.edge.next_label content) work)).work
   advertises_ruled place content work end_is idle wished some works =
-      let own : IsOwnOffer end_is.row me place content = wish_is plan work.edge me place end_is.row content works.edge.place (works.edge.bits place.wire.0) end_is.is wished in
-      let tells : TellsExpected plan end_is.row me.0 place.peer.0 content = wish_tells place end_is.row content end_is.is end_is.joined end_is.terminal own in
+      let told : WishTells place end_is.row content = wish_tells place work.edge content works.edge.place (works.edge.bits place.wire.0) works.edge.tells end_is wished in
+      let tells : TellsExpected plan end_is.row me.0 place.peer.0 content = told.0 in
       let next : EdgeState = advertising place work.edge.next_label content work.edge in
       let new : ChangesEnds plan others me.0 work.edge next = advertising_changes place content work end_is idle some tells works in
       let after : Work = changes (advertising place work.edge.next_label content) work in
@@ -205,10 +297,8 @@ module _ (plan : Plan) (checked : IsChecked plan) (types : HasTypes plan) (other
       let named : NamedEnd plan me place.peer place.wire end_is.row = end_of plan me place.peer place.wire end_is.row checked end_is.is end_is.joined in
       let label_is : IsLabel work.edge.next_label = next_is_label work.edge.next_label works.edge.least.next works.edge.most some in
       let row_small : place.pw_id < 2 ^ 32 = subst (λ (n : ℕ). n < 2 ^ 32) (sym end_is.pw_id) (pw_id_fits plan place.wire end_is.row checked end_is.is) in
-      let field : IsFieldOffer (offer_of end_is.row me.0) = one_of (is_first me.0 end_is.row.path) end_is.row.near end_is.row.far IsFieldOffer (offer_fits plan place.wire end_is.row types end_is.is).near (offer_fits plan place.wire end_is.row types end_is.is).far in
-      let fits : IsOffer (offer_of end_is.row me.0) = one_of (is_first me.0 end_is.row.path) end_is.row.near end_is.row.far IsOffer (wire_fits plan place.wire end_is.row checked end_is.is).near (wire_fits plan place.wire end_is.row checked end_is.is).far in
       let sayable : IsOfWires (mapping place.pw_id work.edge.next_label content) =
-      subst (λ (t : Told). IsOfWires (mapping place.pw_id work.edge.next_label t)) (sym own.content_is) (mapping_is place.pw_id work.edge.next_label (offer_of end_is.row me.0) own.status row_small label_is own.small field fits) in
+      mapping_sound place.pw_id work.edge.next_label content row_small label_is (told_sound plan place.wire end_is.row me.0 place.peer.0 content checked types end_is.is end_is.joined tells told.1) in
       says_ruled plan others me.0 first held place.peer (mapping place.pw_id work.edge.next_label content) after
       (λ id low fit away. subst (λ (e : EdgeState). IsRuled plan me.0 place.peer.0 e (others place.peer.0) (mapping place.pw_id work.edge.next_label content id)) (sym after_is) (record {
         fit = fit;
@@ -347,7 +437,7 @@ module _ (plan : Plan) (checked : IsChecked plan) (types : HasTypes plan) (other
     placed = λ work works. works.edge.place;
     advertises = λ place content work end_is idle wished some works. advertises_ruled place content work end_is idle wished some works;
     withdraws = λ place label content work end_is at wished works. withdraws_ruled place label content work end_is at works;
-    tells = λ place label content last work end_is at told other works. tells_ruled place label content last (status_to_tell plan work.edge place) work end_is at told (status_small plan work.edge place (works.edge.bits place.wire.0)) works;
+    tells = λ place label content last work end_is at told other works. tells_ruled place label content last (status_to_tell plan work.edge place) work end_is at told (status_small plan work.edge me.0 place (works.edge.bits place.wire.0) works.edge.tells) works;
     clears = clears_ruled;
     tells_down = λ place down work end_is works. downs_ruled place.wire down work works;
     others = λ change work keeps peering works. quiet_keeps plan others me.0 first held work (changes change work) (change_quiet change work keeps peering) works;

@@ -64,7 +64,7 @@ label_least plan (Some row) place is checked =
 nothing_owned : {P : Type 0} → false ≡ true → P
 nothing_owned e = absurd (cc)
 
-empty_ruled : (plan : Plan) → IsChecked plan → IsRuledNetwork plan (empty_network plan)
+pub empty_ruled : (plan : Plan) → IsChecked plan → IsRuledNetwork plan (empty_network plan)
 empty_ruled plan checked = record {
   edges = λ a. record {
     place = refl;

@@ -27,7 +27,7 @@ use Rattle.flight_model.proofs.RuledMendLemmas.{wire_fits}
 use Rattle.flight_model.proofs.RuledNetworkLemmas.{IsRuledNetwork}
 use Rattle.flight_model.proofs.RuledRunLemmas.{brings_stays}
 use Rattle.flight_model.proofs.TellLemmas.{TellsOwnOffer, tells_own_offer}
-use Rattle.flight_model.proofs.ToldLemmas.{HoldsLabel, TellsAt}
+use Rattle.flight_model.proofs.ToldLemmas.{HeldFits, TellsAt}
 
 -- ---- labels
 
@@ -68,7 +68,7 @@ pub end_is_planned : (plan : Plan) (network : NetworkState) → IsChecked plan �
 end_is_planned plan network checked ruled me peer wire row is joined = record {
   holds = λ binding at. record {
     may = subst (BindsGiven (network.edges peer) wire.0 me) at ((ruled.two me peer apart).1.bound wire.0);
-    is_label = subst HoldsLabel at tells.label;
+    is_label = (subst HeldFits at tells.held).0;
     tells = subst (FarTells plan row peer me) at (tells.far row is (sym (joins_turned row.path me peer) ∙ joined));
   };
   advertises = λ label told at.

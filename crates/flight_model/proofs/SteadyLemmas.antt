@@ -1,32 +1,42 @@
 -- What is kept by calm steps of an edge at work is kept by mending, and by what an edge makes of a message: changes of its ends,
 -- effects that say nothing to a neighbour, and messages about pseudowires in sessions that are up.
-use Rattle.std.proofs.Common.{◌≡◌, ◌≤◌, ◌<◌, ◌^◌, ◌==◌, ◌&&◌, ◌||◌, ◌∙◌, ℕ, Bool, true, false, cond, List, [], ◌∷◌, Option, Some, None, refl, sym, ap, subst, arith}
+use Rattle.std.proofs.Common.{◌≡◌, ◌≤◌, ◌<◌, ◌^◌, ◌==◌, ◌&&◌, ◌||◌, ◌∙◌, ℕ, Bool, true, false, cond, List, [], ◌∷◌, Option, Some, None, slice_get, refl, sym, ap, subst, arith}
+use Rattle.std.specs.Prelude.{option_map, slice_index}
+use Rattle.std.specs.List.{AllByRecursion}
 use Rattle.std.proofs.lemmas.Bool.Decides.{nat_tests}
 use Rattle.label_space.specs.Labels.{numbers_end}
 use Rattle.net_base.specs.declared.plan.Plan.{Plan}
+use Rattle.net_base.specs.declared.plan.edge_plan.EdgePlan.{EdgePlan}
 use Rattle.net_base.specs.declared.plan.offer.Offer.{Offer}
 use Rattle.net_base.specs.declared.plan.places.EdgeId.{EdgeId}
 use Rattle.net_base.specs.declared.plan.wire_plan.WirePlan.{WirePlan}
 use Rattle.net_base.specs.declared.trace.down.Down.{Down}
 use Rattle.net_values.specs.declared.mac.Mac.{Mac}
 use Rattle.net_base.specs.plan.Accepted.{IsChecked, IsOffer, IsWireOf}
-use Rattle.net_base.specs.plan.Paths.{is_first, offer_of}
+use Rattle.net_base.specs.plan.Paths.{edge_address, is_first, mate, offer_of}
 use Rattle.net_base.specs.plan.Places.{wire_row}
 use Rattle.net_values.specs.Label.{IsLabel}
 use Rattle.ldp_grammar.specs.declared.message.Message.{Message}
 use Rattle.ldp_grammar.specs.Written.{IsState}
+use Rattle.ldp_grammar.proofs.OctetLemmas.{octet_front}
+use Rattle.ldp_grammar.proofs.WrittenOctets.{no_octets}
+use Rattle.pw_tlvs.specs.declared.point.Point.{Point}
 use Rattle.pw_tlvs.specs.declared.pw_status.PwStatus.{PwStatus}
 use Rattle.pw_status.proofs.StatusLemmas.{combined_most}
 use Rattle.pw_status.specs.Status.{combined}
+use Rattle.pw_signalling.specs.declared.binding.Binding.{Binding}
 use Rattle.pw_signalling.specs.declared.told.Told.{Told}
-use Rattle.pw_signalling.specs.End.{EndState, Idle, Advertised}
+use Rattle.pw_signalling.specs.End.{EndState, LocalPart, Idle, Advertised}
 use Rattle.pw_signalling.specs.Rows.{advertised, telling, withdrawn}
+use Rattle.pw_stitch.specs.Passing.{own_point, passed_status, past_point, stated_or_clear, wanted}
+use Rattle.session_core.specs.Laws.{IsAddress}
 use Rattle.spoke_redundancy.specs.Telling.{is_not_chosen}
+use Rattle.edge_model.specs.Across.{held_from, held_of, mate_of}
 use Rattle.edge_model.specs.Content.{content_of, mac_withdrawal, mapping, status_notification, withdrawal}
 use Rattle.edge_model.specs.declared.effect.Effect.{Effect}
 use Rattle.edge_model.specs.declared.effect.Effect.TheVariants.{Wire}
 use Rattle.edge_model.specs.declared.end_place.EndPlace.{EndPlace}
-use Rattle.edge_model.specs.Mend.{advertising, is_up_with, status_held, status_offered, telling_status, tells_new_status, tells_status, terminal_wish, wish, withdrawing, withdraws}
+use Rattle.edge_model.specs.Mend.{advertising, is_up_with, passed_from, passed_wish, stands, status_held, status_offered, telling_status, tells_new_status, tells_status, terminal_wish, wish, wish_by, wish_of, withdrawing, withdraws}
 use Rattle.edge_model.specs.Role.{role_at, status_to_tell}
 use Rattle.edge_model.specs.Session.{says}
 use Rattle.edge_model.specs.State.{EdgeState, end_at, with_end, with_next_label, with_told_down}
@@ -35,9 +45,9 @@ use Rattle.pw_status.specs.Status.{method_by}
 use Rattle.network_model.specs.Absorb.{taken_all}
 use Rattle.flight_model.specs.Ends.{AreFieldOffers, HasTypes, IsFieldOffer}
 use Rattle.flight_model.specs.Meeting.{TellsWell, closes, said_to}
-use Rattle.flight_model.specs.Sound.{CanBeTold, IsSoundEnd, IsSoundPart, TellsSoundly}
+use Rattle.flight_model.specs.Sound.{CanBeTold, IsSoundEnd, IsSoundHeld, IsSoundPart, IsSoundTold, TellsSoundly, limit_of, point_limit}
 use Rattle.flight_model.proofs.MendingLemmas.{KeptByRows}
-use Rattle.flight_model.proofs.OfferLemmas.{IsOfWires, clearance_is, content_can, mapping_is, status_is, withdrawal_is}
+use Rattle.flight_model.proofs.OfferLemmas.{IsOfWires, IsPointAddress, clearance_is, mapping_sound, offer_sound, own_in_range, own_octets, past_sound, sound_can, status_is, withdrawal_is}
 use Rattle.flight_model.proofs.PieceLemmas.{IsPiece}
 use Rattle.flight_model.proofs.PlaceLemmas.{IsEndOf}
 use Rattle.flight_model.proofs.PlanLemmas.{row_holds}
@@ -51,10 +61,11 @@ pub record IsSilent (e : Effect) : Type 0 where
   pub well : TellsWell e
 
 -- what calm steps keep
-pub record IsSteady (me : EdgeId) (I : Work → Type 0) : Type 0 where
+pub record IsSteady (plan : Plan) (me : EdgeId) (I : Work → Type 0) : Type 0 where
   pub placed : (work : Work) → I work → work.edge.me ≡ me
-  pub sound : (work : Work) → I work → TellsSoundly work.edge
-  pub changes : (change : EdgeState → EdgeState) (work : Work) → (change work.edge).peering ≡ work.edge.peering → (change work.edge).me ≡ work.edge.me → TellsSoundly (change work.edge) → I work → I (changes change work)
+  pub sound : (work : Work) → I work → TellsSoundly (point_limit plan me.0) work.edge
+  pub changes : (change : EdgeState → EdgeState) (work : Work) → (change work.edge).peering ≡ work.edge.peering → (change work.edge).me ≡ work.edge.me → TellsSoundly (point_limit plan me.0) (change work.edge)
+      → I work → I (changes change work)
   pub gives : (e : Effect) (work : Work) → IsSilent e → I work → I (gives e work)
   pub says : (peer : EdgeId) (message : ℕ → Message) (work : Work) → is_up_with (work.edge.peering peer.0) ≡ true → IsOfWires message → I work → I (says taken_all peer message work).work
 
@@ -66,20 +77,7 @@ right : (a b : Bool) → a && b ≡ true → b ≡ true
 right true b h = h
 right false b h = clash h
 
--- ---- what an end should tell
-
--- it is an offer, where the session is up
-pub record WishesOffer (edge : EdgeState) (place : EndPlace) (offer : Offer) (content : Told) : Type 0 where
-  pub up : is_up_with (edge.peering place.peer.0) ≡ true
-  pub status : Option PwStatus
-  pub state : IsState status
-  pub is : content ≡ content_of offer status
-
-small_status : (bits : ℕ) (standby : Bool) → bits ≤ 31 → (combined bits standby).0 < 2 ^ 32
-small_status bits standby few = omega (arith, few, combined_most bits standby)
-
-pub status_small : (plan : Plan) (edge : EdgeState) (place : EndPlace) → TellsSoundly edge → (status_to_tell plan edge place).0 < 2 ^ 32
-status_small plan edge place sound = small_status (edge.bits place.wire.0) (is_not_chosen (role_at plan edge place)) (sound.bits place.wire.0)
+-- ---- what a switching point holds
 
 some_same : {A : Type 0} (x y : A) → Some x ≡ Some y → x ≡ y
 some_same x y e = cc
@@ -87,32 +85,38 @@ some_same x y e = cc
 none_some : {A : Type 0} {P : Type 0} (x : A) → None ≡ Some x → P
 none_some x e = absurd (cc)
 
-offer_told : (plan : Plan) (edge : EdgeState) (place : EndPlace) (offer : Offer) (content : Told) → TellsSoundly edge → is_up_with (edge.peering place.peer.0) ≡ true → terminal_wish plan edge place offer ≡ Some content
-    → WishesOffer edge place offer content
-offer_told plan edge place offer content sound up wished =
-    by_test (tells_status (method_by offer.status (status_held (end_at edge place).remote)) || edge.bits place.wire.0 == 0) wished
+-- what an end that is sound holds
+held_sound : (limit : ℕ) (up : Bool) (e : EndState) (binding : Binding) → IsSoundEnd limit up e → e.remote ≡ Some binding → IsSoundTold limit binding.told
+held_sound limit true e binding sound is = subst (IsSoundHeld limit) is sound.1
+held_sound limit false e binding sound is = none_some binding (sym sound.1 ∙ is)
+
+pub bound_sound : {limit : ℕ → ℕ} → (edge : EdgeState) (wire peer : ℕ) (binding : Binding) → TellsSoundly limit edge → (edge.ends wire peer).remote ≡ Some binding → IsSoundTold (limit wire) binding.told
+bound_sound {limit} edge wire peer binding sound is = held_sound (limit wire) (is_up_with (edge.peering peer)) (edge.ends wire peer) binding (sound.ends wire peer) is
+
+-- ---- the status that an end should tell
+
+small_status : (bits : ℕ) (standby : Bool) → bits ≤ 31 → (combined bits standby).0 < 2 ^ 32
+small_status bits standby few = omega (arith, few, combined_most bits standby)
+
+stated_small : (status : Option PwStatus) → IsState status → (stated_or_clear status).0 < 2 ^ 32
+stated_small None small = omega arith
+stated_small (Some status) small = small
+
+pub status_small : {limit : ℕ → ℕ} → (plan : Plan) (edge : EdgeState) (place : EndPlace) → TellsSoundly limit edge → (status_to_tell plan edge place).0 < 2 ^ 32
+status_small {limit} plan edge place sound = by_side place.terminal (small_status (edge.bits place.wire.0) (is_not_chosen (role_at plan edge place)) (sound.bits place.wire.0))
+    (across (mate_of edge.me place (wire_row plan place.wire)))
   where
-    told_status : (b : Bool) → IsState (cond b (Some (status_to_tell plan edge place)) None)
-    told_status true = status_small plan edge place sound
-    told_status false = tt
+    of_held : (held : Option Binding) → ((binding : Binding) → held ≡ Some binding → IsState binding.told.status) → (passed_status held).0 < 2 ^ 32
+    of_held None small = omega arith
+    of_held (Some binding) small = stated_small binding.told.status (small binding refl)
 
-    by_test : (b : Bool) → cond b (Some (content_of offer (status_offered plan edge place offer))) None ≡ Some content → WishesOffer edge place offer content
-    by_test true e = record {
-      up = up;
-      status = status_offered plan edge place offer;
-      state = told_status offer.status;
-      is = sym (some_same (content_of offer (status_offered plan edge place offer)) content e);
-    }
-    by_test false e = none_some content e
+    across : (from : Option EdgeId) → (passed_status (held_from (held_of edge place.wire) from)).0 < 2 ^ 32
+    across None = omega arith
+    across (Some from) = of_held (edge.ends place.wire.0 from.0).remote (λ binding is. (bound_sound edge place.wire.0 from.0 binding sound is).status)
 
-pub wishes : (plan : Plan) (edge : EdgeState) (place : EndPlace) (row : WirePlan) (content : Told) → TellsSoundly edge → wire_row plan place.wire ≡ Some row → wish plan edge place ≡ Some content
-    → WishesOffer edge place (offer_of row edge.me.0) content
-wishes plan edge place row content sound is wished = by_test ((edge.wire_on place.wire.0 && is_up_with (edge.peering place.peer.0)) && place.terminal) refl (rw is at wished) where
-  by_test : (b : Bool) → (edge.wire_on place.wire.0 && is_up_with (edge.peering place.peer.0)) && place.terminal ≡ b → cond b (terminal_wish plan edge place (offer_of row edge.me.0)) None ≡ Some content
-      → WishesOffer edge place (offer_of row edge.me.0) content
-  by_test true holds e = offer_told plan edge place (offer_of row edge.me.0) content sound
-      (right (edge.wire_on place.wire.0) (is_up_with (edge.peering place.peer.0)) (left (edge.wire_on place.wire.0 && is_up_with (edge.peering place.peer.0)) place.terminal holds)) e
-  by_test false holds e = none_some content e
+    by_side : (b : Bool) {own passed : PwStatus} → own.0 < 2 ^ 32 → passed.0 < 2 ^ 32 → (cond b own passed).0 < 2 ^ 32
+    by_side true own passed = own
+    by_side false own passed = passed
 
 -- ---- rows of the plan
 
@@ -142,28 +146,93 @@ offer_fits plan me place k checked is = by_side (is_first k is.row.path) where
   by_side true = wire.near
   by_side false = wire.far
 
+-- the address of an edge of the plan
+pub edge_address_is : (plan : Plan) (edge : EdgeId) → HasTypes plan → IsPointAddress (edge_address plan edge)
+edge_address_is plan edge types = by_row (slice_get plan.edges edge.0) refl where
+  octets_are : (xs : List ℕ) → AllByRecursion (λ (x : ℕ). x < 256) xs → (i : ℕ) → slice_index xs i < 256
+  octets_are [] all i = no_octets i
+  octets_are (x ∷ xs) all i = octet_front x xs all.0 (octets_are xs all.1) i
+
+  by_row : (row : Option EdgePlan) → slice_get plan.edges edge.0 ≡ row → IsPointAddress (option_map (λ (r : EdgePlan). r.address) row)
+  by_row None is = tt
+  by_row (Some row) is = (let address : IsAddress row.address = row_holds (λ (r : EdgePlan). IsAddress r.address) plan.edges edge.0 row is types.addresses in (address.four, octets_are row.address.0 address.octets))
+
+-- ---- what an end should tell
+
+-- it can be written, and the session is up
+pub record WishesSoundly (edge : EdgeState) (place : EndPlace) (content : Told) : Type 0 where
+  pub up : is_up_with (edge.peering place.peer.0) ≡ true
+  pub sound : IsSoundTold 3 content
+
+module _ (plan : Plan) (me : EdgeId) (checked : IsChecked plan) (types : HasTypes plan) (edge : EdgeState) (place : EndPlace) (content : Told) (sound : TellsSoundly (point_limit plan me.0) edge) (is : IsEndOf plan me place) where
+  offer_wished : place.terminal ≡ true → terminal_wish plan edge place (offer_of is.row edge.me.0) ≡ Some content → IsSoundTold 3 content
+  offer_wished terminal wished = by_test (tells_status (method_by (offer_of is.row edge.me.0).status (status_held (end_at edge place).remote)) || edge.bits place.wire.0 == 0) wished where
+    told_status : (b : Bool) → IsState (cond b (Some (status_to_tell plan edge place)) None)
+    told_status true = status_small plan edge place sound
+    told_status false = tt
+
+    by_test : (b : Bool) → cond b (Some (content_of (offer_of is.row edge.me.0) (status_offered plan edge place (offer_of is.row edge.me.0)))) None ≡ Some content → IsSoundTold 3 content
+    by_test true e = subst (IsSoundTold 3) (some_same (content_of (offer_of is.row edge.me.0) (status_offered plan edge place (offer_of is.row edge.me.0))) content e)
+        (offer_sound 3 (offer_of is.row edge.me.0) (status_offered plan edge place (offer_of is.row edge.me.0)) (told_status (offer_of is.row edge.me.0).status) (offer_field plan me place edge.me.0 types is) (offer_fits plan me place edge.me.0 checked is))
+    by_test false e = none_some content e
+
+  two_taken : place.terminal ≡ false → point_limit plan me.0 place.wire.0 ≡ 2
+  two_taken passes = ap (limit_of me) is.is ∙ ap (λ (b : Bool). cond b 3 2) (sym is.terminal ∙ passes)
+
+  passed_wished : place.terminal ≡ false → (from : Option EdgeId) → passed_from plan is.row edge.me (held_of edge place.wire) from ≡ Some content → IsSoundTold 3 content
+  passed_wished passes None e = none_some content e
+  passed_wished passes (Some from) e = by_held (edge.ends place.wire.0 from.0).remote refl e where
+    own : Point
+    own = own_point is.row.pw_id (edge_address plan edge.me) (edge_address plan from)
+
+    small : is.row.pw_id < 2 ^ 32
+    small = subst (λ (n : ℕ). n < 2 ^ 32) is.pw_id (end_small plan me place checked is)
+
+    by_held : (held : Option Binding) → (edge.ends place.wire.0 from.0).remote ≡ held → wanted (own_point is.row.pw_id (edge_address plan edge.me) (edge_address plan from)) held ≡ Some content → IsSoundTold 3 content
+    by_held None there e = none_some content e
+    by_held (Some binding) there e = subst (IsSoundTold 3) (some_same (past_point (own_point is.row.pw_id (edge_address plan edge.me) (edge_address plan from)) binding.told) content e)
+        (past_sound 2 (own_point is.row.pw_id (edge_address plan edge.me) (edge_address plan from)) binding.told
+        (own_in_range is.row.pw_id (edge_address plan edge.me) (edge_address plan from) small (edge_address_is plan edge.me types) (edge_address_is plan from types))
+        (own_octets is.row.pw_id (edge_address plan edge.me) (edge_address plan from) (edge_address_is plan edge.me types) (edge_address_is plan from types))
+        (subst (λ (limit : ℕ). IsSoundTold limit binding.told) (two_taken passes) (bound_sound edge place.wire.0 from.0 binding sound there)))
+
+  by_terminal : (b : Bool) → place.terminal ≡ b → cond b (terminal_wish plan edge place (offer_of is.row edge.me.0)) (passed_wish plan edge place is.row) ≡ Some content → IsSoundTold 3 content
+  by_terminal true terminal e = offer_wished terminal e
+  by_terminal false passes e = passed_wished passes (mate is.row edge.me.0 place.peer.0) e
+
+  pub wishes : wish plan edge place ≡ Some content → WishesSoundly edge place content
+  wishes wished = by_test (edge.wire_on place.wire.0 && is_up_with (edge.peering place.peer.0)) refl (ap (wish_of plan edge place) (sym is.is) ∙ wished) where
+    by_test : (b : Bool) → edge.wire_on place.wire.0 && is_up_with (edge.peering place.peer.0) ≡ b → cond b (wish_by plan edge place is.row) None ≡ Some content → WishesSoundly edge place content
+    by_test true holds e = record {
+      up = right (edge.wire_on place.wire.0) (is_up_with (edge.peering place.peer.0)) holds;
+      sound = by_terminal place.terminal refl e;
+    }
+    by_test false holds e = none_some content e
+
 -- ---- an end that advertises
 
-pub advertised_up : (up : Bool) (e : EndState) (label : ℕ) (told : Told) → IsSoundEnd up e → e.local ≡ Advertised label told → (up ≡ true) × CanBeTold label told
-advertised_up true e label told sound at = (refl, subst IsSoundPart at sound)
-advertised_up false e label told sound at = clash (sym (ap Rattle.flight_model.specs.Binding.is_idle at) ∙ sound.0)
+pub advertised_up : (limit : ℕ) (up : Bool) (e : EndState) (label : ℕ) (told : Told) → IsSoundEnd limit up e → e.local ≡ Advertised label told → (up ≡ true) × CanBeTold label told
+advertised_up limit true e label told sound at = (refl, subst IsSoundPart at sound.0)
+advertised_up limit false e label told sound at = clash (sym (ap Rattle.flight_model.specs.Binding.is_idle at) ∙ sound.0)
 
 below_end : (n : ℕ) → n ≤ numbers_end → n == numbers_end ≡ false → n ≤ 1048575
 below_end n most some = grind (arith, nat_tests)
 
-pub next_is_label : (edge : EdgeState) → TellsSoundly edge → edge.next_label == numbers_end ≡ false → IsLabel edge.next_label
+pub next_is_label : {limit : ℕ → ℕ} → (edge : EdgeState) → TellsSoundly limit edge → edge.next_label == numbers_end ≡ false → IsLabel edge.next_label
 next_is_label edge sound some = record { above = sound.least; below = below_end edge.next_label sound.most some }
 
-up_sound : (up : Bool) (e : EndState) → up ≡ true → IsSoundPart e.local → IsSoundEnd up e
-up_sound true e is sound = sound
-up_sound false e is sound = clash is
+-- what an end tells is another part, and what it holds is the same
+local_sound : (limit : ℕ) (up : Bool) (e : EndState) (local : LocalPart) → up ≡ true → IsSoundPart local → IsSoundEnd limit up e → IsSoundEnd limit up (record { local = local; remote = e.remote })
+local_sound limit true e local is part sound = (part, sound.1)
+local_sound limit false e local is part sound = clash is
 
-advertising_sound : (place : EndPlace) (content : Told) (edge : EdgeState) → is_up_with (edge.peering place.peer.0) ≡ true → (end_at edge place).local ≡ Idle false → CanBeTold edge.next_label content → edge.next_label == numbers_end ≡ false
-    → TellsSoundly edge → TellsSoundly (advertising place edge.next_label content edge)
+advertising_sound : {limit : ℕ → ℕ} → (place : EndPlace) (content : Told) (edge : EdgeState) → is_up_with (edge.peering place.peer.0) ≡ true → (end_at edge place).local ≡ Idle false → CanBeTold edge.next_label content → edge.next_label == numbers_end ≡ false
+    → TellsSoundly limit edge → TellsSoundly limit (advertising place edge.next_label content edge)
 unfolding with_end
-advertising_sound place content edge up at can some sound =
+advertising_sound {limit} place content edge up at can some sound =
     sound_next_label (with_end place (advertised edge.next_label content (end_at edge place)) edge) some
-    (sound_with_end place (advertised edge.next_label content (end_at edge place)) edge (up_sound (is_up_with (edge.peering place.peer.0)) (advertised edge.next_label content (end_at edge place)) up (rw at can)) sound)
+    (sound_with_end place (advertised edge.next_label content (end_at edge place)) edge
+    (local_sound (limit place.wire.0) (is_up_with (edge.peering place.peer.0)) (end_at edge place) (advertised edge.next_label content (end_at edge place)).local up (rw at can) (sound.ends place.wire.0 place.peer.0)) sound)
 
 advertising_rest : (place : EndPlace) (content : Told) (label : ℕ) (edge : EdgeState) → ((advertising place label content edge).peering ≡ edge.peering) × ((advertising place label content edge).me ≡ edge.me)
 unfolding with_end with_next_label
@@ -177,59 +246,59 @@ changed_up : (change : EdgeState → EdgeState) (work : Work) (peer : EdgeId) �
 unfolding changes
 changed_up change work peer same up = rw same up
 
-down_rest : (place : EndPlace) (down : Option Down) (edge : EdgeState)
-    → ((with_told_down place.wire down edge).peering ≡ edge.peering) × ((with_told_down place.wire down edge).me ≡ edge.me) × (TellsSoundly edge → TellsSoundly (with_told_down place.wire down edge))
+down_rest : (limit : ℕ → ℕ) (place : EndPlace) (down : Option Down) (edge : EdgeState)
+    → ((with_told_down place.wire down edge).peering ≡ edge.peering) × ((with_told_down place.wire down edge).me ≡ edge.me) × (TellsSoundly limit edge → TellsSoundly limit (with_told_down place.wire down edge))
 unfolding with_told_down
-down_rest place down edge = (refl, refl, λ sound. sound_same edge _ refl refl refl refl sound)
+down_rest limit place down edge = (refl, refl, λ sound. sound_same edge _ refl refl refl refl sound)
 
 -- ---- mending
 
-module _ (plan : Plan) (me : EdgeId) (checked : IsChecked plan) (types : HasTypes plan) (I : Work → Type 0) (steady : IsSteady me I) where
+module _ (plan : Plan) (me : EdgeId) (checked : IsChecked plan) (types : HasTypes plan) (I : Work → Type 0) (steady : IsSteady plan me I) where
   steady_advertises : (place : EndPlace) (content : Told) (work : Work) → IsEndOf plan me place → (end_at work.edge place).local ≡ Idle false → wish plan work.edge place ≡ Some content
       → work.edge.next_label == numbers_end ≡ false → I work → I (says taken_all place.peer (mapping place.pw_id work.edge.next_label content) (changes (advertising place work.edge.next_label content) work)).work
   steady_advertises place content work is at wished some i =
-      let sound : TellsSoundly work.edge = steady.sound work i in
-      let offer : Offer = offer_of is.row work.edge.me.0 in
-      let told : WishesOffer work.edge place offer content = wishes plan work.edge place is.row content sound is.is wished in
+      let sound : TellsSoundly (point_limit plan me.0) work.edge = steady.sound work i in
+      let told : WishesSoundly work.edge place content = wishes plan me checked types work.edge place content sound is wished in
       let label : IsLabel work.edge.next_label = next_is_label work.edge sound some in
-      let can : CanBeTold work.edge.next_label content = rw told.is (content_can work.edge.next_label offer told.status label (offer_field plan me place work.edge.me.0 types is)) in
       let rest = advertising_rest place content work.edge.next_label work.edge in
       steady.says place.peer (mapping place.pw_id work.edge.next_label content) (changes (advertising place work.edge.next_label content) work)
       (changed_up (advertising place work.edge.next_label content) work place.peer rest.0 told.up)
-      (rw told.is (mapping_is place.pw_id work.edge.next_label offer told.status (end_small plan me place checked is) label told.state (offer_field plan me place work.edge.me.0 types is) (offer_fits plan me place work.edge.me.0 checked is)))
-      (steady.changes (advertising place work.edge.next_label content) work rest.0 rest.1 (advertising_sound place content work.edge told.up at can some sound) i)
+      (mapping_sound place.pw_id work.edge.next_label content (end_small plan me place checked is) label told.sound)
+      (steady.changes (advertising place work.edge.next_label content) work rest.0 rest.1 (advertising_sound place content work.edge told.up at (sound_can 3 work.edge.next_label content label told.sound) some sound) i)
 
   steady_withdraws : (place : EndPlace) (label : ℕ) (content : Told) (work : Work) → IsEndOf plan me place → (end_at work.edge place).local ≡ Advertised label content → I work → I (withdraws taken_all place label content work).work
   steady_withdraws place label content work is at i =
-      let sound : TellsSoundly work.edge = steady.sound work i in
-      let can = advertised_up (is_up_with (work.edge.peering place.peer.0)) (end_at work.edge place) label content (sound.ends place.wire.0 place.peer.0) at in
+      let sound : TellsSoundly (point_limit plan me.0) work.edge = steady.sound work i in
+      let can = advertised_up (point_limit plan me.0 place.wire.0) (is_up_with (work.edge.peering place.peer.0)) (end_at work.edge place) label content (sound.ends place.wire.0 place.peer.0) at in
       let rest = with_end_rest place (withdrawn (end_at work.edge place)) work.edge in
       steady.says place.peer (withdrawal place.pw_id label content) (changes (withdrawing place) work) (changed_up (withdrawing place) work place.peer rest.0 can.0) (withdrawal_is place.pw_id label content (end_small plan me place checked is) can.1)
       (steady.changes (withdrawing place) work rest.0 rest.1
-      (sound_with_end place (withdrawn (end_at work.edge place)) work.edge (up_sound (is_up_with (work.edge.peering place.peer.0)) (withdrawn (end_at work.edge place)) can.0 (rw at tt)) sound) i)
+      (sound_with_end place (withdrawn (end_at work.edge place)) work.edge
+      (local_sound (point_limit plan me.0 place.wire.0) (is_up_with (work.edge.peering place.peer.0)) (end_at work.edge place) (withdrawn (end_at work.edge place)).local can.0 (rw at tt) (sound.ends place.wire.0 place.peer.0)) sound) i)
 
   steady_tells : (place : EndPlace) (label : ℕ) (content : Told) (work : Work) → IsEndOf plan me place → (end_at work.edge place).local ≡ Advertised label content
       → I work → I (tells_new_status taken_all place content (status_to_tell plan work.edge place) work).work
   steady_tells place label content work is at i =
-      let sound : TellsSoundly work.edge = steady.sound work i in
+      let sound : TellsSoundly (point_limit plan me.0) work.edge = steady.sound work i in
       let status : PwStatus = status_to_tell plan work.edge place in
-      let can = advertised_up (is_up_with (work.edge.peering place.peer.0)) (end_at work.edge place) label content (sound.ends place.wire.0 place.peer.0) at in
+      let can = advertised_up (point_limit plan me.0 place.wire.0) (is_up_with (work.edge.peering place.peer.0)) (end_at work.edge place) label content (sound.ends place.wire.0 place.peer.0) at in
       let rest = with_end_rest place (telling status (end_at work.edge place)) work.edge in
       steady.says place.peer (status_notification place.pw_id status content) (changes (telling_status place status) work) (changed_up (telling_status place status) work place.peer rest.0 can.0)
       (status_is place.pw_id label status content (end_small plan me place checked is) (status_small plan work.edge place sound) can.1)
       (steady.changes (telling_status place status) work rest.0 rest.1
       (sound_with_end place (telling status (end_at work.edge place)) work.edge
-      (up_sound (is_up_with (work.edge.peering place.peer.0)) (telling status (end_at work.edge place)) can.0 (rw at (record { is_label = can.1.is_label; kind = can.1.kind; group = can.1.group }))) sound) i)
+      (local_sound (point_limit plan me.0 place.wire.0) (is_up_with (work.edge.peering place.peer.0)) (end_at work.edge place) (telling status (end_at work.edge place)).local can.0
+      (rw at (record { is_label = can.1.is_label; kind = can.1.kind; group = can.1.group })) (sound.ends place.wire.0 place.peer.0)) sound) i)
 
   steady_clears : (place : EndPlace) (label : ℕ) (content : Told) (addresses : List Mac) (work : Work) → IsEndOf plan me place → (end_at work.edge place).local ≡ Advertised label content → IsPiece addresses
       → I work → I (says taken_all place.peer (mac_withdrawal place.pw_id addresses content) work).work
   steady_clears place label content addresses work is at piece i =
-      let can = advertised_up (is_up_with (work.edge.peering place.peer.0)) (end_at work.edge place) label content ((steady.sound work i).ends place.wire.0 place.peer.0) at in
+      let can = advertised_up (point_limit plan me.0 place.wire.0) (is_up_with (work.edge.peering place.peer.0)) (end_at work.edge place) label content ((steady.sound work i).ends place.wire.0 place.peer.0) at in
       steady.says place.peer (mac_withdrawal place.pw_id addresses content) work can.0 (clearance_is place.pw_id label addresses content (end_small plan me place checked is) piece can.1) i
 
   steady_tells_down : (place : EndPlace) (down : Option Down) (work : Work) → I work → I (gives (Wire place.wire down) (changes (with_told_down place.wire down) work))
   steady_tells_down place down work i =
-      let rest = down_rest place down work.edge in
+      let rest = down_rest (point_limit plan me.0) place down work.edge in
       steady.gives (Wire place.wire down) (changes (with_told_down place.wire down) work) (record { says = λ k. refl; closed = λ k. refl; well = tt })
       (steady.changes (with_told_down place.wire down) work rest.0 rest.1 (rest.2 (steady.sound work i)) i)
 

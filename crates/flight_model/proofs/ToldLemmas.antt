@@ -1,5 +1,5 @@
 -- An edge's own work keeps what its ends tell and hold, and what it says, as the plan has it.
-use Rattle.std.proofs.Common.{◌≡◌, ◌∙◌, ℕ, true, List, [], Option, Some, None, refl, sym, ap}
+use Rattle.std.proofs.Common.{◌≡◌, ◌<◌, ◌^◌, ◌∙◌, ℕ, true, List, [], Option, Some, None, refl, sym, ap}
 use Rattle.std.specs.Prelude.{is_some}
 use Rattle.net_base.specs.declared.plan.Plan.{Plan}
 use Rattle.net_base.specs.declared.plan.offer.Offer.{Offer}
@@ -12,6 +12,7 @@ use Rattle.pw_tlvs.specs.declared.point.Point.{Point}
 use Rattle.pw_tlvs.specs.declared.pw_fec.PwFec.{PwFec}
 use Rattle.pw_tlvs.specs.declared.pw_status.PwStatus.{PwStatus}
 use Rattle.net_values.specs.Label.{IsLabel}
+use Rattle.ldp_grammar.specs.Written.{IsState}
 use Rattle.ldp_grammar.specs.declared.message.Message.{Message}
 use Rattle.ldp_grammar.specs.declared.message.Message.TheVariants.{Notification, AddressWithdraw, LabelMapping, LabelWithdraw, LabelRelease}
 use Rattle.pw_signalling.specs.declared.binding.Binding.{Binding}
@@ -146,33 +147,33 @@ release_of_withdrawal_tells plan from to id fec label names = record {
 
 -- ---- the ends of an edge
 
--- a label that is held is one
-abbrev pub HoldsLabel : Option Binding → Type 0
-HoldsLabel None = Unit {0}
-HoldsLabel (Some binding) = IsLabel binding.label
+-- a label that is held is one, and so is a status
+abbrev pub HeldFits : Option Binding → Type 0
+HeldFits None = Unit {0}
+HeldFits (Some binding) = IsLabel binding.label × IsState binding.told.status
 
--- what one end tells and holds, where its wire joins the two edges, and a label that can be told
+-- what one end tells and holds, where its wire joins the two edges, and a label and a status that can be told
 pub record TellsAt (plan : Plan) (me wire peer : ℕ) (end : EndState) : Type 0 where
   pub near : (row : WirePlan) → wire_row plan (record { 0 = wire }) ≡ Some row → joins me peer row.path ≡ true → NearTells plan row me peer end.local
   pub far : (row : WirePlan) → wire_row plan (record { 0 = wire }) ≡ Some row → joins peer me row.path ≡ true → FarTells plan row peer me end.remote
-  pub label : HoldsLabel end.remote
+  pub held : HeldFits end.remote
 
 -- each end of an edge
 abbrev pub TellsOwn : Plan → ℕ → EdgeState → Type 0
 TellsOwn plan me edge = (wire peer : ℕ) → TellsAt plan me wire peer (edge.ends wire peer)
 
 pub fresh_tells : (plan : Plan) (me wire peer : ℕ) → TellsAt plan me wire peer Rattle.pw_signalling.specs.End.fresh
-fresh_tells plan me wire peer = record { near = λ row is joined. tt; far = λ row is joined. tt; label = tt }
+fresh_tells plan me wire peer = record { near = λ row is joined. tt; far = λ row is joined. tt; held = tt }
 
 -- another local part
 pub local_tells : (plan : Plan) (me wire peer : ℕ) (end : EndState) (local : LocalPart) → ((row : WirePlan) → wire_row plan (record { 0 = wire }) ≡ Some row → joins me peer row.path ≡ true → NearTells plan row me peer end.local → NearTells plan row me peer local)
     → TellsAt plan me wire peer end → TellsAt plan me wire peer (record { local = local; remote = end.remote })
-local_tells plan me wire peer end local keeps tells = record { near = λ row is joined. keeps row is joined (tells.near row is joined); far = λ row is joined. tells.far row is joined; label = tells.label }
+local_tells plan me wire peer end local keeps tells = record { near = λ row is joined. keeps row is joined (tells.near row is joined); far = λ row is joined. tells.far row is joined; held = tells.held }
 
 -- another remote part
 pub remote_tells : (plan : Plan) (me wire peer : ℕ) (end : EndState) (remote : Option Binding) → ((row : WirePlan) → wire_row plan (record { 0 = wire }) ≡ Some row → joins peer me row.path ≡ true → FarTells plan row peer me end.remote → FarTells plan row peer me remote)
-    → HoldsLabel remote → TellsAt plan me wire peer end → TellsAt plan me wire peer (record { local = end.local; remote = remote })
-remote_tells plan me wire peer end remote keeps label tells = record { near = λ row is joined. tells.near row is joined; far = λ row is joined. keeps row is joined (tells.far row is joined); label = label }
+    → HeldFits remote → TellsAt plan me wire peer end → TellsAt plan me wire peer (record { local = end.local; remote = remote })
+remote_tells plan me wire peer end remote keeps held tells = record { near = λ row is joined. tells.near row is joined; far = λ row is joined. keeps row is joined (tells.far row is joined); held = held }
 
 pub near_withdrawn : (plan : Plan) (row : WirePlan) (from to : ℕ) (local : LocalPart) → NearTells plan row from to local → NearTells plan row from to (withdraw_part local)
 near_withdrawn plan row from to (Idle declined) tells = tt
@@ -203,13 +204,13 @@ pub far_unless : (plan : Plan) (row : WirePlan) (from to : ℕ) (label : Option 
 far_unless plan row from to label None tells = tt
 far_unless plan row from to label (Some binding) tells = split {P = FarTells plan row from to (unless_named label (Some binding))} (names label binding.label) (λ b. rw b tt) (λ b. rw b tells)
 
-pub label_unless : (label : Option ℕ) (held : Option Binding) → HoldsLabel held → HoldsLabel (unless_named label held)
-label_unless label None holds = tt
-label_unless label (Some binding) holds = split {P = HoldsLabel (unless_named label (Some binding))} (names label binding.label) (λ b. rw b tt) (λ b. rw b holds)
+pub fits_unless : (label : Option ℕ) (held : Option Binding) → HeldFits held → HeldFits (unless_named label held)
+fits_unless label None holds = tt
+fits_unless label (Some binding) holds = split {P = HeldFits (unless_named label (Some binding))} (names label binding.label) (λ b. rw b tt) (λ b. rw b holds)
 
-pub label_status : (status : PwStatus) (held : Option Binding) → HoldsLabel held → HoldsLabel (status_part status held)
-label_status status None holds = tt
-label_status status (Some binding) holds = holds
+pub fits_status : (status : PwStatus) (held : Option Binding) → status.0 < 2 ^ 32 → HeldFits held → HeldFits (status_part status held)
+fits_status status None small holds = tt
+fits_status status (Some binding) small holds = (holds.0, small)
 
 pub far_status : (plan : Plan) (row : WirePlan) (from to : ℕ) (status : PwStatus) (held : Option Binding) → (expected plan row from to).offer.status ≡ true → FarTells plan row from to held → FarTells plan row from to (status_part status held)
 far_status plan row from to status None carries tells = tt

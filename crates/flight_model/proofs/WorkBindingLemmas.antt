@@ -68,8 +68,8 @@ says_holds place held peer message work holds = elim (cases_Bool (nat_eq place p
     here (Some kept) at is = subst (HoldsOctets held) (sym (says_spoken peer kept message work at).here) (rw at at is)
 
 -- calm steps keep them
-pub held_steady : (me : EdgeId) (I : Work → Type 0) (besides : ℕ → Bool) (held : ℕ → List ℕ) → IsSteady me I → IsSteady me (λ work. I work × HoldsAll besides held work)
-held_steady me I besides held steady = record {
+pub held_steady : (plan : Plan) (me : EdgeId) (I : Work → Type 0) (besides : ℕ → Bool) (held : ℕ → List ℕ) → IsSteady plan me I → IsSteady plan me (λ work. I work × HoldsAll besides held work)
+held_steady plan me I besides held steady = record {
   placed = λ work i. steady.placed work i.0;
   sound = λ work i. steady.sound work i.0;
   changes = λ change work kept place sound i. (
@@ -210,8 +210,8 @@ module _ (plan : Plan) (network : NetworkState) (me : EdgeId) (checked : IsCheck
   all_said : (work : Work) → WorksOn plan network me work → SaysAll plan me checked network.edges (flight network me.0) answers work
   all_said work works place away = let left = (works.left place away).leaves in record { messages = left.messages; answers = left.answers; out_is = left.out_is; talk = left.talk }
 
-  held_works : IsSteady me WorksHeld
-  held_works = held_steady me (WorksOn plan network me) no_place held (works_steady plan network me)
+  held_works : IsSteady plan me WorksHeld
+  held_works = held_steady plan me (WorksOn plan network me) no_place held (works_steady plan network me)
 
   event_works : (peer : EdgeId) (event : SessionEvent) (work : Work)
       → ((own other : Peers) (kept : Peering) (far : Option Peering) (ms rest : List Message) → AreTalking own other (Some kept) far ms rest → StayInStep own other kept far ms rest (outcome_of kept.session event))

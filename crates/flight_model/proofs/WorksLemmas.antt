@@ -28,7 +28,7 @@ use Rattle.network_model.specs.Absorb.{absorb, absorb_all, begin_at, taken_all}
 use Rattle.network_model.specs.State.{NetworkState, with_edge}
 use Rattle.flight_model.specs.Coming.{and_more}
 use Rattle.flight_model.specs.Ends.{HasTypes, IsLeft, IsOrdered, IsPaired, KeepsOrder, LeftFor, WorksOn, ends_at}
-use Rattle.flight_model.specs.Sound.{TellsSoundly}
+use Rattle.flight_model.specs.Sound.{TellsSoundly, point_limit}
 use Rattle.flight_model.specs.Facts.{HoldsBut, Turns, flight}
 use Rattle.flight_model.specs.Meeting.{IsFine, Leaves, Meets, Shows, Spares, closes, said_to}
 use Rattle.flight_model.specs.Messages.{octets_of_all}
@@ -75,21 +75,21 @@ pair_turned plan a b one other out back pair = record {
 -- ---- the work goes into the network
 
 -- what is so of each other edge by itself
-pub record AreOthers (me : EdgeId) (network : NetworkState) : Type 0 where
+pub record AreOthers (plan : Plan) (me : EdgeId) (network : NetworkState) : Type 0 where
   pub alone : (a : ℕ) → nat_eq a me.0 ≡ false → (network.edges a).peering a ≡ None
   pub placed : (a : ℕ) → nat_eq a me.0 ≡ false → (network.edges a).me ≡ record { 0 = a }
-  pub sound : (a : ℕ) → nat_eq a me.0 ≡ false → TellsSoundly (network.edges a)
+  pub sound : (a : ℕ) → nat_eq a me.0 ≡ false → TellsSoundly (point_limit plan a) (network.edges a)
 
-pub others_are : (plan : Plan) (me : EdgeId) (network : NetworkState) → IsOrdered plan network → AreOthers me network
+pub others_are : (plan : Plan) (me : EdgeId) (network : NetworkState) → IsOrdered plan network → AreOthers plan me network
 others_are plan me network ordered = record { alone = λ a away. ordered.alone a; placed = λ a away. ordered.placed a; sound = λ a away. ordered.sound a }
 
-pub works_settle : (plan : Plan) (network : NetworkState) (me : EdgeId) (origin hops : ℕ) (work : Work) → HoldsBut (IsPaired plan) me.0 network → AreOthers me network → WorksOn plan network me work
+pub works_settle : (plan : Plan) (network : NetworkState) (me : EdgeId) (origin hops : ℕ) (work : Work) → HoldsBut (IsPaired plan) me.0 network → AreOthers plan me network → WorksOn plan network me work
     → IsOrdered plan (absorb me origin hops work network).state
 works_settle plan network me origin hops work two others works = record {
   two = settle (IsPaired plan) network me origin hops work (pair_turned plan) two (λ place away. (works.left place away).leaves);
   alone = λ a. by_place (λ k e. e.peering k ≡ None) a works.alone (others.alone a);
   placed = λ a. by_place (λ k e. e.me ≡ record { 0 = k }) a works.fine.place (others.placed a);
-  sound = λ a. by_place (λ k e. TellsSoundly e) a works.sound (others.sound a);
+  sound = λ a. by_place (λ k e. TellsSoundly (point_limit plan k) e) a works.sound (others.sound a);
 }
   where
     after : NetworkState
@@ -248,7 +248,7 @@ no_event peer event work at = ap (clears_ends peer) same where
   same : happens taken_all peer event work ≡ work
   same = rw at refl
 
-pub works_clears : (plan : Plan) (network : NetworkState) (me peer : EdgeId) (work : Work) → TellsSoundly (clears_ends peer work).edge → WorksOn plan network me work → WorksOn plan network me (clears_ends peer work)
+pub works_clears : (plan : Plan) (network : NetworkState) (me peer : EdgeId) (work : Work) → TellsSoundly (point_limit plan me.0) (clears_ends peer work).edge → WorksOn plan network me work → WorksOn plan network me (clears_ends peer work)
 works_clears plan network me peer work sound works = record {
   fine = clears_fine me peer work works.fine;
   sound = sound;
@@ -263,7 +263,7 @@ pub works_happens : (plan : Plan) (network : NetworkState) (me peer : EdgeId) (e
 works_happens plan network me peer event work takes works = elim (cases_Bool (nat_eq peer.0 me.0)) [
   | inl same ↦ (let none : work.edge.peering peer.0 ≡ None = ap (λ (k : ℕ). work.edge.peering k) (eqb-true peer.0 me.0 same) ∙ works.alone in
       subst (WorksOn plan network me) (sym (no_event peer event work none))
-      (works_clears plan network me peer work (subst (λ (w : Work). TellsSoundly w.edge) (no_event peer event work none) sound) works))
+      (works_clears plan network me peer work (subst (λ (w : Work). TellsSoundly (point_limit plan me.0) w.edge) (no_event peer event work none) sound) works))
   | inr away ↦ (let own = happens_left (ends_at plan me.0 peer.0) (ends_at plan peer.0 me.0) me peer ((network.edges peer.0).peering me.0) (flight network me.0 peer.0) (network.pipes peer.0 me.0) event work takes works.fine (works.left peer.0 away) in
       record {
         fine = own.0;
@@ -277,7 +277,7 @@ works_happens plan network me peer event work takes works = elim (cases_Bool (na
       })
 ]
   where
-    sound : TellsSoundly (happens_with_ends taken_all peer event work).edge
+    sound : TellsSoundly (point_limit plan me.0) (happens_with_ends taken_all peer event work).edge
     sound = happens_sound taken_all peer event work works.sound
 
 -- ---- calm steps
@@ -311,7 +311,7 @@ pub gives_fine : (me : EdgeId) (e : Effect) (work : Work) → IsSilent e → IsF
 unfolding gives
 gives_fine me e work silent fine = record { place = fine.place; idle = fine.idle; well = well-append work.effects e fine.well silent.well }
 
-wrote_sound : (peer : EdgeId) (kept : Peering) (bytes : List ℕ) (work : Work) → work.edge.peering peer.0 ≡ Some kept → TellsSoundly work.edge → TellsSoundly (wrote peer bytes work).edge
+wrote_sound : {limit : ℕ → ℕ} → (peer : EdgeId) (kept : Peering) (bytes : List ℕ) (work : Work) → work.edge.peering peer.0 ≡ Some kept → TellsSoundly limit work.edge → TellsSoundly limit (wrote peer bytes work).edge
 unfolding wrote gives changes with_spoken with_peering puts
 wrote_sound peer kept bytes work at sound = record {
   least = sound.least;
@@ -323,11 +323,11 @@ wrote_sound peer kept bytes work at sound = record {
   ];
 }
 
-pub says_sound : (peer : EdgeId) (message : ℕ → Message) (work : Work) → TellsSoundly work.edge → TellsSoundly (says taken_all peer message work).work.edge
-says_sound peer message work sound = by_end (work.edge.peering peer.0) refl where
-  by_end : (near : Option Peering) → work.edge.peering peer.0 ≡ near → TellsSoundly (says taken_all peer message work).work.edge
-  by_end None at = subst (λ (w : Work). TellsSoundly w.edge) (sym (says_none peer message work at)) sound
-  by_end (Some kept) at = subst (λ (w : Work). TellsSoundly w.edge) (sym (says_is peer message kept work at)) (wrote_sound peer kept (message_octets_of kept message) work at sound)
+pub says_sound : {limit : ℕ → ℕ} → (peer : EdgeId) (message : ℕ → Message) (work : Work) → TellsSoundly limit work.edge → TellsSoundly limit (says taken_all peer message work).work.edge
+says_sound {limit} peer message work sound = by_end (work.edge.peering peer.0) refl where
+  by_end : (near : Option Peering) → work.edge.peering peer.0 ≡ near → TellsSoundly limit (says taken_all peer message work).work.edge
+  by_end None at = subst (λ (w : Work). TellsSoundly limit w.edge) (sym (says_none peer message work at)) sound
+  by_end (Some kept) at = subst (λ (w : Work). TellsSoundly limit w.edge) (sym (says_is peer message kept work at)) (wrote_sound peer kept (message_octets_of kept message) work at sound)
 
 -- the places but those where this test passes
 abbrev pub LeftBut : Plan → NetworkState → EdgeId → (ℕ → Bool) → Work → Type 0
@@ -363,7 +363,7 @@ all_places : ℕ → Bool
 all_places place = false
 
 -- an edge at work keeps to calm steps
-pub works_steady : (plan : Plan) (network : NetworkState) (me : EdgeId) → IsSteady me (WorksOn plan network me)
+pub works_steady : (plan : Plan) (network : NetworkState) (me : EdgeId) → IsSteady plan me (WorksOn plan network me)
 unfolding all_places
 works_steady plan network me = record {
   placed = λ work works. works.fine.place;
@@ -390,14 +390,14 @@ works_steady plan network me = record {
 
 -- ---- all parts of an input
 
-turned_same : (wire : WireId) (on : Bool) (edge : EdgeState) → ((turned_wire wire on edge).peering ≡ edge.peering) × ((turned_wire wire on edge).me ≡ edge.me) × (TellsSoundly edge → TellsSoundly (turned_wire wire on edge))
+turned_same : (limit : ℕ → ℕ) (wire : WireId) (on : Bool) (edge : EdgeState) → ((turned_wire wire on edge).peering ≡ edge.peering) × ((turned_wire wire on edge).me ≡ edge.me) × (TellsSoundly limit edge → TellsSoundly limit (turned_wire wire on edge))
 unfolding with_renewed with_wire
-turned_same wire true edge = (refl, refl, λ sound. sound_ends edge _ refl refl refl (λ w peer is. renewed_sound (nat_eq w wire.0) (is_up_with (edge.peering peer)) (edge.ends w peer) is) sound)
-turned_same wire false edge = (refl, refl, λ sound. sound_same edge _ refl refl refl refl sound)
+turned_same limit wire true edge = (refl, refl, λ sound. sound_ends edge _ refl refl refl (λ w peer is. renewed_sound (limit w) (nat_eq w wire.0) (is_up_with (edge.peering peer)) (edge.ends w peer) is) sound)
+turned_same limit wire false edge = (refl, refl, λ sound. sound_same edge _ refl refl refl refl sound)
 
-bits_same : (wire : WireId) (bits : ℕ) (edge : EdgeState) → bits ≤ 31 → ((with_bits wire bits edge).peering ≡ edge.peering) × ((with_bits wire bits edge).me ≡ edge.me) × (TellsSoundly edge → TellsSoundly (with_bits wire bits edge))
+bits_same : (limit : ℕ → ℕ) (wire : WireId) (bits : ℕ) (edge : EdgeState) → bits ≤ 31 → ((with_bits wire bits edge).peering ≡ edge.peering) × ((with_bits wire bits edge).me ≡ edge.me) × (TellsSoundly limit edge → TellsSoundly limit (with_bits wire bits edge))
 unfolding with_bits
-bits_same wire bits edge few = (
+bits_same limit wire bits edge few = (
   refl,
   refl,
   λ sound. record {
@@ -414,7 +414,7 @@ bits_same wire bits edge few = (
 
 pub works_kept : (plan : Plan) (network : NetworkState) (me : EdgeId) → IsChecked plan → HasTypes plan → KeptByWork plan me (WorksOn plan network me)
 works_kept plan network me checked types =
-    let steady : IsSteady me (WorksOn plan network me) = works_steady plan network me in
+    let steady : IsSteady plan me (WorksOn plan network me) = works_steady plan network me in
     record {
       rows = steady_rows plan me checked types (WorksOn plan network me) steady;
       closed = λ peer work works. works_happens plan network me peer (Closed reason.Closed) work (λ own other kept far messages answers t. closed_in_step own other kept far messages answers t) works;
@@ -425,6 +425,6 @@ works_kept plan network me checked types =
         alone = (bridged_spares me.0 old new bridged).kept ∙ works.alone;
         left = λ k away. left_spared (ends_at plan me.0 k) (ends_at plan k me.0) k ((network.edges k).peering me.0) (flight network me.0 k) (network.pipes k me.0) old new (bridged_spares k old new bridged) (works.left k away);
       };
-      turned = λ wire on work works. (let same = turned_same wire on work.edge in steady.changes (turned_wire wire on) work same.0 same.1 (same.2 works.sound) works);
-      bits = λ wire bits work few works. (let same = bits_same wire bits work.edge few in steady.changes (with_bits wire bits) work same.0 same.1 (same.2 works.sound) works);
+      turned = λ wire on work works. (let same = turned_same (point_limit plan me.0) wire on work.edge in steady.changes (turned_wire wire on) work same.0 same.1 (same.2 works.sound) works);
+      bits = λ wire bits work few works. (let same = bits_same (point_limit plan me.0) wire bits work.edge few in steady.changes (with_bits wire bits) work same.0 same.1 (same.2 works.sound) works);
     }

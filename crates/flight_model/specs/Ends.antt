@@ -18,7 +18,7 @@ use Rattle.flight_model.specs.Endings.{TellGoodEnds}
 use Rattle.flight_model.specs.Facts.{Fact, HoldsOfTwo, flight}
 use Rattle.flight_model.specs.Meeting.{IsFine, Leaves, closes}
 use Rattle.flight_model.specs.Pair.{ArePaired}
-use Rattle.flight_model.specs.Sound.{TellsSoundly}
+use Rattle.flight_model.specs.Sound.{TellsSoundly, point_limit}
 
 -- the ends of a session between two rows of a plan, as the first one sees them; without two rows there is none
 abbrev pub ends_between : Option EdgePlan → Option EdgePlan → Peers
@@ -54,7 +54,7 @@ pub record IsOrdered (plan : Plan) (network : NetworkState) : Type 0 where
   pub two : HoldsOfTwo (IsPaired plan) network
   pub alone : (a : ℕ) → (network.edges a).peering a ≡ None
   pub placed : (a : ℕ) → (network.edges a).me ≡ record { 0 = a }
-  pub sound : (a : ℕ) → TellsSoundly (network.edges a)
+  pub sound : (a : ℕ) → TellsSoundly (point_limit plan a) (network.edges a)
 
 -- ---- an edge at work in such a network
 
@@ -70,7 +70,7 @@ LeftFor plan network me work place =
 
 pub record WorksOn (plan : Plan) (network : NetworkState) (me : EdgeId) (work : Work) : Type 0 where
   pub fine : IsFine me work
-  pub sound : TellsSoundly work.edge
+  pub sound : TellsSoundly (point_limit plan me.0) work.edge
   pub alone : work.edge.peering me.0 ≡ None
   pub left : (place : ℕ) → nat_eq place me.0 ≡ false → LeftFor plan network me work place
 
