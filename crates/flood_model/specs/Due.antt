@@ -1,7 +1,6 @@
 -- What is due to a circuit by the wires of a bridge that floods: one for each copy that it sends and that has still to serve the
 -- circuit. Which wires carry frames is told by the network as it was when the frame entered.
-use Rattle.std.specs.Prelude.{◌==◌, ◌&&◌, ◌+◌, not, ℕ, Bool, true, List, [], ◌∷◌, length, Option, Some, None, if◌then◌else◌}
-use Rattle.std.specs.List.{list_all}
+use Rattle.std.specs.Prelude.{◌==◌, ◌&&◌, ◌+◌, not, ℕ, Bool, true, List, [], ◌∷◌, Option, Some, None, if◌then◌else◌}
 use Rattle.net_base.specs.declared.plan.Plan.{Plan}
 use Rattle.net_base.specs.declared.plan.wire_plan.WirePlan.{WirePlan}
 use Rattle.net_base.specs.declared.plan.places.CircuitId.{CircuitId}
@@ -14,10 +13,6 @@ use Rattle.edge_model.specs.Ends.{end_forwards}
 use Rattle.edge_model.specs.State.{EdgeState, is_on}
 use Rattle.network_model.specs.Reach.{ahead_wire, at_edge_of, far_of}
 use Rattle.network_model.specs.State.{NetworkState}
-
--- each wire of the plan has a path of two edges
-abbrev pub has_short_paths : Plan → Bool
-has_short_paths plan = list_all (λ row. length row.path == 2) plan.wires
 
 -- a copy that arrives at an edge by a wire has still to serve the circuit
 abbrev pub awaits : Plan → NetworkState → ServiceId → CircuitId → EdgeId → WireId → Bool

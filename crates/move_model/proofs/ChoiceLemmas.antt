@@ -29,7 +29,7 @@ use Rattle.flight_model.specs.Ends.{HasTypes, ends_at}
 use Rattle.flight_model.specs.Facts.{flight}
 use Rattle.flight_model.specs.Meeting.{said_to}
 use Rattle.flight_model.specs.Messages.{octets_of_all}
-use Rattle.flood_model.specs.Due.{has_short_paths}
+use Rattle.move_model.specs.Moves.{has_short_paths}
 use Rattle.ldp_grammar.specs.declared.message.Message.{Message}
 use Rattle.move_model.proofs.ForwardLemmas.{IsChoice, advertises_it, all_get, choice_is}
 use Rattle.move_model.proofs.PendingLemmas.{tells_on}
@@ -247,7 +247,7 @@ module _ (plan : Plan) (service : ServiceId) (network : NetworkState) (me : Edge
         };
       }
 
-  module _ (short : has_short_paths plan ≡ true) where
+  module _ (short : has_short_paths plan service ≡ true) where
     speaks_rows : (base : Work) → KeptByRows plan me (Speaks plan service network me peer base)
     speaks_rows base = rows_speak plan service me checked types short network peer base
 
@@ -408,6 +408,6 @@ module _ (plan : Plan) (service : ServiceId) (network : NetworkState) (me : Edge
       pub mends_tell_here : TellsChoice plan service network me work (mends plan taken_all work)
       mends_tell_here = subst (TellsChoice plan service network me work) (sym (mends_takes plan taken_all (λ k. refl) work)) (record { told = tell })
 
-pub mends_tell : (plan : Plan) (service : ServiceId) (network : NetworkState) (me : EdgeId) (peer : ℕ) (work : Work) → IsChecked plan → HasTypes plan → has_short_paths plan ≡ true → HasWays plan service network me
+pub mends_tell : (plan : Plan) (service : ServiceId) (network : NetworkState) (me : EdgeId) (peer : ℕ) (work : Work) → IsChecked plan → HasTypes plan → has_short_paths plan service ≡ true → HasWays plan service network me
     → Stays plan service network me peer work → TellsChoice plan service network me work (mends plan taken_all work)
 mends_tell plan service network me peer work checked types short ways begun = mends_tell_here plan service network me peer checked types ways short work begun

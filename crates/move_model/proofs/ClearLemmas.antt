@@ -20,7 +20,7 @@ use Rattle.flight_model.proofs.PlaceLemmas.{IsEndOf}
 use Rattle.flight_model.proofs.RowLemmas.{clash}
 use Rattle.flight_model.proofs.WorkLemmas.{same_place}
 use Rattle.flight_model.specs.Ends.{HasTypes}
-use Rattle.flood_model.specs.Due.{has_short_paths}
+use Rattle.move_model.specs.Moves.{has_short_paths}
 use Rattle.hvpls_spokes.specs.Port.{is_wire_port, ports_of, wire_port}
 use Rattle.hvpls_spokes.specs.Role as roles
 use Rattle.hvpls_spokes.specs.declared.edge_role.Role.TheVariants as role
@@ -136,7 +136,7 @@ withdraw_chosen plan peer fec macs work = by_end (end_of_fec plan work.edge peer
   by_end None = refl
   by_end (Some place) = by_side place place.terminal
 
-pub withdraw_stays : (plan : Plan) (service : ServiceId) (network : NetworkState) (me : EdgeId) (k : ℕ) (peer : EdgeId) (fec : PwFec) (macs : List Mac) (work : Work) → IsChecked plan → HasTypes plan → has_short_paths plan ≡ true → AreSixOctetsEach macs
+pub withdraw_stays : (plan : Plan) (service : ServiceId) (network : NetworkState) (me : EdgeId) (k : ℕ) (peer : EdgeId) (fec : PwFec) (macs : List Mac) (work : Work) → IsChecked plan → HasTypes plan → has_short_paths plan service ≡ true → AreSixOctetsEach macs
     → Stays plan service network me k work → StaysOn plan service network me k work (hears_mac_withdraw plan taken_all peer (Some fec) (Some macs) work)
 withdraw_stays plan service network me k peer fec macs work checked types short are begun =
     speaks_on plan service network me k work (hears_mac_withdraw plan taken_all peer (Some fec) (Some macs) work) begun
@@ -149,13 +149,13 @@ withdraw_stays plan service network me k peer fec macs work checked types short 
 abbrev pub AreAtPort : Plan → ServiceId → EdgeId → Port → List MacEntry → Type 0
 AreAtPort plan service me at entries = AllByRecursion (λ (entry : MacEntry). slice_get (ports_of plan service me) entry.port ≡ Some at) entries
 
-module _ (plan : Plan) (service : ServiceId) (me peer : EdgeId) (wire : WireId) (row : WirePlan) (fec : PwFec) (work : Work) (checked : IsChecked plan) (short : has_short_paths plan ≡ true) (placed : work.edge.me ≡ me)
+module _ (plan : Plan) (service : ServiceId) (me peer : EdgeId) (wire : WireId) (row : WirePlan) (fec : PwFec) (work : Work) (checked : IsChecked plan) (short : has_short_paths plan service ≡ true) (placed : work.edge.me ≡ me)
     (is : wire_row plan wire ≡ Some row) (of_service : is_wire_of service row ≡ true) (joined : joins me.0 peer.0 row.path ≡ true) (named : fec.pw_id ≡ Some row.pw_id) where
   end : IsLinkEnd plan me peer wire row
-  end = link_end plan me peer wire row checked short is joined
+  end = link_end plan service me peer wire row checked short of_service is joined
 
   ends : Rattle.net_base.specs.plan.Roles.wire_ends_at service me.0 row ≡ true
-  ends = on_it (short_link plan wire.0 row checked short is)
+  ends = on_it (short_link plan service wire.0 row checked short of_service is)
     where
       either : (ours : Bool) (a b n f : ℕ) → ours ≡ true → ((a == n && b == f) || (b == n && a == f)) || false ≡ true → ours && ((a == n) || (a == f)) ≡ true
       either ours a b n f one is = rw one (grind (arith, nat_tests))
@@ -205,7 +205,7 @@ module _ (plan : Plan) (service : ServiceId) (me peer : EdgeId) (wire : WireId) 
 
 -- ---- a withdrawal is passed on
 
-module _ (plan : Plan) (service : ServiceId) (network : NetworkState) (me : EdgeId) (k : ℕ) (checked : IsChecked plan) (types : HasTypes plan) (short : has_short_paths plan ≡ true) (ways : HasWays plan service network me) where
+module _ (plan : Plan) (service : ServiceId) (network : NetworkState) (me : EdgeId) (k : ℕ) (checked : IsChecked plan) (types : HasTypes plan) (short : has_short_paths plan service ≡ true) (ways : HasWays plan service network me) where
   abbrev At : Work → Type 0
   At work = Speaks plan service network me k work work
 
@@ -241,7 +241,7 @@ module _ (plan : Plan) (service : ServiceId) (network : NetworkState) (me : Edge
     link = mesh_link plan service me.0 core.0 mesh row checked short is of_mesh joined
 
     end_there : IsLinkEnd plan me core mesh row
-    end_there = link_end plan me core mesh row checked short is joined
+    end_there = link_end plan service me core mesh row checked short link.ours is joined
 
     here_tells : (work : Work) → At work → WillTell plan service network me.0 core.0 row.pw_id (tells_at plan taken_all [] (port.Mesh mesh) work)
     here_tells work speaks = subst (λ (o : Option EndPlace). WillTell plan service network me.0 core.0 row.pw_id (tells_by taken_all [] o work)) (sym found) (by_local (end_at work.edge end_there.place).local refl told) where

@@ -11,7 +11,7 @@ use Rattle.flight_model.proofs.RunLemmas.{both_apart}
 use Rattle.flight_model.proofs.SettleLemmas.{apart_turned}
 use Rattle.flight_model.proofs.SoundLemmas.{happens_sound}
 use Rattle.flight_model.specs.Ends.{HasTypes, IsOrdered}
-use Rattle.flood_model.specs.Due.{has_short_paths}
+use Rattle.move_model.specs.Moves.{has_short_paths}
 use Rattle.move_model.proofs.HearHealLemmas.{MeshesTo, event_heals}
 use Rattle.move_model.proofs.LiveLemmas.{mends_live}
 use Rattle.move_model.proofs.MendHealLemmas.{mends_heal}
@@ -42,7 +42,7 @@ up_end : (near : Option Peering) → is_up_with near ≡ true → is_there near 
 up_end None up = clash up
 up_end (Some kept) up = refl
 
-module _ (plan : Plan) (service : ServiceId) (site : Sites) (calm network : NetworkState) (checked : IsChecked plan) (types : HasTypes plan) (short : has_short_paths plan ≡ true) (ordered : IsOrdered plan network) (meshed : HasMeshes plan service)
+module _ (plan : Plan) (service : ServiceId) (site : Sites) (calm network : NetworkState) (checked : IsChecked plan) (types : HasTypes plan) (short : has_short_paths plan service ≡ true) (ordered : IsOrdered plan network) (meshed : HasMeshes plan service)
     (heals : Heals plan service site calm network) where
   ways : (me : EdgeId) → HasWays plan service network me
   ways me place joined stood = (heals.steady me.0 place joined stood).0.way

@@ -9,7 +9,7 @@ use Rattle.flight_model.proofs.WorkLemmas.{same_place}
 use Rattle.flight_model.specs.Bound.{some_message}
 use Rattle.flight_model.specs.Ends.{IsOrdered, ends_at}
 use Rattle.flood_model.proofs.FarLemmas.{are_settled}
-use Rattle.flood_model.specs.Due.{has_short_paths}
+use Rattle.move_model.specs.Moves.{has_short_paths}
 use Rattle.hvpls_spokes.proofs.PortsLemmas.{IsWired, served_at}
 use Rattle.hvpls_spokes.specs.Port.{ports_of}
 use Rattle.hvpls_spokes.specs.declared.port.Port.TheVariants as port
@@ -121,16 +121,16 @@ pub record IsPortWire (plan : Plan) (service : ServiceId) (edge : ℕ) (mesh : B
   pub peer : EdgeId
   pub joined : joins edge peer.0 row.path ≡ true
 
-port_wire : (plan : Plan) (service : ServiceId) (edge : ℕ) (mesh : Bool) (wire : WireId) → IsChecked plan → has_short_paths plan ≡ true → IsWired plan.wires service (record { 0 = edge }) mesh wire.0 → IsPortWire plan service edge mesh wire
+port_wire : (plan : Plan) (service : ServiceId) (edge : ℕ) (mesh : Bool) (wire : WireId) → IsChecked plan → has_short_paths plan service ≡ true → IsWired plan.wires service (record { 0 = edge }) mesh wire.0 → IsPortWire plan service edge mesh wire
 port_wire plan service edge mesh wire checked short wired =
-    let link : IsShortLink plan wired.row = short_link plan wire.0 wired.row checked short wired.is in
+    let link : IsShortLink plan wired.row = short_link plan service wire.0 wired.row checked short (left_part (is_wire_of service wired.row) (is_first edge wired.row.path || is_last edge wired.row.path) wired.ends) wired.is in
     let other = other_of plan service (record { 0 = edge }) wired.row link wired.ends in
     record { row = wired.row; is = wired.is; ends = wired.ends; class = wired.class; link = link; peer = other.peer; joined = other.joined }
 
-pub mesh_port : (plan : Plan) (service : ServiceId) (edge p : ℕ) (wire : WireId) → IsChecked plan → has_short_paths plan ≡ true → slice_get (ports_of plan service (record { 0 = edge })) p ≡ Some (port.Mesh wire) → IsPortWire plan service edge true wire
+pub mesh_port : (plan : Plan) (service : ServiceId) (edge p : ℕ) (wire : WireId) → IsChecked plan → has_short_paths plan service ≡ true → slice_get (ports_of plan service (record { 0 = edge })) p ≡ Some (port.Mesh wire) → IsPortWire plan service edge true wire
 mesh_port plan service edge p wire checked short at = port_wire plan service edge true wire checked short (served_at plan service (record { 0 = edge }) p (port.Mesh wire) at)
 
-pub spoke_port : (plan : Plan) (service : ServiceId) (edge p : ℕ) (wire : WireId) → IsChecked plan → has_short_paths plan ≡ true → slice_get (ports_of plan service (record { 0 = edge })) p ≡ Some (port.Spoke wire) → IsPortWire plan service edge false wire
+pub spoke_port : (plan : Plan) (service : ServiceId) (edge p : ℕ) (wire : WireId) → IsChecked plan → has_short_paths plan service ≡ true → slice_get (ports_of plan service (record { 0 = edge })) p ≡ Some (port.Spoke wire) → IsPortWire plan service edge false wire
 spoke_port plan service edge p wire checked short at = port_wire plan service edge false wire checked short (served_at plan service (record { 0 = edge }) p (port.Spoke wire) at)
 
 pub of_mesh : (plan : Plan) (service : ServiceId) (edge : ℕ) (wire : WireId) (at : IsPortWire plan service edge true wire) → is_mesh_of service at.row ≡ true
@@ -142,7 +142,7 @@ at_far plan service edge row link ends away = eqb-true edge link.far.0 (rw away 
 
 -- ---- a calm state
 
-module _ (plan : Plan) (service : ServiceId) (site : Sites) (calm network : NetworkState) (checked : IsChecked plan) (short : has_short_paths plan ≡ true) (ordered : IsOrdered plan network) (is_calm_now : is_calm plan network service ≡ true)
+module _ (plan : Plan) (service : ServiceId) (site : Sites) (calm network : NetworkState) (checked : IsChecked plan) (short : has_short_paths plan service ≡ true) (ordered : IsOrdered plan network) (is_calm_now : is_calm plan network service ≡ true)
     (heals : Heals plan service site calm network) where
   quiet : is_quiet plan network service ≡ true
   quiet = left_part (is_quiet plan network service) (is_full plan network service) (left_part (is_quiet plan network service && is_full plan network service) (has_live_spokes plan network service) is_calm_now)
@@ -200,7 +200,7 @@ module _ (plan : Plan) (service : ServiceId) (site : Sites) (calm network : Netw
           let right : LeadsHome plan e live.home live.wire (Some (port.Mesh wire)) =
           subst (LeadsHome plan e live.home live.wire) leads (right_now e k entry link.one_core at x live (at_own_edge plan service circuit beside.row beside.is beside.of_service)) in
           let rows : right.row ≡ wired.row = some_same (sym right.is ∙ wired.is) in
-          let homes : live.home ≡ wired.peer.0 = some_same (sym (far_is right.row.path e live.home (has_two plan wire right.row short right.is) right.joined) ∙ (ap (λ (r : WirePlan). far_of e r.path) rows ∙ link.far)) in
+          let homes : live.home ≡ wired.peer.0 = some_same (sym (far_is right.row.path e live.home (has_two plan service wire right.row short (subst (λ (r : WirePlan). is_wire_of service r ≡ true) (sym rows) link.ours) right.is) right.joined) ∙ (ap (λ (r : WirePlan). far_of e r.path) rows ∙ link.far)) in
           ap (is_home wired.peer.0) live.home_is ∙ (ap (λ (n : ℕ). n == wired.peer.0) homes ∙ same_place wired.peer.0)
 
       by_case : (here starts home : Bool) → (starts ≡ true → is_home wired.peer.0 (home_of plan network service x) ≡ true) → here || (starts && home) ≡ true → here || (starts && is_home wired.peer.0 (home_of plan network service x)) ≡ true

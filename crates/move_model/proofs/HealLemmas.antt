@@ -5,7 +5,7 @@ use Rattle.flight_model.proofs.RowLemmas.{clash}
 use Rattle.flight_model.proofs.RunLemmas.{run_ordered, step_keeps}
 use Rattle.flight_model.specs.Ends.{HasTypes, IsOrdered}
 use Rattle.flight_model.specs.Laws.{IsRun, network_after}
-use Rattle.flood_model.specs.Due.{has_short_paths}
+use Rattle.move_model.specs.Moves.{has_short_paths}
 use Rattle.move_model.proofs.DeliverHealLemmas.{HasMeshes, deliver_heals}
 use Rattle.move_model.proofs.EndHealLemmas.{end_points}
 use Rattle.move_model.proofs.MoveHealLemmas.{move_heals}
@@ -33,7 +33,7 @@ record HealsAt (plan : Plan) (service : ServiceId) (site : Sites) (calm network 
   ordered : IsOrdered plan network
   heals : Heals plan service site calm network
 
-module _ (plan : Plan) (service : ServiceId) (site : Sites) (calm : NetworkState) (checked : IsChecked plan) (types : HasTypes plan) (short : has_short_paths plan ≡ true) (meshed : HasMeshes plan service) where
+module _ (plan : Plan) (service : ServiceId) (site : Sites) (calm : NetworkState) (checked : IsChecked plan) (types : HasTypes plan) (short : has_short_paths plan service ≡ true) (meshed : HasMeshes plan service) where
   deliveries_heal : (events : List Event) (network : NetworkState) → All (IsEventOf plan) events → list_all is_delivery events ≡ true → HealsAt plan service site calm network
       → HealsAt plan service site calm (state_after plan network events)
   deliveries_heal [] network planned all heals = heals
@@ -52,7 +52,7 @@ planned_before plan (event ∷ events) later all =
     (All-cons (IsEventOf plan) event events (All-head (IsEventOf plan) event (events ++ later) all) rest.0, rest.1)
 
 pub runs_heal_moves : RunsHealMoves
-runs_heal_moves plan events run short before move deliveries after service site are starts moves all calm =
+runs_heal_moves plan events run before move deliveries after service site are short starts moves all calm =
     let parts = planned_before plan before (move ∷ (deliveries ++ after)) (subst (All (IsEventOf plan)) are run.planned) in
     let more = planned_before plan deliveries after (All-tail (IsEventOf plan) move (deliveries ++ after) parts.1) in
     let first : IsRun plan before = record { checked = run.checked; types = run.types; planned = parts.0 } in

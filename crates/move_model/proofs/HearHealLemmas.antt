@@ -19,7 +19,7 @@ use Rattle.flight_model.specs.Facts.{flight}
 use Rattle.flight_model.specs.Meeting.{Spares, said_to}
 use Rattle.flight_model.specs.Messages.{IsSaid}
 use Rattle.flight_model.specs.Sound.{TellsSoundly}
-use Rattle.flood_model.specs.Due.{has_short_paths}
+use Rattle.move_model.specs.Moves.{has_short_paths}
 use Rattle.hvpls_spokes.specs.Port.{ports_of}
 use Rattle.hvpls_spokes.specs.declared.port.Port.TheVariants as port
 use Rattle.hvpls_spokes.specs.declared.port.Port.{Port}
@@ -71,7 +71,7 @@ pub record MeshesTo (plan : Plan) (service : ServiceId) (me core : ℕ) : Type 0
 
 -- ---- one edge at work
 
-module _ (plan : Plan) (service : ServiceId) (site : Sites) (network : NetworkState) (me peer : EdgeId) (checked : IsChecked plan) (types : HasTypes plan) (short : has_short_paths plan ≡ true) (ways : HasWays plan service network me) where
+module _ (plan : Plan) (service : ServiceId) (site : Sites) (network : NetworkState) (me peer : EdgeId) (checked : IsChecked plan) (types : HasTypes plan) (short : has_short_paths plan service ≡ true) (ways : HasWays plan service network me) where
   abbrev Healing : List Message → Work → Type 0
   Healing messages work = IsHealing plan service site network me peer.0 messages work
 

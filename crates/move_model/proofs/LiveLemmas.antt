@@ -12,7 +12,7 @@ use Rattle.edge_model.specs.declared.end_place.EndPlace.{EndPlace}
 use Rattle.flight_model.proofs.PlaceLemmas.{find_holds}
 use Rattle.flight_model.proofs.RowLemmas.{clash}
 use Rattle.flight_model.proofs.WorkLemmas.{same_place}
-use Rattle.flood_model.specs.Due.{has_short_paths}
+use Rattle.move_model.specs.Moves.{has_short_paths}
 use Rattle.hvpls_spokes.proofs.PortsLemmas.{IsWired}
 use Rattle.hvpls_spokes.proofs.WirePortLemmas.{LeadsToWire, found_wire_port, leads_by_spoke, same_wire_port, wired_at}
 use Rattle.hvpls_spokes.specs.Port.{is_wire_port, ports_of}
@@ -61,7 +61,7 @@ other_of plan service me row link ends = by (me.0 == link.near.0) refl where
   by true is = record { peer = link.far; joined = rw link.path (at_near me.0 link.near.0 link.far.0 is) }
   by false is = record { peer = link.near; joined = rw link.path (at_far me.0 link.near.0 link.far.0 is ends_there) }
 
-pub mends_live : (plan : Plan) (service : ServiceId) (me : EdgeId) (work : Work) → IsChecked plan → has_short_paths plan ≡ true → work.edge.me ≡ me
+pub mends_live : (plan : Plan) (service : ServiceId) (me : EdgeId) (work : Work) → IsChecked plan → has_short_paths plan service ≡ true → work.edge.me ≡ me
     → AllByRecursion (IsAtLive plan service me.0 (mends plan taken_all work).edge) ((mends plan taken_all work).edge.learned service.0)
 mends_live plan service me work checked short placed = all_by_place (IsAtLive plan service me.0 edge) (edge.learned service.0) (λ k entry at wire leads. live k entry at wire leads) where
   edge : EdgeState
@@ -91,11 +91,18 @@ mends_live plan service me work checked short placed = all_by_place (IsAtLive pl
     row : WirePlan
     row = wired.row
 
+    served : is_wire_of service row ≡ true
+    served = left_part (is_wire_of service row) (is_first me.0 row.path || is_last me.0 row.path) wired.ends
+      where
+        left_part : (a b : Bool) → a && b ≡ true → a ≡ true
+        left_part true b h = refl
+        left_part false b h = clash h
+
     other : HasOther plan me row
-    other = other_of plan service me row (short_link plan wire.0 row checked short wired.is) wired.ends
+    other = other_of plan service me row (short_link plan service wire.0 row checked short served wired.is) wired.ends
 
     end : IsLinkEnd plan me other.peer wire row
-    end = link_end plan me other.peer wire row checked short wired.is other.joined
+    end = link_end plan service me other.peer wire row checked short served wired.is other.joined
 
     place : EndPlace
     place = end.place
@@ -104,11 +111,7 @@ mends_live plan service me work checked short placed = all_by_place (IsAtLive pl
     found = ap (λ (e : EdgeId). wire_end plan e wire) me_is ∙ end.found
 
     ours : row.service ≡ service
-    ours = service_is row service (left_part (is_wire_of service row) (is_first me.0 row.path || is_last me.0 row.path) wired.ends)
-      where
-        left_part : (a b : Bool) → a && b ≡ true → a ≡ true
-        left_part true b h = refl
-        left_part false b h = clash h
+    ours = service_is row service served
 
     here : HasPortAt plan service me wire row
     here = port_found plan service me wire row wired.is wired.ends

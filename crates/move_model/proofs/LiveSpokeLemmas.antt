@@ -11,7 +11,7 @@ use Rattle.flight_model.specs.Facts.{flight}
 use Rattle.flood_model.proofs.DueLemmas.{forwards}
 use Rattle.flood_model.proofs.HomeLemmas.{LiveSpoke, live_count, live_found}
 use Rattle.flood_model.proofs.MeshLemmas.{mesh_wire}
-use Rattle.flood_model.specs.Due.{has_short_paths}
+use Rattle.move_model.specs.Moves.{has_short_paths}
 use Rattle.move_model.proofs.ForwardLemmas.{forwards_chosen}
 use Rattle.move_model.proofs.HearHealLemmas.{MeshesTo}
 use Rattle.move_model.proofs.ShortLinkLemmas.{IsShortLink, short_link}
@@ -57,14 +57,14 @@ forwards_end plan edge me peer wire row end placed up =
     is_up_none (down_at plan edge end.place) (ap (forwards_at plan edge) (sym (ap (λ (e : EdgeId). wire_end plan e wire) placed ∙ end.found)) ∙ up)
 
 -- a spoke edge forwards only by the spoke that it has chosen
-pub chosen_forwards : (plan : Plan) (service : ServiceId) (edge : EdgeState) (x : ℕ) (wire : WireId) (home : ℕ) → IsChecked plan → has_short_paths plan ≡ true → edge.me ≡ record { 0 = x } → (spoke : IsSpokeTo plan service x wire home)
+pub chosen_forwards : (plan : Plan) (service : ServiceId) (edge : EdgeState) (x : ℕ) (wire : WireId) (home : ℕ) → IsChecked plan → has_short_paths plan service ≡ true → edge.me ≡ record { 0 = x } → (spoke : IsSpokeTo plan service x wire home)
     → end_forwards plan edge wire ≡ true → edge.chosen service.0 ≡ Some wire
 chosen_forwards plan service edge x wire home checked short placed spoke up = by (is_chosen edge.chosen wire spoke.row) refl where
   link : IsSpokeLink plan service x home spoke.row
   link = spoke_link plan service x wire home checked short spoke
 
   end : IsLinkEnd plan (record { 0 = x }) (record { 0 = home }) wire spoke.row
-  end = link_end plan (record { 0 = x }) (record { 0 = home }) wire spoke.row checked short spoke.is link.joined
+  end = link_end plan service (record { 0 = x }) (record { 0 = home }) wire spoke.row checked short link.ours spoke.is link.joined
 
   down_is : down_at plan edge end.place ≡ None
   down_is = forwards_end plan edge (record { 0 = x }) (record { 0 = home }) wire spoke.row end placed up
@@ -118,7 +118,7 @@ spoke_at_link plan service x k row link is from = record { row = row; is = is; f
 pub near_of : (plan : Plan) (service : ServiceId) (x : ℕ) (row : WirePlan) (link : IsShortLink plan row) → is_spoke_from service x row ≡ true → x ≡ link.near.0
 near_of plan service x row link from = eqb-true x link.near.0 (ap (is_first x) (sym link.path) ∙ right_of (is_wire_of service row && not (is_mesh_class row.class)) (is_first x row.path) from)
 
-pub live_at : (plan : Plan) (service : ServiceId) (network : NetworkState) (x : ℕ) → IsChecked plan → has_short_paths plan ≡ true → IsOrdered plan network → is_calm plan network service ≡ true → x < length plan.edges → is_spoke_edge plan service x ≡ true
+pub live_at : (plan : Plan) (service : ServiceId) (network : NetworkState) (x : ℕ) → IsChecked plan → has_short_paths plan service ≡ true → IsOrdered plan network → is_calm plan network service ≡ true → x < length plan.edges → is_spoke_edge plan service x ≡ true
     → IsLiveAt plan service network x
 unfolding spoke_at_link
 live_at plan service network x checked short ordered calm within starts = from (live_found plan network service x 0 plan.wires (live_count plan network service x calm within starts)) where
@@ -127,9 +127,10 @@ live_at plan service network x checked short ordered calm within starts = from (
 
   from : LiveSpoke plan network service x 0 plan.wires → IsLiveAt plan service network x
   from found =
-      let link : IsShortLink plan found.row = short_link plan found.k found.row checked short found.is in
       let live : is_live_spoke plan network service x found.k found.row ≡ true = subst (λ (n : ℕ). is_live_spoke plan network service x n found.row ≡ true) (no_more found.k) found.live in
       let starts_here : is_spoke_from service x found.row ≡ true = left_of (is_spoke_from service x found.row) (carries plan network found.k found.row) live in
+      let ours : is_wire_of service found.row ≡ true = left_of (is_wire_of service found.row) (not (is_mesh_class found.row.class)) (left_of (is_wire_of service found.row && not (is_mesh_class found.row.class)) (is_first x found.row.path) starts_here) in
+      let link : IsShortLink plan found.row = short_link plan service found.k found.row checked short ours found.is in
       let carried : carries plan network found.k found.row ≡ true = right_of (is_spoke_from service x found.row) (carries plan network found.k found.row) live in
       let spoke : IsSpokeTo plan service x (record { 0 = found.k }) link.far.0 = spoke_at_link plan service x found.k found.row link found.is starts_here in
       let up : end_forwards plan (network.edges x) (record { 0 = found.k }) ≡ true =
@@ -144,7 +145,7 @@ live_at plan service network x checked short ordered calm within starts = from (
       }
 
 -- where the edge forwards by a spoke, that one is it
-pub live_same : (plan : Plan) (service : ServiceId) (network : NetworkState) (x : ℕ) (wire : WireId) (home : ℕ) → IsChecked plan → has_short_paths plan ≡ true → IsOrdered plan network → (at : IsLiveAt plan service network x) → (spoke : IsSpokeTo plan service x wire home)
+pub live_same : (plan : Plan) (service : ServiceId) (network : NetworkState) (x : ℕ) (wire : WireId) (home : ℕ) → IsChecked plan → has_short_paths plan service ≡ true → IsOrdered plan network → (at : IsLiveAt plan service network x) → (spoke : IsSpokeTo plan service x wire home)
     → end_forwards plan (network.edges x) wire ≡ true → wire ≡ at.wire
 live_same plan service network x wire home checked short ordered at spoke up = one (sym (chosen_forwards plan service (network.edges x) x wire home checked short (ordered.placed x) spoke up) ∙ at.chosen)
   where
@@ -152,7 +153,7 @@ live_same plan service network x wire home checked short ordered at spoke up = o
     one e = cc
 
 -- one wire leads to one home
-pub home_same : (plan : Plan) (service : ServiceId) (x : ℕ) (wire : WireId) (a b : ℕ) → IsChecked plan → has_short_paths plan ≡ true → IsSpokeTo plan service x wire a → IsSpokeTo plan service x wire b → a ≡ b
+pub home_same : (plan : Plan) (service : ServiceId) (x : ℕ) (wire : WireId) (a b : ℕ) → IsChecked plan → has_short_paths plan service ≡ true → IsSpokeTo plan service x wire a → IsSpokeTo plan service x wire b → a ≡ b
 home_same plan service x wire a b checked short one other =
     let rows : one.row ≡ other.row = same_row (sym one.is ∙ other.is) in
     let first = (spoke_link plan service x wire a checked short one).path in
@@ -206,16 +207,17 @@ quiet_way network a b settled there = by (stands network a b) (stands network b 
 
 -- ---- each two core edges have a mesh wire
 
-pub has_meshes : (plan : Plan) (network : NetworkState) (service : ServiceId) → IsChecked plan → has_short_paths plan ≡ true → is_calm plan network service ≡ true → (a b : ℕ) → a < length plan.edges → b < length plan.edges
+pub has_meshes : (plan : Plan) (network : NetworkState) (service : ServiceId) → IsChecked plan → has_short_paths plan service ≡ true → is_calm plan network service ≡ true → (a b : ℕ) → a < length plan.edges → b < length plan.edges
     → is_core_edge plan service a ≡ true → is_core_edge plan service b ≡ true → nat_eq b a ≡ false → MeshesTo plan service a b
 has_meshes plan network service checked short calm a b within also one other apart =
     let found = mesh_wire plan network service a b calm within also one other (apart_turned b a apart) in
-    let link : IsShortLink plan found.row = short_link plan found.k found.row checked short found.is in
+    let of_mesh : is_mesh_of service found.row ≡ true = left_of (is_mesh_of service found.row) _ found.between in
+    let link : IsShortLink plan found.row = short_link plan service found.k found.row checked short (left_of (is_wire_of service found.row) (is_mesh_class found.row.class) of_mesh) found.is in
     record {
       wire = record { 0 = found.k };
       row = found.row;
       is = found.is;
-      of_mesh = left_of (is_mesh_of service found.row) _ found.between;
+      of_mesh = of_mesh;
       joined = rw link.path (joins_them a b link.near.0 link.far.0 (rw link.path at (right_of (is_mesh_of service found.row) _ found.between)));
     }
   where

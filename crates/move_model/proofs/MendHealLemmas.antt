@@ -6,7 +6,7 @@ use Rattle.edge_model.specs.Work.{Work}
 use Rattle.flight_model.proofs.NameLemmas.{split}
 use Rattle.flight_model.proofs.WorkLemmas.{same_place}
 use Rattle.flight_model.specs.Ends.{HasTypes}
-use Rattle.flood_model.specs.Due.{has_short_paths}
+use Rattle.move_model.specs.Moves.{has_short_paths}
 use Rattle.ldp_grammar.specs.declared.message.Message.{Message}
 use Rattle.mac_table.specs.declared.mac_entry.MacEntry.{MacEntry}
 use Rattle.move_model.proofs.ChoiceLemmas.{mends_tell}
@@ -70,7 +70,7 @@ module _ (plan : Plan) (service : ServiceId) (site : Sites) (network : NetworkSt
           (λ entry. entry_heals_on plan service site (choices old) (choices new) (WorkWays plan service network me.0 peer messages old) (WorkWays plan service network me.0 peer messages new) core entry ways_on told_at)
           (heals.right core is)
 
-pub mends_heal : (plan : Plan) (service : ServiceId) (site : Sites) (network : NetworkState) (me : EdgeId) (peer : ℕ) (messages : List Message) (work : Work) → IsChecked plan → HasTypes plan → has_short_paths plan ≡ true → HasWays plan service network me
+pub mends_heal : (plan : Plan) (service : ServiceId) (site : Sites) (network : NetworkState) (me : EdgeId) (peer : ℕ) (messages : List Message) (work : Work) → IsChecked plan → HasTypes plan → has_short_paths plan service ≡ true → HasWays plan service network me
     → IsHealing plan service site network me peer messages work → IsHealing plan service site network me peer messages (mends plan taken_all work)
 mends_heal plan service site network me peer messages work checked types short ways heals =
     heals_on plan service site network me peer messages work (mends plan taken_all work)

@@ -12,7 +12,7 @@ use Rattle.flight_model.proofs.WorkLemmas.{same_place}
 use Rattle.flight_model.proofs.WorksLemmas.{changed_edge}
 use Rattle.flight_model.specs.Ends.{HasTypes, IsOrdered}
 use Rattle.flight_model.specs.Sound.{TellsSoundly}
-use Rattle.flood_model.specs.Due.{has_short_paths}
+use Rattle.move_model.specs.Moves.{has_short_paths}
 use Rattle.move_model.proofs.ForgetLemmas.{changed_forgets}
 use Rattle.move_model.proofs.LiveLemmas.{mends_live}
 use Rattle.move_model.proofs.MendHealLemmas.{heals_on, mends_heal}
@@ -40,7 +40,7 @@ use Rattle.network_model.specs.Wire.{priority_event, status_event}
 use Rattle.std.proofs.Common.{Bool, None, Option, Some, [], ap, cond, false, inl, nat_eq, not, refl, slice_get, sym, true, ℕ, ◌&&◌, ◌==◌, ◌∙◌, ◌≡◌, ◌≤◌}
 use Rattle.std.proofs.lemmas.Bool.{eqb-true}
 
-module _ (plan : Plan) (service : ServiceId) (site : Sites) (calm network : NetworkState) (me : EdgeId) (checked : IsChecked plan) (types : HasTypes plan) (short : has_short_paths plan ≡ true) (ordered : IsOrdered plan network)
+module _ (plan : Plan) (service : ServiceId) (site : Sites) (calm network : NetworkState) (me : EdgeId) (checked : IsChecked plan) (types : HasTypes plan) (short : has_short_paths plan service ≡ true) (ordered : IsOrdered plan network)
     (heals : Heals plan service site calm network) where
   abbrev Begun : Work
   Begun = begin_at network me
@@ -136,7 +136,7 @@ spoke_class true true b is = clash is
 spoke_class true false b is = refl
 spoke_class false mesh b is = clash is
 
-pub move_heals : (plan : Plan) (service : ServiceId) (site : Sites) (calm network : NetworkState) (event : Event) → IsChecked plan → HasTypes plan → has_short_paths plan ≡ true → IsEventOf plan event → IsOrdered plan network
+pub move_heals : (plan : Plan) (service : ServiceId) (site : Sites) (calm network : NetworkState) (event : Event) → IsChecked plan → HasTypes plan → has_short_paths plan service ≡ true → IsEventOf plan event → IsOrdered plan network
     → Heals plan service site calm network → is_move plan service event ≡ true → Heals plan service site calm (step plan network event).state
 move_heals plan service site calm network (Priority me wire priority) checked types short planned ordered heals moves = priority_heals plan service site calm network me checked types short ordered heals wire priority
 move_heals plan service site calm network (Status me wire bits) checked types short planned ordered heals moves = by (wire_row plan wire) refl moves where

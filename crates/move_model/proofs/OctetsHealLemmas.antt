@@ -24,7 +24,7 @@ use Rattle.flight_model.specs.Messages.{IsSaid, octets_of_all}
 use Rattle.flight_model.specs.Pair.{ArePaired, AreTalking, IsStanding}
 use Rattle.flight_model.specs.Rules.{AllMessages}
 use Rattle.flight_model.specs.Sound.{TellsSoundly}
-use Rattle.flood_model.specs.Due.{has_short_paths}
+use Rattle.move_model.specs.Moves.{has_short_paths}
 use Rattle.ldp_grammar.specs.declared.ldp_id.LdpId.{LdpId}
 use Rattle.ldp_grammar.specs.declared.message.Message.{Message}
 use Rattle.move_model.proofs.ForgetLemmas.{forgets_none}
@@ -151,7 +151,7 @@ pub record HasHealed (plan : Plan) (service : ServiceId) (site : Sites) (network
   pub live : AllByRecursion (IsAtLive plan service me.0 work.edge) (work.edge.learned service.0)
   pub left : are_joined_by plan service peer.0 me.0 ≡ true → stands network peer.0 me.0 ≡ true → LeavesToHear plan service network me.0 peer.0 later (held_by (work.edge.peering peer.0) ++ more)
 
-module _ (plan : Plan) (service : ServiceId) (site : Sites) (calm network : NetworkState) (me peer : EdgeId) (count : ℕ) (checked : IsChecked plan) (types : HasTypes plan) (short : has_short_paths plan ≡ true) (ordered : IsOrdered plan network)
+module _ (plan : Plan) (service : ServiceId) (site : Sites) (calm network : NetworkState) (me peer : EdgeId) (count : ℕ) (checked : IsChecked plan) (types : HasTypes plan) (short : has_short_paths plan service ≡ true) (ordered : IsOrdered plan network)
     (heals : Heals plan service site calm network) (away : nat_eq peer.0 me.0 ≡ false) (there : stands network me.0 peer.0 ≡ true)
     (stand : (core : ℕ) → is_core_edge plan service core ≡ true → nat_eq core me.0 ≡ false → is_core_edge plan service me.0 ≡ true → MeshesTo plan service me.0 core) where
   abbrev pub pipe : List ℕ

@@ -1,18 +1,20 @@
 -- Wires with paths of two edges: each is its two terminal edges, and each of them is the far one of the other.
-use Rattle.std.proofs.Common.{◌≡◌, ◌<◌, ◌&&◌, ◌||◌, ◌==◌, ◌∙◌, inl, inr, slice_get, ℕ, zero, suc, Bool, true, false, List, [], ◌∷◌, Some, length, nat_eq, refl, sym, ap, arith}
+use Rattle.std.proofs.Common.{◌≡◌, ◌<◌, ◌&&◌, ◌||◌, ◌==◌, ◌∙◌, inl, inr, slice_get, ℕ, zero, suc, Bool, true, false, List, [], ◌∷◌, Some, length, nat_eq, not, refl, sym, ap, arith}
 use Rattle.std.proofs.lemmas.Bool.{cases_Bool, eqb-true}
 use Rattle.std.proofs.lemmas.Bool.Decides.{nat_tests}
 use Rattle.std.specs.List.{list_all}
 use Rattle.net_base.specs.declared.plan.Plan.{Plan}
 use Rattle.net_base.specs.declared.plan.places.EdgeId.{EdgeId}
+use Rattle.net_base.specs.declared.plan.places.ServiceId.{ServiceId}
 use Rattle.net_base.specs.declared.plan.places.WireId.{WireId}
 use Rattle.net_base.specs.declared.plan.wire_plan.WirePlan.{WirePlan}
 use Rattle.net_base.specs.plan.Accepted.{IsChecked}
 use Rattle.net_base.specs.plan.Paths.{joins, last_edge}
 use Rattle.net_base.specs.plan.Places.{wire_row}
+use Rattle.net_base.specs.plan.Roles.{is_wire_of}
 use Rattle.edge_model.proofs.LocalLemmas.{and_left, and_right}
 use Rattle.network_model.specs.Reach.{far_of}
-use Rattle.flood_model.specs.Due.{has_short_paths}
+use Rattle.move_model.specs.Moves.{has_short_paths}
 use Rattle.flood_model.proofs.LinkLemmas.{IsLink, link_at}
 
 -- a test of each item of a list holds of one
@@ -23,9 +25,9 @@ all_hold test (y ∷ ys) zero x all is =
     ap test (sym same) ∙ and_left (test y) (list_all test ys) all
 all_hold test (y ∷ ys) (suc i) x all is = all_hold test ys i x (and_right (test y) (list_all test ys) all) is
 
--- the path of a wire has two edges
-pub has_two : (plan : Plan) (wire : WireId) (row : WirePlan) → has_short_paths plan ≡ true → wire_row plan wire ≡ Some row → nat_eq (length row.path) 2 ≡ true
-has_two plan wire row short is = all_hold (λ (r : WirePlan). nat_eq (length r.path) 2) plan.wires wire.0 row short is
+-- the path of a wire of the service has two edges
+pub has_two : (plan : Plan) (service : ServiceId) (wire : WireId) (row : WirePlan) → has_short_paths plan service ≡ true → is_wire_of service row ≡ true → wire_row plan wire ≡ Some row → nat_eq (length row.path) 2 ≡ true
+has_two plan service wire row short ours is = rw ours at (all_hold (λ (r : WirePlan). not (is_wire_of service r) || nat_eq (length r.path) 2) plan.wires wire.0 row short is)
 
 -- the path of a wire is its two terminal edges
 pub record IsShortLink (plan : Plan) (row : WirePlan) : Type 0 where
@@ -50,9 +52,9 @@ whole plan row link = record {
   far_within = link.far_within;
 }
 
--- so it is with each wire of a checked plan with short paths
-pub short_link : (plan : Plan) (k : ℕ) (row : WirePlan) → IsChecked plan → has_short_paths plan ≡ true → slice_get plan.wires k ≡ Some row → IsShortLink plan row
-short_link plan k row checked short is = by link.rest link.path link.ends (ap (λ (path : List EdgeId). nat_eq (length path) 2) (sym link.path) ∙ has_two plan (record { 0 = k }) row short is) where
+-- so it is with each wire of a service with short paths
+pub short_link : (plan : Plan) (service : ServiceId) (k : ℕ) (row : WirePlan) → IsChecked plan → has_short_paths plan service ≡ true → is_wire_of service row ≡ true → slice_get plan.wires k ≡ Some row → IsShortLink plan row
+short_link plan service k row checked short ours is = by link.rest link.path link.ends (ap (λ (path : List EdgeId). nat_eq (length path) 2) (sym link.path) ∙ has_two plan service (record { 0 = k }) row short ours is) where
   link : IsLink plan row
   link = link_at plan k row checked is
 

@@ -18,7 +18,7 @@ use Rattle.flight_model.specs.Facts.{flight}
 use Rattle.flight_model.specs.Laws.{AreSettled, IsRun, IsUp, network_after}
 use Rattle.flood_model.proofs.FarLemmas.{are_settled}
 use Rattle.flood_model.proofs.MeshLemmas.{mesh_carries, near_port}
-use Rattle.flood_model.specs.Due.{has_short_paths}
+use Rattle.move_model.specs.Moves.{has_short_paths}
 use Rattle.hvpls_spokes.specs.Port.{ports_of}
 use Rattle.hvpls_spokes.specs.declared.port.Port.TheVariants as port
 use Rattle.hvpls_spokes.specs.declared.port.Port.{Port}
@@ -42,8 +42,8 @@ use Rattle.net_base.specs.declared.plan.places.WireId.{WireId}
 use Rattle.net_base.specs.declared.plan.wire_plan.WirePlan.{WirePlan}
 use Rattle.net_base.specs.declared.trace.event.Event.{Event}
 use Rattle.net_base.specs.plan.Accepted.{IsChecked, IsCircuitOf}
-use Rattle.net_base.specs.plan.Paths.{joins}
-use Rattle.net_base.specs.plan.Places.{circuit_row, wire_row}
+use Rattle.net_base.specs.plan.Paths.{is_first, is_last, joins}
+use Rattle.net_base.specs.plan.Places.{circuit_row, is_mesh_class, wire_row}
 use Rattle.net_base.specs.plan.Roles.{are_joined_by, has_port, is_circuit_at, is_core_edge, is_mesh_of, is_spoke_edge, is_wire_of}
 use Rattle.network_model.specs.Calm.{has_live_spokes, is_calm, is_full, is_quiet, is_settled}
 use Rattle.network_model.specs.Reach.{at_edge_of, circuit_is_at, elsewhere_of, home_of, is_circuit_of, is_home, is_row_at, reach}
@@ -78,7 +78,7 @@ has_row test (x ∷ xs) some = elim (cases_Bool (test x)) [
 ]
 
 -- an edge with a port of the service is in the plan
-port_inside : (plan : Plan) (service : ServiceId) (e : ℕ) → IsChecked plan → has_short_paths plan ≡ true → has_port plan service e ≡ true → e < length plan.edges
+port_inside : (plan : Plan) (service : ServiceId) (e : ℕ) → IsChecked plan → has_short_paths plan service ≡ true → has_port plan service e ≡ true → e < length plan.edges
 port_inside plan service e checked short port = by (list_any (is_circuit_at service e) plan.circuits) refl port where
   of_circuit : HasRow (is_circuit_at service e) plan.circuits → e < length plan.edges
   of_circuit found =
@@ -92,13 +92,13 @@ port_inside plan service e checked short port = by (list_any (is_circuit_at serv
   ]
     where
       link : IsShortLink plan found.row
-      link = short_link plan found.k found.row checked short found.is
+      link = short_link plan service found.k found.row checked short (left_half (is_wire_of service found.row) (is_first e found.row.path || is_last e found.row.path) found.passes) found.is
 
   by : (b : Bool) → list_any (is_circuit_at service e) plan.circuits ≡ b → b || list_any (Rattle.net_base.specs.plan.Roles.wire_ends_at service e) plan.wires ≡ true → e < length plan.edges
   by true is some = of_circuit (has_row (is_circuit_at service e) plan.circuits is)
   by false is some = of_wire (has_row (Rattle.net_base.specs.plan.Roles.wire_ends_at service e) plan.wires some)
 
-pub all_meshes : (plan : Plan) (network : NetworkState) (service : ServiceId) → IsChecked plan → has_short_paths plan ≡ true → is_calm plan network service ≡ true → HasMeshes plan service
+pub all_meshes : (plan : Plan) (network : NetworkState) (service : ServiceId) → IsChecked plan → has_short_paths plan service ≡ true → is_calm plan network service ≡ true → HasMeshes plan service
 all_meshes plan network service checked short calm = record {
   meshes = λ a b one other apart. has_meshes plan network service checked short calm a b (inside a one) (inside b other) one other apart;
 }
@@ -108,7 +108,7 @@ all_meshes plan network service checked short calm = record {
 
 -- ---- the state
 
-module _ (plan : Plan) (service : ServiceId) (site : Sites) (network : NetworkState) (checked : IsChecked plan) (short : has_short_paths plan ≡ true) (ordered : IsOrdered plan network)
+module _ (plan : Plan) (service : ServiceId) (site : Sites) (network : NetworkState) (checked : IsChecked plan) (short : has_short_paths plan service ≡ true) (ordered : IsOrdered plan network)
     (settle : (a b : ℕ) → are_joined_by plan service a b ≡ true → AreSettled plan network a b) (mended : HasMended plan network) (starts : StartsRight plan network service site) where
   quiet : is_quiet plan network service ≡ true
   quiet = left_half (is_quiet plan network service) (is_full plan network service) (left_half (is_quiet plan network service && is_full plan network service) (has_live_spokes plan network service) starts.calm)
@@ -135,8 +135,11 @@ module _ (plan : Plan) (service : ServiceId) (site : Sites) (network : NetworkSt
 
   mesh_here : (a : ℕ) → KeepsMesh plan service a (network.edges a)
   mesh_here a = record { told = told; on = on; whole = whole } where
-    link_of : (wire : WireId) (row : WirePlan) → wire_row plan wire ≡ Some row → IsShortLink plan row
-    link_of wire row is = short_link plan wire.0 row checked short is
+    ours : (row : WirePlan) → is_mesh_of service row ≡ true → is_wire_of service row ≡ true
+    ours row mesh = left_half (is_wire_of service row) (is_mesh_class row.class) mesh
+
+    link_of : (wire : WireId) (row : WirePlan) → wire_row plan wire ≡ Some row → is_mesh_of service row ≡ true → IsShortLink plan row
+    link_of wire row is mesh = short_link plan service wire.0 row checked short (ours row mesh) is
 
     ends_of : (b n f c : ℕ) → ((b == n && c == f) || (c == n && b == f)) || false ≡ true → (b == n) ≡ false → b ≡ f
     ends_of b n f c is away = grind (arith, nat_tests)
@@ -148,37 +151,37 @@ module _ (plan : Plan) (service : ServiceId) (site : Sites) (network : NetworkSt
     ]
       where
         link : IsShortLink plan row
-        link = link_of wire row is
+        link = link_of wire row is mesh
 
         both : (end_forwards plan (network.edges link.near.0) wire ≡ true) × (end_forwards plan (network.edges link.far.0) wire ≡ true)
         both = carries_ends plan network wire.0 row link (mesh_carries plan network service wire.0 row checked starts.calm is mesh)
 
-    end_is : (wire : WireId) (row : WirePlan) (peer : ℕ) → wire_row plan wire ≡ Some row → joins a peer row.path ≡ true → IsLinkEnd plan (record { 0 = a }) (record { 0 = peer }) wire row
-    end_is wire row peer is joined = link_end plan (record { 0 = a }) (record { 0 = peer }) wire row checked short is joined
+    end_is : (wire : WireId) (row : WirePlan) (peer : ℕ) → wire_row plan wire ≡ Some row → is_mesh_of service row ≡ true → joins a peer row.path ≡ true → IsLinkEnd plan (record { 0 = a }) (record { 0 = peer }) wire row
+    end_is wire row peer is mesh joined = link_end plan service (record { 0 = a }) (record { 0 = peer }) wire row checked short (ours row mesh) is joined
 
-    down_is : (wire : WireId) (row : WirePlan) (peer : ℕ) (is : wire_row plan wire ≡ Some row) → is_mesh_of service row ≡ true → (joined : joins a peer row.path ≡ true) → down_at plan (network.edges a) (end_is wire row peer is joined).place ≡ None
+    down_is : (wire : WireId) (row : WirePlan) (peer : ℕ) (is : wire_row plan wire ≡ Some row) (mesh : is_mesh_of service row ≡ true) → (joined : joins a peer row.path ≡ true) → down_at plan (network.edges a) (end_is wire row peer is mesh joined).place ≡ None
     down_is wire row peer is mesh joined =
-        forwards_end plan (network.edges a) (record { 0 = a }) (record { 0 = peer }) wire row (end_is wire row peer is joined) (ordered.placed a) (forward wire row peer is mesh joined)
+        forwards_end plan (network.edges a) (record { 0 = a }) (record { 0 = peer }) wire row (end_is wire row peer is mesh joined) (ordered.placed a) (forward wire row peer is mesh joined)
 
-    told_at : (wire : WireId) (row : WirePlan) (peer : ℕ) (is : wire_row plan wire ≡ Some row) → is_mesh_of service row ≡ true → (joined : joins a peer row.path ≡ true) → is_advertising (end_at (network.edges a) (end_is wire row peer is joined).place).local ≡ true
+    told_at : (wire : WireId) (row : WirePlan) (peer : ℕ) (is : wire_row plan wire ≡ Some row) (mesh : is_mesh_of service row ≡ true) → (joined : joins a peer row.path ≡ true) → is_advertising (end_at (network.edges a) (end_is wire row peer is mesh joined).place).local ≡ true
     told_at wire row peer is mesh joined =
-        let agree = forwards_where_both_agree (role_at plan (network.edges a) (end_is wire row peer is joined).place) ((network.edges a).bits (end_is wire row peer is joined).place.wire.0) (end_at (network.edges a) (end_is wire row peer is joined).place) (down_is wire row peer is mesh joined) in
+        let agree = forwards_where_both_agree (role_at plan (network.edges a) (end_is wire row peer is mesh joined).place) ((network.edges a).bits (end_is wire row peer is mesh joined).place.wire.0) (end_at (network.edges a) (end_is wire row peer is mesh joined).place) (down_is wire row peer is mesh joined) in
         advertises_it agree.label agree.own _ agree.advertises
 
     told : (wire : WireId) (row : WirePlan) (peer : ℕ) → wire_row plan wire ≡ Some row → is_mesh_of service row ≡ true → joins a peer row.path ≡ true → is_advertising ((network.edges a).ends wire.0 peer).local ≡ true
     told wire row peer is mesh joined =
-        ap (λ (w : WireId). is_advertising ((network.edges a).ends w.0 peer).local) (sym (end_is wire row peer is joined).wire_is)
-        ∙ (ap (λ (e : EdgeId). is_advertising ((network.edges a).ends (end_is wire row peer is joined).place.wire.0 e.0).local) (sym (end_is wire row peer is joined).peer_is) ∙ told_at wire row peer is mesh joined)
+        ap (λ (w : WireId). is_advertising ((network.edges a).ends w.0 peer).local) (sym (end_is wire row peer is mesh joined).wire_is)
+        ∙ (ap (λ (e : EdgeId). is_advertising ((network.edges a).ends (end_is wire row peer is mesh joined).place.wire.0 e.0).local) (sym (end_is wire row peer is mesh joined).peer_is) ∙ told_at wire row peer is mesh joined)
 
     whole : (wire : WireId) (row : WirePlan) (peer : ℕ) → wire_row plan wire ≡ Some row → is_mesh_of service row ≡ true → joins a peer row.path ≡ true → (network.edges a).bits wire.0 ≡ 0
     whole wire row peer is mesh joined =
-        ap (λ (w : WireId). (network.edges a).bits w.0) (sym (end_is wire row peer is joined).wire_is)
-        ∙ forwards_whole (role_at plan (network.edges a) (end_is wire row peer is joined).place) ((network.edges a).bits (end_is wire row peer is joined).place.wire.0) (end_at (network.edges a) (end_is wire row peer is joined).place) (down_is wire row peer is mesh joined)
+        ap (λ (w : WireId). (network.edges a).bits w.0) (sym (end_is wire row peer is mesh joined).wire_is)
+        ∙ forwards_whole (role_at plan (network.edges a) (end_is wire row peer is mesh joined).place) ((network.edges a).bits (end_is wire row peer is mesh joined).place.wire.0) (end_at (network.edges a) (end_is wire row peer is mesh joined).place) (down_is wire row peer is mesh joined)
 
     on : (wire : WireId) (row : WirePlan) (peer : ℕ) → wire_row plan wire ≡ Some row → is_mesh_of service row ≡ true → joins a peer row.path ≡ true → (network.edges a).wire_on wire.0 ≡ true
     on wire row peer is mesh joined =
-        ap (λ (w : WireId). (network.edges a).wire_on w.0) (sym (end_is wire row peer is joined).wire_is)
-        ∙ mended.on a (end_is wire row peer is joined).place (wire_end_is plan (record { 0 = a }) wire (end_is wire row peer is joined).place (end_is wire row peer is joined).found) (told_at wire row peer is mesh joined)
+        ap (λ (w : WireId). (network.edges a).wire_on w.0) (sym (end_is wire row peer is mesh joined).wire_is)
+        ∙ mended.on a (end_is wire row peer is mesh joined).place (wire_end_is plan (record { 0 = a }) wire (end_is wire row peer is mesh joined).place (end_is wire row peer is mesh joined).found) (told_at wire row peer is mesh joined)
 
   -- ---- entries
 
@@ -209,7 +212,7 @@ module _ (plan : Plan) (service : ServiceId) (site : Sites) (network : NetworkSt
     spoke_is = spoke_link plan service x wire home checked short spoke
 
     inside : x < length plan.edges
-    inside = port_inside plan service x checked short (near_inside (short_link plan wire.0 spoke.row checked short spoke.is))
+    inside = port_inside plan service x checked short (near_inside (short_link plan service wire.0 spoke.row checked short spoke_is.ours spoke.is))
       where
         near_inside : IsShortLink plan spoke.row → has_port plan service x ≡ true
         near_inside link = subst (λ (n : ℕ). has_port plan service n ≡ true) (sym (near_of plan service x spoke.row link spoke.from))
@@ -294,7 +297,7 @@ module _ (plan : Plan) (service : ServiceId) (site : Sites) (network : NetworkSt
     live = λ e. all_weaker (PointsToSite plan network service site e) (IsAtLive plan service e (network.edges e)) (learned_in service network e) (live_entry e) (starts.points e);
   }
 
-pub start_heals : (plan : Plan) (events : List Event) (service : ServiceId) (site : Sites) → IsRun plan events → has_short_paths plan ≡ true → StartsRight plan (network_after plan events) service site
+pub start_heals : (plan : Plan) (events : List Event) (service : ServiceId) (site : Sites) → IsRun plan events → has_short_paths plan service ≡ true → StartsRight plan (network_after plan events) service site
     → Heals plan service site (network_after plan events) (network_after plan events)
 start_heals plan events service site run short starts =
     starts_heal plan service site (network_after plan events) run.checked short (run_ordered plan events run)

@@ -19,7 +19,7 @@ use Rattle.flight_model.proofs.SoundLemmas.{sound_next_label, sound_same, sound_
 use Rattle.flight_model.proofs.SteadyLemmas.{IsSilent, WishesOffer, advertised_up, end_small, next_is_label, offer_field, offer_fits, status_small, wishes}
 use Rattle.flight_model.specs.Ends.{HasTypes}
 use Rattle.flight_model.specs.Sound.{CanBeTold, IsSoundEnd, IsSoundPart, TellsSoundly}
-use Rattle.flood_model.specs.Due.{has_short_paths}
+use Rattle.move_model.specs.Moves.{has_short_paths}
 use Rattle.label_space.specs.Labels.{numbers_end}
 use Rattle.ldp_grammar.specs.declared.message.Message.{Message}
 use Rattle.move_model.proofs.ForgetLemmas.{Forgets, left_then, mends_forget}
@@ -69,7 +69,7 @@ none_is_not : {P : Type 0} {A : Type 0} (wished : Option A) → wished ≡ None 
 none_is_not None none some = clash some
 none_is_not (Some x) none some = absurd (cc (none))
 
-module _ (plan : Plan) (service : ServiceId) (me : EdgeId) (checked : IsChecked plan) (types : HasTypes plan) (short : has_short_paths plan ≡ true) where
+module _ (plan : Plan) (service : ServiceId) (me : EdgeId) (checked : IsChecked plan) (types : HasTypes plan) (short : has_short_paths plan service ≡ true) where
   same_row : (one other : WirePlan) → Some one ≡ Some other → one ≡ other
   same_row one other is = cc
 
@@ -261,7 +261,7 @@ module _ (plan : Plan) (service : ServiceId) (network : NetworkState) (me : Edge
     forgot = forgets.left;
   }
 
-  pub mends_stay : (work : Work) → IsChecked plan → HasTypes plan → has_short_paths plan ≡ true → Stays plan service network me peer work → StaysOn plan service network me peer work (mends plan taken_all work)
+  pub mends_stay : (work : Work) → IsChecked plan → HasTypes plan → has_short_paths plan service ≡ true → Stays plan service network me peer work → StaysOn plan service network me peer work (mends plan taken_all work)
   mends_stay work checked types short stays =
       speaks_on work (mends plan taken_all work) stays
       (mends_keep plan me (Speaks plan service network me peer work) (rows_speak plan service me checked types short network peer work) work (speaks_first plan service network me peer work stays))

@@ -7,7 +7,7 @@ use Rattle.flight_model.proofs.PlaceLemmas.{Finds, IsEndOf, IsFound, IsNamed, Na
 use Rattle.flight_model.proofs.PlanLemmas.{row_holds}
 use Rattle.flight_model.proofs.RowLemmas.{clash}
 use Rattle.flood_model.proofs.MeshLemmas.{core_edge, far_core, far_port, mesh_near, near_port}
-use Rattle.flood_model.specs.Due.{has_short_paths}
+use Rattle.move_model.specs.Moves.{has_short_paths}
 use Rattle.hvpls_spokes.proofs.WirePortLemmas.{finds_wire_port, found_wire_port, has_wire_port, wire_port_is}
 use Rattle.hvpls_spokes.specs.Port.{is_wire_port, ports_of, wire_port}
 use Rattle.move_model.specs.Healing.{IsSpokeTo}
@@ -44,6 +44,7 @@ service_is row service is = ap (λ (n : ℕ). record { 0 = n }) (eqb-true row.se
 -- a spoke joins its spoke edge and its home, which is a core edge
 pub record IsSpokeLink (plan : Plan) (service : ServiceId) (edge home : ℕ) (row : WirePlan) : Type 0 where
   pub of_service : row.service ≡ service
+  pub ours : is_wire_of service row ≡ true
   pub class : is_mesh_class row.class ≡ false
   pub path : row.path ≡ record { 0 = edge } ∷ record { 0 = home } ∷ []
   pub joined : joins edge home row.path ≡ true
@@ -61,9 +62,10 @@ not_true false is = refl
 and_both : (a b : Bool) → a ≡ true → b ≡ true → a && b ≡ true
 and_both a b one other = rw (one, other) refl
 
-pub spoke_link : (plan : Plan) (service : ServiceId) (edge : ℕ) (wire : WireId) (home : ℕ) → IsChecked plan → has_short_paths plan ≡ true → (spoke : IsSpokeTo plan service edge wire home) → IsSpokeLink plan service edge home spoke.row
+pub spoke_link : (plan : Plan) (service : ServiceId) (edge : ℕ) (wire : WireId) (home : ℕ) → IsChecked plan → has_short_paths plan service ≡ true → (spoke : IsSpokeTo plan service edge wire home) → IsSpokeLink plan service edge home spoke.row
 spoke_link plan service edge wire home checked short spoke = record {
   of_service = service_is row service ours;
+  ours = ours;
   class = not_true (is_mesh_class row.class) (both_right (is_wire_of service row) (not (is_mesh_class row.class)) (both_left (is_wire_of service row && not (is_mesh_class row.class)) (is_first edge row.path) spoke.from));
   path = path;
   joined = joined;
@@ -76,11 +78,11 @@ spoke_link plan service edge wire home checked short spoke = record {
     row : WirePlan
     row = spoke.row
 
-    link : IsShortLink plan row
-    link = short_link plan wire.0 row checked short spoke.is
-
     ours : is_wire_of service row ≡ true
     ours = both_left (is_wire_of service row) (not (is_mesh_class row.class)) (both_left (is_wire_of service row && not (is_mesh_class row.class)) (is_first edge row.path) spoke.from)
+
+    link : IsShortLink plan row
+    link = short_link plan service wire.0 row checked short ours spoke.is
 
     first : edge ≡ link.near.0
     first = eqb-true edge link.near.0 (ap (is_first edge) (sym link.path) ∙ both_right (is_wire_of service row && not (is_mesh_class row.class)) (is_first edge row.path) spoke.from)
@@ -100,6 +102,7 @@ spoke_link plan service edge wire home checked short spoke = record {
 -- a mesh wire joins two core edges
 pub record IsMeshLink (plan : Plan) (service : ServiceId) (a b : ℕ) (row : WirePlan) : Type 0 where
   pub of_service : row.service ≡ service
+  pub ours : is_wire_of service row ≡ true
   pub class : is_mesh_class row.class ≡ true
   pub apart : (a == b) ≡ false
   pub by_service : are_joined_by plan service a b ≡ true
@@ -108,24 +111,25 @@ pub record IsMeshLink (plan : Plan) (service : ServiceId) (a b : ℕ) (row : Wir
   pub ends : wire_ends_at service a row ≡ true
   pub far : far_of a row.path ≡ Some b
 
-pub mesh_link : (plan : Plan) (service : ServiceId) (a b : ℕ) (wire : WireId) (row : WirePlan) → IsChecked plan → has_short_paths plan ≡ true → wire_row plan wire ≡ Some row → is_mesh_of service row ≡ true → joins a b row.path ≡ true
+pub mesh_link : (plan : Plan) (service : ServiceId) (a b : ℕ) (wire : WireId) (row : WirePlan) → IsChecked plan → has_short_paths plan service ≡ true → wire_row plan wire ≡ Some row → is_mesh_of service row ≡ true → joins a b row.path ≡ true
     → IsMeshLink plan service a b row
 mesh_link plan service a b wire row checked short is mesh joined = record {
   of_service = service_is row service ours;
+  ours = ours;
   class = both_right (is_wire_of service row) (is_mesh_class row.class) mesh;
   apart = wire_apart plan wire row a b checked is joined;
   by_service = any_at (λ (r : WirePlan). is_wire_of service r && joins a b r.path) plan.wires wire.0 row is (and_both (is_wire_of service row) (joins a b row.path) ours joined);
   one_core = core_of a (on_path a b link.near.0 link.far.0 (rw link.path at joined)).0;
   other_core = core_of b (on_path a b link.near.0 link.far.0 (rw link.path at joined)).1;
   ends = and_both (is_wire_of service row) (is_first a row.path || is_last a row.path) ours (rw link.path (on_path a b link.near.0 link.far.0 (rw link.path at joined)).0);
-  far = far_is row.path a b (has_two plan wire row short is) joined;
+  far = far_is row.path a b (has_two plan service wire row short ours is) joined;
 }
   where
-    link : IsShortLink plan row
-    link = short_link plan wire.0 row checked short is
-
     ours : is_wire_of service row ≡ true
     ours = both_left (is_wire_of service row) (is_mesh_class row.class) mesh
+
+    link : IsShortLink plan row
+    link = short_link plan service wire.0 row checked short ours is
 
     on_path : (a b n f : ℕ) → ((a == n && b == f) || (b == n && a == f)) || false ≡ true → ((a == n) || (a == f) ≡ true) × ((b == n) || (b == f) ≡ true)
     on_path a b n f is = (grind (arith, nat_tests), grind (arith, nat_tests))
@@ -186,8 +190,8 @@ known_ends plan me checked = both_all (IsEndOf plan me) (λ (place : EndPlace). 
 same_some : (one other : WirePlan) → Some one ≡ Some other → one ≡ other
 same_some one other is = cc
 
-pub link_end : (plan : Plan) (me peer : EdgeId) (wire : WireId) (row : WirePlan) → IsChecked plan → has_short_paths plan ≡ true → wire_row plan wire ≡ Some row → joins me.0 peer.0 row.path ≡ true → IsLinkEnd plan me peer wire row
-link_end plan me peer wire row checked short is joined = record {
+pub link_end : (plan : Plan) (service : ServiceId) (me peer : EdgeId) (wire : WireId) (row : WirePlan) → IsChecked plan → has_short_paths plan service ≡ true → is_wire_of service row ≡ true → wire_row plan wire ≡ Some row → joins me.0 peer.0 row.path ≡ true → IsLinkEnd plan me peer wire row
+link_end plan service me peer wire row checked short ours is joined = record {
   place = place;
   found = found.is;
   named = subst (λ (n : ℕ). end_named plan me peer n ≡ Some place) (at.holds.end.pw_id ∙ ap (λ (r : WirePlan). r.pw_id) rows)
@@ -205,7 +209,7 @@ link_end plan me peer wire row checked short is joined = record {
     there = named_is plan me peer row.pw_id near.place near.named
 
     ends : is_first me.0 row.path || is_last me.0 row.path ≡ true
-    ends = on_it (short_link plan wire.0 row checked short is)
+    ends = on_it (short_link plan service wire.0 row checked short ours is)
       where
         either : (a b n f : ℕ) → ((a == n && b == f) || (b == n && a == f)) || false ≡ true → (a == n) || (a == f) ≡ true
         either a b n f is = grind (arith, nat_tests)

@@ -6,17 +6,17 @@ use Rattle.net_base.specs.declared.plan.places.ServiceId.{ServiceId}
 use Rattle.net_base.specs.declared.trace.event.Event.{Event}
 use Rattle.flight_model.specs.Laws.{IsRun, network_after}
 use Rattle.network_model.specs.Calm.{is_calm}
-use Rattle.flood_model.specs.Due.{has_short_paths}
 use Rattle.address_model.specs.Points.{Points}
 use Rattle.address_model.specs.Sites.{Sites}
 use Rattle.address_model.specs.Stretch.{StartsRight}
-use Rattle.move_model.specs.Moves.{is_delivery, is_move}
+use Rattle.move_model.specs.Moves.{has_short_paths, is_delivery, is_move}
 
--- After one setting at a spoke edge for one of its spokes, and then deliveries alone, each calm state has each learned address point
--- to its site again.
+-- Where each wire of a service has a path of two edges: after one setting at a spoke edge for one of its spokes, and then deliveries
+-- alone, each calm state has each learned address point to its site again.
 abbrev pub MovesHeal : Plan → List Event → Type 0
 MovesHeal plan events = (before : List Event) (move : Event) (deliveries after : List Event) (service : ServiceId) (site : Sites)
     → events ≡ before ++ move ∷ (deliveries ++ after)
+    → has_short_paths plan service ≡ true
     → StartsRight plan (network_after plan before) service site
     → is_move plan service move ≡ true
     → list_all is_delivery deliveries ≡ true
@@ -24,4 +24,4 @@ MovesHeal plan events = (before : List Event) (move : Event) (deliveries after :
     → Points plan (network_after plan (before ++ move ∷ deliveries)) service site
 
 abbrev pub RunsHealMoves : Type 0
-RunsHealMoves = (plan : Plan) (events : List Event) → IsRun plan events → has_short_paths plan ≡ true → MovesHeal plan events
+RunsHealMoves = (plan : Plan) (events : List Event) → IsRun plan events → MovesHeal plan events
