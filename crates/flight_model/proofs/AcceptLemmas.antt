@@ -127,7 +127,9 @@ row_there plan me peer row wire joined {P} follows_it = by (slice_get plan.edges
   within = (both_in plan row.path me.0 peer.0 wire.edges joined).0
 
   never : (xs : List EdgePlan) (n : ℕ) → slice_get xs n ≡ None → nat_lt n (length xs) ≡ true → ⊥
-  never [] n none less = absurd (cc (less))
+  never [] n none less = nothing n less where
+    nothing : (k : ℕ) → nat_lt k 0 ≡ true → ⊥
+    nothing k less = grind (arith, nat_tests)
   never (x ∷ xs) n none less = absurd (cc (sym (slice_get-get_or (x ∷ xs) n x (below n (length (x ∷ xs)) less)) ∙ none)) where
     below : (m k : ℕ) → nat_lt m k ≡ true → m < k
     below m k less = grind (arith, nat_tests)

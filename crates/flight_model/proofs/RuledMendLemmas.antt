@@ -20,7 +20,7 @@ use Rattle.pw_tlvs.specs.declared.pw_status.PwStatus.{PwStatus}
 use Rattle.pw_tlvs.specs.Written.{IsPointInRange}
 use Rattle.ldp_grammar.specs.Written.{IsState, point_tlvs}
 use Rattle.pw_status.proofs.StatusLemmas.{combined_most}
-use Rattle.pw_status.specs.Status.{method_by}
+use Rattle.pw_status.specs.Status.{combined, method_by}
 use Rattle.pw_signalling.specs.declared.binding.Binding.{Binding}
 use Rattle.pw_signalling.specs.declared.told.Told.{Told}
 use Rattle.pw_signalling.specs.End.{EndState, Idle, Advertised}
