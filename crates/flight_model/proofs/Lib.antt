@@ -1,4 +1,5 @@
 pub mod AcceptLemmas
+pub mod AcrossLemmas
 pub mod ActBindingLemmas
 pub mod ActLemmas
 pub mod BetweenLemmas
@@ -22,6 +23,7 @@ pub mod HearingLemmas
 pub mod KeepLemmas
 pub mod LeaveLemmas
 pub mod MeetLemmas
+pub mod MendedRunLemmas
 pub mod MendingLemmas
 pub mod MentionLemmas
 pub mod NameLemmas

@@ -1,3 +1,4 @@
+pub mod Across
 pub mod Binding
 pub mod Bound
 pub mod Coming

@@ -1,4 +1,5 @@
 //! What holds of sessions and pseudowires in every run of the network.
+ghost use Rattle.flight_model.specs.Across.{RunsTakeMappings, RunsTellAcross};
 ghost use Rattle.flight_model.specs.Laws.{RunsAgreeAfterFlight, RunsComeUp, RunsEndWell, RunsFollowTable, RunsKeepLabelRule, RunsKeepToldRule, RunsSettle};
 ghost use Rattle.flight_model.specs.Releases.{RunsAwaitReleases, RunsReleaseUnadvertised};
 
@@ -67,4 +68,19 @@ pub fn runs_await_releases()
 #[tactic(auto, using(crate::proofs::ReleaseLemmas::runs_release_unadvertised))]
 pub fn runs_release_unadvertised()
     ensures { RunsReleaseUnadvertised }
+{}
+
+/// After every event a switching point of a wire that advertises to one neighbour tells it exactly what it holds of the other
+/// one, its status among it, behind its own point; its wire is on, and the session with whom it tells is up. Where it holds
+/// something and could tell it, but is idle and was not declined, it has no label left (RFC 6073 sections 7 and 10).
+#[tactic(auto, using(crate::proofs::AcrossLemmas::runs_tell_across))]
+pub fn runs_tell_across()
+    ensures { RunsTellAcross }
+{}
+
+/// Whatever Label Mapping is on its way to an edge, the end that it names takes what it tells: no switching point refuses one
+/// for its points (RFC 6073 section 7.6).
+#[tactic(auto, using(crate::proofs::AcrossLemmas::runs_take_mappings))]
+pub fn runs_take_mappings()
+    ensures { RunsTakeMappings }
 {}
