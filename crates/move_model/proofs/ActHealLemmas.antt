@@ -4,7 +4,7 @@ use Rattle.edge_model.specs.Content.{binding_in, pw_status_code, release}
 use Rattle.edge_model.specs.EndPlaces.{end_named}
 use Rattle.edge_model.specs.Mend.{is_up_with}
 use Rattle.edge_model.specs.Session.{says}
-use Rattle.edge_model.specs.Signal.{end_of_fec, hears_mapping, hears_release, hears_status, hears_withdraw, maps_to, with_end_changed, with_named}
+use Rattle.edge_model.specs.Signal.{accepts_at, end_of_fec, hears_mapping, hears_release, hears_status, hears_withdraw, maps_to, releases_label, takes_content, with_end_changed, with_named}
 use Rattle.edge_model.specs.State.{EdgeState, end_at, with_end, with_ends_beside}
 use Rattle.edge_model.specs.Work.{Work, changes}
 use Rattle.edge_model.specs.declared.end_place.EndPlace.{EndPlace}
@@ -12,34 +12,38 @@ use Rattle.flight_model.proofs.NameLemmas.{end_fact, split}
 use Rattle.flight_model.proofs.OfferLemmas.{IsOfWires, release_is}
 use Rattle.flight_model.proofs.PlaceLemmas.{named_is, not_named, wire_by_pw_id}
 use Rattle.flight_model.proofs.RowLemmas.{clash}
-use Rattle.flight_model.proofs.SoundLemmas.{sound_with_end}
+use Rattle.flight_model.proofs.SoundLemmas.{sound_beside, sound_with_end}
 use Rattle.flight_model.proofs.WorkLemmas.{same_place}
 use Rattle.flight_model.specs.Messages.{IsSound}
-use Rattle.flight_model.specs.Sound.{IsSoundEnd, TellsSoundly}
+use Rattle.flight_model.specs.Sound.{IsSoundEnd, IsSoundHeld, TellsSoundly, point_limit}
 use Rattle.ldp_grammar.specs.declared.message.Message.TheVariants.{LabelMapping, LabelRelease, LabelWithdraw}
 use Rattle.ldp_grammar.specs.declared.message.Message.{Message}
 use Rattle.ldp_grammar.specs.declared.status_code.StatusCode.{StatusCode}
 use Rattle.move_model.proofs.SpeakLemmas.{Speaks, changed_speaks, says_speaks}
+use Rattle.move_model.proofs.WireLemmas.{IsLinkEnd, link_end}
 use Rattle.move_model.specs.Clearing.{IsMild, leaves_label, names_wire}
 use Rattle.move_model.specs.Healing.{KeepsMesh, is_advertising}
+use Rattle.move_model.specs.Moves.{has_short_paths}
 use Rattle.net_base.specs.declared.plan.Plan.{Plan}
 use Rattle.net_base.specs.declared.plan.places.EdgeId.{EdgeId}
 use Rattle.net_base.specs.declared.plan.places.ServiceId.{ServiceId}
 use Rattle.net_base.specs.declared.plan.places.WireId.{WireId}
 use Rattle.net_base.specs.declared.plan.wire_plan.WirePlan.{WirePlan}
 use Rattle.net_base.specs.plan.Accepted.{IsChecked}
-use Rattle.net_base.specs.plan.Paths.{joins}
-use Rattle.net_base.specs.plan.Places.{wire_row}
-use Rattle.net_base.specs.plan.Roles.{are_joined_by, is_mesh_of}
+use Rattle.net_base.specs.plan.Paths.{edge_address, joins}
+use Rattle.net_base.specs.plan.Places.{is_mesh_class, wire_row}
+use Rattle.net_base.specs.plan.Roles.{are_joined_by, is_mesh_of, is_wire_of}
 use Rattle.network_model.specs.Absorb.{taken_all}
 use Rattle.network_model.specs.State.{NetworkState, stands}
 use Rattle.pw_signalling.specs.End.{EndState}
-use Rattle.pw_signalling.specs.Rows.{bound, group_stated, group_unbound, is_in_group, released, stated, unbound}
+use Rattle.pw_signalling.specs.Rows.{bound, group_stated, group_unbound, is_in_group, names, released, stated, unbound, unless_named}
+use Rattle.pw_signalling.specs.declared.binding.Binding.{Binding}
+use Rattle.pw_signalling.specs.declared.told.Told.{Told}
 use Rattle.pw_tlvs.specs.Written.{has_vlan, may_tell, writable_fec}
 use Rattle.pw_tlvs.specs.declared.point.Point.{Point}
 use Rattle.pw_tlvs.specs.declared.pw_fec.PwFec.{PwFec}
 use Rattle.pw_tlvs.specs.declared.pw_status.PwStatus.{PwStatus}
-use Rattle.std.proofs.Common.{Bool, List, None, Option, Some, ap, arith, cond, false, is_some, nat_eq, nat_le, not, option_and_then, refl, subst, sym, true, ℕ, ◌&&◌, ◌==◌, ◌∙◌, ◌≡◌, ◌≤◌}
+use Rattle.std.proofs.Common.{Bool, List, None, Option, Some, ap, arith, cond, false, is_some, nat_eq, nat_le, not, option_and_then, refl, subst, sym, true, ℕ, ◌&&◌, ◌==◌, ◌∙◌, ◌≡◌, ◌≤◌, ◌||◌}
 use Rattle.std.proofs.lemmas.Bool.Decides.{nat_tests}
 use Rattle.std.proofs.lemmas.Bool.{eqb-true}
 
@@ -143,32 +147,32 @@ group_stated_local group status end = by (is_in_group group end.remote) where
 
 -- ---- what is unbound is sound
 
-unbound_sound : (up : Bool) (label : Option ℕ) (end : EndState) → IsSoundEnd up end → IsSoundEnd up (unbound label end)
-unbound_sound true label end sound = sound
-unbound_sound false label end sound = (sound.0, rw (sound.1) refl)
-
-group_sound : (up : Bool) (group : ℕ) (end : EndState) → IsSoundEnd up end → IsSoundEnd up (group_unbound group end)
-group_sound up group end sound = by (is_in_group group end.remote) where
-  by : (b : Bool) → IsSoundEnd up (cond b (unbound None end) end)
-  by true = unbound_sound up None end sound
+held_unless : (limit : ℕ) (label : Option ℕ) (held : Option Binding) → IsSoundHeld limit held → IsSoundHeld limit (unless_named label held)
+held_unless limit label None sound = tt
+held_unless limit label (Some binding) sound = by (names label binding.label) where
+  by : (b : Bool) → IsSoundHeld limit (cond b None (Some binding))
+  by true = tt
   by false = sound
 
-named_sound : (plan : Plan) (peer : EdgeId) (fec : PwFec) (label pw_id : Option ℕ) (edge : EdgeState) → TellsSoundly edge → TellsSoundly (with_named plan peer fec (unbound label) (group_unbound fec.group) pw_id edge)
-unfolding with_ends_beside
-named_sound plan peer fec label None edge sound = record {
-  least = sound.least;
-  most = sound.most;
-  bits = sound.bits;
-  ends = λ wire k. by wire k (nat_eq k peer.0);
-}
-  where
-    by : (wire k : ℕ) (b : Bool) → IsSoundEnd (is_up_with (edge.peering k)) (cond b (group_unbound fec.group (edge.ends wire k)) (edge.ends wire k))
-    by wire k true = group_sound (is_up_with (edge.peering k)) fec.group (edge.ends wire k) (sound.ends wire k)
-    by wire k false = sound.ends wire k
-named_sound plan peer fec label (Some n) edge sound = by (end_named plan edge.me peer n) where
-  by : (o : Option EndPlace) → TellsSoundly (with_end_changed (unbound label) o edge)
-  by None = sound
-  by (Some place) = sound_with_end place (unbound label (end_at edge place)) edge (unbound_sound (is_up_with (edge.peering place.peer.0)) label (end_at edge place) (sound.ends place.wire.0 place.peer.0)) sound
+unbound_sound : (limit : ℕ) (up : Bool) (label : Option ℕ) (end : EndState) → IsSoundEnd limit up end → IsSoundEnd limit up (unbound label end)
+unbound_sound limit true label end sound = (sound.0, held_unless limit label end.remote sound.1)
+unbound_sound limit false label end sound = (sound.0, rw (sound.1) refl)
+
+group_sound : (limit : ℕ) (up : Bool) (group : ℕ) (end : EndState) → IsSoundEnd limit up end → IsSoundEnd limit up (group_unbound group end)
+group_sound limit up group end sound = by (is_in_group group end.remote) where
+  by : (b : Bool) → IsSoundEnd limit up (cond b (unbound None end) end)
+  by true = unbound_sound limit up None end sound
+  by false = sound
+
+module _ (limit : ℕ → ℕ) (edge : EdgeState) (sound : TellsSoundly limit edge) where
+  place_sound : (label : Option ℕ) (o : Option EndPlace) → TellsSoundly limit (with_end_changed (unbound label) o edge)
+  place_sound label None = sound
+  place_sound label (Some place) =
+      sound_with_end place (unbound label (end_at edge place)) edge (unbound_sound (limit place.wire.0) (is_up_with (edge.peering place.peer.0)) label (end_at edge place) (sound.ends place.wire.0 place.peer.0)) sound
+
+  named_sound : (plan : Plan) (peer : EdgeId) (fec : PwFec) (label pw_id : Option ℕ) → TellsSoundly limit (with_named plan peer fec (unbound label) (group_unbound fec.group) pw_id edge)
+  named_sound plan peer fec label None = sound_beside peer (group_unbound fec.group) edge (λ most end is. group_sound most (is_up_with (edge.peering peer.0)) fec.group end is) sound
+  named_sound plan peer fec label (Some n) = place_sound label (end_named plan edge.me peer n)
 
 -- ---- messages
 
@@ -176,7 +180,7 @@ named_sound plan peer fec label (Some n) edge sound = by (end_named plan edge.me
 abbrev pub LeavesMesh : Plan → ServiceId → ℕ → ℕ → Message → Type 0
 LeavesMesh plan service me peer m = (wire : WireId) (row : WirePlan) → wire_row plan wire ≡ Some row → is_mesh_of service row ≡ true → joins me peer row.path ≡ true → leaves_label row.pw_id m ≡ true
 
-module _ (plan : Plan) (service : ServiceId) (network : NetworkState) (me peer : EdgeId) (checked : IsChecked plan) where
+module _ (plan : Plan) (service : ServiceId) (network : NetworkState) (me peer : EdgeId) (checked : IsChecked plan) (short : has_short_paths plan service ≡ true) where
   -- an edge that has acted on a message
   pub record Acted (base old new : Work) : Type 0 where
     pub speaks : Speaks plan service network me peer.0 base new
@@ -185,7 +189,7 @@ module _ (plan : Plan) (service : ServiceId) (network : NetworkState) (me peer :
   abbrev At : Work → Work → Type 0
   At base work = Speaks plan service network me peer.0 base work
 
-  acted_locals : (base : Work) (change : EdgeState → EdgeState) (work : Work) → KeepsLocals peer.0 work.edge (change work.edge) → TellsSoundly (change work.edge) → At base work → Acted base work (changes change work)
+  acted_locals : (base : Work) (change : EdgeState → EdgeState) (work : Work) → KeepsLocals peer.0 work.edge (change work.edge) → TellsSoundly (point_limit plan me.0) (change work.edge) → At base work → Acted base work (changes change work)
   unfolding changes
   acted_locals base change work keeps sound speaks = record {
     speaks = changed_speaks plan service network me peer.0 base change work keeps.changes.peering keeps.changes.me sound
@@ -193,7 +197,7 @@ module _ (plan : Plan) (service : ServiceId) (network : NetworkState) (me peer :
     chosen = keeps.changes.chosen;
   }
 
-  changed_sound : (change : EdgeState → EdgeState) (work : Work) → TellsSoundly (changes change work).edge → TellsSoundly (change work.edge)
+  changed_sound : (change : EdgeState → EdgeState) (work : Work) → TellsSoundly (point_limit plan me.0) (changes change work).edge → TellsSoundly (point_limit plan me.0) (change work.edge)
   unfolding changes
   changed_sound change work sound = sound
 
@@ -215,6 +219,10 @@ module _ (plan : Plan) (service : ServiceId) (network : NetworkState) (me peer :
       → (id : ℕ) → IsMild plan service me.0 peer.0 (release fec label id)
   mild_release fec label others id = record { plain = refl; labels = λ wire row is of_mesh joined. ap not (others wire row is of_mesh joined) }
 
+  left_of : (a b : Bool) → a && b ≡ true → a ≡ true
+  left_of true b h = refl
+  left_of false b h = clash h
+
   right_of : (a b : Bool) → a && b ≡ true → b ≡ true
   right_of true b h = h
   right_of false b h = clash h
@@ -229,42 +237,80 @@ module _ (plan : Plan) (service : ServiceId) (network : NetworkState) (me peer :
       let change : EdgeState → EdgeState = with_named plan peer fec (unbound label) (group_unbound fec.group) fec.pw_id in
       says_acted base work (changes change work) (release fec label) (release_is fec label (kind_fits fec said.1) said.0.1.group said.0.1.pw_id said.0.2)
       (λ joined there. mild_release fec label (λ wire row is of_mesh joins. not_true (names_wire row.pw_id fec.pw_id) (leaves wire row is of_mesh joins)))
-      (acted_locals base change work (named_locals plan peer fec (unbound label) (group_unbound fec.group) fec.pw_id work.edge (λ end. refl) (group_unbound_local fec.group)) (named_sound plan peer fec label fec.pw_id work.edge speaks.sound) speaks)
+      (acted_locals base change work (named_locals plan peer fec (unbound label) (group_unbound fec.group) fec.pw_id work.edge (λ end. refl) (group_unbound_local fec.group)) (named_sound (point_limit plan me.0) work.edge speaks.sound plan peer fec label fec.pw_id) speaks)
 
-  pub mapping_acts : (base : Work) (id : ℕ) (fec : PwFec) (label : ℕ) (status : Option PwStatus) (points : List Point) (work : Work) → IsSound (LabelMapping id fec label status points) → TellsSoundly (hears_mapping plan taken_all peer fec label status points work).edge → At base work
-      → Acted base work (hears_mapping plan taken_all peer fec label status points work)
+  -- an end that does not take what it is told is none of a mesh wire
+  not_refused : (place : EndPlace) (content : Told) (pw_id : Option ℕ) → option_and_then (end_named plan me peer) pw_id ≡ Some place → takes_content plan me place content ≡ false
+      → (wire : WireId) (row : WirePlan) → wire_row plan wire ≡ Some row → is_mesh_of service row ≡ true → joins me.0 peer.0 row.path ≡ true → names_wire row.pw_id pw_id ≡ false
+  not_refused place content None found refused wire row is of_mesh joined = absurd (cc (found))
+  not_refused place content (Some n) found refused wire row is of_mesh joined = by (n == row.pw_id) refl where
+    end : IsLinkEnd plan me peer wire row
+    end = link_end plan service me peer wire row checked short (left_of (is_wire_of service row) (is_mesh_class row.class) of_mesh) is joined
+
+    found_end : n ≡ row.pw_id → Some place ≡ Some end.place
+    found_end same = sym found ∙ (ap (end_named plan me peer) same ∙ end.named)
+
+    terminal : Some place ≡ Some end.place → place.terminal ≡ true
+    terminal same = (let one : place ≡ end.place = cc (same) in ap (λ (p : EndPlace). p.terminal) one ∙ end.terminal)
+
+    by : (b : Bool) → (n == row.pw_id) ≡ b → b ≡ false
+    by true same = clash (sym refused ∙ ap (λ (t : Bool). t || accepts_at (edge_address plan me) content) (terminal (found_end (eqb-true n row.pw_id same))))
+    by false away = refl
+
+  pub mapping_acts : (base : Work) (id : ℕ) (fec : PwFec) (label : ℕ) (status : Option PwStatus) (points : List Point) (work : Work) → IsSound (LabelMapping id fec label status points)
+      → TellsSoundly (point_limit plan me.0) (hears_mapping plan taken_all peer fec label status points work).edge → At base work → Acted base work (hears_mapping plan taken_all peer fec label status points work)
   mapping_acts base id fec label status points work said sound speaks = by (end_of_fec plan work.edge peer fec) refl sound where
-    by : (o : Option EndPlace) → end_of_fec plan work.edge peer fec ≡ o → TellsSoundly (maps_to taken_all peer fec label status points o work).edge → Acted base work (maps_to taken_all peer fec label status points o work)
-    by None is sound =
-        says_acted base work work (release fec (Some label)) (release_is fec (Some label) (kind_fits fec (right_of (is_some fec.pw_id) (writable_fec fec) said.1)) said.0.1.group said.0.1.pw_id said.0.2)
-        (λ joined there. mild_release fec (Some label) (λ wire row at of_mesh joins. unknown fec.pw_id is wire row at joins)) (record { speaks = speaks; chosen = refl })
-      where
-        unknown : (o : Option ℕ) → option_and_then (end_named plan work.edge.me peer) o ≡ None → (wire : WireId) (row : WirePlan) → wire_row plan wire ≡ Some row → joins me.0 peer.0 row.path ≡ true → names_wire row.pw_id o ≡ false
-        unknown None none wire row at joins = refl
-        unknown (Some n) none wire row at joins = not_named plan me peer n wire row checked at joins (ap (λ (k : EdgeId). end_named plan k peer n) (sym speaks.place) ∙ none)
-    by (Some place) is sound = acted_locals base (with_end_changed (bound (binding_in fec label status points)) (Some place)) work
-        (changed_locals peer (bound (binding_in fec label status points)) (Some place) work.edge (λ end. refl) (λ p same. fec_beside plan work.edge peer fec p (is ∙ same)))
-        (changed_sound (with_end_changed (bound (binding_in fec label status points)) (Some place)) work sound) speaks
+    binding : Binding
+    binding = binding_in fec label status points
 
-  pub status_acts : (base : Work) (code : StatusCode) (status : Option PwStatus) (fec : Option PwFec) (work : Work) → TellsSoundly (hears_status plan peer code status fec work).edge → At base work → Acted base work (hears_status plan peer code status fec work)
+    released_acts : (now : Work) → Acted base work now → ((wire : WireId) (row : WirePlan) → wire_row plan wire ≡ Some row → is_mesh_of service row ≡ true → joins me.0 peer.0 row.path ≡ true → names_wire row.pw_id fec.pw_id ≡ false)
+        → Acted base work (releases_label taken_all peer fec (Some label) now)
+    released_acts now acted others =
+        says_acted base work now (release fec (Some label)) (release_is fec (Some label) (kind_fits fec (right_of (is_some fec.pw_id) (writable_fec fec) said.1)) said.0.1.group said.0.1.pw_id said.0.2)
+        (λ joined there. mild_release fec (Some label) others) acted
+
+    changed : (change : EndState → EndState) (place : EndPlace) → end_of_fec plan work.edge peer fec ≡ Some place → ((end : EndState) → (change end).local ≡ end.local) → TellsSoundly (point_limit plan me.0) (with_end_changed change (Some place) work.edge)
+        → Acted base work (changes (with_end_changed change (Some place)) work)
+    changed change place is local sound =
+        acted_locals base (with_end_changed change (Some place)) work (changed_locals peer change (Some place) work.edge local (λ p same. fec_beside plan work.edge peer fec p (is ∙ same))) sound speaks
+
+    unknown : (o : Option ℕ) → option_and_then (end_named plan work.edge.me peer) o ≡ None → (wire : WireId) (row : WirePlan) → wire_row plan wire ≡ Some row → joins me.0 peer.0 row.path ≡ true → names_wire row.pw_id o ≡ false
+    unknown None none wire row at joins = refl
+    unknown (Some n) none wire row at joins = not_named plan me peer n wire row checked at joins (ap (λ (k : EdgeId). end_named plan k peer n) (sym speaks.place) ∙ none)
+
+    takes : (place : EndPlace) → end_of_fec plan work.edge peer fec ≡ Some place → (b : Bool) → takes_content plan work.edge.me place binding.told ≡ b
+        → TellsSoundly (point_limit plan me.0) (cond b (changes (with_end_changed (bound binding) (Some place)) work) (releases_label taken_all peer fec (Some label) (changes (with_end_changed (unbound None) (Some place)) work))).edge
+        → Acted base work (cond b (changes (with_end_changed (bound binding) (Some place)) work) (releases_label taken_all peer fec (Some label) (changes (with_end_changed (unbound None) (Some place)) work)))
+    takes place is true taken sound = changed (bound binding) place is (λ end. refl) (changed_sound (with_end_changed (bound binding) (Some place)) work sound)
+    takes place is false refused sound =
+        released_acts (changes (with_end_changed (unbound None) (Some place)) work)
+        (changed (unbound None) place is (λ end. refl) (place_sound (point_limit plan me.0) work.edge speaks.sound None (Some place)))
+        (not_refused place binding.told fec.pw_id (ap (λ (k : EdgeId). option_and_then (end_named plan k peer) fec.pw_id) (sym speaks.place) ∙ is)
+        (ap (λ (k : EdgeId). takes_content plan k place binding.told) (sym speaks.place) ∙ refused))
+
+    by : (o : Option EndPlace) → end_of_fec plan work.edge peer fec ≡ o → TellsSoundly (point_limit plan me.0) (maps_to plan taken_all peer fec binding o work).edge → Acted base work (maps_to plan taken_all peer fec binding o work)
+    by None is sound = released_acts work (record { speaks = speaks; chosen = refl }) (λ wire row at of_mesh joins. unknown fec.pw_id is wire row at joins)
+    by (Some place) is sound = takes place is (takes_content plan work.edge.me place binding.told) refl sound
+
+  pub status_acts : (base : Work) (code : StatusCode) (status : Option PwStatus) (fec : Option PwFec) (work : Work) → TellsSoundly (point_limit plan me.0) (hears_status plan peer code status fec work).edge → At base work → Acted base work (hears_status plan peer code status fec work)
   status_acts base code None fec work sound speaks = record { speaks = speaks; chosen = refl }
   status_acts base code (Some status) None work sound speaks = record { speaks = speaks; chosen = refl }
   status_acts base code (Some status) (Some fec) work sound speaks = by (code.code == pw_status_code) sound where
     change : EdgeState → EdgeState
     change = with_named plan peer fec (stated status) (group_stated fec.group status) fec.pw_id
 
-    by : (b : Bool) → TellsSoundly (cond b (changes (with_named plan peer fec (stated status) (group_stated fec.group status) fec.pw_id) work) work).edge
+    by : (b : Bool) → TellsSoundly (point_limit plan me.0) (cond b (changes (with_named plan peer fec (stated status) (group_stated fec.group status) fec.pw_id) work) work).edge
         → Acted base work (cond b (changes (with_named plan peer fec (stated status) (group_stated fec.group status) fec.pw_id) work) work)
     by true sound = acted_locals base (with_named plan peer fec (stated status) (group_stated fec.group status) fec.pw_id) work
         (named_locals plan peer fec (stated status) (group_stated fec.group status) fec.pw_id work.edge (λ end. refl) (group_stated_local fec.group status))
         (changed_sound (with_named plan peer fec (stated status) (group_stated fec.group status) fec.pw_id) work sound) speaks
     by false sound = record { speaks = speaks; chosen = refl }
 
-  pub release_acts : (base : Work) (id : ℕ) (fec : PwFec) (label : Option ℕ) (work : Work) → LeavesMesh plan service me.0 peer.0 (LabelRelease id fec label) → TellsSoundly (hears_release plan peer fec label work).edge → At base work
+  pub release_acts : (base : Work) (id : ℕ) (fec : PwFec) (label : Option ℕ) (work : Work) → LeavesMesh plan service me.0 peer.0 (LabelRelease id fec label) → TellsSoundly (point_limit plan me.0) (hears_release plan peer fec label work).edge → At base work
       → Acted base work (hears_release plan peer fec label work)
   unfolding changes
   release_acts base id fec label work leaves sound speaks = by (end_of_fec plan work.edge peer fec) refl sound where
-    by : (o : Option EndPlace) → end_of_fec plan work.edge peer fec ≡ o → TellsSoundly (with_end_changed (released label) o work.edge) → Acted base work (changes (λ edge. with_end_changed (released label) o edge) work)
+    by : (o : Option EndPlace) → end_of_fec plan work.edge peer fec ≡ o → TellsSoundly (point_limit plan me.0) (with_end_changed (released label) o work.edge) → Acted base work (changes (λ edge. with_end_changed (released label) o edge) work)
     by None is sound = acted_locals base (λ edge. edge) work (same_beside peer.0 work.edge) speaks.sound speaks
     by (Some place) is sound = record {
       speaks = changed_speaks plan service network me peer.0 base (λ edge. with_end place (released label (end_at edge place)) edge) work beside.peering beside.me sound

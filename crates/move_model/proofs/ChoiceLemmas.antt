@@ -29,6 +29,7 @@ use Rattle.flight_model.specs.Ends.{HasTypes, ends_at}
 use Rattle.flight_model.specs.Facts.{flight}
 use Rattle.flight_model.specs.Meeting.{said_to}
 use Rattle.flight_model.specs.Messages.{octets_of_all}
+use Rattle.flight_model.specs.Sound.{point_limit}
 use Rattle.move_model.specs.Moves.{has_short_paths}
 use Rattle.ldp_grammar.specs.declared.message.Message.{Message}
 use Rattle.move_model.proofs.ForwardLemmas.{IsChoice, advertises_it, all_get, choice_is}
@@ -225,7 +226,7 @@ module _ (plan : Plan) (service : ServiceId) (network : NetworkState) (me : Edge
   pub piece_tells : (base : Work) (place : EndPlace) (label : ℕ) (content : Told) (work : Work) → IsEndOf plan me place → are_joined_by plan service me.0 place.peer.0 ≡ true → (end_at work.edge place).local ≡ Advertised label content
       → Speaks plan service network me peer base work → WillTell plan service network me.0 place.peer.0 place.pw_id (says taken_all place.peer (mac_withdrawal place.pw_id [] content) work).work
   piece_tells base place label content work end joined at speaks =
-      let can = advertised_up (is_up_with (work.edge.peering place.peer.0)) (end_at work.edge place) label content (speaks.sound.ends place.wire.0 place.peer.0) at in
+      let can = advertised_up (point_limit plan me.0 place.wire.0) (is_up_with (work.edge.peering place.peer.0)) (end_at work.edge place) label content (speaks.sound.ends place.wire.0 place.peer.0) at in
       let there : stands network me.0 place.peer.0 ≡ true = stood base work speaks place.peer.0 joined can.0 in
       let mildly = speaks.speaks place.peer.0 joined there in
       let way = ways place.peer.0 joined there in

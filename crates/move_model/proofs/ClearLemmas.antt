@@ -1,6 +1,7 @@
 -- An edge hears a withdrawal of addresses: it forgets, and passes the withdrawal on.
 use Rattle.edge_model.proofs.SessionLemmas.{any, says_works}
 use Rattle.edge_model.proofs.WalkLemmas.{hears_mac_withdraw_holds}
+use Rattle.edge_model.specs.Across.{end_beyond}
 use Rattle.edge_model.specs.Clear.{clears_at, clears_by, clears_wire, hears_mac_withdraw, passes_on, tells_at, tells_by, withdrawing_at}
 use Rattle.edge_model.specs.Content.{mac_withdrawal}
 use Rattle.edge_model.specs.EndPlaces.{end_named, passes}
@@ -128,9 +129,9 @@ withdraw_chosen plan peer fec macs work = by_end (end_of_fec plan work.edge peer
   by_row place None = refl
   by_row place (Some row) = at_port row.service (port_of_wire plan work.edge place.wire row)
 
-  by_side : (place : EndPlace) (terminal : Bool) → (cond terminal (clears_wire plan taken_all macs place (wire_row plan place.wire) work) work).edge.chosen ≡ work.edge.chosen
+  by_side : (place : EndPlace) (terminal : Bool) → (cond terminal (clears_wire plan taken_all macs place (wire_row plan place.wire) work) (tells_by taken_all macs (end_beyond plan work.edge.me place) work)).edge.chosen ≡ work.edge.chosen
   by_side place true = by_row place (wire_row plan place.wire)
-  by_side place false = refl
+  by_side place false = (by_only macs (end_beyond plan work.edge.me place) work).chosen
 
   by_end : (o : Option EndPlace) → (clears_by plan taken_all macs o work).edge.chosen ≡ work.edge.chosen
   by_end None = refl
@@ -172,7 +173,7 @@ module _ (plan : Plan) (service : ServiceId) (me peer : EdgeId) (wire : WireId) 
   pub heard_is : hears_mac_withdraw plan taken_all peer (Some fec) (Some []) work ≡ passes_on plan taken_all [] service found_port.p (roles.role_of plan service work.edge.me) Cleared
   heard_is =
       ap (λ (o : Option EndPlace). clears_by plan taken_all [] o work) found_end
-      ∙ (ap (λ (b : Bool). cond b (clears_wire plan taken_all [] end.place (wire_row plan end.place.wire) work) work) end.terminal
+      ∙ (ap (λ (b : Bool). cond b (clears_wire plan taken_all [] end.place (wire_row plan end.place.wire) work) (tells_by taken_all [] (end_beyond plan work.edge.me end.place) work)) end.terminal
       ∙ (ap (λ (r : Option WirePlan). clears_wire plan taken_all [] end.place r work) (ap (wire_row plan) end.wire_is ∙ is)
       ∙ (ap (λ (s : ServiceId). clears_at plan taken_all [] s (position (is_wire_port end.place.wire) (ports_of plan s work.edge.me)) work) (service_is row service of_service)
       ∙ ap (λ (o : Option ℕ). clears_at plan taken_all [] service o work) port_is)))

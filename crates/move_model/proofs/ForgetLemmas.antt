@@ -162,7 +162,7 @@ module _ (service : ServiceId) where
     advises = λ to reply work. forgets_none work (had_said to (put_reply taken_all to reply work)).work (advice_works taken_all any to reply work refl).edge.learned;
     holds = λ to kept octets work at. kept_forgets to kept octets work;
     releases = λ to fec label work. says_forgets to (release fec label) work;
-    binds = λ to fec place binding work there is. changed_forgets (with_end_changed (bound binding) (Some place)) work (changed_learned (bound binding) (Some place) work.edge);
+    binds = λ to fec place binding work there is taken. changed_forgets (with_end_changed (bound binding) (Some place)) work (changed_learned (bound binding) (Some place) work.edge);
     unbinds = λ to fec label work there. changed_forgets (with_named plan to fec (unbound label) (group_unbound fec.group) fec.pw_id) work (named_learned plan to fec (unbound label) (group_unbound fec.group) fec.pw_id work.edge);
     released = λ to fec label work there. changed_forgets (λ edge. with_end_changed (released label) (end_of_fec plan edge to fec) edge) work (changed_learned (released label) (end_of_fec plan work.edge to fec) work.edge);
     states = λ to fec status work there. changed_forgets (with_named plan to fec (stated status) (group_stated fec.group status) fec.pw_id) work (named_learned plan to fec (stated status) (group_stated fec.group status) fec.pw_id work.edge);

@@ -18,7 +18,7 @@ use Rattle.flight_model.specs.Ends.{HasTypes, ends_at}
 use Rattle.flight_model.specs.Facts.{flight}
 use Rattle.flight_model.specs.Meeting.{Spares, said_to}
 use Rattle.flight_model.specs.Messages.{IsSaid}
-use Rattle.flight_model.specs.Sound.{TellsSoundly}
+use Rattle.flight_model.specs.Sound.{TellsSoundly, point_limit}
 use Rattle.move_model.specs.Moves.{has_short_paths}
 use Rattle.hvpls_spokes.specs.Port.{ports_of}
 use Rattle.hvpls_spokes.specs.declared.port.Port.TheVariants as port
@@ -251,9 +251,9 @@ module _ (plan : Plan) (service : ServiceId) (site : Sites) (network : NetworkSt
   -- a session that is up acts on a message
   acts_heal : (m : Message) (messages : List Message) (work : Work) → IsSaid (ends_at plan peer.0 me.0) m → LeavesMesh plan service me.0 peer.0 m
       → ((core : ℕ) → is_core_edge plan service core ≡ true → nat_eq core me.0 ≡ false → is_core_edge plan service me.0 ≡ true → MeshesTo plan service me.0 core)
-      → has_end work.edge peer ≡ true → TellsSoundly (acts_on plan taken_all peer m work).edge → Healing (m ∷ messages) work → Healing messages (acts_on plan taken_all peer m work)
+      → has_end work.edge peer ≡ true → TellsSoundly (point_limit plan me.0) (acts_on plan taken_all peer m work).edge → Healing (m ∷ messages) work → Healing messages (acts_on plan taken_all peer m work)
   acts_heal m messages work said leaves stand there sound heals = by m said leaves sound heals where
-    done : (m : Message) → ((n : ℕ) → clears n m ≡ false) → has_end work.edge peer ≡ true → Acted plan service network me peer checked work work (acts_on plan taken_all peer m work) → Healing (m ∷ messages) work → Healing messages (acts_on plan taken_all peer m work)
+    done : (m : Message) → ((n : ℕ) → clears n m ≡ false) → has_end work.edge peer ≡ true → Acted plan service network me peer checked short work work (acts_on plan taken_all peer m work) → Healing (m ∷ messages) work → Healing messages (acts_on plan taken_all peer m work)
     done m plain there acted heals =
         heals_on plan service site network me peer.0 messages work (acts_on plan taken_all peer m work)
         (speaks_on plan service network me peer.0 work (acts_on plan taken_all peer m work) heals.stays acted.speaks (acts_forget service plan peer m work there))
@@ -262,13 +262,13 @@ module _ (plan : Plan) (service : ServiceId) (site : Sites) (network : NetworkSt
     first : {m : Message} → Healing (m ∷ messages) work → Speaks plan service network me peer.0 work work
     first heals = speaks_first plan service network me peer.0 work heals.stays
 
-    by : (m : Message) → IsSaid (ends_at plan peer.0 me.0) m → LeavesMesh plan service me.0 peer.0 m → TellsSoundly (acts_on plan taken_all peer m work).edge → Healing (m ∷ messages) work → Healing messages (acts_on plan taken_all peer m work)
+    by : (m : Message) → IsSaid (ends_at plan peer.0 me.0) m → LeavesMesh plan service me.0 peer.0 m → TellsSoundly (point_limit plan me.0) (acts_on plan taken_all peer m work).edge → Healing (m ∷ messages) work → Healing messages (acts_on plan taken_all peer m work)
     by (Initialization id params) said leaves sound heals = popped (Initialization id params) messages work (λ n joined. refl) heals
     by (KeepAlive id) said leaves sound heals = popped (KeepAlive id) messages work (λ n joined. refl) heals
-    by (Notification id code status fec) said leaves sound heals = done (Notification id code status fec) (λ n. refl) there (status_acts plan service network me peer checked work code status fec work sound (first heals)) heals
-    by (LabelMapping id fec label status points) said leaves sound heals = done (LabelMapping id fec label status points) (λ n. refl) there (mapping_acts plan service network me peer checked work id fec label status points work said sound (first heals)) heals
-    by (LabelWithdraw id fec label) said leaves sound heals = done (LabelWithdraw id fec label) (λ n. refl) there (withdraw_acts plan service network me peer checked work id fec label work said leaves (first heals)) heals
-    by (LabelRelease id fec label) said leaves sound heals = done (LabelRelease id fec label) (λ n. refl) there (release_acts plan service network me peer checked work id fec label work leaves sound (first heals)) heals
+    by (Notification id code status fec) said leaves sound heals = done (Notification id code status fec) (λ n. refl) there (status_acts plan service network me peer checked short work code status fec work sound (first heals)) heals
+    by (LabelMapping id fec label status points) said leaves sound heals = done (LabelMapping id fec label status points) (λ n. refl) there (mapping_acts plan service network me peer checked short work id fec label status points work said sound (first heals)) heals
+    by (LabelWithdraw id fec label) said leaves sound heals = done (LabelWithdraw id fec label) (λ n. refl) there (withdraw_acts plan service network me peer checked short work id fec label work said leaves (first heals)) heals
+    by (LabelRelease id fec label) said leaves sound heals = done (LabelRelease id fec label) (λ n. refl) there (release_acts plan service network me peer checked short work id fec label work leaves sound (first heals)) heals
     by (AddressWithdraw id None (Some fec) (Some [])) said leaves sound heals = cleared_heals fec id messages work heals stand
     by (AddressWithdraw id None (Some fec) (Some (mac ∷ macs))) said leaves sound heals =
         heals_on plan service site network me peer.0 messages work (hears_mac_withdraw plan taken_all peer (Some fec) (Some (mac ∷ macs)) work)
@@ -284,7 +284,7 @@ module _ (plan : Plan) (service : ServiceId) (site : Sites) (network : NetworkSt
   -- ---- sessions of peers that the service does not join to the edge
 
   -- an event of such a session
-  pub event_heals : (event : SessionEvent) (messages : List Message) (work : Work) → are_joined_by plan service me.0 peer.0 ≡ false → TellsSoundly (happens_with_ends taken_all peer event work).edge → Healing messages work
+  pub event_heals : (event : SessionEvent) (messages : List Message) (work : Work) → are_joined_by plan service me.0 peer.0 ≡ false → TellsSoundly (point_limit plan me.0) (happens_with_ends taken_all peer event work).edge → Healing messages work
       → Healing messages (happens_with_ends taken_all peer event work)
   event_heals event messages work apart sound heals =
       let new : Work = happens_with_ends taken_all peer event work in
@@ -315,7 +315,7 @@ module _ (plan : Plan) (service : ServiceId) (site : Sites) (network : NetworkSt
 
   pub message_heals : (m : Message) (messages : List Message) (work : Work) → ((core : ℕ) → is_core_edge plan service core ≡ true → nat_eq core me.0 ≡ false → is_core_edge plan service me.0 ≡ true → MeshesTo plan service me.0 core)
       → (are_joined_by plan service me.0 peer.0 ≡ true → stands network peer.0 me.0 ≡ true) → stands network me.0 peer.0 ≡ true
-      → IsSaid (ends_at plan peer.0 me.0) m → TellsSoundly (happens_with_ends taken_all peer (Received m) work).edge → TellsSoundly (hears_one plan taken_all peer m work).edge
+      → IsSaid (ends_at plan peer.0 me.0) m → TellsSoundly (point_limit plan me.0) (happens_with_ends taken_all peer (Received m) work).edge → TellsSoundly (point_limit plan me.0) (hears_one plan taken_all peer m work).edge
       → HearsHealing plan service site network me peer.0 (m ∷ messages) work → HearsHealing plan service site network me peer.0 messages (hears_message plan taken_all peer m work)
   message_heals m messages work stand back there said sound_event sound hears = record {
     heals = by_joined (are_joined_by plan service me.0 peer.0) refl;
@@ -328,7 +328,7 @@ module _ (plan : Plan) (service : ServiceId) (site : Sites) (network : NetworkSt
       -- the service joins them
       where_joined : are_joined_by plan service me.0 peer.0 ≡ true → Healing messages (hears_message plan taken_all peer m work)
       where_joined joined = subst (λ (b : Bool). Healing messages (cond b (mends plan taken_all (hears_one plan taken_all peer m work)) work)) (sym stood)
-          (mends_on (subst (Healing messages) (sym acted) (acts_heal m messages work said leaves stand stood (subst (λ (w : Work). TellsSoundly w.edge) acted sound) hears.heals)))
+          (mends_on (subst (Healing messages) (sym acted) (acts_heal m messages work said leaves stand stood (subst (λ (w : Work). TellsSoundly (point_limit plan me.0) w.edge) acted sound) hears.heals)))
         where
           mildly : SpeaksMildly plan service network me.0 peer.0 peer.0 work
           mildly = hears.heals.stays.speaks peer.0 joined there
@@ -357,11 +357,11 @@ module _ (plan : Plan) (service : ServiceId) (site : Sites) (network : NetworkSt
         leaves : LeavesMesh plan service me.0 peer.0 m
         leaves wire row is of_mesh joins = clash (sym apart ∙ (mesh_link plan service me.0 peer.0 wire row checked short is of_mesh joins).by_service)
 
-        by_act : (up : Bool) → TellsSoundly (acts plan taken_all peer m up (happens_with_ends taken_all peer (Received m) work)).edge → Healing messages (acts plan taken_all peer m up (happens_with_ends taken_all peer (Received m) work))
+        by_act : (up : Bool) → TellsSoundly (point_limit plan me.0) (acts plan taken_all peer m up (happens_with_ends taken_all peer (Received m) work)).edge → Healing messages (acts plan taken_all peer m up (happens_with_ends taken_all peer (Received m) work))
         by_act false sound = popped m messages (happens_with_ends taken_all peer (Received m) work) (λ n joined. clash (no_joined joined)) event
         by_act true sound = by_there (has_end (happens_with_ends taken_all peer (Received m) work).edge peer) refl sound where
           by_there : (b : Bool) → has_end (happens_with_ends taken_all peer (Received m) work).edge peer ≡ b
-              → TellsSoundly (cond b (acts_on plan taken_all peer m (happens_with_ends taken_all peer (Received m) work)) (happens_with_ends taken_all peer (Received m) work)).edge
+              → TellsSoundly (point_limit plan me.0) (cond b (acts_on plan taken_all peer m (happens_with_ends taken_all peer (Received m) work)) (happens_with_ends taken_all peer (Received m) work)).edge
               → Healing messages (cond b (acts_on plan taken_all peer m (happens_with_ends taken_all peer (Received m) work)) (happens_with_ends taken_all peer (Received m) work))
           by_there true is sound = acts_heal m messages (happens_with_ends taken_all peer (Received m) work) said leaves stand is sound event
           by_there false is sound = popped m messages (happens_with_ends taken_all peer (Received m) work) (λ n joined. clash (no_joined joined)) event

@@ -9,7 +9,7 @@ use Rattle.edge_model.specs.Connection.{connected_input, connects, connects_betw
 use Rattle.edge_model.specs.EndPlaces.{end_places, ends_here, is_named, passes}
 use Rattle.edge_model.specs.Frame.{frame_input, is_own}
 use Rattle.edge_model.specs.Hear.{hears_on, octets_input}
-use Rattle.edge_model.specs.Mend.{is_up_with, mends, terminal_wish, wish, wish_of}
+use Rattle.edge_model.specs.Mend.{is_up_with, mends, wish, wish_by, wish_of, stands as content_stands}
 use Rattle.edge_model.specs.Packet.{packet_input}
 use Rattle.edge_model.specs.Session.{happens_with_ends}
 use Rattle.edge_model.specs.State.{EdgeState, Peering, empty_edge, end_at, has_end, with_addresses, with_bits, with_circuit, with_learned, with_priority, with_renewed, with_wire, without_ends, without_peerings}
@@ -33,7 +33,7 @@ use Rattle.net_base.specs.declared.trace.event.Event.TheVariants.{Again, Arrive,
 use Rattle.net_base.specs.declared.trace.event.Event.{Event}
 use Rattle.net_base.specs.declared.trace.state_name.Reason.TheVariants as reason
 use Rattle.net_base.specs.plan.Accepted.{IsChecked}
-use Rattle.net_base.specs.plan.Paths.{are_joined, offer_of}
+use Rattle.net_base.specs.plan.Paths.{are_joined}
 use Rattle.net_base.specs.plan.Places.{circuit_row, wire_row}
 use Rattle.network_model.proofs.AbsorbLemmas.{all_keep}
 use Rattle.network_model.proofs.EdgeLemmas.{HoldsOfEach}
@@ -49,6 +49,7 @@ use Rattle.network_model.specs.Tick.{tick_at, ticks_from}
 use Rattle.network_model.specs.Wire.{priority_event, status_event, wire_event}
 use Rattle.network_model.specs.declared.packet.Packet.{Packet}
 use Rattle.pw_signalling.specs.End.{Advertised, Idle, LocalPart, Withdrawing}
+use Rattle.pw_signalling.specs.declared.told.Told.{Told}
 use Rattle.session_core.specs.Table.{Closed}
 use Rattle.std.proofs.Common.{Bool, List, None, Option, Some, [], ap, cond, drop, false, inl, inr, is_some, length, nat_eq, not, refl, slice_get, subst, suc, sym, take, true, zero, ℕ, ◌&&◌, ◌+◌, ◌==◌, ◌∙◌, ◌∷◌, ◌≡◌}
 use Rattle.std.proofs.lemmas.Bool.{cases_Bool, eqb-true}
@@ -64,13 +65,17 @@ pub record IsOn (plan : Plan) (k : ℕ) (edge : EdgeState) : Type 0 where
 wish_on : (plan : Plan) (edge : EdgeState) (place : EndPlace) (row : Option WirePlan) → is_some (wish_of plan edge place row) ≡ true → edge.wire_on place.wire.0 ≡ true
 wish_on plan edge place None some = clash some
 wish_on plan edge place (Some row) some = by (edge.wire_on place.wire.0) refl some where
-  by : (b : Bool) → edge.wire_on place.wire.0 ≡ b → is_some (cond ((b && is_up_with (edge.peering place.peer.0)) && place.terminal) (terminal_wish plan edge place (offer_of row edge.me.0)) None) ≡ true → b ≡ true
+  by : (b : Bool) → edge.wire_on place.wire.0 ≡ b → is_some (cond (b && is_up_with (edge.peering place.peer.0)) (wish_by plan edge place row) None) ≡ true → b ≡ true
   by true is some = refl
   by false is some = clash some
 
 mended_wish : (plan : Plan) (edge : EdgeState) (place : EndPlace) (local : LocalPart) → (end_at edge place).local ≡ local → is_advertising local ≡ true → is_mended plan edge place ≡ true → is_some (wish plan edge place) ≡ true
 mended_wish plan edge place (Idle declined) at told mended = clash told
-mended_wish plan edge place (Advertised label content) at told mended = rw at at mended
+mended_wish plan edge place (Advertised label content) at told mended = stood (wish plan edge place) (rw at at mended)
+  where
+    stood : (wished : Option Told) → content_stands place content wished ≡ true → is_some wished ≡ true
+    stood None still = clash still
+    stood (Some wished) still = refl
 mended_wish plan edge place (Withdrawing label) at told mended = clash told
 
 pub mended_on : (plan : Plan) (k : ℕ) (edge : EdgeState) → IsChecked plan → edge.me ≡ record { 0 = k } → IsMended plan edge → IsOn plan k edge

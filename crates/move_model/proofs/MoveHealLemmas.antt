@@ -11,7 +11,7 @@ use Rattle.flight_model.proofs.SoundLemmas.{sound_same}
 use Rattle.flight_model.proofs.WorkLemmas.{same_place}
 use Rattle.flight_model.proofs.WorksLemmas.{changed_edge}
 use Rattle.flight_model.specs.Ends.{HasTypes, IsOrdered}
-use Rattle.flight_model.specs.Sound.{TellsSoundly}
+use Rattle.flight_model.specs.Sound.{TellsSoundly, point_limit}
 use Rattle.move_model.specs.Moves.{has_short_paths}
 use Rattle.move_model.proofs.ForgetLemmas.{changed_forgets}
 use Rattle.move_model.proofs.LiveLemmas.{mends_live}
@@ -53,7 +53,7 @@ module _ (plan : Plan) (service : ServiceId) (site : Sites) (calm network : Netw
 
   -- a change that leaves mesh wires, choice and tables as they are, after which the edge mends
   changed_heals : (change : EdgeState → EdgeState) → (change Begun.edge).peering ≡ Begun.edge.peering → (change Begun.edge).me ≡ Begun.edge.me → (change Begun.edge).chosen ≡ Begun.edge.chosen → (change Begun.edge).learned ≡ Begun.edge.learned
-      → TellsSoundly (change Begun.edge) → KeepsMesh plan service me.0 (change Begun.edge) → Heals plan service site calm (absorb me 0 0 (mends plan taken_all (changes change Begun)) network).state
+      → TellsSoundly (point_limit plan me.0) (change Begun.edge) → KeepsMesh plan service me.0 (change Begun.edge) → Heals plan service site calm (absorb me 0 0 (mends plan taken_all (changes change Begun)) network).state
   changed_heals change peering same chosen learned sound mesh =
       settle_heals plan service site calm network network me me.0 [] (mends plan taken_all (changes change Begun)) checked (record { edges = refl; pipes = λ a b other. refl }) heals
       (mends_heal plan service site network me me.0 [] (changes change Begun) checked types short ways changed)
@@ -71,7 +71,7 @@ module _ (plan : Plan) (service : ServiceId) (site : Sites) (calm network : Netw
           (record { told = λ wire home spoke chose. inl (ap (λ (f : ℕ → Option WireId). f service.0) (sym chosen_is) ∙ chose) }) began
 
   priority_rest : (wire : WireId) (priority : ℕ) (edge : EdgeState) → ((with_priority wire priority edge).peering ≡ edge.peering) × ((with_priority wire priority edge).me ≡ edge.me) × ((with_priority wire priority edge).chosen ≡ edge.chosen)
-      × ((with_priority wire priority edge).learned ≡ edge.learned) × (TellsSoundly edge → TellsSoundly (with_priority wire priority edge)) × (KeepsMesh plan service me.0 edge → KeepsMesh plan service me.0 (with_priority wire priority edge))
+      × ((with_priority wire priority edge).learned ≡ edge.learned) × (TellsSoundly (point_limit plan me.0) edge → TellsSoundly (point_limit plan me.0) (with_priority wire priority edge)) × (KeepsMesh plan service me.0 edge → KeepsMesh plan service me.0 (with_priority wire priority edge))
   unfolding with_priority
   priority_rest wire priority edge = (refl, refl, refl, refl, λ sound. sound_same edge _ refl refl refl refl sound, λ mesh. record { told = mesh.told; on = mesh.on; whole = mesh.whole })
 
@@ -79,7 +79,7 @@ module _ (plan : Plan) (service : ServiceId) (site : Sites) (calm network : Netw
   unfolding with_bits
   bits_rest wire bits edge = (refl, refl, refl, refl)
 
-  bits_sound : (wire : WireId) (bits : ℕ) (edge : EdgeState) → bits ≤ 31 → TellsSoundly edge → TellsSoundly (with_bits wire bits edge)
+  bits_sound : (wire : WireId) (bits : ℕ) (edge : EdgeState) → bits ≤ 31 → TellsSoundly (point_limit plan me.0) edge → TellsSoundly (point_limit plan me.0) (with_bits wire bits edge)
   unfolding with_bits
   bits_sound wire bits edge few sound = record { least = sound.least; most = sound.most; bits = λ w. either (nat_eq w wire.0) (edge.bits w) (sound.bits w); ends = sound.ends } where
     either : (b : Bool) (other : ℕ) → other ≤ 31 → cond b bits other ≤ 31

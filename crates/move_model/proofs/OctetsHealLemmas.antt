@@ -23,7 +23,7 @@ use Rattle.flight_model.specs.Facts.{flight}
 use Rattle.flight_model.specs.Messages.{IsSaid, octets_of_all}
 use Rattle.flight_model.specs.Pair.{ArePaired, AreTalking, IsStanding}
 use Rattle.flight_model.specs.Rules.{AllMessages}
-use Rattle.flight_model.specs.Sound.{TellsSoundly}
+use Rattle.flight_model.specs.Sound.{TellsSoundly, point_limit}
 use Rattle.move_model.specs.Moves.{has_short_paths}
 use Rattle.ldp_grammar.specs.declared.ldp_id.LdpId.{LdpId}
 use Rattle.ldp_grammar.specs.declared.message.Message.{Message}
@@ -64,7 +64,7 @@ module _ (plan : Plan) (service : ServiceId) (network : NetworkState) (me peer :
     pub peers : now.session.peers ≡ kept.session.peers
     pub number : now.next_id ≡ kept.next_id
 
-  pub kept_speaks : (base : Work) (kept now : Peering) (work : Work) → work.edge.peering peer.0 ≡ Some kept → IsStill kept now → TellsSoundly (changes (with_peering peer (Some now)) work).edge → Speaks plan service network me peer.0 base work
+  pub kept_speaks : (base : Work) (kept now : Peering) (work : Work) → work.edge.peering peer.0 ≡ Some kept → IsStill kept now → TellsSoundly (point_limit plan me.0) (changes (with_peering peer (Some now)) work).edge → Speaks plan service network me peer.0 base work
       → Speaks plan service network me peer.0 base (changes (with_peering peer (Some now)) work)
   unfolding changes with_peering
   kept_speaks base kept now work at still sound speaks = record {
@@ -126,9 +126,9 @@ heard_is peer sender kept work at up goes =
     same : is_same_phase kept.session.phase kept.session.phase ≡ true
     same = rw up refl
 
-held_sound : (peer : EdgeId) (rest : List ℕ) (kept : Peering) (work : Work) → work.edge.peering peer.0 ≡ Some kept → TellsSoundly work.edge → TellsSoundly (changes (with_peering peer (Some (record kept { held = rest }))) work).edge
+held_sound : (limit : ℕ → ℕ) (peer : EdgeId) (rest : List ℕ) (kept : Peering) (work : Work) → work.edge.peering peer.0 ≡ Some kept → TellsSoundly limit work.edge → TellsSoundly limit (changes (with_peering peer (Some (record kept { held = rest }))) work).edge
 unfolding changes with_peering
-held_sound peer rest kept work at sound = record {
+held_sound limit peer rest kept work at sound = record {
   least = sound.least;
   most = sound.most;
   bits = sound.bits;
@@ -179,7 +179,7 @@ module _ (plan : Plan) (service : ServiceId) (site : Sites) (calm network : Netw
   chosen_same old new same = record { told = λ wire home spoke chosen. inl (ap (λ (f : ℕ → Option WireId). f service.0) (sym same) ∙ chosen) }
 
   -- something else is kept for the peer
-  kept_heals : (messages : List Message) (kept now : Peering) (work : Work) → work.edge.peering peer.0 ≡ Some kept → IsStill plan service network me peer there kept now → TellsSoundly (changes (with_peering peer (Some now)) work).edge
+  kept_heals : (messages : List Message) (kept now : Peering) (work : Work) → work.edge.peering peer.0 ≡ Some kept → IsStill plan service network me peer there kept now → TellsSoundly (point_limit plan me.0) (changes (with_peering peer (Some now)) work).edge
       → IsHealing plan service site network me peer.0 messages work → IsHealing plan service site network me peer.0 messages (changes (with_peering peer (Some now)) work)
   kept_heals messages kept now work at still sound healing =
       let new : Work = changes (with_peering peer (Some now)) work in
@@ -202,7 +202,7 @@ module _ (plan : Plan) (service : ServiceId) (site : Sites) (calm network : Netw
         let is = heard_is peer (platform_of (ends_at plan peer.0 me.0).me) mildly.kept work mildly.at mildly.up goes in
         subst (IsHealing plan service site network me peer.0 messages) (sym is)
         (kept_heals messages mildly.kept (with_session (record mildly.kept.session { wait = 0 }) mildly.kept) work mildly.at (record { phase = refl; peers = refl; number = refl })
-        (subst (λ (w : Work). TellsSoundly w.edge) is (happens_sound taken_all peer (Heard (platform_of (ends_at plan peer.0 me.0).me)) work both.1.heals.stays.sound)) both.1.heals)
+        (subst (λ (w : Work). TellsSoundly (point_limit plan me.0) w.edge) is (happens_sound taken_all peer (Heard (platform_of (ends_at plan peer.0 me.0).me)) work both.1.heals.stays.sound)) both.1.heals)
       where
         same_bytes : (xs : List ℕ) → bytes_eq xs xs ≡ true
         same_bytes xs = search rules
@@ -215,10 +215,10 @@ module _ (plan : Plan) (service : ServiceId) (site : Sites) (calm network : Netw
     by false apart = event_heals plan service site network me peer checked types short ways (Heard (platform_of (ends_at plan peer.0 me.0).me)) messages work apart
         (happens_sound taken_all peer (Heard (platform_of (ends_at plan peer.0 me.0).me)) work both.1.heals.stays.sound) both.1.heals
 
-  hears_sound : (m : Message) (messages : List Message) (work : Work) → IsSaid (ends_at plan peer.0 me.0) m → Hearing (m ∷ messages) work → TellsSoundly (hears_one plan taken_all peer m work).edge
+  hears_sound : (m : Message) (messages : List Message) (work : Work) → IsSaid (ends_at plan peer.0 me.0) m → Hearing (m ∷ messages) work → TellsSoundly (point_limit plan me.0) (hears_one plan taken_all peer m work).edge
   hears_sound m messages work said hears = by (work.edge.peering peer.0) refl where
-    by : (near : Option Peering) → work.edge.peering peer.0 ≡ near → TellsSoundly (hears_one plan taken_all peer m work).edge
-    by None at = subst (λ (b : Bool). TellsSoundly (acts plan taken_all peer m b (happens_with_ends taken_all peer (Received m) work)).edge) (sym (ap was_up at)) (happens_sound taken_all peer (Received m) work hears.sound)
+    by : (near : Option Peering) → work.edge.peering peer.0 ≡ near → TellsSoundly (point_limit plan me.0) (hears_one plan taken_all peer m work).edge
+    by None at = subst (λ (b : Bool). TellsSoundly (point_limit plan me.0) (acts plan taken_all peer m b (happens_with_ends taken_all peer (Received m) work)).edge) (sym (ap was_up at)) (happens_sound taken_all peer (Received m) work hears.sound)
     by (Some kept) at = (one_heard plan me peer (ends_at plan peer.0 me.0) Hearing hearing m messages kept work at said hears).sound
 
   both_kept : KeptByMessages plan peer (ends_at plan peer.0 me.0) Both
@@ -239,7 +239,7 @@ module _ (plan : Plan) (service : ServiceId) (site : Sites) (calm network : Netw
   holds_heal messages rest work both behind = by (work.edge.peering peer.0) refl where
     by : (near : Option Peering) → work.edge.peering peer.0 ≡ near → IsHealing plan service site network me peer.0 messages (holds peer rest near work)
     by None at = both.1.heals
-    by (Some kept) at = kept_heals messages kept (record kept { held = rest }) work at (record { phase = refl; peers = refl; number = refl }) (held_sound peer rest kept work at both.0.sound) both.1.heals
+    by (Some kept) at = kept_heals messages kept (record kept { held = rest }) work at (record { phase = refl; peers = refl; number = refl }) (held_sound (point_limit plan me.0) peer rest kept work at both.0.sound) both.1.heals
 
   held_times : (n : ℕ) (kept : Peering) → (having_spoken_times n kept).held ≡ kept.held
   held_times zero kept = refl

@@ -17,7 +17,7 @@ use Rattle.flight_model.proofs.WorksLemmas.{change_spares, changed_edge, given_e
 use Rattle.flight_model.specs.Ends.{ends_at}
 use Rattle.flight_model.specs.Meeting.{Spares, said_to}
 use Rattle.flight_model.specs.Messages.{octets_of_all}
-use Rattle.flight_model.specs.Sound.{TellsSoundly}
+use Rattle.flight_model.specs.Sound.{TellsSoundly, point_limit}
 use Rattle.ldp_grammar.specs.Written.{written}
 use Rattle.ldp_grammar.specs.declared.message.Message.{Message}
 use Rattle.move_model.specs.Clearing.{IsMild}
@@ -37,7 +37,7 @@ use Rattle.std.proofs.lemmas.Bool.{eqb-true}
 -- what an edge at work is for such places, with what it has said more since a first moment
 pub record Speaks (plan : Plan) (service : ServiceId) (network : NetworkState) (me : EdgeId) (peer : ℕ) (base work : Work) : Type 0 where
   pub place : work.edge.me ≡ me
-  pub sound : TellsSoundly work.edge
+  pub sound : TellsSoundly (point_limit plan me.0) work.edge
   pub speaks : (place : ℕ) → are_joined_by plan service me.0 place ≡ true → stands network me.0 place ≡ true → SpeaksMildly plan service network me.0 peer place work
   pub apart : (place : ℕ) → are_joined_by plan service me.0 place ≡ true → stands network me.0 place ≡ false → work.edge.peering place ≡ None
   pub mesh : KeepsMesh plan service me.0 work.edge
@@ -81,7 +81,7 @@ module _ (plan : Plan) (service : ServiceId) (network : NetworkState) (me : Edge
   more_spared place base old new spares more = record { more = more.more; is = spares.said ∙ more.is; said = more.said }
 
   -- nothing is said
-  pub spared_speaks : (base old new : Work) → ((place : ℕ) → Spares place old new) → new.edge.me ≡ old.edge.me → TellsSoundly new.edge → KeepsMesh plan service me.0 new.edge
+  pub spared_speaks : (base old new : Work) → ((place : ℕ) → Spares place old new) → new.edge.me ≡ old.edge.me → TellsSoundly (point_limit plan me.0) new.edge → KeepsMesh plan service me.0 new.edge
       → Speaks plan service network me peer base old → Speaks plan service network me peer base new
   spared_speaks base old new spares same sound mesh speaks = record {
     place = same ∙ speaks.place;
@@ -93,7 +93,7 @@ module _ (plan : Plan) (service : ServiceId) (network : NetworkState) (me : Edge
   }
 
   -- the edge is changed, but not what is kept for neighbours
-  pub changed_speaks : (base : Work) (change : EdgeState → EdgeState) (work : Work) → (change work.edge).peering ≡ work.edge.peering → (change work.edge).me ≡ work.edge.me → TellsSoundly (change work.edge) → KeepsMesh plan service me.0 (change work.edge)
+  pub changed_speaks : (base : Work) (change : EdgeState → EdgeState) (work : Work) → (change work.edge).peering ≡ work.edge.peering → (change work.edge).me ≡ work.edge.me → TellsSoundly (point_limit plan me.0) (change work.edge) → KeepsMesh plan service me.0 (change work.edge)
       → Speaks plan service network me peer base work → Speaks plan service network me peer base (changes change work)
   changed_speaks base change work kept same sound mesh speaks =
       spared_speaks base work (changes change work) (λ place. change_spares place change work kept) (rw (changed_edge change work) same) (rw (changed_edge change work) sound) (rw (changed_edge change work) mesh) speaks

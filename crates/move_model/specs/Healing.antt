@@ -29,7 +29,7 @@ use Rattle.flight_model.specs.Facts.{flight}
 use Rattle.flight_model.specs.Meeting.{closes, said_to}
 use Rattle.flight_model.specs.Messages.{AreSaid, octets_of_all}
 use Rattle.flight_model.specs.Rules.{AllMessages}
-use Rattle.flight_model.specs.Sound.{TellsSoundly}
+use Rattle.flight_model.specs.Sound.{TellsSoundly, point_limit}
 use Rattle.address_model.specs.Points.{PointsToSite}
 use Rattle.address_model.specs.Sites.{Sites}
 use Rattle.move_model.specs.Clearing.{IsCleared, IsMild, IsMildWay, clears}
@@ -145,7 +145,7 @@ pub record SpeaksMildly (plan : Plan) (service : ServiceId) (network : NetworkSt
 
 pub record Stays (plan : Plan) (service : ServiceId) (network : NetworkState) (me : EdgeId) (peer : ℕ) (work : Work) : Type 0 where
   pub place : work.edge.me ≡ me
-  pub sound : TellsSoundly work.edge
+  pub sound : TellsSoundly (point_limit plan me.0) work.edge
   pub speaks : (place : ℕ) → are_joined_by plan service me.0 place ≡ true → stands network me.0 place ≡ true → SpeaksMildly plan service network me.0 peer place work
   -- where none stood, none stands
   pub apart : (place : ℕ) → are_joined_by plan service me.0 place ≡ true → stands network me.0 place ≡ false → work.edge.peering place ≡ None
