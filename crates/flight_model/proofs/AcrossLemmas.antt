@@ -1,15 +1,13 @@
 -- What a switching point tells on one side of a wire is what it holds on the other side.
-use Rattle.std.proofs.Common.{◌≡◌, ◌==◌, ◌&&◌, ◌||◌, ◌∙◌, ℕ, Bool, true, false, not, cond, nat_eq, is_some, List, Option, Some, None, refl, sym, ap, subst}
+use Rattle.std.proofs.Common.{◌≡◌, ◌&&◌, ◌∙◌, ℕ, Bool, true, false, cond, nat_eq, is_some, Option, Some, None, refl, sym, ap, subst}
 use Rattle.std.proofs.lemmas.Bool.{eqb-true}
-use Rattle.std.specs.List.{AllByRecursion}
 use Rattle.label_space.specs.Labels.{numbers_end}
 use Rattle.net_base.specs.declared.plan.Plan.{Plan}
 use Rattle.net_base.specs.declared.plan.places.EdgeId.{EdgeId}
 use Rattle.net_base.specs.declared.plan.places.WireId.{WireId}
 use Rattle.net_base.specs.declared.plan.wire_plan.WirePlan.{WirePlan}
-use Rattle.net_base.specs.declared.trace.event.Event.{Event}
 use Rattle.net_base.specs.plan.Accepted.{IsChecked, IsWireOf}
-use Rattle.net_base.specs.plan.Paths.{edge_address, expected, joins, mate, mate_on, offer_of}
+use Rattle.net_base.specs.plan.Paths.{edge_address, joins, mate_on, offer_of}
 use Rattle.net_base.specs.plan.Places.{wire_row}
 use Rattle.net_base.proofs.PathLemmas.{joins_turned, mate_back, mate_joined, place_of}
 use Rattle.ldp_grammar.specs.declared.message.Message.{Message}
@@ -17,22 +15,21 @@ use Rattle.ldp_grammar.specs.declared.message.Message.TheVariants.{LabelMapping}
 use Rattle.pw_tlvs.specs.declared.pw_status.PwStatus.{PwStatus}
 use Rattle.pw_signalling.specs.declared.binding.Binding.{Binding}
 use Rattle.pw_signalling.specs.declared.told.Told.{Told}
-use Rattle.pw_signalling.specs.End.{EndState, LocalPart, Idle, Advertised}
-use Rattle.pw_stitch.specs.Change.{is_same_but_status, without_status}
+use Rattle.pw_signalling.specs.End.{EndState, Idle, Advertised}
+use Rattle.pw_stitch.specs.Change.{without_status}
 use Rattle.pw_stitch.specs.Passing.{own_point, passed_status, past_point, stated_or_clear, wanted}
 use Rattle.pw_stitch.proofs.ChangeLemmas.{same_without_status}
 use Rattle.edge_model.specs.Across.{held_beyond, held_from, held_of, mate_of}
 use Rattle.edge_model.specs.Content.{told_with}
 use Rattle.edge_model.specs.declared.end_place.EndPlace.{EndPlace}
-use Rattle.edge_model.specs.EndPlaces.{end_named, end_places, is_named, is_terminal}
+use Rattle.edge_model.specs.EndPlaces.{end_places, is_named, is_terminal}
 use Rattle.edge_model.specs.Mend.{is_up_with, passed_from, passed_wish, stands, terminal_wish, wish, wish_by, wish_of}
 use Rattle.edge_model.specs.Role.{own_status, status_to_tell}
 use Rattle.edge_model.specs.State.{EdgeState, end_at}
 use Rattle.edge_model.proofs.MendedLemmas.{is_mended, is_told}
-use Rattle.network_model.specs.State.{NetworkState}
 use Rattle.network_model.proofs.GoalLemmas.{mate_inside}
-use Rattle.flight_model.specs.Across.{IsTaken, PassesOn, RunsTakeMappings, RunsTellAcross, TakesAll, TellsAcross}
-use Rattle.flight_model.specs.Laws.{IsRun, TellsContents, network_after}
+use Rattle.flight_model.specs.Across.{IsTaken, PassesOn, RunsTakeMappings, RunsTellAcross, TellsAcross}
+use Rattle.flight_model.specs.Laws.{TellsContents, network_after}
 use Rattle.flight_model.specs.Rules.{FarTells, NearTells, TellsExpected, TellsPlan}
 use Rattle.flight_model.proofs.AcceptLemmas.{takes_told, wanted_tells}
 use Rattle.flight_model.proofs.MendedRunLemmas.{IsMendedAt, run_mended_at}
@@ -40,7 +37,7 @@ use Rattle.flight_model.proofs.MentionLemmas.{all_kept}
 use Rattle.flight_model.proofs.PlaceLemmas.{IsEndOf, NamedEnd, end_of, find_holds, named_is}
 use Rattle.flight_model.proofs.PlanLemmas.{row_holds}
 use Rattle.flight_model.proofs.RuledRunLemmas.{run_ruled, runs_keep_told_rule}
-use Rattle.flight_model.proofs.ToldLemmas.{TellsAt, TellsOwn}
+use Rattle.flight_model.proofs.ToldLemmas.{TellsOwn}
 
 some_same : {A : Type 0} (x y : A) → Some x ≡ Some y → x ≡ y
 some_same x y e = cc

@@ -117,7 +117,7 @@ module _ (plan : Plan) (peer : EdgeId) (checked : IsChecked plan) (far : EdgeSta
         (λ id2 ms is. bound_hears_unknown plan work.edge.me peer id id2 fec label status points work.edge far ms messages (mapping_unknown plan peer id fec label status points work.edge checked none)
         (unknown_released plan peer fec label work.edge checked none) is) leaves
     by_place (Some place) named = subst (λ (b : Bool). LeavesBound plan work.edge.me peer.0 far out messages (cond b (changes (with_end_changed (bound (binding_in fec label status points)) (Some place)) work)
-          (releases_label taken_all peer fec (Some label) (changes (with_end_changed (unbound None) (Some place)) work))))
+        (releases_label taken_all peer fec (Some label) (changes (with_end_changed (unbound None) (Some place)) work))))
         (sym (takes_told plan work.edge.me peer fec place (told_with fec status points) checked tells named))
         (heard_leaves plan work.edge.me peer far out (LabelMapping id fec label status points) messages (with_end_changed (bound (binding_in fec label status points)) (Some place)) work (λ pw_id own. refl)
         (changed_peering (bound (binding_in fec label status points)) (Some place) work.edge) (mapping_known plan peer id fec label status points place work.edge checked named) leaves)

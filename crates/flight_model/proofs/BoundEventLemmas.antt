@@ -340,13 +340,16 @@ module _ (plan : Plan) (from to : EdgeId) (count : ℕ) (network : NetworkState)
   unfolding later pipe
   hears_all = (
     (hears_begin plan from to (drop count pipe) network kept ordered apart at pair, λ place here. held_now ((network.edges to.0).peering place)),
-    ((
-      hears_begin plan from to (drop count pipe) network kept ordered apart at pair,
-      λ place away. elim (cases_Bool (nat_eq place from.0)) [
-        | inl same ↦ rw same (subst (λ (k : ℕ). LeavesBound plan to k (later.edges k) (flight later to.0 k) pair.answers (begin_at network to)) (sym (eqb-true place from.0 same)) (moved_leaves from.0 pair.answers peer_leaves))
-        | inr gone ↦ rw gone (moved_leaves place (start.answers place) (begins_bound plan network to place bounds start away))
-      ],
-    ), planned),
+    (
+      (
+        hears_begin plan from to (drop count pipe) network kept ordered apart at pair,
+        λ place away. elim (cases_Bool (nat_eq place from.0)) [
+          | inl same ↦ rw same (subst (λ (k : ℕ). LeavesBound plan to k (later.edges k) (flight later to.0 k) pair.answers (begin_at network to)) (sym (eqb-true place from.0 same)) (moved_leaves from.0 pair.answers peer_leaves))
+          | inr gone ↦ rw gone (moved_leaves place (start.answers place) (begins_bound plan network to place bounds start away))
+        ],
+      ),
+      planned,
+    ),
   )
 
   heard : HasHeard from (ends_at plan from.0 to.0) (HearsAll plan later to from off checked types (λ place. held network to.0 place) start.answers) (later.pipes from.0 to.0) (hears_few plan taken_all from (suc (length octets)) octets (begin_at network to))

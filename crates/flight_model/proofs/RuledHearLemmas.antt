@@ -190,7 +190,7 @@ module _ (plan : Plan) (checked : IsChecked plan) (types : HasTypes plan) (other
       (subst (λ (w : WireId). MayName (others peer.0) w.0 me.0 label) (far.wire_is ∙ sym near.wire_is) may) in
       subst (λ (o : Option EndPlace). At (maps_to plan taken_all peer fec (binding_in fec label status points) o work)) (sym (fec_end plan work.edge me peer fec tells.row.pw_id near.place works.edge.place tells.named near.named))
       (subst (λ (b : Bool). At (cond b (changes (with_end_changed (bound binding) (Some near.place)) work)
-        (releases_label taken_all peer fec (Some label) (changes (with_end_changed (unbound None) (Some near.place)) work)))) (sym taken)
+      (releases_label taken_all peer fec (Some label) (changes (with_end_changed (unbound None) (Some near.place)) work)))) (sym taken)
       (changes_keep plan others me.0 first held (with_end_changed (bound binding) (Some near.place)) work
       (end_changes near.place (bound binding (end_at work.edge near.place)) work (λ l owned. owned)
       (remote_tells plan me.0 near.place.wire.0 near.place.peer.0 (end_at work.edge near.place) (Some binding)

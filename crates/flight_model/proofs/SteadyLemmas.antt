@@ -7,9 +7,7 @@ use Rattle.std.proofs.lemmas.Bool.Decides.{nat_tests}
 use Rattle.label_space.specs.Labels.{numbers_end}
 use Rattle.net_base.specs.declared.plan.Plan.{Plan}
 use Rattle.net_base.specs.declared.plan.edge_plan.EdgePlan.{EdgePlan}
-use Rattle.net_base.specs.declared.plan.offer.Offer.{Offer}
 use Rattle.net_base.specs.declared.plan.places.EdgeId.{EdgeId}
-use Rattle.net_base.specs.declared.plan.wire_plan.WirePlan.{WirePlan}
 use Rattle.net_base.specs.declared.trace.down.Down.{Down}
 use Rattle.net_values.specs.declared.mac.Mac.{Mac}
 use Rattle.net_base.specs.plan.Accepted.{IsChecked, IsOffer, IsWireOf}
@@ -36,7 +34,7 @@ use Rattle.edge_model.specs.Content.{content_of, mac_withdrawal, mapping, status
 use Rattle.edge_model.specs.declared.effect.Effect.{Effect}
 use Rattle.edge_model.specs.declared.effect.Effect.TheVariants.{Wire}
 use Rattle.edge_model.specs.declared.end_place.EndPlace.{EndPlace}
-use Rattle.edge_model.specs.Mend.{advertising, is_up_with, passed_from, passed_wish, stands, status_held, status_offered, telling_status, tells_new_status, tells_status, terminal_wish, wish, wish_by, wish_of, withdrawing, withdraws}
+use Rattle.edge_model.specs.Mend.{advertising, is_up_with, passed_from, passed_wish, status_held, status_offered, telling_status, tells_new_status, tells_status, terminal_wish, wish, wish_by, wish_of, withdrawing, withdraws}
 use Rattle.edge_model.specs.Role.{role_at, status_to_tell}
 use Rattle.edge_model.specs.Session.{says}
 use Rattle.edge_model.specs.State.{EdgeState, end_at, with_end, with_next_label, with_told_down}

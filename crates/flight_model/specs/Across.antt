@@ -1,5 +1,5 @@
 -- What a switching point tells on one side of a wire is what it holds on the other side, and it takes whatever comes to it.
-use Rattle.std.specs.Prelude.{◌≡◌, nat_eq, ℕ, true, false, List, Option, Some, None, option_and_then}
+use Rattle.std.specs.Prelude.{◌≡◌, nat_eq, ℕ, true, false, List, Some, option_and_then}
 use Rattle.label_space.specs.Labels.{numbers_end}
 use Rattle.net_base.specs.declared.plan.Plan.{Plan}
 use Rattle.net_base.specs.declared.plan.places.EdgeId.{EdgeId}
