@@ -1,5 +1,5 @@
 -- What a switching point tells on one side of a wire is what it holds on the other side.
-use Rattle.std.proofs.Common.{◌≡◌, ◌&&◌, ◌∙◌, ℕ, Bool, true, false, cond, nat_eq, is_some, Option, Some, None, refl, sym, ap, subst}
+use Rattle.std.proofs.Common.{◌≡◌, ◌&&◌, ◌∙◌, ℕ, Bool, true, false, cond, nat_eq, is_some, List, Option, Some, None, refl, sym, ap, subst}
 use Rattle.std.proofs.lemmas.Bool.{eqb-true}
 use Rattle.label_space.specs.Labels.{numbers_end}
 use Rattle.net_base.specs.declared.plan.Plan.{Plan}
@@ -7,7 +7,7 @@ use Rattle.net_base.specs.declared.plan.places.EdgeId.{EdgeId}
 use Rattle.net_base.specs.declared.plan.places.WireId.{WireId}
 use Rattle.net_base.specs.declared.plan.wire_plan.WirePlan.{WirePlan}
 use Rattle.net_base.specs.plan.Accepted.{IsChecked, IsWireOf}
-use Rattle.net_base.specs.plan.Paths.{edge_address, joins, mate_on, offer_of}
+use Rattle.net_base.specs.plan.Paths.{edge_address, has_repeat, joins, mate_on, offer_of}
 use Rattle.net_base.specs.plan.Places.{wire_row}
 use Rattle.net_base.proofs.PathLemmas.{joins_turned, mate_back, mate_joined, place_of}
 use Rattle.ldp_grammar.specs.declared.message.Message.{Message}
@@ -39,13 +39,13 @@ use Rattle.flight_model.proofs.PlanLemmas.{row_holds}
 use Rattle.flight_model.proofs.RuledRunLemmas.{run_ruled, runs_keep_told_rule}
 use Rattle.flight_model.proofs.ToldLemmas.{TellsOwn}
 
-some_same : {A : Type 0} (x y : A) → Some x ≡ Some y → x ≡ y
+pub some_same : {A : Type 0} (x y : A) → Some x ≡ Some y → x ≡ y
 some_same x y e = cc
 
-none_some : {A : Type 0} {P : Type 0} (x : A) → None ≡ Some x → P
+pub none_some : {A : Type 0} {P : Type 0} (x : A) → None ≡ Some x → P
 none_some x e = absurd (cc)
 
-clash : {P : Type 0} → false ≡ true → P
+pub clash : {P : Type 0} → false ≡ true → P
 clash e = absurd (cc)
 
 -- ---- two contents
@@ -62,6 +62,13 @@ same_status (Some last) None alike now = clash (sym alike)
 same_status (Some last) (Some status) alike now = ap (λ (n : ℕ). Some (record { 0 = n })) (eqb-true last.0 status.0 (now last refl))
 
 -- ---- one switching point
+
+-- from the other side, the neighbour is the one from which it has what it passes on
+pub other_side : (path : List EdgeId) (me from to : EdgeId) → has_repeat path ≡ false → mate_on path me.0 from.0 ≡ Some to → mate_on path me.0 to.0 ≡ Some from
+other_side path me from to once mated = placed_at (mate_on path me.0 to.0) (mate_back path me.0 from.0 to once mated) where
+  placed_at : (o : Option EdgeId) → place_of o ≡ Some from.0 → o ≡ Some from
+  placed_at None e = none_some from.0 e
+  placed_at (Some other) e = ap (λ (n : ℕ). Some (record { 0 = n })) (some_same other.0 from.0 e)
 
 module _ (plan : Plan) (checked : IsChecked plan) (me from to : EdgeId) (wire : WireId) (row : WirePlan) (is : wire_row plan wire ≡ Some row) (mated : mate_on row.path me.0 from.0 ≡ Some to) (edge : EdgeState) (mended : IsMendedAt plan me.0 edge) (tells : TellsOwn plan me.0 edge) where
   once : IsWireOf plan row
@@ -82,12 +89,8 @@ module _ (plan : Plan) (checked : IsChecked plan) (me from to : EdgeId) (wire : 
   switching : near.place.terminal ≡ false
   switching = end_is.terminal ∙ (ap (λ (r : WirePlan). is_terminal r me) end_row ∙ mate_inside row.path me from to once.once mated)
 
-  -- from the other side, the neighbour is the one from which it has what it passes on
   back : mate_on row.path me.0 to.0 ≡ Some from
-  back = placed_at (mate_on row.path me.0 to.0) (mate_back row.path me.0 from.0 to once.once mated) where
-    placed_at : (o : Option EdgeId) → place_of o ≡ Some from.0 → o ≡ Some from
-    placed_at None e = none_some from.0 e
-    placed_at (Some other) e = ap (λ (n : ℕ). Some (record { 0 = n })) (some_same other.0 from.0 e)
+  back = other_side row.path me from to once.once mated
 
   place_row : wire_row plan near.place.wire ≡ Some row
   place_row = ap (wire_row plan) near.wire_is ∙ is

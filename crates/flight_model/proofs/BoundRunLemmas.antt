@@ -124,7 +124,7 @@ any_wire plan service a b (row ∷ rows) all some = elim (cases_Bool (is_wire_of
   | inr later ↦ any_wire plan service a b rows (All-tail (IsWireOf plan) row rows all) (rw later at some)
 ]
 
-settled : (plan : Plan) (network : NetworkState) (service : ServiceId) (a b : ℕ) → IsChecked plan → is_quiet plan network service ≡ true → are_joined_by plan service a b ≡ true → is_settled network a b ≡ true
+pub settled : (plan : Plan) (network : NetworkState) (service : ServiceId) (a b : ℕ) → IsChecked plan → is_quiet plan network service ≡ true → are_joined_by plan service a b ≡ true → is_settled network a b ≡ true
 settled plan network service a b checked quiet joined =
     let inside = any_wire plan service a b plan.wires checked.wires joined in
     joined_settled (are_joined_by plan service a b) joined
@@ -179,7 +179,7 @@ agreed plan network a b quiet now wire row is joined =
 
 -- ---- between two ends that do not stand
 
-gone_up : (near : Option Peering) → is_there near ≡ false → is_up_with near ≡ false
+pub gone_up : (near : Option Peering) → is_there near ≡ false → is_up_with near ≡ false
 gone_up None gone = refl
 gone_up (Some kept) gone = clash (sym gone)
 
