@@ -58,6 +58,7 @@ pub mod SoundLemmas
 pub mod SpokenLemmas
 pub mod StableLemmas
 pub mod SteadyLemmas
+mod StitchExamples
 pub mod TalkLemmas
 pub mod TellLemmas
 pub mod ToldLemmas
