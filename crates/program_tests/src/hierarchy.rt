@@ -122,16 +122,6 @@ priority = 20
 path = [\"y\", \"d\"]
 ";
 
-// A spoke with a switching point.
-const LONG_SPOKE: &str = "
-[[wire]]
-name = \"xbc\"
-service = \"s\"
-class = \"spoke\"
-pw_id = 205
-path = [\"x\", \"b\", \"c\"]
-";
-
 // Every wire is set up.
 const SET_UP: &str =
     "\"connect a b\", \"connect a c\", \"connect a d\", \"connect a x\", \"connect b c\", \"connect b d\", \"connect c d\", \"connect c y\", \"settle 1000\"";
@@ -236,21 +226,10 @@ static FOUND: Case = Case {
     ..FLOODS_TWICE
 };
 
-// A path of three edges.
-static SWITCHED: Case = Case {
-    back: "",
-    more: LONG_SPOKE,
-    status: 5,
-    taken: Taken::Whole(""),
-    told: "vplsnet: not built",
-    ..FLOODS
-};
-
 #[test]
 fn floods_and_moves_over_a_hierarchy(rt: HostRuntime) {
     let alloc = rt.alloc();
     all_play(&rt, alloc, FLOODED.as_slice());
     plays(&rt, alloc, &MOVED);
     plays(&rt, alloc, &FOUND);
-    plays(&rt, alloc, &SWITCHED);
 }

@@ -29,3 +29,5 @@ mod sessions;
 mod shelf;
 #[cfg(test)]
 mod sink;
+#[cfg(test)]
+mod switching_points;

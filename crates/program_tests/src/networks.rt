@@ -3,6 +3,7 @@
 mod hierarchy;
 mod largest;
 mod limit;
+mod paths;
 mod plans;
 mod pseudowires;
 mod services;

@@ -40,6 +40,35 @@ wire = [{ name = "w0", service = "s", class = "mesh", path = ["e0", "e1"], pw_id
 "#,
 ];
 
+/// Two core edges, two spoke edges and three switching points. The mesh wire between the core edges and the spokes to each of them pass
+/// all three switching points, each in an order of its own.
+pub const CHAINS: [&str; 1] = [
+    r#"
+version = 1
+edge = [
+  { name = "e0", address = "10.0.0.1" },
+  { name = "e1", address = "10.0.0.2" },
+  { name = "e2", address = "10.0.0.3" },
+  { name = "e3", address = "10.0.0.4" },
+  { name = "e4", address = "10.0.0.5" },
+  { name = "e5", address = "10.0.0.6" },
+  { name = "e6", address = "10.0.0.7" },
+]
+service = [{ name = "s" }]
+circuit = [
+  { name = "c0", edge = "e0", service = "s" },
+  { name = "c1", edge = "e1", service = "s" },
+  { name = "c2", edge = "e2", service = "s" },
+  { name = "c3", edge = "e3", service = "s" },
+]
+wire = [
+  { name = "w0", service = "s", class = "mesh", path = ["e0", "e6", "e4", "e5", "e1"], pw_id = 100 },
+  { name = "w1", service = "s", class = "spoke", path = ["e2", "e4", "e5", "e6", "e0"], pw_id = 201 },
+  { name = "w2", service = "s", class = "spoke", path = ["e3", "e5", "e4", "e6", "e1"], pw_id = 202 },
+]
+"#,
+];
+
 // Six edges with a circuit each.
 const SITES: &str = r#"
 version = 1

@@ -50,7 +50,7 @@ pub enum Step {
     /// So many packets are under way; so many ticks have passed at an edge.
     UnderWay(u32),
     Passed(u16, u64),
-    /// After how many segments a frame left at each of the first six circuits, a digit a time, each behind a stroke.
+    /// After how many segments a frame left at each of the first six circuits, a hexadecimal digit a time, each behind a stroke.
     Left(u64, &'static str),
 }
 

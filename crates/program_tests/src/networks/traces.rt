@@ -55,13 +55,16 @@ pub fn is_idle(trace: &Trace) -> bool {
     matches!(trace.get(trace.len().saturating_sub(1)), Some(Entry::Idle))
 }
 
-// A digit for a number of segments; more than three are a question.
+// A hexadecimal digit for a number of segments that a test awaits; any other one is a question.
 fn digit_of(hops: u64) -> char {
     match hops {
         0 => '0',
         1 => '1',
         2 => '2',
         3 => '3',
+        4 => '4',
+        8 => '8',
+        12 => 'c',
         _ => '?',
     }
 }
@@ -83,7 +86,7 @@ fn push_hops(rt: &impl Abort, text: &mut String, trace: &Trace, frame: u64, at: 
     }
 }
 
-/// After how many segments a frame left at each of the first six circuits, one digit a time, each behind a stroke.
+/// After how many segments a frame left at each of the first six circuits, one hexadecimal digit a time, each behind a stroke.
 pub fn hops_of(rt: &impl Abort, alloc: Global, trace: &Trace, frame: u64) -> String {
     let mut text = String::new(alloc);
     for circuit in 0..6 {
