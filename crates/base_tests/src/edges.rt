@@ -10,4 +10,5 @@ mod pseudowires;
 mod sessions;
 mod side;
 mod steps;
+mod switching_faults;
 mod withdraws;

@@ -25,6 +25,18 @@ circuit = [{ name = "ca", edge = "a", service = "s" }, { name = "cb", edge = "b"
 wire = [{ name = "w", service = "s", class = "mesh", path = ["a", "b"], pw_id = 100 }]
 "#;
 
+/// Three edges, and a wire from the first to the last of them, of which the second is a switching point.
+pub const PATH: &str = r#"
+version = 1
+edge = [
+  { name = "a", address = "10.0.0.1" },
+  { name = "b", address = "10.0.0.2" },
+  { name = "c", address = "10.0.0.3" },
+]
+service = [{ name = "s" }]
+wire = [{ name = "w", service = "s", class = "mesh", path = ["a", "b", "c"], pw_id = 100 }]
+"#;
+
 /// Three core edges in full mesh, and a spoke edge that hangs on the first of them: there, wires 0 and 1 are the mesh wires to B
 /// and C, and wire 3 is the spoke from X.
 pub const HIERARCHY: &str = r#"
