@@ -1,0 +1,68 @@
+"""How a tool is called and ends: its words, its one line on standard error, its status."""
+
+import argparse
+import os
+import pathlib
+import shutil
+import sys
+
+
+class Fault(Exception):
+    """What a caller is told in one line. The tool then ends with status 1."""
+
+
+def words_of(about, *words):
+    """Reads the words of a call. `about` is the tool's own docstring; each word is a pair of names and what argparse is told
+    of it."""
+    parser = argparse.ArgumentParser(
+        description=about.strip(), epilog="This tool is no part of what is proved.", formatter_class=argparse.RawDescriptionHelpFormatter
+    )
+    for names, more in words:
+        parser.add_argument(*names, **more)
+    return parser.parse_args()
+
+
+def name():
+    """The name of the tool that runs."""
+    return pathlib.Path(sys.argv[0]).name
+
+
+def say(text):
+    """Tells a line on standard error."""
+    print(f"{name()}: {text}", file=sys.stderr)
+
+
+def end(work):
+    """Does the work of a tool and ends with the status that it answers; a fault, a file that cannot be read or written, an
+    interrupt and a closed pipe end it without a traceback."""
+    try:
+        status = work()
+        sys.stdout.flush()
+    except Fault as fault:
+        say(fault)
+        status = 1
+    except BrokenPipeError:
+        os.dup2(os.open(os.devnull, os.O_WRONLY), sys.stdout.fileno())
+        status = 1
+    except OSError as fault:
+        say(f"{fault.filename or 'a file'}: {fault.strerror or fault}")
+        status = 1
+    except KeyboardInterrupt:
+        status = 130
+    sys.exit(status)
+
+
+def text_of(path):
+    """The text of a file, which has to be UTF-8."""
+    try:
+        return pathlib.Path(path).read_text(encoding="utf-8")
+    except UnicodeDecodeError as fault:
+        raise Fault(f"{path} is no UTF-8, at octet {fault.start}") from None
+
+
+def external(program, package):
+    """The path of an external program; where it is missing, the fault names its Debian package."""
+    found = shutil.which(program)
+    if found is None:
+        raise Fault(f"the program {program} is missing (Debian has it in the package {package})")
+    return found

@@ -1,0 +1,157 @@
+"""The network as a report tells it: sessions, octets on their way, wires, circuits and packets, from event to event."""
+
+from collections import deque
+
+UP = "up"
+NEVER = "NonExistent"
+
+
+class Pipe:
+    """What was put from one edge to another and is on its way or held in part there: the lengths of its PDUs, and how many
+    octets of the first one were delivered."""
+
+    def __init__(self):
+        self.pdus, self.heard = deque(), 0
+
+    def deliver(self, count):
+        """Takes octets from the front, as many as there are at most."""
+        self.heard += count
+        while self.pdus and self.heard >= self.pdus[0]:
+            self.heard -= self.pdus.popleft()
+        if not self.pdus:
+            self.heard = 0
+
+    def octets(self):
+        """How many octets are on their way."""
+        return sum(self.pdus) - self.heard
+
+    def is_drained(self):
+        """Whether nothing is on its way, and no part of a PDU is held."""
+        return not self.pdus
+
+
+class Network:
+    """The state that the events and entries of a report come to."""
+
+    def __init__(self, plan):
+        self.plan = plan
+        self.stands = set()
+        self.pipes = {way: Pipe() for a, b in plan.pairs() for way in ((a, b), (b, a))}
+        self.sessions = {way: NEVER for way in self.pipes}
+        self.ends = {(edge, wire.name): "NoLocal" for wire in plan.wires.values() for edge in wire.ends()}
+        self.on = {circuit: True for circuit in plan.circuits}
+        self.packets = {}
+        self.calm = {}
+
+    def begin(self, event):
+        """What an event does by itself, before its entries."""
+        if event.is_idle():
+            return
+        self.calm.clear()
+        kind, words = event.kind, event.words
+        if kind == "connect":
+            for way in (words, words[::-1]):
+                self.stands.add(way)
+                self.pipes[way] = Pipe()
+        elif kind == "deliver":
+            self.pipes[words[:2]].deliver(words[2])
+        elif kind == "restart":
+            self.restart(words[0])
+        elif kind in ("arrive", "drop"):
+            self.packets.pop(words[0], None)
+        elif kind == "circuit":
+            self.on[words[0]] = words[1] == "on"
+
+    def restart(self, edge):
+        """An edge forgets its sessions and the ends of its wires, and tells nothing."""
+        for way in self.sessions:
+            if way[0] == edge:
+                self.close(way)
+                self.sessions[way] = NEVER
+        for end in self.ends:
+            if end[0] == edge:
+                self.ends[end] = "NoLocal"
+
+    def close(self, way):
+        """An edge's end of a connection is lost, and what is on its way to it."""
+        self.stands.discard(way)
+        self.pipes[way[::-1]] = Pipe()
+
+    def take(self, entry):
+        """What an entry tells."""
+        kind, words = entry.kind, entry.words
+        if kind == "said" and words[1::-1] in self.stands:
+            self.pipes[words[:2]].pdus.append(len(words[2]) // 2)
+        elif kind == "session":
+            self.sessions[words[:2]] = words[2]
+            if words[2].startswith("Ended:"):
+                self.close(words[:2])
+        elif kind == "wire":
+            self.ends[words[:2]] = words[2]
+        elif kind == "sent":
+            self.packets[words[0]] = words[1:6]
+        elif kind == "copied" and words[1] in self.packets:
+            self.packets[words[0]] = self.packets[words[1]]
+        if kind in ("said", "session", "wire"):
+            self.calm.clear()
+
+    def do(self, event):
+        """A whole event."""
+        self.begin(event)
+        for entry in event.entries:
+            self.take(entry)
+
+    def carries(self, wire):
+        """Whether a wire is up at both terminal edges."""
+        return all(self.ends[edge, wire.name] == UP for edge in wire.ends())
+
+    def is_up(self, a, b):
+        """Whether the sessions of two edges are up at both ends."""
+        return self.sessions[a, b] == self.sessions[b, a] == "Operational"
+
+    def is_settled(self, a, b):
+        """Whether neither end of a connection stands, or both and nothing is on its way or held between them."""
+        ways = ((a, b), (b, a))
+        standing = sum(way in self.stands for way in ways)
+        return standing == 0 or standing == 2 and all(self.pipes[way].is_drained() for way in ways)
+
+    def is_calm(self, service):
+        """Whether a service is calm: nothing of LDP is on its way between its edges, each two core edges have a mesh wire that
+        carries frames, and each spoke edge exactly one spoke that does."""
+        if service not in self.calm:
+            self.calm[service] = self.looks_calm(service)
+        return self.calm[service]
+
+    def looks_calm(self, service):
+        """The same, looked at anew."""
+        carrying = [wire for wire in self.plan.wires_of(service) if self.carries(wire)]
+        meshed = {frozenset(wire.ends()) for wire in carrying if wire.kind == "mesh"}
+        spokes = [wire.path[0] for wire in carrying if wire.kind == "spoke"]
+        cores = self.plan.core_edges(service)
+        return (
+            all(self.is_settled(a, b) for a, b in self.plan.pairs(service))
+            and all(frozenset((a, b)) in meshed for a in cores for b in cores if a != b)
+            and all(spokes.count(edge) == 1 for edge in self.plan.spoke_edges(service))
+        )
+
+    def joined(self, service):
+        """The pairs of edges of a service between which a flooded frame finds its way by wires that carry frames: no mesh wire
+        follows on another one. Each pair is a set of two edges."""
+        ways = {}
+        for wire in self.plan.wires_of(service):
+            if self.carries(wire):
+                for edge, far in (wire.ends(), wire.ends()[::-1]):
+                    ways.setdefault(edge, []).append((far, wire.kind == "mesh"))
+        return {frozenset((start, edge)) for start in ways for edge in reached(ways, start) if edge != start}
+
+
+def reached(ways, start):
+    """The edges that a frame reaches from one."""
+    found, open_ends = {(start, False)}, [(start, False)]
+    while open_ends:
+        edge, by_mesh = open_ends.pop()
+        for far, is_mesh in ways.get(edge, ()):
+            if not (by_mesh and is_mesh) and (far, is_mesh) not in found:
+                found.add((far, is_mesh))
+                open_ends.append((far, is_mesh))
+    return {edge for edge, _ in found}

@@ -1,0 +1,97 @@
+"""A scenario as the program accepts it: edges, services, circuits, wires and events."""
+
+import tomllib
+from typing import NamedTuple
+
+from .command import Fault, text_of
+from .keys import OFFER, TABLES
+
+
+class Wire(NamedTuple):
+    """A pseudowire: its path from the first to the last edge, and what each of the two terminal edges offers, by key."""
+
+    name: str
+    service: str
+    kind: str  # mesh or spoke
+    path: tuple
+    pw_id: int
+    priority: int
+    near: dict
+    far: dict
+
+    def ends(self):
+        """Its two terminal edges."""
+        return self.path[0], self.path[-1]
+
+    def offer(self, edge):
+        """What a terminal edge offers."""
+        return self.near if edge == self.path[0] else self.far
+
+    def segments(self):
+        """The pairs of neighbours on its path."""
+        return list(zip(self.path, self.path[1:]))
+
+
+class Plan:
+    """The rows of a scenario by their names, in its order."""
+
+    def __init__(self, rows):
+        self.edges, self.services, self.circuits = (
+            {row["name"]: filled(table, row) for row in rows.get(table, [])} for table in ("edge", "service", "circuit")
+        )
+        self.wires = {row["name"]: self.wire_of(row) for row in rows.get("wire", [])}
+        self.events = rows.get("events", [])
+
+    def wire_of(self, row):
+        """A wire of its row: an MTU that is not told is 0, and an absent one the service's."""
+        keys = filled("wire", row)
+        near = {key.name: keys[key.name] for key in OFFER}
+        if near["mtu"] is None:
+            near["mtu"] = self.services[keys["service"]]["mtu"]
+        far = {name: value if keys[f"far_{name}"] is None else keys[f"far_{name}"] for name, value in near.items()}
+        path, number = tuple(keys["path"]), keys["pw_id"]
+        return Wire(keys["name"], keys["service"], keys["class"], path, number, keys["priority"], near, far)
+
+    def wires_of(self, service):
+        """The wires of a service."""
+        return [wire for wire in self.wires.values() if wire.service == service]
+
+    def circuits_of(self, service):
+        """The names of the circuits of a service."""
+        return [name for name, row in self.circuits.items() if row["service"] == service]
+
+    def spoke_edges(self, service):
+        """The edges at which spokes of a service start."""
+        return {wire.path[0] for wire in self.wires_of(service) if wire.kind == "spoke"}
+
+    def core_edges(self, service):
+        """The edges that have a circuit or a wire's end of a service, and start no spoke of it."""
+        ends = {edge for wire in self.wires_of(service) for edge in wire.ends()}
+        sites = {row["edge"] for row in self.circuits.values() if row["service"] == service}
+        return [edge for edge in self.edges if edge in (ends | sites) - self.spoke_edges(service)]
+
+    def pairs(self, service=None):
+        """The pairs of edges that a segment of a wire joins, of one service or of all, each once, in the plan's order."""
+        found = {}
+        for wire in self.wires.values():
+            for a, b in wire.segments() if service in (None, wire.service) else ():
+                found[tuple(sorted((a, b), key=list(self.edges).index))] = None
+        return list(found)
+
+
+def filled(table, row):
+    """A row with its defaults."""
+    return {key.name: row.get(key.name, key.default) for key in TABLES[table]}
+
+
+def read_plan(path):
+    """The plan of a scenario's file. What the program would refuse is not told apart here: `check-scenario` does that."""
+    try:
+        plan = Plan(tomllib.loads(text_of(path)))
+        known = set(plan.edges)
+        whole = all(row["edge"] in known and row["service"] in plan.services for row in plan.circuits.values())
+        if not whole or not all(len(wire.path) > 1 and known.issuperset(wire.path) for wire in plan.wires.values()):
+            raise ValueError("a row names what is not there")
+        return plan
+    except (tomllib.TOMLDecodeError, KeyError, TypeError, ValueError, AttributeError) as fault:
+        raise Fault(f"{path} is no scenario that the program accepts ({fault}); tools/check-scenario {path} says more") from None

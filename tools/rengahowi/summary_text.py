@@ -1,0 +1,135 @@
+"""A summary as text. Long lists are cut; JSON has all of them."""
+
+MOST = 25
+
+
+def text_of(summary):
+    """The whole text."""
+    parts = [
+        [f"{summary['events']} events; {summary['ending']}"],
+        sessions(summary["sessions"]),
+        wires(summary["wires"]),
+        *(service(row) for row in summary["services"]),
+        frames(summary["frames"]),
+        drops(summary["drops"]),
+        under_way(summary["under_way"]),
+    ]
+    return "\n\n".join("\n".join(part) for part in parts if part) + "\n"
+
+
+def cut(lines):
+    """The first lines of a list, and how many more there are."""
+    lines = list(lines)
+    return lines[:MOST] + ([f"  .. and {len(lines) - MOST} more (--json has all)"] if len(lines) > MOST else [])
+
+
+def sessions(rows):
+    """How many sessions are up, and each that is not."""
+    if not rows:
+        return []
+    down = [row for row in rows if row["states"] != ["Operational"] * 2]
+    lines = []
+    for row in down:
+        (a, b), (near, far) = row["edges"], row["states"]
+        lines.append(f"  {a}-{b}: {a} says {near}, {b} says {far}{never(row)}")
+    return [f"Sessions: {len(rows) - len(down)} of {len(rows)} are up at both ends", *cut(lines)]
+
+
+def never(row):
+    """Whether it never came up."""
+    return "" if row["was_up"] else "; never up"
+
+
+def wires(rows):
+    """How many wires carry frames, and why each other one does not."""
+    if not rows:
+        return []
+    down = [row for row in rows if not row["carries"]]
+    lines = []
+    for row in down:
+        ends = [f"{edge} says {state}" for edge, state in zip((row["path"][0], row["path"][-1]), row["states"])]
+        mtu = f" (MTU {row['mtu'][0]} and {row['mtu'][1]})" if "mtu" in row else ""
+        lines.append(f"  {row['wire']}, {row['class']} of {row['service']}: {', '.join(ends)}{mtu}{never(row)}")
+    return [f"Wires: {len(rows) - len(down)} of {len(rows)} carry frames", *cut(lines)]
+
+
+def service(row):
+    """A service, and which sites lost each other."""
+    calm = "calm" if row["calm"] else "not calm"
+    lines = []
+    for lost in row["lost"]:
+        until = f"event {lost['to']['event']} ({lost['to']['words']})" if lost["to"] else "the end"
+        start = f"event {lost['from']['event']} ({lost['from']['words']})"
+        lines.append(f"  from {start} to {until}, over {counted(lost['deliveries'], 'delivery', 'deliveries')}:")
+        lines += [f"    {names(part['sites'])} lost {names(part['lost'])}" for part in lost["sites"]]
+    head = f"Service {row['service']}: {counted(len(row['sites']), 'site')}, {calm} at the end; "
+    return [head + ("sites that lost each other" if lines else "no sites lost each other"), *cut(lines)]
+
+
+def frames(rows):
+    """Each flooded frame, each other one that left twice, and those that ended nowhere."""
+    if not rows:
+        return []
+    flooded = [row for row in rows if row["flooded"]]
+    once = [row for row in flooded if not row["missed"] and not row["twice"]]
+    lines = [f"Frames: {len(rows)} entered, {len(flooded)} were flooded, {len(once)} of these were served once at each other site"]
+    shown = [row for row in flooded if row not in once] + once
+    lines += cut(flooded_line(row) for row in shown)
+    twice = [row for row in rows if row["twice"] and not row["flooded"]]
+    if twice:
+        lines += ["Frames to a station that was heard, which left twice", *cut(other_line(row) for row in twice)]
+    nowhere = [row for row in rows if row["nowhere"]]
+    if nowhere:
+        lines += ["Frames that ended nowhere", *cut(nowhere_line(row) for row in nowhere)]
+    return lines
+
+
+def head(row):
+    """Which frame it is."""
+    return f"  frame {row['frame']} (event {row['event']}, at {row['circuit']}, to {row['to']})"
+
+
+def flooded_line(row):
+    """Whom a flooded frame served, and whether the promise speaks of it."""
+    parts = [f"served {names(site for site, count in row['served'].items() if count == 1)}"]
+    if row["missed"]:
+        parts.append(f"NOT SERVED {names(row['missed'])}")
+    if row["twice"]:
+        parts.append(f"TWICE {names(row['twice'])}")
+    promise = "promised" if row["promised"] else f"not promised: {'; '.join(row['why_not_promised'])}"
+    return f"{head(row)}: {', '.join(parts)}; {promise}"
+
+
+def other_line(row):
+    """Where a frame left twice that was not flooded."""
+    return f"{head(row)}: TWICE {names(row['twice'])}"
+
+
+def nowhere_line(row):
+    """Why a frame ended nowhere, as far as it is told."""
+    why = [f"dropped at {drop['edge']}: {drop['cause']}" for drop in row["dropped"]] + [f"packet {number} lost" for number in row["lost"]]
+    return f"{head(row)}: {', '.join(why) or 'no port to go to'}"
+
+
+def drops(rows):
+    """Drops by cause."""
+    return ["Drops", *cut(f"  {row['cause']} at {row['edge']}: {row['count']}" for row in rows)] if rows else []
+
+
+def under_way(found):
+    """What is on its way at the end."""
+    lines = [f"  {row['octets']} octets from {row['from']} to {row['to']}" for row in found["octets"]]
+    lines += [f"  packet {row['packet']} of frame {row['frame']} from {row['from']} to {row['to']} on {row['wire']}" for row in found["packets"]]
+    return ["Under way at the end", *cut(lines)] if lines else ["Nothing is under way at the end"]
+
+
+def counted(number, one, more=None):
+    """A number with its word."""
+    return f"{number} {one if number == 1 else more or one + 's'}"
+
+
+def names(found):
+    """Names in a row; nobody where there are none."""
+    found = list(found)
+    more = f" and {len(found) - MOST} more" if len(found) > MOST else ""
+    return (", ".join(found[:MOST]) or "nobody") + more

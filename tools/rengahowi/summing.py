@@ -1,0 +1,117 @@
+"""The summary of a run, as plain lists and texts, ready for JSON."""
+
+from collections import Counter
+
+
+def sum_up(plan, run):
+    """All of it."""
+    return {
+        "events": len(run.report.events),
+        "ending": run.report.ending,
+        "sessions": [session_row(run, *pair) for pair in plan.pairs()],
+        "wires": [wire_row(run, wire) for wire in plan.wires.values()],
+        "services": [service_row(plan, run, service) for service in plan.services],
+        "frames": [frame_row(frame) for frame in run.frames.values()],
+        "drops": drop_rows(run),
+        "under_way": under_way(run.network),
+    }
+
+
+def session_row(run, a, b):
+    """A session, as both ends see it."""
+    sessions = run.network.sessions
+    return {"edges": [a, b], "states": [sessions[a, b], sessions[b, a]], "was_up": (a, b) in run.ever_up}
+
+
+def wire_row(run, wire):
+    """A wire, with what each terminal edge says of it; with both MTUs where these differ."""
+    states = [run.network.ends[edge, wire.name] for edge in wire.ends()]
+    row = {"wire": wire.name, "service": wire.service, "class": wire.kind, "path": list(wire.path), "states": states}
+    row["carries"], row["was_up"] = run.network.carries(wire), wire.name in run.ever_carried
+    if "Mtu" in states:
+        row["mtu"] = [wire.near["mtu"], wire.far["mtu"]]
+    return row
+
+
+def service_row(plan, run, service):
+    """A service: its sites, whether it is calm at the end, and which sites lost each other when."""
+    spans = {}
+    for pair, span in run.spans[service]:
+        times = (span.start, span.end, span.deliveries)
+        spans.setdefault(times, []).append(pair)
+    lost = [
+        {
+            "from": told(start),
+            "to": told(end),
+            "deliveries": deliveries,
+            "sites": parted(plan, service, pairs),
+        }
+        for (start, end, deliveries), pairs in spans.items()
+    ]
+    sites = [site for site in plan.circuits_of(service) if run.network.on[site]]
+    lost = [row for row in lost if row["sites"]]
+    return {"service": service, "sites": sites, "calm": run.network.is_calm(service), "lost": lost}
+
+
+def told(event):
+    """An event by its number and its words; None where there is none."""
+    return None if event is None else {"event": event.number, "words": event.text}
+
+
+def parted(plan, service, pairs):
+    """The sites of edges that lost each other: lists of sites, each with those that they lost. The edge that lost most comes
+    first."""
+    at = {}
+    for site in plan.circuits_of(service):
+        at.setdefault(plan.circuits[site]["edge"], []).append(site)
+    pairs = [pair for pair in pairs if all(edge in at for edge in pair)]
+    rows = []
+    while pairs:
+        counts = Counter(edge for pair in pairs for edge in pair)
+        edge = max((name for name in plan.edges if name in counts), key=counts.get)
+        lost = [other for other in plan.edges if other != edge and frozenset((edge, other)) in pairs]
+        rows.append({"sites": at[edge], "lost": [site for other in lost for site in at[other]]})
+        pairs = [pair for pair in pairs if edge not in pair]
+    return rows
+
+
+def frame_row(frame):
+    """What became of a frame."""
+    flooded = frame.is_flooded()
+    why_not = frame.why_not_promised()
+    return {
+        "frame": frame.origin,
+        "event": frame.event.number,
+        "circuit": frame.circuit,
+        "service": frame.service,
+        "to": frame.to,
+        "flooded": flooded,
+        "calm": frame.calm,
+        "promised": not why_not,
+        "why_not_promised": why_not,
+        "served": dict(frame.left),
+        "missed": frame.missed() if flooded else [],
+        "twice": frame.twice(),
+        "segments": frame.hops,
+        "dropped": [{"event": event.number, "edge": edge, "cause": cause} for event, edge, cause in frame.dropped],
+        "lost": frame.lost,
+        "repeated": frame.repeated,
+        "under_way": sorted(frame.under_way),
+        "nowhere": not frame.left and not frame.under_way,
+    }
+
+
+def drop_rows(run):
+    """How often frames were dropped, by cause and edge."""
+    counts = Counter((cause, edge) for edge, _, cause in run.drops)
+    return [{"cause": cause, "edge": edge, "count": count} for (cause, edge), count in sorted(counts.items())]
+
+
+def under_way(network):
+    """Octets and packets that are on their way at the end."""
+    octets = [{"from": a, "to": b, "octets": pipe.octets()} for (a, b), pipe in network.pipes.items() if pipe.octets()]
+    packets = [
+        {"packet": number, "from": words[0], "to": words[1], "wire": words[2], "frame": words[4]}
+        for number, words in sorted(network.packets.items())
+    ]
+    return {"octets": octets, "packets": packets}
