@@ -1,0 +1,128 @@
+"""A report as the rows of a ladder: a row for each line, drawn between the columns of edges and circuits."""
+
+from .network import NEVER, Network
+from .program import decoded
+
+
+def columns(plan):
+    """The columns: each edge, and behind it its circuits."""
+    found = []
+    for edge, row in plan.edges.items():
+        found.append({"name": edge, "kind": "edge", "under": row["address"]})
+        sites = [(name, site) for name, site in plan.circuits.items() if site["edge"] == edge]
+        found += [{"name": name, "kind": "circuit", "under": site["service"], "service": site["service"]} for name, site in sites]
+    return found
+
+
+def lanes(plan):
+    """The states along the columns: a lane for each end of a session and of a wire."""
+    sessions = [{"kind": "session", "edge": a, "name": b} for pair in plan.pairs() for a, b in (pair, pair[::-1])]
+    wires = [{"kind": "wire", "edge": edge, "name": wire.name} for wire in plan.wires.values() for edge in wire.ends()]
+    return [{**lane, "states": [[0, NEVER if lane["kind"] == "session" else "NoLocal"]]} for lane in sessions + wires]
+
+
+class Rows:
+    """Makes the rows, and the lanes beside them."""
+
+    def __init__(self, plan, report):
+        self.network, self.report = Network(plan), report
+        self.lanes = lanes(plan)
+        self.lane_of = {(lane["kind"], lane["edge"], lane["name"]): lane for lane in self.lanes}
+        self.column = {(column["kind"], column["name"]): place for place, column in enumerate(columns(plan))}
+        self.rows, self.frame_of = [], {}
+
+    def make(self):
+        """All rows. The names of the messages are added at the end, by one call of `decode` for all of them."""
+        for event in self.report.events:
+            self.rows.append(self.event_row(event))
+            self.network.begin(event)
+            if event.kind == "restart":
+                self.states_anew(event.words[0])
+            for entry in event.entries:
+                self.rows.append(getattr(self, entry.kind)(*entry.words))
+                self.network.take(entry)
+        self.name_messages()
+        return self.rows
+
+    def row(self, kind, text, where=(), **more):
+        """A row: its kind, its text, the columns that it goes from and to, and what else is told."""
+        return {"k": kind, "t": text, "c": [self.column[place] for place in where], **more}
+
+    def event_row(self, event):
+        """The row of an event; of a packet's, with the frame that it is of."""
+        where = [("edge", word) for word in event.words[:1] if ("edge", word) in self.column]
+        row = self.row("event", event.text, where, n=event.number)
+        if event.kind in ("arrive", "drop", "again") and event.words[0] in self.network.packets:
+            packet = self.network.packets[event.words[0]]
+            row["f"] = packet[4]
+            row["c"] = [self.column["edge", packet[1]]]
+        return row
+
+    def states_anew(self, edge):
+        """An edge that restarts has no session, and no end of a wire that is up."""
+        for lane in self.lanes:
+            if lane["edge"] == edge:
+                self.change(lane, NEVER if lane["kind"] == "session" else "NoLocal")
+
+    def change(self, lane, state):
+        """A lane has another state from here on."""
+        lane["states"].append([len(self.rows), state])
+
+    def idle(self):
+        """The event did not apply."""
+        return self.row("idle", "idle")
+
+    def said(self, start, end, octets):
+        """A message; its name comes later."""
+        return self.row("said", "", [("edge", start), ("edge", end)], o=octets)
+
+    def in_(self, circuit, origin, octets):
+        """A frame that entered."""
+        edge = self.network.plan.circuits[circuit]["edge"]
+        return self.row("in", f"frame {origin} in", [("circuit", circuit), ("edge", edge)], f=origin, o=octets)
+
+    def left(self, circuit, origin, hops, octets):
+        """A copy that left."""
+        edge = self.network.plan.circuits[circuit]["edge"]
+        return self.row("left", f"frame {origin} out, {hops} segments", [("edge", edge), ("circuit", circuit)], f=origin, o=octets)
+
+    def sent(self, packet, start, end, wire, _arrival, origin, hops, octets):
+        """A packet, with its wire and its label."""
+        label = int(octets[:5] or "0", 16)
+        text = f"packet {packet} on {wire}, label {label}, frame {origin}, segment {hops}"
+        return self.row("sent", text, [("edge", start), ("edge", end)], f=origin, o=octets, w=wire)
+
+    def copied(self, packet, old):
+        """A packet that the network repeated."""
+        start, end, _wire, _arrival, origin = self.network.packets[old]
+        return self.row("copied", f"packet {packet} repeats {old}", [("edge", start), ("edge", end)], f=origin)
+
+    def dropped(self, edge, origin, cause):
+        """A copy that was dropped."""
+        return self.row("dropped", f"dropped: {cause}, frame {origin}", [("edge", edge)], f=origin)
+
+    def session(self, edge, peer, state):
+        """A session's next state at one end."""
+        self.change(self.lane_of["session", edge, peer], state)
+        return self.row("session", f"session with {peer}: {state}", [("edge", edge)])
+
+    def wire(self, edge, wire, state):
+        """A wire that came up at an edge, or why it is down there."""
+        lane = self.lane_of.get(("wire", edge, wire))
+        if lane is not None:
+            self.change(lane, state)
+        return self.row("wire", f"wire {wire}: {state}", [("edge", edge)])
+
+    def pong(self, edge, wire, number):
+        """An answer to a ping."""
+        return self.row("pong", f"pong {number} on {wire}", [("edge", edge)])
+
+    def name_messages(self):
+        """The text of each message is what `decode` tells of it."""
+        said = [row for row in self.rows if row["k"] == "said"]
+        lines = decoded([bytes.fromhex(row["o"]) for row in said])
+        for number, row in enumerate(said):
+            row["t"] = " + ".join(lines[number]) if lines and lines[number] else f"type {row['o'][20:24]}"
+
+
+setattr(Rows, "in", Rows.in_)
