@@ -84,7 +84,7 @@ class Rows:
     def left(self, circuit, origin, hops, octets):
         """A copy that left."""
         edge = self.network.plan.circuits[circuit]["edge"]
-        return self.row("left", f"frame {origin} out, {hops} segments", [("edge", edge), ("circuit", circuit)], f=origin, o=octets)
+        return self.row("left", f"frame {origin} out, {hops} segment{'' if hops == 1 else 's'}", [("edge", edge), ("circuit", circuit)], f=origin, o=octets)
 
     def sent(self, packet, start, end, wire, _arrival, origin, hops, octets):
         """A packet, with its wire and its label."""

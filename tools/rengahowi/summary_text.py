@@ -72,7 +72,7 @@ def frames(rows):
         return []
     flooded = [row for row in rows if row["flooded"]]
     once = [row for row in flooded if not row["missed"] and not row["twice"]]
-    lines = [f"Frames: {len(rows)} entered, {len(flooded)} were flooded, {len(once)} of these were served once at each other site"]
+    lines = [f"Frames: {len(rows)} entered, {len(flooded)} flooded, {len(once)} of these once at each other site"]
     shown = [row for row in flooded if row not in once] + once
     lines += cut(flooded_line(row) for row in shown)
     twice = [row for row in rows if row["twice"] and not row["flooded"]]

@@ -1,0 +1,145 @@
+"""A run as a capture: what each edge hears of LDP, as TCP, and the packets that it sends and receives."""
+
+import ipaddress
+
+from . import headers, pcapng
+
+LDP = 646
+FIRST_PORT = 49152
+MOST = 1460
+SECOND = 1_000_000
+
+
+class Connection:
+    """A TCP connection between two edges: the port of its active end, and how many octets each end has put and heard."""
+
+    def __init__(self, active, port):
+        self.active, self.port = active, port
+        self.put = {}
+        self.waiting = {}
+
+    def ports(self, sender):
+        """The source and the destination port of what an edge sends."""
+        return (self.port, LDP) if sender == self.active else (LDP, self.port)
+
+
+class Capture:
+    """The packets of a run, an interface an edge, each event a second."""
+
+    def __init__(self, plan, report):
+        self.plan, self.report = plan, report
+        self.number = {edge: place for place, edge in enumerate(plan.edges)}
+        self.address = {edge: row["address"] for edge, row in plan.edges.items()}
+        self.connections, self.made = {}, 0
+        self.packets, self.blocks = {}, [pcapng.section(), *(pcapng.interface(edge) for edge in plan.edges)]
+        self.time, self.event, self.segments, self.frames = 0, None, 0, 0
+        self.kinds = {}
+
+    def make(self):
+        """The octets of the whole file."""
+        for event in self.report.events:
+            self.event, self.time = event, event.number * SECOND
+            if not event.is_idle():
+                self.begin(event)
+            for entry in event.entries:
+                self.take(entry)
+        return b"".join(self.blocks)
+
+    def write(self, edge, octets, direction):
+        """A packet at an edge's interface, at the next microsecond of the event."""
+        comment = f"event {self.event.number}: {self.event.text[:80]}"
+        self.blocks.append(pcapng.packet(self.number[edge], self.time, octets, direction, comment))
+        self.time += 1
+
+    def begin(self, event):
+        """What an event does by itself: a handshake, a delivery, an end that is lost, a packet that arrives."""
+        words = event.words
+        if event.kind == "connect":
+            self.connect(*words)
+        elif event.kind == "deliver":
+            self.deliver(*words)
+        elif event.kind == "restart":
+            for pair in [pair for pair in self.connections if words[0] in pair]:
+                self.close(words[0], *(pair - set(words)))
+        elif event.kind == "arrive" and words[0] in self.packets:
+            start, end, octets = self.packets.pop(words[0])
+            self.mpls(start, end, octets, end, pcapng.INBOUND)
+        elif event.kind == "drop":
+            self.packets.pop(words[0], None)
+
+    def take(self, entry):
+        """What an entry tells of a connection or a packet."""
+        words = entry.words
+        if entry.kind == "said":
+            connection = self.connections.get(frozenset(words[:2]))
+            if connection is not None and words[1] in connection.waiting:
+                connection.waiting[words[1]] += bytes.fromhex(words[2])
+        elif entry.kind == "session" and words[2].startswith("Ended:"):
+            self.close(*words[:2])
+        elif entry.kind == "sent":
+            octets = bytes.fromhex(words[7])
+            has_control_word = self.plan.wires[words[3]].near["control_word"]
+            self.kinds.setdefault(int(words[7][:5], 16), set()).add("pwethcw" if has_control_word else "pwethnocw")
+            self.packets[words[0]] = (words[1], words[2], octets)
+            self.mpls(words[1], words[2], octets, words[1], pcapng.OUTBOUND)
+        elif entry.kind == "copied":
+            self.packets[words[0]] = self.packets[words[1]]
+
+    def mpls(self, start, end, octets, where, direction):
+        """A packet of a pseudowire between two neighbours (RFC 4448, RFC 3032)."""
+        self.frames += 1
+        self.write(where, headers.ethernet(self.address[start], self.address[end], headers.MPLS, octets), direction)
+
+    def decode_as(self):
+        """What tells Wireshark of each label whether a control word follows it, which no packet says; labels in ranges. A label
+        that stands for both at two edges is left to Wireshark."""
+        ranges = []
+        for label, kinds in sorted(self.kinds.items()):
+            kind = min(kinds)
+            if len(kinds) == 1 and ranges and ranges[-1][1:] == [label - 1, kind]:
+                ranges[-1][1] = label
+            elif len(kinds) == 1:
+                ranges.append([label, label, kind])
+        spans = [(str(first) if first == last else f"{first}-{last}", kind) for first, last, kind in ranges]
+        return [word for span, kind in spans for word in ("-d", f"mpls.label=={span},{kind}")]
+
+    def segment(self, sender, receiver, flags, octets=b""):
+        """A segment as its receiver hears it; each end acknowledges what it heard of the other one."""
+        connection = self.connections[frozenset((sender, receiver))]
+        counts = (connection.put[sender], connection.put[receiver] if flags & headers.ACK else 0)
+        frame = headers.tcp(self.address[sender], self.address[receiver], connection.ports(sender), counts, flags, octets)
+        self.write(receiver, frame, pcapng.INBOUND)
+        connection.put[sender] += len(octets) + bool(flags & (headers.SYN | headers.FIN))
+
+    def connect(self, a, b):
+        """The handshake, which the edge with the larger address begins (RFC 5036 section 2.5.2)."""
+        active, passive = sorted((a, b), key=lambda edge: ipaddress.IPv4Address(self.address[edge]), reverse=True)
+        connection = Connection(active, FIRST_PORT + self.made % 16384)
+        self.made += 1
+        connection.put, connection.waiting = {a: 0, b: 0}, {a: b"", b: b""}
+        self.connections[frozenset((a, b))] = connection
+        self.segment(active, passive, headers.SYN)
+        self.segment(passive, active, headers.SYN | headers.ACK)
+        self.segment(active, passive, headers.ACK)
+
+    def deliver(self, sender, receiver, count):
+        """Octets that are delivered, in segments."""
+        connection = self.connections.get(frozenset((sender, receiver)))
+        if connection is None:
+            return
+        octets = connection.waiting.get(receiver, b"")
+        connection.waiting[receiver] = octets[count:]
+        for at in range(0, len(octets[:count]), MOST):
+            self.segments += 1
+            self.segment(sender, receiver, headers.PSH | headers.ACK, octets[:count][at : at + MOST])
+
+    def close(self, edge, peer):
+        """An edge's end is lost: what is on its way to it is so too. The connection goes once both ends are gone."""
+        connection = self.connections.get(frozenset((edge, peer)))
+        if connection is None or edge not in connection.waiting:
+            return
+        del connection.waiting[edge]
+        if peer in connection.waiting:
+            return
+        self.segment(edge, peer, headers.RST | headers.ACK)
+        del self.connections[frozenset((edge, peer))]

@@ -1,0 +1,43 @@
+"""Ethernet, IPv4 and TCP headers in front of octets (IEEE 802.3, RFC 791, RFC 9293)."""
+
+import ipaddress
+import struct
+
+IPV4, MPLS = 0x0800, 0x8847
+FIN, SYN, RST, PSH, ACK = 0x01, 0x02, 0x04, 0x08, 0x10
+
+
+def checksum(octets):
+    """The Internet checksum (RFC 1071)."""
+    if len(octets) % 2:
+        octets += b"\0"
+    total = sum(struct.unpack(f">{len(octets) // 2}H", octets))
+    while total >> 16:
+        total = (total & 0xFFFF) + (total >> 16)
+    return ~total & 0xFFFF
+
+
+def station(address):
+    """The Ethernet address that an edge has in a capture: 02:00 and its IPv4 address."""
+    return b"\x02\x00" + ipaddress.IPv4Address(address).packed
+
+
+def ethernet(source, destination, kind, octets):
+    """A frame between two edges, which are named by their IPv4 addresses."""
+    return station(destination) + station(source) + struct.pack(">H", kind) + octets
+
+
+def ipv4(source, destination, octets):
+    """An IPv4 packet that carries TCP."""
+    ends = ipaddress.IPv4Address(source).packed + ipaddress.IPv4Address(destination).packed
+    head = struct.pack(">BBHHHBBH", 0x45, 0, 20 + len(octets), 0, 0x4000, 64, 6, 0) + ends
+    return head[:10] + struct.pack(">H", checksum(head)) + head[12:] + octets
+
+
+def tcp(source, destination, ports, counts, flags, octets=b""):
+    """A TCP segment in a frame: `ports` of both ends, `counts` the sequence and the acknowledgment number."""
+    head = struct.pack(">HHIIBBHHH", *ports, counts[0] & 0xFFFFFFFF, counts[1] & 0xFFFFFFFF, 0x50, flags, 65535, 0, 0)
+    ends = ipaddress.IPv4Address(source).packed + ipaddress.IPv4Address(destination).packed
+    pseudo = ends + struct.pack(">BBH", 0, 6, len(head) + len(octets))
+    head = head[:16] + struct.pack(">H", checksum(pseudo + head + octets)) + head[18:]
+    return ethernet(source, destination, IPV4, ipv4(source, destination, head + octets))
