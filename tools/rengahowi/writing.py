@@ -1,0 +1,76 @@
+"""Writes scenarios: the text of rows and events, and plans of real size."""
+
+from .command import Fault
+from .keys import MOST_ROWS
+
+
+def value(it):
+    """A value as TOML writes it."""
+    if isinstance(it, bool):
+        return "true" if it else "false"
+    if isinstance(it, int):
+        return str(it)
+    if isinstance(it, (list, tuple)):
+        return "[" + ", ".join(value(one) for one in it) + "]"
+    return '"' + it.replace("\\", "\\\\").replace('"', '\\"') + '"'
+
+
+def scenario(rows, events, comment=""):
+    """The text of a scenario: `rows` has for each table a list of rows, each a dict of its keys."""
+    for table, most in MOST_ROWS.items():
+        count = len(events) if table == "events" else len(rows.get(table, ()))
+        if count > most:
+            raise Fault(f"{count} rows of {table}: a scenario has at most {most}")
+    text = "".join(f"# {line}\n" for line in comment.splitlines())
+    text += "version = 1\nevents = [\n" + "".join(f"  {value(event)},\n" for event in events) + "]\n"
+    for table, found in rows.items():
+        for row in found:
+            text += f"\n[[{table}]]\n" + "".join(f"{key} = {value(it)}\n" for key, it in row.items())
+    return text
+
+
+def connected(rows):
+    """The events that connect each two neighbours, and deliver until nothing of LDP is left."""
+    pairs = dict.fromkeys(pair for wire in rows["wire"] for pair in zip(wire["path"], wire["path"][1:]))
+    return [f"connect {a} {b}" for a, b in pairs] + ["settle 10000"] * bool(pairs)
+
+
+def rows_of(count, circuits):
+    """So many edges, e0 and on, one service, and so many circuits at each edge: c0 and on where there is one, else c0_0 and on."""
+    places = [(edge, number) for edge in range(count) for number in range(circuits)]
+    return {
+        "edge": [{"name": f"e{edge}", "address": f"10.0.0.{edge + 1}"} for edge in range(count)],
+        "service": [{"name": "s"}],
+        "circuit": [
+            {"name": f"c{edge}" if circuits == 1 else f"c{edge}_{number}", "edge": f"e{edge}", "service": "s"} for edge, number in places
+        ],
+        "wire": [],
+    }
+
+
+def add_wires(rows, kind, pairs, priorities=None):
+    """Adds wires between pairs of edges, whose names and PW IDs go on from those that are there."""
+    for place, (a, b) in enumerate(pairs):
+        number = len(rows["wire"]) + 1
+        row = {"name": f"w{number}", "service": "s", "class": kind, "path": [f"e{a}", f"e{b}"], "pw_id": number}
+        if priorities:
+            row["priority"] = priorities[place]
+        rows["wire"].append(row)
+
+
+def mesh(count, circuits):
+    """A full mesh of so many edges."""
+    rows = rows_of(count, circuits)
+    add_wires(rows, "mesh", [(a, b) for a in range(count) for b in range(a + 1, count)])
+    return rows
+
+
+def hierarchy(cores, spoke_edges, circuits, spokes=1):
+    """A full mesh of core edges, and spoke edges that hang on them in turn, each by so many spokes to cores next to each other,
+    the first of them with the least priority number."""
+    rows = rows_of(cores + spoke_edges, circuits)
+    add_wires(rows, "mesh", [(a, b) for a in range(cores) for b in range(a + 1, cores)])
+    ends = [(edge, number) for edge in range(spoke_edges) for number in range(spokes)]
+    pairs = [(cores + edge, (edge + number) % cores) for edge, number in ends]
+    add_wires(rows, "spoke", pairs, [10 * (number + 1) for _, number in ends])
+    return rows
