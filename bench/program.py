@@ -7,6 +7,9 @@ import sys
 import time
 
 TOP = pathlib.Path(__file__).resolve().parent.parent
+sys.path.insert(0, str(TOP / "tools"))
+from rengahowi import writing  # noqa: E402
+
 # The proved program itself. `bin/vplsnet` looks for newer sources before each run, which would be measured too.
 PROGRAM = str(TOP / "crates" / "vplsnet_program" / "out" / "vplsnet_program")
 TRIES = 5
@@ -22,15 +25,12 @@ def build():
 def full_mesh(count):
     """The text of a scenario with so many edges in full mesh of one service: a mesh wire joins each two of them, all are
     connected, and everything is delivered until nothing is left."""
-    pairs = [(a, b) for a in range(count) for b in range(a + 1, count)]
-    events = [f"connect e{a} e{b}" for a, b in pairs] + ["settle 10000"]
-    text = "version = 1\nevents = [\n" + "".join(f'"{event}",\n' for event in events) + "]\n"
-    for edge in range(count):
-        text += f'\n[[edge]]\nname = "e{edge}"\naddress = "10.0.0.{edge + 1}"\n'
-    text += '\n[[service]]\nname = "s"\n'
-    for number, (a, b) in enumerate(pairs, 1):
-        text += f'\n[[wire]]\nname = "w{number}"\nservice = "s"\nclass = "mesh"\npath = ["e{a}", "e{b}"]\npw_id = {number}\n'
-    return text
+    return set_up(writing.mesh(count, 0), [])
+
+
+def set_up(rows, events):
+    """The text of a scenario of these rows, in which everything comes up before the events."""
+    return writing.scenario(rows, writing.connected(rows) + events)
 
 
 def best_replay(path, report):
