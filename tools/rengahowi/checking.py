@@ -1,0 +1,239 @@
+"""The faults of a scenario, in the order in which the program looks for them (docs/FORMATS.md), with what would be right."""
+
+import re
+from typing import NamedTuple
+
+from .keys import MOST_PORTS, MOST_ROWS, TABLES, allowed
+
+NAME = re.compile(r"[a-z0-9_]{1,32}")
+
+
+class Finding(NamedTuple):
+    """A fault: the program's words for it, its path in the document, how far within a text it stands, None where it is of the
+    key itself, and what is right. A warning has no words of the program."""
+
+    fault: str
+    path: tuple
+    within: int | None
+    text: str
+
+
+def place(table, row, key):
+    """A place as the program writes it: rows count from 1, and a key is cut at 32 octets."""
+    octets = str(key).encode()[:32]
+    return f"{table} {row} {''.join(chr(octet) if 0x21 <= octet <= 0x7E else '?' for octet in octets)}"
+
+
+def is_number(value):
+    """Whether a value is an integer."""
+    return isinstance(value, int) and not isinstance(value, bool)
+
+
+def has_kind(key, value):
+    """Whether a value is of a key's kind, whatever its range."""
+    if key.kind == "number":
+        return is_number(value)
+    if key.kind == "flag":
+        return isinstance(value, bool)
+    if key.kind == "path":
+        return isinstance(value, list) and all(isinstance(one, str) for one in value)
+    return isinstance(value, str)
+
+
+def is_address(text):
+    """Whether a text is a dotted quad without leading zeros, other than 0.0.0.0."""
+    parts = text.split(".")
+    return len(parts) == 4 and all(re.fullmatch(r"0|[1-9][0-9]{0,2}", part) and int(part) < 256 for part in parts) and text != "0.0.0.0"
+
+
+def is_in_range(key, value):
+    """Whether a value of the right kind is one that the key takes."""
+    tests = {
+        "name": lambda: NAME.fullmatch(value),
+        "address": lambda: is_address(value),
+        "number": lambda: key.least <= value <= key.most,
+        "text": lambda: len(value.encode()) <= key.most,
+        "flag": lambda: True,
+        "path": lambda: all(NAME.fullmatch(one) for one in value),
+        "class": lambda: value in ("mesh", "spoke"),
+        "mode": lambda: value in ("raw", "tagged"),
+    }
+    return bool(tests[key.kind]())
+
+
+def wide_numbers(value, path=()):
+    """Numbers that need more than 64 bits, which the program's reader of TOML refuses and Python's takes."""
+    if is_number(value) and not -(2**63) <= value < 2**63:
+        yield Finding("NotToml", path, 0, "a number of TOML has at most 64 bits")
+    for key, one in value.items() if isinstance(value, dict) else enumerate(value) if isinstance(value, list) else ():
+        yield from wide_numbers(one, (*path, key))
+
+
+def top_faults(document):
+    """The faults of the top of the document."""
+    if "version" not in document:
+        yield Finding("Missing top 0 version", (), 0, "the first line is version = 1")
+        return
+    if not is_number(document["version"]):
+        yield Finding("WrongKind top 0 version", ("version",), 0, "version is the number 1")
+        return
+    if document["version"] != 1:
+        yield Finding("Version", ("version",), 0, "version is 1")
+        return
+    for table in MOST_ROWS:
+        rows, kind = document.get(table, []), str if table == "events" else dict
+        if not isinstance(rows, list) or not all(isinstance(row, kind) for row in rows):
+            right = "an array of texts" if table == "events" else f"rows, each under its own [[{table}]], with two brackets"
+            yield Finding(f"WrongKind top 0 {table}", (table,), 0, f"{table} is {right}")
+    for key in unknown(document, ["version", *MOST_ROWS]):
+        yield Finding(f"UnknownKey {place('top', 0, key)}", (key,), None, f"{key!r} is no key here; there are version, {', '.join(MOST_ROWS)}")
+    for table, most in MOST_ROWS.items():
+        if isinstance(document.get(table), list) and len(document[table]) > most:
+            yield Finding(f"TooMany {table} {most}", (table,), 0, f"at most {most} rows of {table}, and not {len(document[table])}")
+
+
+def unknown(row, known):
+    """The keys of a row that no table has, the least in byte order first."""
+    return sorted((key for key in row if key not in known), key=str.encode)
+
+
+def row_faults(document):
+    """The faults of rows by themselves."""
+    for table, keys in TABLES.items():
+        for number, row in enumerate(document.get(table, [])):
+            yield from faults_of_row(table, number, row, keys)
+
+
+def faults_of_row(table, number, row, keys):
+    """The faults of one row, key by key."""
+    for key in keys:
+        at, path = place(table, number + 1, key.name), (table, number, key.name)
+        if key.name not in row:
+            if key.needed:
+                yield Finding(f"Missing {at}", (table, number), 0, f"this {table} has no {key.name}: {allowed(key)}")
+        elif not has_kind(key, row[key.name]):
+            yield Finding(f"WrongKind {at}", path, 0, f"{key.name} is {allowed(key)}")
+        elif not is_in_range(key, row[key.name]):
+            yield Finding(f"Plan OutOfRange {at}", path, 0, f"{key.name} is {allowed(key)}, and not {row[key.name]!r}")
+    names = [key.name for key in keys]
+    for key in unknown(row, names):
+        yield Finding(f"UnknownKey {place(table, number + 1, key)}", (table, number, key), None, unknown_text(table, key, names))
+
+
+def unknown_text(table, key, names):
+    """What an unknown key was meant to be."""
+    if key in ("version", *MOST_ROWS):
+        return f"{key} stands behind a [[{table}]] and belongs to it so: move it above the first table"
+    return f"{key!r} is no key of {table}; these are: {', '.join(names)}"
+
+
+def references(document):
+    """Names that no row has."""
+    edges, services = ({row["name"] for row in document.get(table, [])} for table in ("edge", "service"))
+    for table, keys in (("circuit", ("edge", "service")), ("wire", ("service", "path"))):
+        for number, row in enumerate(document.get(table, [])):
+            for key in keys:
+                known, of = (services, "service") if key == "service" else (edges, "edge")
+                names = row[key] if key == "path" else [row[key]]
+                missing = [name for name in names if name not in known]
+                if missing:
+                    text = f"there is no {of} {missing[0]!r}; there are: {', '.join(sorted(known)[:20]) or 'none'}"
+                    yield Finding(f"Plan UnknownName {place(table, number + 1, key)}", (table, number, key), 0, text)
+
+
+def name_faults(document):
+    """Names and addresses that stood before, and paths by themselves."""
+    yield from repeated(document)
+    yield from path_faults(enumerate(document.get("wire", [])))
+
+
+def plan_faults(document):
+    """The faults of the plan as a whole, whose paths have two edges at least."""
+    wires = list(enumerate(document.get("wire", [])))
+    yield from pair_faults(wires)
+    yield from clashes(wires)
+    yield from port_faults(document)
+
+
+def plan_fault(kind, table, number, key, text):
+    """A fault of the plan at a row."""
+    return Finding(f"Plan {kind} {place(table, number + 1, key)}", (table, number, key), 0, text)
+
+
+def repeated(document):
+    """Names and addresses that stood before."""
+    seen = {}
+    for table in TABLES:
+        for number, row in enumerate(document.get(table, [])):
+            if row["name"] in seen:
+                first, before = seen[row["name"]]
+                text = f"{row['name']!r} is the name of {first} {before + 1} already; a name stands once in all tables together"
+                yield plan_fault("RepeatedName", table, number, "name", text)
+            seen.setdefault(row["name"], (table, number))
+    addresses = {}
+    for number, row in enumerate(document.get("edge", [])):
+        if row["address"] in addresses:
+            text = f"{row['address']} is the address of edge {addresses[row['address']]!r} already"
+            yield plan_fault("RepeatedName", "edge", number, "address", text)
+        addresses.setdefault(row["address"], row["name"])
+
+
+def path_faults(wires):
+    """Paths that are too short or too long, or name an edge twice."""
+    for number, row in wires:
+        if not 2 <= len(row["path"]) <= 5:
+            yield plan_fault("PathTooLong", "wire", number, "path", f"a path has 2 to 5 edges, and not {len(row['path'])}")
+        elif len(set(row["path"])) < len(row["path"]):
+            yield plan_fault("PathRepeats", "wire", number, "path", "a path names each of its edges once")
+
+
+def pair_faults(wires):
+    """Two wires over one segment with one PW ID, and two mesh wires of a service between the same edges."""
+    numbers, meshes = {}, {}
+    for number, row in wires:
+        segments = [(frozenset(pair), row["pw_id"]) for pair in zip(row["path"], row["path"][1:])]
+        stood = [numbers[segment] for segment in segments if segment in numbers]
+        if stood:
+            text = f"wire {stood[0]!r} has PW ID {row['pw_id']} between the same two edges; take another one"
+            yield plan_fault("RepeatedPwId", "wire", number, "pw_id", text)
+        numbers.update({segment: row["name"] for segment in segments if segment not in numbers})
+    for number, row in wires:
+        key = (row["service"], frozenset((row["path"][0], row["path"][-1])))
+        if row["class"] == "mesh" and key in meshes:
+            text = f"wire {meshes[key]!r} joins these two edges in service {row['service']!r} already"
+            yield plan_fault("TwoMeshWires", "wire", number, "path", text)
+        elif row["class"] == "mesh":
+            meshes[key] = row["name"]
+
+
+def clashes(wires):
+    """Spokes that start at an edge which ends a spoke or a mesh wire of the service."""
+    starts, ends = {}, {}
+    for number, row in wires:
+        service, (first, last) = row["service"], (row["path"][0], row["path"][-1])
+        own_starts = [first] if row["class"] == "spoke" else []
+        own_ends = [last] if row["class"] == "spoke" else [first, last]
+        for edge, before in [(edge, ends.get((service, edge))) for edge in own_starts] + [(edge, starts.get((service, edge))) for edge in own_ends]:
+            if before is not None:
+                text = (
+                    f"at edge {edge!r} a spoke would start, and wire {before!r} has an end of the core: a spoke's path begins at its"
+                    f" spoke edge, which has no mesh wire of the service, and ends at the core edge"
+                )
+                yield plan_fault("SpokeInMesh", "wire", number, "path", text)
+                break
+        starts.update({(service, edge): row["name"] for edge in own_starts})
+        ends.update({(service, edge): row["name"] for edge in own_ends})
+
+
+def port_faults(document):
+    """Services with too many ports at one edge."""
+    counts = {}
+    for row in document.get("circuit", []):
+        counts[row["service"], row["edge"]] = counts.get((row["service"], row["edge"]), 0) + 1
+    for row in document.get("wire", []):
+        for edge in (row["path"][0], row["path"][-1]):
+            counts[row["service"], edge] = counts.get((row["service"], edge), 0) + 1
+    for number, row in enumerate(document.get("service", [])):
+        for edge in (edge for (service, edge), count in counts.items() if service == row["name"] and count > MOST_PORTS):
+            yield plan_fault("OutOfRange", "service", number, "name", f"at most {MOST_PORTS} circuits and wires of a service at one edge ({edge})")
+            break

@@ -1,0 +1,93 @@
+"""Where keys and elements stand in a TOML text that tomllib accepts: it tells values, and no places."""
+
+import re
+
+BLANK = re.compile(r"(?:[ \t\r\n]|#[^\n]*)*")
+SPACE = re.compile(r"[ \t]*")
+BARE = re.compile(r"[^,\]}#\n]*")
+KEY = re.compile(r"""\s*([A-Za-z0-9_-]+|"(?:[^"\\]|\\.)*"|'[^']*')[ \t]*""")
+STRING = re.compile(r'"""(?:[^\\]|\\.)*?"""|' + r"'''.*?'''" + r'|"(?:[^"\\\n]|\\.)*"' + r"|'[^'\n]*'", re.DOTALL)
+
+
+class Places:
+    """The place of each value, by its path: a key or an element's number at each step, such as ('edge', 0, 'name')."""
+
+    def __init__(self, text):
+        self.text, self.at, self.found = text.removeprefix("\ufeff"), 0, {}
+        self.key_places = {}
+        base, counts = (), {}
+        while self.skip(BLANK) < len(self.text):
+            if self.text[self.at] == "[":
+                base = self.header(counts)
+            else:
+                self.statement(base)
+
+    def skip(self, pattern):
+        """Goes on over what a pattern takes, and answers where it is then."""
+        self.at = pattern.match(self.text, self.at).end()
+        return self.at
+
+    def header(self, counts):
+        """The path of a table's header."""
+        start = self.at
+        many = self.text.startswith("[[", self.at)
+        self.at += 1 + many
+        keys = self.keys()
+        self.at += 1 + many
+        path = tuple(keys)
+        if many:
+            path += (counts.setdefault(path, 0),)
+            counts[path[:-1]] += 1
+        self.found[path] = start
+        return path
+
+    def keys(self):
+        """The keys of a header or a statement, parted by dots."""
+        found = []
+        while True:
+            match = KEY.match(self.text, self.at)
+            self.at = match.end()
+            found.append(match[1].strip("\"'"))
+            if self.text[self.at] != ".":
+                return found
+            self.at += 1
+
+    def statement(self, base):
+        """A key with its value."""
+        start = BLANK.match(self.text, self.at).end()
+        path = base + tuple(self.keys())
+        self.key_places[path] = start
+        self.at += 1
+        self.skip(SPACE)
+        self.value(path)
+
+    def value(self, path):
+        """A value, and all in it."""
+        self.found[path] = self.at
+        first = self.text[self.at]
+        if first == "[":
+            self.inside("]", lambda number: self.value((*path, number)))
+        elif first == "{":
+            self.inside("}", lambda number: self.statement(path))
+        else:
+            self.skip(STRING if first in "\"'" else BARE)
+
+    def inside(self, end, read):
+        """What stands in brackets, parted by commas."""
+        self.at, number = self.at + 1, 0
+        while self.text[self.skip(BLANK)] != end:
+            read(number)
+            number += 1
+            if self.text[self.skip(BLANK)] == ",":
+                self.at += 1
+        self.at += 1
+
+    def line_and_column(self, path, within=0):
+        """Where a value stands, from 1; of a path that has none, where the next part of it does that has one. `within` is how
+        many characters behind its opening quote, and None for the key itself."""
+        while path and path not in self.found:
+            path = path[:-1]
+        at = self.key_places.get(path, 0) if within is None else self.found.get(path, 0)
+        if within is not None and STRING.match(self.text, at) and not self.text.startswith(('"""', "'''"), at):
+            at += within + 1 if within else 0
+        return self.text.count("\n", 0, at) + 1, at - self.text.rfind("\n", 0, at)
