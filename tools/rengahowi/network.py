@@ -14,12 +14,13 @@ class Pipe:
         self.pdus, self.heard = deque(), 0
 
     def deliver(self, count):
-        """Takes octets from the front, as many as there are at most."""
-        self.heard += count
+        """Takes octets from the front, as many as there are at most, and answers how many PDUs are whole by that."""
+        self.heard, before = self.heard + count, len(self.pdus)
         while self.pdus and self.heard >= self.pdus[0]:
             self.heard -= self.pdus.popleft()
         if not self.pdus:
             self.heard = 0
+        return before - len(self.pdus)
 
     def octets(self):
         """How many octets are on their way."""
@@ -41,6 +42,7 @@ class Network:
         self.ends = {(edge, wire.name): "NoLocal" for wire in plan.wires.values() for edge in wire.ends()}
         self.on = {circuit: True for circuit in plan.circuits}
         self.packets = {}
+        self.heard = 0  # PDUs that were delivered whole
         self.calm = {}
 
     def begin(self, event):
@@ -54,7 +56,7 @@ class Network:
                 self.stands.add(way)
                 self.pipes[way] = Pipe()
         elif kind == "deliver":
-            self.pipes[words[:2]].deliver(words[2])
+            self.heard += self.pipes[words[:2]].deliver(words[2])
         elif kind == "restart":
             self.restart(words[0])
         elif kind in ("arrive", "drop"):

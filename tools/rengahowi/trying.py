@@ -1,0 +1,76 @@
+"""How the checks of examples and tools compare: a call and what it has to say, and what is seen in what a tool made."""
+
+import json
+import pathlib
+import shlex
+import shutil
+import subprocess
+import xml.etree.ElementTree
+
+TOP = pathlib.Path(__file__).resolve().parent.parent.parent
+PROGRAM = str(TOP / "bin" / "vplsnet")
+# External programs that some checks need, and the Debian package of each.
+PACKAGES = {"dot": "graphviz", "tshark": "tshark"}
+# The severity of an error of Wireshark's expert.
+ERROR = 0x00800000
+HTML = "{http://www.w3.org/1999/xhtml}"
+SVG = "{http://www.w3.org/2000/svg}"
+
+
+def run(words, folder, **more):
+    """Runs a command in a folder, and answers how it ended."""
+    return subprocess.run(words, cwd=folder, stdin=subprocess.DEVNULL, capture_output=True, check=False, **more)
+
+
+def tool(name, *words, folder=TOP):
+    """Runs a tool, and answers its status, its output and its standard error, both as texts."""
+    done = run([TOP / "tools" / name, *map(str, words)], folder, text=True)
+    return done.returncode, done.stdout, done.stderr
+
+
+def compare(name, got, want):
+    """Whether two values agree; says where they do not."""
+    if got == want:
+        return True
+    print(f"{name}: got {got!r}, and not {want!r}")
+    return False
+
+
+def build():
+    """Has the program built before the first comparison; it tells how far that is."""
+    subprocess.run([PROGRAM, "decode", "/dev/null"], stdin=subprocess.DEVNULL, check=False)
+
+
+def missing():
+    """The external programs that are missing, each of which is named."""
+    gone = {program for program in PACKAGES if shutil.which(program) is None}
+    for program in sorted(gone):
+        print(f"{program} is missing (Debian: {PACKAGES[program]}), and what needs it is not tried")
+    return gone
+
+
+def boxes_in(picture):
+    """How many nodes and lines a picture has; it has to be XML."""
+    groups = xml.etree.ElementTree.fromstring(picture).iter(f"{SVG}g")
+    kinds = [group.get("class") for group in groups]
+    return kinds.count("node"), kinds.count("edge")
+
+
+def rows_in(page):
+    """The rows of a ladder; the page has to be XML."""
+    scripts = xml.etree.ElementTree.fromstring(page).iter(f"{HTML}script")
+    return json.loads(next(script.text for script in scripts if script.get("id") == "data"))["rows"]
+
+
+def capture_seen(call, folder):
+    """What tshark sees in a capture, by the call of Wireshark that `to-pcap` printed: LDP messages, MPLS packets, and packets that
+    are malformed or in which its expert finds an error."""
+    fields = ["ldp.msg.type", "mpls.label", "_ws.malformed", "_ws.expert.severity"]
+    words = ["tshark", *shlex.split(call)[1:], "-T", "fields", *(word for field in fields for word in ("-e", field))]
+    messages = packets = faults = 0
+    for line in run(words, folder, text=True).stdout.splitlines():
+        ldp, label, malformed, severity = line.split("\t")
+        messages += len(ldp.split(",")) if ldp else 0
+        packets += bool(label)
+        faults += bool(malformed) or any(int(one, 0) >= ERROR for one in severity.split(",") if one)
+    return messages, packets, faults
