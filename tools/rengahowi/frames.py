@@ -74,7 +74,7 @@ class Run:
         self.plan, self.report, self.network = plan, report, Network(plan)
         self.frames, self.heard = {}, {service: set() for service in plan.services}
         self.open_frames = {}
-        self.ever_up, self.ever_carried = set(), set()
+        self.ever_up, self.ever_carried, self.carrying = set(), set(), set()
         self.joined = {service: set() for service in plan.services}
         self.spans = {service: [] for service in plan.services}
         self.open_spans = {}
@@ -147,6 +147,9 @@ class Run:
         network = self.network
         self.ever_up |= {pair for pair in self.plan.pairs() if network.is_up(*pair)}
         carrying = {wire.name for wire in self.plan.wires.values() if network.carries(wire)}
+        if carrying == self.carrying:
+            return
+        self.carrying = carrying
         self.ever_carried |= carrying
         for service in self.plan.services:
             joined = network.joined(service)

@@ -49,8 +49,9 @@ class Network:
         """What an event does by itself, before its entries."""
         if event.is_idle():
             return
-        self.calm.clear()
         kind, words = event.kind, event.words
+        if kind in ("connect", "deliver", "restart"):
+            self.calm.clear()
         if kind == "connect":
             for way in (words, words[::-1]):
                 self.stands.add(way)

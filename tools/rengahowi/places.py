@@ -84,10 +84,10 @@ class Places:
 
     def line_and_column(self, path, within=0):
         """Where a value stands, from 1; of a path that has none, where the next part of it does that has one. `within` is how
-        many characters behind its opening quote, and None for the key itself."""
+        many characters behind the first one, and None for the key itself."""
         while path and path not in self.found:
             path = path[:-1]
         at = self.key_places.get(path, 0) if within is None else self.found.get(path, 0)
         if within is not None and STRING.match(self.text, at) and not self.text.startswith(('"""', "'''"), at):
-            at += within + 1 if within else 0
+            at += within
         return self.text.count("\n", 0, at) + 1, at - self.text.rfind("\n", 0, at)
