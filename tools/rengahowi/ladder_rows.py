@@ -50,7 +50,8 @@ class Rows:
 
     def event_row(self, event):
         """The row of an event; of a packet's, with the frame that it is of."""
-        where = [("edge", word) for word in event.words[:1] if ("edge", word) in self.column]
+        at = event.words[1:2] if event.kind == "deliver" else event.words[:1]
+        where = [("edge", word) for word in at if ("edge", word) in self.column]
         row = self.row("event", event.text, where, n=event.number)
         if event.kind in ("arrive", "drop", "again") and event.words[0] in self.network.packets:
             packet = self.network.packets[event.words[0]]
