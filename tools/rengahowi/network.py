@@ -138,23 +138,26 @@ class Network:
         )
 
     def joined(self, service):
-        """The pairs of edges of a service between which a flooded frame finds its way by wires that carry frames: no mesh wire
-        follows on another one. Each pair is a set of two edges."""
+        """The pairs of edges of a service between which a flooded frame finds its way by wires that carry frames: it does not go
+        back on the wire by which it came, and from no mesh wire to another one. Each pair is a set of two edges."""
         ways = {}
         for wire in self.plan.wires_of(service):
             if self.carries(wire):
                 for edge, far in (wire.ends(), wire.ends()[::-1]):
-                    ways.setdefault(edge, []).append((far, wire.kind == "mesh"))
+                    ways.setdefault(edge, []).append((far, wire))
         return {frozenset((start, edge)) for start in ways for edge in reached(ways, start) if edge != start}
 
 
 def reached(ways, start):
     """The edges that a frame reaches from one."""
-    found, open_ends = {(start, False)}, [(start, False)]
+    found, open_ends = {start}, [(start, None)]
+    seen = set()
     while open_ends:
-        edge, by_mesh = open_ends.pop()
-        for far, is_mesh in ways.get(edge, ()):
-            if not (by_mesh and is_mesh) and (far, is_mesh) not in found:
-                found.add((far, is_mesh))
-                open_ends.append((far, is_mesh))
-    return {edge for edge, _ in found}
+        edge, came = open_ends.pop()
+        for far, wire in ways.get(edge, ()):
+            goes = came is None or wire is not came and not (wire.kind == came.kind == "mesh")
+            if goes and (far, wire.name) not in seen:
+                seen.add((far, wire.name))
+                found.add(far)
+                open_ends.append((far, wire))
+    return found
