@@ -105,8 +105,8 @@ class Network:
             self.take(entry)
 
     def carries(self, wire):
-        """Whether a wire is up at both terminal edges."""
-        return all(self.ends[edge, wire.name] == UP for edge in wire.ends())
+        """Whether a wire is up at both terminal edges, and each session along it at both ends."""
+        return all(self.ends[edge, wire.name] == UP for edge in wire.ends()) and all(self.is_up(a, b) for a, b in wire.segments())
 
     def is_up(self, a, b):
         """Whether the sessions of two edges are up at both ends."""
