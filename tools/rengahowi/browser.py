@@ -22,11 +22,20 @@ for (const row of document.querySelectorAll("g.row")) {
   const right = document.getElementById("space").getBoundingClientRect().right;
   boxes.forEach((a, at) => {
     if (a.right > right + 1) count++;
-    boxes.slice(at + 1).forEach(b => { if (a.left < b.right - 1 && b.left < a.right - 1 && a.top < b.bottom - 1 && b.top < a.bottom - 1) count++; });
+    boxes.slice(at + 1).forEach(b => {
+      if (a.left < b.right - 1 && b.left < a.right - 1 && a.top < b.bottom - 1 && b.top < a.bottom - 1) count++;
+    });
   });
 }
 return count;
 """
+# Goes to the first packet, and answers its row.
+GO = "const place = data.rows.findIndex(row => row.k === 'sent'); view.scrollTop = place * ROW; draw(); return place;"
+OCTETS = """
+const text = document.getElementById("octets").textContent;
+return text.match(/ [0-9a-f]{2}(?= )/g).join("").replace(/ /g, "");
+"""
+FRAMES = "return [...new Set(shown.map(row => data.rows[row].f).filter(frame => frame !== undefined))].join(' ')"
 CLICK = "arguments[0].dispatchEvent(new MouseEvent('click', {bubbles: true}));"
 
 
@@ -55,14 +64,13 @@ def main():
     try:
         print("rows", len(browser.find_elements("css selector", "g.row")))
         print("overlaps", browser.execute_script(OVERLAPS))
-        place = browser.execute_script("const place = data.rows.findIndex(row => row.k === 'sent'); view.scrollTop = place * ROW; draw(); return place;")
+        place = browser.execute_script(GO)
         if place >= 0:
             click(browser, f"[data-row='{place}'] path")
-            octets = browser.execute_script("return document.getElementById('octets').textContent.match(/ [0-9a-f]{2}(?= )/g).join('').replace(/ /g, '')")
-            print("octets", octets)
+            print("octets", browser.execute_script(OCTETS))
             print("overlaps", browser.execute_script(OVERLAPS))
             click(browser, f"[data-row='{place}'] [data-frame]")
-            print("frames", browser.execute_script("return [...new Set(shown.map(row => data.rows[row].f).filter(frame => frame !== undefined))].join(' ')"))
+            print("frames", browser.execute_script(FRAMES))
             print("rows", len(browser.find_elements("css selector", "g.row")))
             print("overlaps", browser.execute_script(OVERLAPS))
             if len(sys.argv) > 2:

@@ -86,7 +86,8 @@ def top_faults(document):
             right = "an array of texts" if table == "events" else f"rows, each under its own [[{table}]], with two brackets"
             yield Finding(f"WrongKind top 0 {table}", (table,), 0, f"{table} is {right}")
     for key in unknown(document, ["version", *MOST_ROWS]):
-        yield Finding(f"UnknownKey {place('top', 0, key)}", (key,), None, f"{key!r} is no key here; there are version, {', '.join(MOST_ROWS)}")
+        text = f"{key!r} is no key here; there are version, {', '.join(MOST_ROWS)}"
+        yield Finding(f"UnknownKey {place('top', 0, key)}", (key,), None, text)
     for table, most in MOST_ROWS.items():
         if isinstance(document.get(table), list) and len(document[table]) > most:
             yield Finding(f"TooMany {table} {most}", (table,), 0, f"at most {most} rows of {table}, and not {len(document[table])}")
@@ -213,7 +214,9 @@ def clashes(wires):
         service, (first, last) = row["service"], (row["path"][0], row["path"][-1])
         own_starts = [first] if row["class"] == "spoke" else []
         own_ends = [last] if row["class"] == "spoke" else [first, last]
-        for edge, before in [(edge, ends.get((service, edge))) for edge in own_starts] + [(edge, starts.get((service, edge))) for edge in own_ends]:
+        stood = [(edge, ends.get((service, edge))) for edge in own_starts]
+        stood += [(edge, starts.get((service, edge))) for edge in own_ends]
+        for edge, before in stood:
             if before is not None:
                 text = (
                     f"at edge {edge!r} a spoke would start, and wire {before!r} has an end of the core: a spoke's path begins at its"
@@ -235,5 +238,6 @@ def port_faults(document):
             counts[row["service"], edge] = counts.get((row["service"], edge), 0) + 1
     for number, row in enumerate(document.get("service", [])):
         for edge in (edge for (service, edge), count in counts.items() if service == row["name"] and count > MOST_PORTS):
-            yield plan_fault("OutOfRange", "service", number, "name", f"at most {MOST_PORTS} circuits and wires of a service at one edge ({edge})")
+            text = f"at most {MOST_PORTS} circuits and wires of a service at one edge ({edge})"
+            yield plan_fault("OutOfRange", "service", number, "name", text)
             break

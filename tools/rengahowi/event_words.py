@@ -45,7 +45,8 @@ class EventWords:
             bad = (1, f"at most {MOST_PLAYS} events play a capture") if words[0] == "play" and plays > MOST_PLAYS else self.bad_word(words)
             if bad is not None:
                 at = sum(len(word) + 1 for word in words[: bad[0] - 1])
-                yield Finding(f"BadWord {number + 1} {bad[0]}", ("events", number), 1 + min(at, len(text)), f"{text[:60]!r}, word {bad[0]}: {bad[1]}")
+                said = f"{text[:60]!r}, word {bad[0]}: {bad[1]}"
+                yield Finding(f"BadWord {number + 1} {bad[0]}", ("events", number), 1 + min(at, len(text)), said)
 
     def bad_word(self, words):
         """The first bad word of an event, and what is right; None where all are right."""

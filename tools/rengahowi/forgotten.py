@@ -20,7 +20,8 @@ def unbuilt(plan):
         if wire.near["vccv"] or wire.far["vccv"]:
             yield Finding("", ("wire", number, "vccv"), 0, "control channels are not built yet: the program answers 'not built'")
         if len(wire.path) > 2:
-            yield Finding("", ("wire", number, "path"), 0, "paths of more than two edges are not built yet: the program answers 'not built'")
+            text = "paths of more than two edges are not built yet: the program answers 'not built'"
+            yield Finding("", ("wire", number, "path"), 0, text)
     for number, text in enumerate(plan.events):
         word = text.split(" ")[0]
         if word in UNBUILT_EVENTS:
@@ -48,7 +49,7 @@ def turned_spokes(plan, service, lonely):
         first, last = wire.ends()
         if wire.service == service and wire.kind == "spoke" and last in lonely - mesh_ends:
             turned = ", ".join(f'"{edge}"' for edge in wire.path[::-1])
-            text = f"spoke {wire.name!r} makes {first!r} the spoke edge and {last!r} the core edge; if it is the other way, path = [{turned}]"
+            text = f"spoke {wire.name!r} makes {first!r} the spoke edge and {last!r} the core edge; if it is otherwise, path = [{turned}]"
             yield Finding("", ("wire", number, "path"), 0, text)
 
 
@@ -77,7 +78,7 @@ def expiring(plan):
             if short and not told:
                 told, pair = True, short[0]
                 text = (
-                    f"{ticks} ticks without a delivery, and the session of {pair[0]!r} and {pair[1]!r} expires after {holds[pair]}: tick less"
-                    f" at a time, with a 'settle' in between, or give both a larger keepalive"
+                    f"{ticks} ticks without a delivery, and the session of {pair[0]!r} and {pair[1]!r} expires after {holds[pair]}:"
+                    f" tick less at a time, with a 'settle' in between, or give both a larger keepalive"
                 )
                 yield Finding("", ("events", number), 0, text)

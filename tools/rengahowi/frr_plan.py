@@ -83,7 +83,8 @@ class FrrPlan:
     def add_end(self, ends, router, section, wire):
         """An end that has what it needs, and whose number was not there."""
         if wire.neighbour is None or wire.pw_id is None:
-            self.leave(router, wire.line, f"pseudowire {wire.name} is left out: it has no {'neighbor lsr-id' if wire.neighbour is None else 'pw-id'}")
+            lacks = "neighbor lsr-id" if wire.neighbour is None else "pw-id"
+            self.leave(router, wire.line, f"pseudowire {wire.name} is left out: it has no {lacks}")
             return
         if wire.address not in (None, wire.neighbour):
             self.leave(router, wire.line, f"neighbor address {wire.address}: an edge has one address, its router-id")
@@ -121,7 +122,8 @@ class FrrPlan:
         """A mesh wire, unless there is one between the two edges in this service. What both ends offer stands once."""
         a, b, service = self.edge[near[0]], self.edge[far[0]], self.service[self.service_of[near[1]]]
         if any({a, b} == set(row["path"]) and row["service"] == service["name"] for row in self.rows["wire"]):
-            self.leave(near[0], near[2].line, f"pseudowire {near[2].name} is left out: service {service['name']} has a mesh wire from {a} to {b}")
+            text = f"pseudowire {near[2].name} is left out: service {service['name']} has a mesh wire from {a} to {b}"
+            self.leave(near[0], near[2].line, text)
             return
         name = self.names.give(a, b, str(near[2].pw_id))
         row = {"name": name, "service": service["name"], "class": "mesh", "path": [a, b], "pw_id": near[2].pw_id}

@@ -85,10 +85,12 @@ class Rows:
     def left(self, circuit, origin, hops, octets):
         """A copy that left."""
         edge = self.network.plan.circuits[circuit]["edge"]
-        return self.row("left", f"frame {origin} out, {hops} segment{'' if hops == 1 else 's'}", [("edge", edge), ("circuit", circuit)], f=origin, o=octets)
+        text = f"frame {origin} out, {hops} segment{'' if hops == 1 else 's'}"
+        return self.row("left", text, [("edge", edge), ("circuit", circuit)], f=origin, o=octets)
 
-    def sent(self, packet, start, end, wire, _arrival, origin, hops, octets):
+    def sent(self, packet, start, end, wire, *more):
         """A packet, with its wire and its label."""
+        _arrival, origin, hops, octets = more
         label = int(octets[:5] or "0", 16)
         text = f"packet {packet} on {wire}, label {label}, frame {origin}, segment {hops}"
         return self.row("sent", text, [("edge", start), ("edge", end)], f=origin, o=octets, w=wire)

@@ -119,7 +119,8 @@ def drops(rows):
 def under_way(found):
     """What is on its way at the end."""
     lines = [f"  {row['octets']} octets from {row['from']} to {row['to']}" for row in found["octets"]]
-    lines += [f"  packet {row['packet']} of frame {row['frame']} from {row['from']} to {row['to']} on {row['wire']}" for row in found["packets"]]
+    for row in found["packets"]:
+        lines.append(f"  packet {row['packet']} of frame {row['frame']} from {row['from']} to {row['to']} on {row['wire']}")
     return ["Under way at the end", *cut(lines)] if lines else ["Nothing is under way at the end"]
 
 
