@@ -1,6 +1,7 @@
 pub mod ArrivalLemmas
 pub mod BridgeLemmas
 pub mod CarryLemmas
+pub mod ChainLemmas
 pub mod ChosenLemmas
 pub mod CopyLemmas
 pub mod CountLemmas

@@ -15,6 +15,9 @@ use Rattle.edge_model.proofs.LocalLemmas.{and_left, and_right}
 use Rattle.network_model.specs.Calm.{carries, is_calm}
 use Rattle.network_model.specs.State.{NetworkState}
 use Rattle.network_model.proofs.CalmLemmas.{any_at}
+use Rattle.flight_model.specs.Laws.{network_after}
+use Rattle.flight_model.proofs.RunLemmas.{run_ordered}
+use Rattle.flood_model.specs.Laws.{RunsKeepWiresWhole}
 use Rattle.flood_model.proofs.ChosenLemmas.{one_chosen}
 use Rattle.flood_model.proofs.DueLemmas.{carries_by, forwards, stitches}
 use Rattle.flood_model.proofs.HomeLemmas.{LiveSpoke, live_count, live_found}
@@ -69,3 +72,13 @@ wire_whole plan calm service wire w link checked calmed placed is ours up = by (
   by : (b : Bool) → is_mesh_class w.class ≡ b → carries plan calm wire.0 w ≡ true
   by true mesh = mesh_carries plan calm service wire.0 w checked calmed is (rw (ours, mesh) refl)
   by false spoke = spoke_whole plan calm service wire w link checked calmed placed is ours spoke up
+
+-- ---- the law
+
+pub runs_keep_wires_whole : RunsKeepWiresWhole
+runs_keep_wires_whole plan events run service calm wire row is ours near first up =
+    wire_whole plan (network_after plan events) service wire row link run.checked calm (run_ordered plan events run).placed is ours
+    (subst (λ (n : ℕ). end_forwards plan ((network_after plan events).edges n) wire ≡ true) (eqb-true near.0 link.near.0 (sym (ap (is_first near.0) link.path) ∙ first)) up)
+  where
+    link : IsLink plan row
+    link = link_at plan wire.0 row run.checked is

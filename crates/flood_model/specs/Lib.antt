@@ -1,5 +1,6 @@
 pub mod Due
 pub mod Laws
 pub mod Copy
+pub mod Chain
 pub mod Hops
 pub mod Shares
