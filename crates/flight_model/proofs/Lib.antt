@@ -9,7 +9,6 @@ pub mod BoundEventLemmas
 pub mod BoundHearLemmas
 pub mod BoundRunLemmas
 pub mod BridgeLemmas
-pub mod ChainLemmas
 pub mod CircuitLemmas
 pub mod ConnectLemmas
 pub mod EdgeBindingLemmas

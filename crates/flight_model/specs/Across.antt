@@ -6,7 +6,7 @@ use Rattle.net_base.specs.declared.plan.places.EdgeId.{EdgeId}
 use Rattle.net_base.specs.declared.plan.places.WireId.{WireId}
 use Rattle.net_base.specs.declared.plan.wire_plan.WirePlan.{WirePlan}
 use Rattle.net_base.specs.declared.trace.event.Event.{Event}
-use Rattle.net_base.specs.plan.Paths.{edge_address, expected, joins, mate}
+use Rattle.net_base.specs.plan.Paths.{edge_address, mate}
 use Rattle.net_base.specs.plan.Places.{wire_row}
 use Rattle.ldp_grammar.specs.declared.message.Message.{Message}
 use Rattle.ldp_grammar.specs.declared.message.Message.TheVariants.{LabelMapping}
@@ -20,11 +20,9 @@ use Rattle.edge_model.specs.EndPlaces.{end_named}
 use Rattle.edge_model.specs.Mend.{is_up_with}
 use Rattle.edge_model.specs.Signal.{takes_content}
 use Rattle.edge_model.specs.State.{EdgeState}
-use Rattle.network_model.specs.Calm.{is_quiet}
-use Rattle.network_model.specs.Goal.{start}
 use Rattle.network_model.specs.State.{NetworkState}
 use Rattle.flight_model.specs.Laws.{AreOnWay, IsRun, network_after}
-use Rattle.flight_model.specs.Rules.{AllMessages, told_of}
+use Rattle.flight_model.specs.Rules.{AllMessages}
 
 -- ---- what is told
 
@@ -48,24 +46,6 @@ pub record TellsAcross (plan : Plan) (me from to : EdgeId) (wire : WireId) (row 
 abbrev pub RunsTellAcross : Type 0
 RunsTellAcross = (plan : Plan) (events : List Event) → IsRun plan events → (me from to : EdgeId) (wire : WireId) (row : WirePlan) → wire_row plan wire ≡ Some row → mate row me.0 from.0 ≡ Some to
     → TellsAcross plan me from to wire row ((network_after plan events).edges me.0)
-
--- ---- what is told along a wire
-
--- the terminal edge from which an edge has what it tells a neighbour of a wire, by itself or over switching points, advertises the
--- same with the same status: before the points of those, and of the edge where it is one
-pub record StartTells (plan : Plan) (network : NetworkState) (wire : WireId) (row : WirePlan) (from to : EdgeId) (content : Told) : Type 0 where
-  pub next : EdgeId
-  pub joined : joins (start row.path from to).0 next.0 row.path ≡ true
-  pub label : ℕ
-  pub told : Told
-  pub advertised : ((network.edges (start row.path from to).0).ends wire.0 next.0).local ≡ Advertised label told
-  pub content_is : content ≡ told_of (expected plan row from.0 to.0) told.status
-
--- where the service of the wire is quiet
-abbrev pub RunsTellChains : Type 0
-RunsTellChains = (plan : Plan) (events : List Event) → IsRun plan events → (from to : EdgeId) (wire : WireId) (row : WirePlan) → wire_row plan wire ≡ Some row → joins from.0 to.0 row.path ≡ true
-    → is_quiet plan (network_after plan events) row.service ≡ true → (label : ℕ) (content : Told) → (((network_after plan events).edges from.0).ends wire.0 to.0).local ≡ Advertised label content
-    → StartTells plan (network_after plan events) wire row from to content
 
 -- ---- what is taken
 

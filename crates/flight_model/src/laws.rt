@@ -1,5 +1,5 @@
 //! What holds of sessions and pseudowires in every run of the network.
-ghost use Rattle.flight_model.specs.Across.{RunsTakeMappings, RunsTellAcross, RunsTellChains};
+ghost use Rattle.flight_model.specs.Across.{RunsTakeMappings, RunsTellAcross};
 ghost use Rattle.flight_model.specs.Laws.{RunsAgreeAfterFlight, RunsComeUp, RunsEndWell, RunsFollowTable, RunsKeepLabelRule, RunsKeepToldRule, RunsSettle};
 ghost use Rattle.flight_model.specs.Releases.{RunsAwaitReleases, RunsReleaseUnadvertised};
 
@@ -76,14 +76,6 @@ pub fn runs_release_unadvertised()
 #[tactic(auto, using(crate::proofs::AcrossLemmas::runs_tell_across))]
 pub fn runs_tell_across()
     ensures { RunsTellAcross }
-{}
-
-/// In a state in which the service of a wire is quiet, what is told along the wire is one chain: whatever an edge advertises to a
-/// neighbour is what the terminal edge on its side advertises now, its status among it, behind the points of the switching points
-/// that have passed it on (RFC 6073 sections 7 and 10).
-#[tactic(auto, using(crate::proofs::ChainLemmas::runs_tell_chains))]
-pub fn runs_tell_chains()
-    ensures { RunsTellChains }
 {}
 
 /// Whatever Label Mapping is on its way to an edge, the end that it names takes what it tells: no switching point refuses one
