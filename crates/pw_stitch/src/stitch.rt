@@ -2,11 +2,12 @@
 ghost use Rattle.std.specs.Prelude.{◌≡◌, ◌≤◌, ◌<◌, ◌+◌, ◌↔◌, true, length, None, Some, Err, IfOk, IfSome, IsSome, option_copied};
 ghost use Rattle.pw_signalling.specs.AnyEnd.{end_of};
 ghost use Rattle.pw_stitch.specs.declared.swap_drop.SwapDrop.TheVariants.{NoBinding, Expired};
-ghost use Rattle.pw_stitch.specs.Passing.{own_point, passed_status, past_point, wanted};
+ghost use Rattle.pw_stitch.specs.Passing.{own_point, passed_status, wanted};
 ghost use Rattle.pw_stitch.specs.Side.{opposite};
 ghost use Rattle.pw_stitch.specs.Stitch.{end_on, held_across, unstitched, with_end_on};
 ghost use Rattle.pw_stitch.specs.Swap.{IsOfOneSide, label_onward, next_across, side_taking, swapped, takes_label};
 
+use crate::passing::{passed_status, wanted};
 use crate::{Next, Side, SwapDrop};
 use net_base::{Addr, Label};
 use pw_signalling::{Binding, PwEnd, PwIdle, Told};
@@ -77,10 +78,7 @@ impl Stitch {
             local: Some(own),
             remote: Some(far),
         };
-        match self.held_across(side) {
-            Some(binding) => Some(past_point(&binding.told, point)),
-            None => None,
-        }
+        wanted(self.held_across(side), point)
     }
 
     /// The status that the end of a side tells its peer, where its mapping has one (RFC 6073 section 10): that of what is held
@@ -88,10 +86,7 @@ impl Stitch {
     pub fn status_to_pass(&self, side: Side) -> PwStatus
         ensures status { result ≡ passed_status (held_across side self.now) }
     {
-        match self.held_across(side) {
-            Some(binding) => binding.told.status.unwrap_or(PwStatus(0)),
-            None => PwStatus(0),
-        }
+        passed_status(self.held_across(side))
     }
 
     /// Whether exactly one side advertises the label, as `swap` asks for.
@@ -147,16 +142,6 @@ impl Stitch {
     {
         self.end(side.opposite()).remote()
     }
-}
-
-// The content behind one switching point more.
-fn past_point(told: &Told, point: Point) -> Told
-    requires { length told.now.points < 3 }
-    ensures { result ≡ past_point point told.now }
-{
-    let mut points = told.points;
-    points.add(point);
-    Told { points, ..*told }
 }
 
 // Whether packets with this label come to the end, since it advertises the label.
