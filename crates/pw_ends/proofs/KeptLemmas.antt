@@ -10,18 +10,20 @@ use Rattle.label_space.specs.declared.label_owner.LabelOwner.{LabelOwner}
 use Rattle.label_space.specs.Labels.{AreBelow, LabelNumbers, freed, issued, numbers_end, owner_of, owns}
 use Rattle.label_space.proofs.LabelLemmas.{below_filtered, below_pushed, below_none, owner_of-above, owner_of-kept, owner_of-next}
 use Rattle.pw_signalling.specs.AnyEnd.{end_of}
+use Rattle.pw_signalling.specs.declared.binding.Binding.{Binding}
 use Rattle.pw_signalling.specs.declared.pw_end.PwEnd.{PwEnd}
 use Rattle.pw_signalling.specs.declared.told.Told.{Told}
 use Rattle.pw_signalling.specs.End.{EndState, LocalPart, Idle, Advertised, Withdrawing, fresh}
 use Rattle.pw_signalling.specs.Laws.{own_label}
-use Rattle.pw_signalling.specs.Rows.{advertised, advertise_part, tell_part, withdraw_part, renew_part, release_part, names, is_in_group, unbound, stated}
+use Rattle.pw_signalling.specs.Rows.{advertised, advertise_part, bound, tell_part, withdraw_part, renew_part, release_part, names, is_in_group, unbound, stated}
 use Rattle.edge_model.specs.declared.end_place.EndPlace.{EndPlace}
 use Rattle.pw_ends.specs.declared.end_change.EndChange.{EndChange}
 use Rattle.pw_ends.specs.declared.end_change.EndChange.TheVariants as change
 use Rattle.pw_ends.specs.Changes.{changed, changed_in}
-use Rattle.pw_ends.specs.Ends.{EndLists, HasKind, IsIdle, end_in, no_place, place_of}
+use Rattle.pw_ends.specs.Ends.{CanHold, EndLists, HasKind, Holds, IsIdle, end_in, no_place, place_of}
 use Rattle.pw_ends.specs.Kept.{AreApart, AreKept, Differ, IsOwned, IsOwner, OwnApart, OwnTheirs, count_owned, freed_one, left_label, one_owned, own_of, segment_of}
 use Rattle.pw_ends.specs.Owned.{AreEarlier, OwnedList, with_owner, without_one}
+use Rattle.pw_ends.proofs.HoldLemmas.{holding_at, holding_none, holding_set, holds_stay}
 use Rattle.pw_ends.proofs.OwnerLemmas.{all_at, differ_sym, index_changed, index_count, index_earlier, index_issued, index_opened, set_same}
 use Rattle.pw_ends.proofs.SegmentLemmas.{owner_at, owners_changed, owners_issued, owners_none}
 use Rattle.pw_ends.proofs.SlotLemmas.{seen_at}
@@ -196,7 +198,6 @@ stays_or_none change.Renewed e = inl (part e.local)
     part (Idle declined) = refl
     part (Advertised own told) = refl
     part (Withdrawing own) = refl
-stays_or_none (change.Bound binding) e = inl refl
 stays_or_none (change.Unbound label) e = inl refl
 stays_or_none (change.Released label) e = part e.local
   where
@@ -241,7 +242,6 @@ kind_stays change.Renewed e kind = part e.local kind
     part (Idle declined) kind = kind
     part (Advertised own told) kind = kind
     part (Withdrawing own) kind = kind
-kind_stays (change.Bound binding) e kind = kind
 kind_stays (change.Unbound label) e kind = kind
 kind_stays (change.Released label) e kind = part e.local kind
   where
@@ -289,6 +289,12 @@ owner_seen lists index slot kept within =
     let own : get_or (map own_of lists.ends) slot None ≡ own_label (end_in lists slot).local = own_at lists.ends slot ∙ ap own_of (sym (seen_at lists slot kept.apart kept.count within)) in
     subst (IsOwner lists.labels.owners (place_of lists slot)) own (owner_at lists.labels.owners lists.places (map own_of lists.ends) slot kept.owners within short)
 
+-- what the end of a slot holds can be told on
+pub holding_seen : (lists : EndLists) (index : OwnedList) (slot : ℕ) → AreKept lists.places lists.ends lists.labels index → slot < length lists.places → Holds (place_of lists slot) (end_in lists slot).remote
+holding_seen lists index slot kept within =
+    subst (λ (end : EndState). Holds (place_of lists slot) end.remote) (sym (seen_at lists slot kept.apart kept.count within))
+    (holding_at lists.places lists.ends slot kept.holds within (subst (λ (n : ℕ). slot < n) (sym kept.count) within))
+
 -- after a change the ends own what is left in the label space
 theirs_changed : (own_list : List (Option ℕ)) (labels : LabelNumbers) (slot : ℕ) (before after : Option ℕ) → OwnTheirs own_list labels → slot < length own_list → get_or own_list slot None ≡ before → (after ≡ before) ⊎ (after ≡ None) → OwnTheirs (set own_list slot after) (freed_one (left_label before after) labels)
 theirs_changed own_list labels slot None None theirs within at either = rw (set_same own_list slot None None within (sym at)) theirs
@@ -334,6 +340,7 @@ kept_changed c places ends labels index slot kept within =
       owners = rw owned owners;
       kinds = all_set (λ (end : EndState). HasKind end.local) ends slot (changed c old) kept.kinds (kind_stays c old (ends_at (λ (end : EndState). HasKind end.local) ends slot kept.kinds short));
       slots = rw owned slots;
+      holds = holding_set places ends slot (changed c old) kept.holds (holds_stay (get_or places slot no_place) c old (holding_at places ends slot kept.holds within short));
     })
   where
     set_at : (es : List EndState) (i : ℕ) (e : EndState) → i < length es → get_or (set es i e) i fresh ≡ e
@@ -346,6 +353,24 @@ pub kept_moved : (c : EndChange) (places : List EndPlace) (ends now : List EndSt
     → left ≡ freed_one (left_label before after) labels → others ≡ without_one (left_label before after) index → AreKept places now left others
 kept_moved c places ends now labels left index others slot before after kept within is first last freed_is without_is =
     rw (freed_is, without_is, first, last, is) (kept_changed c places ends labels index slot kept within)
+
+-- an end that is bound owns the same label as before
+pub kept_bound : (binding : Binding) (places : List EndPlace) (ends now : List EndState) (labels : LabelNumbers) (index : OwnedList) (slot : ℕ) → AreKept places ends labels index → slot < length places → now ≡ changed_in (bound binding) slot ends → CanHold (get_or places slot no_place) binding.told → AreKept places now labels index
+kept_bound binding places ends now labels index slot kept within is holds =
+    let old : EndState = get_or ends slot fresh in
+    let short : slot < length ends = subst (λ (n : ℕ). slot < n) (sym kept.count) within in
+    let short_own : slot < length (map own_of ends) = subst (λ (n : ℕ). slot < n) (sym (own_count ends)) short in
+    let same : map own_of (changed_in (bound binding) slot ends) ≡ map own_of ends = map-set own_of ends slot (bound binding old) ∙ set_same (map own_of ends) slot None (own_of old) short_own (sym (own_at ends slot)) in
+    rw is (record {
+      count = length-set ends slot (bound binding old) ∙ kept.count;
+      apart = kept.apart;
+      room = kept.room;
+      owns = rw same kept.owns;
+      owners = rw same kept.owners;
+      kinds = all_set (λ (end : EndState). HasKind end.local) ends slot (bound binding old) kept.kinds (ends_at (λ (end : EndState). HasKind end.local) ends slot kept.kinds short);
+      slots = rw same kept.slots;
+      holds = holding_set places ends slot (bound binding old) kept.holds holds;
+    })
 
 -- ---- an end advertises
 
@@ -403,6 +428,7 @@ kept_issued key side told places ends labels index slot kept within idle kind le
       owners = rw (owned, of_segment, of_side) (owners_issued (map own_of ends) labels places slot kept.owners kept.owns.given left);
       kinds = all_set (λ (end : EndState). HasKind end.local) ends slot new kept.kinds (advertised_kind labels.next told old.local idle kind);
       slots = rw owned (index_issued (map own_of ends) labels index slot key side kept.slots (all_next labels.owners labels.next (map own_of ends) kept.owns.given kept.owns.owned) (index_larger places ends labels index kept) short_own none left);
+      holds = holding_set places ends slot new kept.holds (holding_at places ends slot kept.holds within short);
     }
 
 -- the same of what the code has
@@ -458,4 +484,5 @@ kept_opened places first apart = record {
   owners = rw (none_own (length places)) (owners_none [] places (length places));
   kinds = none_kind (length places);
   slots = rw (none_own (length places)) (index_opened (length places) (length places) first);
+  holds = holding_none places (length places);
 }

@@ -1,5 +1,6 @@
 pub mod AdvertiserLemmas
 pub mod BesideLemmas
+pub mod HoldLemmas
 pub mod IndexLemmas
 pub mod KeptLemmas
 pub mod NoneLemmas

@@ -1,7 +1,7 @@
 -- What becomes of ends: one of them, or each that stands at such a place.
 use Rattle.std.specs.Prelude.{◌==◌, ℕ, Bool, true, List, [], ◌∷◌, slice_index_or, slice_set, if◌then◌else◌}
 use Rattle.pw_signalling.specs.End.{EndState, fresh}
-use Rattle.pw_signalling.specs.Rows.{bound, group_stated, group_unbound, lost, released, renewed, stated, telling, unbound, withdrawn}
+use Rattle.pw_signalling.specs.Rows.{group_stated, group_unbound, lost, released, renewed, stated, telling, unbound, withdrawn}
 use Rattle.edge_model.specs.declared.end_place.EndPlace.{EndPlace}
 use Rattle.edge_model.specs.EndPlaces.{is_of_wire}
 use Rattle.pw_ends.specs.declared.end_change.EndChange.{EndChange}
@@ -14,7 +14,6 @@ abbrev pub changed : EndChange → EndState → EndState
 changed change.Withdrawn = withdrawn
 changed (change.Telling status) = telling status
 changed change.Renewed = renewed
-changed (change.Bound binding) = bound binding
 changed (change.Unbound label) = unbound label
 changed (change.Released label) = released label
 changed (change.Stated status) = stated status

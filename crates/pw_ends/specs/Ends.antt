@@ -1,8 +1,11 @@
 -- The pseudowire ends of an edge as contracts see them: lists by slots, and by `seen_ends` a map from wires and neighbours.
-use Rattle.std.specs.Prelude.{◌==◌, ◌≤◌, ℕ, Bool, false, List, [], ◌∷◌, Option, Some, None, slice_index_or, if◌then◌else◌}
+use Rattle.std.specs.Prelude.{◌≡◌, ◌==◌, ◌≤◌, ◌<◌, ℕ, Bool, true, false, length, List, [], ◌∷◌, Option, Some, None, slice_index_or, if◌then◌else◌}
 use Rattle.net_base.specs.declared.plan.places.EdgeId.{EdgeId}
 use Rattle.net_base.specs.declared.plan.places.WireId.{WireId}
 use Rattle.label_space.specs.Labels.{LabelNumbers}
+use Rattle.pw_tlvs.specs.Written.{has_vlan}
+use Rattle.pw_signalling.specs.declared.binding.Binding.{Binding}
+use Rattle.pw_signalling.specs.declared.told.Told.{Told}
 use Rattle.pw_signalling.specs.End.{EndState, LocalPart, Idle, Advertised, Withdrawing, fresh}
 use Rattle.pw_signalling.specs.Laws.{own_label}
 use Rattle.pw_signalling.specs.Rows.{renewed}
@@ -60,6 +63,17 @@ abbrev pub HasKind : LocalPart → Type 0
 HasKind (Idle declined) = Unit {0}
 HasKind (Advertised label told) = told.kind ≤ 0x7FFF
 HasKind (Withdrawing label) = Unit {0}
+
+-- what an end may hold of its peer, so that it can be told on: a PW type of 15 bits, a VLAN ID of 12 (IEEE 802.1Q clause 9.6), and at a
+-- switching point fewer than three points, which leaves room for its own (RFC 6073 section 7)
+pub record CanHold (place : EndPlace) (told : Told) : Type 0 where
+  pub kind : told.kind ≤ 0x7FFF
+  pub vlan : has_vlan told.vlan ≡ true
+  pub room : place.terminal ≡ false → length told.points < 3
+
+abbrev pub Holds : EndPlace → Option Binding → Type 0
+Holds place None = Unit {0}
+Holds place (Some binding) = CanHold place binding.told
 
 abbrev pub IsIdle : LocalPart → Type 0
 IsIdle (Idle declined) = Unit {0}

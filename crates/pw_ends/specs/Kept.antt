@@ -7,7 +7,7 @@ use Rattle.label_space.specs.Labels.{AreBelow, LabelNumbers, freed, owner_of}
 use Rattle.pw_signalling.specs.End.{EndState}
 use Rattle.pw_signalling.specs.Laws.{own_label}
 use Rattle.edge_model.specs.declared.end_place.EndPlace.{EndPlace}
-use Rattle.pw_ends.specs.Ends.{HasKind, is_label}
+use Rattle.pw_ends.specs.Ends.{HasKind, Holds, is_label}
 use Rattle.edge_model.specs.EndPlaces.{is_at}
 use Rattle.pw_ends.specs.Owned.{OwnedList, slot_of}
 
@@ -38,6 +38,12 @@ abbrev pub AreOwners : List LabelOwner → List EndPlace → List (Option ℕ) �
 AreOwners owners [] owns = Unit {0}
 AreOwners owners (place ∷ places) [] = Unit {0}
 AreOwners owners (place ∷ places) (own ∷ others) = IsOwner owners place own × AreOwners owners places others
+
+-- each end holds what can be told on
+abbrev pub AreHolding : List EndPlace → List EndState → Type 0
+AreHolding [] ends = Unit {0}
+AreHolding (place ∷ places) [] = Unit {0}
+AreHolding (place ∷ places) (end ∷ ends) = Holds place end.remote × AreHolding places ends
 
 -- two ends own no label both
 abbrev pub Differ : Option ℕ → Option ℕ → Type 0
@@ -81,6 +87,7 @@ pub record AreKept (places : List EndPlace) (ends : List EndState) (labels : Lab
   pub owners : AreOwners labels.owners places (map own_of ends)
   pub kinds : AllByRecursion (λ end. HasKind end.local) ends
   pub slots : IsIndex (map own_of ends) labels index
+  pub holds : AreHolding places ends
 
 -- the label that was owned, and is not any more
 abbrev pub left_label : Option ℕ → Option ℕ → Option ℕ

@@ -5,10 +5,10 @@ ghost use Rattle.pw_signalling.specs.Rows.{advertised, renewed, telling, withdra
 ghost use Rattle.pw_ends.specs.Changes.{changed};
 
 use net_base::Label;
-use pw_signalling::{Binding, PwEnd, Told};
+use pw_signalling::{PwEnd, Told};
 use pw_tlvs::PwStatus;
 
-/// A change of an end: what it does itself, but for an advertisement, and what comes from its peer.
+/// A change of an end: what it does itself, but for an advertisement, and what comes from its peer, but for a binding.
 #[derive(Clone, Copy)]
 pub enum EndChange {
     /// A Label Withdraw is put, where it advertises.
@@ -17,8 +17,6 @@ pub enum EndChange {
     Telling(PwStatus),
     /// It is declined no longer.
     Renewed,
-    /// A Label Mapping with this binding came.
-    Bound(Binding),
     /// A Label Withdraw of this label, or of any, came.
     Unbound(Option<Label>),
     /// A Label Release of this label, or of any, came.
@@ -42,7 +40,6 @@ impl EndChange {
             EndChange::Withdrawn => withdraw(end),
             EndChange::Telling(status) => tell(end, status),
             EndChange::Renewed => renew(end),
-            EndChange::Bound(binding) => end.on_mapping(binding),
             EndChange::Unbound(label) => end.on_withdraw(label),
             EndChange::Released(label) => end.on_release(label),
             EndChange::Stated(status) => end.on_status(status),

@@ -3,12 +3,12 @@ ghost use Rattle.std.specs.Prelude.{◌≡◌, ◌<◌, length, map, slice_index
 ghost use Rattle.pw_signalling.specs.AnyEnd.{end_of};
 ghost use Rattle.pw_signalling.specs.End.{fresh};
 ghost use Rattle.pw_signalling.specs.Laws.{own_label};
-ghost use Rattle.pw_signalling.specs.Rows.{advertised};
+ghost use Rattle.pw_signalling.specs.Rows.{advertised, bound};
 ghost use Rattle.pw_ends.specs.Changes.{changed, changed_in};
 
 use crate::end_change::{EndChange, advertise};
 use net_base::{Label, NoMemory};
-use pw_signalling::{PwEnd, PwIdle, Told};
+use pw_signalling::{Binding, PwEnd, PwIdle, Told};
 use std::alloc::Global;
 use std::mem;
 
@@ -51,6 +51,16 @@ pub(crate) fn advertise_at(ends: &mut Vec<PwEnd>, slot: usize, label: Label, tol
 {
     let end = mem::replace(&mut ends[slot], PwEnd::Idle(PwIdle::new()));
     ends[slot] = advertise(end, label, told);
+}
+
+/// The end of a slot holds a binding.
+#[tactic(auto, using(pw_signalling::proofs::EndsLemmas::moves))]
+pub(crate) fn bind_at(ends: &mut Vec<PwEnd>, slot: usize, binding: &Binding)
+    requires { slot < length ends.old.items }
+    ensures { map end_of ends.new.items ≡ changed_in (bound binding.now) slot (map end_of ends.old.items) }
+{
+    let end = mem::replace(&mut ends[slot], PwEnd::Idle(PwIdle::new()));
+    ends[slot] = end.on_mapping(*binding);
 }
 
 /// The end of a slot is changed.

@@ -13,10 +13,10 @@ ghost use Rattle.edge_model.specs.State.{first_label};
 ghost use Rattle.pw_ends.specs.Changes.{changed, changed_each, changed_in};
 ghost use Rattle.pw_ends.specs.Kept.{AreApart, IsOwner, freed_one, left_label, segment_of};
 ghost use Rattle.pw_ends.specs.Owned.{without_one};
-ghost use Rattle.pw_ends.specs.Ends.{HasKind, IsIdle, changed_at, changed_beside, end_in, end_there, owns_label, place_of, renewed_of, seen_ends};
+ghost use Rattle.pw_ends.specs.Ends.{CanHold, HasKind, Holds, IsIdle, changed_at, changed_beside, end_in, end_there, owns_label, place_of, renewed_of, seen_ends};
 
 use crate::end_change::EndChange;
-use crate::end_slots::{advertise_at, change_at, idle_ends, own_label_at};
+use crate::end_slots::{advertise_at, bind_at, change_at, idle_ends, own_label_at};
 use crate::owned_labels::OwnedLabels;
 use crate::place_list::PlaceList;
 use crate::which_ends::WhichEnds;
@@ -165,13 +165,14 @@ impl PwEnds {
     }
 
     /// The end of a slot. Where it advertises, its PW type has 15 bits. A label that it owns is that of its segment and side
-    /// in the label space.
+    /// in the label space. What it holds can be told on.
     #[tactic(auto, using(crate::proofs::SlotLemmas::seen_at, crate::proofs::KeptLemmas::slot_within, crate::proofs::KeptLemmas::ends_at, pw_signalling::proofs::EndsLemmas::moves))]
     pub fn end(&self, slot: usize) -> &PwEnd
         requires slot { slot < length self.now.places }
         ensures end { end_of result.now ≡ end_in self.now slot }
         ensures kind { HasKind (end_in self.now slot).local }
         ensures owner { IsOwner self.now.labels.owners (place_of self.now slot) (own_label (end_in self.now slot).local) }
+        ensures holds { Holds (place_of self.now slot) (end_in self.now slot).remote }
     {
         &self.ends[slot]
     }
@@ -290,14 +291,17 @@ impl PwEnds {
 
     // ---- what comes from a peer
 
-    /// A Label Mapping came (RFC 5036 section 3.5.7): its binding replaces the one that was held.
+    /// A Label Mapping came (RFC 5036 section 3.5.7): its binding replaces the one that was held. What it tells can be told on: its
+    /// PW type has 15 bits, its VLAN ID 12, and at a switching point it has passed fewer than three others.
+    #[tactic(auto, using(crate::proofs::KeptLemmas::slot_within))]
     pub fn on_mapping(&mut self, slot: usize, binding: &Binding)
         requires slot { slot < length self.old.places }
+        requires holds { CanHold (place_of self.old slot) binding.now.told }
         ensures places { self.new.places ≡ self.old.places }
         ensures next { self.new.labels.next ≡ self.old.labels.next }
         ensures seen { seen_ends self.new ≡ changed_at (place_of self.old slot) (bound binding.now) (seen_ends self.old) }
     {
-        self.change(slot, &EndChange::Bound(*binding));
+        bind_at(&mut self.ends, slot, binding);
     }
 
     /// A Label Withdraw came (RFC 5036 section 3.5.10), with a label or without one: the binding goes, where the label is
