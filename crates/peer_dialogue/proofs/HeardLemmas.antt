@@ -1,8 +1,13 @@
 -- What is known of messages that were read.
-use Rattle.std.proofs.Common.{◌≤◌, ◌%◌, ℕ, List, [], ◌∷◌, Option, Some, None, subst, sym, arith}
+use Rattle.std.proofs.Common.{◌≡◌, ◌≤◌, ◌%◌, ◌==◌, ◌∙◌, ℕ, Bool, true, false, cond, List, [], ◌∷◌, Option, Some, None, option_map, slice_get, map, filter, drop, refl, ap, subst, sym, arith}
 use Rattle.std.specs.List.{AllByRecursion}
+use Rattle.byteorder.specs.Endian.{big_number}
+use Rattle.pw_tlvs.specs.declared.if_params.IfParams.{IfParams}
+use Rattle.pw_tlvs.specs.declared.registry.Registry.TheVariants.{InterfaceParameter}
 use Rattle.pw_tlvs.specs.declared.pw_fec.PwFec.{PwFec}
-use Rattle.pw_tlvs.specs.Fec.{IsPwFec}
+use Rattle.pw_tlvs.specs.Fec.{IsInformation, IsPwFec}
+use Rattle.pw_tlvs.specs.SubTlvs.{IsGood, SubTlv, said}
+use Rattle.pw_tlvs.specs.Written.{has_vlan}
 use Rattle.ldp_grammar.specs.declared.message.Message.{Message}
 use Rattle.ldp_grammar.specs.declared.message.Message.TheVariants as message
 use Rattle.ldp_grammar.specs.declared.message_kind.MessageKind.{MessageKind}
@@ -18,8 +23,29 @@ fec_kind : (value : Option (List ℕ)) (pw : PwFec) → OfValue value (λ v. IsP
 fec_kind None pw is = absurd is
 fec_kind (Some v) pw is = omega (arith, is.kind)
 
+-- a VLAN ID that was read has 12 bits
+vlan_said : (subs : List SubTlv) → AllByRecursion (IsGood InterfaceParameter) subs → has_vlan (option_map (λ v. big_number 2 v) (said 0x06 subs)) ≡ true
+vlan_said [] good = refl
+vlan_said (s ∷ subs) good = by (s.kind == 0x06) refl (vlan_said subs good.1)
+  where
+    rest : List SubTlv
+    rest = filter (λ (t : SubTlv). t.kind == 0x06) subs
+
+    by : (b : Bool) → (s.kind == 0x06) ≡ b → has_vlan (option_map (λ (v : List ℕ). big_number 2 v) (slice_get (map (λ (t : SubTlv). t.value) rest) 0)) ≡ true
+        → has_vlan (option_map (λ (v : List ℕ). big_number 2 v) (slice_get (map (λ (t : SubTlv). t.value) (cond b (s ∷ rest) rest)) 0)) ≡ true
+    by true is later = rw is at good.0.allowed
+    by false is later = later
+
+information_vlan : (octets : List ℕ) (pw_id : Option ℕ) (params : IfParams) → IsInformation octets pw_id params → has_vlan params.vlan ≡ true
+information_vlan octets None params is = ap (λ (p : IfParams). has_vlan p.vlan) is.1
+information_vlan octets (Some pw_id) params is = ap has_vlan is.2.vlan ∙ vlan_said is.2.subs is.2.are.good.good
+
+fec_vlan : (value : Option (List ℕ)) (pw : PwFec) → OfValue value (λ v. IsPwFec v pw) → has_vlan pw.params.vlan ≡ true
+fec_vlan None pw is = absurd is
+fec_vlan (Some v) pw is = information_vlan (drop 8 v) pw.pw_id pw.params is.information
+
 means_heard : (k : MessageKind) (id : ℕ) (ts : List Tlv) (m : Message) → Means k id ts m → CanBeHeard m
-means_heard kind.LabelMapping id ts (message.LabelMapping number pw given state points) means = fec_kind (value_of fec ts) pw means.1
+means_heard kind.LabelMapping id ts (message.LabelMapping number pw given state points) means = (fec_kind (value_of fec ts) pw means.1, fec_vlan (value_of fec ts) pw means.1)
 means_heard kind.LabelWithdraw id ts (message.LabelWithdraw number pw given) means = fec_kind (value_of fec ts) pw means.1
 means_heard k id ts (message.Notification number code state pw) means = tt
 means_heard k id ts (message.Hello number hold targeted request transport) means = tt
