@@ -13,12 +13,11 @@ use Rattle.pw_tlvs.specs.declared.pw_status.PwStatus.{PwStatus}
 use Rattle.edge_model.specs.Content.{binding_in}
 use Rattle.edge_model.specs.declared.effect.Effect.{Effect}
 use Rattle.edge_model.specs.Hear.{acts, acts_on, advice_of, advises}
-use Rattle.edge_model.specs.Signal.{end_of_fec, with_end_changed}
+use Rattle.edge_model.specs.Signal.{end_of_fec, maps_to, with_end_changed}
 use Rattle.edge_model.specs.State.{EdgeState, has_end}
 use Rattle.edge_model.specs.Work.{Answers, Work}
 use Rattle.peer_dialogue.specs.Peering.{at_edge}
 use Rattle.provider_edge.proofs.RowLemmas.{mapping_heard, release_heard}
-use Rattle.provider_edge.specs.Hearing.{binds_to}
 
 pub acts_not : (plan : Plan) (told : Answers) (peer : EdgeId) (message : Message) (edge : EdgeState) (calls : List LinkCall) (out : List Effect) → has_end edge peer ≡ false
     → at_edge edge calls out ≡ acts plan told peer message true (at_edge edge calls out)
@@ -31,7 +30,7 @@ unfolding at_edge
 acts_there plan told peer message edge calls out work there is = is ∙ sym (ap (λ (b : Bool). cond b (acts_on plan told peer message (at_edge edge calls out)) (at_edge edge calls out)) there)
 
 pub mapping_acts : (plan : Plan) (told : Answers) (peer : EdgeId) (message : Message) (id : ℕ) (fec : PwFec) (label : ℕ) (status : Option PwStatus) (points : List Point) (binding : Binding) (edge : EdgeState) (calls : List LinkCall) (out : List Effect) (work : Work)
-    → message ≡ LabelMapping id fec label status points → binding ≡ binding_in fec label status points → work ≡ binds_to told peer fec binding (end_of_fec plan edge peer fec) (at_edge edge calls out)
+    → message ≡ LabelMapping id fec label status points → binding ≡ binding_in fec label status points → work ≡ maps_to plan told peer fec binding (end_of_fec plan edge peer fec) (at_edge edge calls out)
     → work ≡ acts_on plan told peer message (at_edge edge calls out)
 mapping_acts plan told peer message id fec label status points binding edge calls out work at made is =
     mapping_heard plan told peer fec label status points binding edge calls out work made is ∙ sym (ap (λ (m : Message). acts_on plan told peer m (at_edge edge calls out)) at)

@@ -22,6 +22,7 @@ use Rattle.hvpls_spokes.proofs.RowPortLemmas.{wire_behind}
 use Rattle.hvpls_spokes.proofs.WirePortLemmas.{found_wire_port}
 use Rattle.mac_withdraw.specs.Passing.{is_passed_to, is_wire_at}
 use Rattle.mac_withdraw.specs.Pieces.{pieces_of}
+use Rattle.edge_model.specs.Across.{end_beyond}
 use Rattle.edge_model.specs.Clear.{clears_at, clears_by, clears_wire, hears_mac_withdraw, passes_on, tells_at, tells_by, withdrawing_at}
 use Rattle.edge_model.specs.declared.effect.Effect.{Effect}
 use Rattle.edge_model.specs.declared.end_place.EndPlace.{EndPlace}
@@ -79,9 +80,15 @@ not_false : (b : Bool) → not b ≡ false → b ≡ true
 not_false true is = refl
 not_false false is = absurd (cc (is))
 
-pub not_terminal : (plan : Plan) (told : Answers) (addresses : List Mac) (place at : EndPlace) (work : Work) → place ≡ at → not place.terminal ≡ true → work ≡ clears_by plan told addresses (Some at) work
-not_terminal plan told addresses place at work is passes =
-    sym (ap (λ (b : Bool). cond b (clears_wire plan told addresses at (wire_row plan at.wire) work) work) (sym (ap (λ (p : EndPlace). p.terminal) is) ∙ not_true place.terminal passes))
+-- a switching point tells its other side
+pub beyond_clears : (c : EdgeLists) (told : Answers) (addresses given : List Mac) (place at : EndPlace) (calls : List LinkCall) (out : List Effect) (next : Work) → place ≡ at → not place.terminal ≡ true → given ≡ addresses
+    → next ≡ tells_by told given (end_beyond c.plan c.me at) (at_edge (seen c) calls out) → next ≡ clears_by c.plan told addresses (Some at) (at_edge (seen c) calls out)
+beyond_clears c told addresses given place at calls out next is passes same tells =
+    let work : Work = at_edge (seen c) calls out in
+    tells
+    ∙ (ap (λ (l : List Mac). tells_by told l (end_beyond c.plan c.me at) work) same
+    ∙ (ap (λ (m : EdgeId). tells_by told addresses (end_beyond c.plan m at) work) (sym (me_at c calls out))
+    ∙ sym (ap (λ (b : Bool). cond b (clears_wire c.plan told addresses at (wire_row c.plan at.wire) work) (tells_by told addresses (end_beyond c.plan work.edge.me at) work)) (sym (ap (λ (p : EndPlace). p.terminal) is) ∙ not_true place.terminal passes))))
 
 there : {X : Type 0} (xs : List X) (i : ℕ) → slice_get xs i ≡ None → i < length xs → ⊥
 there [] i none below = absurd (omega arith)
@@ -104,7 +111,7 @@ terminal_clears c told addresses place at service found calls out next is ends w
       ∙ (ap (λ (s : ServiceId). clears_at c.plan told addresses s (position (is_wire_port at.wire) (ports_of c.plan s c.me)) work) (of row some)
       ∙ (ap (λ (m : EdgeId). clears_at c.plan told addresses row.service (position (is_wire_port at.wire) (ports_of c.plan row.service m)) work) (sym (me_at c calls out))
       ∙ (ap (λ (r : Option WirePlan). clears_wire c.plan told addresses at r work) (sym some)
-      ∙ ap (λ (b : Bool). cond b (clears_wire c.plan told addresses at (wire_row c.plan at.wire) work) work) (sym (sym (ap (λ (p : EndPlace). p.terminal) is) ∙ not_false place.terminal ends))))))
+      ∙ ap (λ (b : Bool). cond b (clears_wire c.plan told addresses at (wire_row c.plan at.wire) work) (tells_by told addresses (end_beyond c.plan work.edge.me at) work)) (sym (sym (ap (λ (p : EndPlace). p.terminal) is) ∙ not_false place.terminal ends))))))
 
 -- the port that is found for a wire leads to it
 pub found_is_wire : (wire : WireId) (ports : List Port) (found : Option ℕ) → found ≡ position (is_wire_port wire) ports → IfSome found (λ from. is_wire_at ports from ≡ true)

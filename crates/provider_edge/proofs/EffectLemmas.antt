@@ -74,6 +74,7 @@ use Rattle.hvpls_spokes.specs.declared.edge_role.Role.{Role}
 use Rattle.hvpls_spokes.specs.Role as roles
 use Rattle.mac_withdraw.specs.Passing.{is_passed_to}
 use Rattle.mac_withdraw.specs.Pieces.{pieces_of}
+use Rattle.edge_model.specs.Across.{end_beside, end_beyond, mate_of}
 use Rattle.edge_model.specs.Clear.{clears_at, clears_by, clears_wire, hears_mac_withdraw, passes_on, tells_at, tells_by, withdrawing_at}
 use Rattle.edge_model.specs.Withdraw.{tells_piece, tells_piece_by, tells_pieces}
 use Rattle.edge_model.specs.Packet.{advertiser, alerted, alerts_end, behind_entry, bridges_frame, by_offer, enters, is_alert, is_channel, labelled, least_label, opened_by, owned, packet_input, switched, switched_by, switched_to, switched_under, terminated, towards, unpacked_at}
@@ -83,11 +84,11 @@ use Rattle.edge_model.specs.Put.{Spoken, message_octets_of, octets_of, put_octet
 use Rattle.edge_model.specs.Session.{clears_ends, comes_of, ends, had_put, had_said, happens, happens_to, happens_with_ends, says, says_to, is_same_phase, tells_change, went_on, with_session}
 use Rattle.edge_model.specs.declared.end_place.EndPlace.{EndPlace}
 use Rattle.edge_model.specs.Content.{binding_in, mac_withdrawal, mapping, pw_status_code, release, status_notification, withdrawal}
-use Rattle.edge_model.specs.EndPlaces.{end_places, ends_here, is_end_of_wire, passes}
+use Rattle.edge_model.specs.EndPlaces.{end_places, ends_here, is_at, is_end_of_wire, passes}
 use Rattle.edge_model.specs.Ends.{is_up, wire_end}
-use Rattle.edge_model.specs.Mend.{advertises_wish, advertising, and_says, cause_number, each_end, forgets_down, forgets_downs, forgetting_wire, is_new_choice, mends, mends_choice, mends_end, mends_few, mends_local, mends_once, mends_status, mends_status_of, port_of_wire, telling_status, tells_down, tells_downs, tells_new_status, tells_over, then_changes, wish, withdrawing, withdraws_unless}
+use Rattle.edge_model.specs.Mend.{advertises_wish, advertising, and_says, cause_number, each_end, forgets_down, forgets_downs, forgetting_wire, is_new_choice, mends, mends_choice, mends_end, mends_few, mends_local, mends_once, mends_status, mends_status_of, port_of_wire, stands, telling_status, tells_down, tells_downs, tells_new_status, tells_over, then_changes, wish, withdrawing, withdraws, withdraws_unless}
 use Rattle.edge_model.specs.Role.{down_at, status_to_tell}
-use Rattle.edge_model.specs.Signal.{end_of_fec, hears_status, maps_to, with_end_changed, with_named}
+use Rattle.edge_model.specs.Signal.{end_of_fec, hears_status, maps_to, releases_label, takes_content, with_end_changed, with_named}
 use Rattle.edge_model.specs.Spokes.{choosing}
 use Rattle.edge_model.specs.Wire.{is_own_spoke, turned_wire}
 use Rattle.edge_model.specs.State.{EdgeState, Peering, end_at, has_end, is_on, is_there, with_bits, with_ends_beside, with_peering, with_priority, with_told_down}
@@ -431,8 +432,10 @@ end_kept plan Holds kept told place placed work here = to (end_at work.edge plac
     by false = says_kept plan Holds kept told place.peer placed.peer (mapping place.pw_id work.edge.next_label content) begun (kept.changed (advertising place work.edge.next_label content) work here)
 
   unless : (label : ℕ) (content : Told) (w : Option Told) → Holds (withdraws_unless told place label content w work).work
-  unless label content None = says_kept plan Holds kept told place.peer placed.peer (withdrawal place.pw_id label content) (changes (withdrawing place) work) (kept.changed (withdrawing place) work here)
-  unless label content (Some wished) = here
+  unless label content w = by (stands place content w) where
+    by : (b : Bool) → Holds (cond b (stays work) (withdraws told place label content work)).work
+    by true = here
+    by false = says_kept plan Holds kept told place.peer placed.peer (withdrawal place.pw_id label content) (changes (withdrawing place) work) (kept.changed (withdrawing place) work here)
 
   idle : (b : Bool) → Holds (cond b (stays work) (advertises_wish told place (wish plan work.edge place) work)).work
   idle true = here
@@ -549,6 +552,10 @@ passed_kept plan Holds kept checked told addresses passed p [] work here = here
 passed_kept plan Holds kept checked told addresses passed p (x ∷ ports) work here =
     passed_kept plan Holds kept checked told addresses passed (p + 1) ports (cond (passed p) (tells_at plan told addresses x work) work) (told_at_kept plan Holds kept checked told addresses x (passed p) work here)
 
+beyond_placed : (plan : Plan) (me : EdgeId) (wire : WireId) (mate : Option EdgeId) → IsChecked plan → (place : EndPlace) → end_beside plan me wire mate ≡ Some place → IsPlaced plan place
+beyond_placed plan me wire None checked place found = absurd (cc (found))
+beyond_placed plan me wire (Some peer) checked place found = found_holds (IsPlaced plan) (is_at wire.0 peer.0) (end_places plan me) place (places_placed plan me checked) found
+
 withdraw_kept : (plan : Plan) (Holds : Work → Type 0) → AreKept plan Holds → IsChecked plan → (told : Answers) (peer : EdgeId) (fec : Option PwFec) (macs : Option (List Mac)) (work : Work) → Holds work → Holds (hears_mac_withdraw plan told peer fec macs work)
 withdraw_kept plan Holds kept checked told peer None macs work here = here
 withdraw_kept plan Holds kept checked told peer (Some fec) None work here = here
@@ -565,9 +572,11 @@ withdraw_kept plan Holds kept checked told peer (Some fec) (Some addresses) work
   wire place None = here
   wire place (Some row) = at row.service (port_of_wire plan work.edge place.wire row)
 
-  by : (place : EndPlace) (b : Bool) → Holds (cond b (clears_wire plan told addresses place (wire_row plan place.wire) work) work)
+  by : (place : EndPlace) (b : Bool) → Holds (cond b (clears_wire plan told addresses place (wire_row plan place.wire) work) (tells_by told addresses (end_beyond plan work.edge.me place) work))
   by place true = wire place (wire_row plan place.wire)
-  by place false = here
+  by place false =
+      told_by_kept plan Holds kept told addresses (end_beyond plan work.edge.me place) work
+      (beyond_placed plan work.edge.me place.wire (mate_of work.edge.me place (wire_row plan place.wire)) checked) here
 
   named : (end : Option EndPlace) → Holds (clears_by plan told addresses end work)
   named None = here
@@ -577,9 +586,14 @@ withdraw_kept plan Holds kept checked told peer (Some fec) (Some addresses) work
 
 acted_kept : (plan : Plan) (Holds : Work → Type 0) → AreKept plan Holds → IsChecked plan → (told : Answers) (peer : EdgeId) → peer.0 < length plan.edges → (message : Message) (work : Work) → Holds work → Holds (acts_on plan told peer message work)
 acted_kept plan Holds kept checked told peer within m work here = to m where
-  maps : (fec : PwFec) (label : ℕ) (status : Option PwStatus) (points : List Point) (x : Option EndPlace) → Holds (maps_to told peer fec label status points x work)
-  maps fec label status points None = says_kept plan Holds kept told peer within (release fec (Some label)) work here
-  maps fec label status points (Some place) = kept.changed (with_end_changed (bound (binding_in fec label status points)) (Some place)) work here
+  maps : (fec : PwFec) (binding : Binding) (x : Option EndPlace) → Holds (maps_to plan told peer fec binding x work)
+  maps fec binding None = says_kept plan Holds kept told peer within (release fec (Some binding.label)) work here
+  maps fec binding (Some place) = by (takes_content plan work.edge.me place binding.told) where
+    by : (b : Bool) → Holds (cond b (changes (with_end_changed (bound binding) (Some place)) work) (releases_label told peer fec (Some binding.label) (changes (with_end_changed (unbound None) (Some place)) work)))
+    by true = kept.changed (with_end_changed (bound binding) (Some place)) work here
+    by false =
+        says_kept plan Holds kept told peer within (release fec (Some binding.label)) (changes (with_end_changed (unbound None) (Some place)) work)
+        (kept.changed (with_end_changed (unbound None) (Some place)) work here)
 
   states : (code : StatusCode) (status : Option PwStatus) (fec : Option PwFec) → Holds (hears_status plan peer code status fec work)
   states code None fec = here
@@ -593,7 +607,7 @@ acted_kept plan Holds kept checked told peer within m work here = to m where
   advised advice = advised_kept plan Holds kept told peer within advice work here
 
   to : (m : Message) → Holds (acts_on plan told peer m work)
-  to (message.LabelMapping id fec label status points) = maps fec label status points (end_of_fec plan work.edge peer fec)
+  to (message.LabelMapping id fec label status points) = maps fec (binding_in fec label status points) (end_of_fec plan work.edge peer fec)
   to (message.LabelWithdraw id fec label) =
       says_kept plan Holds kept told peer within (release fec label) (changes (with_named plan peer fec (unbound label) (group_unbound fec.group) fec.pw_id) work)
       (kept.changed (with_named plan peer fec (unbound label) (group_unbound fec.group) fec.pw_id) work here)

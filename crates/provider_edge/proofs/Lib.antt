@@ -1,3 +1,4 @@
+pub mod AcrossLemmas
 pub mod ActLemmas
 pub mod AtWorkLemmas
 pub mod BridgeLemmas

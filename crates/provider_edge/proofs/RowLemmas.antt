@@ -21,14 +21,13 @@ use Rattle.edge_model.specs.declared.effect.Effect.{Effect}
 use Rattle.edge_model.specs.declared.effect.Effect.TheVariants.{Wire}
 use Rattle.edge_model.specs.declared.end_place.EndPlace.{EndPlace}
 use Rattle.edge_model.specs.EndPlaces.{end_named}
-use Rattle.edge_model.specs.Mend.{advertises, advertises_wish, advertising, cause_number, telling_status, tells_down, tells_new_status, withdrawing, withdraws, withdraws_unless}
-use Rattle.edge_model.specs.Put.{Spoken}
+use Rattle.edge_model.specs.Mend.{advertises, advertises_wish, advertising, cause_number, stands, telling_status, tells_down, tells_new_status, withdrawing, withdraws, withdraws_unless}
+use Rattle.edge_model.specs.Put.{Spoken, stays}
 use Rattle.edge_model.specs.Session.{says}
-use Rattle.edge_model.specs.Signal.{end_of_fec, hears_mapping, hears_release, hears_status, hears_withdraw, maps_to, releases_label, with_end_changed, with_named}
+use Rattle.edge_model.specs.Signal.{end_of_fec, hears_mapping, hears_release, hears_status, hears_withdraw, maps_to, releases_label, takes_content, with_end_changed, with_named}
 use Rattle.edge_model.specs.State.{EdgeState, with_told_down}
 use Rattle.edge_model.specs.Work.{Answers, Work, changes, gives}
 use Rattle.peer_dialogue.specs.Peering.{at_edge}
-use Rattle.provider_edge.specs.Hearing.{binds_to}
 use Rattle.provider_edge.specs.Lists.{EdgeLists, seen}
 
 pub changed_edge : (change : EdgeState → EdgeState) (edge now : EdgeState) (calls : List LinkCall) (out : List Effect) → now ≡ change edge → at_edge now calls out ≡ changes change (at_edge edge calls out)
@@ -60,23 +59,34 @@ fec_some plan c peer fec pw_id found some is = is ∙ ap (option_and_then (end_n
 
 -- ---- Label Mapping
 
-pub bound_known : (told : Answers) (peer : EdgeId) (fec : PwFec) (binding : Binding) (x : Option EndPlace) (place : EndPlace) (edge now : EdgeState) (calls : List LinkCall) (out : List Effect) → x ≡ Some place
-    → now ≡ with_end_changed (bound binding) (Some place) edge → at_edge now calls out ≡ binds_to told peer fec binding x (at_edge edge calls out)
-bound_known told peer fec binding x place edge now calls out some is =
-    changed_edge (with_end_changed (bound binding) (Some place)) edge now calls out is ∙ ap (λ (p : Option EndPlace). binds_to told peer fec binding p (at_edge edge calls out)) (sym some)
+pub bound_known : (c : EdgeLists) (told : Answers) (peer : EdgeId) (fec : PwFec) (binding : Binding) (x : Option EndPlace) (place : EndPlace) (taken : Bool) (now : EdgeState) (calls : List LinkCall) (out : List Effect) → x ≡ Some place
+    → taken ≡ takes_content c.plan c.me place binding.told → taken ≡ true
+    → now ≡ with_end_changed (bound binding) (Some place) (seen c) → at_edge now calls out ≡ maps_to c.plan told peer fec binding x (at_edge (seen c) calls out)
+unfolding seen at_edge
+bound_known c told peer fec binding x place taken now calls out some takes so is =
+    let start : Work = record { edge = seen c; calls = calls; effects = out; idle = false } in
+    changed_edge (with_end_changed (bound binding) (Some place)) (seen c) now calls out is
+    ∙ (sym (ap (λ (b : Bool). cond b (changes (with_end_changed (bound binding) (Some place)) start) (releases_label told peer fec (Some binding.label) (changes (with_end_changed (unbound None) (Some place)) start))) (sym takes ∙ so))
+    ∙ ap (λ (p : Option EndPlace). maps_to c.plan told peer fec binding p start) (sym some))
 
-binds_maps : (told : Answers) (peer : EdgeId) (fec : PwFec) (label : ℕ) (status : Option PwStatus) (points : List Point) (x : Option EndPlace) (work : Work)
-    → binds_to told peer fec (binding_in fec label status points) x work ≡ maps_to told peer fec label status points x work
-binds_maps told peer fec label status points None work = refl
-binds_maps told peer fec label status points (Some place) work = refl
+pub bound_not : (c : EdgeLists) (told : Answers) (peer : EdgeId) (fec : PwFec) (binding : Binding) (x : Option EndPlace) (place : EndPlace) (taken : Bool) (mid : EdgeState) (calls : List LinkCall) (out : List Effect) (work : Work) → x ≡ Some place
+    → taken ≡ takes_content c.plan c.me place binding.told → taken ≡ false
+    → mid ≡ with_end_changed (unbound None) (Some place) (seen c) → work ≡ releases_label told peer fec (Some binding.label) (at_edge mid calls out)
+    → work ≡ maps_to c.plan told peer fec binding x (at_edge (seen c) calls out)
+unfolding seen at_edge
+bound_not c told peer fec binding x place taken mid calls out work some takes refused is put =
+    let start : Work = record { edge = seen c; calls = calls; effects = out; idle = false } in
+    put
+    ∙ (ap (releases_label told peer fec (Some binding.label)) (changed_edge (with_end_changed (unbound None) (Some place)) (seen c) mid calls out is)
+    ∙ (sym (ap (λ (b : Bool). cond b (changes (with_end_changed (bound binding) (Some place)) start) (releases_label told peer fec (Some binding.label) (changes (with_end_changed (unbound None) (Some place)) start))) (sym takes ∙ refused))
+    ∙ ap (λ (p : Option EndPlace). maps_to c.plan told peer fec binding p start) (sym some)))
 
 pub mapping_heard : (plan : Plan) (told : Answers) (peer : EdgeId) (fec : PwFec) (label : ℕ) (status : Option PwStatus) (points : List Point) (binding : Binding) (edge : EdgeState) (calls : List LinkCall) (out : List Effect) (work : Work)
-    → binding ≡ binding_in fec label status points → work ≡ binds_to told peer fec binding (end_of_fec plan edge peer fec) (at_edge edge calls out)
+    → binding ≡ binding_in fec label status points → work ≡ maps_to plan told peer fec binding (end_of_fec plan edge peer fec) (at_edge edge calls out)
     → work ≡ hears_mapping plan told peer fec label status points (at_edge edge calls out)
 unfolding at_edge
 mapping_heard plan told peer fec label status points binding edge calls out work made is =
-    is ∙ (ap (λ (b : Binding). binds_to told peer fec b (end_of_fec plan edge peer fec) (at_edge edge calls out)) made
-    ∙ binds_maps told peer fec label status points (end_of_fec plan edge peer fec) (at_edge edge calls out))
+    is ∙ ap (λ (b : Binding). maps_to plan told peer fec b (end_of_fec plan edge peer fec) (at_edge edge calls out)) made
 
 -- ---- Label Withdraw and Label Release
 
@@ -134,15 +144,15 @@ pub wishes_some : (told : Answers) (place : EndPlace) (wished read : Option Told
     → put ≡ advertises told place content work → put ≡ advertises_wish told place wished work
 wishes_some told place wished read content work put is some puts = puts ∙ sym (ap (λ (w : Option Told). advertises_wish told place w work) (sym is ∙ some))
 
-pub unless_some : (told : Answers) (place : EndPlace) (label : ℕ) (content : Told) (wished read : Option Told) (work : Work) → read ≡ wished → is_some read ≡ true
-    → record { work = work; failed = false } ≡ withdraws_unless told place label content wished work
-unless_some told place label content wished None work is some = absurd (cc (some))
-unless_some told place label content wished (Some wish) work is some = ap (λ (w : Option Told). withdraws_unless told place label content w work) is
+pub unless_stands : (told : Answers) (place at : EndPlace) (label : ℕ) (content : Told) (wished read : Option Told) (still : Bool) (work : Work) → at ≡ place → read ≡ wished → still ≡ stands at content read → still ≡ true
+    → stays work ≡ withdraws_unless told place label content wished work
+unless_stands told place at label content wished read still work here is same so =
+    sym (ap (λ (b : Bool). cond b (stays work) (withdraws told place label content work)) (sym (same ∙ (ap (λ (p : EndPlace). stands p content read) here ∙ ap (stands place content) is)) ∙ so))
 
-pub unless_none : (told : Answers) (place : EndPlace) (label : ℕ) (content : Told) (wished read : Option Told) (work : Work) (put : Spoken) → read ≡ wished → is_some read ≡ false
+pub unless_stands_not : (told : Answers) (place at : EndPlace) (label : ℕ) (content : Told) (wished read : Option Told) (still : Bool) (work : Work) (put : Spoken) → at ≡ place → read ≡ wished → still ≡ stands at content read → still ≡ false
     → put ≡ withdraws told place label content work → put ≡ withdraws_unless told place label content wished work
-unless_none told place label content wished None work put is none puts = puts ∙ ap (λ (w : Option Told). withdraws_unless told place label content w work) is
-unless_none told place label content wished (Some wish) work put is none puts = absurd (cc (none))
+unless_stands_not told place at label content wished read still work put here is same so puts =
+    puts ∙ sym (ap (λ (b : Bool). cond b (stays work) (withdraws told place label content work)) (sym (same ∙ (ap (λ (p : EndPlace). stands p content read) here ∙ ap (stands place content) is)) ∙ so))
 
 pub withdraws_at : (told : Answers) (place : EndPlace) (label : ℕ) (content : Told) (edge mid : EdgeState) (calls : List LinkCall) (out : List Effect) (put : Spoken)
     → mid ≡ withdrawing place edge → put ≡ says told place.peer (withdrawal place.pw_id label content) (at_edge mid calls out) → put ≡ withdraws told place label content (at_edge edge calls out)

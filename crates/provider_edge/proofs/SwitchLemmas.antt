@@ -103,10 +103,3 @@ pub not_onward : (told : Answers) (octets : List ℕ) (entry : StackEntry) (plac
 not_onward told octets entry place to label why for edge calls out given is dropped gave =
     dropped_at for edge calls out given gave
     ∙ (ap (λ (d : DropCause). drops d (at_edge edge calls out)) dropped ∙ ap (λ (r : Result ℕ SwapDrop). switched_under told octets entry place to r (at_edge edge calls out)) (sym is))
-
-pub under_bound : (told : Answers) (octets packet : List ℕ) (entry : StackEntry) (place at : EndPlace) (read : Result ℕ SwapDrop) (label : ℕ) (work x : Work) → read ≡ Ok label → at ≡ place → packet ≡ relabelled label (entry.ttl - 1) octets
-    → x ≡ sends told place (arrival.Wire at.wire) packet work → x ≡ switched_under told octets entry place place.peer read work
-under_bound told octets packet entry place at read label work x bound is written sent =
-    sent
-    ∙ (ap (λ (p : EndPlace). sends told place (arrival.Wire p.wire) packet work) is
-    ∙ (ap (λ (l : List ℕ). sends told place (arrival.Wire place.wire) l work) written ∙ ap (λ (r : Result ℕ SwapDrop). switched_under told octets entry place place.peer r work) (sym bound)))

@@ -15,6 +15,6 @@ mended_down plan place work = if place.terminal then tells_down place (down_at p
 abbrev pub forgotten_down : Plan → EndPlace → Work → Work
 forgotten_down plan place work = if place.terminal then forgets_down plan place (down_at plan work.edge place) work else work
 
--- the wire of an end is on, the session with its peer is up, and the end is a terminal one
+-- the wire of an end is on, and the session with its peer is up
 abbrev pub may_tell_end : EdgeState → EndPlace → Bool
-may_tell_end edge place = (edge.wire_on place.wire.0 && is_up_with (edge.peering place.peer.0)) && place.terminal
+may_tell_end edge place = edge.wire_on place.wire.0 && is_up_with (edge.peering place.peer.0)

@@ -108,6 +108,13 @@ impl Edge {
     /// spoke from this edge, or a priority that is set already. `Restart` and `Tick` always apply. A `Packet` always applies.
     /// Pings do not apply yet. The bits of a `Status` are at most 31.
     ///
+    /// At a switching point of a wire, what one side tells goes on to the other side, with the edge's own point added (RFC 6073 section
+    /// 7). A mapping that has passed the edge before, or three switching points, is not taken (section 7.6): the binding of that end
+    /// goes, and the label is released. A new status goes on by a Notification, where the mapping to the other side has one (section
+    /// 10); for any other change the label is withdrawn, and advertised again once it is released. Withdrawals of addresses (RFC 4762
+    /// section 6.2) go on in pieces of at most 30, and packets under the label of the other side, with a TTL that is one less
+    /// (RFC 6073 section 4).
+    ///
     /// `NoMemory` where memory was refused; from then on the edge is given up, and answers `Stopped` to every input.
     pub fn take<L: Link>(
         &mut self,
@@ -220,8 +227,8 @@ impl Edge {
         }
     }
 
-    /// The edge's end of a pseudowire at a segment of a wire; `None` exactly where the edge has no end of that segment
-    /// (RFC 6073 section 4).
+    /// The edge's end of a pseudowire at a segment of a wire; `None` exactly where the edge has no end of that segment. A switching
+    /// point of the wire has two ends, one at each of the two segments that meet there (RFC 6073 section 4).
     pub fn end(&self, key: SegKey) -> Option<&PwEnd>
         ensures none { IsNone result ↔ (find (is_of_segment key) (end_places self.now.plan self.now.me) ≡ None) }
         ensures state { IfSome result (λ end. IfSome (find (is_of_segment key) (end_places self.now.plan self.now.me)) (λ place. end_of end.now ≡ end_at (seen self.now) place)) }

@@ -3,3 +3,4 @@
 mod mend;
 mod mend_end;
 mod spokes;
+mod wish;

@@ -1,16 +1,14 @@
 //! One end is mended: what it tells follows what it should tell by now (RFC 8077 sections 6 and 6.3).
-ghost use Rattle.std.specs.Prelude.{◌≡◌, ◌<◌, ◌≤◌, ◌==◌, ◌&&◌, not, List, length, Some, None, true, IfOk, OnOk, IfSome};
+ghost use Rattle.std.specs.Prelude.{◌≡◌, ◌<◌, ◌≤◌, ◌==◌, ◌&&◌, not, List, length, None, true, IfOk, OnOk};
 ghost use Rattle.net_base.specs.declared.outside.link_call.LinkCall.{LinkCall};
-ghost use Rattle.net_base.specs.plan.Paths.{offer_of};
 ghost use Rattle.net_base.specs.plan.Places.{wire_row};
 ghost use Rattle.pw_signalling.specs.AnyEnd.{end_of};
-ghost use Rattle.pw_tlvs.specs.Written.{has_vlan};
-ghost use Rattle.pw_ends.specs.Ends.{HasKind, IsIdle, end_in, place_of};
-ghost use Rattle.edge_model.specs.Mend.{advertises_wish, cause_number, forgetting_wire, is_new_choice, mends_choice, mends_end, mends_status, tells_new_status, terminal_wish, wish, withdraws_unless};
-ghost use Rattle.edge_model.specs.Role.{down_at, is_chosen_wire, role_at, status_to_tell};
+ghost use Rattle.pw_ends.specs.Ends.{HasKind, Holds, IsIdle, end_in, place_of};
+ghost use Rattle.edge_model.specs.Mend.{advertises_wish, cause_number, forgetting_wire, is_new_choice, mends_choice, mends_end, mends_status, stands, tells_new_status, wish, withdraws_unless};
+ghost use Rattle.edge_model.specs.Role.{down_at, is_chosen_wire, role_at};
 ghost use Rattle.edge_model.specs.State.{with_told_down};
 ghost use Rattle.edge_model.specs.Work.{Agrees, Answers};
-ghost use Rattle.provider_edge.specs.Mending.{forgotten_down, may_tell_end, mended_down};
+ghost use Rattle.provider_edge.specs.Mending.{forgotten_down, mended_down};
 ghost use Rattle.edge_forwarding.specs.Views.{view};
 ghost use Rattle.peer_dialogue.specs.Peering.{at_edge};
 ghost use Rattle.provider_edge.specs.AtWork.{Works, at_work};
@@ -18,12 +16,12 @@ ghost use Rattle.provider_edge.specs.Lists.{Keeps, seen};
 
 use crate::Edge;
 use edge_model::{Effect, EndPlace};
-use net_base::{Down, Label, Link, List, NoMemory, ServiceId, WireId, WirePlan};
-use peer_dialogue::{AtWork, PwMessage, terminal_wish};
+use net_base::{Down, Label, Link, List, NoMemory, ServiceId, WireId};
+use peer_dialogue::{AtWork, PwMessage};
 use pw_ends::role_of;
 use pw_signalling::{EndRole, PwEnd, Told};
+use pw_stitch::is_same_but_status;
 use pw_tlvs::PwStatus;
-use spoke_redundancy::status_to_tell;
 
 impl Edge {
     // An end is advertised, withdrawn or left; answers whether the link did not take a message.
@@ -83,7 +81,7 @@ impl Edge {
         self.say(place.peer, &message, work)
     }
 
-    // An end that advertises withdraws its label, and puts that, where it should tell nothing by now.
+    // An end that advertises withdraws its label, and puts that, where what it has told no longer stands.
     fn put_withdrawal<L: Link>(
         &mut self,
         slot: usize,
@@ -99,10 +97,10 @@ impl Edge {
             → record { work = at_work L.calls self.new work.new; failed = failed }
             ≡ withdraws_unless told (place_of self.old.ends slot) label content (wish self.old.plan (seen self.old) (place_of self.old.ends slot)) (at_work L.calls self.old work.old)) }
     {
-        if self.wish(slot).is_some() {
+        let place = self.place_at(slot);
+        if stands(&place, &content, self.wish(slot)) {
             return Ok(false);
         }
-        let place = self.place_at(slot);
         self.withdraw(slot);
         let message = PwMessage::Withdrawal {
             pw_id: place.pw_id,
@@ -278,8 +276,6 @@ impl Edge {
         self.forwarding.tell(wire, down);
     }
 
-    // ---- what an end should tell
-
     // Where the end of a slot is, at a wire of the plan.
     #[tactic(auto, using(crate::proofs::ListLemmas::slot_wire))]
     pub(crate) fn place_at(&self, slot: usize) -> EndPlace
@@ -290,56 +286,14 @@ impl Edge {
         self.ends.place(slot)
     }
 
-    // The end of a slot. Where it advertises, its PW type has 15 bits.
+    // The end of a slot. Where it advertises, its PW type has 15 bits, and what it holds can be told on.
     pub(crate) fn end_in(&self, slot: usize) -> &PwEnd
         requires { slot < length self.now.ends.places }
         ensures end { end_of result.now ≡ end_in self.now.ends slot }
         ensures kind { HasKind (end_in self.now.ends slot).local }
+        ensures holds { Holds (place_of self.now.ends slot) (end_in self.now.ends slot).remote }
     {
         self.ends.end(slot)
-    }
-
-    // What an end should tell: nothing unless its wire is on at this edge and the session with its peer is up.
-    fn wish(&self, slot: usize) -> Option<Told>
-        requires { slot < length self.now.ends.places }
-        ensures wish { result ≡ wish self.now.plan (seen self.now) (place_of self.now.ends slot) }
-        ensures kind { IfSome result (λ told. told.kind ≤ 0x7FFF) }
-        ensures vlan { IfSome result (λ told. has_vlan told.vlan ≡ true) }
-    {
-        let place = self.place_at(slot);
-        let row = self.plan.wires.get(place.wire.0 as usize)?;
-        if !self.may_tell(&place) {
-            return None;
-        }
-        self.wish_by(slot, row)
-    }
-
-    // What a terminal end of this wire should tell, where its wire is on and the session with its peer is up.
-    fn wish_by(&self, slot: usize, row: &WirePlan) -> Option<Told>
-        requires slot { slot < length self.now.ends.places }
-        requires row { wire_row self.now.plan (place_of self.now.ends slot).wire ≡ Some row.now }
-        ensures wish { result ≡ terminal_wish self.now.plan (seen self.now) (place_of self.now.ends slot) (offer_of row.now (seen self.now).me.0) }
-        ensures kind { IfSome result (λ told. told.kind ≤ 0x7FFF) }
-        ensures vlan { IfSome result (λ told. has_vlan told.vlan ≡ true) }
-    {
-        let place = self.place_at(slot);
-        let offer = row.offer_of(self.me);
-        let remote = self.end_in(slot).remote();
-        terminal_wish(
-            &offer,
-            remote,
-            self.bits_of(place.wire),
-            self.status_to_tell(slot),
-        )
-    }
-
-    // The wire of an end is on, the session with its peer is up, and the end is a terminal one.
-    #[tactic(auto, unfolding(crate::specs::Lists::seen))]
-    fn may_tell(&self, place: &EndPlace) -> bool
-        requires { place.now.wire.0 < length self.now.plan.wires }
-        ensures { result ≡ may_tell_end (seen self.now) place.now }
-    {
-        self.wires_on[place.wire.0 as usize] && self.is_up(place.peer) && place.terminal
     }
 
     // The failure bits of the end of a wire, at most 31.
@@ -354,7 +308,7 @@ impl Edge {
 
     // What an end is to its service.
     #[tactic(auto, unfolding(crate::specs::Lists::seen))]
-    fn role_of(&self, slot: usize) -> EndRole
+    pub(crate) fn role_of(&self, slot: usize) -> EndRole
         requires { slot < length self.now.ends.places }
         ensures { result ≡ role_at self.now.plan (seen self.now) (place_of self.now.ends slot) }
     {
@@ -376,15 +330,6 @@ impl Edge {
         }
     }
 
-    // The status that an end tells.
-    fn status_to_tell(&self, slot: usize) -> PwStatus
-        requires { slot < length self.now.ends.places }
-        ensures { result ≡ status_to_tell self.now.plan (seen self.now) (place_of self.now.ends slot) }
-    {
-        let place = self.place_at(slot);
-        status_to_tell(self.role_of(slot), self.bits_of(place.wire))
-    }
-
     // Why an end does not forward.
     #[tactic(auto, unfolding(crate::specs::Lists::seen))]
     pub(crate) fn down_of(&self, slot: usize) -> Option<Down>
@@ -394,6 +339,17 @@ impl Edge {
         let place = self.place_at(slot);
         let role = self.role_of(slot);
         self.end_in(slot).why_down(role, self.bits_of(place.wire))
+    }
+}
+
+// What an end has told still stands: a terminal end's offer while it tells anything, and what a switching point passes on while no
+// more than its status has changed (RFC 6073 section 10).
+fn stands(place: &EndPlace, content: &Told, wished: Option<Told>) -> bool
+    ensures { result ≡ stands place.now content.now wished }
+{
+    match wished {
+        Some(wished) => place.terminal || is_same_but_status(content, &wished),
+        None => false,
     }
 }
 

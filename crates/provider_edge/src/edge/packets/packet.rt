@@ -113,6 +113,7 @@ impl Edge {
         ensures named { option_map (place_of self.now.ends) result ≡ advertiser self.now.plan (seen self.now) label }
         ensures slot { IfSome result (λ slot. slot < length self.now.ends.places) }
     {
+        // Named so that what always holds of the fields is at hand for the proof.
         let _ = &self.ends;
         self.ends.advertiser(label)
     }

@@ -1,8 +1,5 @@
 //! A switching point passes a packet on to its other neighbour on the wire (RFC 6073 section 4).
-ghost use Rattle.std.specs.Prelude.{◌≡◌, ◌≤◌, ◌<◌, ◌-◌, Some, length, option_copied, IfOk, IfSome, OnOk};
-ghost use Rattle.net_base.specs.declared.plan.wire_plan.WirePlan.{WirePlan};
-ghost use Rattle.net_base.specs.plan.Paths.{mate};
-ghost use Rattle.net_base.specs.plan.Places.{wire_row};
+ghost use Rattle.std.specs.Prelude.{◌≡◌, ◌≤◌, ◌<◌, ◌-◌, length, IfOk, OnOk};
 ghost use Rattle.pw_stitch.specs.Relabelling.{relabelled};
 ghost use Rattle.pw_stitch.specs.Swap.{label_onward};
 ghost use Rattle.edge_model.specs.Packet.{switched, switched_under};
@@ -14,7 +11,7 @@ ghost use Rattle.provider_edge.specs.AtWork.{at_work};
 use crate::Edge;
 use crate::quiet::drop_for;
 use eth_encap::StackEntry;
-use net_base::{Arrival, DropCause, EdgeId, Label, Link, List, NoMemory, Octets};
+use net_base::{Arrival, DropCause, Label, Link, List, NoMemory, Octets};
 use peer_dialogue::AtWork;
 use pw_stitch::{label_onward, relabel};
 use std::alloc::Global;
@@ -46,18 +43,6 @@ impl Edge {
             return drop_for(DropCause::NoBinding, &mut work.effects.list);
         };
         self.send_on(onward, octets, entry, work)
-    }
-
-    // The neighbour on the other side of the switching point, seen from that of the end of a slot; `None` exactly where the edge
-    // is no switching point between two of the wire's edges.
-    #[tactic(auto, using(edge_forwarding::proofs::ForwardingLemmas::row_read))]
-    fn mate_at(&self, slot: usize) -> Option<EdgeId>
-        requires { slot < length self.now.ends.places }
-        ensures mate { (row : WirePlan) → wire_row self.now.plan (place_of self.now.ends slot).wire ≡ Some row → result ≡ mate row self.now.me.0 (place_of self.now.ends slot).peer.0 }
-        ensures within { (place_of self.now.ends slot).wire.0 < length self.now.plan.wires }
-    {
-        let place = self.place_at(slot);
-        self.plan.wires.as_slice()[place.wire.0 as usize].mate(self.me, place.peer)
     }
 
     // A packet goes on by the end of a slot, under the label that is bound there.

@@ -1,14 +1,15 @@
 //! What an edge makes of the messages about pseudowires (RFC 5036 sections 3.5.7, 3.5.10 and 3.5.11, RFC 8077 sections 6 and
 //! 6.3.2), one call a message.
-ghost use Rattle.std.specs.Prelude.{◌≡◌, ◌≤◌, Some, None, List, OnOk, option_copied, true};
+ghost use Rattle.std.specs.Prelude.{◌≡◌, ◌≤◌, ◌<◌, Some, None, List, length, OnOk, option_copied, true, false};
 ghost use Rattle.net_base.specs.declared.outside.link_call.LinkCall.{LinkCall};
-ghost use Rattle.pw_signalling.specs.Rows.{group_stated, group_unbound, released, stated, unbound};
+ghost use Rattle.pw_signalling.specs.Rows.{bound, group_stated, group_unbound, released, stated, unbound};
+ghost use Rattle.pw_ends.specs.Ends.{place_of};
 ghost use Rattle.edge_model.specs.declared.effect.Effect.{Effect};
-ghost use Rattle.edge_model.specs.Signal.{end_of_fec, hears_status, hears_withdraw, releases_label, with_end_changed, with_named};
+ghost use Rattle.edge_model.specs.Signal.{end_of_fec, hears_status, hears_withdraw, maps_to, releases_label, with_end_changed, with_named};
 ghost use Rattle.edge_model.specs.Work.{Agrees, Answers};
+ghost use Rattle.peer_dialogue.specs.Heard.{CanBeTold};
 ghost use Rattle.peer_dialogue.specs.Peering.{at_edge};
 ghost use Rattle.provider_edge.specs.AtWork.{Works, at_work};
-ghost use Rattle.provider_edge.specs.Hearing.{binds_to};
 ghost use Rattle.provider_edge.specs.Lists.{Keeps, seen};
 
 use crate::Edge;
@@ -22,7 +23,7 @@ use pw_tlvs::{PwFec, PwStatus};
 const PW_STATUS_CODE: u32 = 0x28;
 
 impl Edge {
-    // Label Mapping: the binding of a known pseudowire is replaced; the label of an unknown one is released.
+    // Label Mapping: a known pseudowire is bound; the label of an unknown one is released.
     pub(crate) fn hear_mapping<L: Link>(
         &mut self,
         peer: EdgeId,
@@ -32,15 +33,42 @@ impl Edge {
     ) -> Result<(), NoMemory>
         requires working { self.old.stopped ≡ true }
         requires kind { fec.now.kind ≤ 0x7FFF }
+        requires told { CanBeTold binding.now.told }
         ensures goes { Works L.calls self.old work.old self.new work.new }
         ensures step { OnOk result ((told : Answers) → Agrees told (L.calls work.new.link.now)
-            → at_work L.calls self.new work.new ≡ binds_to told peer fec.now binding.now (end_of_fec self.old.plan (seen self.old) peer fec.now) (at_work L.calls self.old work.old)) }
+            → at_work L.calls self.new work.new ≡ maps_to self.old.plan told peer fec.now binding.now (end_of_fec self.old.plan (seen self.old) peer fec.now) (at_work L.calls self.old work.old)) }
     {
         let Some(slot) = self.slot_of(peer, fec) else {
             return self.release(peer, fec, Some(binding.label), work);
         };
+        if self.takes_content(slot, &binding.told) {
+            self.bind(slot, binding);
+            return Ok(());
+        }
+        self.unbind(slot);
+        self.release(peer, fec, Some(binding.label), work)
+    }
+
+    // The end of a slot is bound, which it takes.
+    fn bind(&mut self, slot: usize, binding: &Binding)
+        requires working { self.old.stopped ≡ true }
+        requires slot { slot < length self.old.ends.places }
+        requires told { CanBeTold binding.now.told }
+        requires room { (place_of self.old.ends slot).terminal ≡ false → length binding.now.told.points < 3 }
+        ensures keeps { Keeps self.old self.new }
+        ensures step { seen self.new ≡ with_end_changed (bound binding.now) (Some (place_of self.old.ends slot)) (seen self.old) }
+    {
         self.ends.on_mapping(slot, binding);
-        Ok(())
+    }
+
+    // The binding of the end of a slot goes.
+    fn unbind(&mut self, slot: usize)
+        requires working { self.old.stopped ≡ true }
+        requires slot { slot < length self.old.ends.places }
+        ensures keeps { Keeps self.old self.new }
+        ensures step { seen self.new ≡ with_end_changed (unbound None) (Some (place_of self.old.ends slot)) (seen self.old) }
+    {
+        self.ends.on_withdraw(slot, None);
     }
 
     // A release is put, whatever it answers.

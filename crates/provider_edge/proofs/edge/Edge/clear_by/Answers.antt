@@ -6,7 +6,7 @@ use Rattle.hvpls_spokes.specs.Port.{ports_of}
 use Rattle.mac_withdraw.specs.Passing.{is_wire_at}
 use Rattle.pw_ends.specs.Ends.{place_of}
 use Rattle.peer_dialogue.proofs.SettleLemmas.{map_on}
-use Rattle.provider_edge.proofs.ClearLemmas.{cleared_on, found_is_wire, no_port_clears, not_terminal, terminal_clears}
+use Rattle.provider_edge.proofs.ClearLemmas.{beyond_clears, cleared_on, found_is_wire, no_port_clears, terminal_clears}
 use Rattle.provider_edge.specs.AtWork.{at_work}
 use Rattle.provider_edge.proofs.edge.Edge.clear_by.Goals as goal
 
@@ -21,8 +21,11 @@ pass_on-requires g c = record {
 }
 
 pub returns-then-not-place-clause-step : goal.returns-then-not-place-clause-step
-returns-then-not-place-clause-step g c = λ told agrees.
-    not_terminal c.args.self.now.plan told c.args.addresses.now c.place_at-place.result (place_of c.args.self.now.ends c.args.slot) (at_work g.L.Link.calls c.args.self.now c.args.work.now) c.place_at-place.ensures.place c.if-not-place.true
+returns-then-not-place-clause-step g c = map_on _ _ c.tell_beyond.result
+    (λ step. λ told agrees.
+    beyond_clears c.args.self.now told c.args.addresses.now c.as_slice.result.now c.place_at-place.result (place_of c.args.self.now.ends c.args.slot) (g.L.Link.calls c.args.work.now.link.now) c.args.work.now.effects.now.list _
+    c.place_at-place.ensures.place c.if-not-place.true c.as_slice.ensures (step told agrees))
+    c.tell_beyond.ensures.step
 
 pub returns-in_default-clause-step : goal.returns-in_default-clause-step
 returns-in_default-clause-step g c = λ told agrees.
@@ -35,6 +38,6 @@ returns-clause-step g c = map_on _ _ c.pass_on.result
     (λ step. λ told agrees.
     terminal_clears c.args.self.now told c.args.addresses.now c.place_at-place.result (place_of c.args.self.now.ends c.args.slot) c.service_at-service.result c.wire_port.result (g.L.Link.calls c.args.work.now.link.now) c.args.work.now.effects.now.list _
     c.place_at-place.ensures.place c.if-not-place.false c.place_at-place.ensures.wire c.service_at-service.ensures.row c.wire_port.ensures
-    (cleared_on c.args.self.now c.withdraw_at.new.self told c.args.addresses.now c.as_slice.result.now c.service_at-service.result c.in-Some.from c.wire_port.result (g.L.Link.calls c.args.work.now.link.now) c.args.work.now.effects.now.list _
-    c.withdraw_at.ensures.keeps c.in-Some.is c.as_slice.ensures c.withdraw_at.ensures.step (step told agrees)))
+    (cleared_on c.args.self.now c.withdraw_at.new.self told c.args.addresses.now c.as_slice-2.result.now c.service_at-service.result c.in-Some.from c.wire_port.result (g.L.Link.calls c.args.work.now.link.now) c.args.work.now.effects.now.list _
+    c.withdraw_at.ensures.keeps c.in-Some.is c.as_slice-2.ensures c.withdraw_at.ensures.step (step told agrees)))
     c.pass_on.ensures.step

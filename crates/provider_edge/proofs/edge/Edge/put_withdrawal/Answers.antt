@@ -5,22 +5,22 @@ use Rattle.edge_model.specs.Mend.{wish}
 use Rattle.edge_model.specs.Session.{says}
 use Rattle.peer_dialogue.proofs.SettleLemmas.{map_ok}
 use Rattle.pw_ends.specs.Ends.{place_of}
-use Rattle.provider_edge.proofs.RowLemmas.{unless_none, unless_some, withdraws_at}
+use Rattle.provider_edge.proofs.RowLemmas.{unless_stands, unless_stands_not, withdraws_at}
 use Rattle.provider_edge.specs.AtWork.{at_work}
 use Rattle.provider_edge.specs.Lists.{seen}
 use Rattle.provider_edge.proofs.edge.Edge.put_withdrawal.Goals as goal
 
-pub returns-then-is_some-clause-step : goal.returns-then-is_some-clause-step
-returns-then-is_some-clause-step g c = λ told agrees.
-    unless_some told (place_of c.args.self.now.ends c.args.slot) c.args.label c.args.content (wish c.args.self.now.plan (seen c.args.self.now) (place_of c.args.self.now.ends c.args.slot)) c.wish.result (at_work g.L.Link.calls c.args.self.now c.args.work.now)
-    c.wish.ensures.wish (sym c.is_some.ensures ∙ c.if-is_some.true)
+pub returns-then-stands-clause-step : goal.returns-then-stands-clause-step
+returns-then-stands-clause-step g c = λ told agrees.
+    unless_stands told (place_of c.args.self.now.ends c.args.slot) c.place_at-place.result c.args.label c.args.content (wish c.args.self.now.plan (seen c.args.self.now) (place_of c.args.self.now.ends c.args.slot)) c.wish.result c.stands.result (at_work g.L.Link.calls c.args.self.now c.args.work.now)
+    c.place_at-place.ensures.place c.wish.ensures.wish c.stands.ensures c.if-stands.true
 
 pub returns-clause-step : goal.returns-clause-step
 returns-clause-step g c =
     map_ok _ _ c.say.result (λ failed said. λ told agrees.
-    unless_none told (place_of c.args.self.now.ends c.args.slot) c.args.label c.args.content (wish c.args.self.now.plan (seen c.args.self.now) (place_of c.args.self.now.ends c.args.slot)) c.wish.result (at_work g.L.Link.calls c.args.self.now c.args.work.now)
+    unless_stands_not told (place_of c.args.self.now.ends c.args.slot) c.place_at-place.result c.args.label c.args.content (wish c.args.self.now.plan (seen c.args.self.now) (place_of c.args.self.now.ends c.args.slot)) c.wish.result c.stands.result (at_work g.L.Link.calls c.args.self.now c.args.work.now)
     (record { work = at_work g.L.Link.calls c.say.new.self c.say.new.work; failed = failed })
-    c.wish.ensures.wish (sym c.is_some.ensures ∙ c.if-is_some.false)
+    c.place_at-place.ensures.place c.wish.ensures.wish c.stands.ensures c.if-stands.false
     (withdraws_at told (place_of c.args.self.now.ends c.args.slot) c.args.label c.args.content (seen c.args.self.now) (seen c.withdraw.new.self) (g.L.Link.calls c.args.work.now.link.now) c.args.work.now.effects.now.list
     (record { work = at_work g.L.Link.calls c.say.new.self c.say.new.work; failed = failed })
     (c.withdraw.ensures.step)

@@ -6,7 +6,7 @@ use Rattle.pw_signalling.specs.AnyEnd.{end_of}
 use Rattle.std.specs.Option.{option_copied}
 use Rattle.provider_edge.proofs.MendLemmas.{offer_holds, wish_read}
 use Rattle.provider_edge.specs.Lists.{EdgeLists}
-use Rattle.provider_edge.proofs.edge.Edge.wish_by.Goals as goal
+use Rattle.provider_edge.proofs.edge.Edge.terminal_wish.Goals as goal
 
 pub returns-clause-wish : goal.returns-clause-wish
 returns-clause-wish c =
