@@ -10,5 +10,6 @@ mod pseudowires;
 mod sessions;
 mod side;
 mod steps;
+mod stitches;
 mod switching_faults;
 mod withdraws;

@@ -1,9 +1,12 @@
 //! What edges put when their sessions come up: the Initialization for a neighbour, and the KeepAlive that follows (RFC 5036
 //! sections 3.5.3 and 3.5.4). All octets were worked out by hand.
 
-/// A's for B, and B's, C's and X's for A.
+/// A's and C's for B, and B's, C's and X's for A.
 pub const PROPOSAL_OF_A: &str =
     "000100200a000001000002000016000000010500000e000100b4000010000a0000020000";
+
+pub const PROPOSAL_OF_C_TO_B: &str =
+    "000100200a000003000002000016000000010500000e000100b4000010000a0000020000";
 
 pub const PROPOSAL_OF_B: &str =
     "000100200a000002000002000016000000010500000e000100b4000010000a0000010000";
