@@ -5,5 +5,4 @@ pub mod FileLemmas
 pub mod MadeLemmas
 pub mod PlannedLemmas
 pub mod ReplayLemmas
-pub mod ShortLemmas
 pub mod StreamLemmas

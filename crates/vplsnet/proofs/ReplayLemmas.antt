@@ -15,7 +15,6 @@ use Rattle.flight_model.proofs.RunLemmas.{runs_come_up, runs_end_well, runs_foll
 use Rattle.network_model.proofs.SplitLemmas.{run_split}
 use Rattle.network_model.proofs.KnownLemmas.{run_serves_known_once}
 use Rattle.packet_model.proofs.RunLemmas.{runs_are_isolated, runs_keep_packet_rule}
-use Rattle.flood_model.specs.Due.{has_short_paths}
 use Rattle.flood_model.proofs.RunLemmas.{runs_serve_once}
 use Rattle.flood_model.proofs.ShareLemmas.{runs_share_sites}
 use Rattle.address_model.proofs.KnownLemmas.{runs_reach_known}
@@ -33,7 +32,6 @@ use Rattle.vplsnet.specs.Built.{is_built}
 use Rattle.vplsnet.specs.Promises.{KeepsPromises}
 use Rattle.vplsnet.specs.Replay.{HasRunAs, IsReplay, Replays, events_of, outcome_by}
 use Rattle.vplsnet.proofs.PlannedLemmas.{All-first, made_planned}
-use Rattle.vplsnet.proofs.ShortLemmas.{built_short}
 
 -- the first events of a run are a run
 run_of_first : (plan : Plan) (events before after : List Event) → events ≡ before ++ after → IsRun plan events → IsRun plan before
@@ -43,8 +41,8 @@ run_of_first plan events before after joined run = record {
   planned = All-first (IsEventOf plan) before after (subst (λ (es : List Event). All (IsEventOf plan) es) joined run.planned);
 }
 
-promises_kept : (plan : Plan) (events : List Event) → IsRun plan events → has_short_paths plan ≡ true → KeepsPromises plan events
-promises_kept plan events run short = record {
+promises_kept : (plan : Plan) (events : List Event) → IsRun plan events → KeepsPromises plan events
+promises_kept plan events run = record {
   isolated = runs_are_isolated plan events run;
   split = run_split plan events run.checked;
   packets = λ before after joined. runs_keep_packet_rule plan before (first before after joined);
@@ -53,7 +51,7 @@ promises_kept plan events run short = record {
   known = run_serves_known_once plan events run.checked;
   points = runs_keep_points plan events run;
   stations = runs_reach_known plan events run;
-  moves = runs_heal_moves plan events run short;
+  moves = runs_heal_moves plan events run;
   table = λ before after joined a b. runs_follow_table plan before (first before after joined) a b;
   up = λ before after joined a b. runs_come_up plan before (first before after joined) a b;
   agree = λ before after joined a b. runs_agree_after_flight plan before (first before after joined) a b;
@@ -94,7 +92,7 @@ is_replay octets text scenario network outcome reads built checked planned has =
       state_is = run.ran.state_is;
       trace_is = run.ran.trace_is;
       text_is = has.text_is;
-      promises = promises_kept scenario.plan run.done (record { checked = checked; types = has.types; planned = done }) (built_short scenario built);
+      promises = promises_kept scenario.plan run.done (record { checked = checked; types = has.types; planned = done });
     }
 
 by_outcome : (octets text : List ℕ) (network : Option NetLists) (reason : Option NetStop) → IsReplay octets text network reason → Replays octets text network (outcome_by reason)

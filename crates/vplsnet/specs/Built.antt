@@ -1,5 +1,5 @@
 -- Which accepted scenarios can be run so far.
-use Rattle.std.specs.Prelude.{◌==◌, ◌&&◌, ℕ, Bool, true, false, Option, Some, None, length}
+use Rattle.std.specs.Prelude.{◌&&◌, ℕ, Bool, true, false, Option, Some, None}
 use Rattle.std.specs.List.{list_all}
 use Rattle.net_base.specs.declared.plan.wire_plan.WirePlan.{WirePlan}
 use Rattle.net_base.specs.declared.trace.event.Event.{Event}
@@ -13,9 +13,9 @@ abbrev pub is_built_offer : Option ℕ → Bool
 is_built_offer None = true
 is_built_offer (Some bits) = false
 
--- a wire between two edges, of which neither offers a control channel
+-- a wire of which neither end offers a control channel
 abbrev pub is_built_wire : WirePlan → Bool
-is_built_wire row = length row.path == 2 && (is_built_offer row.near.vccv && is_built_offer row.far.vccv)
+is_built_wire row = is_built_offer row.near.vccv && is_built_offer row.far.vccv
 
 -- connections and what befalls them, ticks, wires and circuits that are turned, statuses, priorities, frames and packets
 abbrev pub is_built_event : Event → Bool

@@ -6,8 +6,8 @@ ghost use Rattle.vplsnet.specs.Built.{is_built, is_built_command, is_built_event
 use net_base::{Event, WirePlan};
 use scenario_text::{Command, Scenario};
 
-/// Whether a scenario is within what is built: wires of two edges, of which none offers a control channel; and all commands but
-/// `ping` and `play`.
+/// Whether a scenario is within what is built: wires of which no end offers a control channel, and all commands but `ping` and
+/// `play`.
 pub fn is_built_scenario(scenario: &Scenario) -> bool
     ensures { result ≡ is_built scenario.now }
 {
@@ -24,8 +24,7 @@ fn are_built_wires(wires: &[WirePlan]) -> bool
 fn is_wire_built(wire: &WirePlan) -> bool
     ensures { result ≡ is_built_wire wire.now }
 {
-    let silent = wire.near.vccv.is_none() && wire.far.vccv.is_none();
-    wire.path.len() == 2 && silent
+    wire.near.vccv.is_none() && wire.far.vccv.is_none()
 }
 
 // Whether each command is built.
