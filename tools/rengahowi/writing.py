@@ -31,8 +31,11 @@ def scenario(rows, events, comment=""):
 
 def connected(rows):
     """The events that connect each two neighbours, and deliver until nothing of LDP is left."""
-    pairs = dict.fromkeys(pair for wire in rows["wire"] for pair in zip(wire["path"], wire["path"][1:]))
-    return [f"connect {a} {b}" for a, b in pairs] + ["settle 10000"] * bool(pairs)
+    pairs = {}
+    for wire in rows["wire"]:
+        for pair in zip(wire["path"], wire["path"][1:]):
+            pairs.setdefault(frozenset(pair), pair)
+    return [f"connect {a} {b}" for a, b in pairs.values()] + ["settle 10000"] * bool(pairs)
 
 
 def rows_of(count, circuits):
