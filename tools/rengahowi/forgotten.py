@@ -19,9 +19,6 @@ def unbuilt(plan):
     for number, wire in enumerate(plan.wires.values()):
         if wire.near["vccv"] or wire.far["vccv"]:
             yield Finding("", ("wire", number, "vccv"), 0, "control channels are not built yet: the program answers 'not built'")
-        if len(wire.path) > 2:
-            text = "paths of more than two edges are not built yet: the program answers 'not built'"
-            yield Finding("", ("wire", number, "path"), 0, text)
     for number, text in enumerate(plan.events):
         word = text.split(" ")[0]
         if word in UNBUILT_EVENTS:
