@@ -8,6 +8,7 @@ use Rattle.net_base.specs.plan.Accepted.{IsChecked}
 use Rattle.net_base.specs.plan.Planned.{IsEventOf}
 use Rattle.network_model.specs.State.{empty_network}
 use Rattle.flight_model.specs.Laws.{IsRun}
+use Rattle.flight_model.proofs.AcrossLemmas.{runs_take_mappings, runs_tell_across}
 use Rattle.flight_model.proofs.BoundRunLemmas.{runs_agree_after_flight, runs_settle}
 use Rattle.flight_model.proofs.ReleaseLemmas.{runs_await_releases, runs_release_unadvertised}
 use Rattle.flight_model.proofs.RuledRunLemmas.{runs_keep_label_rule, runs_keep_told_rule}
@@ -15,8 +16,10 @@ use Rattle.flight_model.proofs.RunLemmas.{runs_come_up, runs_end_well, runs_foll
 use Rattle.network_model.proofs.SplitLemmas.{run_split}
 use Rattle.network_model.proofs.KnownLemmas.{run_serves_known_once}
 use Rattle.packet_model.proofs.RunLemmas.{runs_are_isolated, runs_keep_packet_rule}
+use Rattle.flood_model.proofs.ChainLemmas.{runs_tell_in_chains}
 use Rattle.flood_model.proofs.RunLemmas.{runs_serve_once}
 use Rattle.flood_model.proofs.ShareLemmas.{runs_share_sites}
+use Rattle.flood_model.proofs.WholeLemmas.{runs_keep_wires_whole}
 use Rattle.address_model.proofs.KnownLemmas.{runs_reach_known}
 use Rattle.address_model.proofs.PointsLemmas.{runs_keep_points}
 use Rattle.move_model.proofs.HealLemmas.{runs_heal_moves}
@@ -58,6 +61,10 @@ promises_kept plan events run = record {
   awaited = λ before after joined a b. runs_await_releases plan before (first before after joined) a b;
   released = λ before after joined a b. runs_release_unadvertised plan before (first before after joined) a b;
   settled = λ before after joined service quiet a b. runs_settle plan before (first before after joined) service quiet a b;
+  across = λ before after joined me from to wire row is mates. runs_tell_across plan before (first before after joined) me from to wire row is mates;
+  taken = λ before after joined from to apart. runs_take_mappings plan before (first before after joined) from to apart;
+  chains = λ before after joined. runs_tell_in_chains plan before (first before after joined);
+  whole = λ before after joined. runs_keep_wires_whole plan before (first before after joined);
   labels = λ before after joined. runs_keep_label_rule plan before (first before after joined);
   contents = λ before after joined. runs_keep_told_rule plan before (first before after joined);
   endings = runs_end_well plan events run;

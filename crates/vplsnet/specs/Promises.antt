@@ -1,8 +1,13 @@
 -- What holds of the run of an accepted scenario.
-use Rattle.std.specs.Prelude.{◌≡◌, ◌++◌, ℕ, true, List}
+use Rattle.std.specs.Prelude.{◌≡◌, ◌++◌, nat_eq, ℕ, true, false, List, Some}
 use Rattle.net_base.specs.declared.plan.Plan.{Plan}
+use Rattle.net_base.specs.declared.plan.places.EdgeId.{EdgeId}
 use Rattle.net_base.specs.declared.plan.places.ServiceId.{ServiceId}
+use Rattle.net_base.specs.declared.plan.places.WireId.{WireId}
+use Rattle.net_base.specs.declared.plan.wire_plan.WirePlan.{WirePlan}
 use Rattle.net_base.specs.declared.trace.event.Event.{Event}
+use Rattle.net_base.specs.plan.Paths.{mate}
+use Rattle.net_base.specs.plan.Places.{wire_row}
 use Rattle.net_base.specs.plan.Roles.{are_joined_by}
 use Rattle.net_base.specs.trace.Isolated.{Isolated}
 use Rattle.net_base.specs.trace.Split.{Split}
@@ -11,9 +16,11 @@ use Rattle.network_model.specs.KnownOnce.{KnownOnce}
 use Rattle.network_model.specs.OnceEach.{OnceEach}
 use Rattle.network_model.specs.Run.{run}
 use Rattle.network_model.specs.State.{NetworkState}
+use Rattle.flight_model.specs.Across.{TakesAll, TellsAcross}
 use Rattle.flight_model.specs.Endings.{TellGoodEnds}
 use Rattle.flight_model.specs.Releases.{AllAwaitReleases, AllReleaseUnadvertised}
 use Rattle.packet_model.specs.Carried.{KeepsPacketRule}
+use Rattle.flood_model.specs.Laws.{IsWholeWhereCalm, TellsWhereQuiet}
 use Rattle.flood_model.specs.Shares.{SharesEach}
 use Rattle.address_model.specs.Laws.{KnownAreReached, PointsLast}
 use Rattle.move_model.specs.Laws.{MovesHeal}
@@ -42,6 +49,14 @@ AreUpWhereStill network = (a b : ℕ) → IsStillBetween network a b → IsUp ne
 -- each packet under way carries a frame that entered, in the service of its wire
 abbrev pub CarryFrames : Plan → List Event → Type 0
 CarryFrames plan events = (before after : List Event) → events ≡ before ++ after → KeepsPacketRule plan (network_after plan before) (run plan before).entries
+
+-- each switching point of a wire tells either neighbour exactly what it holds of the other one
+abbrev pub TellAcross : Plan → NetworkState → Type 0
+TellAcross plan network = (me from to : EdgeId) (wire : WireId) (row : WirePlan) → wire_row plan wire ≡ Some row → mate row me.0 from.0 ≡ Some to → TellsAcross plan me from to wire row (network.edges me.0)
+
+-- no Label Mapping that is on its way is refused
+abbrev pub TakeMappings : Plan → NetworkState → Type 0
+TakeMappings plan network = (from to : ℕ) → nat_eq from to ≡ false → TakesAll plan network from to
 
 pub record KeepsPromises (plan : Plan) (events : List Event) : Type 0 where
   -- customers stay apart, over wires too
@@ -75,6 +90,12 @@ pub record KeepsPromises (plan : Plan) (events : List Event) : Type 0 where
   -- and no Label Release on its way names a label that its receiver advertises
   pub released : Throughout (AllReleaseUnadvertised plan) plan events
   pub settled : Throughout (AreSettledWhereQuiet plan) plan events
+  -- a switching point tells on one side exactly what it holds on the other, and takes whatever is told to it; where all is heard, what is
+  -- told along a wire is one chain from its terminal edges, and in a calm service a wire whose first end forwards is whole
+  pub across : Throughout (TellAcross plan) plan events
+  pub taken : Throughout (TakeMappings plan) plan events
+  pub chains : Throughout (TellsWhereQuiet plan) plan events
+  pub whole : Throughout (IsWholeWhereCalm plan) plan events
   -- wherever a label is named it was given before, and whoever owns it is the end that it is named with
   pub labels : Throughout (KeepsLabelRule plan) plan events
   -- wherever a content is told it is the one that the plan has told there, but for its status
