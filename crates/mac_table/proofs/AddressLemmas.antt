@@ -10,7 +10,7 @@ use Rattle.net_values.specs.declared.mac.Mac.{Mac}
 use Rattle.mac_table.specs.declared.mac_entry.MacEntry.{MacEntry}
 use Rattle.mac_table.specs.Addresses.{AddressTable, is_of, has_address, has_room, port_of, mac_entry_of, entry_place, replaced, learned, AreDistinctAddresses, NoneAfter, IsHeld}
 
-neither : (a b : Bool) → (a || b) ≡ false → (a ≡ false) × (b ≡ false)
+pub neither : (a b : Bool) → (a || b) ≡ false → (a ≡ false) × (b ≡ false)
 neither true b e = absurd (cc)
 neither false b e = (refl, e)
 
@@ -23,7 +23,7 @@ pub is_of-itself : (e : MacEntry) → is_of e.address e ≡ true
 is_of-itself e = (bytes_eq-Decides e.address.0 e.address.0).1 refl
 
 -- addresses differ both ways
-other_way : (a b : MacEntry) → is_of a.address b ≡ false → is_of b.address a ≡ false
+pub other_way : (a b : MacEntry) → is_of a.address b ≡ false → is_of b.address a ≡ false
 other_way a b differs = elim (cases_Bool (is_of b.address a)) [
   | inl found ↦ (let same : is_of a.address b ≡ true = (bytes_eq-Decides b.address.0 a.address.0).1 (sym ((bytes_eq-Decides a.address.0 b.address.0).0 found)) in absurd (cc))
   | inr absent ↦ absent

@@ -1,2 +1,5 @@
 pub mod AddressLemmas
 pub mod AgeLemmas
+pub mod IndexLemmas
+pub mod RemovalLemmas
+pub mod TickLemmas

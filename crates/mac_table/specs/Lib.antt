@@ -1,2 +1,5 @@
 pub mod Addresses
+pub mod Index
 pub mod Laws
+pub mod Removal
+pub mod Ticks

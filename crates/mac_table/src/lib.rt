@@ -4,11 +4,14 @@
 #![tactic(auto)]
 
 mod edits;
+mod index;
 mod laws;
 mod learned;
 mod mac_entry;
 mod mac_table;
+mod removal;
 mod search;
+mod ticks;
 
 pub use laws::lasts_its_age;
 pub use learned::Learned;

@@ -2,10 +2,13 @@
 ghost use Rattle.std.specs.Prelude.{◌≡◌, ◌≤◌, ◌↔◌, ◌⊎◌, ℕ, [], filter, length, not, false, slice_get, All, Contains, IfOk, ◌==◌};
 ghost use Rattle.net_values.specs.Mac.{is_group_address};
 ghost use Rattle.mac_table.specs.Addresses.{AreDistinctAddresses, NoneAfter, entry_stays, has_address, is_young, learned, learning_of, port_of};
+ghost use Rattle.mac_table.specs.Index.{address_pairs};
 
-use crate::edits::{keep_off_port, keep_staying, keep_young, learn_in};
+use crate::edits::{learn_in, take_old, take_out};
+use crate::removal::Removal;
 use crate::search::find_port;
 use crate::{Learned, MacEntry};
+use indexmap::IndexMap;
 use net_values::{List, Mac, NoMemory};
 use std::alloc::Global;
 use std::marker::Model;
@@ -15,18 +18,22 @@ use std::marker::Model;
 #[derive(Drop)]
 pub struct MacTable {
     entries: Vec<MacEntry>,
+    index: IndexMap<Mac, (u16, u64)>,
+    ticks: IndexMap<u64, usize>,
     capacity: u32,
 }
 
 impl Model for MacTable {
     ghost use Rattle.std.specs.Prelude.{vec_capacity};
     ghost use Rattle.mac_table.specs.Addresses.{AddressTable, IsHeld};
+    ghost use Rattle.mac_table.specs.Index.{IsAddressIndex};
+    ghost use Rattle.mac_table.specs.Ticks.{IsTickIndex};
 
     ghost Value = { AddressTable };
 
     ghost view = { λ t. record { entries = t.entries.items; capacity = t.capacity } };
 
-    ghost invariant = { λ t. IsHeld t.capacity (vec_capacity t.entries) t.entries.items };
+    ghost invariant = { λ t. IsHeld t.capacity (vec_capacity t.entries) t.entries.items × IsAddressIndex t.index.entries t.entries.items × IsTickIndex t.ticks.entries t.entries.items };
 }
 
 impl MacTable {
@@ -37,6 +44,9 @@ impl MacTable {
     {
         Ok(MacTable {
             entries: Vec::with_capacity(alloc, capacity as usize)?,
+            index: IndexMap::with_capacity(alloc, capacity as usize)?,
+            // One more, for the moment at which a renewed address has both its ticks.
+            ticks: IndexMap::with_capacity(alloc, capacity as usize + 1)?,
             capacity,
         })
     }
@@ -60,7 +70,13 @@ impl MacTable {
             port,
             tick: now,
         };
-        learn_in(&mut self.entries, self.capacity, entry)
+        learn_in(
+            &mut self.entries,
+            &mut self.index,
+            &mut self.ticks,
+            self.capacity,
+            entry,
+        )
     }
 
     /// The port of the address; `None` exactly where it is not in the table.
@@ -68,7 +84,7 @@ impl MacTable {
         ensures port { result ≡ port_of self.now.entries address }
         ensures distinct { AreDistinctAddresses self.now.entries }
     {
-        find_port(self.entries.as_slice(), address)
+        find_port(self.entries.as_slice(), &self.index, address)
     }
 
     /// Removes the addresses from which no frame came for `limit` ticks or more (RFC 4762 section 9.1). The
@@ -79,7 +95,13 @@ impl MacTable {
         ensures ticks { NoneAfter now self.new.entries }
         ensures distinct { AreDistinctAddresses self.new.entries }
     {
-        keep_young(&mut self.entries, now, limit);
+        take_old(
+            &mut self.entries,
+            &mut self.index,
+            &mut self.ticks,
+            now,
+            limit,
+        );
     }
 
     /// Removes the addresses that are at the port. The others stay in order.
@@ -88,7 +110,12 @@ impl MacTable {
         ensures ticks { (now : ℕ) → NoneAfter now self.old.entries → NoneAfter now self.new.entries }
         ensures distinct { AreDistinctAddresses self.new.entries }
     {
-        keep_off_port(&mut self.entries, port);
+        take_out(
+            &mut self.entries,
+            &mut self.index,
+            &mut self.ticks,
+            Removal::Port { port },
+        );
     }
 
     /// Removes what a MAC withdraw that came by the port `from` names (RFC 4762 section 6.2): of a list that
@@ -99,7 +126,15 @@ impl MacTable {
         ensures ticks { (now : ℕ) → NoneAfter now self.old.entries → NoneAfter now self.new.entries }
         ensures distinct { AreDistinctAddresses self.new.entries }
     {
-        keep_staying(&mut self.entries, from, list.as_slice());
+        take_out(
+            &mut self.entries,
+            &mut self.index,
+            &mut self.ticks,
+            Removal::Withdraw {
+                from,
+                addresses: list.as_slice(),
+            },
+        );
     }
 
     /// The number of addresses.
@@ -124,5 +159,13 @@ impl MacTable {
         ensures { result ≡ slice_get self.now.entries index }
     {
         self.entries.get(index).copied()
+    }
+
+    /// The addresses in the order of the table, each with its port and tick; or an empty map, where it had no room for an address.
+    /// This takes no memory.
+    pub fn map(&self) -> &IndexMap<Mac, (u16, u64)>
+        ensures { (result.now.entries ≡ address_pairs self.now.entries) ⊎ (result.now.entries ≡ []) }
+    {
+        &self.index
     }
 }

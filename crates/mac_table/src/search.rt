@@ -1,8 +1,11 @@
 //! Where an address stands among entries.
-ghost use Rattle.std.specs.Prelude.{◌≡◌, ◌≤◌, length};
+ghost use Rattle.std.specs.Prelude.{◌≡◌};
 ghost use Rattle.mac_table.specs.Addresses.{is_of, entry_place, port_of, is_listed};
+ghost use Rattle.mac_table.specs.Index.{IsAddressIndex};
 
 use crate::MacEntry;
+use crate::index::{place_by, port_by};
+use indexmap::IndexMap;
 use net_values::Mac;
 
 // Whether the entry is of the address.
@@ -12,8 +15,8 @@ fn is_entry_of(address: Mac, entry: &MacEntry) -> bool
     entry.address == address
 }
 
-// The port of the address.
-pub(crate) fn find_port(entries: &[MacEntry], address: Mac) -> Option<u16>
+// The port of the address, by a walk.
+fn walk_to_port(entries: &[MacEntry], address: Mac) -> Option<u16>
     ensures { result ≡ port_of entries.now address }
 {
     for entry in entries {
@@ -24,10 +27,9 @@ pub(crate) fn find_port(entries: &[MacEntry], address: Mac) -> Option<u16>
     None
 }
 
-// The place of the address, or the number of entries where it is not held.
-pub(crate) fn place_of(entries: &[MacEntry], address: Mac) -> usize
+// The place of the address, or the number of entries where it is not held, by a walk.
+fn walk_to_place(entries: &[MacEntry], address: Mac) -> usize
     ensures place { result ≡ entry_place entries.now address }
-    ensures within { result ≤ length entries.now }
 {
     for (i, entry) in entries.iter().enumerate() {
         if is_entry_of(address, entry) {
@@ -35,6 +37,38 @@ pub(crate) fn place_of(entries: &[MacEntry], address: Mac) -> usize
         }
     }
     entries.len()
+}
+
+// The port of the address. The map is asked while it has what the list has.
+#[tactic(auto, using(crate::proofs::IndexLemmas::index_whole))]
+pub(crate) fn find_port(
+    entries: &[MacEntry],
+    index: &IndexMap<Mac, (u16, u64)>,
+    address: Mac,
+) -> Option<u16>
+    requires { IsAddressIndex index.now.entries entries.now }
+    ensures { result ≡ port_of entries.now address }
+{
+    if index.len() == entries.len() {
+        return port_by(index, entries, address);
+    }
+    walk_to_port(entries, address)
+}
+
+// The place of the address, or the number of entries where it is not held.
+#[tactic(auto, using(crate::proofs::IndexLemmas::index_whole))]
+pub(crate) fn place_of(
+    entries: &[MacEntry],
+    index: &IndexMap<Mac, (u16, u64)>,
+    address: Mac,
+) -> usize
+    requires { IsAddressIndex index.now.entries entries.now }
+    ensures { result ≡ entry_place entries.now address }
+{
+    if index.len() == entries.len() {
+        return place_by(index, entries, address);
+    }
+    walk_to_place(entries, address)
 }
 
 // Whether the address of the entry is in the list.

@@ -1,0 +1,99 @@
+//! The map beside the entries of a table.
+ghost use Rattle.std.specs.Prelude.{◌≡◌, ◌≤◌, ◌+◌, ◌++◌, [], ◌∷◌, false, length};
+ghost use Rattle.indexmap.specs.IndexMap.{index_map_len, set_value_at, spare};
+ghost use Rattle.mac_table.specs.Addresses.{AreDistinctAddresses, has_address, entry_place, port_of};
+ghost use Rattle.mac_table.specs.Index.{IsAddressIndex, address_pairs};
+
+use crate::MacEntry;
+use indexmap::IndexMap;
+use net_values::Mac;
+
+// The place of the address, or the number of entries where it is not held.
+#[tactic(auto, using(crate::proofs::IndexLemmas::place_some, crate::proofs::IndexLemmas::place_none))]
+pub(crate) fn place_by(
+    index: &IndexMap<Mac, (u16, u64)>,
+    entries: &[MacEntry],
+    address: Mac,
+) -> usize
+    requires { index.now.entries ≡ address_pairs entries.now }
+    ensures place { result ≡ entry_place entries.now address }
+{
+    match index.get_index_of(&address) {
+        Some(place) => place,
+        None => entries.len(),
+    }
+}
+
+// The port of the address.
+#[tactic(auto, using(crate::proofs::IndexLemmas::port_some, crate::proofs::IndexLemmas::port_none))]
+pub(crate) fn port_by(
+    index: &IndexMap<Mac, (u16, u64)>,
+    entries: &[MacEntry],
+    address: Mac,
+) -> Option<u16>
+    requires { index.now.entries ≡ address_pairs entries.now }
+    ensures port { result ≡ port_of entries.now address }
+{
+    match index.get(&address).copied() {
+        Some(value) => Some(value.0),
+        None => None,
+    }
+}
+
+// Puts the port and the tick of an entry at its place, where the map is not empty.
+#[tactic(auto, using(crate::proofs::IndexLemmas::set_past))]
+pub(crate) fn put_at(index: &mut IndexMap<Mac, (u16, u64)>, place: usize, entry: MacEntry)
+    ensures { index.new.entries ≡ set_value_at index.old.entries place (entry.port, entry.tick) }
+{
+    if place < index.len() {
+        index[place] = (entry.port, entry.tick);
+    }
+}
+
+// Puts the entries in anew, where the emptied map has room for all; else it stays empty.
+pub(crate) fn refill(index: &mut IndexMap<Mac, (u16, u64)>, entries: &[MacEntry])
+    requires { AreDistinctAddresses entries.now }
+    ensures index { IsAddressIndex index.new.entries entries.now }
+    ensures whole { length entries.now ≤ index_map_len index.old + spare index.old → index.new.entries ≡ address_pairs entries.now }
+    ensures room { index_map_len index.old + spare index.old ≤ index_map_len index.new + spare index.new }
+{
+    index.clear();
+    for entry in entries {
+        if index.len() >= index.capacity() {
+            index.clear();
+            return;
+        }
+        index
+            .insert(entry.address, (entry.port, entry.tick))
+            .unwrap();
+    }
+}
+
+// Puts the entry at the end. A map whose room is used up by removals is first filled anew.
+pub(crate) fn add(index: &mut IndexMap<Mac, (u16, u64)>, entries: &[MacEntry], entry: MacEntry)
+    requires index { IsAddressIndex index.old.entries entries.now }
+    requires distinct { AreDistinctAddresses entries.now }
+    requires absent { has_address entries.now entry.address ≡ false }
+    ensures { IsAddressIndex index.new.entries (entries.now ++ entry ∷ []) }
+{
+    if index.len() == entries.len() && index.len() >= index.capacity() {
+        refill(index, entries);
+    }
+    push(index, entries, entry);
+}
+
+// Puts the entry at the end. A map that has no room for it is emptied.
+#[tactic(auto, using(crate::proofs::IndexLemmas::index_added))]
+fn push(index: &mut IndexMap<Mac, (u16, u64)>, entries: &[MacEntry], entry: MacEntry)
+    requires index { IsAddressIndex index.old.entries entries.now }
+    requires absent { has_address entries.now entry.address ≡ false }
+    ensures { IsAddressIndex index.new.entries (entries.now ++ entry ∷ []) }
+{
+    if index.len() == entries.len() && index.len() < index.capacity() {
+        index
+            .insert(entry.address, (entry.port, entry.tick))
+            .unwrap();
+    } else {
+        index.clear();
+    }
+}

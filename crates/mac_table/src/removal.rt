@@ -1,0 +1,42 @@
+//! What takes addresses out of a table.
+ghost use Rattle.std.specs.Prelude.{◌≡◌};
+ghost use Rattle.mac_table.specs.Addresses.{entry_stays};
+ghost use Rattle.mac_table.specs.Removal.{keeps_entry};
+
+use crate::MacEntry;
+use crate::search::is_in;
+use net_values::Mac;
+
+// What takes addresses out of a table: age, a port that no longer has addresses, or a MAC withdraw.
+#[derive(Clone, Copy)]
+pub(crate) enum Removal<'a> {
+    // At the tick `now`, the addresses from which no frame came for `limit` ticks or more.
+    Age { now: u64, limit: u32 },
+    // The addresses that are at the port.
+    Port { port: u16 },
+    // What a MAC withdraw that came by the port `from` names.
+    Withdraw { from: u16, addresses: &'a [Mac] },
+}
+
+impl Removal<'_> {
+    // Whether the entry stays.
+    pub(crate) fn keeps(self, entry: &MacEntry) -> bool
+        ensures { result ≡ keeps_entry self.entry entry.now }
+    {
+        match self {
+            Removal::Age { now, limit } => now.saturating_sub(entry.tick) < limit as u64,
+            Removal::Port { port } => entry.port != port,
+            Removal::Withdraw { from, addresses } => stays_withdrawn(from, addresses, entry),
+        }
+    }
+}
+
+// Whether the entry stays after a withdrawal by the port.
+fn stays_withdrawn(from: u16, addresses: &[Mac], entry: &MacEntry) -> bool
+    ensures { result ≡ entry_stays from addresses.now entry.now }
+{
+    if addresses.is_empty() {
+        return entry.port == from;
+    }
+    !(entry.port == from && is_in(addresses, entry))
+}
