@@ -1,10 +1,14 @@
 //! The label space of an edge.
-ghost use Rattle.std.specs.Prelude.{◌≡◌, ◌≤◌, ◌<◌, ◌≢◌, ◌↔◌, ℕ, Some, None, length, IfOk, OnErr, IsErr};
+ghost use Rattle.std.specs.Prelude.{◌≡◌, ◌≤◌, ◌<◌, ◌≢◌, ◌↔◌, ◌⊎◌, ℕ, [], Some, None, length, IfOk, OnErr, IsErr};
 ghost use Rattle.label_space.specs.Labels.{AreBelow, AreDistinctLabels, emptied, freed, issued, numbers_end, opened_space, owner_of};
+ghost use Rattle.label_space.specs.Slots.{AreSlotsOf};
 
 use crate::search::{find_owner, forget};
-use crate::{LabelOwner, NoLabel};
+use crate::slots::{add, owner_by, take_out};
+use crate::{NoLabel, Owner};
+use indexmap::IndexMap;
 use net_base::{Label, NoMemory, SegKey};
+use slab::Slab;
 use std::alloc::Global;
 use std::marker::Model;
 
@@ -15,18 +19,23 @@ use std::marker::Model;
 pub struct LabelSpace {
     next: u32,
     room: u32,
-    owners: Vec<LabelOwner>,
+    owners: Vec<Owner>,
+    slots: Slab<Owner>,
+    index: IndexMap<u32, usize>,
+    // Whether `slots` and `index` have what `owners` has; else both are empty.
+    asked: bool,
 }
 
 impl Model for LabelSpace {
     ghost use Rattle.std.specs.Prelude.{vec_capacity};
     ghost use Rattle.label_space.specs.Labels.{LabelNumbers, IsHeldSpace};
+    ghost use Rattle.label_space.specs.Slots.{IsLabelIndex};
 
     ghost Value = { LabelNumbers };
 
     ghost view = { λ s. record { next = s.next; room = s.room; owners = s.owners.items } };
 
-    ghost invariant = { λ s. IsHeldSpace s.next s.room (vec_capacity s.owners) s.owners.items };
+    ghost invariant = { λ s. IsHeldSpace s.next s.room (vec_capacity s.owners) s.owners.items × IsLabelIndex s.asked s.slots s.index s.owners.items };
 }
 
 impl LabelSpace {
@@ -41,6 +50,9 @@ impl LabelSpace {
             next: first,
             room,
             owners: Vec::with_capacity(alloc, room as usize)?,
+            slots: Slab::with_capacity(alloc, room as usize)?,
+            index: IndexMap::with_capacity(alloc, room as usize)?,
+            asked: true,
         })
     }
 
@@ -59,8 +71,15 @@ impl LabelSpace {
         let Some(label) = Label::new(self.next) else {
             return Err(NoLabel);
         };
+        self.asked = add(
+            &mut self.slots,
+            &mut self.index,
+            self.asked,
+            self.owners.as_slice(),
+            Owner { label, key, side },
+        );
         // The memory for it was taken where the label space was opened.
-        self.owners.push(LabelOwner { label, key, side }).unwrap();
+        self.owners.push(Owner { label, key, side }).unwrap();
         self.next += 1;
         Ok(label)
     }
@@ -71,6 +90,9 @@ impl LabelSpace {
         ensures given { AreBelow self.now.next self.now.owners }
         ensures distinct { AreDistinctLabels self.now.owners }
     {
+        if self.asked {
+            return owner_by(&self.slots, &self.index, self.owners.as_slice(), label);
+        }
         find_owner(self.owners.as_slice(), label)
     }
 
@@ -80,6 +102,13 @@ impl LabelSpace {
         ensures free { owner_of label self.new.owners ≡ None }
         ensures others { (other : ℕ) → other ≢ label → owner_of other self.new.owners ≡ owner_of other self.old.owners }
     {
+        take_out(
+            &mut self.slots,
+            &mut self.index,
+            self.asked,
+            self.owners.as_slice(),
+            label,
+        );
         forget(&mut self.owners, label);
     }
 
@@ -90,6 +119,9 @@ impl LabelSpace {
         ensures free { (label : ℕ) → owner_of label self.new.owners ≡ None }
     {
         self.owners.clear();
+        self.slots.clear();
+        self.index.clear();
+        self.asked = true;
     }
 
     /// The number that is given next, 16 to 1048576; at 1048576 no label is left.
@@ -99,5 +131,13 @@ impl LabelSpace {
         ensures below { result ≤ numbers_end }
     {
         self.next
+    }
+
+    /// The owned labels with their owners, each in one slot; or an empty slab, where there was no room for a label. This takes no
+    /// memory.
+    pub fn slots(&self) -> &Slab<Owner>
+        ensures { AreSlotsOf result.now self.now.owners ⊎ (result.now.slots ≡ []) }
+    {
+        &self.slots
     }
 }

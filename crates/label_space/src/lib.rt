@@ -4,13 +4,14 @@
 //! only where it is opened. Its definitions stand in `specs/Labels.antt`.
 #![tactic(auto)]
 
-mod label_owner;
 mod label_space;
 mod laws;
 mod no_label;
+mod owner;
 mod search;
+mod slots;
 
-pub use label_owner::LabelOwner;
 pub use label_space::LabelSpace;
 pub use laws::labels_rise;
 pub use no_label::NoLabel;
+pub use owner::Owner;
