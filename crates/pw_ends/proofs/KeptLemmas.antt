@@ -6,7 +6,7 @@ use Rattle.std.proofs.lemmas.Bool.{cases_Bool}
 use Rattle.std.proofs.lemmas.Bool.Decides.{nat_tests}
 use Rattle.std.proofs.lemmas.List.{map-set, length-set}
 use Rattle.net_base.specs.declared.plan.places.SegKey.{SegKey}
-use Rattle.label_space.specs.declared.label_owner.LabelOwner.{LabelOwner}
+use Rattle.label_space.specs.declared.owner.Owner.{Owner}
 use Rattle.label_space.specs.Labels.{AreBelow, LabelNumbers, freed, issued, numbers_end, owner_of, owns}
 use Rattle.label_space.proofs.LabelLemmas.{below_filtered, below_pushed, below_none, owner_of-above, owner_of-kept, owner_of-next}
 use Rattle.pw_signalling.specs.AnyEnd.{end_of}
@@ -54,7 +54,7 @@ count_less (o ∷ os) (suc slot) within none = omega (arith, one_most o, count_l
 something : {X : Type 0} (x : X) → Some x ≡ None → ⊥
 something x is = cc
 
-filter_most : (p : LabelOwner → Bool) (xs : List LabelOwner) → length (filter p xs) ≤ length xs
+filter_most : (p : Owner → Bool) (xs : List Owner) → length (filter p xs) ≤ length xs
 filter_most p [] = omega arith
 filter_most p (x ∷ xs) =
     let rest : length (filter p xs) ≤ length xs = filter_most p xs in
@@ -64,7 +64,7 @@ filter_most p (x ∷ xs) =
     ]
 
 -- the owner of a label goes
-filter_less : (label : ℕ) (xs : List LabelOwner) → owner_of label xs ≢ None → length (filter (λ o. not (owns label o)) xs) < length xs
+filter_less : (label : ℕ) (xs : List Owner) → owner_of label xs ≢ None → length (filter (λ o. not (owns label o)) xs) < length xs
 filter_less label [] some = absurd (some refl)
 filter_less label (x ∷ xs) some = elim (cases_Bool (owns label x)) [
   | inl found ↦ rw found (omega (arith, filter_most (λ o. not (owns label o)) xs))
@@ -74,11 +74,11 @@ filter_less label (x ∷ xs) some = elim (cases_Bool (owns label x)) [
 ]
 
 -- a label that is owned was given before
-owned_below : (next label : ℕ) (xs : List LabelOwner) → AreBelow next xs → owner_of label xs ≢ None → label ≢ next
+owned_below : (next label : ℕ) (xs : List Owner) → AreBelow next xs → owner_of label xs ≢ None → label ≢ next
 owned_below next label xs below some = λ same. some (ap (λ (l : ℕ). owner_of l xs) same ∙ owner_of-above next xs below)
 
 -- a label that is owned stays so where another owner comes
-pushed_some : (label : ℕ) (xs : List LabelOwner) (owner : LabelOwner) → owner_of label xs ≢ None → owner_of label (xs ++ owner ∷ []) ≢ None
+pushed_some : (label : ℕ) (xs : List Owner) (owner : Owner) → owner_of label xs ≢ None → owner_of label (xs ++ owner ∷ []) ≢ None
 pushed_some label [] owner some = absurd (some refl)
 pushed_some label (x ∷ xs) owner some = elim (cases_Bool (owns label x)) [
   | inl found ↦ rw found (λ none. something {X = SegKey × ℕ} (x.key, x.side) none)
@@ -87,7 +87,7 @@ pushed_some label (x ∷ xs) owner some = elim (cases_Bool (owns label x)) [
 
 -- ---- a label is freed
 
-freed_owned : (owners : List LabelOwner) (label : ℕ) (other : Option ℕ) → Differ (Some label) other → IsOwned owners other → IsOwned (filter (λ o. not (owns label o)) owners) other
+freed_owned : (owners : List Owner) (label : ℕ) (other : Option ℕ) → Differ (Some label) other → IsOwned owners other → IsOwned (filter (λ o. not (owns label o)) owners) other
 freed_owned owners label None differ owned = tt
 freed_owned owners label (Some other) differ owned = λ none. owned (sym (owner_of-kept label other owners (λ same. differ (sym same))) ∙ none)
 
@@ -96,12 +96,12 @@ all_set P [] slot x all is = tt
 all_set P (y ∷ ys) zero x all is = (is, all.1)
 all_set P (y ∷ ys) (suc slot) x all is = (all.0, all_set P ys slot x all.1 is)
 
-all_freed : (owners : List LabelOwner) (label : ℕ) (owns_list : List (Option ℕ)) → AllByRecursion (Differ (Some label)) owns_list → AllByRecursion (IsOwned owners) owns_list → AllByRecursion (IsOwned (filter (λ o. not (owns label o)) owners)) owns_list
+all_freed : (owners : List Owner) (label : ℕ) (owns_list : List (Option ℕ)) → AllByRecursion (Differ (Some label)) owns_list → AllByRecursion (IsOwned owners) owns_list → AllByRecursion (IsOwned (filter (λ o. not (owns label o)) owners)) owns_list
 all_freed owners label [] differ owned = tt
 all_freed owners label (o ∷ os) differ owned = (freed_owned owners label o differ.0 owned.0, all_freed owners label os differ.1 owned.1)
 
 -- each other end's label stays owned
-set_freed : (owners : List LabelOwner) (label : ℕ) (own_list : List (Option ℕ)) (slot : ℕ) → OwnApart own_list → AllByRecursion (IsOwned owners) own_list → slot < length own_list → get_or own_list slot None ≡ Some label → AllByRecursion (IsOwned (filter (λ o. not (owns label o)) owners)) (set own_list slot None)
+set_freed : (owners : List Owner) (label : ℕ) (own_list : List (Option ℕ)) (slot : ℕ) → OwnApart own_list → AllByRecursion (IsOwned owners) own_list → slot < length own_list → get_or own_list slot None ≡ Some label → AllByRecursion (IsOwned (filter (λ o. not (owns label o)) owners)) (set own_list slot None)
 set_freed owners label [] slot apart owned within at = absurd (omega (arith, within))
 set_freed owners label (o ∷ os) zero apart owned within at = (tt, all_freed owners label os (rw at at apart.0) owned.1)
 set_freed owners label (o ∷ os) (suc slot) apart owned within at =
@@ -135,23 +135,23 @@ theirs_freed own_list labels slot label theirs within at =
 
 -- ---- a label is given
 
-issued_owned : (owners : List LabelOwner) (owner : LabelOwner) (own : Option ℕ) → IsOwned owners own → IsOwned (owners ++ owner ∷ []) own
+issued_owned : (owners : List Owner) (owner : Owner) (own : Option ℕ) → IsOwned owners own → IsOwned (owners ++ owner ∷ []) own
 issued_owned owners owner None owned = tt
 issued_owned owners owner (Some label) owned = pushed_some label owners owner owned
 
-all_issued : (owners : List LabelOwner) (owner : LabelOwner) (own_list : List (Option ℕ)) → AllByRecursion (IsOwned owners) own_list → AllByRecursion (IsOwned (owners ++ owner ∷ [])) own_list
+all_issued : (owners : List Owner) (owner : Owner) (own_list : List (Option ℕ)) → AllByRecursion (IsOwned owners) own_list → AllByRecursion (IsOwned (owners ++ owner ∷ [])) own_list
 all_issued owners owner [] owned = tt
 all_issued owners owner (o ∷ os) owned = (issued_owned owners owner o owned.0, all_issued owners owner os owned.1)
 
-differ_next : (owners : List LabelOwner) (next : ℕ) (own : Option ℕ) → AreBelow next owners → IsOwned owners own → Differ own (Some next)
+differ_next : (owners : List Owner) (next : ℕ) (own : Option ℕ) → AreBelow next owners → IsOwned owners own → Differ own (Some next)
 differ_next owners next None below owned = tt
 differ_next owners next (Some label) below owned = owned_below next label owners below owned
 
-all_next : (owners : List LabelOwner) (next : ℕ) (own_list : List (Option ℕ)) → AreBelow next owners → AllByRecursion (IsOwned owners) own_list → AllByRecursion (Differ (Some next)) own_list
+all_next : (owners : List Owner) (next : ℕ) (own_list : List (Option ℕ)) → AreBelow next owners → AllByRecursion (IsOwned owners) own_list → AllByRecursion (Differ (Some next)) own_list
 all_next owners next [] below owned = tt
 all_next owners next (o ∷ os) below owned = (differ_sym o (Some next) (differ_next owners next o below owned.0), all_next owners next os below owned.1)
 
-apart_next : (owners : List LabelOwner) (next : ℕ) (own_list : List (Option ℕ)) (slot : ℕ) → AreBelow next owners → AllByRecursion (IsOwned owners) own_list → OwnApart own_list → OwnApart (set own_list slot (Some next))
+apart_next : (owners : List Owner) (next : ℕ) (own_list : List (Option ℕ)) (slot : ℕ) → AreBelow next owners → AllByRecursion (IsOwned owners) own_list → OwnApart own_list → OwnApart (set own_list slot (Some next))
 apart_next owners next [] slot below owned apart = tt
 apart_next owners next (o ∷ os) zero below owned apart = (all_next owners next os below owned.1, apart.1)
 apart_next owners next (o ∷ os) (suc slot) below owned apart = (all_set (Differ o) os slot (Some next) apart.0 (differ_next owners next o below owned.0), apart_next owners next os slot below owned.1 apart.1)
@@ -159,7 +159,7 @@ apart_next owners next (o ∷ os) (suc slot) below owned apart = (all_set (Diffe
 -- an end that owned none owns the next label
 theirs_issued : (own_list : List (Option ℕ)) (labels : LabelNumbers) (slot : ℕ) (key : SegKey) (side : ℕ) → OwnTheirs own_list labels → slot < length own_list → get_or own_list slot None ≡ None → (labels.next == numbers_end) ≡ false → OwnTheirs (set own_list slot (Some labels.next)) (issued key side labels)
 theirs_issued own_list labels slot key side theirs within at left =
-    let owner : LabelOwner = record { label = labels.next; key = key; side = side } in
+    let owner : Owner = record { label = labels.next; key = key; side = side } in
     let count : count_owned (set own_list slot (Some labels.next)) + 0 ≡ count_owned own_list + 1 = rw at at (count_set own_list slot (Some labels.next) within) in
     let is : owner_of labels.next (labels.owners ++ owner ∷ []) ≡ Some (key, side) = owner_of-next labels.next labels.next key side labels.owners (labels.owners ++ owner ∷ []) theirs.given refl refl in
     rw left (record {
@@ -169,11 +169,11 @@ theirs_issued own_list labels slot key side theirs within at left =
       given = below_pushed labels.next labels.owners key side theirs.given;
     })
   where
-    longer : (xs : List LabelOwner) (x : LabelOwner) → length (xs ++ x ∷ []) ≡ length xs + 1
+    longer : (xs : List Owner) (x : Owner) → length (xs ++ x ∷ []) ≡ length xs + 1
     longer [] x = refl
     longer (y ∷ ys) x = omega (arith, longer ys x)
 
-    more : (xs : List LabelOwner) (x : LabelOwner) (before now : ℕ) → length xs ≤ before → now + 0 ≡ before + 1 → length (xs ++ x ∷ []) ≤ now
+    more : (xs : List Owner) (x : Owner) (before now : ℕ) → length xs ≤ before → now + 0 ≡ before + 1 → length (xs ++ x ∷ []) ≤ now
     more xs x before now few count = omega (arith, longer xs x, few, count)
 
 -- ---- an end is changed
@@ -450,7 +450,7 @@ none_own : (count : ℕ) → map own_of (replicate count fresh) ≡ replicate co
 none_own zero = refl
 none_own (suc count) = ap (λ (l : List (Option ℕ)). None ∷ l) (none_own count)
 
-none_owned : (count : ℕ) (owners : List LabelOwner) → AllByRecursion (IsOwned owners) (replicate count None)
+none_owned : (count : ℕ) (owners : List Owner) → AllByRecursion (IsOwned owners) (replicate count None)
 none_owned zero owners = tt
 none_owned (suc count) owners = (tt, none_owned count owners)
 

@@ -7,7 +7,7 @@ use Rattle.std.proofs.lemmas.List.{length-set}
 use Rattle.std.proofs.lemmas.List.Elements.{All-cons, All-head, All-nil, All-tail}
 use Rattle.std.proofs.lemmas.List.Quantifiers.{position-Some}
 use Rattle.net_base.specs.declared.plan.places.SegKey.{SegKey}
-use Rattle.label_space.specs.declared.label_owner.LabelOwner.{LabelOwner}
+use Rattle.label_space.specs.declared.owner.Owner.{Owner}
 use Rattle.label_space.specs.Labels.{AreBelow, LabelNumbers, freed, issued, numbers_end, owns}
 use Rattle.pw_signalling.specs.End.{EndState, fresh}
 use Rattle.edge_model.specs.declared.end_place.EndPlace.{EndPlace}
@@ -152,7 +152,7 @@ pub index_issued : (own_list : List (Option ℕ)) (labels : LabelNumbers) (index
     → IsIndex (set own_list slot (Some labels.next)) (issued key side labels) (with_owner labels.next slot index)
 index_issued own_list labels index slot key side is differ earlier within at left = rw left (record {
   room = is.room;
-  same = map_pushed (λ (o : OwnedLabel). o.label) index.labels (record { label = labels.next; slot = slot }) ∙ (ap (λ (l : List ℕ). l ++ labels.next ∷ []) is.same ∙ sym (map_pushed (λ (o : LabelOwner). o.label) labels.owners (record { label = labels.next; key = key; side = side })));
+  same = map_pushed (λ (o : OwnedLabel). o.label) index.labels (record { label = labels.next; slot = slot }) ∙ (ap (λ (l : List ℕ). l ++ labels.next ∷ []) is.same ∙ sym (map_pushed (λ (o : Owner). o.label) labels.owners (record { label = labels.next; key = key; side = side })));
   slot = λ label. by label (cases_Bool (labels.next == label));
 })
   where
@@ -179,7 +179,7 @@ index_freed own_list labels index slot label is apart within at = record {
   room = is.room;
   same =
       map_filtered (λ (o : OwnedLabel). o.label) (λ n. not (n == label)) index.labels
-      ∙ (ap (λ (l : List ℕ). filter (λ n. not (n == label)) l) is.same ∙ sym (map_filtered (λ (o : LabelOwner). o.label) (λ n. not (n == label)) labels.owners));
+      ∙ (ap (λ (l : List ℕ). filter (λ n. not (n == label)) l) is.same ∙ sym (map_filtered (λ (o : Owner). o.label) (λ n. not (n == label)) labels.owners));
   slot = λ other. by other (cases_Bool (label == other));
 }
   where
@@ -205,14 +205,14 @@ index_changed own_list labels index slot (Some label) (Some other) is apart with
 -- ---- what the index says
 
 -- the labels that are owned were given before the number, as those of the label space were
-pub index_earlier : (number : ℕ) (xs : List OwnedLabel) (owners : List LabelOwner) → map (λ o. o.label) xs ≡ map (λ o. o.label) owners → AreBelow number owners → AreEarlier number xs
+pub index_earlier : (number : ℕ) (xs : List OwnedLabel) (owners : List Owner) → map (λ o. o.label) xs ≡ map (λ o. o.label) owners → AreBelow number owners → AreEarlier number xs
 index_earlier number [] owners same below = All-nil (λ (o : OwnedLabel). o.label < number)
 index_earlier number (x ∷ xs) [] same below = absurd (cc (same))
 index_earlier number (x ∷ xs) (o ∷ owners) same below =
     let head : x.label ≡ o.label = cc (same) in
-    let tail : map (λ (o : OwnedLabel). o.label) xs ≡ map (λ (o : LabelOwner). o.label) owners = cc (same) in
-    let less : o.label < number = All-head (λ (o : LabelOwner). o.label < number) o owners below in
-    All-cons (λ (o : OwnedLabel). o.label < number) x xs (omega (arith, head, less)) (index_earlier number xs owners tail (All-tail (λ (o : LabelOwner). o.label < number) o owners below))
+    let tail : map (λ (o : OwnedLabel). o.label) xs ≡ map (λ (o : Owner). o.label) owners = cc (same) in
+    let less : o.label < number = All-head (λ (o : Owner). o.label < number) o owners below in
+    All-cons (λ (o : OwnedLabel). o.label < number) x xs (omega (arith, head, less)) (index_earlier number xs owners tail (All-tail (λ (o : Owner). o.label < number) o owners below))
 
 length_map : {X : Type 0} (f : X → ℕ) (xs : List X) → length (map f xs) ≡ length xs
 length_map f [] = refl
@@ -220,7 +220,7 @@ length_map f (x ∷ xs) = ap suc (length_map f xs)
 
 -- there are as many of them
 pub index_count : (own_list : List (Option ℕ)) (labels : LabelNumbers) (index : OwnedList) → IsIndex own_list labels index → length index.labels ≡ length labels.owners
-index_count own_list labels index is = sym (length_map (λ (o : OwnedLabel). o.label) index.labels) ∙ (ap (λ (l : List ℕ). length l) is.same ∙ length_map (λ (o : LabelOwner). o.label) labels.owners)
+index_count own_list labels index is = sym (length_map (λ (o : OwnedLabel). o.label) index.labels) ∙ (ap (λ (l : List ℕ). length l) is.same ∙ length_map (λ (o : Owner). o.label) labels.owners)
 
 number_own : (label : ℕ) (ends : List EndState) → position_or_len (is_label label) (map own_of ends) ≡ position_or_len (owns_label label) ends
 number_own label [] = refl

@@ -2,7 +2,7 @@
 use Rattle.std.specs.Prelude.{◌≡◌, ◌≢◌, ◌≤◌, ◌+◌, ℕ, false, List, [], ◌∷◌, Option, Some, None, length, map, position}
 use Rattle.std.specs.List.{AllByRecursion}
 use Rattle.net_base.specs.declared.plan.places.SegKey.{SegKey}
-use Rattle.label_space.specs.declared.label_owner.LabelOwner.{LabelOwner}
+use Rattle.label_space.specs.declared.owner.Owner.{Owner}
 use Rattle.label_space.specs.Labels.{AreBelow, LabelNumbers, freed, owner_of}
 use Rattle.pw_signalling.specs.End.{EndState}
 use Rattle.pw_signalling.specs.Laws.{own_label}
@@ -21,7 +21,7 @@ abbrev pub own_of : EndState → Option ℕ
 own_of end = own_label end.local
 
 -- a label is owned in the label space
-abbrev pub IsOwned : List LabelOwner → Option ℕ → Type 0
+abbrev pub IsOwned : List Owner → Option ℕ → Type 0
 IsOwned owners None = Unit {0}
 IsOwned owners (Some label) = owner_of label owners ≢ None
 
@@ -30,11 +30,11 @@ abbrev pub segment_of : EndPlace → SegKey
 segment_of place = record { wire = place.wire; segment = place.segment }
 
 -- the label space says that the end at a place owns the label: the end at that side of that segment
-abbrev pub IsOwner : List LabelOwner → EndPlace → Option ℕ → Type 0
+abbrev pub IsOwner : List Owner → EndPlace → Option ℕ → Type 0
 IsOwner owners place None = Unit {0}
 IsOwner owners place (Some label) = owner_of label owners ≡ Some (segment_of place, place.side)
 
-abbrev pub AreOwners : List LabelOwner → List EndPlace → List (Option ℕ) → Type 0
+abbrev pub AreOwners : List Owner → List EndPlace → List (Option ℕ) → Type 0
 AreOwners owners [] owns = Unit {0}
 AreOwners owners (place ∷ places) [] = Unit {0}
 AreOwners owners (place ∷ places) (own ∷ others) = IsOwner owners place own × AreOwners owners places others
