@@ -10,12 +10,12 @@ use net_base::DropCause;
 use std::alloc::Global;
 use std::process::Abort;
 
-// What the two ends tell of the wire: A with label 16, and C with label 500, each with status 0.
-const MAPPING_OF_A: &str =
+/// What the two ends tell of the wire: A with label 16, and C with label 500, each with status 0.
+pub const MAPPING_OF_A: &str =
     "000100320a0000010000 0400002800000003 01000010808005080000000000000064010405dc \
      0200000400000010 896a000400000000";
 
-const MAPPING_OF_C: &str =
+pub const MAPPING_OF_C: &str =
     "000100320a0000030000 0400002800000003 01000010808005080000000000000064010405dc \
      02000004000001f4 896a000400000000";
 
@@ -36,12 +36,12 @@ const MAPPING_OF_A_WITHOUT_STATUS: &str =
 const RELEASE_TO_A: &str =
     "000100260a0000020000 0403001c00000003 0100000c8080050400000000000000640200000400000010";
 
-// What the edge tells C of A, and A of C, behind its own point: labels 16 and 17.
-const PASSED_TO_C: &str =
+/// What the edge tells C of A, and A of C, behind its own point: labels 16 and 17.
+pub const PASSED_TO_C: &str =
     "000100480a0000020000 0400003e00000003 01000010808005080000000000000064010405dc \
      0200000400000010 896a000400000000 896d0012 010400000064 03040a000002 04040a000001";
 
-const PASSED_TO_A: &str =
+pub const PASSED_TO_A: &str =
     "000100480a0000020000 0400003e00000003 01000010808005080000000000000064010405dc \
      0200000400000011 896a000400000000 896d0012 010400000064 03040a000002 04040a000003";
 
@@ -59,11 +59,11 @@ const STATUS_TO_C: &str =
     "000100340a0000020000 0001002a00000004 0300000a00000028000000000000 896a000400000001 \
      0100000c808005040000000000000064";
 
-// The edge withdraws label 16 from C, which releases it, and advertises label 17 with the new MTU.
-const WITHDRAWAL_TO_C: &str =
+/// The edge withdraws label 16 from C, which releases it, and advertises label 17 with the new MTU.
+pub const WITHDRAWAL_TO_C: &str =
     "000100260a0000020000 0402001c00000004 0100000c8080050400000000000000640200000400000010";
 
-const RELEASE_OF_C: &str =
+pub const RELEASE_OF_C: &str =
     "000100260a0000030000 0403001c00000003 0100000c8080050400000000000000640200000400000010";
 
 const PASSED_TO_C_WITH_MTU_1400: &str =
@@ -107,8 +107,8 @@ const PACKET_TO_A: &str = "00010b01 00000000 ffffffffffff 020000000002 0800";
 
 const LAST_PACKET_OF_A: &str = "00010f01 00000000 ffffffffffff 020000000001 0800";
 
-// Both sessions of the edge come up, and nothing is told of the wire.
-const UP: [Step; 7] = [
+/// Both sessions of the edge come up, and nothing is told of the wire.
+pub const UP: [Step; 7] = [
     Step::Connected(A),
     Step::Hears(A, PROPOSAL_OF_A),
     Step::Hears(A, KEEP_ALIVE_OF_A),
