@@ -1,5 +1,5 @@
 -- What stands on the other side of an end, and what an end takes.
-use Rattle.std.proofs.Common.{◌≡◌, ◌<◌, ◌≤◌, ◌∙◌, ◌||◌, ℕ, Bool, true, false, Option, Some, None, length, option_map, position, refl, ap, sym, subst}
+use Rattle.std.proofs.Common.{◌≡◌, ◌<◌, ◌≤◌, ◌∙◌, ℕ, Bool, true, false, Option, Some, None, length, option_map, position, refl, ap, sym, subst}
 use Rattle.std.specs.Prelude.{IfSome}
 use Rattle.std.specs.List.{find}
 use Rattle.net_base.specs.declared.plan.places.EdgeId.{EdgeId}
@@ -16,7 +16,7 @@ use Rattle.pw_stitch.specs.Passing.{own_point, wanted}
 use Rattle.pw_ends.specs.Ends.{Holds, end_in, place_of, seen_ends}
 use Rattle.edge_model.specs.declared.end_place.EndPlace.{EndPlace}
 use Rattle.edge_model.specs.Across.{end_beside, end_beyond, held_beyond, held_from, held_of, mate_of}
-use Rattle.edge_model.specs.EndPlaces.{end_places, is_at, is_terminal}
+use Rattle.edge_model.specs.EndPlaces.{end_places, is_terminal}
 use Rattle.edge_model.specs.Mend.{passed_from, passed_wish}
 use Rattle.provider_edge.proofs.ListLemmas.{slot_placed}
 use Rattle.provider_edge.proofs.PacketLemmas.{row_there}

@@ -21,7 +21,7 @@ use Rattle.edge_model.specs.declared.effect.Effect.{Effect}
 use Rattle.edge_model.specs.declared.effect.Effect.TheVariants.{Dropped, Sent}
 use Rattle.edge_model.specs.declared.end_place.EndPlace.{EndPlace}
 use Rattle.edge_model.specs.Packet.{switched, switched_by, switched_to, switched_under, towards}
-use Rattle.edge_model.specs.Send.{drops, had_posted, sends}
+use Rattle.edge_model.specs.Send.{drops, had_posted}
 use Rattle.edge_model.specs.State.{EdgeState}
 use Rattle.edge_model.specs.Work.{Answers, Work, gives, next_answer, posts}
 use Rattle.pw_ends.specs.Ends.{end_in, place_of, seen_ends}

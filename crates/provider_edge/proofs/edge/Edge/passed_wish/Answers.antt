@@ -1,8 +1,6 @@
 use Rattle.std.proofs.Common.{◌∙◌, ap}
 use Rattle.std.specs.Option.{option_copied}
 use Rattle.net_base.specs.plan.Paths.{mate}
-use Rattle.pw_ends.specs.Ends.{place_of}
-use Rattle.edge_model.specs.Mend.{passed_wish}
 use Rattle.provider_edge.proofs.AcrossLemmas.{passed_none, passed_read}
 use Rattle.provider_edge.specs.Lists.{EdgeLists}
 use Rattle.provider_edge.proofs.edge.Edge.passed_wish.Goals as goal
