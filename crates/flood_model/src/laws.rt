@@ -27,8 +27,8 @@ pub fn runs_tell_in_chains()
 {}
 
 /// Where a service is calm, a wire of it that forwards at the first edge of its path carries frames: it forwards at the last edge
-/// too, and each of its switching points advertises on both sides and is bound on both. So no copy that goes out on it is lost on
-/// the way for want of a label (RFC 4762 section 10, RFC 6073 section 4).
+/// too, and each switching point between them advertises on both sides and is bound on both (RFC 4762 section 10, RFC 6073 section
+/// 4).
 #[tactic(auto, using(crate::proofs::WholeLemmas::runs_keep_wires_whole))]
 pub fn runs_keep_wires_whole()
     ensures { RunsKeepWiresWhole }

@@ -1,6 +1,6 @@
 //! Floods over the hierarchy: what a copy of a frame has still to serve, that each site of a calm service gets a flooded frame
-//! exactly once, and what holds of the wires that the copies pass. This crate runs nothing: its definitions stand in `specs/`, and each function below has an empty body and a law
-//! as its contract.
+//! exactly once, and what is told along the wires and which of them carry frames. This crate runs nothing: its definitions stand in
+//! `specs/`, and each function below has an empty body and a law as its contract.
 #![tactic(auto)]
 
 mod laws;
