@@ -1,13 +1,13 @@
 //! The ends of an edge that two wires join to two others, through their calls.
-ghost use Rattle.std.specs.Prelude.{◌≤◌};
+ghost use Rattle.std.specs.Prelude.{◌≡◌, ◌≤◌, [], None};
 ghost use Rattle.net_base.specs.plan.Accepted.{IsChecked};
 
 use crate::edges::plans::{A, B, C, TWO_WIRES, plan_of};
 use net_base::{EdgeId, Label, Offer, Plan, Text, WireId};
-use peer_dialogue::{binding_in, content_of, fec_of};
+use peer_dialogue::content_of;
 use pw_ends::PwEnds;
-use pw_signalling::{PwEnd, Told};
-use pw_tlvs::{Points, PwStatus};
+use pw_signalling::{Binding, PwEnd, Told};
+use pw_tlvs::PwStatus;
 use std::alloc::Global;
 use std::process::Abort;
 
@@ -27,7 +27,9 @@ fn opened(rt: &impl Abort, alloc: Global) -> PwEnds {
 
 // What an end of group 7 tells.
 fn told(rt: &impl Abort, status: Option<PwStatus>) -> Told
-    ensures { result.kind ≤ 0x7FFF }
+    ensures kind { result.kind ≤ 0x7FFF }
+    ensures vlan { result.vlan ≡ None }
+    ensures points { result.points ≡ [] }
 {
     let offer = Offer {
         tagged: false,
@@ -151,8 +153,8 @@ fn end_with_the_labels(rt: &impl Abort, ends: &mut PwEnds) {
 fn binds(rt: &impl Abort, ends: &mut PwEnds, slot: usize) {
     assert!(rt; slot < ends.len());
     let label = Label::new(17).expect(rt, "a label");
-    let fec = fec_of(100, &told(rt, None));
-    ends.on_mapping(slot, &binding_in(&fec, label, None, &Points::empty()));
+    let told = told(rt, None);
+    ends.on_mapping(slot, &Binding { label, told });
 }
 
 // Whether the end of a slot holds a binding.
