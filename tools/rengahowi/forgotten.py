@@ -2,7 +2,7 @@
 
 from .checking import Finding
 
-UNBUILT_EVENTS = {"ping": "pings of a control channel", "play": "captures that are played"}
+UNBUILT_EVENTS = {"play": "captures that are played"}
 
 
 def warnings(plan):
@@ -16,9 +16,6 @@ def warnings(plan):
 
 def unbuilt(plan):
     """What the program answers `not built` to."""
-    for number, wire in enumerate(plan.wires.values()):
-        if wire.near["vccv"] or wire.far["vccv"]:
-            yield Finding("", ("wire", number, "vccv"), 0, "control channels are not built yet: the program answers 'not built'")
     for number, text in enumerate(plan.events):
         word = text.split(" ")[0]
         if word in UNBUILT_EVENTS:

@@ -26,7 +26,7 @@ use Rattle.network_model.specs.Run.{entries_along, run, state_after}
 use Rattle.network_model.specs.State.{NetworkState, empty_network}
 use Rattle.network_model.specs.Step.{step}
 use Rattle.network_model.proofs.AbsorbLemmas.{of_origin, times_left-append, within-append}
-use Rattle.network_model.proofs.OtherLemmas.{IsApart, along, apart_after, apart_before, counts_rise, never_within}
+use Rattle.network_model.proofs.OtherLemmas.{IsApart, along, apart_after, apart_before, counts_rise, never_within, some_number, numbered_from}
 use Rattle.network_model.proofs.RunLemmas.{after-append, along-append}
 use Rattle.flight_model.specs.Laws.{AreSettled, IsRun, network_after}
 use Rattle.flight_model.proofs.BoundRunLemmas.{runs_settle}
@@ -111,7 +111,7 @@ module _ (plan : Plan) (events : List Event) (is_run : IsRun plan events) (befor
 
   sized : IsSized (mtu_of plan service) frame
   sized = come_sized plan (In at origin octets ∷ []) service origin frame
-      (record { sender = at; octets = octets; told = inl refl; of_service = enters.sender; formed = enters.formed })
+      (record { numbered = numbered_from network.entered; sender = at; octets = octets; told = inl refl; of_service = enters.sender; formed = enters.formed })
 
   on : is_site plan calm service target ≡ true
   on = sym (site_still plan calm network service target still) ∙ enters.receives
@@ -138,7 +138,7 @@ module _ (plan : Plan) (events : List Event) (is_run : IsRun plan events) (befor
 
   -- nothing is told of the frame before it enters
   early : (circuit : CircuitId) → IsApart origin circuit (empty_network plan) (along plan (empty_network plan) (before ++ during))
-  early circuit = apart_before plan origin circuit (empty_network plan) (before ++ during) (omega arith) refl
+  early circuit = apart_before plan origin circuit (empty_network plan) (before ++ during) (some_number network.entered) (omega arith) refl
 
   begins : Starts plan calm network service target frame at (frame_event plan at octets (circuit_row plan at) network)
   begins = starts plan calm network site at octets frame service (circuit_row plan at) is_run.checked right.calm settled sized reached.ruled still refl enters.sender enters.on enters.formed on
@@ -152,6 +152,7 @@ module _ (plan : Plan) (events : List Event) (is_run : IsRun plan events) (befor
     still = step_still plan calm network trace origin (Frame at octets) is_run.checked reached.ruled reached.rule refl still;
     copies = first.serves.copies;
     issued = omega (arith, begins.entered);
+    numbered = some_number network.entered;
   }
 
   -- from its entry to the last of its copies
@@ -167,7 +168,7 @@ module _ (plan : Plan) (events : List Event) (is_run : IsRun plan events) (befor
   over = none_of origin last.under_way enters.over
 
   late : (circuit : CircuitId) → IsApart origin circuit last (along plan last after)
-  late circuit = apart_after plan origin circuit last after (omega (arith, begins.entered, counts_rise plan entry.state later)) over
+  late circuit = apart_after plan origin circuit last after (some_number network.entered) (omega (arith, begins.entered, counts_rise plan entry.state later)) over
 
   told : entries_along plan (empty_network plan) events ≡ trace ++ ((entry.entries ++ entries_along plan entry.state later) ++ entries_along plan last after)
   told =

@@ -24,7 +24,7 @@ use Rattle.network_model.specs.Run.{state_after}
 use Rattle.network_model.specs.State.{NetworkState}
 use Rattle.network_model.specs.Step.{step}
 use Rattle.network_model.specs.Window.{all_spare, is_copy, spares}
-use Rattle.network_model.proofs.OtherLemmas.{along, is_of, moves_copy, step_apart, step_counts}
+use Rattle.network_model.proofs.OtherLemmas.{along, is_of, moves_copy, step_apart, step_counts, same_number}
 use Rattle.flight_model.specs.Ends.{HasTypes}
 use Rattle.flight_model.specs.Laws.{AreSettled}
 use Rattle.packet_model.proofs.ArriveLemmas.{IsSized}
@@ -71,7 +71,7 @@ module _ (plan : Plan) (calm : NetworkState) (service : ServiceId) (site : Sites
   apart_serves network event after unmoved =
       serves_each plan calm service target frame origin (owes network) (step plan network event)
       (serves_apart plan calm service frame origin network (step plan network event) after.copies
-      (λ circuit. step_apart plan origin circuit network event unmoved (λ same entered. later after.issued same)))
+      (λ circuit. step_apart plan origin circuit network event after.numbered unmoved (λ same entered. later after.issued same)))
     where
       later : origin ≤ network.entered → network.entered + 1 ≡ origin → ⊥
       later issued same = absurd (omega (arith, issued, same))
@@ -81,7 +81,7 @@ module _ (plan : Plan) (calm : NetworkState) (service : ServiceId) (site : Sites
       → IsReached plan network trace → IsAfter plan calm service frame origin network → Points plan (arrive_event plan found network).state service site → Serve network (arrive_event plan found network)
   arrive_serves network trace number None is own reached after points = absurd (cc (own))
   arrive_serves network trace number (Some packet) is own reached after points =
-      arriving_serves_site plan calm network trace service site frame origin number packet checked calmed settled sized reached.ruled reached.rule after.still on points after.copies is own
+      arriving_serves_site plan calm network trace service site frame origin number packet checked calmed settled sized reached.ruled reached.rule after.still on points after.copies is own (same_number packet.origin origin own after.numbered)
 
   unmoved : (network : NetworkState) (number : ℕ) → not (list_any (is_copy origin number) network.under_way) ≡ true → is_of origin (packet_at network number) ≡ false
   unmoved network number spared = not_named origin number network.under_way (is_not (list_any (is_copy origin number) network.under_way) spared)
@@ -112,6 +112,7 @@ module _ (plan : Plan) (calm : NetworkState) (service : ServiceId) (site : Sites
         still = step_still plan calm network trace origin e checked reached.ruled reached.rule here after.still;
         copies = serves.serves.copies;
         issued = omega (arith, after.issued, step_counts plan network e);
+        numbered = after.numbered;
       } in
       serves_site_then plan calm service target frame origin (owes network) first (along plan first.state es) on serves
       (window_serves_site first.state (trace ++ first.entries) es types (All-tail (IsEventOf plan) e es planned)

@@ -1,5 +1,5 @@
 -- In each stretch of a run addresses keep pointing to their sites, and copies come from where they seem to come from.
-use Rattle.std.proofs.Common.{◌≡◌, ◌++◌, ◌∙◌, ℕ, true, false, List, [], ◌∷◌, ap, sym, subst}
+use Rattle.std.proofs.Common.{◌≡◌, ◌++◌, ◌∙◌, ℕ, true, false, List, [], ◌∷◌, ap, sym, subst, not, ◌&&◌, Bool}
 use Rattle.std.proofs.lemmas.List.Elements.{All-cons, All-head, All-nil, All-tail}
 use Rattle.std.specs.List.{All, AllByRecursion, list_all, list_any}
 use Rattle.net_base.specs.declared.plan.Plan.{Plan}
@@ -8,6 +8,7 @@ use Rattle.net_base.specs.declared.trace.entry.Entry.{Entry}
 use Rattle.net_base.specs.declared.trace.event.Event.{Event}
 use Rattle.net_base.specs.plan.Planned.{IsEventOf}
 use Rattle.net_base.specs.trace.Isolated.{Among}
+use Rattle.net_base.specs.plan.Places.{wire_row}
 use Rattle.net_base.proofs.TraceLemmas.{among-append}
 use Rattle.hvpls_spokes.specs.Port.{wire_port}
 use Rattle.mac_table.specs.declared.mac_entry.MacEntry.{MacEntry}
@@ -52,8 +53,8 @@ module _ (plan : Plan) (calm : NetworkState) (service : ServiceId) (site : Sites
   )
 
   packet_comes : (packet : Packet) → KnowsSide plan calm service told packet → ComesFromItsSide plan network service told packet
-  packet_comes packet knows row is ours =
-      let side : HasSide plan calm service told packet row = knows row is ours in
+  packet_comes packet knows numbered row is ours =
+      let side : HasSide plan calm service told packet row = knows numbered row is ours in
       record {
         sender = side.come.sender;
         octets = side.come.octets;
@@ -78,7 +79,7 @@ none_claimed : (plan : Plan) (calm : NetworkState) (service : ServiceId) (told :
     → AllByRecursion (KnowsSide plan calm service told) packets
 none_claimed plan calm service told [] free = tt
 none_claimed plan calm service told (p ∷ ps) free = (
-  λ row is ours. never (is_packet_of plan service p) (ap (is_row_of_service service) is ∙ ours)
+  λ numbered row is ours. never (is_packet_of plan service p) (ap (λ (b : Bool). not b && is_row_of_service service (wire_row plan p.wire)) numbered ∙ (ap (is_row_of_service service) is ∙ ours))
       (none_first (is_packet_of plan service p) (list_any (is_packet_of plan service) ps) free),
   none_claimed plan calm service told ps (none_later (is_packet_of plan service p) (list_any (is_packet_of plan service) ps) free),
 )

@@ -1,6 +1,6 @@
 -- In a stretch each packet on a wire of the service comes from where its frame entered; and so do the copies that a bridge sends of
 -- a frame that came by a port behind which it entered.
-use Rattle.std.proofs.Common.{◌||◌, ◌≡◌, ◌&&◌, ◌+◌, ◌∙◌, ℕ, true, false, List, [], ◌∷◌, Some, Ok, nat_eq, slice_get, sym, subst, ap}
+use Rattle.std.proofs.Common.{◌||◌, ◌≡◌, ◌&&◌, ◌+◌, ◌∙◌, ℕ, true, false, List, [], ◌∷◌, Some, Ok, nat_eq, slice_get, sym, subst, ap, ◌==◌}
 use Rattle.std.specs.List.{AllByRecursion}
 use Rattle.net_base.specs.declared.plan.Plan.{Plan}
 use Rattle.net_base.specs.declared.plan.wire_plan.WirePlan.{WirePlan}
@@ -54,9 +54,9 @@ pub record HasSide (plan : Plan) (calm : NetworkState) (service : ServiceId) (to
   pub carries : carried plan packet ≡ Ok frame
   pub behind : end_forwards plan (calm.edges (goal row.path packet.from packet.to).0) packet.wire ≡ true → reach plan calm service (goal row.path packet.from packet.to).0 (wire_port packet.wire.0 row) come.sender ≡ true
 
--- so it is, where the wire is one of the service
+-- so it is with one that carries a frame, where the wire is one of the service
 abbrev pub KnowsSide : Plan → NetworkState → ServiceId → List Entry → Packet → Type 0
-KnowsSide plan calm service told packet = (row : WirePlan) → wire_row plan packet.wire ≡ Some row → is_wire_of service row ≡ true → HasSide plan calm service told packet row
+KnowsSide plan calm service told packet = (packet.origin == 0) ≡ false → (row : WirePlan) → wire_row plan packet.wire ≡ Some row → is_wire_of service row ≡ true → HasSide plan calm service told packet row
 
 -- a frame came to the bridge of the service by a port behind which it entered
 pub record ComesBehind (plan : Plan) (calm : NetworkState) (service : ServiceId) (told : List Entry) (me : EdgeId) (origin : ℕ) (frame : List ℕ) (arrival : ℕ) : Type 0 where
@@ -83,7 +83,7 @@ module _ (plan : Plan) (calm network : NetworkState) (service : ServiceId) (told
   copy_side : (hops sent : ℕ) (peer : EdgeId) (wire : WireId) (of_arrival : Arrival) (bytes : List ℕ)
       → SentCopy plan (network.edges me.0) came service frame arrival peer wire of_arrival bytes
       → KnowsSide plan calm service told (packet_from me origin hops sent peer wire bytes)
-  copy_side hops sent peer wire of_arrival bytes copy row is ours = record {
+  copy_side hops sent peer wire of_arrival bytes copy numbered row is ours = record {
     frame = frame;
     come = behind.come;
     carries = copy_carried plan network me origin hops sent came service frame arrival peer wire of_arrival bytes checked ruled copy sized;
@@ -141,7 +141,7 @@ module _ (plan : Plan) (calm network : NetworkState) (service : ServiceId) (told
 -- copies of a frame of another service are on wires of that one
 away_side : (plan : Plan) (calm : NetworkState) (service of : ServiceId) (told : List Entry) (frame : List ℕ) (packet : Packet) → nat_eq of.0 service.0 ≡ false
     → CarriesIn plan of frame packet → KnowsSide plan calm service told packet
-away_side plan calm service of told frame packet other carries row is ours =
+away_side plan calm service of told frame packet other carries numbered row is ours =
     let same : carries.row ≡ row = same_row carries.row row (sym carries.is ∙ is) in
     let service_is : row.service ≡ of = ap (λ (r : WirePlan). r.service) (sym same) ∙ carries.same in
     never (nat_eq row.service.0 service.0) ours (ap (λ (s : ServiceId). nat_eq s.0 service.0) service_is ∙ other)

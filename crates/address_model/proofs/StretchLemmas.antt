@@ -33,16 +33,17 @@ use Rattle.network_model.specs.Step.{step}
 use Rattle.network_model.proofs.AbsorbLemmas.{all_keep}
 use Rattle.network_model.proofs.EdgeLemmas.{HoldsOfEach}
 use Rattle.network_model.proofs.PacketListLemmas.{absorb_sends, append_holds, copy_of, packet_holds, packets_of, repeating_sends, without_hold}
+use Rattle.network_model.proofs.OtherLemmas.{numbered_from}
 use Rattle.flight_model.specs.Ends.{HasTypes}
 use Rattle.flight_model.proofs.RuledNetworkLemmas.{IsRuledNetwork}
-use Rattle.packet_model.specs.Carried.{IsCarried, KeepsPacketRule}
+use Rattle.packet_model.specs.Carried.{IsCarried, KeepsPacketRule, FollowsPacketRule}
 use Rattle.flood_model.specs.Copy.{IsStill, IsStillEdge}
 use Rattle.flood_model.proofs.WindowLemmas.{IsReached, step_reached}
 use Rattle.address_model.specs.Points.{PointsToSite}
 use Rattle.address_model.specs.Sites.{OneSite, Sites}
 use Rattle.address_model.specs.Stretch.{is_of_stretch}
 use Rattle.address_model.proofs.SideLemmas.{HasSide, KnowsSide}
-use Rattle.address_model.proofs.WorkLemmas.{WorksRight, frame_right, packet_right}
+use Rattle.address_model.proofs.WorkLemmas.{WorksRight, frame_right, packet_right, echo_works}
 
 -- ---- a state of a stretch
 
@@ -68,8 +69,8 @@ still_learns calm old new only still = record { learned = new.learned; is = lear
 -- a repeated packet comes from where the packet does
 again_side : (plan : Plan) (calm : NetworkState) (service : ServiceId) (told : List Entry) (packet : Packet) (sent : ℕ) → KnowsSide plan calm service told packet
     → KnowsSide plan calm service told (copy_of sent packet)
-again_side plan calm service told packet sent knows row is ours =
-    let side : HasSide plan calm service told packet row = knows row is ours in
+again_side plan calm service told packet sent knows numbered row is ours =
+    let side : HasSide plan calm service told packet row = knows numbered row is ours in
     record { frame = side.frame; come = side.come; carries = side.carries; behind = side.behind }
 
 pub among_behind : (entry : Entry) (xs ys : List Entry) → Among entry ys → Among entry (xs ++ ys)
@@ -128,7 +129,7 @@ module _ (plan : Plan) (calm : NetworkState) (service : ServiceId) (site : Sites
         (frame_bridges plan taken_all circuit octets (Some row) (begin_at network row.edge)).edge here.still)
         (frame_right plan calm network service site told circuit octets row (next_origin network) checked calmed one ruled
         (right_still plan calm service site told network right) here.table is
-        (tells (In circuit (next_origin network) octets) (inl refl)))
+        (tells (In circuit (next_origin network) octets) (inl refl)) (numbered_from network.entered))
 
   -- ---- a packet reaches its edge, is lost, or is repeated
 
@@ -145,8 +146,13 @@ module _ (plan : Plan) (calm : NetworkState) (service : ServiceId) (site : Sites
       absorb_right packet.to packet.origin packet.hops (packet_work plan network packet) (without_packet packet.number network) (without_right packet.number network right)
       (still_learns (calm.edges packet.to.0) (network.edges packet.to.0) (packet_work plan network packet).edge
       (packet_bridges plan taken_all packet.bytes (begin_at network packet.to)).edge here.still)
-      (packet_right plan calm network service site told trace packet checked calmed one ruled (right_still plan calm service site told network right) here.table
-      (packet_holds (IsCarried plan network trace) network number packet rule is) (packet_holds (KnowsSide plan calm service told) network number packet right.packets is))
+      (either (packet_holds (FollowsPacketRule plan network trace) network number packet rule is))
+    where
+      either : FollowsPacketRule plan network trace packet → WorksRight plan calm service site told packet.to packet.origin (packet_work plan network packet)
+      either (inl carried) =
+          packet_right plan calm network service site told trace packet checked calmed one ruled (right_still plan calm service site told network right) (right.edges packet.to.0).table carried
+          (packet_holds (KnowsSide plan calm service told) network number packet right.packets is)
+      either (inr echo) = echo_works plan calm network service site told packet checked ruled (right.edges packet.to.0).table echo
 
   discard_right : (network : NetworkState) (found : Option Packet) → Right network → Right (discard_event found network).state
   discard_right network None right = right

@@ -1,6 +1,6 @@
 -- An edge works on a frame or a packet in a stretch: what it learns points to its site, and what it sends comes from where its frame
 -- entered.
-use Rattle.std.proofs.Common.{◌+◌, ◌-◌, ◌≡◌, ◌&&◌, ◌∙◌, ℕ, Bool, true, false, List, [], ◌∷◌, Option, Some, None, Result, Ok, Err, cond, option_map, nat_eq, position, slice_get, refl, sym, subst, ap, inl, inr}
+use Rattle.std.proofs.Common.{◌+◌, ◌-◌, ◌≡◌, ◌&&◌, ◌∙◌, ℕ, Bool, true, false, List, [], ◌∷◌, Option, Some, None, Result, Ok, Err, cond, option_map, nat_eq, position, slice_get, refl, sym, subst, ap, inl, inr, ◌==◌}
 use Rattle.std.proofs.lemmas.Bool.{cases_Bool, eq-eqb, eqb-true}
 use Rattle.std.specs.List.{AllByRecursion}
 use Rattle.net_base.specs.declared.plan.Plan.{Plan}
@@ -25,6 +25,7 @@ use Rattle.hvpls_spokes.proofs.WirePortLemmas.{found_wire_port, wire_port_is}
 use Rattle.pw_stitch.specs.Relabelling.{relabelled}
 use Rattle.edge_model.specs.Copies.{AllAreCopies}
 use Rattle.edge_model.specs.declared.effect.Effect.{Effect}
+use Rattle.edge_model.specs.declared.effect.Effect.TheVariants as effect
 use Rattle.edge_model.specs.Ends.{end_forwards}
 use Rattle.edge_model.specs.Frame.{forwarded, is_own, port_at, received, source}
 use Rattle.edge_model.specs.Send.{drops}
@@ -42,6 +43,7 @@ use Rattle.network_model.specs.Window.{carried}
 use Rattle.network_model.proofs.PacketListLemmas.{packets_of}
 use Rattle.flight_model.proofs.RuledNetworkLemmas.{IsRuledNetwork}
 use Rattle.packet_model.specs.Carried.{IsCarried}
+use Rattle.packet_model.specs.Echoed.{IsEchoed}
 use Rattle.packet_model.proofs.ArriveLemmas.{IsSized, come_sized}
 use Rattle.packet_model.proofs.SendLemmas.{HasCome, same_row}
 use Rattle.flood_model.specs.Copy.{IsStill}
@@ -50,6 +52,7 @@ use Rattle.network_model.specs.Goal.{goal}
 use Rattle.network_model.proofs.GoalLemmas.{goal_reached}
 use Rattle.edge_model.specs.EndPlaces.{is_terminal}
 use Rattle.packet_model.proofs.PackLemmas.{wire_checked}
+use Rattle.packet_model.proofs.EchoArriveLemmas.{echo_unheard}
 use Rattle.flood_model.proofs.PassingLemmas.{IsNotPassed, IsPassedOn, Passed, PassedOn, passed, passed_carries}
 use Rattle.flood_model.proofs.RelayLemmas.{same_goal}
 use Rattle.flood_model.proofs.ArrivalLemmas.{Arrived, NotTaken, Taken, arrived, arrives_sized, arrives_with}
@@ -156,9 +159,10 @@ module _ (plan : Plan) (calm network : NetworkState) (service : ServiceId) (site
     (checked : IsChecked plan) (calmed : is_calm plan calm service ≡ true) (one : OneSite plan service site told)
     (ruled : IsRuledNetwork plan network) (still : IsStill calm network)
     (before : AllByRecursion (PointsToSite plan calm service site row.edge.0) ((network.edges row.edge.0).learned service.0))
-    (is : circuit_row plan circuit ≡ Some row) (entered : Among (In circuit origin octets) told) where
+    (is : circuit_row plan circuit ≡ Some row) (entered : Among (In circuit origin octets) told) (numbered : (origin == 0) ≡ false) where
   frame_sized : (frame : List ℕ) → inner_at plan circuit octets ≡ Ok frame → IsSized (mtu_of plan row.service) frame
-  frame_sized frame formed = come_sized plan (In circuit 0 octets ∷ []) row.service 0 frame (record {
+  frame_sized frame formed = come_sized plan (In circuit 1 octets ∷ []) row.service 1 frame (record {
+    numbered = refl;
     sender = circuit;
     octets = octets;
     told = inl refl;
@@ -171,7 +175,7 @@ module _ (plan : Plan) (calm network : NetworkState) (service : ServiceId) (site
       → nat_eq row.service.0 service.0 ≡ true
       → ComesBehind plan calm service told row.edge origin frame p
   frame_behind frame p formed found same = record {
-    come = record { sender = circuit; octets = octets; told = entered; of_service = owner; formed = formed };
+    come = record { numbered = numbered; sender = circuit; octets = octets; told = entered; of_service = owner; formed = formed };
     port = port.Circuit circuit;
     at = leads.is;
     behind = itself;
@@ -219,6 +223,7 @@ module _ (plan : Plan) (calm network : NetworkState) (service : ServiceId) (site
       → nat_eq rule.row.service.0 service.0 ≡ true → ComesBehind plan calm service told packet.to packet.origin rule.frame p
   packet_behind ended forwards p found same = record {
     come = record {
+      numbered = side.come.numbered;
       sender = side.come.sender;
       octets = side.come.octets;
       told = side.come.told;
@@ -236,7 +241,7 @@ module _ (plan : Plan) (calm network : NetworkState) (service : ServiceId) (site
       reached = goal_reached rule.row.path packet.from packet.to (wire_checked plan packet.wire rule.row checked rule.is).once rule.joined ended
 
       side : HasSide plan calm service told packet rule.row
-      side = knows rule.row rule.is same
+      side = knows rule.entered.numbered rule.row rule.is same
 
       frame_is : side.frame ≡ rule.frame
       frame_is = same_frame (carried plan packet) side.frame rule.frame side.carries (arrives_with plan network trace packet checked ruled rule)
@@ -257,8 +262,8 @@ module _ (plan : Plan) (calm network : NetworkState) (service : ServiceId) (site
 
     on_side : (on : PassedOn plan network trace packet checked ruled rule) (number hops : ℕ)
         → KnowsSide plan calm service told (record { number = number; wire = packet.wire; from = packet.to; to = on.to; origin = packet.origin; hops = hops; bytes = relabelled on.binding.label (rule.packed.ttl - 1) packet.bytes })
-    on_side on number hops row is ours =
-        let side : HasSide plan calm service told packet row = knows row is ours in
+    on_side on number hops numbered row is ours =
+        let side : HasSide plan calm service told packet row = knows numbered row is ours in
         let same : rule.row ≡ row = same_row rule.row row (sym rule.is ∙ is) in
         let goals : goal row.path packet.to on.to ≡ goal row.path packet.from packet.to =
         subst (λ (r : WirePlan). goal r.path packet.to on.to ≡ goal r.path packet.from packet.to) same (same_goal plan network trace packet on.to on.binding number checked ruled rule on.mate_is on.bound) in
@@ -281,3 +286,29 @@ module _ (plan : Plan) (calm network : NetworkState) (service : ServiceId) (site
     choose : (b : Bool) → is_terminal rule.row packet.to ≡ b → WorksRight plan calm service site told packet.to packet.origin (packet_work plan network packet)
     choose true ended = by ended (arrived plan network trace packet checked ruled rule ended)
     choose false between = passing (passed plan network trace packet checked ruled rule between)
+
+-- ---- on a ping or an answer
+
+-- what has no number of a frame comes from no side
+unnumbered_sides : (plan : Plan) (calm : NetworkState) (service : ServiceId) (told : List Entry) (me : EdgeId) (origin hops sent : ℕ) (es : List Effect) → origin ≡ 0 → AllByRecursion (KnowsSide plan calm service told) (packets_of me origin hops sent es)
+unnumbered_sides plan calm service told me origin hops sent [] none = tt
+unnumbered_sides plan calm service told me origin hops sent (effect.Sent peer wire came octets ∷ es) none = (
+  λ numbered row is ours. absurd (cc (sym numbered ∙ ap (λ (n : ℕ). n == 0) none)),
+  unnumbered_sides plan calm service told me origin hops (sent + 1) es none,
+)
+unnumbered_sides plan calm service told me origin hops sent (effect.Said peer octets ∷ es) none = unnumbered_sides plan calm service told me origin hops sent es none
+unnumbered_sides plan calm service told me origin hops sent (effect.Left at octets ∷ es) none = unnumbered_sides plan calm service told me origin hops sent es none
+unnumbered_sides plan calm service told me origin hops sent (effect.Dropped why ∷ es) none = unnumbered_sides plan calm service told me origin hops sent es none
+unnumbered_sides plan calm service told me origin hops sent (effect.Session peer state ∷ es) none = unnumbered_sides plan calm service told me origin hops sent es none
+unnumbered_sides plan calm service told me origin hops sent (effect.Wire wire down ∷ es) none = unnumbered_sides plan calm service told me origin hops sent es none
+unnumbered_sides plan calm service told me origin hops sent (effect.Pong wire sequence ∷ es) none = unnumbered_sides plan calm service told me origin hops sent es none
+unnumbered_sides plan calm service told me origin hops sent (effect.Closed peer ∷ es) none = unnumbered_sides plan calm service told me origin hops sent es none
+
+-- no bridge hears it
+pub echo_works : (plan : Plan) (calm network : NetworkState) (service : ServiceId) (site : Sites) (told : List Entry) (packet : Packet) → IsChecked plan → IsRuledNetwork plan network
+    → AllByRecursion (PointsToSite plan calm service site packet.to.0) ((network.edges packet.to.0).learned service.0) → IsEchoed plan network packet
+    → WorksRight plan calm service site told packet.to packet.origin (packet_work plan network packet)
+echo_works plan calm network service site told packet checked ruled before echo = record {
+  table = subst (λ (e : EdgeState). AllByRecursion (PointsToSite plan calm service site packet.to.0) (e.learned service.0)) (sym (echo_unheard plan network packet checked ruled echo)) before;
+  sent = λ hops sent. unnumbered_sides plan calm service told packet.to packet.origin hops sent (packet_work plan network packet).effects echo.unnumbered;
+}

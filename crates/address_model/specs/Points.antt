@@ -1,5 +1,5 @@
 -- Learned addresses point to where their stations are, and copies under way come from where they seem to come from.
-use Rattle.std.specs.Prelude.{◌≡◌, ℕ, true, List, Some, slice_get}
+use Rattle.std.specs.Prelude.{◌==◌, ◌≡◌, ℕ, true, false, List, Some, slice_get}
 use Rattle.std.specs.List.{AllByRecursion}
 use Rattle.net_base.specs.declared.plan.Plan.{Plan}
 use Rattle.net_base.specs.declared.plan.places.CircuitId.{CircuitId}
@@ -41,9 +41,9 @@ pub record ComesFromBehind (plan : Plan) (network : NetworkState) (service : Ser
   pub reaches : end_forwards plan (network.edges (goal row.path packet.from packet.to).0) packet.wire ≡ true
       → reach plan network service (goal row.path packet.from packet.to).0 (wire_port packet.wire.0 row) sender ≡ true
 
--- so it is with a packet under way, where it is on a wire of the service
+-- so it is with a packet under way that carries a frame, where it is on a wire of the service; a ping and its answer carry none
 abbrev pub ComesFromItsSide : Plan → NetworkState → ServiceId → List Entry → Packet → Type 0
-ComesFromItsSide plan network service trace packet = (row : WirePlan) → wire_row plan packet.wire ≡ Some row → is_wire_of service row ≡ true
+ComesFromItsSide plan network service trace packet = (packet.origin == 0) ≡ false → (row : WirePlan) → wire_row plan packet.wire ≡ Some row → is_wire_of service row ≡ true
     → ComesFromBehind plan network service trace packet row
 
 -- and with each one

@@ -1,5 +1,5 @@
 -- A stretch of a run in which nothing but frames and packets comes.
-use Rattle.std.specs.Prelude.{◌≡◌, Bool, true, false}
+use Rattle.std.specs.Prelude.{not, ◌&&◌, ◌==◌, ◌≡◌, Bool, true, false}
 use Rattle.std.specs.List.{list_any}
 use Rattle.net_base.specs.declared.plan.Plan.{Plan}
 use Rattle.net_base.specs.declared.plan.places.ServiceId.{ServiceId}
@@ -13,9 +13,9 @@ use Rattle.network_model.specs.Window.{is_row_of_service}
 use Rattle.address_model.specs.Points.{Points}
 use Rattle.address_model.specs.Sites.{Sites}
 
--- a packet of the service is under way
+-- a packet of the service is under way, and no ping or answer
 abbrev pub is_packet_of : Plan → ServiceId → Packet → Bool
-is_packet_of plan service packet = is_row_of_service service (wire_row plan packet.wire)
+is_packet_of plan service packet = not (packet.origin == 0) && is_row_of_service service (wire_row plan packet.wire)
 
 abbrev pub has_packets_of : Plan → NetworkState → ServiceId → Bool
 has_packets_of plan network service = list_any (is_packet_of plan service) network.under_way

@@ -4,6 +4,7 @@ mod bridges;
 mod dialogue;
 mod edge_ends;
 mod packets;
+mod pings;
 pub mod plans;
 mod proposals;
 mod pseudowires;

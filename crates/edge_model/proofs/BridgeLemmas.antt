@@ -1,5 +1,5 @@
 -- What a frame and a packet leave of an edge as it was, and what alone they have it give out; and what forgetting leaves.
-use Rattle.std.proofs.Common.{◌≡◌, ◌+◌, ◌&&◌, ◌∙◌, ◌==◌, ◌-◌, ℕ, Bool, true, false, List, [], ◌∷◌, Option, Some, None, Result, Ok, Err, cond, refl, length, nat_lt}
+use Rattle.std.proofs.Common.{◌≡◌, ◌+◌, ◌&&◌, ◌∙◌, ◌==◌, ◌-◌, ℕ, Bool, true, false, List, [], ◌∷◌, Option, Some, None, Result, Ok, Err, cond, refl, sym, subst, length, nat_lt}
 use Rattle.net_base.specs.declared.plan.Plan.{Plan}
 use Rattle.net_base.specs.declared.plan.circuit_plan.CircuitPlan.{CircuitPlan}
 use Rattle.net_base.specs.declared.plan.places.CircuitId.{CircuitId}
@@ -12,8 +12,9 @@ use Rattle.net_base.specs.declared.trace.arrival.Arrival.TheVariants as arrival
 use Rattle.net_base.specs.declared.trace.down.Down.{Down}
 use Rattle.net_base.specs.declared.trace.drop_cause.DropCause.{DropCause}
 use Rattle.net_base.specs.declared.trace.drop_cause.DropCause.TheVariants as cause
+use Rattle.net_values.specs.declared.addr.Addr.{Addr}
 use Rattle.net_values.specs.declared.mac.Mac.{Mac}
-use Rattle.net_base.specs.plan.Paths.{mate, offer_of}
+use Rattle.net_base.specs.plan.Paths.{edge_address, mate, offer_of}
 use Rattle.net_base.specs.plan.Places.{wire_row}
 use Rattle.net_base.specs.trace.Isolated.{inner_at}
 use Rattle.eth_encap.specs.declared.stack_entry.StackEntry.{StackEntry}
@@ -29,15 +30,27 @@ use Rattle.edge_model.specs.declared.effect.Effect.TheVariants as effect
 use Rattle.edge_model.specs.declared.end_place.EndPlace.{EndPlace}
 use Rattle.pw_stitch.specs.declared.swap_drop.SwapDrop.{SwapDrop}
 use Rattle.pw_stitch.specs.Drop.{dropped_for}
+use Rattle.pw_stitch.specs.Stitch.{has_told}
 use Rattle.pw_stitch.specs.Relabelling.{relabelled}
 use Rattle.pw_stitch.specs.Swap.{label_onward}
+use Rattle.vccv_channel.specs.declared.cc.Cc.{Cc}
+use Rattle.vccv_channel.specs.declared.cc.Cc.TheVariants.{Header, Alert, Expiry}
+use Rattle.vccv_channel.specs.declared.echo.Echo.{Echo}
+use Rattle.vccv_channel.specs.declared.echo.Echo.TheVariants.{Request, Answer}
+use Rattle.vccv_channel.specs.declared.vccv_fault.VccvFault.{VccvFault}
+use Rattle.vccv_channel.specs.Channel.{has_header}
+use Rattle.vccv_channel.specs.Echo.{answer_packet, request_packet}
+use Rattle.vccv_channel.specs.Fault.{vccv_cause_of}
+use Rattle.vccv_channel.specs.Reading.{ip_packet_of, reading}
+use Rattle.edge_model.specs.Echo.{channel_octets, channel_under, echoes, is_picked, ping_number, verifies, verifies_in}
 use Rattle.edge_model.specs.Ends.{is_up, wire_end}
 use Rattle.edge_model.specs.Frame.{bridged, copies, copy_by, forwarded, frame_input, hearing, is_own, port_at, received, targets_of}
 use Rattle.edge_model.specs.Mend.{forgets_down, forgets_downs, forgetting_wire, port_of_wire}
-use Rattle.edge_model.specs.Packet.{switched_by, switched_to, switched_under, towards, advertiser, alerted, alerts_end, behind_entry, bridges_frame, by_control_word, by_offer, enters, is_alert, is_channel, labelled, least_label, opened_by, owned, packet_input, switched, terminated, unpacked_at}
+use Rattle.edge_model.specs.Packet.{switched_by, switched_to, switched_under, towards, advertiser, alerted, alerts_by, alerts_end, behind_entry, bridges_frame, by_control_word, by_offer, by_ttl, enters, is_alert, is_channel, labelled, least_label, opened_by, owned, packet_input, switched, terminated, unpacked_at}
+use Rattle.edge_model.specs.Ping.{asks, far_address, ping_between, ping_input, pinging, pings_at, pings_by, pings_in, pings_under}
 use Rattle.edge_model.specs.Role.{down_at}
 use Rattle.edge_model.specs.Send.{drops, had_posted, packet_of, sends, sends_copy, sends_under}
-use Rattle.edge_model.specs.State.{EdgeState, end_at, is_on, with_addresses}
+use Rattle.edge_model.specs.State.{EdgeState, end_at, is_on, put_at, with_addresses, with_next_ping}
 use Rattle.edge_model.specs.Work.{Work, Answers, changes, gives, idles, next_answer, posts}
 use Rattle.edge_model.proofs.SessionLemmas.{GivesOnly, gives_none, gives_then}
 
@@ -54,9 +67,10 @@ pub record LearnsOnly (old new : EdgeState) : Type 0 where
   pub priorities : new.priority ≡ old.priority
   pub chosen : new.chosen ≡ old.chosen
   pub labels : new.next_label ≡ old.next_label
+  pub pings : new.next_ping ≡ old.next_ping
 
 pub learns_not : (edge : EdgeState) → LearnsOnly edge edge
-learns_not edge = record { me = refl; circuits = refl; ticks = refl; peering = refl; wires = refl; bits = refl; ends = refl; downs = refl; priorities = refl; chosen = refl; labels = refl }
+learns_not edge = record { me = refl; circuits = refl; ticks = refl; peering = refl; wires = refl; bits = refl; ends = refl; downs = refl; priorities = refl; chosen = refl; labels = refl; pings = refl }
 
 pub learns_then : (a b c : EdgeState) → LearnsOnly a b → LearnsOnly b c → LearnsOnly a c
 learns_then a b c first next = record {
@@ -71,6 +85,7 @@ learns_then a b c first next = record {
   priorities = next.priorities ∙ first.priorities;
   chosen = next.chosen ∙ first.chosen;
   labels = next.labels ∙ first.labels;
+  pings = next.pings ∙ first.pings;
 }
 
 -- so it is the edge before with other addresses
@@ -88,11 +103,12 @@ learns_is old new only = λ i. record {
   priority = only.priorities i;
   chosen = only.chosen i;
   next_label = only.labels i;
+  next_ping = only.pings i;
 }
 
 addresses_learn : (service : ServiceId) (entries : List MacEntry) (edge : EdgeState) → LearnsOnly edge (with_addresses service entries edge)
 unfolding with_addresses
-addresses_learn service entries edge = record { me = refl; circuits = refl; ticks = refl; peering = refl; wires = refl; bits = refl; ends = refl; downs = refl; priorities = refl; chosen = refl; labels = refl }
+addresses_learn service entries edge = record { me = refl; circuits = refl; ticks = refl; peering = refl; wires = refl; bits = refl; ends = refl; downs = refl; priorities = refl; chosen = refl; labels = refl; pings = refl }
 
 -- ---- the edge forgets
 
@@ -149,11 +165,12 @@ forgets_downs_only plan (place ∷ places) work =
 
 -- ---- the edge bridges
 
--- a frame left, a packet was sent, or one of them was dropped
+-- a frame left, a packet was sent, one of them was dropped, or the answer to a ping was told
 abbrev pub is_of_bridging : Effect → Bool
 is_of_bridging (effect.Left circuit bytes) = true
 is_of_bridging (effect.Sent peer wire came bytes) = true
 is_of_bridging (effect.Dropped cause) = true
+is_of_bridging (effect.Pong wire sequence) = true
 is_of_bridging e = false
 
 -- of the edge, all stays but what its bridges have learned, and only such effects are given out
@@ -246,18 +263,39 @@ received_bridges plan told came service arrival (Err why) work = drops_bridges w
 
 -- ---- a packet
 
-alerts_end_bridges : (place : Option EndPlace) (work : Work) → BridgesOnly work (alerts_end place work)
-alerts_end_bridges None work = drops_bridges cause.NoLabel work
-alerts_end_bridges (Some place) work = by place.terminal where
-  by : (b : Bool) → BridgesOnly work (cond b (drops cause.NotOffered work) (drops cause.NoLabel work))
-  by true = drops_bridges cause.NotOffered work
+-- what comes of an echo packet
+echoes_bridges : (told : Answers) (place : EndPlace) (kind : Cc) (binding : Binding) (ip : List ℕ) (read : Result Echo VccvFault) (work : Work) → BridgesOnly work (echoes told place kind binding ip read work)
+echoes_bridges told place kind binding ip (Err why) work = drops_bridges (vccv_cause_of why) work
+echoes_bridges told place kind binding ip (Ok (Answer sequence)) work = gives_bridges (effect.Pong place.wire sequence) work refl
+echoes_bridges told place kind binding ip (Ok (Request from to sequence long)) work = sends_bridges told place arrival.Own (channel_octets kind binding (answer_packet ip)) work
+
+verifies_bridges : (told : Answers) (place : EndPlace) (row : WirePlan) (kind : Cc) (binding : Binding) (payload : List ℕ) (work : Work) → BridgesOnly work (verifies told place row kind binding payload work)
+verifies_bridges told place row kind binding payload work =
+    echoes_bridges told place kind binding (ip_packet_of (has_header kind) payload) (reading (has_header kind) (ping_number row) payload) work
+
+verifies_in_bridges : (told : Answers) (place : EndPlace) (row : WirePlan) (kind : Cc) (binding : Binding) (payload : List ℕ) (work : Work) → BridgesOnly work (verifies_in told place row kind binding payload work)
+verifies_in_bridges told place row kind binding payload work = by (is_picked kind (channel_under row work.edge.me binding)) where
+  by : (b : Bool) → BridgesOnly work (cond b (verifies told place row kind binding payload work) (drops cause.NotOffered work))
+  by true = verifies_bridges told place row kind binding payload work
+  by false = drops_bridges cause.NotOffered work
+
+alerts_by_bridges : (told : Answers) (place : EndPlace) (row : Option WirePlan) (remote : Option Binding) (payload : List ℕ) (work : Work) → BridgesOnly work (alerts_by told place row remote payload work)
+alerts_by_bridges told place None remote payload work = drops_bridges cause.NotOffered work
+alerts_by_bridges told place (Some row) None payload work = drops_bridges cause.NotOffered work
+alerts_by_bridges told place (Some row) (Some binding) payload work = verifies_in_bridges told place row Alert binding payload work
+
+alerts_end_bridges : (plan : Plan) (told : Answers) (payload : List ℕ) (place : Option EndPlace) (work : Work) → BridgesOnly work (alerts_end plan told payload place work)
+alerts_end_bridges plan told payload None work = drops_bridges cause.NoLabel work
+alerts_end_bridges plan told payload (Some place) work = by place.terminal where
+  by : (b : Bool) → BridgesOnly work (cond b (alerts_by told place (wire_row plan place.wire) (end_at work.edge place).remote payload work) (drops cause.NoLabel work))
+  by true = alerts_by_bridges told place (wire_row plan place.wire) (end_at work.edge place).remote payload work
   by false = drops_bridges cause.NoLabel work
 
-alerted_bridges : (plan : Plan) (read : Result StackEntry DropCause) (work : Work) → BridgesOnly work (alerted plan read work)
-alerted_bridges plan (Err why) work = drops_bridges why work
-alerted_bridges plan (Ok entry) work = by entry.bottom where
-  by : (b : Bool) → BridgesOnly work (cond b (alerts_end (advertiser plan work.edge entry.label) work) (drops cause.NotBottom work))
-  by true = alerts_end_bridges (advertiser plan work.edge entry.label) work
+alerted_bridges : (plan : Plan) (told : Answers) (octets : List ℕ) (read : Result StackEntry DropCause) (work : Work) → BridgesOnly work (alerted plan told octets read work)
+alerted_bridges plan told octets (Err why) work = drops_bridges why work
+alerted_bridges plan told octets (Ok entry) work = by entry.bottom where
+  by : (b : Bool) → BridgesOnly work (cond b (alerts_end plan told (behind_entry octets) (advertiser plan work.edge entry.label) work) (drops cause.NotBottom work))
+  by true = alerts_end_bridges plan told (behind_entry octets) (advertiser plan work.edge entry.label) work
   by false = drops_bridges cause.NotBottom work
 
 bridges_frame_bridges : (plan : Plan) (told : Answers) (row : WirePlan) (place : EndPlace) (payload : List ℕ) (work : Work) → BridgesOnly work (bridges_frame plan told row place payload work)
@@ -270,22 +308,29 @@ enters_bridges plan told row place payload work = by (is_up (down_at plan work.e
   by true = bridges_frame_bridges plan told row place payload work
   by false = drops_bridges cause.Down work
 
-by_control_word_bridges : (plan : Plan) (told : Answers) (row : WirePlan) (place : EndPlace) (payload : List ℕ) (work : Work) → BridgesOnly work (by_control_word plan told row place payload work)
-by_control_word_bridges plan told row place payload work = by (length payload == 0) (is_channel payload) where
-  by : (none channel : Bool) → BridgesOnly work (cond none (drops cause.Short work) (cond channel (drops cause.NotOffered work) (enters plan told row place payload work)))
+by_control_word_bridges : (plan : Plan) (told : Answers) (row : WirePlan) (place : EndPlace) (binding : Binding) (payload : List ℕ) (work : Work) → BridgesOnly work (by_control_word plan told row place binding payload work)
+by_control_word_bridges plan told row place binding payload work = by (length payload == 0) (is_channel payload) where
+  by : (none channel : Bool) → BridgesOnly work (cond none (drops cause.Short work) (cond channel (verifies_in told place row Header binding payload work) (enters plan told row place payload work)))
   by true channel = drops_bridges cause.Short work
-  by false true = drops_bridges cause.NotOffered work
+  by false true = verifies_in_bridges told place row Header binding payload work
   by false false = enters_bridges plan told row place payload work
 
-by_offer_bridges : (plan : Plan) (told : Answers) (row : WirePlan) (place : EndPlace) (cword : Bool) (payload : List ℕ) (work : Work) → BridgesOnly work (by_offer plan told row place cword payload work)
-by_offer_bridges plan told row place true payload work = by_control_word_bridges plan told row place payload work
-by_offer_bridges plan told row place false payload work = enters_bridges plan told row place payload work
+by_ttl_bridges : (plan : Plan) (told : Answers) (row : WirePlan) (place : EndPlace) (binding : Binding) (ttl : ℕ) (payload : List ℕ) (work : Work) → BridgesOnly work (by_ttl plan told row place binding ttl payload work)
+by_ttl_bridges plan told row place binding ttl payload work = by (ttl == 1 && is_picked Expiry (channel_under row work.edge.me binding)) where
+  by : (b : Bool) → BridgesOnly work (cond b (verifies told place row Expiry binding payload work) (enters plan told row place payload work))
+  by true = verifies_bridges told place row Expiry binding payload work
+  by false = enters_bridges plan told row place payload work
 
-terminated_bridges : (plan : Plan) (told : Answers) (place : EndPlace) (row : Option WirePlan) (remote : Option Binding) (payload : List ℕ) (work : Work)
-    → BridgesOnly work (terminated plan told place row remote payload work)
-terminated_bridges plan told place None remote payload work = drops_bridges cause.Down work
-terminated_bridges plan told place (Some row) None payload work = drops_bridges cause.Down work
-terminated_bridges plan told place (Some row) (Some binding) payload work = by_offer_bridges plan told row place (offer_of row work.edge.me.0).cword payload work
+by_offer_bridges : (plan : Plan) (told : Answers) (row : WirePlan) (place : EndPlace) (binding : Binding) (ttl : ℕ) (cword : Bool) (payload : List ℕ) (work : Work)
+    → BridgesOnly work (by_offer plan told row place binding ttl cword payload work)
+by_offer_bridges plan told row place binding ttl true payload work = by_control_word_bridges plan told row place binding payload work
+by_offer_bridges plan told row place binding ttl false payload work = by_ttl_bridges plan told row place binding ttl payload work
+
+terminated_bridges : (plan : Plan) (told : Answers) (place : EndPlace) (ttl : ℕ) (row : Option WirePlan) (remote : Option Binding) (payload : List ℕ) (work : Work)
+    → BridgesOnly work (terminated plan told place ttl row remote payload work)
+terminated_bridges plan told place ttl None remote payload work = drops_bridges cause.Down work
+terminated_bridges plan told place ttl (Some row) None payload work = drops_bridges cause.Down work
+terminated_bridges plan told place ttl (Some row) (Some binding) payload work = by_offer_bridges plan told row place binding ttl (offer_of row work.edge.me.0).cword payload work
 
 switched_bridges : (plan : Plan) (told : Answers) (octets : List ℕ) (entry : StackEntry) (place : EndPlace) (work : Work) → BridgesOnly work (switched plan told octets entry place work)
 switched_bridges plan told octets entry place work = by (wire_row plan place.wire) where
@@ -304,8 +349,8 @@ switched_bridges plan told octets entry place work = by (wire_row plan place.wir
 owned_bridges : (plan : Plan) (told : Answers) (octets : List ℕ) (entry : StackEntry) (place : Option EndPlace) (work : Work) → BridgesOnly work (owned plan told octets entry place work)
 owned_bridges plan told octets entry None work = drops_bridges cause.NoLabel work
 owned_bridges plan told octets entry (Some place) work = by place.terminal where
-  by : (b : Bool) → BridgesOnly work (cond b (terminated plan told place (wire_row plan place.wire) (end_at work.edge place).remote (behind_entry octets) work) (switched plan told octets entry place work))
-  by true = terminated_bridges plan told place (wire_row plan place.wire) (end_at work.edge place).remote (behind_entry octets) work
+  by : (b : Bool) → BridgesOnly work (cond b (terminated plan told place entry.ttl (wire_row plan place.wire) (end_at work.edge place).remote (behind_entry octets) work) (switched plan told octets entry place work))
+  by true = terminated_bridges plan told place entry.ttl (wire_row plan place.wire) (end_at work.edge place).remote (behind_entry octets) work
   by false = switched_bridges plan told octets entry place work
 
 labelled_bridges : (plan : Plan) (told : Answers) (octets : List ℕ) (entry : StackEntry) (work : Work) → BridgesOnly work (labelled plan told octets entry work)
@@ -318,8 +363,8 @@ labelled_bridges plan told octets entry work = by (nat_lt entry.label least_labe
 opened_by_bridges : (plan : Plan) (told : Answers) (octets : List ℕ) (read : Result StackEntry DropCause) (work : Work) → BridgesOnly work (opened_by plan told octets read work)
 opened_by_bridges plan told octets (Err why) work = drops_bridges why work
 opened_by_bridges plan told octets (Ok entry) work = by (is_alert entry) where
-  by : (b : Bool) → BridgesOnly work (cond b (alerted plan (entry_of (behind_entry octets)) work) (labelled plan told octets entry work))
-  by true = alerted_bridges plan (entry_of (behind_entry octets)) work
+  by : (b : Bool) → BridgesOnly work (cond b (alerted plan told (behind_entry octets) (entry_of (behind_entry octets)) work) (labelled plan told octets entry work))
+  by true = alerted_bridges plan told (behind_entry octets) (entry_of (behind_entry octets)) work
   by false = labelled_bridges plan told octets entry work
 
 -- every packet
@@ -345,3 +390,86 @@ frame_bridges plan told circuit octets (Some row) work = by (is_own work.edge ro
       let bridges : BridgesOnly work taken = received_bridges plan told (arrival.Circuit circuit) row.service (port_at plan work.edge circuit row) (inner_at plan circuit octets) work in
       record { edge = bridges.edge; effects = bridges.effects }
   by false = record { edge = learns_not work.edge; effects = gives_none is_of_bridging work.effects }
+
+-- ---- a ping, which may not apply
+
+-- the edge with other sequence numbers of its pings
+abbrev pub with_pings : (ℕ → ℕ) → EdgeState → EdgeState
+with_pings pings edge = record edge { next_ping = pings }
+
+-- of the edge, all stays but the sequence numbers of its pings, and only such effects are given out
+pub record PingsOnly (old new : Work) : Type 0 where
+  pub pings : ℕ → ℕ
+  pub edge : new.edge ≡ with_pings pings old.edge
+  pub effects : GivesOnly is_of_bridging old.effects new.effects
+  pub idle : new.idle ≡ old.idle
+
+-- so it is where the ping applies
+pub data PingOutcome (old new : Work) : Type 0 where
+  PingIdles : new ≡ idles old → PingOutcome old new
+  PingGoes : PingsOnly old new → PingOutcome old new
+
+-- and so it is, but for that, where it does not
+pub record PingsInput (old new : Work) : Type 0 where
+  pub pings : ℕ → ℕ
+  pub edge : new.edge ≡ with_pings pings old.edge
+  pub effects : GivesOnly is_of_bridging old.effects new.effects
+
+-- the link takes a packet or not: the edge stays as it was
+pub sends_edge : (told : Answers) (place : EndPlace) (came : Arrival) (octets : List ℕ) (work : Work) → (sends told place came octets work).edge ≡ work.edge
+unfolding gives posts
+sends_edge told place came octets work = by (next_answer told work) where
+  by : (b : Bool) → (had_posted place came octets b work).edge ≡ work.edge
+  by true = refl
+  by false = refl
+
+module _ (plan : Plan) (told : Answers) (work : Work) where
+  numbers_ping : (place : EndPlace) (octets : List ℕ) → PingOutcome work (sends told place arrival.Own octets (changes (pinging place.wire) work))
+  unfolding changes with_next_ping
+  numbers_ping place octets =
+      let bridges : BridgesOnly (changes (pinging place.wire) work) (sends told place arrival.Own octets (changes (pinging place.wire) work)) = sends_bridges told place arrival.Own octets (changes (pinging place.wire) work) in
+      PingGoes (record {
+        pings = (pinging place.wire work.edge).next_ping;
+        edge = sends_edge told place arrival.Own octets (changes (pinging place.wire) work);
+        effects = bridges.effects;
+        idle = bridges.idle;
+      })
+
+  asks_ping : (place : EndPlace) (row : WirePlan) (kind : Cc) (binding : Binding) (from to : Option Addr) → PingOutcome work (asks told place row kind binding from to work)
+  asks_ping place row kind binding None to = PingIdles refl
+  asks_ping place row kind binding (Some from) None = PingIdles refl
+  asks_ping place row kind binding (Some from) (Some to) =
+      numbers_ping place (channel_octets kind binding (request_packet (ping_between row from to (work.edge.next_ping place.wire.0))))
+
+  in_channel_ping : (place : EndPlace) (row : WirePlan) (binding : Binding) (kind : Option Cc) → PingOutcome work (pings_in plan told place row binding kind work)
+  in_channel_ping place row binding None = PingIdles refl
+  in_channel_ping place row binding (Some kind) = asks_ping place row kind binding (edge_address plan work.edge.me) (far_address plan work.edge.me row)
+
+  under_ping : (place : EndPlace) (row : WirePlan) (remote : Option Binding) → PingOutcome work (pings_under plan told place row remote work)
+  under_ping place row None = PingIdles refl
+  under_ping place row (Some binding) = in_channel_ping place row binding (channel_under row work.edge.me binding)
+
+  at_ping : (place : EndPlace) (row : Option WirePlan) → PingOutcome work (pings_at plan told place row work)
+  at_ping place None = PingIdles refl
+  at_ping place (Some row) = by (has_told (end_at work.edge place).local) where
+    by : (b : Bool) → PingOutcome work (cond b (pings_under plan told place row (end_at work.edge place).remote work) (idles work))
+    by true = under_ping place row (end_at work.edge place).remote
+    by false = PingIdles refl
+
+  by_ping : (place : Option EndPlace) → PingOutcome work (pings_by plan told place work)
+  by_ping None = PingIdles refl
+  by_ping (Some place) = at_ping place (wire_row plan place.wire)
+
+-- every ping
+pub ping_outcome : (plan : Plan) (told : Answers) (wire : WireId) (work : Work) → PingOutcome work (ping_input plan told wire work)
+ping_outcome plan told wire work = by_ping plan told work (wire_end plan work.edge.me wire)
+
+idles_pings : (work : Work) → PingsInput work (idles work)
+unfolding idles
+idles_pings work = record { pings = work.edge.next_ping; edge = refl; effects = gives_none is_of_bridging work.effects }
+
+pub ping_bridges : (plan : Plan) (told : Answers) (wire : WireId) (work : Work) → PingsInput work (ping_input plan told wire work)
+ping_bridges plan told wire work = by (ping_outcome plan told wire work) where
+  by : PingOutcome work (ping_input plan told wire work) → PingsInput work (ping_input plan told wire work)
+  by (PingIdles is) = subst (PingsInput work) (sym is) (idles_pings work)
+  by (PingGoes only) = record { pings = only.pings; edge = only.edge; effects = only.effects }

@@ -44,7 +44,7 @@ use Rattle.edge_model.specs.Role.{status_to_tell}
 use Rattle.edge_model.specs.Send.{sends}
 use Rattle.edge_model.specs.Session.{clears_ends, comes_of, ends, had_said, happens, happens_to, happens_with_ends, is_same_phase, says, says_to, tells_change, went_on, with_session}
 use Rattle.edge_model.specs.Signal.{end_of_fec, with_end_changed, with_named}
-use Rattle.edge_model.specs.State.{EdgeState, Peering, with_addresses, with_bits, with_chosen, with_circuit, with_end, with_ends_beside, with_learned, with_next_label, with_peering, with_priority, with_renewed, with_ticks, with_told_down, with_wire, without_ends, without_peerings}
+use Rattle.edge_model.specs.State.{EdgeState, Peering, with_addresses, with_bits, with_chosen, with_circuit, with_end, with_ends_beside, with_learned, with_next_label, with_next_ping, with_peering, with_priority, with_renewed, with_ticks, with_told_down, with_wire, without_ends, without_peerings}
 use Rattle.edge_model.specs.Step.{edge_step}
 use Rattle.edge_model.specs.Wire.{turned_wire}
 use Rattle.edge_model.specs.Work.{Work, Answers, changes, gives, idles, next_answer, puts}
@@ -266,7 +266,7 @@ hear_steps plan told k = record {
 }
 
 input_steps : (plan : Plan) (told : Answers) (k : ℕ) → InputSteps plan told (FitsOn k)
-unfolding changes gives idles with_addresses with_bits with_learned with_priority with_ticks without_ends without_peerings
+unfolding changes gives idles with_addresses with_bits with_learned with_next_ping with_priority with_ticks without_ends without_peerings
 input_steps plan told k = record {
   hear = hear_steps plan told k;
   idles = λ work fits. fits;
@@ -282,6 +282,8 @@ input_steps plan told k = record {
   leaves = λ circuit octets work fits. fits;
   drops = λ cause work fits. fits;
   sends_packet = λ place came octets work. same_fits k work (sends told place came octets work) (sends_bridges told place came octets work).edge.peering;
+  numbers_ping = λ wire work fits. fits;
+  tells_answer = λ wire sequence work fits. fits;
 }
 
 pub hears_pdu_fits : (plan : Plan) (told : Answers) (k : ℕ) (peer : EdgeId) (pdu : Pdu) (work : Work) → FitsOn k work (hears_pdu plan told peer pdu work)

@@ -29,7 +29,7 @@ use Rattle.edge_model.specs.Put.{message_octets_of, put_octets, put_reply}
 use Rattle.edge_model.specs.Send.{sends}
 use Rattle.edge_model.specs.Session.{clears_ends, had_put, had_said, happens, happens_with_ends, says, says_to}
 use Rattle.edge_model.specs.Signal.{end_of_fec, with_end_changed, with_named}
-use Rattle.edge_model.specs.State.{EdgeState, Peering, empty_edge, end_at, has_end, is_there, with_addresses, with_bits, with_chosen, with_circuit, with_end, with_ends_beside, with_learned, with_next_label, with_peering, with_priority, with_renewed, with_ticks, with_told_down, with_wire, without_ends, without_peerings}
+use Rattle.edge_model.specs.State.{EdgeState, Peering, empty_edge, end_at, has_end, is_there, with_addresses, with_bits, with_chosen, with_circuit, with_end, with_ends_beside, with_learned, with_next_label, with_next_ping, with_peering, with_priority, with_renewed, with_ticks, with_told_down, with_wire, without_ends, without_peerings}
 use Rattle.edge_model.specs.Step.{edge_step}
 use Rattle.edge_model.specs.Wire.{turned_wire}
 use Rattle.edge_model.specs.Work.{Work, Answers, changes, gives, idles, next_answer}
@@ -273,7 +273,7 @@ turned_wire_follows wire true edge follows = renewed_follows wire (with_wire wir
 turned_wire_follows wire false edge follows = follows
 
 pub input_follows : (plan : Plan) (told : Answers) → InputSteps plan told FollowsOn
-unfolding changes gives idles with_addresses with_bits with_learned with_priority with_ticks without_ends without_peerings
+unfolding changes gives idles with_addresses with_bits with_learned with_next_ping with_priority with_ticks without_ends without_peerings
 input_follows plan told = record {
   hear = hear_follows plan told;
   idles = λ work follows. follows;
@@ -289,6 +289,8 @@ input_follows plan told = record {
   leaves = λ circuit octets work follows. follows;
   drops = λ cause work follows. follows;
   sends_packet = λ place came octets work. learns_follow work (sends told place came octets work) (sends_bridges told place came octets work).edge;
+  numbers_ping = λ wire work follows. follows;
+  tells_answer = λ wire sequence work follows. follows;
 }
 
 pub mends_follows : (plan : Plan) (told : Answers) (work : Work) → FollowsOn work (mends plan told work)

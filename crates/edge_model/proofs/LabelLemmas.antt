@@ -24,7 +24,7 @@ use Rattle.edge_model.specs.Put.{put_reply}
 use Rattle.edge_model.specs.Send.{sends}
 use Rattle.edge_model.specs.Session.{had_said, happens_with_ends, says}
 use Rattle.edge_model.specs.Signal.{end_of_fec, with_end_changed, with_named}
-use Rattle.edge_model.specs.State.{EdgeState, end_at, with_addresses, with_bits, with_chosen, with_circuit, with_end, with_ends_beside, with_learned, with_next_label, with_peering, with_priority, with_renewed, with_ticks, with_told_down, with_wire, without_ends, without_peerings}
+use Rattle.edge_model.specs.State.{EdgeState, end_at, with_addresses, with_bits, with_chosen, with_circuit, with_end, with_ends_beside, with_learned, with_next_label, with_next_ping, with_peering, with_priority, with_renewed, with_ticks, with_told_down, with_wire, without_ends, without_peerings}
 use Rattle.edge_model.specs.Step.{edge_step}
 use Rattle.edge_model.specs.Wire.{turned_wire}
 use Rattle.edge_model.specs.Work.{Work, Answers, changes, gives, idles}
@@ -154,7 +154,7 @@ turned_wire_keeps wire true edge = refl
 turned_wire_keeps wire false edge = refl
 
 pub input_rises : (plan : Plan) (told : Answers) → InputSteps plan told WorkRises
-unfolding changes gives idles with_addresses with_bits with_learned with_peering with_priority with_ticks without_ends without_peerings
+unfolding changes gives idles with_addresses with_bits with_learned with_next_ping with_peering with_priority with_ticks without_ends without_peerings
 input_rises plan told = record {
   hear = hear_rises plan told;
   idles = rises_not;
@@ -170,6 +170,8 @@ input_rises plan told = record {
   leaves = λ circuit octets work. rises_not work;
   drops = λ cause work. rises_not work;
   sends_packet = λ place came octets work. learns_rise work (sends told place came octets work) (sends_bridges told place came octets work).edge;
+  numbers_ping = λ wire work. rises_not work;
+  tells_answer = λ wire sequence work. rises_not work;
 }
 
 pub mends_rises : (plan : Plan) (told : Answers) (work : Work) → WorkRises work (mends plan told work)

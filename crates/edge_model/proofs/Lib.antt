@@ -1,10 +1,12 @@
 pub mod AgainLemmas
 pub mod AgeLemmas
 pub mod AgingLemmas
+pub mod ApartLemmas
 pub mod BridgeLemmas
 pub mod ChoiceLemmas
 pub mod CopyLemmas
 mod Examples
+mod EchoExamples
 pub mod FitLemmas
 pub mod FollowLemmas
 pub mod HeldLemmas
@@ -17,6 +19,7 @@ mod PacketExamples
 pub mod PacketLemmas
 pub mod PartsLemmas
 pub mod PassedLemmas
+pub mod PingLemmas
 pub mod PlaceLemmas
 pub mod ReleaseLemmas
 mod SessionExamples

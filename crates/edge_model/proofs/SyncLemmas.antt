@@ -28,6 +28,7 @@ use Rattle.edge_model.specs.Frame.{frame_input, is_own}
 use Rattle.edge_model.specs.Hear.{hears_on, octets_input}
 use Rattle.edge_model.specs.Mend.{cause_number, each_end, forgets_downs, mends, mends_choice, mends_end, mends_few, mends_once, mends_status, tells_downs, then_changes}
 use Rattle.edge_model.specs.Packet.{packet_input}
+use Rattle.edge_model.specs.Ping.{ping_input}
 use Rattle.edge_model.specs.Put.{Spoken, stays}
 use Rattle.edge_model.specs.Role.{down_at, role_at}
 use Rattle.edge_model.specs.Session.{happens_with_ends}
@@ -38,7 +39,7 @@ use Rattle.edge_model.specs.Synced.{InSync, IsSynced}
 use Rattle.edge_model.specs.Tick.{counted, forgetting, ticks_sessions}
 use Rattle.edge_model.specs.Wire.{is_own_spoke, turned_wire}
 use Rattle.edge_model.specs.Work.{Work, Answers, changes, idles}
-use Rattle.edge_model.proofs.BridgeLemmas.{LearnsOnly, forgets_downs_only, frame_bridges, learns_is, packet_bridges}
+use Rattle.edge_model.proofs.BridgeLemmas.{LearnsOnly, PingsInput, forgets_downs_only, frame_bridges, learns_is, packet_bridges, ping_bridges, with_pings}
 use Rattle.edge_model.proofs.LocalLemmas.{and_left, and_right}
 use Rattle.edge_model.proofs.MendedLemmas.{HaveTold, all_told, is_down_told}
 use Rattle.edge_model.proofs.OneEndLemmas.{has_one_end}
@@ -160,6 +161,10 @@ learns_synced plan old new only synced = subst (InSync plan) (sym (learns_is old
     same : AllByRecursion (IsSynced plan (record old { learned = new.learned })) (end_places plan old.me)
     same = all-map (IsSynced plan old) (IsSynced plan (record old { learned = new.learned })) (end_places plan old.me) (λ place is. record { so = is.so }) synced.each
 
+-- nor do the sequence numbers of pings
+pub pings_synced : (plan : Plan) (pings : ℕ → ℕ) (edge : EdgeState) → InSync plan edge → InSync plan (with_pings pings edge)
+pings_synced plan pings edge synced = record { each = all-map (IsSynced plan edge) (IsSynced plan (with_pings pings edge)) (end_places plan edge.me) (λ place is. record { so = is.so }) synced.each }
+
 module _ (plan : Plan) (told : Answers) (work : Work) (checked : IsChecked plan) (synced : InSync plan work.edge) where
   idles_synced : InSync plan (idles work).edge
   unfolding idles
@@ -203,7 +208,9 @@ module _ (plan : Plan) (told : Answers) (work : Work) (checked : IsChecked plan)
   input_synced (Status wire bits) = mended_synced (ends_here plan work.edge.me wire && not (nat_eq bits (work.edge.bits wire.0))) (changes (with_bits wire bits) work)
   input_synced (Priority wire priority) =
       mended_synced (is_own_spoke work.edge.me (wire_row plan wire) && not (nat_eq priority (work.edge.priority wire.0))) (changes (with_priority wire priority) work)
-  input_synced (Ping wire) = idles_synced
+  input_synced (Ping wire) =
+      let pings : PingsInput work (ping_input plan told wire work) = ping_bridges plan told wire work in
+      subst (InSync plan) (sym pings.edge) (pings_synced plan pings.pings work.edge synced)
 
 pub step_synced : (plan : Plan) (told : Answers) (input : Input) (work : Work) → IsChecked plan → InSync plan work.edge → InSync plan (edge_step plan told input work).edge
 step_synced plan told input work checked synced = input_synced plan told work checked synced input

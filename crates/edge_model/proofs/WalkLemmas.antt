@@ -16,8 +16,9 @@ use Rattle.net_base.specs.declared.trace.drop_cause.DropCause.{DropCause}
 use Rattle.net_base.specs.declared.trace.drop_cause.DropCause.TheVariants as cause
 use Rattle.net_base.specs.declared.trace.state_name.Reason.TheVariants as reason
 use Rattle.net_base.specs.declared.trace.state_name.StateName.TheVariants as name
+use Rattle.net_values.specs.declared.addr.Addr.{Addr}
 use Rattle.net_values.specs.declared.mac.Mac.{Mac}
-use Rattle.net_base.specs.plan.Paths.{mate, are_joined, offer_of}
+use Rattle.net_base.specs.plan.Paths.{are_joined, edge_address, mate, offer_of}
 use Rattle.net_base.specs.plan.Places.{circuit_row, wire_row}
 use Rattle.net_base.specs.trace.Isolated.{inner_at}
 use Rattle.eth_encap.specs.declared.stack_entry.StackEntry.{StackEntry}
@@ -58,14 +59,26 @@ use Rattle.edge_model.specs.EndPlaces.{end_named, end_places, ends_here, passes}
 use Rattle.pw_stitch.specs.declared.swap_drop.SwapDrop.{SwapDrop}
 use Rattle.pw_stitch.specs.Drop.{dropped_for}
 use Rattle.pw_stitch.specs.Relabelling.{relabelled}
+use Rattle.pw_stitch.specs.Stitch.{has_told}
 use Rattle.pw_stitch.specs.Swap.{label_onward}
 use Rattle.edge_model.specs.Across.{end_beyond}
+use Rattle.vccv_channel.specs.declared.cc.Cc.{Cc}
+use Rattle.vccv_channel.specs.declared.cc.Cc.TheVariants.{Header, Alert, Expiry}
+use Rattle.vccv_channel.specs.declared.echo.Echo.{Echo}
+use Rattle.vccv_channel.specs.declared.echo.Echo.TheVariants.{Request, Answer}
+use Rattle.vccv_channel.specs.declared.vccv_fault.VccvFault.{VccvFault}
+use Rattle.vccv_channel.specs.Channel.{has_header}
+use Rattle.vccv_channel.specs.Echo.{answer_packet, request_packet}
+use Rattle.vccv_channel.specs.Fault.{vccv_cause_of}
+use Rattle.vccv_channel.specs.Reading.{ip_packet_of, reading}
+use Rattle.edge_model.specs.Echo.{channel_octets, channel_under, echoes, is_picked, ping_number, verifies, verifies_in}
 use Rattle.edge_model.specs.Ends.{is_up, wire_end}
 use Rattle.edge_model.specs.Frame.{copies, copy_by, frame_input, hearing, is_own, port_at, received, targets_of}
 use Rattle.edge_model.specs.Hear.{acts, acts_on, advice_of, advises, hears, hears_few, hears_front, hears_message, hears_messages, hears_on, hears_one, hears_pdu, hears_within, holds, octets_input, was_up}
 use Rattle.edge_model.specs.Mend.{advertises, advertises_wish, advertising, and_says, cause_number, each_end, forgets_down, forgets_downs, forgetting_wire, is_new_choice, mends, mends_choice, mends_end, mends_few, mends_local, mends_once, mends_status, mends_status_of, port_of_wire, tells_down, tells_downs, tells_new_status, tells_over, telling_status, then_changes, wish, stands, withdrawing, withdraws, withdraws_unless}
-use Rattle.edge_model.specs.Packet.{switched_by, switched_to, switched_under, towards, advertiser, alerted, alerts_end, behind_entry, bridges_frame, by_offer, enters, is_alert, is_channel, labelled, least_label, opened_by, owned, packet_input, switched, terminated, unpacked_at}
+use Rattle.edge_model.specs.Packet.{switched_by, switched_to, switched_under, towards, advertiser, alerted, alerts_by, alerts_end, behind_entry, bridges_frame, by_offer, enters, is_alert, is_channel, labelled, least_label, opened_by, owned, packet_input, switched, terminated, unpacked_at}
 use Rattle.edge_model.specs.Put.{Spoken, put_reply, stays}
+use Rattle.edge_model.specs.Ping.{asks, far_address, ping_between, ping_input, pinging, pings_at, pings_by, pings_in, pings_under}
 use Rattle.edge_model.specs.Role.{down_at, status_to_tell}
 use Rattle.edge_model.specs.Send.{drops, packet_of, sends, sends_copy, sends_under}
 use Rattle.edge_model.specs.Session.{had_said, happens_with_ends, says}
@@ -546,6 +559,9 @@ pub record InputSteps (plan : Plan) (told : Answers) (R : Work → Work → Type
   pub drops : (why : DropCause) (work : Work) → R work (gives (effect.Dropped why) work)
   -- a packet that the link takes or not
   pub sends_packet : (place : EndPlace) (came : Arrival) (octets : List ℕ) (work : Work) → R work (sends told place came octets work)
+  -- pings, and the answers to them
+  pub numbers_ping : (wire : WireId) (work : Work) → R work (changes (pinging wire) work)
+  pub tells_answer : (wire : WireId) (sequence : ℕ) (work : Work) → R work (gives (effect.Pong wire sequence) work)
 
 module _ (plan : Plan) (told : Answers) (R : Work → Work → Type 0) (steps : InputSteps plan told R) where
   -- a change after which the edge mends
@@ -637,18 +653,35 @@ module _ (plan : Plan) (told : Answers) (R : Work → Work → Type 0) (steps : 
     by true = received_holds (arrival.Wire place.wire) row.service (port_of_wire plan work.edge place.wire row) (unpacked_at plan row work.edge.me payload) work
     by false = steps.drops cause.Down work
 
-  by_offer_holds : (row : WirePlan) (place : EndPlace) (cword : Bool) (payload : List ℕ) (work : Work) → R work (by_offer plan told row place cword payload work)
-  by_offer_holds row place false payload work = enters_holds row place payload work
-  by_offer_holds row place true payload work = by (nat_eq (length payload) 0) (is_channel payload) where
-    by : (empty channel : Bool) → R work (cond empty (drops cause.Short work) (cond channel (drops cause.NotOffered work) (enters plan told row place payload work)))
+  echoes_hold : (place : EndPlace) (kind : Cc) (binding : Binding) (ip : List ℕ) (read : Result Echo VccvFault) (work : Work) → R work (echoes told place kind binding ip read work)
+  echoes_hold place kind binding ip (Err why) work = steps.drops (vccv_cause_of why) work
+  echoes_hold place kind binding ip (Ok (Answer sequence)) work = steps.tells_answer place.wire sequence work
+  echoes_hold place kind binding ip (Ok (Request from to sequence long)) work = steps.sends_packet place arrival.Own (channel_octets kind binding (answer_packet ip)) work
+
+  verifies_holds : (place : EndPlace) (row : WirePlan) (kind : Cc) (binding : Binding) (payload : List ℕ) (work : Work) → R work (verifies told place row kind binding payload work)
+  verifies_holds place row kind binding payload work = echoes_hold place kind binding (ip_packet_of (has_header kind) payload) (reading (has_header kind) (ping_number row) payload) work
+
+  verifies_in_holds : (place : EndPlace) (row : WirePlan) (kind : Cc) (binding : Binding) (payload : List ℕ) (work : Work) → R work (verifies_in told place row kind binding payload work)
+  verifies_in_holds place row kind binding payload work = by (is_picked kind (channel_under row work.edge.me binding)) where
+    by : (b : Bool) → R work (cond b (verifies told place row kind binding payload work) (drops cause.NotOffered work))
+    by true = verifies_holds place row kind binding payload work
+    by false = steps.drops cause.NotOffered work
+
+  by_offer_holds : (row : WirePlan) (place : EndPlace) (binding : Binding) (ttl : ℕ) (cword : Bool) (payload : List ℕ) (work : Work) → R work (by_offer plan told row place binding ttl cword payload work)
+  by_offer_holds row place binding ttl false payload work = by (nat_eq ttl 1 && is_picked Expiry (channel_under row work.edge.me binding)) where
+    by : (b : Bool) → R work (cond b (verifies told place row Expiry binding payload work) (enters plan told row place payload work))
+    by true = verifies_holds place row Expiry binding payload work
+    by false = enters_holds row place payload work
+  by_offer_holds row place binding ttl true payload work = by (nat_eq (length payload) 0) (is_channel payload) where
+    by : (empty channel : Bool) → R work (cond empty (drops cause.Short work) (cond channel (verifies_in told place row Header binding payload work) (enters plan told row place payload work)))
     by true channel = steps.drops cause.Short work
-    by false true = steps.drops cause.NotOffered work
+    by false true = verifies_in_holds place row Header binding payload work
     by false false = enters_holds row place payload work
 
-  terminated_holds : (place : EndPlace) (row : Option WirePlan) (remote : Option Binding) (payload : List ℕ) (work : Work) → R work (terminated plan told place row remote payload work)
-  terminated_holds place None remote payload work = steps.drops cause.Down work
-  terminated_holds place (Some row) None payload work = steps.drops cause.Down work
-  terminated_holds place (Some row) (Some binding) payload work = by_offer_holds row place (offer_of row work.edge.me.0).cword payload work
+  terminated_holds : (place : EndPlace) (ttl : ℕ) (row : Option WirePlan) (remote : Option Binding) (payload : List ℕ) (work : Work) → R work (terminated plan told place ttl row remote payload work)
+  terminated_holds place ttl None remote payload work = steps.drops cause.Down work
+  terminated_holds place ttl (Some row) None payload work = steps.drops cause.Down work
+  terminated_holds place ttl (Some row) (Some binding) payload work = by_offer_holds row place binding ttl (offer_of row work.edge.me.0).cword payload work
 
   switched_holds : (octets : List ℕ) (entry : StackEntry) (place : EndPlace) (work : Work) → R work (switched plan told octets entry place work)
   switched_holds octets entry place work = by (wire_row plan place.wire) where
@@ -667,8 +700,8 @@ module _ (plan : Plan) (told : Answers) (R : Work → Work → Type 0) (steps : 
   owned_holds : (octets : List ℕ) (entry : StackEntry) (place : Option EndPlace) (work : Work) → R work (owned plan told octets entry place work)
   owned_holds octets entry None work = steps.drops cause.NoLabel work
   owned_holds octets entry (Some place) work = by place.terminal where
-    by : (b : Bool) → R work (cond b (terminated plan told place (wire_row plan place.wire) (end_at work.edge place).remote (behind_entry octets) work) (switched plan told octets entry place work))
-    by true = terminated_holds place (wire_row plan place.wire) (end_at work.edge place).remote (behind_entry octets) work
+    by : (b : Bool) → R work (cond b (terminated plan told place entry.ttl (wire_row plan place.wire) (end_at work.edge place).remote (behind_entry octets) work) (switched plan told octets entry place work))
+    by true = terminated_holds place entry.ttl (wire_row plan place.wire) (end_at work.edge place).remote (behind_entry octets) work
     by false = switched_holds octets entry place work
 
   labelled_holds : (octets : List ℕ) (entry : StackEntry) (work : Work) → R work (labelled plan told octets entry work)
@@ -678,25 +711,30 @@ module _ (plan : Plan) (told : Answers) (R : Work → Work → Type 0) (steps : 
     by false true = owned_holds octets entry (advertiser plan work.edge entry.label) work
     by false false = steps.drops cause.NotBottom work
 
-  alerts_holds : (place : Option EndPlace) (work : Work) → R work (alerts_end place work)
-  alerts_holds None work = steps.drops cause.NoLabel work
-  alerts_holds (Some place) work = by place.terminal where
-    by : (b : Bool) → R work (cond b (drops cause.NotOffered work) (drops cause.NoLabel work))
-    by true = steps.drops cause.NotOffered work
+  alerts_by_holds : (place : EndPlace) (row : Option WirePlan) (remote : Option Binding) (payload : List ℕ) (work : Work) → R work (alerts_by told place row remote payload work)
+  alerts_by_holds place None remote payload work = steps.drops cause.NotOffered work
+  alerts_by_holds place (Some row) None payload work = steps.drops cause.NotOffered work
+  alerts_by_holds place (Some row) (Some binding) payload work = verifies_in_holds place row Alert binding payload work
+
+  alerts_holds : (payload : List ℕ) (place : Option EndPlace) (work : Work) → R work (alerts_end plan told payload place work)
+  alerts_holds payload None work = steps.drops cause.NoLabel work
+  alerts_holds payload (Some place) work = by place.terminal where
+    by : (b : Bool) → R work (cond b (alerts_by told place (wire_row plan place.wire) (end_at work.edge place).remote payload work) (drops cause.NoLabel work))
+    by true = alerts_by_holds place (wire_row plan place.wire) (end_at work.edge place).remote payload work
     by false = steps.drops cause.NoLabel work
 
-  alerted_holds : (read : Result StackEntry DropCause) (work : Work) → R work (alerted plan read work)
-  alerted_holds (Err why) work = steps.drops why work
-  alerted_holds (Ok entry) work = by entry.bottom where
-    by : (b : Bool) → R work (cond b (alerts_end (advertiser plan work.edge entry.label) work) (drops cause.NotBottom work))
-    by true = alerts_holds (advertiser plan work.edge entry.label) work
+  alerted_holds : (octets : List ℕ) (read : Result StackEntry DropCause) (work : Work) → R work (alerted plan told octets read work)
+  alerted_holds octets (Err why) work = steps.drops why work
+  alerted_holds octets (Ok entry) work = by entry.bottom where
+    by : (b : Bool) → R work (cond b (alerts_end plan told (behind_entry octets) (advertiser plan work.edge entry.label) work) (drops cause.NotBottom work))
+    by true = alerts_holds (behind_entry octets) (advertiser plan work.edge entry.label) work
     by false = steps.drops cause.NotBottom work
 
   opened_holds : (octets : List ℕ) (read : Result StackEntry DropCause) (work : Work) → R work (opened_by plan told octets read work)
   opened_holds octets (Err why) work = steps.drops why work
   opened_holds octets (Ok entry) work = by (is_alert entry) where
-    by : (b : Bool) → R work (cond b (alerted plan (entry_of (behind_entry octets)) work) (labelled plan told octets entry work))
-    by true = alerted_holds (entry_of (behind_entry octets)) work
+    by : (b : Bool) → R work (cond b (alerted plan told (behind_entry octets) (entry_of (behind_entry octets)) work) (labelled plan told octets entry work))
+    by true = alerted_holds (behind_entry octets) (entry_of (behind_entry octets)) work
     by false = labelled_holds octets entry work
 
   pub packet_holds : (octets : List ℕ) (work : Work) → R work (packet_input plan told octets work)
@@ -727,6 +765,38 @@ module _ (plan : Plan) (told : Answers) (R : Work → Work → Type 0) (steps : 
     by true = changed_holds (with_priority wire priority) work (steps.sets_priority wire priority work)
     by false = steps.idles work
 
+  -- ---- pings
+
+  asks_hold : (place : EndPlace) (row : WirePlan) (kind : Cc) (binding : Binding) (from to : Option Addr) (work : Work) → R work (asks told place row kind binding from to work)
+  asks_hold place row kind binding None to work = steps.idles work
+  asks_hold place row kind binding (Some from) None work = steps.idles work
+  asks_hold place row kind binding (Some from) (Some to) work =
+      let numbered : Work = changes (pinging place.wire) work in
+      let octets : List ℕ = channel_octets kind binding (request_packet (ping_between row from to (work.edge.next_ping place.wire.0))) in
+      steps.hear.mend.joined work numbered (sends told place arrival.Own octets numbered) (steps.numbers_ping place.wire work) (steps.sends_packet place arrival.Own octets numbered)
+
+  pings_in_hold : (place : EndPlace) (row : WirePlan) (binding : Binding) (kind : Option Cc) (work : Work) → R work (pings_in plan told place row binding kind work)
+  pings_in_hold place row binding None work = steps.idles work
+  pings_in_hold place row binding (Some kind) work = asks_hold place row kind binding (edge_address plan work.edge.me) (far_address plan work.edge.me row) work
+
+  pings_under_hold : (place : EndPlace) (row : WirePlan) (remote : Option Binding) (work : Work) → R work (pings_under plan told place row remote work)
+  pings_under_hold place row None work = steps.idles work
+  pings_under_hold place row (Some binding) work = pings_in_hold place row binding (channel_under row work.edge.me binding) work
+
+  pings_at_hold : (place : EndPlace) (row : Option WirePlan) (work : Work) → R work (pings_at plan told place row work)
+  pings_at_hold place None work = steps.idles work
+  pings_at_hold place (Some row) work = by (has_told (end_at work.edge place).local) where
+    by : (b : Bool) → R work (cond b (pings_under plan told place row (end_at work.edge place).remote work) (idles work))
+    by true = pings_under_hold place row (end_at work.edge place).remote work
+    by false = steps.idles work
+
+  pings_by_hold : (place : Option EndPlace) (work : Work) → R work (pings_by plan told place work)
+  pings_by_hold None work = steps.idles work
+  pings_by_hold (Some place) work = pings_at_hold place (wire_row plan place.wire) work
+
+  pub ping_holds : (wire : WireId) (work : Work) → R work (ping_input plan told wire work)
+  ping_holds wire work = pings_by_hold (wire_end plan work.edge.me wire) work
+
   pub step_holds : (input : Input) (work : Work) → R work (edge_step plan told input work)
   step_holds (Connected peer) work = connected_holds peer work
   step_holds (Octets peer bytes) work = octets_hold peer bytes.now (work.edge.peering peer.0) work
@@ -739,4 +809,4 @@ module _ (plan : Plan) (told : Answers) (R : Work → Work → Type 0) (steps : 
   step_holds (Wire wire on) work = wire_holds wire on work
   step_holds (Status wire bits) work = status_holds wire bits work
   step_holds (Priority wire priority) work = priority_holds wire priority work
-  step_holds (Ping wire) work = steps.idles work
+  step_holds (Ping wire) work = ping_holds wire work

@@ -1,5 +1,6 @@
 -- What comes of a frame that the bridge of a service hears by a port: copies of it, each by another port of the service (RFC 4762
--- sections 4.1, 4.2 and 4.4). Whatever else an edge gives out on a frame or a packet is one drop, or nothing.
+-- sections 4.1, 4.2 and 4.4). Whatever else an edge gives out on a frame or a packet is one drop, or nothing; on a packet also the
+-- packet itself, at a switching point, and what comes of an echo packet.
 use Rattle.std.specs.Prelude.{◌≡◌, ◌==◌, ◌-◌, ◌&&◌, ℕ, true, false, List, [], ◌∷◌, Option, Some, None, Ok, Err, slice_get}
 use Rattle.net_base.specs.declared.plan.Plan.{Plan}
 use Rattle.net_base.specs.declared.plan.circuit_plan.CircuitPlan.{CircuitPlan}
@@ -24,11 +25,11 @@ use Rattle.hvpls_spokes.specs.Port.{is_mesh_port, ports_of, wire_port}
 use Rattle.pw_signalling.specs.declared.binding.Binding.{Binding}
 use Rattle.pw_stitch.specs.Relabelling.{relabelled}
 use Rattle.edge_model.specs.declared.effect.Effect.{Effect}
-use Rattle.edge_model.specs.declared.effect.Effect.TheVariants.{Left, Sent, Dropped}
+use Rattle.edge_model.specs.declared.effect.Effect.TheVariants.{Left, Sent, Dropped, Pong}
 use Rattle.edge_model.specs.declared.end_place.EndPlace.{EndPlace}
 use Rattle.edge_model.specs.Ends.{wire_end}
 use Rattle.edge_model.specs.Frame.{hearing, port_at, port_forwards, tag_of, targets_of}
-use Rattle.edge_model.specs.Local.{ComesBy}
+use Rattle.edge_model.specs.Local.{ComesBy, SentBack, ToldBehind}
 use Rattle.edge_model.specs.Mend.{port_of_wire}
 use Rattle.edge_model.specs.Packet.{advertiser, behind_entry, unpacked_at}
 use Rattle.edge_model.specs.Role.{down_at}
@@ -133,3 +134,5 @@ pub data PacketWork (plan : Plan) (edge : EdgeState) (octets : List ℕ) (effect
   PacketIsDropped : (why : DropCause) → effects ≡ Dropped why ∷ [] → PacketWork plan edge octets effects
   PacketGoesOut : PacketIsCopied plan edge octets effects → PacketWork plan edge octets effects
   PacketGoesOn : PacketIsSwitched plan edge octets effects → PacketWork plan edge octets effects
+  PacketIsAnswered : (peer : EdgeId) (wire : WireId) (bytes : List ℕ) → SentBack plan edge octets peer wire arrival.Own bytes → effects ≡ Sent peer wire arrival.Own bytes ∷ [] → PacketWork plan edge octets effects
+  PacketIsTold : (wire : WireId) (sequence : ℕ) → ToldBehind plan edge octets wire sequence → effects ≡ Pong wire sequence ∷ [] → PacketWork plan edge octets effects

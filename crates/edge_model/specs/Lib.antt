@@ -1,10 +1,12 @@
 pub mod Across
 pub mod Aging
+pub mod Apart
 pub mod Circuit
 pub mod Clear
 pub mod Connection
 pub mod Content
 pub mod Copies
+pub mod Echo
 pub mod EndPlaces
 pub mod Ends
 pub mod Frame
@@ -15,6 +17,7 @@ pub mod Mended
 pub mod Packet
 pub mod Parts
 pub mod Passed
+pub mod Ping
 pub mod Put
 pub mod Released
 pub mod Role

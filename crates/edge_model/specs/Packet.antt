@@ -20,7 +20,9 @@ use Rattle.pw_stitch.specs.declared.swap_drop.SwapDrop.{SwapDrop}
 use Rattle.pw_stitch.specs.Drop.{dropped_for}
 use Rattle.pw_stitch.specs.Relabelling.{relabelled}
 use Rattle.pw_stitch.specs.Swap.{label_onward}
+use Rattle.vccv_channel.specs.declared.cc.Cc.TheVariants.{Header, Alert, Expiry}
 use Rattle.edge_model.specs.declared.end_place.EndPlace.{EndPlace}
+use Rattle.edge_model.specs.Echo.{channel_under, is_picked, verifies, verifies_in}
 use Rattle.edge_model.specs.EndPlaces.{end_places}
 use Rattle.edge_model.specs.Ends.{is_up}
 use Rattle.edge_model.specs.Frame.{received}
@@ -60,14 +62,22 @@ unpacked_at plan row me payload = unpacked_by (offer_of row me.0) (mtu_of plan r
 abbrev pub is_alert : StackEntry → Bool
 is_alert entry = entry.label == router_alert && not entry.bottom
 
--- Connectivity verification behind a router alert; no control channel type is picked yet, so it is not offered
-abbrev pub alerts_end : Option EndPlace → Work → Work
-alerts_end None work = drops cause.NoLabel work
-alerts_end (Some place) work = if place.terminal then drops cause.NotOffered work else drops cause.NoLabel work
+-- connectivity verification behind a router alert: only a bound end has picked a control channel
+abbrev pub alerts_by : Answers → EndPlace → Option WirePlan → Option Binding → List ℕ → Work → Work
+alerts_by told place None remote payload work = drops cause.NotOffered work
+alerts_by told place (Some row) None payload work = drops cause.NotOffered work
+alerts_by told place (Some row) (Some binding) payload work = verifies_in told place row Alert binding payload work
 
-abbrev pub alerted : Plan → Result StackEntry DropCause → Work → Work
-alerted plan (Err why) work = drops why work
-alerted plan (Ok entry) work = if entry.bottom then alerts_end (advertiser plan work.edge entry.label) work else drops cause.NotBottom work
+abbrev pub alerts_end : Plan → Answers → List ℕ → Option EndPlace → Work → Work
+alerts_end plan told payload None work = drops cause.NoLabel work
+alerts_end plan told payload (Some place) work =
+    if place.terminal then alerts_by told place (wire_row plan place.wire) (end_at work.edge place).remote payload work else drops cause.NoLabel work
+
+-- `octets` is what stands behind the router alert
+abbrev pub alerted : Plan → Answers → List ℕ → Result StackEntry DropCause → Work → Work
+alerted plan told octets (Err why) work = drops why work
+alerted plan told octets (Ok entry) work =
+    if entry.bottom then alerts_end plan told (behind_entry octets) (advertiser plan work.edge entry.label) work else drops cause.NotBottom work
 
 -- ---- 3. a switching point passes the packet on (RFC 6073 section 4)
 
@@ -107,21 +117,27 @@ enters plan told row place payload work =
 abbrev pub is_channel : List ℕ → Bool
 is_channel payload = slice_index payload 0 / 16 == 1
 
--- with a control word: an associated channel is connectivity verification, and no control channel type is picked yet
-abbrev pub by_control_word : Plan → Answers → WirePlan → EndPlace → List ℕ → Work → Work
-by_control_word plan told row place payload work =
+-- with a control word: an associated channel is connectivity verification (RFC 5085 section 5.1.1)
+abbrev pub by_control_word : Plan → Answers → WirePlan → EndPlace → Binding → List ℕ → Work → Work
+by_control_word plan told row place binding payload work =
     if length payload == 0 then drops cause.Short work
-    else if is_channel payload then drops cause.NotOffered work
+    else if is_channel payload then verifies_in told place row Header binding payload work
     else enters plan told row place payload work
 
-abbrev pub by_offer : Plan → Answers → WirePlan → EndPlace → Bool → List ℕ → Work → Work
-by_offer plan told row place true payload work = by_control_word plan told row place payload work
-by_offer plan told row place false payload work = enters plan told row place payload work
+-- without one: a TTL that ends here is connectivity verification, at an end that has picked that (RFC 5085 section 5.1.3)
+abbrev pub by_ttl : Plan → Answers → WirePlan → EndPlace → Binding → ℕ → List ℕ → Work → Work
+by_ttl plan told row place binding ttl payload work =
+    if ttl == 1 && is_picked Expiry (channel_under row work.edge.me binding) then verifies told place row Expiry binding payload work
+    else enters plan told row place payload work
 
-abbrev pub terminated : Plan → Answers → EndPlace → Option WirePlan → Option Binding → List ℕ → Work → Work
-terminated plan told place None remote payload work = drops cause.Down work
-terminated plan told place (Some row) None payload work = drops cause.Down work
-terminated plan told place (Some row) (Some binding) payload work = by_offer plan told row place (offer_of row work.edge.me.0).cword payload work
+abbrev pub by_offer : Plan → Answers → WirePlan → EndPlace → Binding → ℕ → Bool → List ℕ → Work → Work
+by_offer plan told row place binding ttl true payload work = by_control_word plan told row place binding payload work
+by_offer plan told row place binding ttl false payload work = by_ttl plan told row place binding ttl payload work
+
+abbrev pub terminated : Plan → Answers → EndPlace → ℕ → Option WirePlan → Option Binding → List ℕ → Work → Work
+terminated plan told place ttl None remote payload work = drops cause.Down work
+terminated plan told place ttl (Some row) None payload work = drops cause.Down work
+terminated plan told place ttl (Some row) (Some binding) payload work = by_offer plan told row place binding ttl (offer_of row work.edge.me.0).cword payload work
 
 -- ---- 2. the label is one of the edge's own
 
@@ -133,7 +149,7 @@ abbrev pub owned : Plan → Answers → List ℕ → StackEntry → Option EndPl
 owned plan told octets entry None work = drops cause.NoLabel work
 owned plan told octets entry (Some place) work =
     if place.terminal
-    then terminated plan told place (wire_row plan place.wire) (end_at work.edge place).remote (behind_entry octets) work
+    then terminated plan told place entry.ttl (wire_row plan place.wire) (end_at work.edge place).remote (behind_entry octets) work
     else switched plan told octets entry place work
 
 abbrev pub labelled : Plan → Answers → List ℕ → StackEntry → Work → Work
@@ -146,7 +162,7 @@ labelled plan told octets entry work =
 abbrev pub opened_by : Plan → Answers → List ℕ → Result StackEntry DropCause → Work → Work
 opened_by plan told octets (Err why) work = drops why work
 opened_by plan told octets (Ok entry) work =
-    if is_alert entry then alerted plan (entry_of (behind_entry octets)) work else labelled plan told octets entry work
+    if is_alert entry then alerted plan told (behind_entry octets) (entry_of (behind_entry octets)) work else labelled plan told octets entry work
 
 -- the input `Packet`: it always applies
 abbrev pub packet_input : Plan → Answers → List ℕ → Work → Work

@@ -51,6 +51,8 @@ pub record EdgeState : Type 0 where
   pub chosen : ℕ → Option WireId
   -- the label that it gives next (RFC 3032 section 2.1)
   pub next_label : ℕ
+  -- the sequence number of its next ping of each wire (RFC 792)
+  pub next_ping : ℕ → ℕ
 
 abbrev pub label_of : Option EdgePlan → ℕ
 label_of None = 16
@@ -65,8 +67,12 @@ abbrev pub priority_in : Option WirePlan → ℕ
 priority_in None = 0
 priority_in (Some row) = row.priority
 
+-- pings are numbered from 1
+abbrev pub first_ping : ℕ
+first_ping = 1
+
 -- before the first input: every circuit and every wire is on, nothing is learned, no connection stands, nothing was told, spokes
--- have the priorities of the plan, and none is chosen
+-- have the priorities of the plan, none is chosen, and nothing was pinged
 abbrev pub empty_edge : Plan → EdgeId → EdgeState
 empty_edge plan me = record {
   me = me;
@@ -81,6 +87,7 @@ empty_edge plan me = record {
   priority = λ wire. priority_in (slice_get plan.wires wire);
   chosen = λ service. None;
   next_label = first_label plan me;
+  next_ping = λ wire. first_ping;
 }
 
 abbrev pub is_on : EdgeState → CircuitId → Bool
@@ -156,9 +163,9 @@ with_ends_beside peer change edge = record edge { ends = λ wire k. if k == peer
 unfoldable pub with_renewed : WireId → EdgeState → EdgeState
 with_renewed wire edge = record edge { ends = λ k peer. if k == wire.0 then renewed (edge.ends k peer) else edge.ends k peer }
 
--- each end is as before the first input, what was told of it is forgotten, and no spoke is chosen
+-- each end is as before the first input, what was told of it and how often it was pinged is forgotten, and no spoke is chosen
 unfoldable pub without_ends : EdgeState → EdgeState
-without_ends edge = record edge { ends = λ wire peer. fresh; told_down = λ wire. Some NoLocal; chosen = λ service. None }
+without_ends edge = record edge { ends = λ wire peer. fresh; told_down = λ wire. Some NoLocal; chosen = λ service. None; next_ping = λ wire. first_ping }
 
 -- why the end of a wire does not forward was told
 unfoldable pub with_told_down : WireId → Option Down → EdgeState → EdgeState
@@ -175,6 +182,10 @@ with_chosen chosen edge = record edge { chosen = chosen }
 -- another label is next
 unfoldable pub with_next_label : ℕ → EdgeState → EdgeState
 with_next_label label edge = record edge { next_label = label }
+
+-- another sequence number of the next ping of one wire
+unfoldable pub with_next_ping : WireId → ℕ → EdgeState → EdgeState
+with_next_ping wire sequence edge = record edge { next_ping = put_at edge.next_ping wire.0 sequence }
 
 -- an edge counts its ticks up to 2^64 - 1
 abbrev pub later : ℕ → ℕ

@@ -8,11 +8,12 @@ use Rattle.edge_model.specs.Connection.{connected_input, lost_input, restart_inp
 use Rattle.edge_model.specs.Frame.{frame_input}
 use Rattle.edge_model.specs.Hear.{octets_input}
 use Rattle.edge_model.specs.Packet.{packet_input}
+use Rattle.edge_model.specs.Ping.{ping_input}
 use Rattle.edge_model.specs.Tick.{tick_input}
 use Rattle.edge_model.specs.Wire.{priority_input, status_input, wire_input}
-use Rattle.edge_model.specs.Work.{Work, Answers, idles}
+use Rattle.edge_model.specs.Work.{Work, Answers}
 
--- A row for each input, and none for the rest. No control channel is built yet (RFC 5085), so a ping does not apply
+-- A row for each input, and none for the rest
 abbrev pub edge_step : Plan → Answers → Input → Work → Work
 edge_step plan told (Connected peer) work = connected_input plan told peer work
 edge_step plan told (Octets peer bytes) work = octets_input plan told peer bytes.now (work.edge.peering peer.0) work
@@ -25,4 +26,4 @@ edge_step plan told (Circuit circuit on) work = circuit_input plan told circuit 
 edge_step plan told (Wire wire on) work = wire_input plan told wire on work
 edge_step plan told (Status wire bits) work = status_input plan told wire bits work
 edge_step plan told (Priority wire priority) work = priority_input plan told wire priority work
-edge_step plan told (Ping wire) work = idles work
+edge_step plan told (Ping wire) work = ping_input plan told wire work

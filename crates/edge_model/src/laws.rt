@@ -1,6 +1,7 @@
 //! What holds of the work of every edge.
 ghost use Rattle.edge_model.specs.Aging.{AddressesLastTheirAge};
-ghost use Rattle.edge_model.specs.Local.{FramesStayLocal, PacketsStayLocal};
+ghost use Rattle.edge_model.specs.Apart.{EchoesStayApart};
+ghost use Rattle.edge_model.specs.Local.{FramesStayLocal, PacketsStayLocal, PingsStayLocal};
 ghost use Rattle.edge_model.specs.Mended.{MendsAtOnce};
 ghost use Rattle.edge_model.specs.Parts.{EdgeHearsInParts};
 ghost use Rattle.edge_model.specs.Passed.{WithdrawalsGoOn};
@@ -17,10 +18,27 @@ pub fn frames_stay_local()
 
 /// Local isolation of packets: what an edge lets leave on a packet leaves at a circuit of the service of the wire whose label
 /// the packet has, as that circuit's dress of the packet's inner frame; and what it sends, it sends on another wire of the same
-/// service, and never from a mesh wire on a mesh wire (RFC 4762 sections 4 and 4.4).
+/// service, and never from a mesh wire on a mesh wire (RFC 4762 sections 4 and 4.4). What it sends of itself is the answer to an echo
+/// request, on the wire by which that came (RFC 5085 section 3).
 #[tactic(auto, using(crate::proofs::PacketLemmas::packets_stay_local))]
 pub fn packets_stay_local()
     ensures { PacketsStayLocal }
+{}
+
+/// Local isolation of pings: no frame leaves, and what an edge sends is one echo request on the wire that is pinged, to its far
+/// terminal edge, in the control channel that both ends have told, with the sequence number that comes next (RFC 5085 section 5).
+#[tactic(auto, using(crate::proofs::PingLemmas::pings_stay_local))]
+pub fn pings_stay_local()
+    ensures { PingsStayLocal }
+{}
+
+/// An echo packet is never unpacked as a frame (RFC 5085 sections 3 and 5): what comes in the control channel of a pseudowire,
+/// behind an associated channel header (type 1), behind a router alert label (type 2), or with a TTL that ends at the edge which
+/// has picked that (type 3), no bridge hears and no circuit lets out, in every state and whatever the link answers. It is dropped, it is told as
+/// the answer to a ping of its own wire, or it is a request, and its answer goes back by the end by which it came.
+#[tactic(auto, using(crate::proofs::ApartLemmas::echoes_stay_apart))]
+pub fn echoes_stay_apart()
+    ensures { EchoesStayApart }
 {}
 
 /// A joined piece of octets is heard like its two parts in turn, what is left of the first in front of the second, and all

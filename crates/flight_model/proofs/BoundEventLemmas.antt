@@ -31,6 +31,7 @@ use Rattle.network_model.specs.Packet.{again_event, arrive_event, discard_event,
 use Rattle.network_model.specs.State.{NetworkState, held, held_by, stands, with_frame, with_packet, with_pipe, without_octets_to, without_packet}
 use Rattle.network_model.specs.Tick.{tick_at, tick_event, ticks_from}
 use Rattle.network_model.specs.Wire.{priority_event, status_event, wire_event}
+use Rattle.network_model.specs.Ping.{ping_event, ping_work}
 use Rattle.flight_model.specs.Bound.{AreAnswers, AreBoundBy, LeavesBound}
 use Rattle.flight_model.specs.Ends.{HasTypes, IsOrdered, WorksOn, ends_at}
 use Rattle.flight_model.specs.Facts.{HoldsOfTwo, LeavesFor, Turns, flight}
@@ -49,8 +50,9 @@ use Rattle.flight_model.proofs.MendingLemmas.{mends_keep}
 use Rattle.flight_model.proofs.PipeLemmas.{pipe_from, pipe_there, pipe_to}
 use Rattle.flight_model.proofs.SettleLemmas.{apart_turned, settle}
 use Rattle.flight_model.proofs.WorkBindingLemmas.{HoldsOctets, WorksBound, bound_work_kept, leaves_octets}
-use Rattle.flight_model.proofs.WorkingLemmas.{bits_kept, circuit_kept, lost_kept, packet_kept, priority_kept, received_kept, tick_kept, wire_kept}
+use Rattle.flight_model.proofs.WorkingLemmas.{bits_kept, circuit_kept, lost_kept, packet_kept, priority_kept, received_kept, tick_kept, wire_kept, ping_kept}
 use Rattle.flight_model.proofs.WorksLemmas.{no_more, work_keeps, works_begin, works_kept}
+use Rattle.edge_model.proofs.BridgeLemmas.{PingGoes, PingIdles, PingOutcome, ping_outcome}
 
 -- the ends of wires between each two edges are bound
 abbrev pub Bounds : Plan → NetworkState → Type 0
@@ -269,6 +271,24 @@ priority_bounds plan me wire priority network checked types ordered bounds =
     (mends plan taken_all (changes (with_priority wire priority) (begin_at network me))) bounds start
     (priority_kept plan me (WorksBound plan network me checked types (λ k. held network me.0 k) start.answers) (bound_work_kept plan network me checked types (λ k. held network me.0 k) start.answers) wire priority (begin_at network me)
     (starts_bound plan network me checked types ordered bounds start))
+
+-- ---- pings
+
+pub ping_bounds : (plan : Plan) (me : EdgeId) (wire : WireId) (network : NetworkState) → IsChecked plan → HasTypes plan → IsOrdered plan network → Bounds plan network → Bounds plan (ping_event plan me wire network).state
+ping_bounds plan me wire network checked types ordered bounds = by (ping_outcome plan taken_all wire (begin_at network me)) where
+  start : Starts plan network me
+  start = starts plan network me ordered
+
+  works : WorksBound plan network me checked types (λ k. held network me.0 k) start.answers (begin_at network me)
+  works = starts_bound plan network me checked types ordered bounds start
+
+  by : PingOutcome (begin_at network me) (ping_work plan network me wire) → Bounds plan (ping_event plan me wire network).state
+  by (PingIdles is) =
+      subst (λ (work : Work). Bounds plan (answer me 0 0 work network).state) (sym is)
+      (answer_bounds plan network me false checked types (begin_at network me) bounds start works)
+  by (PingGoes only) =
+      answer_bounds plan network me true checked types (ping_work plan network me wire) bounds start
+      (ping_kept plan me (WorksBound plan network me checked types (λ k. held network me.0 k) start.answers) (bound_work_kept plan network me checked types (λ k. held network me.0 k) start.answers) wire (begin_at network me) only works)
 
 -- ---- octets are delivered
 

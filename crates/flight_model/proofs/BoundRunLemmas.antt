@@ -31,7 +31,7 @@ use Rattle.flight_model.specs.Laws.{BothStand, HasAgreed, IsRun, IsStillBetween,
 use Rattle.flight_model.specs.Pair.{ArePaired}
 use Rattle.flight_model.specs.Sound.{point_limit}
 use Rattle.flight_model.proofs.BoundConnectLemmas.{connect_bounds, low_end}
-use Rattle.flight_model.proofs.BoundEventLemmas.{Bounds, again_bounds, arrive_bounds, circuit_bounds, deliver_bounds, discard_bounds, frame_bounds, lose_bounds, restart_bounds, priority_bounds, status_bounds, tick_bounds, wire_bounds}
+use Rattle.flight_model.proofs.BoundEventLemmas.{Bounds, again_bounds, arrive_bounds, circuit_bounds, deliver_bounds, discard_bounds, frame_bounds, lose_bounds, restart_bounds, priority_bounds, status_bounds, tick_bounds, wire_bounds, ping_bounds}
 use Rattle.flight_model.proofs.EdgeBindingLemmas.{clash}
 use Rattle.flight_model.proofs.PlanLemmas.{both_in}
 use Rattle.flight_model.proofs.RuledNetworkLemmas.{IsRuledNetwork}
@@ -54,7 +54,7 @@ brings_bounds plan (Priority me wire priority) network checked types planned ord
 brings_bounds plan (Arrive number) network checked types planned ordered told bounds = arrive_bounds plan (packet_at network number) network checked types ordered bounds
 brings_bounds plan (Discard number) network checked types planned ordered told bounds = discard_bounds plan (packet_at network number) network bounds
 brings_bounds plan (Again number) network checked types planned ordered told bounds = again_bounds plan (packet_at network number) network bounds
-brings_bounds plan (Ping me wire) network checked types planned ordered told bounds = bounds
+brings_bounds plan (Ping me wire) network checked types planned ordered told bounds = ping_bounds plan me wire network checked types ordered bounds
 
 after_bounds : (plan : Plan) (events : List Event) (network : NetworkState) → IsChecked plan → HasTypes plan → All (IsEventOf plan) events → IsOrdered plan network → IsRuledNetwork plan network → Bounds plan network → Bounds plan (state_after plan network events)
 after_bounds plan [] network checked types planned ordered ruled bounds = bounds

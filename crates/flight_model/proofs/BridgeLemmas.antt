@@ -1,6 +1,6 @@
 -- An edge that bridges a frame, or a packet, says nothing to a neighbour and changes nothing of its ends: only what its bridges
 -- have learned, the calls of its link and what it gives out are others.
-use Rattle.std.proofs.Common.{◌≡◌, ◌++◌, ◌||◌, ◌∙◌, ℕ, true, false, List, [], ◌∷◌, Option, Result, refl, ap}
+use Rattle.std.proofs.Common.{◌≡◌, ◌++◌, ◌||◌, ◌∙◌, ℕ, true, false, List, [], ◌∷◌, Option, Result, refl, ap, sym, subst}
 use Rattle.net_base.specs.declared.plan.Plan.{Plan}
 use Rattle.net_base.specs.declared.plan.places.EdgeId.{EdgeId}
 use Rattle.net_base.specs.declared.plan.places.ServiceId.{ServiceId}
@@ -12,8 +12,8 @@ use Rattle.edge_model.specs.Frame.{received}
 use Rattle.edge_model.specs.Packet.{packet_input}
 use Rattle.edge_model.specs.State.{EdgeState}
 use Rattle.edge_model.specs.Work.{Work, Answers}
-use Rattle.edge_model.proofs.BridgeLemmas.{BridgesOnly, LearnsOnly, is_of_bridging, packet_bridges, received_bridges}
-use Rattle.edge_model.proofs.SessionLemmas.{are_all}
+use Rattle.edge_model.proofs.BridgeLemmas.{BridgesOnly, LearnsOnly, PingsOnly, is_of_bridging, packet_bridges, received_bridges, with_pings}
+use Rattle.edge_model.proofs.SessionLemmas.{are_all, GivesOnly}
 use Rattle.flight_model.specs.Meeting.{IsFine, Spares, TellWell, closes, said_to}
 use Rattle.flight_model.proofs.KeepLemmas.{KeepsEnds}
 use Rattle.flight_model.proofs.WorkLemmas.{closes-append, or_false, said-append, same_end}
@@ -53,7 +53,7 @@ more_quiet (effect.Dropped cause ∷ es) all = (let rest = more_quiet es all in 
 more_quiet (effect.Said peer octets ∷ es) all = clash all
 more_quiet (effect.Session peer state ∷ es) all = clash all
 more_quiet (effect.Wire wire down ∷ es) all = clash all
-more_quiet (effect.Pong wire sequence ∷ es) all = clash all
+more_quiet (effect.Pong wire sequence ∷ es) all = (let rest = more_quiet es all in record { says = rest.says; shuts = rest.shuts; well = (tt, rest.well) })
 more_quiet (effect.Closed peer ∷ es) all = clash all
 
 well_more : (es more : List Effect) → TellWell es → TellWell more → TellWell (es ++ more)
@@ -64,23 +64,35 @@ well_more (e ∷ es) more well rest = (well.0, well_more es more well.1 rest)
 pub learns_keeps : (old new : EdgeState) → LearnsOnly old new → KeepsEnds old new
 learns_keeps old new only = record { me = only.me; wire_on = only.wires; bits = only.bits; ends = only.ends; told_down = only.downs; next_label = only.labels }
 
-pub bridges_are : (old new : Work) → BridgesOnly old new → IsBridged old new
-bridges_are old new only = record {
-  keeps = learns_keeps old.edge new.edge only.edge;
-  peering = only.edge.peering;
-  said = λ place. ap (said_to place) only.effects.given
+-- sessions and ends are left as they were, and only effects of bridging are given out
+given_are : (old new : Work) → KeepsEnds old.edge new.edge → new.edge.peering ≡ old.edge.peering → GivesOnly is_of_bridging old.effects new.effects → new.idle ≡ old.idle → IsBridged old new
+given_are old new keeps peering gives idle = record {
+  keeps = keeps;
+  peering = peering;
+  said = λ place. ap (said_to place) gives.given
       ∙ (said-append place old.effects more ∙ (ap (λ (l : List ℕ). said_to place old.effects ++ l) (quiet.says place) ∙ same_end (said_to place old.effects)));
-  closed = λ place. ap (closes place) only.effects.given
+  closed = λ place. ap (closes place) gives.given
       ∙ (closes-append place old.effects more ∙ (ap (λ b. closes place old.effects || b) (quiet.shuts place) ∙ or_false (closes place old.effects)));
-  well = λ well. rw only.effects.given (well_more old.effects more well quiet.well);
-  idle = only.idle;
+  well = λ well. rw gives.given (well_more old.effects more well quiet.well);
+  idle = idle;
 }
   where
     more : List Effect
-    more = only.effects.more
+    more = gives.more
 
     quiet : AreQuiet more
-    quiet = more_quiet more only.effects.own
+    quiet = more_quiet more gives.own
+
+pub bridges_are : (old new : Work) → BridgesOnly old new → IsBridged old new
+bridges_are old new only = given_are old new (learns_keeps old.edge new.edge only.edge) only.edge.peering only.effects only.idle
+
+pings_keep : (pings : ℕ → ℕ) (edge : EdgeState) → KeepsEnds edge (with_pings pings edge)
+pings_keep pings edge = record { me = refl; wire_on = refl; bits = refl; ends = refl; told_down = refl; next_label = refl }
+
+-- so it is with a ping that applies
+pub pings_are : (old new : Work) → PingsOnly old new → IsBridged old new
+pings_are old new only =
+    given_are old new (subst (KeepsEnds old.edge) (sym only.edge) (pings_keep only.pings old.edge)) (ap (λ (edge : EdgeState). edge.peering) only.edge) only.effects only.idle
 
 -- ---- a frame or a packet is bridged
 

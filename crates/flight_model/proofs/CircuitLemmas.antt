@@ -1,5 +1,5 @@
 -- Events at one edge that touch its sessions only by what they have it tell: frames, packets, circuits, wires and failure bits.
-use Rattle.std.proofs.Common.{◌≡◌, ◌≤◌, ◌&&◌, ℕ, Bool, true, false, cond, not, nat_eq, List, Option, Some, None, refl}
+use Rattle.std.proofs.Common.{◌≡◌, ◌≤◌, ◌&&◌, ℕ, Bool, true, false, cond, not, nat_eq, List, Option, Some, None, refl, sym, subst}
 use Rattle.net_base.specs.declared.plan.Plan.{Plan}
 use Rattle.net_base.specs.declared.plan.circuit_plan.CircuitPlan.{CircuitPlan}
 use Rattle.net_base.specs.declared.plan.places.CircuitId.{CircuitId}
@@ -23,10 +23,12 @@ use Rattle.network_model.specs.declared.packet.Packet.{Packet}
 use Rattle.network_model.specs.Packet.{again_event, arrive_event, discard_event, packet_work, repeating}
 use Rattle.network_model.specs.State.{NetworkState, with_frame, with_packet, without_packet}
 use Rattle.network_model.specs.Wire.{priority_event, status_event, wire_event}
+use Rattle.network_model.specs.Ping.{ping_event, ping_work}
 use Rattle.flight_model.specs.Ends.{HasTypes, IsOrdered, KeepsOrder, WorksOn}
 use Rattle.flight_model.proofs.EventLemmas.{idle_keeps}
-use Rattle.flight_model.proofs.WorkingLemmas.{bits_kept, circuit_kept, packet_kept, priority_kept, received_kept, wire_kept}
+use Rattle.flight_model.proofs.WorkingLemmas.{bits_kept, circuit_kept, packet_kept, priority_kept, received_kept, wire_kept, ping_kept}
 use Rattle.flight_model.proofs.WorksLemmas.{work_keeps, works_begin, works_kept}
+use Rattle.edge_model.proofs.BridgeLemmas.{PingGoes, PingIdles, PingOutcome, ping_outcome}
 
 pub idles_are : (work : Work) → (idles work).idle ≡ true
 unfolding idles
@@ -128,3 +130,16 @@ pub priority_keeps : (plan : Plan) (me : EdgeId) (wire : WireId) (priority : ℕ
 priority_keeps plan me wire priority network checked types ordered =
     answer_keeps plan network me (is_own_spoke (begin_at network me).edge.me (wire_row plan wire) && not (nat_eq priority ((begin_at network me).edge.priority wire.0))) (mends plan taken_all (changes (with_priority wire priority) (begin_at network me))) ordered
     (priority_kept plan me (WorksOn plan network me) (works_kept plan network me checked types) wire priority (begin_at network me) (works_begin plan network me ordered))
+
+-- ---- pings
+
+pub ping_keeps : (plan : Plan) (me : EdgeId) (wire : WireId) (network : NetworkState) → IsChecked plan → HasTypes plan → IsOrdered plan network → KeepsOrder plan (ping_event plan me wire network)
+ping_keeps plan me wire network checked types ordered = by (ping_outcome plan taken_all wire (begin_at network me)) where
+  works : WorksOn plan network me (begin_at network me)
+  works = works_begin plan network me ordered
+
+  by : PingOutcome (begin_at network me) (ping_work plan network me wire) → KeepsOrder plan (ping_event plan me wire network)
+  by (PingIdles is) = subst (λ (work : Work). KeepsOrder plan (answer me 0 0 work network)) (sym is) (answer_keeps plan network me false (begin_at network me) ordered works)
+  by (PingGoes only) =
+      answer_keeps plan network me true (ping_work plan network me wire) ordered
+      (ping_kept plan me (WorksOn plan network me) (works_kept plan network me checked types) wire (begin_at network me) only works)

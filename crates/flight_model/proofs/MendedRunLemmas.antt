@@ -29,10 +29,11 @@ use Rattle.edge_model.specs.Mend.{is_up_with, mends, wish_by, wish_of}
 use Rattle.edge_model.specs.Packet.{packet_input}
 use Rattle.edge_model.specs.Session.{happens_with_ends}
 use Rattle.edge_model.specs.State.{EdgeState, Peering, empty_edge, has_end, with_addresses, with_bits, with_circuit, with_learned, with_priority, with_renewed, with_wire, without_ends, without_peerings}
+use Rattle.edge_model.specs.Ping.{ping_input}
 use Rattle.edge_model.specs.Tick.{counted, forgetting, tick_input, ticks_sessions}
 use Rattle.edge_model.specs.Wire.{is_own_spoke, priority_input, status_input, turned_wire, wire_input}
 use Rattle.edge_model.specs.Work.{Work, changes, idles}
-use Rattle.edge_model.proofs.BridgeLemmas.{LearnsOnly, frame_bridges, learns_is, packet_bridges}
+use Rattle.edge_model.proofs.BridgeLemmas.{LearnsOnly, PingsInput, frame_bridges, learns_is, packet_bridges, ping_bridges}
 use Rattle.edge_model.proofs.MendedLemmas.{IsMended, is_mended, is_told, mends_mended}
 use Rattle.edge_model.proofs.OneEndLemmas.{has_one_end}
 use Rattle.edge_model.proofs.SessionLemmas.{any, connects_works, happens_with_ends_works}
@@ -43,6 +44,7 @@ use Rattle.network_model.specs.Connection.{can_connect, connect_event, connected
 use Rattle.network_model.specs.declared.packet.Packet.{Packet}
 use Rattle.network_model.specs.Frame.{entering, frame_event, frame_work, next_origin}
 use Rattle.network_model.specs.Packet.{again_event, arrive_event, discard_event, packet_at, packet_work}
+use Rattle.network_model.specs.Ping.{ping_event, ping_work}
 use Rattle.network_model.specs.Run.{state_after}
 use Rattle.network_model.specs.State.{NetworkState, edge_at, empty_network, stands, with_edge, with_frame, with_packet, with_pipe, without_octets_to, without_packet}
 use Rattle.network_model.specs.Step.{step}
@@ -153,6 +155,11 @@ module _ (plan : Plan) (checked : IsChecked plan) where
 
     packet_mend : (octets : List ℕ) → IsMendedAt plan k (packet_input plan taken_all octets work).edge
     packet_mend octets = learns_mend (packet_input plan taken_all octets work).edge (packet_bridges plan taken_all octets work).edge
+
+    ping_mend : (wire : WireId) → IsMendedAt plan k (ping_input plan taken_all wire work).edge
+    ping_mend wire =
+        let pings : PingsInput work (ping_input plan taken_all wire work) = ping_bridges plan taken_all wire work in
+        subst (IsMendedAt plan k) (sym pings.edge) (record { me = mended.me; ends = mended.ends; statuses = mended.statuses })
 
     wire_mend : (wire : WireId) (on : Bool) → IsMendedAt plan k (wire_input plan taken_all wire on work).edge
     wire_mend wire on = applies_mend (passes plan work.edge.me wire && not (is_same on (work.edge.wire_on wire.0))) (changes (turned_wire wire on) work) (turned_wire_me wire on work)
@@ -288,6 +295,9 @@ module _ (plan : Plan) (checked : IsChecked plan) where
       let work : Work = priority_input plan taken_all wire priority (begin_at network me) in
       answer_holds me 0 0 work network holds (priority_mend me.0 (begin_at network me) (holds me.0) wire priority)
 
+  ping_keeps : (me : EdgeId) (wire : WireId) (network : NetworkState) → HoldsOfEach (IsMendedAt plan) network → HoldsOfEach (IsMendedAt plan) (ping_event plan me wire network).state
+  ping_keeps me wire network holds = answer_holds me 0 0 (ping_work plan network me wire) network holds (ping_mend me.0 (begin_at network me) (holds me.0) wire)
+
   -- ---- packets
 
   without_holds : (number : ℕ) (network : NetworkState) → HoldsOfEach (IsMendedAt plan) network → HoldsOfEach (IsMendedAt plan) (without_packet number network)
@@ -326,7 +336,7 @@ module _ (plan : Plan) (checked : IsChecked plan) where
   event_holds (Arrive number) network holds = arrive_holds (packet_at network number) network holds
   event_holds (Discard number) network holds = discard_holds (packet_at network number) network holds
   event_holds (Again number) network holds = again_holds (packet_at network number) network holds
-  event_holds (Ping me wire) network holds = holds
+  event_holds (Ping me wire) network holds = ping_keeps me wire network holds
 
   after_holds : (events : List Event) (network : NetworkState) → HoldsOfEach (IsMendedAt plan) network → HoldsOfEach (IsMendedAt plan) (state_after plan network events)
   after_holds [] network holds = holds

@@ -30,10 +30,11 @@ use Rattle.network_model.specs.Packet.{again_event, arrive_event, discard_event,
 use Rattle.network_model.specs.State.{NetworkState, stands, with_frame, with_packet, without_octets_to, without_packet}
 use Rattle.network_model.specs.Tick.{tick_at, tick_event, ticks_from}
 use Rattle.network_model.specs.Wire.{priority_event, status_event, wire_event}
+use Rattle.network_model.specs.Ping.{ping_event, ping_work}
 use Rattle.flight_model.specs.Ends.{HasTypes}
 use Rattle.flight_model.specs.Facts.{FromBoth, HoldsBut, flight}
 use Rattle.flight_model.proofs.NameLemmas.{KeepsNames, names_restarted, names_same}
-use Rattle.flight_model.proofs.RuledInputLemmas.{circuit_ruled, idle_ruled, lost_ruled, packet_ruled, priority_ruled, received_ruled, status_ruled, tick_ruled, wire_ruled}
+use Rattle.flight_model.proofs.RuledInputLemmas.{circuit_ruled, idle_ruled, lost_ruled, packet_ruled, priority_ruled, received_ruled, status_ruled, tick_ruled, wire_ruled, ping_ruled}
 use Rattle.flight_model.proofs.RuledLemmas.{IsRuledEdge, WorksRuled, steps_keep}
 use Rattle.flight_model.proofs.RuledNetworkLemmas.{IsRuledNetwork, OutRules, RulesTo, StaysRuled, held_at, ruled_answer, ruled_begin, ruled_settle, ruled_work, stays_ruled, stays_then}
 use Rattle.flight_model.proofs.SettleLemmas.{apart_turned}
@@ -129,6 +130,11 @@ module _ (plan : Plan) (checked : IsChecked plan) (types : HasTypes plan) where
     by_test : (b : Bool) → StaysRuled plan network (answer me 0 0 (cond b (mends plan taken_all (changes (with_priority wire priority) begun)) (idles begun)) network).state
     by_test true = ruled_answer plan network me 0 0 (mends plan taken_all (changes (with_priority wire priority) begun)) ruled (priority_ruled plan checked types network.edges me (network.edges me.0) (held_at network me.0) wire priority begun works)
     by_test false = ruled_answer plan network me 0 0 (idles begun) ruled (idle_ruled plan checked types network.edges me (network.edges me.0) (held_at network me.0) begun works)
+
+  pub ping_event_ruled : (me : EdgeId) (wire : WireId) (network : NetworkState) → IsRuledNetwork plan network → StaysRuled plan network (ping_event plan me wire network).state
+  ping_event_ruled me wire network ruled =
+      ruled_answer plan network me 0 0 (ping_work plan network me wire) ruled
+      (ping_ruled plan checked types network.edges me (network.edges me.0) (held_at network me.0) taken_all wire (begin_at network me) (ruled_begin plan network me ruled))
 
   -- ---- frames
 

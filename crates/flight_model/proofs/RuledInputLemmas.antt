@@ -1,5 +1,5 @@
 -- Each input of an edge keeps the rules of labels and of told contents.
-use Rattle.std.proofs.Common.{◌≡◌, ◌≤◌, ◌+◌, ℕ, zero, suc, Bool, true, false, cond, nat_eq, length, List, Option, Result, refl, subst}
+use Rattle.std.proofs.Common.{◌≡◌, ◌≤◌, ◌+◌, ℕ, zero, suc, Bool, true, false, cond, nat_eq, length, List, Option, Result, refl, subst, sym}
 use Rattle.net_base.specs.declared.plan.Plan.{Plan}
 use Rattle.net_base.specs.declared.plan.circuit_plan.CircuitPlan.{CircuitPlan}
 use Rattle.net_base.specs.declared.plan.places.CircuitId.{CircuitId}
@@ -21,16 +21,18 @@ use Rattle.edge_model.specs.State.{EdgeState, with_addresses, with_bits, with_ci
 use Rattle.edge_model.specs.Tick.{counted, forgetting, ticks_sessions}
 use Rattle.edge_model.specs.Wire.{turned_wire}
 use Rattle.edge_model.specs.Work.{Work, Answers, changes, idles}
+use Rattle.edge_model.specs.Ping.{ping_input}
 use Rattle.network_model.specs.Absorb.{taken_all}
 use Rattle.flight_model.specs.Ends.{HasTypes}
 use Rattle.flight_model.specs.Rules.{BindsGiven}
-use Rattle.flight_model.proofs.BridgeLemmas.{IsBridged, packet_bridged, received_bridged}
+use Rattle.flight_model.proofs.BridgeLemmas.{IsBridged, packet_bridged, received_bridged, pings_are}
 use Rattle.flight_model.proofs.MendingLemmas.{mends_keep}
 use Rattle.flight_model.proofs.NameLemmas.{names_renewed, names_still, renewed_fact}
 use Rattle.flight_model.proofs.RuledLemmas.{ChangesEnds, IsQuietStep, SameEnds, WorksRuled, changes_keep, quiet_keeps}
 use Rattle.flight_model.proofs.RuledMendLemmas.{rows_ruled}
 use Rattle.flight_model.proofs.RuledSessionLemmas.{event_ruled}
 use Rattle.flight_model.proofs.ToldLemmas.{TellsAt, local_tells, near_renewed}
+use Rattle.edge_model.proofs.BridgeLemmas.{PingGoes, PingIdles, PingOutcome, ping_outcome}
 
 -- ---- what is no matter of labels
 
@@ -172,3 +174,11 @@ module _ (plan : Plan) (checked : IsChecked plan) (types : HasTypes plan) (other
 
   pub packet_ruled : (told : Answers) (octets : List ℕ) (work : Work) → WorksRuled plan others me.0 first held work → WorksRuled plan others me.0 first held (packet_input plan told octets work)
   packet_ruled told octets work works = bridged_ruled work _ (packet_bridged plan told octets work) works
+
+  -- ---- pings
+
+  pub ping_ruled : (told : Answers) (wire : WireId) (work : Work) → WorksRuled plan others me.0 first held work → WorksRuled plan others me.0 first held (ping_input plan told wire work)
+  ping_ruled told wire work works = by (ping_outcome plan told wire work) where
+    by : PingOutcome work (ping_input plan told wire work) → WorksRuled plan others me.0 first held (ping_input plan told wire work)
+    by (PingIdles is) = subst (WorksRuled plan others me.0 first held) (sym is) (idle_ruled work works)
+    by (PingGoes only) = bridged_ruled work _ (pings_are work _ only) works

@@ -21,7 +21,7 @@ use Rattle.flight_model.specs.Rules.{NamesFar, NamesOwn, TellsPlan}
 use Rattle.flight_model.proofs.MentionLemmas.{all_kept}
 use Rattle.flight_model.proofs.PlanLemmas.{row_holds}
 use Rattle.flight_model.proofs.RuledDeliverLemmas.{connect_event_ruled, deliver_event_ruled, ruled_said}
-use Rattle.flight_model.proofs.RuledEventLemmas.{again_event_ruled, arrive_event_ruled, circuit_event_ruled, discard_event_ruled, frame_event_ruled, lose_ruled, priority_event_ruled, restart_event_ruled, status_event_ruled, tick_event_ruled, wire_event_ruled}
+use Rattle.flight_model.proofs.RuledEventLemmas.{again_event_ruled, arrive_event_ruled, circuit_event_ruled, discard_event_ruled, frame_event_ruled, lose_ruled, priority_event_ruled, restart_event_ruled, status_event_ruled, tick_event_ruled, wire_event_ruled, ping_event_ruled}
 use Rattle.flight_model.proofs.RuledLemmas.{IsRuled}
 use Rattle.flight_model.proofs.RuledNetworkLemmas.{IsRuledNetwork, RulesTo, StaysRuled, stays_ruled}
 use Rattle.flight_model.proofs.RunLemmas.{empty_ordered, run_ordered, step_keeps}
@@ -44,7 +44,7 @@ brings_stays plan (Priority me wire priority) network checked types planned orde
 brings_stays plan (Arrive number) network checked types planned ordered ruled = arrive_event_ruled plan checked types (packet_at network number) network ruled
 brings_stays plan (Discard number) network checked types planned ordered ruled = discard_event_ruled plan checked types (packet_at network number) network ruled
 brings_stays plan (Again number) network checked types planned ordered ruled = again_event_ruled plan checked types (packet_at network number) network ruled
-brings_stays plan (Ping me wire) network checked types planned ordered ruled = stays_ruled plan network ruled
+brings_stays plan (Ping me wire) network checked types planned ordered ruled = ping_event_ruled plan checked types me wire network ruled
 
 pub brings_ruled : (plan : Plan) (event : Event) (network : NetworkState) → IsChecked plan → HasTypes plan → IsEventOf plan event → IsOrdered plan network → IsRuledNetwork plan network → IsRuledNetwork plan (brings plan event network).state
 brings_ruled plan event network checked types planned ordered ruled = (brings_stays plan event network checked types planned ordered ruled).ruled

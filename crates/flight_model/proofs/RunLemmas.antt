@@ -27,7 +27,7 @@ use Rattle.flight_model.specs.Flight.{is_row}
 use Rattle.flight_model.specs.Laws.{BothStand, FollowsTable, HasRow, IsRun, IsStillBetween, IsUp, RunsComeUp, RunsEndWell, RunsFollowTable, network_after}
 use Rattle.flight_model.specs.Messages.{octets_of_all}
 use Rattle.flight_model.specs.Pair.{ArePaired}
-use Rattle.flight_model.proofs.CircuitLemmas.{again_keeps, arrive_keeps, circuit_keeps, discard_keeps, frame_keeps, priority_keeps, status_keeps, wire_keeps}
+use Rattle.flight_model.proofs.CircuitLemmas.{again_keeps, arrive_keeps, circuit_keeps, discard_keeps, frame_keeps, priority_keeps, status_keeps, wire_keeps, ping_keeps}
 use Rattle.flight_model.proofs.ConnectLemmas.{connect_keeps}
 use Rattle.flight_model.proofs.EventLemmas.{deliver_keeps, idle_keeps, lose_keeps, restart_keeps, tick_keeps}
 use Rattle.flight_model.proofs.PipeLemmas.{good-append}
@@ -50,7 +50,7 @@ brings_keeps plan (Priority me wire priority) network checked types planned orde
 brings_keeps plan (Arrive number) network checked types planned ordered = arrive_keeps plan (packet_at network number) network checked types ordered
 brings_keeps plan (Discard number) network checked types planned ordered = discard_keeps plan (packet_at network number) network ordered
 brings_keeps plan (Again number) network checked types planned ordered = again_keeps plan (packet_at network number) network ordered
-brings_keeps plan (Ping me wire) network checked types planned ordered = idle_keeps plan network ordered
+brings_keeps plan (Ping me wire) network checked types planned ordered = ping_keeps plan me wire network checked types ordered
 
 pub step_keeps : (plan : Plan) (event : Event) (network : NetworkState) → IsChecked plan → HasTypes plan → IsEventOf plan event → IsOrdered plan network → KeepsOrder plan (step plan network event)
 step_keeps plan event network checked types planned ordered =

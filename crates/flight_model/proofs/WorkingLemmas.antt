@@ -19,10 +19,12 @@ use Rattle.edge_model.specs.State.{EdgeState, with_addresses, with_bits, with_ci
 use Rattle.edge_model.specs.Tick.{counted, forgetting, tick_input, ticks_sessions}
 use Rattle.edge_model.specs.Wire.{turned_wire}
 use Rattle.edge_model.specs.Work.{Work, Answers, changes}
+use Rattle.edge_model.specs.Ping.{ping_input}
 use Rattle.network_model.specs.Absorb.{taken_all}
-use Rattle.flight_model.proofs.BridgeLemmas.{IsBridged, packet_bridged, received_bridged}
+use Rattle.flight_model.proofs.BridgeLemmas.{IsBridged, packet_bridged, received_bridged, pings_are}
 use Rattle.flight_model.proofs.KeepLemmas.{KeepsEnds}
 use Rattle.flight_model.proofs.MendingLemmas.{KeptByRows, mends_keep}
+use Rattle.edge_model.proofs.BridgeLemmas.{PingsOnly}
 
 -- what the parts of an edge's work keep, beside octets that it hears, a connection that comes up, and a restart
 pub record KeptByWork (plan : Plan) (me : EdgeId) (I : Work → Type 0) : Type 0 where
@@ -97,3 +99,7 @@ module _ (plan : Plan) (me : EdgeId) (I : Work → Type 0) (kept : KeptByWork pl
 
   pub packet_kept : (told : Answers) (octets : List ℕ) (work : Work) → I work → I (packet_input plan told octets work)
   packet_kept told octets work i = kept.bridges work _ (packet_bridged plan told octets work) i
+
+  -- a ping that applies
+  pub ping_kept : (wire : WireId) (work : Work) → PingsOnly work (ping_input plan taken_all wire work) → I work → I (ping_input plan taken_all wire work)
+  ping_kept wire work only i = kept.bridges work _ (pings_are work _ only) i

@@ -27,15 +27,18 @@ use Rattle.pw_signalling.specs.Laws.{BothAgree}
 use Rattle.pw_signalling.proofs.LawLemmas.{forwards_where_both_agree}
 use Rattle.edge_model.specs.declared.end_place.EndPlace.{EndPlace}
 use Rattle.edge_model.specs.EndPlaces.{end_places, is_end_of_wire, is_terminal}
+use Rattle.vccv_channel.specs.declared.cc.Cc.TheVariants.{Header, Expiry}
+use Rattle.edge_model.specs.Echo.{channel_under, is_picked, verifies, verifies_in}
 use Rattle.edge_model.specs.Ends.{end_forwards, forwards_at, is_up, wire_end}
 use Rattle.edge_model.specs.Frame.{forwarded}
+use Rattle.edge_model.specs.Local.{ComesInChannel}
 use Rattle.edge_model.specs.Packet.{advertiser, advertises_label, alerted, behind_entry, bridges_frame, by_offer, enters, is_channel, labelled, least_label, opened_by, owned, switched, terminated, unpacked_at}
 use Rattle.edge_model.specs.Role.{down_at, role_at, role_in}
 use Rattle.edge_model.specs.Send.{drops}
 use Rattle.edge_model.specs.State.{EdgeState, end_at}
 use Rattle.edge_model.specs.Work.{Work}
 use Rattle.edge_model.proofs.CopyLemmas.{IsWireEnd, found_end}
-use Rattle.edge_model.proofs.PacketLemmas.{packet_is, wire_found}
+use Rattle.edge_model.proofs.PacketLemmas.{packet_is, picked_is, wire_found}
 use Rattle.edge_model.proofs.PlaceLemmas.{IsEndOf}
 use Rattle.network_model.specs.declared.packet.Packet.{Packet}
 use Rattle.network_model.specs.Absorb.{begin_at, taken_all}
@@ -45,6 +48,7 @@ use Rattle.network_model.specs.Window.{carried, carried_by}
 use Rattle.flight_model.proofs.RuledNetworkLemmas.{IsRuledNetwork}
 use Rattle.packet_model.specs.Carried.{IsCarried}
 use Rattle.packet_model.proofs.ArriveLemmas.{IsOwner, IsSized, come_sized, owner_is}
+use Rattle.packet_model.proofs.EchoArriveLemmas.{frame_ttl, not_in_channel}
 use Rattle.packet_model.proofs.PackLemmas.{wire_checked}
 use Rattle.packet_model.proofs.SendLemmas.{come_of, same_row, wire_end_is}
 use Rattle.network_model.proofs.WayLemmas.{behind_first, earlier_stands, either_here, joins_is, once_behind, same_number}
@@ -173,7 +177,7 @@ module _ (plan : Plan) (network : NetworkState) (trace : List Entry) (packet : P
   pub opened : packet_work plan network packet ≡ owned plan taken_all packet.bytes entry (advertiser plan edge rule.label) work
   opened =
       ap (λ r. opened_by plan taken_all packet.bytes r work) arrives_under
-      ∙ (ap (λ (b : Bool). cond b (alerted plan (entry_of (behind_entry packet.bytes)) work) (labelled plan taken_all packet.bytes entry work)) (and_false (nat_eq rule.label 1))
+      ∙ (ap (λ (b : Bool). cond b (alerted plan taken_all (behind_entry packet.bytes) (entry_of (behind_entry packet.bytes)) work) (labelled plan taken_all packet.bytes entry work)) (and_false (nat_eq rule.label 1))
       ∙ ap (λ (b : Bool). cond b (drops cause.NoLabel work) (owned plan taken_all packet.bytes entry (advertiser plan edge rule.label) work)) given)
 
   -- ---- at a terminal edge
@@ -236,7 +240,7 @@ module _ (plan : Plan) (network : NetworkState) (trace : List Entry) (packet : P
         let is : wire_row plan place.wire ≡ Some rule.row = ap (wire_row plan) beside.wire ∙ rule.is in
         let agree : BothAgree (end_at edge place) = forwards_where_both_agree (role_at plan edge place) (edge.bits place.wire.0) (end_at edge place) up in
         packet_is plan taken_all packet.bytes rule.frame work place rule.row agree.binding
-        (record { entry = entry; read = arrives_under; owner = owner; terminal = beside.terminal; is = is; forwards = up }) refl given agree.bound unpacks
+        (record { entry = entry; read = arrives_under; owner = owner; terminal = beside.terminal; is = is; forwards = up }) refl given (frame_ttl plan network trace packet checked ruled rule) agree.bound unpacks
         ∙ (ap (λ (w : WireId). forwarded plan taken_all (arrival.Wire w) rule.row.service rule.frame (position (is_wire_port w) (ports_of plan rule.row.service edge.me)) work) beside.wire
         ∙ ap (λ (k : EdgeId). forwarded plan taken_all (arrival.Wire packet.wire) rule.row.service rule.frame (position (is_wire_port packet.wire) (ports_of plan rule.row.service k)) work) at)
 
@@ -255,33 +259,62 @@ module _ (plan : Plan) (network : NetworkState) (trace : List Entry) (packet : P
     enters_drops : (place : EndPlace) (why : Down) → down_at plan edge place ≡ Some why → enters plan taken_all rule.row place (behind_entry packet.bytes) work ≡ drops cause.Down work
     enters_drops place why is_down = ap (λ (d : Option Down). cond (is_up d) (bridges_frame plan taken_all rule.row place (behind_entry packet.bytes) work) (drops cause.Down work)) is_down
 
-    offer_drops : (place : EndPlace) (why : Down) (cword : Bool) → down_at plan edge place ≡ Some why → Drops work (by_offer plan taken_all rule.row place cword (behind_entry packet.bytes) work)
-    offer_drops place why false is_down = record { why = cause.Down; is = enters_drops place why is_down }
-    offer_drops place why true is_down = by (nat_eq (length (behind_entry packet.bytes)) 0) (is_channel (behind_entry packet.bytes)) where
-      by : (empty channel : Bool) → Drops work (cond empty (drops cause.Short work) (cond channel (drops cause.NotOffered work) (enters plan taken_all rule.row place (behind_entry packet.bytes) work)))
-      by true channel = record { why = cause.Short; is = refl }
-      by false true = record { why = cause.NotOffered; is = refl }
-      by false false = record { why = cause.Down; is = enters_drops place why is_down }
+    -- nor is it taken for a ping
+    offer_drops : (place : EndPlace) (binding : Binding) (why : Down) (cword : Bool) → advertiser plan edge rule.label ≡ Some place → (end_at edge place).remote ≡ Some binding → down_at plan edge place ≡ Some why
+        → Drops work (by_offer plan taken_all rule.row place binding rule.packed.ttl cword (behind_entry packet.bytes) work)
+    offer_drops place binding why false owner bound is_down = record {
+      why = cause.Down;
+      is = ap (λ (b : Bool). cond (b && is_picked Expiry (channel_under rule.row edge.me binding)) (verifies taken_all place rule.row Expiry binding (behind_entry packet.bytes) work)
+          (enters plan taken_all rule.row place (behind_entry packet.bytes) work)) (frame_ttl plan network trace packet checked ruled rule)
+          ∙ enters_drops place why is_down;
+    }
+    offer_drops place binding why true owner bound is_down = by (nat_eq (length (behind_entry packet.bytes)) 0) (is_channel (behind_entry packet.bytes)) refl where
+      beside : IsBeside packet place
+      beside = owner_beside place owner
+
+      comes : is_channel (behind_entry packet.bytes) ≡ true → is_picked Header (channel_under rule.row edge.me binding) ≡ true → ComesInChannel plan edge packet.bytes place rule.row Header binding
+      comes channel picks = record {
+        entry = entry;
+        read = arrives_under;
+        channel = channel;
+        owner = owner;
+        terminal = beside.terminal;
+        is = ap (wire_row plan) beside.wire ∙ rule.is;
+        bound = bound;
+        picked = picked_is Header (channel_under rule.row edge.me binding) picks;
+      }
+
+      offered : is_channel (behind_entry packet.bytes) ≡ true → (b : Bool) → is_picked Header (channel_under rule.row edge.me binding) ≡ b
+          → Drops work (cond b (verifies taken_all place rule.row Header binding (behind_entry packet.bytes) work) (drops cause.NotOffered work))
+      offered channel true picks = absurd (not_in_channel plan network trace packet checked ruled rule place rule.row Header binding (comes channel picks))
+      offered channel false picks = record { why = cause.NotOffered; is = refl }
+
+      by : (empty channel : Bool) → is_channel (behind_entry packet.bytes) ≡ channel
+          → Drops work (cond empty (drops cause.Short work) (cond channel (verifies_in taken_all place rule.row Header binding (behind_entry packet.bytes) work) (enters plan taken_all rule.row place (behind_entry packet.bytes) work)))
+      by true channel is = record { why = cause.Short; is = refl }
+      by false true is = offered is (is_picked Header (channel_under rule.row edge.me binding)) refl
+      by false false is = record { why = cause.Down; is = enters_drops place why is_down }
 
     terminated_at : (place : EndPlace) → advertiser plan edge rule.label ≡ Some place
-        → packet_work plan network packet ≡ terminated plan taken_all place (Some rule.row) (end_at edge place).remote (behind_entry packet.bytes) work
+        → packet_work plan network packet ≡ terminated plan taken_all place rule.packed.ttl (Some rule.row) (end_at edge place).remote (behind_entry packet.bytes) work
     terminated_at place owner =
         let beside : IsBeside packet place = owner_beside place owner in
         opened
         ∙ (ap (λ (o : Option EndPlace). owned plan taken_all packet.bytes entry o work) owner
-        ∙ (ap (λ (b : Bool). cond b (terminated plan taken_all place (wire_row plan place.wire) (end_at edge place).remote (behind_entry packet.bytes) work) (switched plan taken_all packet.bytes entry place work)) beside.terminal
-        ∙ ap (λ (r : Option WirePlan). terminated plan taken_all place r (end_at edge place).remote (behind_entry packet.bytes) work) (ap (wire_row plan) beside.wire ∙ rule.is)))
+        ∙ (ap (λ (b : Bool). cond b (terminated plan taken_all place rule.packed.ttl (wire_row plan place.wire) (end_at edge place).remote (behind_entry packet.bytes) work) (switched plan taken_all packet.bytes entry place work)) beside.terminal
+        ∙ ap (λ (r : Option WirePlan). terminated plan taken_all place rule.packed.ttl r (end_at edge place).remote (behind_entry packet.bytes) work) (ap (wire_row plan) beside.wire ∙ rule.is)))
 
     at_end : (place : EndPlace) → advertiser plan edge rule.label ≡ Some place → (remote : Option Binding) → (end_at edge place).remote ≡ remote → (why : Option Down) → down_at plan edge place ≡ why
         → Arrived plan network packet rule.row rule.frame
     at_end place owner None bound why is_down =
-        NotTaken (record { why = cause.Down; is = terminated_at place owner ∙ ap (λ (b : Option Binding). terminated plan taken_all place (Some rule.row) b (behind_entry packet.bytes) work) bound })
+        NotTaken (record { why = cause.Down; is = terminated_at place owner ∙ ap (λ (b : Option Binding). terminated plan taken_all place rule.packed.ttl (Some rule.row) b (behind_entry packet.bytes) work) bound })
     at_end place owner (Some binding) bound None up =
         let (p, found) = has_port place owner in
         Taken (record { forwards = owner_forwards place owner up; port = p; found = found; work = bridged_at place owner up })
     at_end place owner (Some binding) bound (Some why) is_down =
-        let dropped : Drops work (by_offer plan taken_all rule.row place (offer_of rule.row edge.me.0).cword (behind_entry packet.bytes) work) = offer_drops place why (offer_of rule.row edge.me.0).cword is_down in
-        NotTaken (record { why = dropped.why; is = terminated_at place owner ∙ (ap (λ (b : Option Binding). terminated plan taken_all place (Some rule.row) b (behind_entry packet.bytes) work) bound ∙ dropped.is) })
+        let dropped : Drops work (by_offer plan taken_all rule.row place binding rule.packed.ttl (offer_of rule.row edge.me.0).cword (behind_entry packet.bytes) work) =
+        offer_drops place binding why (offer_of rule.row edge.me.0).cword owner bound is_down in
+        NotTaken (record { why = dropped.why; is = terminated_at place owner ∙ (ap (λ (b : Option Binding). terminated plan taken_all place rule.packed.ttl (Some rule.row) b (behind_entry packet.bytes) work) bound ∙ dropped.is) })
 
     -- whatever comes of it
     pub arrived : Arrived plan network packet rule.row rule.frame

@@ -149,5 +149,5 @@ module _ (plan : Plan) (network : NetworkState) (trace : List Entry) (packet : P
           by_side place beside
           (opened plan network trace packet checked ruled rule
           ∙ (ap (λ (o : Option EndPlace). owned plan taken_all packet.bytes entry o work) owner
-          ∙ ap (λ (b : Bool). cond b (terminated plan taken_all place (wire_row plan place.wire) (end_at edge place).remote (behind_entry packet.bytes) work) (switched plan taken_all packet.bytes entry place work)) beside.passes))
+          ∙ ap (λ (b : Bool). cond b (terminated plan taken_all place rule.packed.ttl (wire_row plan place.wire) (end_at edge place).remote (behind_entry packet.bytes) work) (switched plan taken_all packet.bytes entry place work)) beside.passes))
           (edge.ends packet.wire.0 has.0.0).remote refl

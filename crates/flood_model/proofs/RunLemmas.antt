@@ -17,7 +17,7 @@ use Rattle.network_model.specs.State.{NetworkState, empty_network}
 use Rattle.network_model.specs.Step.{step}
 use Rattle.network_model.specs.Window.{Window}
 use Rattle.network_model.proofs.AbsorbLemmas.{of_origin, times_left-append, within-append}
-use Rattle.network_model.proofs.OtherLemmas.{IsApart, along, apart_after, counts_rise, never_within}
+use Rattle.network_model.proofs.OtherLemmas.{IsApart, along, apart_after, counts_rise, never_within, some_number}
 use Rattle.network_model.proofs.RunLemmas.{along-append}
 use Rattle.flight_model.specs.Laws.{IsRun}
 use Rattle.flood_model.specs.Laws.{RunsServeOnce}
@@ -62,7 +62,7 @@ module _ (plan : Plan) (events : List Event) (run : IsRun plan events) (before :
   over = none_of origin last.under_way window.over
 
   late : (circuit : CircuitId) → IsApart origin circuit last (along plan last after)
-  late circuit = apart_after plan origin circuit last after (omega (arith, entered, counts_rise plan entry.state during)) over
+  late circuit = apart_after plan origin circuit last after (some_number calm.entered) (omega (arith, entered, counts_rise plan entry.state during)) over
 
   told : entries_along plan (empty_network plan) events ≡ trace ++ ((entry.entries ++ entries_along plan entry.state during) ++ entries_along plan last after)
   told =

@@ -1,5 +1,5 @@
 -- A copy of a flooded frame arrives: its edge serves the sites there and sends it on, or drops it where nothing is due by it.
-use Rattle.std.proofs.Common.{◌-◌, ◌||◌, ◌≡◌, ◌≤◌, ◌+◌, ◌&&◌, ◌∙◌, ◌⊎◌, ℕ, Bool, true, false, List, [], ◌∷◌, Option, Some, None, cond, nat_eq, position, refl, ap, sym, subst, inl, inr, arith}
+use Rattle.std.proofs.Common.{◌-◌, ◌||◌, ◌≡◌, ◌≤◌, ◌+◌, ◌&&◌, ◌∙◌, ◌⊎◌, ℕ, Bool, true, false, List, [], ◌∷◌, Option, Some, None, cond, nat_eq, position, refl, ap, sym, subst, inl, inr, arith, not}
 use Rattle.std.proofs.lemmas.Bool.{cases_Bool, eq-eqb, eqb-true}
 use Rattle.std.specs.List.{AllByRecursion, find, list_any}
 use Rattle.std.specs.Str.{bytes_eq}
@@ -57,9 +57,10 @@ use Rattle.network_model.proofs.CalmLemmas.{none_first, none_later}
 use Rattle.network_model.proofs.PacketListLemmas.{both_hold, packet_holds, packet_number, packets_of}
 use Rattle.flight_model.specs.Laws.{AreSettled}
 use Rattle.flight_model.proofs.RuledNetworkLemmas.{IsRuledNetwork}
-use Rattle.packet_model.specs.Carried.{IsCarried, KeepsPacketRule}
+use Rattle.packet_model.specs.Carried.{IsCarried, KeepsPacketRule, FollowsPacketRule}
 use Rattle.packet_model.proofs.ArriveLemmas.{IsSized}
 use Rattle.packet_model.proofs.SendLemmas.{copy_sender, same_row}
+use Rattle.packet_model.proofs.StepLemmas.{carried_of}
 use Rattle.flood_model.specs.Copy.{CarriesCopy, IsStill, IsStillEdge, copy_awaits, heading_on}
 use Rattle.flood_model.specs.Hops.{HasPassed, most_hops}
 use Rattle.flood_model.specs.Due.{awaits, serves_here, wires_due}
@@ -101,7 +102,7 @@ module _ (plan : Plan) (calm network : NetworkState) (trace : List Entry) (servi
     (settled : (a b : ℕ) → are_joined_by plan service a b ≡ true → AreSettled plan calm a b) (sized : IsSized (mtu_of plan service) frame)
     (ruled : IsRuledNetwork plan network) (rule : KeepsPacketRule plan network trace) (still : IsStill calm network)
     (copies : AllByRecursion (IsNearCopy plan calm service frame) (of_origin origin network.under_way))
-    (found : packet_at network number ≡ Some packet) (own : nat_eq packet.origin origin ≡ true) where
+    (found : packet_at network number ≡ Some packet) (own : nat_eq packet.origin origin ≡ true) (framed : nat_eq packet.origin 0 ≡ false) where
   pub goes : CopyGoes (IsNearCopy plan calm service frame) plan calm service (of_origin origin network.under_way) (of_origin origin (without_number number network.under_way)) packet
   goes = copy_goes (IsNearCopy plan calm service frame) plan calm service origin number network.under_way packet copies found own
 
@@ -109,7 +110,7 @@ module _ (plan : Plan) (calm network : NetworkState) (trace : List Entry) (servi
   copy = goes.here.0
 
   pub rule_here : IsCarried plan network trace packet
-  rule_here = packet_holds (IsCarried plan network trace) network number packet rule found
+  rule_here = carried_of plan network trace packet (packet_holds (FollowsPacketRule plan network trace) network number packet rule found) framed
 
   once : has_repeat copy.row.path ≡ false
   once = (wire_checked plan packet.wire copy.row checked copy.is).once
@@ -277,7 +278,10 @@ module _ (plan : Plan) (calm network : NetworkState) (trace : List Entry) (servi
         | inr nowhere ↦
             (let untaught = found_not (packet_teaches plan service (destination_of frame)) number network.under_way packet nowhere.packets found in
             let of_service : is_row_of_service service (wire_row plan packet.wire) ≡ true = ap (is_row_of_service service) copy.is ∙ copy.of_service in
-            let second : is_sourced (destination_of frame) (carried plan packet) ≡ false = none_second (is_row_of_service service (wire_row plan packet.wire)) (is_sourced (destination_of frame) (carried plan packet)) of_service untaught in
+            let is_some : not (nat_eq packet.origin 0) ≡ true = ap not framed in
+            let second : is_sourced (destination_of frame) (carried plan packet) ≡ false =
+            none_second (is_row_of_service service (wire_row plan packet.wire)) (is_sourced (destination_of frame) (carried plan packet)) of_service
+            (none_second (not (nat_eq packet.origin 0)) (is_row_of_service service (wire_row plan packet.wire) && is_sourced (destination_of frame) (carried plan packet)) is_some untaught) in
             let other : bytes_eq (source_of frame) (destination_of frame) ≡ false = ap (is_sourced (destination_of frame)) (sym copy.carries) ∙ second in
             unlearned_unknown plan network service frame from packet.to.0 nowhere other (carried_within plan network trace packet checked rule_here))
       ]

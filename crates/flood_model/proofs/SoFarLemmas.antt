@@ -28,7 +28,7 @@ use Rattle.network_model.specs.Window.{Window, all_spare, is_flooded_frame, some
 use Rattle.network_model.proofs.AbsorbLemmas.{of_origin}
 use Rattle.network_model.proofs.CalmLemmas.{none_first, none_later}
 use Rattle.network_model.proofs.FloodLemmas.{unknown_heard}
-use Rattle.network_model.proofs.OtherLemmas.{IsApart, along, apart_before, entering_counts}
+use Rattle.network_model.proofs.OtherLemmas.{IsApart, along, apart_before, entering_counts, some_number, numbered_from}
 use Rattle.flight_model.specs.Laws.{AreSettled, IsRun}
 use Rattle.flight_model.proofs.BoundRunLemmas.{runs_settle}
 use Rattle.flight_model.proofs.RuledNetworkLemmas.{IsRuledNetwork}
@@ -143,11 +143,11 @@ module _ (plan : Plan) (events : List Event) (run : IsRun plan events) (before :
 
   sized : IsSized (mtu_of plan service) frame
   sized = come_sized plan (In at origin octets ∷ []) service origin frame
-      (record { sender = at; octets = octets; told = inl refl; of_service = window.sender; formed = window.formed })
+      (record { numbered = numbered_from calm.entered; sender = at; octets = octets; told = inl refl; of_service = window.sender; formed = window.formed })
 
   -- nothing is told of the frame before it enters
   pub early : (circuit : CircuitId) → IsApart origin circuit (empty_network plan) (along plan (empty_network plan) before)
-  early circuit = apart_before plan origin circuit (empty_network plan) before (omega arith) refl
+  early circuit = apart_before plan origin circuit (empty_network plan) before (some_number calm.entered) (omega arith) refl
 
   begins : Starts plan calm service frame at (frame_event plan at octets (circuit_row plan at) calm)
   begins = starts plan calm at octets frame service (during ++ rest) (circuit_row plan at) run.checked window.calm settled sized reached.ruled refl window.sender window.on window.formed window.flooded (early at).under_way
@@ -160,6 +160,7 @@ module _ (plan : Plan) (events : List Event) (run : IsRun plan events) (before :
     still = step_still plan calm calm trace origin (Frame at octets) run.checked reached.ruled reached.rule refl (still_self calm);
     copies = first.copies;
     issued = omega (arith, begins.entered);
+    numbered = some_number calm.entered;
   }
 
   unknown : StaysUnknown plan service frame entry.state during

@@ -1,6 +1,6 @@
 -- While frames enter and packets arrive, are lost or repeated, nothing but addresses and packets changes; and a destination that no
 -- bridge has learned, and nothing teaches, stays unlearned.
-use Rattle.std.proofs.Common.{◌+◌, ◌≡◌, ◌<◌, ◌&&◌, ◌||◌, ◌∙◌, ℕ, Bool, true, false, List, [], ◌∷◌, Option, Some, None, Result, Ok, Err, cond, option_map, length, refl, ap, sym, subst, nat_eq, inl, inr}
+use Rattle.std.proofs.Common.{◌+◌, ◌≡◌, ◌<◌, ◌&&◌, ◌||◌, ◌∙◌, ℕ, Bool, true, false, List, [], ◌∷◌, Option, Some, None, Result, Ok, Err, cond, option_map, length, refl, ap, sym, subst, nat_eq, inl, inr, not, ◌==◌}
 use Rattle.std.proofs.lemmas.Bool.{cases_Bool, eq-eqb, eqb-true}
 use Rattle.std.proofs.lemmas.List.Folds.{list_any-append}
 use Rattle.std.specs.List.{AllByRecursion, list_any}
@@ -30,6 +30,7 @@ use Rattle.mac_table.proofs.AddressLemmas.{entry_of-absent, entry_of-held, entry
 use Rattle.vsi_bridge.specs.BridgeState.{table_of}
 use Rattle.vsi_bridge.specs.Targets.{heard}
 use Rattle.edge_model.specs.declared.effect.Effect.{Effect}
+use Rattle.edge_model.specs.declared.effect.Effect.TheVariants as effect
 use Rattle.edge_model.specs.Frame.{forwarded, hearing, is_own, port_at, received, source}
 use Rattle.edge_model.specs.Send.{drops}
 use Rattle.edge_model.specs.State.{EdgeState, addresses_of, is_on, with_addresses, with_learned}
@@ -48,10 +49,12 @@ use Rattle.network_model.specs.Window.{carried, is_row_of_service, is_sourced, p
 use Rattle.network_model.proofs.AbsorbLemmas.{all_keep}
 use Rattle.network_model.proofs.CalmLemmas.{none_first, none_later}
 use Rattle.network_model.proofs.EdgeLemmas.{HoldsOfEach}
-use Rattle.network_model.proofs.PacketListLemmas.{absorb_sends, copy_of, holds_by, packet_holds, packets_of, repeating_sends, without_hold}
+use Rattle.network_model.proofs.PacketListLemmas.{absorb_sends, copy_of, holds_by, packet_holds, packets_of, repeating_sends, without_hold, packet_from}
 use Rattle.flight_model.proofs.RuledNetworkLemmas.{IsRuledNetwork}
-use Rattle.packet_model.specs.Carried.{IsCarried, KeepsPacketRule}
+use Rattle.packet_model.specs.Carried.{IsCarried, KeepsPacketRule, FollowsPacketRule}
+use Rattle.packet_model.specs.Echoed.{IsEchoed}
 use Rattle.packet_model.proofs.ArriveLemmas.{IsSized, come_sized}
+use Rattle.packet_model.proofs.EchoArriveLemmas.{echo_unheard}
 use Rattle.flood_model.specs.Copy.{IsStill, IsStillEdge}
 use Rattle.flood_model.proofs.CopyLemmas.{Arrives, BridgesIt, CarriesIn, DropsIt, PassesIt, packet_arrives, sent_carry}
 
@@ -176,13 +179,32 @@ each_unteaching plan service address (p ∷ ps) none = (
   each_unteaching plan service address ps (none_later (packet_teaches plan service address p) (list_any (packet_teaches plan service address) ps) none),
 )
 
--- a packet on a wire of a service teaches what the frame does that it carries
+-- a packet on a wire of a service teaches what the frame does that it carries, where it has the number of a frame
 teaches_as : (plan : Plan) (of service : ServiceId) (address frame : List ℕ) (packet : Packet) (row : WirePlan) → wire_row plan packet.wire ≡ Some row → row.service ≡ of → carried plan packet ≡ Ok frame
-    → packet_teaches plan service address packet ≡ (nat_eq of.0 service.0 && bytes_eq (source_of frame) address)
+    → packet_teaches plan service address packet ≡ (not (nat_eq packet.origin 0) && (nat_eq of.0 service.0 && bytes_eq (source_of frame) address))
 teaches_as plan of service address frame packet row is same carries =
     let there : is_row_of_service service (wire_row plan packet.wire) ≡ nat_eq of.0 service.0 = ap (is_row_of_service service) is ∙ ap (λ (s : ServiceId). nat_eq s.0 service.0) same in
-    ap (λ (b : Bool). b && is_sourced address (carried plan packet)) there
-    ∙ ap (λ (read : Result (List ℕ) DropCause). nat_eq of.0 service.0 && is_sourced address read) carries
+    ap (λ (b : Bool). not (nat_eq packet.origin 0) && (b && is_sourced address (carried plan packet))) there
+    ∙ ap (λ (read : Result (List ℕ) DropCause). not (nat_eq packet.origin 0) && (nat_eq of.0 service.0 && is_sourced address read)) carries
+
+none_at_all : (b : Bool) → b && false ≡ false
+none_at_all true = refl
+none_at_all false = refl
+
+-- a packet without such a number teaches nothing
+unnumbered_teaches : (plan : Plan) (service : ServiceId) (address : List ℕ) (me : EdgeId) (origin hops sent : ℕ) (es : List Effect) → origin ≡ 0 → AllByRecursion (Unteaching plan service address) (packets_of me origin hops sent es)
+unnumbered_teaches plan service address me origin hops sent [] none = tt
+unnumbered_teaches plan service address me origin hops sent (effect.Sent peer wire came octets ∷ es) none = (
+  ap (λ (n : ℕ). not (nat_eq n 0) && (is_row_of_service service (wire_row plan wire) && is_sourced address (carried plan (packet_from me origin hops sent peer wire octets)))) none,
+  unnumbered_teaches plan service address me origin hops (sent + 1) es none,
+)
+unnumbered_teaches plan service address me origin hops sent (effect.Said peer octets ∷ es) none = unnumbered_teaches plan service address me origin hops sent es none
+unnumbered_teaches plan service address me origin hops sent (effect.Left at octets ∷ es) none = unnumbered_teaches plan service address me origin hops sent es none
+unnumbered_teaches plan service address me origin hops sent (effect.Dropped why ∷ es) none = unnumbered_teaches plan service address me origin hops sent es none
+unnumbered_teaches plan service address me origin hops sent (effect.Session peer state ∷ es) none = unnumbered_teaches plan service address me origin hops sent es none
+unnumbered_teaches plan service address me origin hops sent (effect.Wire wire down ∷ es) none = unnumbered_teaches plan service address me origin hops sent es none
+unnumbered_teaches plan service address me origin hops sent (effect.Pong wire sequence ∷ es) none = unnumbered_teaches plan service address me origin hops sent es none
+unnumbered_teaches plan service address me origin hops sent (effect.Closed peer ∷ es) none = unnumbered_teaches plan service address me origin hops sent es none
 
 -- ---- an edge at work
 
@@ -195,24 +217,24 @@ abbrev HasNot : Plan → ServiceId → List ℕ → ℕ → EdgeState → Type 0
 HasNot plan service address k edge = k < length plan.edges → has_address (edge.learned service.0) (record { 0 = address }) ≡ false
 
 -- the edge has not learned the address, and no packet that it sends teaches it
-record LeavesUnlearned (plan : Plan) (service : ServiceId) (address : List ℕ) (me : EdgeId) (work : Work) : Type 0 where
+record LeavesUnlearned (plan : Plan) (service : ServiceId) (address : List ℕ) (me : EdgeId) (origin : ℕ) (work : Work) : Type 0 where
   table : HasNot plan service address me.0 work.edge
-  sent : (origin hops sent : ℕ) → AllByRecursion (Unteaching plan service address) (packets_of me origin hops sent work.effects)
+  sent : (hops sent : ℕ) → AllByRecursion (Unteaching plan service address) (packets_of me origin hops sent work.effects)
 
-module _ (plan : Plan) (network : NetworkState) (service : ServiceId) (address : List ℕ) (me : EdgeId) (checked : IsChecked plan) (ruled : IsRuledNetwork plan network) (absent : HasNot plan service address me.0 (network.edges me.0)) where
+module _ (plan : Plan) (network : NetworkState) (service : ServiceId) (address : List ℕ) (me : EdgeId) (origin : ℕ) (checked : IsChecked plan) (ruled : IsRuledNetwork plan network) (absent : HasNot plan service address me.0 (network.edges me.0)) where
   abbrev Leaves : Work → Type 0
-  Leaves work = LeavesUnlearned plan service address me work
+  Leaves work = LeavesUnlearned plan service address me origin work
 
   leaves_same : Leaves (begin_at network me)
-  leaves_same = record { table = absent; sent = λ origin hops sent. tt }
+  leaves_same = record { table = absent; sent = λ hops sent. tt }
 
   leaves_idle : Leaves (idles (begin_at network me))
   unfolding idles
-  leaves_idle = record { table = absent; sent = λ origin hops sent. tt }
+  leaves_idle = record { table = absent; sent = λ hops sent. tt }
 
   leaves_dropped : (why : DropCause) → Leaves (drops why (begin_at network me))
   unfolding gives
-  leaves_dropped why = record { table = absent; sent = λ origin hops sent. tt }
+  leaves_dropped why = record { table = absent; sent = λ hops sent. tt }
 
   leaves_forwarded : (came : Arrival) (of : ServiceId) (frame : List ℕ) (arrival : ℕ) → IsSized (mtu_of plan of) frame → nat_eq of.0 service.0 && bytes_eq (source_of frame) address ≡ false
       → Leaves (forwarded plan taken_all came of frame (Some arrival) (begin_at network me))
@@ -221,9 +243,11 @@ module _ (plan : Plan) (network : NetworkState) (service : ServiceId) (address :
       record {
         table = λ within. subst (λ (e : EdgeState). has_address (e.learned service.0) (record { 0 = address }) ≡ false) (sym copied.heard)
             (absent_hearing (network.edges me.0) of service frame arrival address untaught (absent within));
-        sent = λ origin hops sent. subst (λ (es : List Effect). AllByRecursion (Unteaching plan service address) (packets_of me origin hops sent es)) (sym copied.joined)
+        sent = λ hops sent. subst (λ (es : List Effect). AllByRecursion (Unteaching plan service address) (packets_of me origin hops sent es)) (sym copied.joined)
             (holds_by (CarriesIn plan of frame) (Unteaching plan service address) (packets_of me origin hops sent copied.more)
-            (λ packet carries. teaches_as plan of service address frame packet carries.row carries.is carries.same carries.carries ∙ untaught)
+            (λ packet carries.
+            teaches_as plan of service address frame packet carries.row carries.is carries.same carries.carries
+            ∙ (ap (λ (b : Bool). not (nat_eq packet.origin 0) && b) untaught ∙ none_at_all (not (nat_eq packet.origin 0))))
             (sent_carry plan network me origin hops sent came of frame arrival copied.more checked ruled sized copied.all));
       }
 
@@ -234,10 +258,10 @@ module _ (plan : Plan) (network : NetworkState) (service : ServiceId) (address :
   leaves_received came of arrival (Err why) sized untaught = leaves_dropped why
 
 -- on a frame that does not teach the address
-frame_leaves : (plan : Plan) (network : NetworkState) (service : ServiceId) (address : List ℕ) (circuit : CircuitId) (octets : List ℕ) (row : CircuitPlan)
+frame_leaves : (plan : Plan) (network : NetworkState) (service : ServiceId) (address : List ℕ) (origin : ℕ) (circuit : CircuitId) (octets : List ℕ) (row : CircuitPlan)
     → IsChecked plan → IsRuledNetwork plan network → HasNot plan service address row.edge.0 (network.edges row.edge.0) → circuit_row plan circuit ≡ Some row → teaches plan network service address (Frame circuit octets) ≡ false
-    → LeavesUnlearned plan service address row.edge (frame_work plan network circuit octets row)
-frame_leaves plan network service address circuit octets row checked ruled absent is untaught = by (is_own (edge_at network row.edge) row && is_on (edge_at network row.edge) circuit) refl where
+    → LeavesUnlearned plan service address row.edge origin (frame_work plan network circuit octets row)
+frame_leaves plan network service address origin circuit octets row checked ruled absent is untaught = by (is_own (edge_at network row.edge) row && is_on (edge_at network row.edge) circuit) refl where
   and_true : (b : Bool) → b && true ≡ b
   and_true true = refl
   and_true false = refl
@@ -248,7 +272,8 @@ frame_leaves plan network service address circuit octets row checked ruled absen
       ∙ (ap (λ (b : Bool). nat_eq row.service.0 service.0 && b) on ∙ and_true (nat_eq row.service.0 service.0))
 
   sized : (frame : List ℕ) → inner_at plan circuit octets ≡ Ok frame → IsSized (mtu_of plan row.service) frame
-  sized frame formed = come_sized plan (In circuit 0 octets ∷ []) row.service 0 frame (record {
+  sized frame formed = come_sized plan (In circuit 1 octets ∷ []) row.service 1 frame (record {
+    numbered = refl;
     sender = circuit;
     octets = octets;
     told = inl refl;
@@ -257,28 +282,37 @@ frame_leaves plan network service address circuit octets row checked ruled absen
   })
 
   by : (b : Bool) → is_own (edge_at network row.edge) row && is_on (edge_at network row.edge) circuit ≡ b
-      → LeavesUnlearned plan service address row.edge
+      → LeavesUnlearned plan service address row.edge origin
       (cond b (received plan taken_all (arrival.Circuit circuit) row.service (port_at plan (edge_at network row.edge) circuit row) (inner_at plan circuit octets) (begin_at network row.edge)) (idles (begin_at network row.edge)))
   by true applies =
       let on : is_on (edge_at network row.edge) circuit ≡ true = and_right (is_own (edge_at network row.edge) row) (is_on (edge_at network row.edge) circuit) applies in
-      leaves_received plan network service address row.edge checked ruled absent (arrival.Circuit circuit) row.service (port_at plan (edge_at network row.edge) circuit row) (inner_at plan circuit octets) sized
+      leaves_received plan network service address row.edge origin checked ruled absent (arrival.Circuit circuit) row.service (port_at plan (edge_at network row.edge) circuit row) (inner_at plan circuit octets) sized
       (ap (λ (b : Bool). b && is_sourced address (inner_at plan circuit octets)) (sym (site on)) ∙ untaught)
-  by false applies = leaves_idle plan network service address row.edge checked ruled absent
+  by false applies = leaves_idle plan network service address row.edge origin checked ruled absent
 
 -- on a packet that does not
 packet_leaves : (plan : Plan) (network : NetworkState) (service : ServiceId) (address : List ℕ) (packet : Packet)
-    → IsChecked plan → IsRuledNetwork plan network → HasNot plan service address packet.to.0 (network.edges packet.to.0) → packet_teaches plan service address packet ≡ false
-    → Arrives plan network packet → LeavesUnlearned plan service address packet.to (packet_work plan network packet)
-packet_leaves plan network service address packet checked ruled absent untaught (DropsIt dropped) =
-    subst (LeavesUnlearned plan service address packet.to) (sym dropped.is) (leaves_dropped plan network service address packet.to checked ruled absent dropped.why)
-packet_leaves plan network service address packet checked ruled absent untaught (BridgesIt bridges) =
-    subst (LeavesUnlearned plan service address packet.to) (sym bridges.work)
-    (leaves_forwarded plan network service address packet.to checked ruled absent (arrival.Wire packet.wire) bridges.row.service bridges.frame bridges.port bridges.sized
-    (sym (teaches_as plan bridges.row.service service address bridges.frame packet bridges.row bridges.is refl bridges.carries) ∙ untaught))
-packet_leaves plan network service address packet checked ruled absent untaught (PassesIt passes) = record {
+    → IsChecked plan → IsRuledNetwork plan network → HasNot plan service address packet.to.0 (network.edges packet.to.0) → (packet.origin == 0) ≡ false → packet_teaches plan service address packet ≡ false
+    → Arrives plan network packet → LeavesUnlearned plan service address packet.to packet.origin (packet_work plan network packet)
+packet_leaves plan network service address packet checked ruled absent numbered untaught (DropsIt dropped) =
+    subst (LeavesUnlearned plan service address packet.to packet.origin) (sym dropped.is) (leaves_dropped plan network service address packet.to packet.origin checked ruled absent dropped.why)
+packet_leaves plan network service address packet checked ruled absent numbered untaught (BridgesIt bridges) =
+    subst (LeavesUnlearned plan service address packet.to packet.origin) (sym bridges.work)
+    (leaves_forwarded plan network service address packet.to packet.origin checked ruled absent (arrival.Wire packet.wire) bridges.row.service bridges.frame bridges.port bridges.sized
+    (sym (ap (λ (b : Bool). not b && (nat_eq bridges.row.service.0 service.0 && bytes_eq (source_of bridges.frame) address)) numbered)
+    ∙ (sym (teaches_as plan bridges.row.service service address bridges.frame packet bridges.row bridges.is refl bridges.carries) ∙ untaught)))
+packet_leaves plan network service address packet checked ruled absent numbered untaught (PassesIt passes) = record {
   table = subst (HasNot plan service address packet.to.0) (sym passes.edge) absent;
-  sent = λ origin hops sent. subst (λ (es : List Effect). AllByRecursion (Unteaching plan service address) (packets_of packet.to origin hops sent es)) (sym passes.effects)
-      (ap (λ (read : Result (List ℕ) DropCause). is_row_of_service service (wire_row plan packet.wire) && is_sourced address read) (passes.carries (sent + 1) origin (hops + 1)) ∙ untaught, tt);
+  sent = λ hops sent. subst (λ (es : List Effect). AllByRecursion (Unteaching plan service address) (packets_of packet.to packet.origin hops sent es)) (sym passes.effects)
+      (ap (λ (read : Result (List ℕ) DropCause). not (nat_eq packet.origin 0) && (is_row_of_service service (wire_row plan packet.wire) && is_sourced address read)) (passes.carries (sent + 1) packet.origin (hops + 1)) ∙ untaught, tt);
+}
+
+-- on a ping or an answer, which no bridge hears
+echo_leaves : (plan : Plan) (network : NetworkState) (service : ServiceId) (address : List ℕ) (packet : Packet) → IsChecked plan → IsRuledNetwork plan network → HasNot plan service address packet.to.0 (network.edges packet.to.0)
+    → IsEchoed plan network packet → LeavesUnlearned plan service address packet.to packet.origin (packet_work plan network packet)
+echo_leaves plan network service address packet checked ruled absent echo = record {
+  table = subst (HasNot plan service address packet.to.0) (sym (echo_unheard plan network packet checked ruled echo)) absent;
+  sent = λ hops sent. unnumbered_teaches plan service address packet.to packet.origin hops sent (packet_work plan network packet).effects echo.unnumbered;
 }
 
 -- ---- the network
@@ -288,7 +322,7 @@ module _ (plan : Plan) (service : ServiceId) (address : List ℕ) where
   test = packet_teaches plan service address
 
   -- the work of an edge goes into it
-  absorb_unlearned : (me : EdgeId) (origin hops : ℕ) (work : Work) (network : NetworkState) → IsUnlearned plan service address network → LeavesUnlearned plan service address me work
+  absorb_unlearned : (me : EdgeId) (origin hops : ℕ) (work : Work) (network : NetworkState) → IsUnlearned plan service address network → LeavesUnlearned plan service address me origin work
       → IsUnlearned plan service address (absorb me origin hops work network).state
   unfolding test
   absorb_unlearned me origin hops work network unlearned leaves =
@@ -297,7 +331,7 @@ module _ (plan : Plan) (service : ServiceId) (address : List ℕ) where
         tables = absorb_each (HasNot plan service address) me origin hops work network unlearned.tables leaves.table;
         packets = ap (list_any test) (absorb_sends me origin hops work network).under_way
             ∙ (list_any-append test network.under_way packets
-            ∙ (ap (λ (b : Bool). b || list_any test packets) unlearned.packets ∙ none_teach plan service address packets (leaves.sent origin hops network.sent)));
+            ∙ (ap (λ (b : Bool). b || list_any test packets) unlearned.packets ∙ none_teach plan service address packets (leaves.sent hops network.sent)));
       }
 
   entered_unlearned : (network : NetworkState) → IsUnlearned plan service address network → IsUnlearned plan service address (with_frame network)
@@ -320,7 +354,7 @@ module _ (plan : Plan) (service : ServiceId) (address : List ℕ) where
     by : (idles : Bool) → IsUnlearned plan service address (cond idles (idle network) (entering network circuit octets row (frame_work plan network circuit octets row))).state
     by true = unlearned
     by false = absorb_unlearned row.edge (next_origin network) 0 (frame_work plan network circuit octets row) (with_frame network) (entered_unlearned network unlearned)
-        (frame_leaves plan network service address circuit octets row checked ruled (unlearned.tables row.edge.0) is untaught)
+        (frame_leaves plan network service address (next_origin network) circuit octets row checked ruled (unlearned.tables row.edge.0) is untaught)
 
   -- what holds of the packet that is found
   found_untaught : (network : NetworkState) (number : ℕ) (packet : Packet) → IsUnlearned plan service address network → packet_at network number ≡ Some packet → packet_teaches plan service address packet ≡ false
@@ -331,8 +365,13 @@ module _ (plan : Plan) (service : ServiceId) (address : List ℕ) where
   arrive_unlearned network trace number None checked ruled rule is unlearned = unlearned
   arrive_unlearned network trace number (Some packet) checked ruled rule is unlearned =
       absorb_unlearned packet.to packet.origin packet.hops (packet_work plan network packet) (without_packet packet.number network) (without_unlearned packet.number network unlearned)
-      (packet_leaves plan network service address packet checked ruled (unlearned.tables packet.to.0) (found_untaught network number packet unlearned is)
-      (packet_arrives plan network trace packet checked ruled (packet_holds (IsCarried plan network trace) network number packet rule is)))
+      (right (packet_holds (FollowsPacketRule plan network trace) network number packet rule is))
+    where
+      right : FollowsPacketRule plan network trace packet → LeavesUnlearned plan service address packet.to packet.origin (packet_work plan network packet)
+      right (inl carried) =
+          packet_leaves plan network service address packet checked ruled (unlearned.tables packet.to.0) carried.entered.numbered (found_untaught network number packet unlearned is)
+          (packet_arrives plan network trace packet checked ruled carried)
+      right (inr echo) = echo_leaves plan network service address packet checked ruled (unlearned.tables packet.to.0) echo
 
   discard_unlearned : (network : NetworkState) (found : Option Packet) → IsUnlearned plan service address network → IsUnlearned plan service address (discard_event found network).state
   discard_unlearned network None unlearned = unlearned

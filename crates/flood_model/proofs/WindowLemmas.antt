@@ -1,5 +1,5 @@
 -- The events of a window, one after another: what is due by the copies under way is served.
-use Rattle.std.proofs.Common.{◌≡◌, ◌≤◌, ◌+◌, ◌++◌, ◌⊎◌, ℕ, Bool, true, false, List, [], ◌∷◌, Option, Some, None, not, refl, inl, inr, arith}
+use Rattle.std.proofs.Common.{◌≡◌, ◌≤◌, ◌+◌, ◌++◌, ◌⊎◌, ℕ, Bool, true, false, List, [], ◌∷◌, Option, Some, None, not, refl, inl, inr, arith, nat_eq}
 use Rattle.std.proofs.lemmas.Bool.{cases_Bool}
 use Rattle.std.proofs.lemmas.List.Elements.{All-head, All-tail}
 use Rattle.std.specs.List.{All, AllByRecursion, list_any}
@@ -24,7 +24,7 @@ use Rattle.network_model.specs.Step.{step}
 use Rattle.network_model.specs.Window.{all_spare, is_copy, some_teach, spares, teaches}
 use Rattle.network_model.proofs.AbsorbLemmas.{of_origin}
 use Rattle.network_model.proofs.CalmLemmas.{none_first, none_later}
-use Rattle.network_model.proofs.OtherLemmas.{along, is_of, moves_copy, step_apart, step_counts}
+use Rattle.network_model.proofs.OtherLemmas.{along, is_of, moves_copy, step_apart, step_counts, same_number}
 use Rattle.flight_model.specs.Ends.{HasTypes, IsOrdered}
 use Rattle.flight_model.specs.Laws.{AreSettled}
 use Rattle.flight_model.proofs.RuledNetworkLemmas.{IsRuledNetwork}
@@ -84,6 +84,7 @@ pub record IsAfter (plan : Plan) (calm : NetworkState) (service : ServiceId) (fr
   pub still : IsStill calm network
   pub copies : AllByRecursion (IsNearCopy plan calm service frame) (of_origin origin network.under_way)
   pub issued : origin ≤ network.entered
+  pub numbered : nat_eq 0 origin ≡ false
 
 module _ (plan : Plan) (calm : NetworkState) (service : ServiceId) (frame : List ℕ) (origin : ℕ) (checked : IsChecked plan) (calmed : is_calm plan calm service ≡ true)
     (settled : (a b : ℕ) → are_joined_by plan service a b ≡ true → AreSettled plan calm a b) (sized : IsSized (mtu_of plan service) frame) where
@@ -96,7 +97,7 @@ module _ (plan : Plan) (calm : NetworkState) (service : ServiceId) (frame : List
       → Serves plan calm service frame origin (owes network) (step plan network event)
   apart_serves network event after unmoved =
       serves_apart plan calm service frame origin network (step plan network event) after.copies
-      (λ circuit. step_apart plan origin circuit network event unmoved (λ same entered. later after.issued same))
+      (λ circuit. step_apart plan origin circuit network event after.numbered unmoved (λ same entered. later after.issued same))
     where
       later : origin ≤ network.entered → network.entered + 1 ≡ origin → ⊥
       later issued same = absurd (omega (arith, issued, same))
@@ -107,7 +108,7 @@ module _ (plan : Plan) (calm : NetworkState) (service : ServiceId) (frame : List
       → Serves plan calm service frame origin (owes network) (arrive_event plan found network)
   arrive_serves network trace number None is own reached after unlearned = absurd (cc (own))
   arrive_serves network trace number (Some packet) is own reached after unlearned =
-      arriving_serves plan calm network trace service frame origin number packet checked calmed settled sized reached.ruled reached.rule after.still after.copies is own unlearned
+      arriving_serves plan calm network trace service frame origin number packet checked calmed settled sized reached.ruled reached.rule after.still after.copies is own (same_number packet.origin origin own after.numbered) unlearned
 
   unlearned_now : (network : NetworkState) (events : List Event) → StaysUnknown plan service frame network events → (goes_to_group frame ≡ true) ⊎ IsUnlearned plan service (destination_of frame) network
   unlearned_now network events (inl group) = inl group
@@ -143,6 +144,7 @@ module _ (plan : Plan) (calm : NetworkState) (service : ServiceId) (frame : List
         still = step_still plan calm network trace origin e checked reached.ruled reached.rule here after.still;
         copies = serves.copies;
         issued = omega (arith, after.issued, step_counts plan network e);
+        numbered = after.numbered;
       } in
       serves_then plan calm service frame origin (owes network) first (along plan first.state es) serves
       (window_serves first.state (trace ++ first.entries) es types (All-tail (IsEventOf plan) e es planned)

@@ -18,13 +18,14 @@ use Rattle.edge_model.specs.Wire.{priority_input, status_input, wire_input}
 use Rattle.edge_model.specs.Work.{Work}
 use Rattle.edge_model.proofs.FollowLemmas.{EndsFollowSessions, FollowsOn, empty_follows, input_follows}
 use Rattle.edge_model.proofs.LabelLemmas.{LabelsFit, WorkRises, fits_same, fits_then, input_rises}
-use Rattle.edge_model.proofs.WalkLemmas.{InputSteps, circuit_holds, connected_holds, frame_holds, lost_holds, octets_hold, packet_holds, priority_holds, status_holds, tick_holds, wire_holds}
+use Rattle.edge_model.proofs.WalkLemmas.{InputSteps, circuit_holds, connected_holds, frame_holds, lost_holds, octets_hold, packet_holds, ping_holds, priority_holds, status_holds, tick_holds, wire_holds}
 use Rattle.network_model.specs.Absorb.{absorb, absorb_all, answer, begin_at, idle, taken_all}
 use Rattle.network_model.specs.Circuit.{circuit_event}
 use Rattle.network_model.specs.Connection.{can_connect, connect_event, connected_work, connecting, deliver_event, delivering, hearing_work, is_deliverable, is_drained_pipe, lose_event, losing, losing_work, restart_event}
 use Rattle.network_model.specs.Frame.{entering, frame_event, frame_work, next_origin}
 use Rattle.network_model.specs.declared.packet.Packet.{Packet}
 use Rattle.network_model.specs.Packet.{again_event, arrive_event, discard_event, packet_at, packet_work}
+use Rattle.network_model.specs.Ping.{ping_event, ping_work}
 use Rattle.network_model.specs.Run.{state_after}
 use Rattle.network_model.specs.State.{NetworkState, edge_at, empty_network, stands, with_edge, with_frame, with_packet, with_pipe, without_octets_to, without_packet}
 use Rattle.network_model.specs.Step.{step}
@@ -184,6 +185,11 @@ module _ (plan : Plan) (P : ℕ → EdgeState → Type 0) (R : Work → Work →
   again_holds None network holds = holds
   again_holds (Some packet) network holds = holds
 
+  ping_keeps : (me : EdgeId) (wire : WireId) (network : NetworkState) → HoldsOfEach P network → HoldsOfEach P (ping_event plan me wire network).state
+  ping_keeps me wire network holds =
+      let work : Work = ping_work plan network me wire in
+      answer_holds me 0 0 work network holds (worked me work network holds (ping_holds plan taken_all R steps wire (begin_at network me)))
+
   -- ---- runs
 
   pub event_holds : (event : Event) (network : NetworkState) → HoldsOfEach P network → HoldsOfEach P (step plan network event).state
@@ -200,7 +206,7 @@ module _ (plan : Plan) (P : ℕ → EdgeState → Type 0) (R : Work → Work →
   event_holds (Arrive number) network holds = arrive_holds (packet_at network number) network holds
   event_holds (Discard number) network holds = discard_holds (packet_at network number) network holds
   event_holds (Again number) network holds = again_holds (packet_at network number) network holds
-  event_holds (Ping me wire) network holds = holds
+  event_holds (Ping me wire) network holds = ping_keeps me wire network holds
 
   pub after_holds : (events : List Event) (network : NetworkState) → HoldsOfEach P network → HoldsOfEach P (state_after plan network events)
   after_holds [] network holds = holds

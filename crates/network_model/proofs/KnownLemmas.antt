@@ -27,10 +27,20 @@ use Rattle.edge_model.specs.declared.effect.Effect.{Effect}
 use Rattle.edge_model.specs.declared.effect.Effect.TheVariants as effect
 use Rattle.edge_model.specs.Frame.{bridged, copies, copy_by, destination, forwarded, hearing, is_own, port_at, port_forwards, received, tag_of}
 use Rattle.edge_model.specs.declared.end_place.EndPlace.{EndPlace}
+use Rattle.vccv_channel.specs.declared.cc.Cc.{Cc}
+use Rattle.vccv_channel.specs.declared.cc.Cc.TheVariants.{Header, Alert, Expiry}
+use Rattle.vccv_channel.specs.declared.echo.Echo.{Echo}
+use Rattle.vccv_channel.specs.declared.echo.Echo.TheVariants.{Request, Answer}
+use Rattle.vccv_channel.specs.declared.vccv_fault.VccvFault.{VccvFault}
+use Rattle.vccv_channel.specs.Channel.{has_header}
+use Rattle.vccv_channel.specs.Echo.{answer_packet}
+use Rattle.vccv_channel.specs.Fault.{vccv_cause_of}
+use Rattle.vccv_channel.specs.Reading.{ip_packet_of, reading}
+use Rattle.edge_model.specs.Echo.{channel_octets, channel_under, echoes, is_picked, ping_number, verifies, verifies_in}
 use Rattle.edge_model.specs.Ends.{is_up, wire_end}
 use Rattle.edge_model.specs.Local.{ComesBy}
 use Rattle.edge_model.specs.Mend.{port_of_wire}
-use Rattle.edge_model.specs.Packet.{advertiser, alerted, alerts_end, behind_entry, bridges_frame, by_offer, enters, is_alert, is_channel, least_label, opened_by, owned, switched, terminated, unpacked_at}
+use Rattle.edge_model.specs.Packet.{advertiser, alerted, alerts_by, alerts_end, behind_entry, bridges_frame, by_offer, enters, is_alert, is_channel, least_label, opened_by, owned, switched, terminated, unpacked_at}
 use Rattle.edge_model.specs.Role.{down_at}
 use Rattle.edge_model.specs.Send.{drops, had_posted, packet_of, sends_copy, sends_under}
 use Rattle.edge_model.specs.State.{EdgeState, addresses_of, end_at, is_on}
@@ -182,6 +192,25 @@ drop_out : (why : DropCause) (work : Work) → work.effects ≡ [] → outs (dro
 unfolding outs
 drop_out why work none = omega (arith, gives_out (effect.Dropped why) work, ap outs none)
 
+-- what comes of an echo packet is one packet at most
+echoes_out : (place : EndPlace) (kind : Cc) (binding : Binding) (ip : List ℕ) (read : Result Echo VccvFault) (work : Work) → work.effects ≡ [] → outs (echoes taken_all place kind binding ip read work).effects ≤ 1
+unfolding outs
+echoes_out place kind binding ip (Err why) work none = drop_out (vccv_cause_of why) work none
+echoes_out place kind binding ip (Ok (Answer sequence)) work none = omega (arith, gives_out (effect.Pong place.wire sequence) work, ap outs none)
+echoes_out place kind binding ip (Ok (Request from to sequence long)) work none =
+    omega (arith, had_posted_out place arrival.Own (channel_octets kind binding (answer_packet ip)) (next_answer taken_all work) work, ap outs none)
+
+verifies_out : (place : EndPlace) (row : WirePlan) (kind : Cc) (binding : Binding) (payload : List ℕ) (work : Work) → work.effects ≡ [] → outs (verifies taken_all place row kind binding payload work).effects ≤ 1
+verifies_out place row kind binding payload work none =
+    echoes_out place kind binding (ip_packet_of (has_header kind) payload) (reading (has_header kind) (ping_number row) payload) work none
+
+verifies_in_out : (place : EndPlace) (row : WirePlan) (kind : Cc) (binding : Binding) (payload : List ℕ) (work : Work) → work.effects ≡ []
+    → outs (verifies_in taken_all place row kind binding payload work).effects ≤ 1
+verifies_in_out place row kind binding payload work none = by (is_picked kind (channel_under row work.edge.me binding)) where
+  by : (b : Bool) → outs (cond b (verifies taken_all place row kind binding payload work) (drops cause.NotOffered work)).effects ≤ 1
+  by true = verifies_out place row kind binding payload work none
+  by false = drop_out cause.NotOffered work none
+
 module _ (plan : Plan) (work : Work) (place : EndPlace) (row : WirePlan) (payload frame : List ℕ) (q : ℕ) (none : work.effects ≡ []) (formed : unpacked_at plan row work.edge.me payload ≡ Ok frame)
     (known : known_after row.service frame (port_of_wire plan work.edge place.wire row) work.edge ≡ Some q) where
   bridges_out : outs (bridges_frame plan taken_all row place payload work).effects ≤ 1
@@ -197,29 +226,38 @@ module _ (plan : Plan) (work : Work) (place : EndPlace) (row : WirePlan) (payloa
     by true = bridges_out
     by false = drop_out cause.Down work none
 
-  by_offer_out : (cword : Bool) → outs (by_offer plan taken_all row place cword payload work).effects ≤ 1
-  by_offer_out true = by (nat_eq (length payload) 0) (is_channel payload) where
-    by : (empty channel : Bool) → outs (cond empty (drops cause.Short work) (cond channel (drops cause.NotOffered work) (enters plan taken_all row place payload work))).effects ≤ 1
+  by_offer_out : (binding : Binding) (ttl : ℕ) (cword : Bool) → outs (by_offer plan taken_all row place binding ttl cword payload work).effects ≤ 1
+  by_offer_out binding ttl true = by (nat_eq (length payload) 0) (is_channel payload) where
+    by : (empty channel : Bool) → outs (cond empty (drops cause.Short work) (cond channel (verifies_in taken_all place row Header binding payload work) (enters plan taken_all row place payload work))).effects ≤ 1
     by true channel = drop_out cause.Short work none
-    by false true = drop_out cause.NotOffered work none
+    by false true = verifies_in_out place row Header binding payload work none
     by false false = enters_out
-  by_offer_out false = enters_out
+  by_offer_out binding ttl false = by (nat_eq ttl 1 && is_picked Expiry (channel_under row work.edge.me binding)) where
+    by : (b : Bool) → outs (cond b (verifies taken_all place row Expiry binding payload work) (enters plan taken_all row place payload work)).effects ≤ 1
+    by true = verifies_out place row Expiry binding payload work none
+    by false = enters_out
 
-  terminated_out : (remote : Option Binding) → outs (terminated plan taken_all place (Some row) remote payload work).effects ≤ 1
-  terminated_out None = drop_out cause.Down work none
-  terminated_out (Some binding) = by_offer_out (offer_of row work.edge.me.0).cword
+  terminated_out : (ttl : ℕ) (remote : Option Binding) → outs (terminated plan taken_all place ttl (Some row) remote payload work).effects ≤ 1
+  terminated_out ttl None = drop_out cause.Down work none
+  terminated_out ttl (Some binding) = by_offer_out binding ttl (offer_of row work.edge.me.0).cword
 
 -- behind a router alert there is no frame
-alerted_out : (plan : Plan) (read : Result StackEntry DropCause) (work : Work) → work.effects ≡ [] → outs (alerted plan read work).effects ≤ 1
-alerted_out plan (Err why) work none = drop_out why work none
-alerted_out plan (Ok entry) work none = by entry.bottom (advertiser plan work.edge entry.label) where
-  of_end : (terminal : Bool) → outs (cond terminal (drops cause.NotOffered work) (drops cause.NoLabel work)).effects ≤ 1
-  of_end true = drop_out cause.NotOffered work none
-  of_end false = drop_out cause.NoLabel work none
+alerts_by_out : (place : EndPlace) (row : Option WirePlan) (remote : Option Binding) (payload : List ℕ) (work : Work) → work.effects ≡ [] → outs (alerts_by taken_all place row remote payload work).effects ≤ 1
+alerts_by_out place None remote payload work none = drop_out cause.NotOffered work none
+alerts_by_out place (Some row) None payload work none = drop_out cause.NotOffered work none
+alerts_by_out place (Some row) (Some binding) payload work none = verifies_in_out place row Alert binding payload work none
 
-  by : (bottom : Bool) (owner : Option EndPlace) → outs (cond bottom (alerts_end owner work) (drops cause.NotBottom work)).effects ≤ 1
+alerted_out : (plan : Plan) (octets : List ℕ) (read : Result StackEntry DropCause) (work : Work) → work.effects ≡ [] → outs (alerted plan taken_all octets read work).effects ≤ 1
+alerted_out plan octets (Err why) work none = drop_out why work none
+alerted_out plan octets (Ok entry) work none = by entry.bottom (advertiser plan work.edge entry.label) where
+  of_end : (place : EndPlace) (terminal : Bool)
+      → outs (cond terminal (alerts_by taken_all place (wire_row plan place.wire) (end_at work.edge place).remote (behind_entry octets) work) (drops cause.NoLabel work)).effects ≤ 1
+  of_end place true = alerts_by_out place (wire_row plan place.wire) (end_at work.edge place).remote (behind_entry octets) work none
+  of_end place false = drop_out cause.NoLabel work none
+
+  by : (bottom : Bool) (owner : Option EndPlace) → outs (cond bottom (alerts_end plan taken_all (behind_entry octets) owner work) (drops cause.NotBottom work)).effects ≤ 1
   by true None = drop_out cause.NoLabel work none
-  by true (Some place) = of_end place.terminal
+  by true (Some place) = of_end place place.terminal
   by false owner = drop_out cause.NotBottom work none
 
 module _ (plan : Plan) (network : NetworkState) (packet : Packet) (place : EndPlace) (row : WirePlan) (frame : List ℕ) (q : ℕ) (me : (edge_at network packet.to).me ≡ packet.to)
@@ -235,11 +273,11 @@ module _ (plan : Plan) (network : NetworkState) (packet : Packet) (place : EndPl
     here = ap (λ (e : EdgeId). unpacked_at plan row e (behind_entry packet.bytes)) me ∙ formed
 
     by : (terminal : Bool) → terminal ≡ true → (found : Option WirePlan) → found ≡ Some row
-        → outs (cond terminal (terminated plan taken_all place found (end_at (edge_at network packet.to) place).remote (behind_entry packet.bytes) start) (switched plan taken_all packet.bytes comes.entry place start)).effects ≤ 1
+        → outs (cond terminal (terminated plan taken_all place comes.entry.ttl found (end_at (edge_at network packet.to) place).remote (behind_entry packet.bytes) start) (switched plan taken_all packet.bytes comes.entry place start)).effects ≤ 1
     by false is found same = absurd (cc (is))
     by true is found same =
-        subst (λ (r : Option WirePlan). outs (terminated plan taken_all place r (end_at (edge_at network packet.to) place).remote (behind_entry packet.bytes) start).effects ≤ 1) (sym same)
-        (terminated_out plan start place row (behind_entry packet.bytes) frame q refl here known (end_at (edge_at network packet.to) place).remote)
+        subst (λ (r : Option WirePlan). outs (terminated plan taken_all place comes.entry.ttl r (end_at (edge_at network packet.to) place).remote (behind_entry packet.bytes) start).effects ≤ 1) (sym same)
+        (terminated_out plan start place row (behind_entry packet.bytes) frame q refl here known comes.entry.ttl (end_at (edge_at network packet.to) place).remote)
 
   packet_out : outs (packet_work plan network packet).effects ≤ 1
   unfolding start
@@ -249,9 +287,9 @@ module _ (plan : Plan) (network : NetworkState) (packet : Packet) (place : EndPl
         by_owner owner is = subst (λ (o : Option EndPlace). outs (owned plan taken_all packet.bytes comes.entry o start).effects ≤ 1) (sym is) owned_out
 
         by : (alert reserved bottom : Bool)
-            → outs (cond alert (alerted plan (entry_of (behind_entry packet.bytes)) start)
+            → outs (cond alert (alerted plan taken_all (behind_entry packet.bytes) (entry_of (behind_entry packet.bytes)) start)
             (cond reserved (drops cause.NoLabel start) (cond bottom (owned plan taken_all packet.bytes comes.entry (advertiser plan (edge_at network packet.to) comes.entry.label) start) (drops cause.NotBottom start)))).effects ≤ 1
-        by true reserved bottom = alerted_out plan (entry_of (behind_entry packet.bytes)) start refl
+        by true reserved bottom = alerted_out plan (behind_entry packet.bytes) (entry_of (behind_entry packet.bytes)) start refl
         by false true bottom = drop_out cause.NoLabel start refl
         by false false true = by_owner (advertiser plan (edge_at network packet.to) comes.entry.label) comes.owner
         by false false false = drop_out cause.NotBottom start refl

@@ -2,15 +2,17 @@
 -- way.
 use Rattle.std.proofs.Common.{◌≡◌, ◌<◌, ◌≤◌, ◌+◌, ◌++◌, ◌&&◌, ◌∙◌, ℕ, Bool, true, false, List, [], ◌∷◌, Option, Some, None, cond, refl, ap, nat_eq, arith}
 use Rattle.std.proofs.lemmas.Bool.{eq-eqb, ne_eqb}
+use Rattle.std.proofs.lemmas.Bool.Decides.{nat_tests}
 use Rattle.std.specs.List.{find}
 use Rattle.net_base.specs.declared.plan.Plan.{Plan}
 use Rattle.net_base.specs.declared.plan.circuit_plan.CircuitPlan.{CircuitPlan}
 use Rattle.net_base.specs.declared.plan.places.CircuitId.{CircuitId}
 use Rattle.net_base.specs.declared.plan.places.EdgeId.{EdgeId}
+use Rattle.net_base.specs.declared.plan.places.WireId.{WireId}
 use Rattle.net_base.specs.declared.trace.entry.Entry.{Entry}
 use Rattle.net_base.specs.declared.trace.entry.Entry.TheVariants.{Left, Sent}
 use Rattle.net_base.specs.declared.trace.event.Event.{Event}
-use Rattle.net_base.specs.declared.trace.event.Event.TheVariants.{Frame, Arrive, Discard, Again}
+use Rattle.net_base.specs.declared.trace.event.Event.TheVariants.{Frame, Arrive, Discard, Again, Ping}
 use Rattle.net_base.specs.plan.Places.{circuit_row}
 use Rattle.edge_model.specs.Work.{Work}
 use Rattle.network_model.specs.declared.packet.Packet.{Packet}
@@ -18,12 +20,27 @@ use Rattle.network_model.specs.Absorb.{Stepped, absorb, idle}
 use Rattle.network_model.specs.Frame.{entering, frame_event, frame_work, next_origin}
 use Rattle.network_model.specs.OnceEach.{LeftWithin, times_left}
 use Rattle.network_model.specs.Packet.{again_event, arrive_event, discard_event, packet_at, packet_work}
+use Rattle.network_model.specs.Ping.{ping_event, ping_work}
 use Rattle.network_model.specs.Run.{entries_along, state_after}
 use Rattle.network_model.specs.State.{NetworkState, with_edge, with_frame, with_packet, without_number, without_packet}
 use Rattle.network_model.specs.Step.{step}
 use Rattle.network_model.proofs.AbsorbLemmas.{all_keep, all_leave, of_origin, of_origin-other, others_tell, own_within, times_left-append}
 use Rattle.network_model.proofs.PacketListLemmas.{packet_number}
 use Rattle.network_model.proofs.QuietLemmas.{IsSignalStep, NoneGoesOut, step_signals}
+
+-- ---- numbers
+
+-- frames are numbered from 1
+pub some_number : (entered : ℕ) → nat_eq 0 (entered + 1) ≡ false
+some_number entered = grind (arith, nat_tests)
+
+pub numbered_from : (entered : ℕ) → nat_eq (entered + 1) 0 ≡ false
+numbered_from entered = grind (arith, nat_tests)
+
+pub same_number : (one origin : ℕ) → nat_eq one origin ≡ true → nat_eq 0 origin ≡ false → nat_eq one 0 ≡ false
+same_number one origin same some = grind (arith, nat_tests)
+
+-- ---- what is told of one frame
 
 -- nothing is told of the frame, and its copies under way stay
 pub record IsApart (origin : ℕ) (circuit : CircuitId) (network : NetworkState) (stepped : Stepped) : Type 0 where
@@ -142,6 +159,14 @@ unfolding with_packet
 again_apart origin circuit network None apart = idle_apart origin circuit network
 again_apart origin circuit network (Some packet) apart = record { left = refl; under_way = of_origin-other origin _ network.under_way apart }
 
+-- ---- a ping
+
+ping_apart : (plan : Plan) (origin : ℕ) (circuit : CircuitId) (me : EdgeId) (wire : WireId) (network : NetworkState) → nat_eq 0 origin ≡ false → IsApart origin circuit network (ping_event plan me wire network)
+ping_apart plan origin circuit me wire network some = by (ping_work plan network me wire).idle where
+  by : (idles : Bool) → IsApart origin circuit network (cond idles (idle network) (absorb me 0 0 (ping_work plan network me wire) network))
+  by true = idle_apart origin circuit network
+  by false = absorb_apart origin circuit me 0 0 (ping_work plan network me wire) network some
+
 -- ---- one event
 
 -- a packet that carries a copy of the frame arrives, is lost or is repeated
@@ -151,21 +176,24 @@ moves_copy network origin (Discard number) = is_of origin (packet_at network num
 moves_copy network origin (Again number) = is_of origin (packet_at network number)
 moves_copy network origin event = false
 
-pub step_apart : (plan : Plan) (origin : ℕ) (circuit : CircuitId) (network : NetworkState) (event : Event)
+pub step_apart : (plan : Plan) (origin : ℕ) (circuit : CircuitId) (network : NetworkState) (event : Event) → nat_eq 0 origin ≡ false
     → moves_copy network origin event ≡ false → (network.entered + 1 ≡ origin → (step plan network event).state.entered ≡ network.entered + 1 → ⊥) → IsApart origin circuit network (step plan network event)
-step_apart plan origin circuit network (Frame at octets) other apart =
+step_apart plan origin circuit network (Frame at octets) some other apart =
     let same = frame_apart plan origin circuit at octets (circuit_row plan at) network apart in
     record { left = same.left; under_way = same.under_way }
-step_apart plan origin circuit network (Arrive number) other apart =
+step_apart plan origin circuit network (Arrive number) some other apart =
     let same = arrive_apart plan origin circuit number network (packet_at network number) refl other in
     record { left = same.left; under_way = same.under_way }
-step_apart plan origin circuit network (Discard number) other apart =
+step_apart plan origin circuit network (Discard number) some other apart =
     let same = discard_apart origin circuit number network (packet_at network number) refl other in
     record { left = same.left; under_way = same.under_way }
-step_apart plan origin circuit network (Again number) other apart =
+step_apart plan origin circuit network (Again number) some other apart =
     let same = again_apart origin circuit network (packet_at network number) other in
     record { left = same.left; under_way = same.under_way }
-step_apart plan origin circuit network event other apart = signals_apart origin circuit network (step plan network event) (step_signals plan network event refl)
+step_apart plan origin circuit network (Ping me wire) some other apart =
+    let same = ping_apart plan origin circuit me wire network some in
+    record { left = same.left; under_way = same.under_way }
+step_apart plan origin circuit network event some other apart = signals_apart origin circuit network (step plan network event) (step_signals plan network event refl)
 
 -- where no copy of the frame is under way, none is moved
 none_moved : (network : NetworkState) (origin : ℕ) (event : Event) → of_origin origin network.under_way ≡ [] → moves_copy network origin event ≡ false
@@ -202,11 +230,18 @@ unfolding with_packet
 again_counts None network = refl
 again_counts (Some packet) network = refl
 
+ping_counts : (plan : Plan) (me : EdgeId) (wire : WireId) (network : NetworkState) → (ping_event plan me wire network).state.entered ≡ network.entered
+ping_counts plan me wire network = by (ping_work plan network me wire).idle where
+  by : (idles : Bool) → (cond idles (idle network) (absorb me 0 0 (ping_work plan network me wire) network)).state.entered ≡ network.entered
+  by true = refl
+  by false = absorb_counts me 0 0 (ping_work plan network me wire) network
+
 pub step_counts : (plan : Plan) (network : NetworkState) (event : Event) → network.entered ≤ (step plan network event).state.entered
 step_counts plan network (Frame at octets) = frame_counts plan at octets (circuit_row plan at) network
 step_counts plan network (Arrive number) = omega (arith, arrive_counts plan (packet_at network number) network)
 step_counts plan network (Discard number) = omega (arith, discard_counts (packet_at network number) network)
 step_counts plan network (Again number) = omega (arith, again_counts (packet_at network number) network)
+step_counts plan network (Ping me wire) = omega (arith, ping_counts plan me wire network)
 step_counts plan network event = omega (arith, (step_signals plan network event refl).quiet.entered)
 
 pub counts_rise : (plan : Plan) (network : NetworkState) (events : List Event) → network.entered ≤ (state_after plan network events).entered
@@ -220,23 +255,23 @@ abbrev pub along : Plan → NetworkState → List Event → Stepped
 along plan network events = record { state = state_after plan network events; entries = entries_along plan network events }
 
 -- before a frame enters
-pub apart_before : (plan : Plan) (origin : ℕ) (circuit : CircuitId) (network : NetworkState) (events : List Event) → (state_after plan network events).entered < origin → of_origin origin network.under_way ≡ []
+pub apart_before : (plan : Plan) (origin : ℕ) (circuit : CircuitId) (network : NetworkState) (events : List Event) → nat_eq 0 origin ≡ false → (state_after plan network events).entered < origin → of_origin origin network.under_way ≡ []
     → IsApart origin circuit network (along plan network events)
-apart_before plan origin circuit network [] later none = record { left = refl; under_way = refl }
-apart_before plan origin circuit network (e ∷ es) later none =
+apart_before plan origin circuit network [] some later none = record { left = refl; under_way = refl }
+apart_before plan origin circuit network (e ∷ es) some later none =
     let first : Stepped = step plan network e in
     let rise = counts_rise plan first.state es in
-    let here = step_apart plan origin circuit network e (none_moved network origin e none) (λ same entered. omega arith) in
-    apart_then origin circuit network first (along plan first.state es) here (apart_before plan origin circuit first.state es later (here.under_way ∙ none))
+    let here = step_apart plan origin circuit network e some (none_moved network origin e none) (λ same entered. omega arith) in
+    apart_then origin circuit network first (along plan first.state es) here (apart_before plan origin circuit first.state es some later (here.under_way ∙ none))
 
 -- once no copy of the frame is under way, none comes back, and nothing more is told of it
-pub apart_after : (plan : Plan) (origin : ℕ) (circuit : CircuitId) (network : NetworkState) (events : List Event) → origin ≤ network.entered → of_origin origin network.under_way ≡ [] → IsApart origin circuit network (along plan network events)
-apart_after plan origin circuit network [] entered none = record { left = refl; under_way = refl }
-apart_after plan origin circuit network (e ∷ es) entered none =
+pub apart_after : (plan : Plan) (origin : ℕ) (circuit : CircuitId) (network : NetworkState) (events : List Event) → nat_eq 0 origin ≡ false → origin ≤ network.entered → of_origin origin network.under_way ≡ [] → IsApart origin circuit network (along plan network events)
+apart_after plan origin circuit network [] some entered none = record { left = refl; under_way = refl }
+apart_after plan origin circuit network (e ∷ es) some entered none =
     let first : Stepped = step plan network e in
-    let here = step_apart plan origin circuit network e (none_moved network origin e none) (λ same count. omega arith) in
+    let here = step_apart plan origin circuit network e some (none_moved network origin e none) (λ same count. omega arith) in
     apart_then origin circuit network first (along plan first.state es) here
-    (apart_after plan origin circuit first.state es (omega (arith, step_counts plan network e)) (here.under_way ∙ none))
+    (apart_after plan origin circuit first.state es some (omega (arith, step_counts plan network e)) (here.under_way ∙ none))
 
 -- ---- how many segments a copy has passed that left
 

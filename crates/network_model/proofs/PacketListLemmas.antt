@@ -11,7 +11,7 @@ use Rattle.net_base.specs.declared.plan.places.EdgeId.{EdgeId}
 use Rattle.net_base.specs.declared.plan.places.WireId.{WireId}
 use Rattle.net_base.specs.declared.trace.arrival.Arrival.{Arrival}
 use Rattle.net_base.specs.declared.trace.event.Event.{Event}
-use Rattle.net_base.specs.declared.trace.event.Event.TheVariants.{Frame, Arrive, Discard, Again}
+use Rattle.net_base.specs.declared.trace.event.Event.TheVariants.{Frame, Arrive, Discard, Again, Ping}
 use Rattle.net_base.specs.plan.Places.{circuit_row}
 use Rattle.edge_model.specs.declared.effect.Effect.{Effect}
 use Rattle.edge_model.specs.declared.effect.Effect.TheVariants as effect
@@ -21,6 +21,7 @@ use Rattle.network_model.specs.declared.packet.Packet.{Packet}
 use Rattle.network_model.specs.Absorb.{absorb, absorb_all, absorb_one, idle}
 use Rattle.network_model.specs.Frame.{entering, frame_event, frame_work, next_origin}
 use Rattle.network_model.specs.Packet.{again_event, arrive_event, arriving, discard_event, packet_at, packet_work, repeating}
+use Rattle.network_model.specs.Ping.{ping_event, ping_work}
 use Rattle.network_model.specs.Run.{state_after}
 use Rattle.network_model.specs.State.{NetworkState, empty_network, stands, with_edge, with_frame, with_packet, with_pipe, without_number, without_packet}
 use Rattle.network_model.specs.Step.{step}
@@ -316,11 +317,18 @@ again_numbered network number (Some packet) is numbered =
     numbered_then network next (copy_of network.sent packet ∷ []) numbered sends (omega arith, tt)
     (record { number = omega (arith, sends.sent); origin = omega (arith, counted.origin, sends.entered) }, tt)
 
+ping_numbered : (plan : Plan) (me : EdgeId) (wire : WireId) (network : NetworkState) → AreNumbered network → AreNumbered (ping_event plan me wire network).state
+ping_numbered plan me wire network numbered = by (ping_work plan network me wire).idle where
+  by : (idles : Bool) → AreNumbered (cond idles (idle network) (absorb me 0 0 (ping_work plan network me wire) network)).state
+  by true = numbered
+  by false = absorb_numbered me 0 0 (ping_work plan network me wire) network (omega arith) numbered
+
 pub step_numbered : (plan : Plan) (network : NetworkState) (event : Event) → AreNumbered network → AreNumbered (step plan network event).state
 step_numbered plan network (Frame circuit octets) numbered = frame_numbered plan network circuit octets (circuit_row plan circuit) numbered
 step_numbered plan network (Arrive number) numbered = arrive_numbered plan network number (packet_at network number) refl numbered
 step_numbered plan network (Discard number) numbered = discard_numbered network (packet_at network number) numbered
 step_numbered plan network (Again number) numbered = again_numbered network number (packet_at network number) refl numbered
+step_numbered plan network (Ping me wire) numbered = ping_numbered plan me wire network numbered
 step_numbered plan network event numbered = quiet_numbered network (step plan network event).state numbered (step_signals plan network event refl).quiet
 
 pub after_numbered : (plan : Plan) (network : NetworkState) (events : List Event) → AreNumbered network → AreNumbered (state_after plan network events)

@@ -16,7 +16,7 @@ use Rattle.edge_model.specs.State.{EdgeState}
 use Rattle.edge_model.specs.Tick.{tick_input}
 use Rattle.edge_model.specs.Work.{Work}
 use Rattle.edge_model.specs.Wire.{priority_input, status_input, wire_input}
-use Rattle.edge_model.proofs.BridgeLemmas.{frame_bridges, packet_bridges}
+use Rattle.edge_model.proofs.BridgeLemmas.{frame_bridges, packet_bridges, ping_bridges}
 use Rattle.edge_model.proofs.SessionLemmas.{restart_works}
 use Rattle.edge_model.proofs.SignalLemmas.{circuit_signals, connected_signals, lost_signals, octets_signal, priority_signals, status_signals, tick_works, wire_signals}
 use Rattle.network_model.specs.Absorb.{absorb, absorb_all, answer, begin_at, idle, taken_all}
@@ -25,6 +25,7 @@ use Rattle.network_model.specs.Connection.{can_connect, connect_event, connected
 use Rattle.network_model.specs.Frame.{entering, frame_event, frame_work, next_origin}
 use Rattle.network_model.specs.declared.packet.Packet.{Packet}
 use Rattle.network_model.specs.Packet.{again_event, arrive_event, discard_event, packet_at, packet_work}
+use Rattle.network_model.specs.Ping.{ping_event, ping_work}
 use Rattle.network_model.specs.Run.{state_after}
 use Rattle.network_model.specs.State.{NetworkState, edge_at, empty_network, stands, with_edge, with_frame, with_packet, with_pipe, without_octets_to, without_packet}
 use Rattle.network_model.specs.Step.{step}
@@ -176,6 +177,10 @@ unfolding with_packet
 again_placed None network placed = placed
 again_placed (Some packet) network placed = record { me = placed.me }
 
+ping_placed : (plan : Plan) (me : EdgeId) (wire : WireId) (network : NetworkState) → IsPlaced network → IsPlaced (ping_event plan me wire network).state
+ping_placed plan me wire network placed =
+    answer_placed me 0 0 (ping_work plan network me wire) network placed (ap (λ (e : EdgeState). e.me) (ping_bridges plan taken_all wire (begin_at network me)).edge)
+
 pub step_placed : (plan : Plan) (network : NetworkState) (event : Event) → IsPlaced network → IsPlaced (step plan network event).state
 step_placed plan network (Connect from to) placed = connect_placed plan from to network placed
 step_placed plan network (Deliver from to count) placed = deliver_placed plan from to count network placed
@@ -190,7 +195,7 @@ step_placed plan network (Priority me wire priority) placed = priority_placed pl
 step_placed plan network (Arrive number) placed = arrive_placed plan (packet_at network number) network placed
 step_placed plan network (Discard number) placed = discard_placed (packet_at network number) network placed
 step_placed plan network (Again number) placed = again_placed (packet_at network number) network placed
-step_placed plan network (Ping me wire) placed = placed
+step_placed plan network (Ping me wire) placed = ping_placed plan me wire network placed
 
 after_placed : (plan : Plan) (network : NetworkState) (events : List Event) → IsPlaced network → IsPlaced (state_after plan network events)
 after_placed plan network [] placed = placed

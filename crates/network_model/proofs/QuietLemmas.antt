@@ -276,20 +276,21 @@ circuit_quiet plan network circuit on None = record { under_way = refl; sent = r
 circuit_quiet plan network circuit on (Some row) =
     answer_quiet row.edge (circuit_input plan taken_all circuit on (Some row) (begin_at network row.edge)) network (circuit_own plan network circuit on row)
 
--- ---- every event but four: frames enter, and packets arrive, are lost or are repeated
+-- ---- every event but five: frames enter, packets arrive, are lost or are repeated, and edges ping
 
-abbrev pub moves_frames : Event → Bool
-moves_frames (Frame circuit octets) = true
-moves_frames (Arrive number) = true
-moves_frames (Discard number) = true
-moves_frames (Again number) = true
-moves_frames event = false
+abbrev pub moves_packets : Event → Bool
+moves_packets (Frame circuit octets) = true
+moves_packets (Arrive number) = true
+moves_packets (Discard number) = true
+moves_packets (Again number) = true
+moves_packets (Ping me wire) = true
+moves_packets event = false
 
 pub record IsSignalStep (network : NetworkState) (stepped : Stepped) : Type 0 where
   pub tells : NoneGoesOut stepped.entries
   pub quiet : IsQuiet network stepped.state
 
-pub step_signals : (plan : Plan) (network : NetworkState) (event : Event) → moves_frames event ≡ false → IsSignalStep network (step plan network event)
+pub step_signals : (plan : Plan) (network : NetworkState) (event : Event) → moves_packets event ≡ false → IsSignalStep network (step plan network event)
 step_signals plan network (Connect from to) other = record { tells = connect_tells plan from to network; quiet = connect_quiet plan from to network }
 step_signals plan network (Deliver from to count) other = record { tells = deliver_tells plan from to count network; quiet = deliver_quiet plan from to count network }
 step_signals plan network (Lose me peer) other = record { tells = lose_tells plan me peer network; quiet = lose_quiet plan me peer network }
@@ -315,4 +316,4 @@ step_signals plan network (Frame circuit octets) other = absurd (cc (other))
 step_signals plan network (Arrive number) other = absurd (cc (other))
 step_signals plan network (Discard number) other = absurd (cc (other))
 step_signals plan network (Again number) other = absurd (cc (other))
-step_signals plan network (Ping me wire) other = record { tells = tt; quiet = record { under_way = refl; sent = refl; entered = refl } }
+step_signals plan network (Ping me wire) other = absurd (cc (other))

@@ -9,22 +9,24 @@ use Rattle.net_base.specs.declared.trace.arrival.Arrival.{Arrival}
 use Rattle.net_base.specs.declared.trace.entry.Entry.{Entry}
 use Rattle.net_base.specs.declared.trace.entry.Entry.TheVariants.{Left, Sent}
 use Rattle.net_base.specs.declared.trace.event.Event.{Event}
-use Rattle.net_base.specs.declared.trace.event.Event.TheVariants.{Frame, Arrive, Discard, Again}
+use Rattle.net_base.specs.declared.trace.event.Event.TheVariants.{Frame, Arrive, Discard, Again, Ping}
 use Rattle.net_base.specs.plan.Places.{circuit_row, is_mesh_class, is_mesh_row, is_mesh_wire}
 use Rattle.net_base.specs.plan.Paths.{mate_on}
 use Rattle.net_base.specs.trace.Split.{Split, SplitSent, is_before_last, is_inside, is_inside_row, is_switching_point}
 use Rattle.net_base.proofs.TraceLemmas.{split-append}
 use Rattle.edge_model.specs.declared.effect.Effect.{Effect}
 use Rattle.edge_model.specs.declared.effect.Effect.TheVariants as effect
-use Rattle.edge_model.specs.Local.{AllStayBehind, AllStayBeside, SentBehind, SentOn}
+use Rattle.edge_model.specs.Local.{AllStayAsked, AllStayBehind, AllStayBeside, SentBack, SentBehind, SentOn}
 use Rattle.edge_model.specs.State.{EdgeState}
 use Rattle.edge_model.proofs.LocalLemmas.{input_stays}
 use Rattle.edge_model.proofs.PacketLemmas.{packet_stays}
+use Rattle.edge_model.proofs.PingLemmas.{pings_stay_local}
 use Rattle.network_model.specs.declared.packet.Packet.{Packet}
-use Rattle.network_model.specs.Absorb.{absorb_one, all_entries_of, idle, taken_all}
+use Rattle.network_model.specs.Absorb.{absorb, absorb_one, all_entries_of, idle, taken_all}
 use Rattle.network_model.specs.Frame.{entering, frame_event, frame_work, next_origin}
 use Rattle.network_model.specs.Laws.{RunsAreSplit}
 use Rattle.network_model.specs.Packet.{again_event, arrive_event, discard_event, packet_at, packet_work}
+use Rattle.network_model.specs.Ping.{ping_event, ping_work}
 use Rattle.network_model.specs.Run.{entries_along}
 use Rattle.network_model.specs.State.{NetworkState, edge_at, empty_network}
 use Rattle.network_model.specs.Step.{step}
@@ -87,10 +89,25 @@ sent_on plan edge me octets peer wire came same on =
 behind_split : (plan : Plan) (edge : EdgeState) (me : EdgeId) (octets : List ℕ) (es : List Effect) → edge.me ≡ me → AllStayBehind plan edge octets es → AllSplit plan me es
 behind_split plan edge me octets [] same all = tt
 behind_split plan edge me octets (effect.Sent peer wire came bytes ∷ es) same all = (by all.0, behind_split plan edge me octets es same all.1) where
-  by : SentBehind plan edge octets wire came ⊎ SentOn plan edge octets peer wire came → SplitSent plan me wire came
+  by : SentBehind plan edge octets wire came ⊎ (SentOn plan edge octets peer wire came ⊎ SentBack plan edge octets peer wire came bytes) → SplitSent plan me wire came
   by (inl behind) = sent_behind plan edge me octets wire came behind
-  by (inr on) = sent_on plan edge me octets peer wire came same on
+  by (inr (inl on)) = sent_on plan edge me octets peer wire came same on
+  by (inr (inr back)) = subst (λ (a : Arrival). SplitSent plan me wire a) (sym back.own) tt
 behind_split plan edge me octets (e ∷ es) same all = behind_split plan edge me octets es same all.1
+
+-- on a ping
+asked_split : (plan : Plan) (edge : EdgeState) (me : EdgeId) (wire : WireId) (es : List Effect) → AllStayAsked plan edge wire es → AllSplit plan me es
+asked_split plan edge me wire [] all = tt
+asked_split plan edge me wire (effect.Sent peer on came bytes ∷ es) all = (subst (λ (a : Arrival). SplitSent plan me on a) (sym all.0.own) tt, asked_split plan edge me wire es all.1)
+asked_split plan edge me wire (e ∷ es) all = asked_split plan edge me wire es all.1
+
+ping_split : (plan : Plan) (me : EdgeId) (wire : WireId) (network : NetworkState) → Split plan (ping_event plan me wire network).entries
+ping_split plan me wire network = by (ping_work plan network me wire).idle where
+  by : (idles : Bool) → Split plan (cond idles (idle network) (absorb me 0 0 (ping_work plan network me wire) network)).entries
+  by true = (tt, tt)
+  by false =
+      effects_split plan me 0 0 _ (ping_work plan network me wire).effects
+      (asked_split plan (edge_at network me) me wire (ping_work plan network me wire).effects (pings_stay_local plan taken_all (edge_at network me) [] wire))
 
 frame_split : (plan : Plan) (network : NetworkState) (circuit : CircuitId) (octets : List ℕ) (row : Option CircuitPlan) → circuit_row plan circuit ≡ row → Split plan (frame_event plan circuit octets row network).entries
 frame_split plan network circuit octets None is = (tt, tt)
@@ -129,6 +146,7 @@ step_split plan network (Frame circuit octets) placed = (tt, frame_split plan ne
 step_split plan network (Arrive number) placed = (tt, arrive_split plan network (packet_at network number) placed)
 step_split plan network (Discard number) placed = (tt, discard_split plan network (packet_at network number))
 step_split plan network (Again number) placed = (tt, again_split plan network (packet_at network number))
+step_split plan network (Ping me wire) placed = (tt, ping_split plan me wire network)
 step_split plan network event placed = none_split plan (step plan network event).entries (step_signals plan network event refl).tells
 
 pub along_split : (plan : Plan) (network : NetworkState) (events : List Event) → IsPlaced network → Split plan (entries_along plan network events)

@@ -9,6 +9,7 @@ pub mod KnownOnce
 pub mod Laws
 pub mod OnceEach
 pub mod Packet
+pub mod Ping
 pub mod Reach
 pub mod Run
 pub mod State

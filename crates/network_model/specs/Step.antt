@@ -5,16 +5,17 @@ use Rattle.net_base.specs.declared.trace.event.Event.{Event}
 use Rattle.net_base.specs.declared.trace.event.Event.TheVariants.{Connect, Deliver, Lose, Restart, Tick, Frame, Arrive, Discard, Again, Wire, Circuit, Status, Priority, Ping}
 use Rattle.net_base.specs.declared.trace.entry.Entry.TheVariants.{Did}
 use Rattle.net_base.specs.plan.Places.{circuit_row}
-use Rattle.network_model.specs.Absorb.{Stepped, idle}
+use Rattle.network_model.specs.Absorb.{Stepped}
 use Rattle.network_model.specs.Circuit.{circuit_event}
 use Rattle.network_model.specs.Connection.{connect_event, deliver_event, lose_event, restart_event}
 use Rattle.network_model.specs.Frame.{frame_event}
 use Rattle.network_model.specs.Packet.{again_event, arrive_event, discard_event, packet_at}
+use Rattle.network_model.specs.Ping.{ping_event}
 use Rattle.network_model.specs.State.{NetworkState}
 use Rattle.network_model.specs.Tick.{tick_event}
 use Rattle.network_model.specs.Wire.{priority_event, status_event, wire_event}
 
--- A row for each event, and none for the rest. No control channel is built yet (RFC 5085), so a ping does not apply
+-- A row for each event, and none for the rest
 abbrev pub brings : Plan → Event → NetworkState → Stepped
 brings plan (Connect from to) network = connect_event plan from to network
 brings plan (Deliver from to count) network = deliver_event plan from to count network
@@ -29,7 +30,7 @@ brings plan (Priority me wire priority) network = priority_event plan me wire pr
 brings plan (Arrive number) network = arrive_event plan (packet_at network number) network
 brings plan (Discard number) network = discard_event (packet_at network number) network
 brings plan (Again number) network = again_event (packet_at network number) network
-brings plan (Ping me wire) network = idle network
+brings plan (Ping me wire) network = ping_event plan me wire network
 
 -- an event is told first, and then what it brings about
 abbrev pub step : Plan → NetworkState → Event → Stepped

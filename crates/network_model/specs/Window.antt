@@ -90,8 +90,10 @@ abbrev pub is_row_of_service : ServiceId → Option WirePlan → Bool
 is_row_of_service service None = false
 is_row_of_service service (Some row) = is_wire_of service row
 
+-- a packet of the service that carries a frame, and no ping or answer, has the address as the source of that frame
 abbrev pub packet_teaches : Plan → ServiceId → List ℕ → Packet → Bool
-packet_teaches plan service address packet = is_row_of_service service (wire_row plan packet.wire) && is_sourced address (carried plan packet)
+packet_teaches plan service address packet =
+    not (packet.origin == 0) && (is_row_of_service service (wire_row plan packet.wire) && is_sourced address (carried plan packet))
 
 -- the frame is flooded: it goes to a group, or to an address that no bridge of the service has learned and nothing
 -- teaches in the window. The events begin with the frame itself, and the state is the one in which it comes

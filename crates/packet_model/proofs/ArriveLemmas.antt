@@ -62,7 +62,7 @@ pub record IsAlive (ttl : ℕ) : Type 0 where
   pub least : 1 ≤ ttl
   pub most : ttl ≤ 255
 
-few_left : (ttl points : ℕ) → points ≤ 5 → ttl + points ≡ 255 → IsAlive ttl
+pub few_left : (ttl points : ℕ) → points ≤ 5 → ttl + points ≡ 255 → IsAlive ttl
 few_left ttl points few left = record { least = omega (arith, few, left); most = omega (arith, few, left) }
 
 -- an end that advertises a label owns it

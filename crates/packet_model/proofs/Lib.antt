@@ -1,6 +1,16 @@
+pub mod ApartLemmas
 pub mod ArriveLemmas
+pub mod ChannelLemmas
+pub mod EchoAnswerLemmas
+pub mod EchoArriveLemmas
+pub mod EchoSendLemmas
+pub mod EchoSwitchLemmas
+pub mod Examples
+pub mod MessageLemmas
 pub mod PackLemmas
+pub mod PathLemmas
 pub mod RunLemmas
 pub mod SendLemmas
+pub mod SharedLemmas
 pub mod StepLemmas
 pub mod SwitchLemmas

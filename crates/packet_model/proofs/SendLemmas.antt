@@ -1,5 +1,5 @@
 -- A copy that an edge sends on a wire is carried there as the packet rule says.
-use Rattle.std.proofs.Common.{◌≡◌, ◌+◌, ◌++◌, ◌∙◌, ℕ, true, List, [], ◌∷◌, Some, None, Ok, length, ap, sym, subst, arith}
+use Rattle.std.proofs.Common.{◌≡◌, ◌==◌, ◌+◌, ◌++◌, ◌∙◌, ℕ, true, false, List, [], ◌∷◌, Some, None, Ok, length, ap, sym, subst, arith}
 use Rattle.std.specs.List.{AllByRecursion}
 use Rattle.net_base.specs.declared.plan.Plan.{Plan}
 use Rattle.net_base.specs.declared.plan.offer.Offer.{Offer}
@@ -41,6 +41,7 @@ use Rattle.packet_model.proofs.PackLemmas.{HaveSameMode, expected_offer, forward
 
 -- a frame with this number entered in the service, with this inner frame
 pub record HasCome (plan : Plan) (trace : List Entry) (service : ServiceId) (origin : ℕ) (frame : List ℕ) : Type 0 where
+  pub numbered : (origin == 0) ≡ false
   pub sender : CircuitId
   pub octets : List ℕ
   pub told : Among (In sender origin octets) trace
@@ -50,6 +51,7 @@ pub record HasCome (plan : Plan) (trace : List Entry) (service : ServiceId) (ori
 -- as the frame of a wire of the service
 pub entered_of : (plan : Plan) (trace : List Entry) (row : WirePlan) (service : ServiceId) (origin : ℕ) (frame : List ℕ) → row.service ≡ service → HasCome plan trace service origin frame → HasEnteredService plan trace row origin frame
 entered_of plan trace row service origin frame same come = record {
+  numbered = come.numbered;
   sender = come.sender;
   octets = come.octets;
   told = come.told;
@@ -58,11 +60,12 @@ entered_of plan trace row service origin frame same come = record {
 }
 
 pub come_of : (plan : Plan) (trace : List Entry) (row : WirePlan) (origin : ℕ) (frame : List ℕ) → HasEnteredService plan trace row origin frame → HasCome plan trace row.service origin frame
-come_of plan trace row origin frame entered = record { sender = entered.sender; octets = entered.octets; told = entered.told; of_service = entered.service; formed = entered.formed }
+come_of plan trace row origin frame entered = record { numbered = entered.numbered; sender = entered.sender; octets = entered.octets; told = entered.told; of_service = entered.service; formed = entered.formed }
 
 -- it has come still when more was told
 pub come_on : (plan : Plan) (trace more : List Entry) (service : ServiceId) (origin : ℕ) (frame : List ℕ) → HasCome plan trace service origin frame → HasCome plan (trace ++ more) service origin frame
 come_on plan trace more service origin frame come = record {
+  numbered = come.numbered;
   sender = come.sender;
   octets = come.octets;
   told = among-append (In come.sender origin come.octets) trace more come.told;

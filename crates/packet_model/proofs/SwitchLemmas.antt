@@ -14,7 +14,7 @@ use Rattle.net_base.specs.declared.trace.entry.Entry.{Entry}
 use Rattle.net_base.specs.plan.Accepted.{IsChecked, IsWireOf}
 use Rattle.net_base.specs.plan.Paths.{PassedPoint, expected, has_repeat, joins, mate_on}
 use Rattle.net_base.proofs.PathLemmas.{mate_back, mate_joined, place_of}
-use Rattle.eth_encap.specs.Packet.{entry_number, entry_of, packed, payload_of}
+use Rattle.eth_encap.specs.Packet.{entry_number, entry_octets, entry_of, packed, payload_of}
 use Rattle.eth_encap.specs.declared.stack_entry.StackEntry.{StackEntry}
 use Rattle.eth_encap.proofs.PacketLemmas.{packed_is_unpacked}
 use Rattle.pw_signalling.specs.declared.binding.Binding.{Binding}
@@ -42,15 +42,19 @@ class_kept label ttl most = omega (arith, most)
 number_fits : (label ttl : ℕ) → label ≤ 1048575 → ttl ≤ 255 → entry_number label true ttl < 4294967296
 number_fits label ttl low most = omega (arith, low, most)
 
+-- an entry at the bottom of the stack, with whatever behind it
+pub relabelled_entry : (label ttl old was : ℕ) (rest : List ℕ) → old ≤ 1048575 → was ≤ 255 → relabelled label ttl (entry_octets old true was ++ rest) ≡ entry_octets label true ttl ++ rest
+relabelled_entry label ttl old was rest low most =
+    let number : big_number 4 (entry_octets old true was ++ rest) ≡ entry_number old true was = big_number-reads_back 4 (entry_number old true was) rest (number_fits old was low most) in
+    let class : big_number 4 (entry_octets old true was ++ rest) / 256 % 16 ≡ 1 = ap (λ (n : ℕ). n / 256 % 16) number ∙ class_kept old was most in
+    ap (λ (n : ℕ). big_bytes 4 (label * 4096 + (n * 256 + ttl)) ++ rest) class
+
 pub relabelled_packed : (label ttl old was : ℕ) (cword : Bool) (vlan : Option ℕ) (frame : List ℕ) → old ≤ 1048575 → was ≤ 255 → relabelled label ttl (packed old was cword vlan frame) ≡ packed label ttl cword vlan frame
-relabelled_packed label ttl old was cword vlan frame low most =
-    let number : big_number 4 (packed old was cword vlan frame) ≡ entry_number old true was = big_number-reads_back 4 (entry_number old true was) (payload_of cword vlan frame) (number_fits old was low most) in
-    let class : big_number 4 (packed old was cword vlan frame) / 256 % 16 ≡ 1 = ap (λ (n : ℕ). n / 256 % 16) number ∙ class_kept old was most in
-    ap (λ (n : ℕ). big_bytes 4 (label * 4096 + (n * 256 + ttl)) ++ payload_of cword vlan frame) class
+relabelled_packed label ttl old was cword vlan frame low most = relabelled_entry label ttl old was (payload_of cword vlan frame) low most
 
 -- ---- a mate
 
-mate_turned : (path : List EdgeId) (me from to : EdgeId) → has_repeat path ≡ false → mate_on path me.0 from.0 ≡ Some to → mate_on path me.0 to.0 ≡ Some from
+pub mate_turned : (path : List EdgeId) (me from to : EdgeId) → has_repeat path ≡ false → mate_on path me.0 from.0 ≡ Some to → mate_on path me.0 to.0 ≡ Some from
 mate_turned path me from to once is = by (mate_on path me.0 to.0) (mate_back path me.0 from.0 to once is) where
   by : (m : Option EdgeId) → place_of m ≡ Some from.0 → m ≡ Some from
   by None h = absurd (cc (h))
@@ -136,7 +140,7 @@ module _ (plan : Plan) (network : NetworkState) (trace : List Entry) (packet : P
 
 -- ---- what comes of a packet that is passed on
 
-same_read : (read : Result StackEntry DropCause) (one other : StackEntry) → read ≡ Ok one → read ≡ Ok other → one ≡ other
+pub same_read : (read : Result StackEntry DropCause) (one other : StackEntry) → read ≡ Ok one → read ≡ Ok other → one ≡ other
 same_read read one other first second = cc
 
 module _ (plan : Plan) (network : NetworkState) (trace : List Entry) (packet : Packet) (effects : List Effect) (checked : IsChecked plan) (ruled : IsRuledNetwork plan network) (carried : IsCarried plan network trace packet)

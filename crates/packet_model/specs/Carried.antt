@@ -1,6 +1,6 @@
 -- What a packet under way carries: the inner frame of a frame that entered in the service of its wire, as RFC 4448 section 4 packs
 -- it, under a label that the edge to which it goes gave to its end of that wire.
-use Rattle.std.specs.Prelude.{◌≡◌, ◌+◌, is_some, length, ℕ, true, List, Option, Some, Ok}
+use Rattle.std.specs.Prelude.{◌≡◌, ◌⊎◌, ◌==◌, ◌+◌, is_some, length, ℕ, true, false, List, Option, Some, Ok}
 use Rattle.std.specs.List.{AllByRecursion}
 use Rattle.net_base.specs.declared.plan.Plan.{Plan}
 use Rattle.net_base.specs.declared.plan.places.CircuitId.{CircuitId}
@@ -16,9 +16,11 @@ use Rattle.edge_model.specs.Send.{pushed_vlan}
 use Rattle.flight_model.specs.Rules.{MayName}
 use Rattle.network_model.specs.declared.packet.Packet.{Packet}
 use Rattle.network_model.specs.State.{NetworkState}
+use Rattle.packet_model.specs.Echoed.{IsEchoed}
 
--- a frame with this number entered in the service, with this inner frame
+-- a frame with this number entered in the service, with this inner frame; 0 is no frame's number
 pub record HasEnteredService (plan : Plan) (trace : List Entry) (row : WirePlan) (origin : ℕ) (frame : List ℕ) : Type 0 where
+  pub numbered : (origin == 0) ≡ false
   pub sender : CircuitId
   pub octets : List ℕ
   pub told : Among (In sender origin octets) trace
@@ -52,6 +54,10 @@ pub record IsCarried (plan : Plan) (network : NetworkState) (trace : List Entry)
   -- the label was given before, and whoever owns it is the end of that wire beside the sender
   pub named : MayName (network.edges packet.to.0) packet.wire.0 packet.from.0 label
 
+-- it carries a frame, or it is a ping or an answer
+abbrev pub FollowsPacketRule : Plan → NetworkState → List Entry → Packet → Type 0
+FollowsPacketRule plan network trace packet = IsCarried plan network trace packet ⊎ IsEchoed plan network packet
+
 -- the packet rule: of every packet under way
 abbrev pub KeepsPacketRule : Plan → NetworkState → List Entry → Type 0
-KeepsPacketRule plan network trace = AllByRecursion (IsCarried plan network trace) network.under_way
+KeepsPacketRule plan network trace = AllByRecursion (FollowsPacketRule plan network trace) network.under_way

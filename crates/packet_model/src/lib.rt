@@ -4,4 +4,6 @@
 
 mod laws;
 
-pub use laws::{runs_are_isolated, runs_keep_packet_rule};
+pub use laws::{
+    runs_are_isolated, runs_keep_echoes_apart, runs_keep_packet_rule, runs_share_channels,
+};

@@ -20,6 +20,8 @@ mod hierarchy;
 #[cfg(test)]
 mod networks;
 #[cfg(test)]
+mod pings;
+#[cfg(test)]
 mod pseudowires;
 #[cfg(test)]
 mod replays;

@@ -1,6 +1,6 @@
 //! Whole replays of sessions between edges.
 
-use crate::around::{Case, REPLAY, Taken, all_play, plays};
+use crate::around::{Case, REPLAY, Taken, plays};
 
 // Two edges, joined by a mesh wire of one service.
 const JOINED: &str = "
@@ -54,33 +54,8 @@ static CONNECTS: Case = Case {
     ..REPLAY
 };
 
-// A replay with something that is not built.
-const NOT_BUILT: Case = Case {
-    tables: JOINED,
-    status: 5,
-    told: "vplsnet: not built",
-    ..REPLAY
-};
-
-static UNBUILT: [Case; 3] = [
-    Case {
-        more: "class = \"mesh\"\nvccv = 1",
-        ..NOT_BUILT
-    },
-    Case {
-        more: "class = \"mesh\"\nfar_vccv = 1",
-        ..NOT_BUILT
-    },
-    Case {
-        front: "\"ping a w\"",
-        more: "class = \"mesh\"",
-        ..NOT_BUILT
-    },
-];
-
 #[test]
-fn brings_a_session_up_and_refuses_what_is_not_built(rt: HostRuntime) {
+fn brings_a_session_up(rt: HostRuntime) {
     let alloc = rt.alloc();
     plays(&rt, alloc, &CONNECTS);
-    all_play(&rt, alloc, UNBUILT.as_slice());
 }

@@ -307,6 +307,7 @@ edge_going e is synced = record {
   each_bits = is.each_bits;
   small = is.small;
   priorities = is.priorities;
+  each_ping = is.each_ping;
   spokes = is.spokes;
   plan = is.plan;
   me = is.me;

@@ -21,7 +21,7 @@ use Rattle.net_base.specs.declared.trace.state_name.StateName.TheVariants as nam
 use Rattle.net_base.specs.outside.Link.{call_of}
 use Rattle.net_base.specs.plan.Accepted.{IsChecked, IsWireOf}
 use Rattle.net_base.specs.declared.plan.wire_plan.WirePlan.{WirePlan}
-use Rattle.net_base.specs.plan.Paths.{are_joined, joins, mate, mate_on, offer_of}
+use Rattle.net_base.specs.plan.Paths.{are_joined, edge_address, joins, mate, mate_on, offer_of}
 use Rattle.net_base.specs.plan.RowFaults.{is_edge_of}
 use Rattle.std.specs.List.{AllByRecursion, find, list_all}
 use Rattle.std.specs.Option.{option_or}
@@ -56,6 +56,17 @@ use Rattle.eth_encap.specs.declared.stack_entry.StackEntry.{StackEntry}
 use Rattle.eth_encap.specs.Packet.{entry_of}
 use Rattle.pw_signalling.specs.declared.binding.Binding.{Binding}
 use Rattle.pw_stitch.specs.declared.swap_drop.SwapDrop.{SwapDrop}
+use Rattle.pw_stitch.specs.Stitch.{has_told}
+use Rattle.net_values.specs.declared.addr.Addr.{Addr}
+use Rattle.vccv_channel.specs.declared.cc.Cc.{Cc}
+use Rattle.vccv_channel.specs.declared.cc.Cc.TheVariants.{Alert, Expiry, Header}
+use Rattle.vccv_channel.specs.declared.echo.Echo.{Echo}
+use Rattle.vccv_channel.specs.declared.echo.Echo.TheVariants.{Answer, Request}
+use Rattle.vccv_channel.specs.declared.vccv_fault.VccvFault.{VccvFault}
+use Rattle.vccv_channel.specs.Channel.{has_header}
+use Rattle.vccv_channel.specs.Echo.{answer_packet, request_packet}
+use Rattle.vccv_channel.specs.Fault.{vccv_cause_of}
+use Rattle.vccv_channel.specs.Reading.{ip_packet_of, reading}
 use Rattle.pw_stitch.specs.Drop.{dropped_for}
 use Rattle.pw_stitch.specs.Relabelling.{relabelled}
 use Rattle.pw_stitch.specs.Swap.{label_onward}
@@ -76,7 +87,9 @@ use Rattle.mac_withdraw.specs.Pieces.{pieces_of}
 use Rattle.edge_model.specs.Across.{end_beside, end_beyond, mate_of}
 use Rattle.edge_model.specs.Clear.{clears_at, clears_by, clears_wire, hears_mac_withdraw, passes_on, tells_at, tells_by, withdrawing_at}
 use Rattle.edge_model.specs.Withdraw.{tells_piece, tells_piece_by, tells_pieces}
-use Rattle.edge_model.specs.Packet.{advertiser, alerted, alerts_end, behind_entry, bridges_frame, by_offer, enters, is_alert, is_channel, labelled, least_label, opened_by, owned, packet_input, switched, switched_by, switched_to, switched_under, terminated, towards, unpacked_at}
+use Rattle.edge_model.specs.Echo.{channel_octets, channel_under, echoes, is_picked, ping_number, verifies, verifies_in}
+use Rattle.edge_model.specs.Ping.{asks, far_address, ping_between, ping_input, pinging, pings_at, pings_by, pings_in, pings_under}
+use Rattle.edge_model.specs.Packet.{advertiser, advertises_label, alerted, alerts_by, alerts_end, behind_entry, by_control_word, bridges_frame, by_offer, enters, is_alert, is_channel, labelled, least_label, opened_by, owned, packet_input, switched, switched_by, switched_to, switched_under, terminated, towards, unpacked_at}
 use Rattle.edge_model.specs.Send.{drops, had_posted, packet_of, sends, sends_copy, sends_under}
 use Rattle.edge_model.specs.Synced.{InSync}
 use Rattle.edge_model.specs.Put.{Spoken, message_octets_of, octets_of, put_octets, put_replies, put_reply, put_reply_to, puts_on, with_spoken, stays}
@@ -110,6 +123,7 @@ pub record AreKept (plan : Plan) (Holds : Work → Type 0) : Type 0 where
   pub dropped : (cause : DropCause) (w : Work) → Holds w → Holds (gives (Dropped cause) w)
   pub session : (peer : EdgeId) (state : StateName) (w : Work) → peer.0 < length plan.edges → Holds w → Holds (gives (Session peer state) w)
   pub wire : (wire : WireId) (down : Option Down) (w : Work) → wire.0 < length plan.wires → Holds w → Holds (gives (Wire wire down) w)
+  pub pong : (wire : WireId) (sequence : ℕ) (w : Work) → wire.0 < length plan.wires → Holds w → Holds (gives (Pong wire sequence) w)
   pub gone : (peer : EdgeId) (w : Work) → peer.0 < length plan.edges → Holds w → Holds (gives (Closed peer) w)
   pub said : (peer : EdgeId) (bytes : List ℕ) (change : EdgeState → EdgeState) (w : Work) → peer.0 < length plan.edges → Holds w → Holds (gives (Said peer bytes) (changes change (puts peer bytes true w)))
   pub refused : (peer : EdgeId) (bytes : List ℕ) (w : Work) → Holds w → Holds (puts peer bytes false w)
@@ -236,21 +250,53 @@ enters_kept plan Holds kept checked told row place payload work here = by (is_up
   by true = received_kept plan Holds kept checked told (arrival.Wire place.wire) row.service (port_of_wire plan work.edge place.wire row) (unpacked_at plan row work.edge.me payload) work here
   by false = kept.dropped causes.Down work here
 
-offered_kept : (plan : Plan) (Holds : Work → Type 0) → AreKept plan Holds → IsChecked plan → (told : Answers) (row : WirePlan) (place : EndPlace) (cword : Bool) (payload : List ℕ) (work : Work) → Holds work → Holds (by_offer plan told row place cword payload work)
-offered_kept plan Holds kept checked told row place false payload work here = enters_kept plan Holds kept checked told row place payload work here
-offered_kept plan Holds kept checked told row place true payload work here = by (nat_eq (length payload) 0) where
-  channel : (b : Bool) → Holds (cond b (drops causes.NotOffered work) (enters plan told row place payload work))
-  channel true = kept.dropped causes.NotOffered work here
+-- ---- an echo packet
+
+echoed_kept : (plan : Plan) (Holds : Work → Type 0) → AreKept plan Holds → (told : Answers) (place : EndPlace) (kind : Cc) (binding : Binding) (ip : List ℕ) (read : Result Echo VccvFault) (work : Work) → IsPlaced plan place → Holds work
+    → Holds (echoes told place kind binding ip read work)
+echoed_kept plan Holds kept told place kind binding ip (Err why) work placed here = kept.dropped (vccv_cause_of why) work here
+echoed_kept plan Holds kept told place kind binding ip (Ok (Answer sequence)) work placed here = kept.pong place.wire sequence work placed.wire here
+echoed_kept plan Holds kept told place kind binding ip (Ok (Request from to sequence long)) work placed here =
+    sends_kept plan Holds kept told place arrival.Own (channel_octets kind binding (answer_packet ip)) work placed here
+
+verified_kept : (plan : Plan) (Holds : Work → Type 0) → AreKept plan Holds → (told : Answers) (place : EndPlace) (row : WirePlan) (kind : Cc) (binding : Binding) (payload : List ℕ) (work : Work) → IsPlaced plan place → Holds work
+    → Holds (verifies told place row kind binding payload work)
+verified_kept plan Holds kept told place row kind binding payload work placed here =
+    echoed_kept plan Holds kept told place kind binding (ip_packet_of (has_header kind) payload) (reading (has_header kind) (ping_number row) payload) work placed here
+
+verified_in_kept : (plan : Plan) (Holds : Work → Type 0) → AreKept plan Holds → (told : Answers) (place : EndPlace) (row : WirePlan) (kind : Cc) (binding : Binding) (payload : List ℕ) (work : Work) → IsPlaced plan place → Holds work
+    → Holds (verifies_in told place row kind binding payload work)
+verified_in_kept plan Holds kept told place row kind binding payload work placed here = by (is_picked kind (channel_under row work.edge.me binding)) where
+  by : (b : Bool) → Holds (cond b (verifies told place row kind binding payload work) (drops causes.NotOffered work))
+  by true = verified_kept plan Holds kept told place row kind binding payload work placed here
+  by false = kept.dropped causes.NotOffered work here
+
+-- ---- a terminal end
+
+worded_kept : (plan : Plan) (Holds : Work → Type 0) → AreKept plan Holds → IsChecked plan → (told : Answers) (row : WirePlan) (place : EndPlace) (binding : Binding) (payload : List ℕ) (work : Work) → IsPlaced plan place → Holds work
+    → Holds (by_control_word plan told row place binding payload work)
+worded_kept plan Holds kept checked told row place binding payload work placed here = by (nat_eq (length payload) 0) where
+  channel : (b : Bool) → Holds (cond b (verifies_in told place row Header binding payload work) (enters plan told row place payload work))
+  channel true = verified_in_kept plan Holds kept told place row Header binding payload work placed here
   channel false = enters_kept plan Holds kept checked told row place payload work here
 
-  by : (b : Bool) → Holds (cond b (drops causes.Short work) (cond (is_channel payload) (drops causes.NotOffered work) (enters plan told row place payload work)))
+  by : (b : Bool) → Holds (cond b (drops causes.Short work) (cond (is_channel payload) (verifies_in told place row Header binding payload work) (enters plan told row place payload work)))
   by true = kept.dropped causes.Short work here
   by false = channel (is_channel payload)
 
-terminated_kept : (plan : Plan) (Holds : Work → Type 0) → AreKept plan Holds → IsChecked plan → (told : Answers) (place : EndPlace) (row : Option WirePlan) (remote : Option Binding) (payload : List ℕ) (work : Work) → Holds work → Holds (terminated plan told place row remote payload work)
-terminated_kept plan Holds kept checked told place None remote payload work here = kept.dropped causes.Down work here
-terminated_kept plan Holds kept checked told place (Some row) None payload work here = kept.dropped causes.Down work here
-terminated_kept plan Holds kept checked told place (Some row) (Some binding) payload work here = offered_kept plan Holds kept checked told row place (offer_of row work.edge.me.0).cword payload work here
+offered_kept : (plan : Plan) (Holds : Work → Type 0) → AreKept plan Holds → IsChecked plan → (told : Answers) (row : WirePlan) (place : EndPlace) (binding : Binding) (ttl : ℕ) (cword : Bool) (payload : List ℕ) (work : Work) → IsPlaced plan place → Holds work
+    → Holds (by_offer plan told row place binding ttl cword payload work)
+offered_kept plan Holds kept checked told row place binding ttl true payload work placed here = worded_kept plan Holds kept checked told row place binding payload work placed here
+offered_kept plan Holds kept checked told row place binding ttl false payload work placed here = by (nat_eq ttl 1 && is_picked Expiry (channel_under row work.edge.me binding)) where
+  by : (b : Bool) → Holds (cond b (verifies told place row Expiry binding payload work) (enters plan told row place payload work))
+  by true = verified_kept plan Holds kept told place row Expiry binding payload work placed here
+  by false = enters_kept plan Holds kept checked told row place payload work here
+
+terminated_kept : (plan : Plan) (Holds : Work → Type 0) → AreKept plan Holds → IsChecked plan → (told : Answers) (place : EndPlace) (ttl : ℕ) (row : Option WirePlan) (remote : Option Binding) (payload : List ℕ) (work : Work) → IsPlaced plan place → Holds work
+    → Holds (terminated plan told place ttl row remote payload work)
+terminated_kept plan Holds kept checked told place ttl None remote payload work placed here = kept.dropped causes.Down work here
+terminated_kept plan Holds kept checked told place ttl (Some row) None payload work placed here = kept.dropped causes.Down work here
+terminated_kept plan Holds kept checked told place ttl (Some row) (Some binding) payload work placed here = offered_kept plan Holds kept checked told row place binding ttl (offer_of row work.edge.me.0).cword payload work placed here
 
 -- the mate at a switching point is an edge of the plan
 mate_within : (plan : Plan) (path : List EdgeId) (me from : ℕ) (to : EdgeId) → list_all (is_edge_of plan) path ≡ true → mate_on path me from ≡ Some to → to.0 < length plan.edges
@@ -293,47 +339,92 @@ switched_kept plan Holds kept checked told octets entry place work here = by (wi
   by None is = here
   by (Some row) is = mated row is (mate row work.edge.me.0 place.peer.0) refl
 
-owned_kept : (plan : Plan) (Holds : Work → Type 0) → AreKept plan Holds → IsChecked plan → (told : Answers) (octets : List ℕ) (entry : StackEntry) (end : Option EndPlace) (work : Work) → Holds work → Holds (owned plan told octets entry end work)
-owned_kept plan Holds kept checked told octets entry None work here = kept.dropped causes.NoLabel work here
-owned_kept plan Holds kept checked told octets entry (Some place) work here = by place.terminal where
-  by : (b : Bool) → Holds (cond b (terminated plan told place (wire_row plan place.wire) (end_at work.edge place).remote (behind_entry octets) work) (switched plan told octets entry place work))
-  by true = terminated_kept plan Holds kept checked told place (wire_row plan place.wire) (end_at work.edge place).remote (behind_entry octets) work here
+owned_kept : (plan : Plan) (Holds : Work → Type 0) → AreKept plan Holds → IsChecked plan → (told : Answers) (octets : List ℕ) (entry : StackEntry) (end : Option EndPlace) (work : Work) → ((place : EndPlace) → end ≡ Some place → IsPlaced plan place) → Holds work
+    → Holds (owned plan told octets entry end work)
+owned_kept plan Holds kept checked told octets entry None work placed here = kept.dropped causes.NoLabel work here
+owned_kept plan Holds kept checked told octets entry (Some place) work placed here = by place.terminal where
+  by : (b : Bool) → Holds (cond b (terminated plan told place entry.ttl (wire_row plan place.wire) (end_at work.edge place).remote (behind_entry octets) work) (switched plan told octets entry place work))
+  by true = terminated_kept plan Holds kept checked told place entry.ttl (wire_row plan place.wire) (end_at work.edge place).remote (behind_entry octets) work (placed place refl) here
   by false = switched_kept plan Holds kept checked told octets entry place work here
+
+-- the end that advertises a label is one of the plan
+advertiser_placed : (plan : Plan) (edge : EdgeState) (label : ℕ) → IsChecked plan → (place : EndPlace) → advertiser plan edge label ≡ Some place → IsPlaced plan place
+advertiser_placed plan edge label checked place =
+    found_holds (IsPlaced plan) (λ (p : EndPlace). advertises_label label (end_at edge p).local) (end_places plan edge.me) place (places_placed plan edge.me checked)
 
 labelled_kept : (plan : Plan) (Holds : Work → Type 0) → AreKept plan Holds → IsChecked plan → (told : Answers) (octets : List ℕ) (entry : StackEntry) (work : Work) → Holds work → Holds (labelled plan told octets entry work)
 labelled_kept plan Holds kept checked told octets entry work here = by (nat_lt entry.label least_label) where
   bottom : (b : Bool) → Holds (cond b (owned plan told octets entry (advertiser plan work.edge entry.label) work) (drops causes.NotBottom work))
-  bottom true = owned_kept plan Holds kept checked told octets entry (advertiser plan work.edge entry.label) work here
+  bottom true = owned_kept plan Holds kept checked told octets entry (advertiser plan work.edge entry.label) work (advertiser_placed plan work.edge entry.label checked) here
   bottom false = kept.dropped causes.NotBottom work here
 
   by : (b : Bool) → Holds (cond b (drops causes.NoLabel work) (cond entry.bottom (owned plan told octets entry (advertiser plan work.edge entry.label) work) (drops causes.NotBottom work)))
   by true = kept.dropped causes.NoLabel work here
   by false = bottom entry.bottom
 
-alerted_kept : (plan : Plan) (Holds : Work → Type 0) → AreKept plan Holds → (read : Result StackEntry DropCause) (work : Work) → Holds work → Holds (alerted plan read work)
-alerted_kept plan Holds kept (Err why) work here = kept.dropped why work here
-alerted_kept plan Holds kept (Ok entry) work here = by entry.bottom where
-  terminal : (place : EndPlace) (b : Bool) → Holds (cond b (drops causes.NotOffered work) (drops causes.NoLabel work))
-  terminal place true = kept.dropped causes.NotOffered work here
-  terminal place false = kept.dropped causes.NoLabel work here
+alert_end_kept : (plan : Plan) (Holds : Work → Type 0) → AreKept plan Holds → (told : Answers) (place : EndPlace) (row : Option WirePlan) (remote : Option Binding) (payload : List ℕ) (work : Work) → IsPlaced plan place → Holds work
+    → Holds (alerts_by told place row remote payload work)
+alert_end_kept plan Holds kept told place None remote payload work placed here = kept.dropped causes.NotOffered work here
+alert_end_kept plan Holds kept told place (Some row) None payload work placed here = kept.dropped causes.NotOffered work here
+alert_end_kept plan Holds kept told place (Some row) (Some binding) payload work placed here = verified_in_kept plan Holds kept told place row Alert binding payload work placed here
 
-  ends_at : (end : Option EndPlace) → Holds (alerts_end end work)
-  ends_at None = kept.dropped causes.NoLabel work here
-  ends_at (Some place) = terminal place place.terminal
+alerted_kept : (plan : Plan) (Holds : Work → Type 0) → AreKept plan Holds → IsChecked plan → (told : Answers) (octets : List ℕ) (read : Result StackEntry DropCause) (work : Work) → Holds work → Holds (alerted plan told octets read work)
+alerted_kept plan Holds kept checked told octets (Err why) work here = kept.dropped why work here
+alerted_kept plan Holds kept checked told octets (Ok entry) work here = by entry.bottom where
+  terminal : (place : EndPlace) → IsPlaced plan place → (b : Bool)
+      → Holds (cond b (alerts_by told place (wire_row plan place.wire) (end_at work.edge place).remote (behind_entry octets) work) (drops causes.NoLabel work))
+  terminal place placed true = alert_end_kept plan Holds kept told place (wire_row plan place.wire) (end_at work.edge place).remote (behind_entry octets) work placed here
+  terminal place placed false = kept.dropped causes.NoLabel work here
 
-  by : (b : Bool) → Holds (cond b (alerts_end (advertiser plan work.edge entry.label) work) (drops causes.NotBottom work))
-  by true = ends_at (advertiser plan work.edge entry.label)
+  ends_at : (end : Option EndPlace) → ((place : EndPlace) → end ≡ Some place → IsPlaced plan place) → Holds (alerts_end plan told (behind_entry octets) end work)
+  ends_at None placed = kept.dropped causes.NoLabel work here
+  ends_at (Some place) placed = terminal place (placed place refl) place.terminal
+
+  by : (b : Bool) → Holds (cond b (alerts_end plan told (behind_entry octets) (advertiser plan work.edge entry.label) work) (drops causes.NotBottom work))
+  by true = ends_at (advertiser plan work.edge entry.label) (advertiser_placed plan work.edge entry.label checked)
   by false = kept.dropped causes.NotBottom work here
 
 packet_kept : (plan : Plan) (Holds : Work → Type 0) → AreKept plan Holds → IsChecked plan → (told : Answers) (octets : List ℕ) (work : Work) → Holds work → Holds (packet_input plan told octets work)
 packet_kept plan Holds kept checked told octets work here = to (entry_of octets) where
-  by : (entry : StackEntry) (b : Bool) → Holds (cond b (alerted plan (entry_of (behind_entry octets)) work) (labelled plan told octets entry work))
-  by entry true = alerted_kept plan Holds kept (entry_of (behind_entry octets)) work here
+  by : (entry : StackEntry) (b : Bool) → Holds (cond b (alerted plan told (behind_entry octets) (entry_of (behind_entry octets)) work) (labelled plan told octets entry work))
+  by entry true = alerted_kept plan Holds kept checked told (behind_entry octets) (entry_of (behind_entry octets)) work here
   by entry false = labelled_kept plan Holds kept checked told octets entry work here
 
   to : (read : Result StackEntry DropCause) → Holds (opened_by plan told octets read work)
   to (Err why) = kept.dropped why work here
   to (Ok entry) = by entry (is_alert entry)
+
+-- ---- a ping
+
+asked_kept : (plan : Plan) (Holds : Work → Type 0) → AreKept plan Holds → (told : Answers) (place : EndPlace) (row : WirePlan) (kind : Cc) (binding : Binding) (from to : Option Addr) (work : Work) → IsPlaced plan place → Holds work
+    → Holds (asks told place row kind binding from to work)
+asked_kept plan Holds kept told place row kind binding (Some from) (Some to) work placed here =
+    sends_kept plan Holds kept told place arrival.Own (channel_octets kind binding (request_packet (ping_between row from to (work.edge.next_ping place.wire.0)))) (changes (pinging place.wire) work) placed
+    (kept.changed (pinging place.wire) work here)
+asked_kept plan Holds kept told place row kind binding (Some from) None work placed here = kept.idle work here
+asked_kept plan Holds kept told place row kind binding None to work placed here = kept.idle work here
+
+ping_kept : (plan : Plan) (Holds : Work → Type 0) → AreKept plan Holds → IsChecked plan → (told : Answers) (wire : WireId) (work : Work) → Holds work → Holds (ping_input plan told wire work)
+ping_kept plan Holds kept checked told wire work here = to (wire_end plan work.edge.me wire) (λ place. found_holds (IsPlaced plan) (is_end_of_wire wire) (end_places plan work.edge.me) place (places_placed plan work.edge.me checked)) where
+  picked : (place : EndPlace) → IsPlaced plan place → (row : WirePlan) (binding : Binding) (kind : Option Cc) → Holds (pings_in plan told place row binding kind work)
+  picked place placed row binding None = kept.idle work here
+  picked place placed row binding (Some kind) = asked_kept plan Holds kept told place row kind binding (edge_address plan work.edge.me) (far_address plan work.edge.me row) work placed here
+
+  bound : (place : EndPlace) → IsPlaced plan place → (row : WirePlan) (remote : Option Binding) → Holds (pings_under plan told place row remote work)
+  bound place placed row None = kept.idle work here
+  bound place placed row (Some binding) = picked place placed row binding (channel_under row work.edge.me binding)
+
+  told_at : (place : EndPlace) → IsPlaced plan place → (row : WirePlan) (b : Bool) → Holds (cond b (pings_under plan told place row (end_at work.edge place).remote work) (idles work))
+  told_at place placed row true = bound place placed row (end_at work.edge place).remote
+  told_at place placed row false = kept.idle work here
+
+  of_wire : (place : EndPlace) → IsPlaced plan place → (row : Option WirePlan) → Holds (pings_at plan told place row work)
+  of_wire place placed None = kept.idle work here
+  of_wire place placed (Some row) = told_at place placed row (has_told (end_at work.edge place).local)
+
+  to : (end : Option EndPlace) → ((place : EndPlace) → end ≡ Some place → IsPlaced plan place) → Holds (pings_by plan told end work)
+  to None placed = kept.idle work here
+  to (Some place) placed = of_wire place (placed place refl) (wire_row plan place.wire)
 
 -- ---- sessions
 
@@ -730,7 +821,7 @@ step_kept plan Holds kept checked told (input.Circuit circuit on) work peers her
 step_kept plan Holds kept checked told (input.Status wire bits) work peers here = changed_kept plan Holds kept checked told (with_bits wire bits) work (ends_here plan work.edge.me wire && not (nat_eq bits (work.edge.bits wire.0))) here
 step_kept plan Holds kept checked told (input.Priority wire priority) work peers here =
     changed_kept plan Holds kept checked told (with_priority wire priority) work (is_own_spoke work.edge.me (wire_row plan wire) && not (nat_eq priority (work.edge.priority wire.0))) here
-step_kept plan Holds kept checked told (input.Ping wire) work peers here = kept.idle work here
+step_kept plan Holds kept checked told (input.Ping wire) work peers here = ping_kept plan Holds kept checked told wire work here
 
 -- ---- effects name what is in the plan
 
@@ -747,6 +838,7 @@ fit_kept plan = record {
   dropped = λ cause w here. fit-append plan w.effects (Dropped cause) here tt;
   session = λ peer state w within here. fit-append plan w.effects (Session peer state) here within;
   wire = λ wire down w within here. fit-append plan w.effects (Wire wire down) here within;
+  pong = λ wire sequence w within here. fit-append plan w.effects (Pong wire sequence) here within;
   gone = λ peer w within here. fit-append plan w.effects (Closed peer) here within;
   said = λ peer bytes change w within here. fit-append plan w.effects (Said peer bytes) here within;
   refused = λ peer bytes w here. here;
@@ -800,6 +892,7 @@ tell_kept plan before = record {
   dropped = λ cause w here. tells_same before w.calls w.effects (Dropped cause) refl here;
   session = λ peer state w within here. tells_same before w.calls w.effects (Session peer state) refl here;
   wire = λ wire down w within here. tells_same before w.calls w.effects (Wire wire down) refl here;
+  pong = λ wire sequence w within here. tells_same before w.calls w.effects (Pong wire sequence) refl here;
   gone = λ peer w within here. tells_same before w.calls w.effects (Closed peer) refl here;
   said = λ peer bytes change w within here. tells_more before w.calls w.effects (Said peer bytes ∷ []) (call_of peer false bytes true) refl here;
   refused = λ peer bytes w here.

@@ -32,6 +32,7 @@ holds_forwarding c f keeps working is = record {
   me = keeps.me ∙ is.me;
   small = is.small;
   priorities = is.priorities;
+  each_ping = is.each_ping;
   synced = λ going. absurd (cc (sym working ∙ going));
 }
 

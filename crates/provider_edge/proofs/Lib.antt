@@ -5,6 +5,7 @@ pub mod BridgeLemmas
 pub mod ClearLemmas
 pub mod ListLemmas
 pub mod CopyLemmas
+pub mod EchoLemmas
 pub mod EdgeLemmas
 pub mod EffectLemmas
 pub mod ForwardLemmas
@@ -13,6 +14,7 @@ pub mod LiftLemmas
 pub mod MendLemmas
 pub mod MessageLemmas
 pub mod PacketLemmas
+pub mod PingLemmas
 pub mod ProperLemmas
 pub mod RowLemmas
 pub mod SlotLemmas

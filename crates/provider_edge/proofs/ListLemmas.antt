@@ -23,7 +23,7 @@ use Rattle.edge_model.proofs.LocalLemmas.{and_left}
 use Rattle.edge_model.proofs.PlaceLemmas.{IsEndOf, places_are}
 use Rattle.std.specs.List.{AllByRecursion, list_any}
 use Rattle.std.proofs.lemmas.Option.{slice_get_within}
-use Rattle.edge_model.specs.State.{Peering, EdgeState, empty_edge, end_at, first_label, has_end, priority_in, put_at, with_bits, with_chosen, with_end, with_ends_beside, with_peering, with_priority, with_renewed, with_wire, with_next_label, without_ends, without_peerings}
+use Rattle.edge_model.specs.State.{Peering, EdgeState, empty_edge, end_at, first_label, first_ping, has_end, priority_in, put_at, with_bits, with_chosen, with_end, with_ends_beside, with_peering, with_priority, with_renewed, with_wire, with_next_label, with_next_ping, without_ends, without_peerings}
 use Rattle.edge_model.specs.Work.{changes}
 use Rattle.edge_model.specs.Synced.{InSync}
 use Rattle.edge_model.proofs.SyncLemmas.{synced_first}
@@ -38,6 +38,7 @@ use Rattle.provider_edge.proofs.ForwardLemmas.{holds_forwarding, seen_forwarding
 use Rattle.provider_edge.specs.Invariant.{IsEdge}
 use Rattle.provider_edge.specs.Lists.{EdgeLists, Keeps, seen}
 use Rattle.provider_edge.specs.Opening.{AreNewParts, IsNewEdge}
+use Rattle.provider_edge.specs.Pings.{unpinged}
 use Rattle.provider_edge.specs.Spokes.{AreSpokesOf, IsNewSpokes, SpokeLists, unchosen}
 
 -- ---- what always holds
@@ -54,6 +55,7 @@ holds_peerings c peerings long working is = record {
   me = is.me;
   small = is.small;
   priorities = is.priorities;
+  each_ping = is.each_ping;
   synced = λ going. absurd (cc (sym working ∙ going));
 }
 
@@ -69,6 +71,7 @@ holds_ends c ends same working is = record {
   me = is.me;
   small = is.small;
   priorities = is.priorities;
+  each_ping = is.each_ping;
   synced = λ going. absurd (cc (sym working ∙ going));
 }
 
@@ -84,6 +87,7 @@ holds_spokes c spokes are working is = record {
   me = is.me;
   small = is.small;
   priorities = is.priorities;
+  each_ping = is.each_ping;
   synced = λ going. absurd (cc (sym working ∙ going));
 }
 
@@ -150,34 +154,61 @@ view_unchosen [] k = refl
 view_unchosen (x ∷ xs) zero = refl
 view_unchosen (x ∷ xs) (suc k) = view_unchosen xs k
 
-ends_fresh : (c : EdgeLists) (ends : EndLists) (spokes : SpokeLists) → seen_ends ends ≡ (λ wire peer. fresh) → ends.labels.next ≡ c.ends.labels.next → spokes.chosen ≡ map unchosen c.spokes.chosen
-    → without_told (seen (record c { ends = ends; spokes = spokes })) ≡ without_ends (seen c)
+view_unpinged : (xs : List ℕ) (k : ℕ) → view first_ping (map unpinged xs) k ≡ first_ping
+view_unpinged [] k = refl
+view_unpinged (x ∷ xs) zero = refl
+view_unpinged (x ∷ xs) (suc k) = view_unpinged xs k
+
+ends_fresh : (c : EdgeLists) (ends : EndLists) (pings : List ℕ) (spokes : SpokeLists) → seen_ends ends ≡ (λ wire peer. fresh) → ends.labels.next ≡ c.ends.labels.next → spokes.chosen ≡ map unchosen c.spokes.chosen
+    → pings ≡ map unpinged c.pings → without_told (seen (record c { ends = ends; pings = pings; spokes = spokes })) ≡ without_ends (seen c)
 unfolding seen without_ends without_told
-ends_fresh c ends spokes are next none = λ i. record (without_told (seen c)) {
+ends_fresh c ends pings spokes are next none ones = λ i. record (without_told (seen c)) {
   ends = are i;
   chosen = λ k. (ap (λ (l : List (Option WireId)). view None l k) none ∙ view_unchosen c.spokes.chosen k) i;
   next_label = next i;
+  next_ping = λ k. (ap (λ (l : List ℕ). view first_ping l k) ones ∙ view_unpinged c.pings k) i;
 }
 
 -- no spoke is chosen any more
 pub spokes_forgotten : (plan : Plan) (me : EdgeId) (old new : SpokeLists) → new ≡ record old { chosen = map unchosen old.chosen } → AreSpokesOf plan me old → AreSpokesOf plan me new
 spokes_forgotten plan me old new is are = subst (AreSpokesOf plan me) (sym is) (record { slots = are.slots; chosen = length-map old.chosen unchosen ∙ are.chosen })
 
-pub holds_forgotten : (c : EdgeLists) (ends : EndLists) (spokes : SpokeLists) (f : ForwardingLists) → ends.places ≡ c.ends.places → spokes ≡ record c.spokes { chosen = map unchosen c.spokes.chosen } → KeepsForwarding c.forwarding f
-    → c.stopped ≡ true → IsEdge c → IsEdge (record c { ends = ends; spokes = spokes; forwarding = f })
-holds_forgotten c ends spokes f same none keeps working is =
-    holds_forwarding (record c { ends = ends; spokes = spokes }) f keeps working
-    (holds_spokes (record c { ends = ends }) spokes (spokes_forgotten c.plan c.me c.spokes spokes none is.spokes) working (holds_ends c ends same working is))
+holds_pings : (c : EdgeLists) (pings : List ℕ) → length pings ≡ length c.pings → c.stopped ≡ true → IsEdge c → IsEdge (record c { pings = pings })
+holds_pings c pings long working is = record {
+  checked = is.checked;
+  peerings = is.peerings;
+  places = is.places;
+  wires = is.wires;
+  each_bits = is.each_bits;
+  spokes = is.spokes;
+  plan = is.plan;
+  me = is.me;
+  small = is.small;
+  priorities = is.priorities;
+  each_ping = long ∙ is.each_ping;
+  synced = λ going. absurd (cc (sym working ∙ going));
+}
 
--- each end is as it was opened, of no end anything was told, and no spoke is chosen
-pub ends_forgotten : (c : EdgeLists) (ends : EndLists) (spokes : SpokeLists) (f : ForwardingLists) → c.stopped ≡ true → IsEdge c → ends.places ≡ c.ends.places → spokes ≡ record c.spokes { chosen = map unchosen c.spokes.chosen }
+-- the ends and how often they were pinged are forgotten
+holds_unpinged : (c : EdgeLists) (ends : EndLists) (pings : List ℕ) (spokes : SpokeLists) → ends.places ≡ c.ends.places → pings ≡ map unpinged c.pings → spokes ≡ record c.spokes { chosen = map unchosen c.spokes.chosen } → c.stopped ≡ true → IsEdge c
+    → IsEdge (record c { ends = ends; pings = pings; spokes = spokes })
+holds_unpinged c ends pings spokes same ones none working is =
+    holds_spokes (record c { ends = ends; pings = pings }) spokes (spokes_forgotten c.plan c.me c.spokes spokes none is.spokes) working
+    (holds_pings (record c { ends = ends }) pings (ap (λ (l : List ℕ). length l) ones ∙ length-map c.pings unpinged) working (holds_ends c ends same working is))
+
+pub holds_forgotten : (c : EdgeLists) (ends : EndLists) (pings : List ℕ) (spokes : SpokeLists) (f : ForwardingLists) → ends.places ≡ c.ends.places → pings ≡ map unpinged c.pings → spokes ≡ record c.spokes { chosen = map unchosen c.spokes.chosen } → KeepsForwarding c.forwarding f
+    → c.stopped ≡ true → IsEdge c → IsEdge (record c { ends = ends; pings = pings; spokes = spokes; forwarding = f })
+holds_forgotten c ends pings spokes f same ones none keeps working is =
+    holds_forwarding (record c { ends = ends; pings = pings; spokes = spokes }) f keeps working (holds_unpinged c ends pings spokes same ones none working is)
+
+-- each end is as it was opened and counts as not pinged, of no end anything was told, and no spoke is chosen
+pub ends_forgotten : (c : EdgeLists) (ends : EndLists) (pings : List ℕ) (spokes : SpokeLists) (f : ForwardingLists) → c.stopped ≡ true → IsEdge c → ends.places ≡ c.ends.places → pings ≡ map unpinged c.pings → spokes ≡ record c.spokes { chosen = map unchosen c.spokes.chosen }
     → KeepsForwarding c.forwarding f → seen_ends ends ≡ (λ wire peer. fresh) → ends.labels.next ≡ c.ends.labels.next
     → ((edge : EdgeState) → with_forwarding f edge ≡ without_told (with_forwarding c.forwarding edge))
-    → seen (record c { ends = ends; spokes = spokes; forwarding = f }) ≡ without_ends (seen c)
-ends_forgotten c ends spokes f working is same none keeps are next closed =
-    seen_forwarding without_told (record c { ends = ends; spokes = spokes }) f
-    (holds_spokes (record c { ends = ends }) spokes (spokes_forgotten c.plan c.me c.spokes spokes none is.spokes) working (holds_ends c ends same working is)) keeps closed
-    ∙ ends_fresh c ends spokes are next (ap (λ (s : SpokeLists). s.chosen) none)
+    → seen (record c { ends = ends; pings = pings; spokes = spokes; forwarding = f }) ≡ without_ends (seen c)
+ends_forgotten c ends pings spokes f working is same ones none keeps are next closed =
+    seen_forwarding without_told (record c { ends = ends; pings = pings; spokes = spokes }) f (holds_unpinged c ends pings spokes same ones none working is) keeps closed
+    ∙ ends_fresh c ends pings spokes are next (ap (λ (s : SpokeLists). s.chosen) none) ones
 
 -- ---- where no session stands, the ends are lost
 
@@ -213,6 +244,7 @@ pub record AreNewLists (plan : Plan) (me : EdgeId) (c : EdgeLists) : Type 0 wher
   pub wires : c.wires_on ≡ replicate (length plan.wires) true
   pub zeros : c.bits ≡ replicate (length plan.wires) 0
   pub priorities : c.priorities ≡ map (λ (row : WirePlan). row.priority) plan.wires
+  pub ones : c.pings ≡ replicate (length plan.wires) 1
   pub spokes : IsNewSpokes plan me c.spokes
   pub forwarding : IsNewForwarding plan me c.forwarding
   pub going : c.stopped ≡ false
@@ -220,8 +252,8 @@ pub record AreNewLists (plan : Plan) (me : EdgeId) (c : EdgeLists) : Type 0 wher
 -- those of an edge over parts that have taken no input, whose lists are made by the same plan
 pub new_lists : (plan made : Plan) (me : EdgeId) (c : EdgeLists) → made ≡ plan → c.plan ≡ plan → c.me ≡ me → AreNewParts plan me c.ends c.spokes c.forwarding
     → c.peerings ≡ replicate (length made.edges) None → c.wires_on ≡ replicate (length made.wires) true → c.bits ≡ replicate (length made.wires) 0
-    → c.priorities ≡ map (λ (row : WirePlan). row.priority) made.wires → c.stopped ≡ false → AreNewLists plan me c
-new_lists plan made me c same keeps here parts peerings wires zeros priorities going = record {
+    → c.priorities ≡ map (λ (row : WirePlan). row.priority) made.wires → c.pings ≡ replicate (length made.wires) 1 → c.stopped ≡ false → AreNewLists plan me c
+new_lists plan made me c same keeps here parts peerings wires zeros priorities ones going = record {
   keeps = keeps;
   here = here;
   peerings = peerings ∙ ap (λ (p : Plan). replicate (length p.edges) None) same;
@@ -231,6 +263,7 @@ new_lists plan made me c same keeps here parts peerings wires zeros priorities g
   wires = wires ∙ ap (λ (p : Plan). replicate (length p.wires) true) same;
   zeros = zeros ∙ ap (λ (p : Plan). replicate (length p.wires) 0) same;
   priorities = priorities ∙ ap (λ (p : Plan). map (λ (row : WirePlan). row.priority) p.wires) same;
+  ones = ones ∙ ap (λ (p : Plan). replicate (length p.wires) 1) same;
   spokes = parts.unchosen;
   forwarding = parts.unheard;
   going = going;
@@ -259,6 +292,7 @@ new_is plan me c are = λ i. record {
   told_down = (are.forwarding.is (empty_edge plan me) i).told_down;
   chosen = λ k. (ap (λ (l : List (Option WireId)). view None l k) are.spokes.none ∙ all_same (length plan.services) k None) i;
   next_label = are.next i;
+  next_ping = λ k. (ap (λ (l : List ℕ). view 1 l k) are.ones ∙ all_same (length plan.wires) k 1) i;
 }
 
 pub is_new_edge : (plan : Plan) (me : EdgeId) (c : EdgeLists) → AreNewLists plan me c → IsNewEdge plan me c
@@ -274,6 +308,7 @@ holds_new plan me c checked are = record {
   spokes = subst (λ (p : Plan). AreSpokesOf p c.me c.spokes) (sym are.keeps) (subst (λ (m : EdgeId). AreSpokesOf plan m c.spokes) (sym are.here) are.spokes.are);
   plan = are.forwarding.keeps ∙ sym are.keeps;
   me = are.forwarding.here ∙ sym are.here;
+  each_ping = ap (λ (l : List ℕ). length l) are.ones ∙ (long_same (length plan.wires) 1 ∙ ap (λ (p : Plan). length p.wires) (sym are.keeps));
   small = subst (All (λ bits. bits ≤ 31)) (sym are.zeros) (All-replicate (λ bits. bits ≤ 31) (length plan.wires) 0 (omega arith));
   priorities = ap (λ (l : List ℕ). length l) are.priorities ∙ (length-map plan.wires (λ (row : WirePlan). row.priority) ∙ ap (λ (p : Plan). length p.wires) (sym are.keeps));
   synced = λ going. subst (λ (p : Plan). InSync p (seen c)) (sym are.keeps) (subst (InSync plan) (sym (new_is plan me c are)) (synced_first plan me));
@@ -296,6 +331,11 @@ pub seen_priority : (c : EdgeLists) (wire : WireId) (priority : ℕ) → wire.0 
 unfolding seen with_priority
 seen_priority c wire priority within = λ i. record (seen c) { priority = λ k. view_at (priority_in (slice_get c.plan.wires k)) c.priorities wire.0 priority k within i }
 
+pub seen_next_ping : (c : EdgeLists) (wire : WireId) (sequence : ℕ) → wire.0 < length c.pings
+    → seen (record c { pings = slice_set c.pings wire.0 sequence }) ≡ with_next_ping wire sequence (seen c)
+unfolding seen with_next_ping
+seen_next_ping c wire sequence within = λ i. record (seen c) { next_ping = view_set first_ping c.pings wire.0 sequence within i }
+
 -- ---- the spoke that is chosen for a service
 
 pub seen_chosen : (c : EdgeLists) (service : ℕ) (wire : Option WireId) → service < length c.spokes.chosen
@@ -316,6 +356,10 @@ bits_read c wire bits within read = read ∙ same_read c.bits wire.0 bits 0 with
 pub priority_read : (c : EdgeLists) (wire : WireId) (priority : ℕ) → wire.0 < length c.priorities → priority ≡ slice_index_or c.priorities wire.0 priority → priority ≡ (seen c).priority wire.0
 unfolding seen
 priority_read c wire priority within read = read ∙ same_read c.priorities wire.0 priority (priority_in (slice_get c.plan.wires wire.0)) within
+
+pub ping_read : (c : EdgeLists) (wire : WireId) (sequence : ℕ) → wire.0 < length c.pings → sequence ≡ slice_index_or c.pings wire.0 sequence → sequence ≡ (seen c).next_ping wire.0
+unfolding seen
+ping_read c wire sequence within read = read ∙ same_read c.pings wire.0 sequence first_ping within
 
 pub end_read : (c : EdgeLists) (slot : ℕ) → end_in c.ends slot ≡ end_at (seen c) (place_of c.ends slot)
 unfolding seen

@@ -1,5 +1,5 @@
 -- A packet comes from a neighbour, exit by exit.
-use Rattle.std.proofs.Common.{◌≡◌, ◌<◌, ◌≤◌, ◌+◌, ◌++◌, ◌∷◌, ◌∙◌, ◌==◌, [], ℕ, zero, suc, Bool, true, false, cond, not, nat_lt, is_some, List, Option, Some, None, Result, Ok, Err, drop, take, nat_eq, length, option_map, position, slice_get, refl, ap, sym, subst, arith}
+use Rattle.std.proofs.Common.{◌&&◌, ◌≡◌, ◌<◌, ◌≤◌, ◌+◌, ◌++◌, ◌∷◌, ◌∙◌, ◌==◌, [], ℕ, zero, suc, Bool, true, false, cond, not, nat_lt, is_some, List, Option, Some, None, Result, Ok, Err, drop, take, nat_eq, length, option_map, position, slice_get, refl, ap, sym, subst, arith}
 use Rattle.std.specs.List.{find}
 use Rattle.std.specs.Prelude.{IfOk, MatchResult}
 use Rattle.std.proofs.lemmas.Bool.Decides.{nat_tests}
@@ -29,7 +29,8 @@ use Rattle.edge_model.specs.declared.end_place.EndPlace.{EndPlace}
 use Rattle.edge_model.specs.EndPlaces.{end_places}
 use Rattle.edge_model.specs.Ends.{is_up}
 use Rattle.edge_model.specs.Frame.{received}
-use Rattle.edge_model.specs.Packet.{advertiser, advertises_label, alerted, alerts_end, behind_entry, bridges_frame, by_control_word, by_offer, enters, is_channel, labelled, least_label, opened_by, owned, packet_input, switched, terminated, unpacked_at, unpacked_by}
+use Rattle.edge_model.specs.Echo.{channel_under, is_picked, verifies, verifies_in}
+use Rattle.edge_model.specs.Packet.{advertiser, advertises_label, alerted, alerts_by, alerts_end, behind_entry, bridges_frame, by_control_word, by_offer, by_ttl, enters, is_channel, labelled, least_label, opened_by, owned, packet_input, switched, terminated, unpacked_at, unpacked_by}
 use Rattle.edge_model.specs.Role.{down_at}
 use Rattle.edge_model.specs.Send.{drops}
 use Rattle.edge_model.specs.State.{EdgeState, end_at}
@@ -38,6 +39,9 @@ use Rattle.pw_ends.specs.Ends.{end_in, end_there, place_of}
 use Rattle.peer_dialogue.specs.Peering.{at_edge}
 use Rattle.provider_edge.proofs.BridgeLemmas.{dropped_at}
 use Rattle.provider_edge.specs.Lists.{EdgeLists, seen}
+use Rattle.provider_edge.specs.Pings.{channel_by, verified_by}
+use Rattle.vccv_channel.specs.declared.cc.Cc.{Cc}
+use Rattle.vccv_channel.specs.declared.cc.Cc.TheVariants.{Alert, Expiry, Header}
 
 not_false : (b : Bool) → not b ≡ false → b ≡ true
 not_false true is = refl
@@ -56,30 +60,41 @@ packet_err plan told octets why edge calls out given read gave =
 
 -- ---- behind a router alert
 
-pub alerted_ok : (c : EdgeLists) (octets : List ℕ) (entry : StackEntry) (why : DropCause) (calls : List LinkCall) (out given : List Effect) → entry_of octets ≡ Ok entry → given ≡ out ++ Dropped why ∷ []
-    → drops why (at_edge (seen c) calls out) ≡ alerted c.plan (Ok entry) (at_edge (seen c) calls out)
-    → at_edge (seen c) calls given ≡ alerted c.plan (entry_of octets) (at_edge (seen c) calls out)
-alerted_ok c octets entry why calls out given read gave is =
-    dropped_at why (seen c) calls out given gave ∙ (is ∙ ap (λ (r : Result StackEntry DropCause). alerted c.plan r (at_edge (seen c) calls out)) (sym read))
-
-pub alerted_err : (c : EdgeLists) (octets : List ℕ) (why : DropCause) (calls : List LinkCall) (out given : List Effect) → entry_of octets ≡ Err why → given ≡ out ++ Dropped why ∷ []
-    → at_edge (seen c) calls given ≡ alerted c.plan (entry_of octets) (at_edge (seen c) calls out)
-alerted_err c octets why calls out given read gave =
-    dropped_at why (seen c) calls out given gave ∙ ap (λ (r : Result StackEntry DropCause). alerted c.plan r (at_edge (seen c) calls out)) (sym read)
-
-pub not_bottom : (plan : Plan) (entry : StackEntry) (work : Work) → entry.bottom ≡ false → drops cause.NotBottom work ≡ alerted plan (Ok entry) work
-not_bottom plan entry work is = sym (ap (λ (b : Bool). cond b (alerts_end (advertiser plan work.edge entry.label) work) (drops cause.NotBottom work)) is)
-
 edge_in : (c : EdgeLists) (calls : List LinkCall) (out : List Effect) → (at_edge (seen c) calls out).edge ≡ seen c
 unfolding at_edge
 edge_in c calls out = refl
 
-pub at_bottom : (c : EdgeLists) (entry : StackEntry) (calls : List LinkCall) (out : List Effect) (x : Work) → entry.bottom ≡ true → x ≡ alerts_end (advertiser c.plan (seen c) entry.label) (at_edge (seen c) calls out)
-    → x ≡ alerted c.plan (Ok entry) (at_edge (seen c) calls out)
-at_bottom c entry calls out x is same =
+pub alerted_err : (plan : Plan) (told : Answers) (octets : List ℕ) (why : DropCause) (edge : EdgeState) (calls : List LinkCall) (out given : List Effect) → entry_of octets ≡ Err why → given ≡ out ++ Dropped why ∷ []
+    → at_edge edge calls given ≡ alerted plan told octets (entry_of octets) (at_edge edge calls out)
+alerted_err plan told octets why edge calls out given read gave =
+    dropped_at why edge calls out given gave ∙ ap (λ (r : Result StackEntry DropCause). alerted plan told octets r (at_edge edge calls out)) (sym read)
+
+pub alerted_ok : (plan : Plan) (told : Answers) (octets : List ℕ) (entry : StackEntry) (work x : Work) → entry_of octets ≡ Ok entry → x ≡ alerted plan told octets (Ok entry) work → x ≡ alerted plan told octets (entry_of octets) work
+alerted_ok plan told octets entry work x read is = is ∙ ap (λ (r : Result StackEntry DropCause). alerted plan told octets r work) (sym read)
+
+pub not_bottom : (plan : Plan) (told : Answers) (octets : List ℕ) (entry : StackEntry) (edge : EdgeState) (calls : List LinkCall) (out given : List Effect) → entry.bottom ≡ false → given ≡ out ++ Dropped cause.NotBottom ∷ []
+    → at_edge edge calls given ≡ alerted plan told octets (Ok entry) (at_edge edge calls out)
+not_bottom plan told octets entry edge calls out given is gave =
+    let work : Work = at_edge edge calls out in
+    dropped_at cause.NotBottom edge calls out given gave
+    ∙ sym (ap (λ (b : Bool). cond b (alerts_end plan told (behind_entry octets) (advertiser plan work.edge entry.label) work) (drops cause.NotBottom work)) is)
+
+pub at_bottom : (c : EdgeLists) (told : Answers) (octets : List ℕ) (entry : StackEntry) (calls : List LinkCall) (out : List Effect) (end : Option EndPlace) (x : Work) → entry.bottom ≡ true → advertiser c.plan (seen c) entry.label ≡ end
+    → x ≡ alerts_end c.plan told (behind_entry octets) end (at_edge (seen c) calls out)
+    → x ≡ alerted c.plan told octets (Ok entry) (at_edge (seen c) calls out)
+at_bottom c told octets entry calls out end x is found same =
+    let work : Work = at_edge (seen c) calls out in
     same
-    ∙ (ap (λ (e : EdgeState). alerts_end (advertiser c.plan e entry.label) (at_edge (seen c) calls out)) (sym (edge_in c calls out))
-    ∙ sym (ap (λ (b : Bool). cond b (alerts_end (advertiser c.plan (at_edge (seen c) calls out).edge entry.label) (at_edge (seen c) calls out)) (drops cause.NotBottom (at_edge (seen c) calls out))) is))
+    ∙ (ap (λ (e : Option EndPlace). alerts_end c.plan told (behind_entry octets) e work) (sym found)
+    ∙ (ap (λ (e : EdgeState). alerts_end c.plan told (behind_entry octets) (advertiser c.plan e entry.label) work) (sym (edge_in c calls out))
+    ∙ sym (ap (λ (b : Bool). cond b (alerts_end c.plan told (behind_entry octets) (advertiser c.plan work.edge entry.label) work) (drops cause.NotBottom work)) is)))
+
+pub alerts_nowhere : (plan : Plan) (told : Answers) (octets : List ℕ) (edge : EdgeState) (calls : List LinkCall) (out given : List Effect) → given ≡ out ++ Dropped cause.NoLabel ∷ []
+    → at_edge edge calls given ≡ alerts_end plan told (behind_entry octets) None (at_edge edge calls out)
+alerts_nowhere plan told octets edge calls out given gave = dropped_at cause.NoLabel edge calls out given gave
+
+pub behind_same : (plan : Plan) (told : Answers) (octets behind : List ℕ) (end : Option EndPlace) (work x : Work) → behind ≡ behind_entry octets → x ≡ alerts_end plan told behind end work → x ≡ alerts_end plan told (behind_entry octets) end work
+behind_same plan told octets behind end work x front is = is ∙ ap (λ (l : List ℕ). alerts_end plan told l end work) front
 
 -- the end that was found is the one that the label names
 pub named_some : (f : ℕ → EndPlace) (found : Option ℕ) (slot : ℕ) (named : Option EndPlace) → option_map f found ≡ named → found ≡ Some slot → named ≡ Some (f slot)
@@ -88,17 +103,39 @@ named_some f found slot named is some = sym is ∙ ap (option_map f) some
 pub named_none : (f : ℕ → EndPlace) (found : Option ℕ) (named : Option EndPlace) → option_map f found ≡ named → found ≡ None → named ≡ None
 named_none f found named is none = sym is ∙ ap (option_map f) none
 
-pub alerts_some : (end : Option EndPlace) (place : EndPlace) (work x : Work) → end ≡ Some place → x ≡ alerts_end (Some place) work → x ≡ alerts_end end work
-alerts_some end place work x some is = is ∙ ap (λ (e : Option EndPlace). alerts_end e work) (sym some)
+-- a switching point takes no connectivity verification
+pub alerts_between : (plan : Plan) (told : Answers) (payload : List ℕ) (place at : EndPlace) (edge : EdgeState) (calls : List LinkCall) (out given : List Effect) → at ≡ place → not at.terminal ≡ true → given ≡ out ++ Dropped cause.NoLabel ∷ []
+    → at_edge edge calls given ≡ alerts_end plan told payload (Some place) (at_edge edge calls out)
+alerts_between plan told payload place at edge calls out given is other gave =
+    let work : Work = at_edge edge calls out in
+    dropped_at cause.NoLabel edge calls out given gave
+    ∙ sym (ap (λ (b : Bool). cond b (alerts_by told place (wire_row plan place.wire) (end_at work.edge place).remote payload work) (drops cause.NoLabel work)) (ap (λ (p : EndPlace). p.terminal) (sym is) ∙ not_true at.terminal other))
 
-pub alerts_none : (end : Option EndPlace) (work : Work) → end ≡ None → drops cause.NoLabel work ≡ alerts_end end work
-alerts_none end work none = ap (λ (e : Option EndPlace). alerts_end e work) (sym none)
+verified_as : (told : Answers) (place : EndPlace) (row : WirePlan) (remote : Option Binding) (payload : List ℕ) (work : Work) → verified_by told place row Alert remote payload work ≡ alerts_by told place (Some row) remote payload work
+verified_as told place row None payload work = refl
+verified_as told place row (Some binding) payload work = refl
 
-pub alerts_terminal : (place at : EndPlace) (work : Work) → at ≡ place → at.terminal ≡ true → drops cause.NotOffered work ≡ alerts_end (Some place) work
-alerts_terminal place at work is terminal = sym (ap (λ (b : Bool). cond b (drops cause.NotOffered work) (drops cause.NoLabel work)) (ap (λ (p : EndPlace). p.terminal) (sym is) ∙ terminal))
+remote_in : (c : EdgeLists) (calls : List LinkCall) (out : List Effect) (slot : ℕ) → (end_at (at_edge (seen c) calls out).edge (place_of c.ends slot)).remote ≡ (end_in c.ends slot).remote
+unfolding seen at_edge
+remote_in c calls out slot = refl
 
-pub alerts_between : (place at : EndPlace) (work : Work) → at ≡ place → at.terminal ≡ false → drops cause.NoLabel work ≡ alerts_end (Some place) work
-alerts_between place at work is other = sym (ap (λ (b : Bool). cond b (drops cause.NotOffered work) (drops cause.NoLabel work)) (ap (λ (p : EndPlace). p.terminal) (sym is) ∙ other))
+pub row_there : {X : Type 0} (xs : List X) (k : ℕ) → k < length xs → (x : X) × (slice_get xs k ≡ Some x)
+row_there [] k within = absurd (omega (arith, within))
+row_there (x ∷ xs) zero within = (x, refl)
+row_there (x ∷ xs) (suc k) within = row_there xs k (omega (arith, within))
+
+pub alerts_terminal : (c : EdgeLists) (told : Answers) (slot : ℕ) (at : EndPlace) (payload : List ℕ) (calls : List LinkCall) (out : List Effect) (x : Work) → at ≡ place_of c.ends slot → at.wire.0 < length c.plan.wires → not at.terminal ≡ false
+    → ((row : WirePlan) → wire_row c.plan (place_of c.ends slot).wire ≡ Some row → x ≡ verified_by told (place_of c.ends slot) row Alert (end_in c.ends slot).remote payload (at_edge (seen c) calls out))
+    → x ≡ alerts_end c.plan told payload (Some (place_of c.ends slot)) (at_edge (seen c) calls out)
+alerts_terminal c told slot at payload calls out x is within terminal same =
+    let place : EndPlace = place_of c.ends slot in
+    let work : Work = at_edge (seen c) calls out in
+    let (row, here) = row_there c.plan.wires place.wire.0 (subst (λ (p : EndPlace). p.wire.0 < length c.plan.wires) is within) in
+    same row here
+    ∙ (verified_as told place row (end_in c.ends slot).remote payload work
+    ∙ (ap (λ (r : Option WirePlan). alerts_by told place r (end_in c.ends slot).remote payload work) (sym here)
+    ∙ (ap (λ (r : Option Binding). alerts_by told place (wire_row c.plan place.wire) r payload work) (sym (remote_in c calls out slot))
+    ∙ sym (ap (λ (b : Bool). cond b (alerts_by told place (wire_row c.plan place.wire) (end_at work.edge place).remote payload work) (drops cause.NoLabel work)) (ap (λ (p : EndPlace). p.terminal) (sym is) ∙ not_false at.terminal terminal)))))
 
 -- ---- whose label it is
 
@@ -147,22 +184,18 @@ pub owned_between : (plan : Plan) (told : Answers) (octets : List ℕ) (entry : 
     → x ≡ owned plan told octets entry (Some place) work
 owned_between plan told octets entry place at work x is other same =
     same
-    ∙ sym (ap (λ (b : Bool). cond b (terminated plan told place (wire_row plan place.wire) (end_at work.edge place).remote (behind_entry octets) work) (switched plan told octets entry place work)) (ap (λ (p : EndPlace). p.terminal) (sym is) ∙ not_true at.terminal other))
-
-remote_in : (c : EdgeLists) (calls : List LinkCall) (out : List Effect) (slot : ℕ) → (end_at (at_edge (seen c) calls out).edge (place_of c.ends slot)).remote ≡ (end_in c.ends slot).remote
-unfolding seen at_edge
-remote_in c calls out slot = refl
+    ∙ sym (ap (λ (b : Bool). cond b (terminated plan told place entry.ttl (wire_row plan place.wire) (end_at work.edge place).remote (behind_entry octets) work) (switched plan told octets entry place work)) (ap (λ (p : EndPlace). p.terminal) (sym is) ∙ not_true at.terminal other))
 
 pub owned_terminal : (c : EdgeLists) (told : Answers) (octets behind : List ℕ) (entry : StackEntry) (slot : ℕ) (at : EndPlace) (calls : List LinkCall) (out : List Effect) (x : Work) → at ≡ place_of c.ends slot → not at.terminal ≡ false → behind ≡ behind_entry octets
-    → x ≡ terminated c.plan told (place_of c.ends slot) (wire_row c.plan (place_of c.ends slot).wire) (end_in c.ends slot).remote behind (at_edge (seen c) calls out)
+    → x ≡ terminated c.plan told (place_of c.ends slot) entry.ttl (wire_row c.plan (place_of c.ends slot).wire) (end_in c.ends slot).remote behind (at_edge (seen c) calls out)
     → x ≡ owned c.plan told octets entry (Some (place_of c.ends slot)) (at_edge (seen c) calls out)
 owned_terminal c told octets behind entry slot at calls out x is terminal front same =
     let place : EndPlace = place_of c.ends slot in
     let work : Work = at_edge (seen c) calls out in
     same
-    ∙ (ap (λ (l : List ℕ). terminated c.plan told place (wire_row c.plan place.wire) (end_in c.ends slot).remote l work) front
-    ∙ (ap (λ (r : Option Binding). terminated c.plan told place (wire_row c.plan place.wire) r (behind_entry octets) work) (sym (remote_in c calls out slot))
-    ∙ sym (ap (λ (b : Bool). cond b (terminated c.plan told place (wire_row c.plan place.wire) (end_at work.edge place).remote (behind_entry octets) work) (switched c.plan told octets entry place work)) (ap (λ (p : EndPlace). p.terminal) (sym is) ∙ not_false at.terminal terminal))))
+    ∙ (ap (λ (l : List ℕ). terminated c.plan told place entry.ttl (wire_row c.plan place.wire) (end_in c.ends slot).remote l work) front
+    ∙ (ap (λ (r : Option Binding). terminated c.plan told place entry.ttl (wire_row c.plan place.wire) r (behind_entry octets) work) (sym (remote_in c calls out slot))
+    ∙ sym (ap (λ (b : Bool). cond b (terminated c.plan told place entry.ttl (wire_row c.plan place.wire) (end_at work.edge place).remote (behind_entry octets) work) (switched c.plan told octets entry place work)) (ap (λ (p : EndPlace). p.terminal) (sym is) ∙ not_false at.terminal terminal))))
 
 -- ---- a terminal end
 
@@ -170,71 +203,94 @@ none_of : {X : Type 0} (o : Option X) → is_some o ≡ false → o ≡ None
 none_of None is = refl
 none_of (Some x) is = absurd (cc (is))
 
-pub unbound_end : (plan : Plan) (told : Answers) (place : EndPlace) (row : Option WirePlan) (remote : Option Binding) (bound : Bool) (payload : List ℕ) (edge : EdgeState) (calls : List LinkCall) (out given : List Effect) → bound ≡ is_some remote → bound ≡ false
-    → given ≡ out ++ Dropped cause.Down ∷ []
-    → at_edge edge calls given ≡ terminated plan told place row remote payload (at_edge edge calls out)
-unbound_end plan told place row remote bound payload edge calls out given is apart gave =
-    dropped_at cause.Down edge calls out given gave
-    ∙ (sym (down row) ∙ ap (λ (r : Option Binding). terminated plan told place row r payload (at_edge edge calls out)) (sym (none_of remote (sym is ∙ apart))))
-  where
-    down : (row : Option WirePlan) → terminated plan told place row None payload (at_edge edge calls out) ≡ drops cause.Down (at_edge edge calls out)
-    down None = refl
-    down (Some row) = refl
-
-pub row_there : {X : Type 0} (xs : List X) (k : ℕ) → k < length xs → (x : X) × (slice_get xs k ≡ Some x)
-row_there [] k within = absurd (omega (arith, within))
-row_there (x ∷ xs) zero within = (x, refl)
-row_there (x ∷ xs) (suc k) within = row_there xs k (omega (arith, within))
-
 pub me_of : (c : EdgeLists) (calls : List LinkCall) (out : List Effect) → (at_edge (seen c) calls out).edge.me ≡ c.me
 unfolding seen at_edge
 me_of c calls out = refl
 
-bound_end : (plan : Plan) (told : Answers) (place : EndPlace) (row : WirePlan) (remote : Option Binding) (payload : List ℕ) (work : Work) → is_some remote ≡ true → terminated plan told place (Some row) remote payload work ≡ by_offer plan told row place (offer_of row work.edge.me.0).cword payload work
-bound_end plan told place row None payload work some = absurd (cc (some))
-bound_end plan told place row (Some binding) payload work some = refl
+pub unbound_end : (plan : Plan) (told : Answers) (place : EndPlace) (ttl : ℕ) (row : Option WirePlan) (remote : Option Binding) (bound : Bool) (payload : List ℕ) (edge : EdgeState) (calls : List LinkCall) (out given : List Effect) → bound ≡ is_some remote → bound ≡ false
+    → given ≡ out ++ Dropped cause.Down ∷ []
+    → at_edge edge calls given ≡ terminated plan told place ttl row remote payload (at_edge edge calls out)
+unbound_end plan told place ttl row remote bound payload edge calls out given is apart gave =
+    dropped_at cause.Down edge calls out given gave
+    ∙ (sym (down row) ∙ ap (λ (r : Option Binding). terminated plan told place ttl row r payload (at_edge edge calls out)) (sym (none_of remote (sym is ∙ apart))))
+  where
+    down : (row : Option WirePlan) → terminated plan told place ttl row None payload (at_edge edge calls out) ≡ drops cause.Down (at_edge edge calls out)
+    down None = refl
+    down (Some row) = refl
 
--- what the row of the wire says of the frame
-pub by_row : (c : EdgeLists) (told : Answers) (slot : ℕ) (bound : Bool) (offer : Offer) (payload : List ℕ) (calls : List LinkCall) (out : List Effect) (x : Work)
+-- what an option has
+pub some_there : {X : Type 0} (o : Option X) → is_some o ≡ true → (x : X) × (o ≡ Some x)
+some_there None is = absurd (cc (is))
+some_there (Some x) is = (x, refl)
+
+-- an end that is bound, by the row of its wire
+pub by_row : (c : EdgeLists) (told : Answers) (slot ttl : ℕ) (bound : Bool) (offer : Offer) (payload : List ℕ) (calls : List LinkCall) (out : List Effect) (x : Work)
     → (place_of c.ends slot).wire.0 < length c.plan.wires → bound ≡ is_some (end_in c.ends slot).remote → bound ≡ true
     → ((row : WirePlan) → wire_row c.plan (place_of c.ends slot).wire ≡ Some row → offer ≡ offer_of row c.me.0)
-    → ((row : WirePlan) → wire_row c.plan (place_of c.ends slot).wire ≡ Some row → x ≡ by_offer c.plan told row (place_of c.ends slot) offer.cword payload (at_edge (seen c) calls out))
-    → x ≡ terminated c.plan told (place_of c.ends slot) (wire_row c.plan (place_of c.ends slot).wire) (end_in c.ends slot).remote payload (at_edge (seen c) calls out)
-by_row c told slot bound offer payload calls out x within is here offers same =
+    → ((row : WirePlan) (binding : Binding) → wire_row c.plan (place_of c.ends slot).wire ≡ Some row → (end_in c.ends slot).remote ≡ Some binding → x ≡ by_offer c.plan told row (place_of c.ends slot) binding ttl offer.cword payload (at_edge (seen c) calls out))
+    → x ≡ terminated c.plan told (place_of c.ends slot) ttl (wire_row c.plan (place_of c.ends slot).wire) (end_in c.ends slot).remote payload (at_edge (seen c) calls out)
+by_row c told slot ttl bound offer payload calls out x within is here offers same =
     let place : EndPlace = place_of c.ends slot in
     let work : Work = at_edge (seen c) calls out in
     let (row, at) = row_there c.plan.wires place.wire.0 within in
-    same row at
-    ∙ (ap (λ (o : Offer). by_offer c.plan told row place o.cword payload work) (offers row at)
-    ∙ (ap (λ (m : EdgeId). by_offer c.plan told row place (offer_of row m.0).cword payload work) (sym (me_of c calls out))
-    ∙ (sym (bound_end c.plan told place row (end_in c.ends slot).remote payload work (sym is ∙ here))
-    ∙ ap (λ (r : Option WirePlan). terminated c.plan told place r (end_in c.ends slot).remote payload work) (sym at))))
+    let (binding, held) = some_there (end_in c.ends slot).remote (sym is ∙ here) in
+    same row binding at held
+    ∙ (ap (λ (o : Offer). by_offer c.plan told row place binding ttl o.cword payload work) (offers row at)
+    ∙ (ap (λ (m : EdgeId). by_offer c.plan told row place binding ttl (offer_of row m.0).cword payload work) (sym (me_of c calls out))
+    ∙ (ap (λ (r : Option Binding). terminated c.plan told place ttl (Some row) r payload work) (sym held)
+    ∙ ap (λ (r : Option WirePlan). terminated c.plan told place ttl r (end_in c.ends slot).remote payload work) (sym at))))
 
-pub without_word : (plan : Plan) (told : Answers) (row : WirePlan) (place : EndPlace) (cword : Bool) (payload : List ℕ) (work x : Work) → not cword ≡ true → x ≡ enters plan told row place payload work → x ≡ by_offer plan told row place cword payload work
-without_word plan told row place cword payload work x plain is = is ∙ ap (λ (b : Bool). by_offer plan told row place b payload work) (sym (not_true cword plain))
+pub with_word : (plan : Plan) (told : Answers) (row : WirePlan) (place : EndPlace) (binding : Binding) (ttl : ℕ) (cword : Bool) (payload : List ℕ) (work x : Work) → cword ≡ true → x ≡ by_control_word plan told row place binding payload work
+    → x ≡ by_offer plan told row place binding ttl cword payload work
+with_word plan told row place binding ttl cword payload work x has is = is ∙ ap (λ (b : Bool). by_offer plan told row place binding ttl b payload work) (sym has)
 
-pub with_word : (plan : Plan) (told : Answers) (row : WirePlan) (place : EndPlace) (cword : Bool) (payload : List ℕ) (work x : Work) → not cword ≡ false → x ≡ by_control_word plan told row place payload work → x ≡ by_offer plan told row place cword payload work
-with_word plan told row place cword payload work x has is = is ∙ ap (λ (b : Bool). by_offer plan told row place b payload work) (sym (not_false cword has))
+pub without_word : (plan : Plan) (told : Answers) (row : WirePlan) (place : EndPlace) (binding : Binding) (ttl : ℕ) (cword : Bool) (payload : List ℕ) (work x : Work) → cword ≡ false → x ≡ by_ttl plan told row place binding ttl payload work
+    → x ≡ by_offer plan told row place binding ttl cword payload work
+without_word plan told row place binding ttl cword payload work x plain is = is ∙ ap (λ (b : Bool). by_offer plan told row place binding ttl b payload work) (sym plain)
 
-pub word_short : (plan : Plan) (told : Answers) (row : WirePlan) (place : EndPlace) (payload : List ℕ) (edge : EdgeState) (calls : List LinkCall) (out given : List Effect) → (length payload == 0) ≡ true → given ≡ out ++ Dropped cause.Short ∷ []
-    → at_edge edge calls given ≡ by_control_word plan told row place payload (at_edge edge calls out)
-word_short plan told row place payload edge calls out given empty gave =
+-- without a control word: does the TTL end in the channel that was picked?
+expired : (c : EdgeLists) (row : WirePlan) (binding : Binding) (remote : Option Binding) (ttl : ℕ) (channel : Option Cc) (calls : List LinkCall) (out : List Effect) → channel ≡ channel_by row c.me remote → remote ≡ Some binding
+    → (ttl == 1 && is_picked Expiry (channel_under row (at_edge (seen c) calls out).edge.me binding)) ≡ (ttl == 1 && is_picked Expiry channel)
+expired c row binding remote ttl channel calls out is held =
+    ap (λ (m : EdgeId). ttl == 1 && is_picked Expiry (channel_under row m binding)) (me_of c calls out)
+    ∙ ap (λ (k : Option Cc). ttl == 1 && is_picked Expiry k) (sym (is ∙ ap (channel_by row c.me) held))
+
+pub ttl_ends : (c : EdgeLists) (told : Answers) (row : WirePlan) (place : EndPlace) (binding : Binding) (remote : Option Binding) (ttl : ℕ) (channel : Option Cc) (payload : List ℕ) (calls : List LinkCall) (out : List Effect) (x : Work)
+    → channel ≡ channel_by row c.me remote → remote ≡ Some binding → (ttl == 1 && is_picked Expiry channel) ≡ true
+    → x ≡ verifies told place row Expiry binding payload (at_edge (seen c) calls out) → x ≡ by_ttl c.plan told row place binding ttl payload (at_edge (seen c) calls out)
+ttl_ends c told row place binding remote ttl channel payload calls out x is held ends same =
+    let work : Work = at_edge (seen c) calls out in
+    same ∙ sym (ap (λ (b : Bool). cond b (verifies told place row Expiry binding payload work) (enters c.plan told row place payload work)) (expired c row binding remote ttl channel calls out is held ∙ ends))
+
+pub ttl_goes_on : (c : EdgeLists) (told : Answers) (row : WirePlan) (place : EndPlace) (binding : Binding) (remote : Option Binding) (ttl : ℕ) (channel : Option Cc) (payload : List ℕ) (calls : List LinkCall) (out : List Effect) (x : Work)
+    → channel ≡ channel_by row c.me remote → remote ≡ Some binding → (ttl == 1 && is_picked Expiry channel) ≡ false
+    → x ≡ enters c.plan told row place payload (at_edge (seen c) calls out) → x ≡ by_ttl c.plan told row place binding ttl payload (at_edge (seen c) calls out)
+ttl_goes_on c told row place binding remote ttl channel payload calls out x is held goes same =
+    let work : Work = at_edge (seen c) calls out in
+    same ∙ sym (ap (λ (b : Bool). cond b (verifies told place row Expiry binding payload work) (enters c.plan told row place payload work)) (expired c row binding remote ttl channel calls out is held ∙ goes))
+
+-- with a control word
+pub word_short : (plan : Plan) (told : Answers) (row : WirePlan) (place : EndPlace) (binding : Binding) (payload : List ℕ) (edge : EdgeState) (calls : List LinkCall) (out given : List Effect) → (length payload == 0) ≡ true → given ≡ out ++ Dropped cause.Short ∷ []
+    → at_edge edge calls given ≡ by_control_word plan told row place binding payload (at_edge edge calls out)
+word_short plan told row place binding payload edge calls out given empty gave =
+    let work : Work = at_edge edge calls out in
     dropped_at cause.Short edge calls out given gave
-    ∙ sym (ap (λ (b : Bool). cond b (drops cause.Short (at_edge edge calls out)) (cond (is_channel payload) (drops cause.NotOffered (at_edge edge calls out)) (enters plan told row place payload (at_edge edge calls out)))) empty)
+    ∙ sym (ap (λ (b : Bool). cond b (drops cause.Short work) (cond (is_channel payload) (verifies_in told place row Header binding payload work) (enters plan told row place payload work))) empty)
 
-pub word_channel : (plan : Plan) (told : Answers) (row : WirePlan) (place : EndPlace) (payload : List ℕ) (edge : EdgeState) (calls : List LinkCall) (out given : List Effect) → (length payload == 0) ≡ false → is_channel payload ≡ true → given ≡ out ++ Dropped cause.NotOffered ∷ []
-    → at_edge edge calls given ≡ by_control_word plan told row place payload (at_edge edge calls out)
-word_channel plan told row place payload edge calls out given some channel gave =
-    dropped_at cause.NotOffered edge calls out given gave
-    ∙ sym (ap (λ (b : Bool). cond b (drops cause.Short (at_edge edge calls out)) (cond (is_channel payload) (drops cause.NotOffered (at_edge edge calls out)) (enters plan told row place payload (at_edge edge calls out)))) some
-    ∙ ap (λ (b : Bool). cond b (drops cause.NotOffered (at_edge edge calls out)) (enters plan told row place payload (at_edge edge calls out))) channel)
+pub word_channel : (plan : Plan) (told : Answers) (row : WirePlan) (place : EndPlace) (binding : Binding) (remote : Option Binding) (payload : List ℕ) (work x : Work) → (length payload == 0) ≡ false → is_channel payload ≡ true → remote ≡ Some binding
+    → x ≡ verified_by told place row Header remote payload work → x ≡ by_control_word plan told row place binding payload work
+word_channel plan told row place binding remote payload work x some channel held same =
+    same
+    ∙ (ap (λ (r : Option Binding). verified_by told place row Header r payload work) held
+    ∙ sym (ap (λ (b : Bool). cond b (drops cause.Short work) (cond (is_channel payload) (verifies_in told place row Header binding payload work) (enters plan told row place payload work))) some
+    ∙ ap (λ (b : Bool). cond b (verifies_in told place row Header binding payload work) (enters plan told row place payload work)) channel))
 
-pub word_frame : (plan : Plan) (told : Answers) (row : WirePlan) (place : EndPlace) (payload : List ℕ) (work x : Work) → (length payload == 0) ≡ false → is_channel payload ≡ false → x ≡ enters plan told row place payload work
-    → x ≡ by_control_word plan told row place payload work
-word_frame plan told row place payload work x some plain is =
+pub word_frame : (plan : Plan) (told : Answers) (row : WirePlan) (place : EndPlace) (binding : Binding) (payload : List ℕ) (work x : Work) → (length payload == 0) ≡ false → is_channel payload ≡ false → x ≡ enters plan told row place payload work
+    → x ≡ by_control_word plan told row place binding payload work
+word_frame plan told row place binding payload work x some plain is =
     is
-    ∙ sym (ap (λ (b : Bool). cond b (drops cause.Short work) (cond (is_channel payload) (drops cause.NotOffered work) (enters plan told row place payload work))) some
-    ∙ ap (λ (b : Bool). cond b (drops cause.NotOffered work) (enters plan told row place payload work)) plain)
+    ∙ sym (ap (λ (b : Bool). cond b (drops cause.Short work) (cond (is_channel payload) (verifies_in told place row Header binding payload work) (enters plan told row place payload work))) some
+    ∙ ap (λ (b : Bool). cond b (verifies_in told place row Header binding payload work) (enters plan told row place payload work)) plain)
 
 -- ---- a frame comes by a wire
 

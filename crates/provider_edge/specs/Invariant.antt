@@ -14,6 +14,7 @@ pub record IsEdge (edge : EdgeLists) : Type 0 where
   pub each_bits : length edge.bits ≡ length edge.plan.wires
   pub small : All (λ bits. bits ≤ 31) edge.bits
   pub priorities : length edge.priorities ≡ length edge.plan.wires
+  pub each_ping : length edge.pings ≡ length edge.plan.wires
   pub spokes : AreSpokesOf edge.plan edge.me edge.spokes
   pub plan : edge.forwarding.plan ≡ edge.plan
   pub me : edge.forwarding.me ≡ edge.me

@@ -5,6 +5,7 @@ pub mod Invariant
 pub mod Lists
 pub mod Mending
 pub mod Opening
+pub mod Pings
 pub mod Said
 pub mod Spokes
 pub mod Taking

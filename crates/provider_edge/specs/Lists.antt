@@ -6,7 +6,7 @@ use Rattle.net_base.specs.declared.plan.places.EdgeId.{EdgeId}
 use Rattle.net_base.specs.declared.trace.down.Down.TheVariants.{NoLocal}
 use Rattle.pw_ends.specs.Ends.{EndLists, seen_ends}
 use Rattle.edge_model.specs.declared.effects.Effects.{Effects}
-use Rattle.edge_model.specs.State.{EdgeState, Peering, first_label, priority_in}
+use Rattle.edge_model.specs.State.{EdgeState, Peering, first_label, first_ping, priority_in}
 use Rattle.edge_model.specs.Work.{Work}
 use Rattle.edge_forwarding.specs.Forwarding.{ForwardingLists, domain_of, entries_of}
 use Rattle.edge_forwarding.specs.Views.{view}
@@ -25,6 +25,8 @@ pub record EdgeLists : Type 0 where
   pub bits : List ℕ
   -- the priority number of its spoke on each wire
   pub priorities : List ℕ
+  -- the sequence number of its next ping of each wire
+  pub pings : List ℕ
   -- its spokes by services, and those that it has chosen
   pub spokes : SpokeLists
   -- what it forwards frames by
@@ -46,6 +48,7 @@ seen edge = record {
   told_down = view (Some NoLocal) edge.forwarding.told_down;
   chosen = view None edge.spokes.chosen;
   next_label = edge.ends.labels.next;
+  next_ping = view first_ping edge.pings;
 }
 
 -- an edge that has no place in its plan: it lists nothing
@@ -58,6 +61,7 @@ no_edge plan me = record {
   wires_on = [];
   bits = [];
   priorities = [];
+  pings = [];
   spokes = record { slots = []; chosen = [] };
   forwarding = record { plan = plan; me = me; circuits_on = []; told_down = []; domains = []; ticks = 0 };
   stopped = false;

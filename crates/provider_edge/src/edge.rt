@@ -43,7 +43,7 @@ use std::rc::Rc;
 use vsi_bridge::Bridge;
 
 /// A provider edge of a plan (RFC 4762 section 4): what it keeps of each neighbour, the ends of its pseudowires, what was set
-/// of its wires, the spokes that it has chosen, and what it forwards frames by. Contracts see it as lists by the plan's
+/// of its wires, how often it has pinged each, the spokes that it has chosen, and what it forwards frames by. Contracts see it as lists by the plan's
 /// places, and by `seen` as the state of one edge.
 #[derive(Drop)]
 pub struct Edge {
@@ -54,6 +54,7 @@ pub struct Edge {
     wires_on: Vec<bool>,
     bits: Vec<u8>,
     priorities: Vec<u8>,
+    pings: Vec<u16>,
     spokes: Spokes,
     forwarding: Forwarding,
     stopped: bool,
@@ -65,9 +66,9 @@ impl Model for Edge {
 
     ghost Value = { EdgeLists };
 
-    ghost view = { λ e. record { plan = e.plan.value; me = e.me; peerings = e.peerings.items; ends = e.ends; wires_on = e.wires_on.items; bits = e.bits.items; priorities = e.priorities.items; spokes = e.spokes; forwarding = e.forwarding; stopped = e.stopped } };
+    ghost view = { λ e. record { plan = e.plan.value; me = e.me; peerings = e.peerings.items; ends = e.ends; wires_on = e.wires_on.items; bits = e.bits.items; priorities = e.priorities.items; pings = e.pings.items; spokes = e.spokes; forwarding = e.forwarding; stopped = e.stopped } };
 
-    ghost invariant = { λ e. IsEdge (record { plan = e.plan.value; me = e.me; peerings = e.peerings.items; ends = e.ends; wires_on = e.wires_on.items; bits = e.bits.items; priorities = e.priorities.items; spokes = e.spokes; forwarding = e.forwarding; stopped = e.stopped }) };
+    ghost invariant = { λ e. IsEdge (record { plan = e.plan.value; me = e.me; peerings = e.peerings.items; ends = e.ends; wires_on = e.wires_on.items; bits = e.bits.items; priorities = e.priorities.items; pings = e.pings.items; spokes = e.spokes; forwarding = e.forwarding; stopped = e.stopped }) };
 }
 
 impl Edge {
@@ -105,8 +106,9 @@ impl Edge {
     /// whose end does not stand; for `Frame` a circuit of another edge or one that is off; for `Circuit` a circuit of
     /// another edge or one that is so already; for `Wire` a wire that does not pass the edge or one that is so already; for
     /// `Status` a wire of which the edge is no terminal edge, or bits that are set already; for `Priority` a wire that is no
-    /// spoke from this edge, or a priority that is set already. `Restart` and `Tick` always apply. A `Packet` always applies.
-    /// Pings do not apply yet. The bits of a `Status` are at most 31.
+    /// spoke from this edge, or a priority that is set already; for `Ping` a wire of which the edge is no terminal edge, or whose
+    /// end there does not advertise its label, is not bound, or has picked no control channel (RFC 5085 section 7). `Restart`,
+    /// `Tick` and `Packet` always apply. The bits of a `Status` are at most 31.
     ///
     /// At a switching point of a wire, what one side tells goes on to the other side, with the edge's own point added (RFC 6073 section
     /// 7). A mapping that has passed the edge before, or three switching points, is not taken (section 7.6): the binding of that end
@@ -183,10 +185,7 @@ impl Edge {
             Input::Wire { wire, on } => self.wire(wire, on, work),
             Input::Status { wire, bits } => self.status(wire, bits, work),
             Input::Priority { wire, priority } => { self.priority(wire, priority, work) }
-            Input::Ping { .. } => {
-                work.effects.idle = true;
-                Ok(())
-            }
+            Input::Ping { wire } => self.ping(wire, work),
         }
     }
 

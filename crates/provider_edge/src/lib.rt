@@ -1,11 +1,13 @@
 //! One provider edge at work (RFC 4762 section 4): it takes one input after another, and gives out what `edge_model` says.
 #![tactic(auto)]
 
+mod echo;
 mod edge;
 mod edge_stop;
 mod egress;
 mod ingress;
 mod parts;
+mod pings;
 mod quiet;
 mod spokes;
 

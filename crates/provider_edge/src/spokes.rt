@@ -200,8 +200,8 @@ fn is_spoke(class: Class) -> bool
     }
 }
 
-// Whether a path starts at the edge.
-fn is_first(path: &[EdgeId], edge: EdgeId) -> bool
+/// Whether a path starts at the edge.
+pub fn is_first(path: &[EdgeId], edge: EdgeId) -> bool
     ensures { result ≡ is_first edge.0 path.now }
 {
     match path {

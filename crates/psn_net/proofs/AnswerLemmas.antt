@@ -17,6 +17,10 @@ use Rattle.edge_model.proofs.StillLemmas.{circuit_still, priority_still, status_
 use Rattle.network_model.specs.Absorb.{Stepped, absorb, absorb_all, all_entries_of, answer, begin_at, taken_all}
 use Rattle.network_model.specs.Absorb.{idle as idle_event}
 use Rattle.network_model.specs.Circuit.{circuit_event}
+use Rattle.edge_model.proofs.BridgeLemmas.{PingGoes, PingIdles, PingOutcome, ping_outcome}
+use Rattle.edge_model.specs.Ping.{ping_input}
+use Rattle.edge_model.specs.Work.{Answers, idles}
+use Rattle.network_model.specs.Ping.{ping_event}
 use Rattle.network_model.specs.State.{NetworkState, edge_at, with_edge}
 use Rattle.network_model.specs.Wire.{priority_event, status_event, wire_event}
 use Rattle.psn_net.specs.Lists.{HasAnswered, HasDriven, HasStepped, NetLists, edge_of, seen}
@@ -92,3 +96,18 @@ pub priority_stepped : (old now : NetLists) (wire : WireId) (priority : ℕ) (me
     → HasAnswered me old now (priority_input old.plan taken_all wire priority (begin_at (seen old) me)) → HasStepped old now (priority_event old.plan me wire priority (seen old))
 priority_stepped old now wire priority me has =
     answer_stepped old now me (priority_input old.plan taken_all wire priority (begin_at (seen old) me)) (priority_still old.plan taken_all wire priority (begin_at (seen old) me) refl) has
+
+-- ---- a ping
+
+ping_still : (plan : Plan) (told : Answers) (wire : WireId) (work : Work) → work.idle ≡ false → (ping_input plan told wire work).idle ≡ true → (ping_input plan told wire work).edge ≡ work.edge
+unfolding idles
+ping_still plan told wire work begins idle = by (ping_outcome plan told wire work) where
+  by : PingOutcome work (ping_input plan told wire work) → (ping_input plan told wire work).edge ≡ work.edge
+  by (PingIdles is) = ap (λ (w : Work). w.edge) is
+  by (PingGoes only) =
+      let wrong : true ≡ false = sym idle ∙ (only.idle ∙ begins) in
+      absurd (cc (wrong))
+
+pub ping_stepped : (old now : NetLists) (wire : WireId) (me : EdgeId) → HasAnswered me old now (ping_input old.plan taken_all wire (begin_at (seen old) me)) → HasStepped old now (ping_event old.plan me wire (seen old))
+ping_stepped old now wire me has =
+    answer_stepped old now me (ping_input old.plan taken_all wire (begin_at (seen old) me)) (ping_still old.plan taken_all wire (begin_at (seen old) me) refl) has

@@ -16,12 +16,13 @@ use Rattle.edge_model.specs.Connection.{restart_input}
 use Rattle.edge_model.specs.State.{EdgeState, put_at}
 use Rattle.edge_model.specs.Wire.{priority_input, status_input, wire_input}
 use Rattle.edge_model.specs.Work.{Work}
-use Rattle.edge_model.proofs.BridgeLemmas.{BridgesOnly, is_of_bridging, packet_bridges}
+use Rattle.edge_model.proofs.BridgeLemmas.{BridgesOnly, PingsInput, is_of_bridging, packet_bridges, ping_bridges}
 use Rattle.edge_model.proofs.SessionLemmas.{are_all, own_effects}
 use Rattle.network_model.specs.Absorb.{absorb, absorb_all, absorb_one, answer, begin_at, idle, taken_all}
 use Rattle.network_model.specs.Circuit.{circuit_event}
 use Rattle.network_model.specs.Connection.{can_connect, connect_event, connected_work, connecting, deliver_event, delivering, hearing_work, is_deliverable, is_drained_pipe, lose_event, losing, losing_work, restart_event}
 use Rattle.network_model.specs.Frame.{entering, frame_event, frame_work, next_origin}
+use Rattle.network_model.specs.Ping.{ping_event, ping_work}
 use Rattle.network_model.specs.declared.packet.Packet.{Packet}
 use Rattle.network_model.specs.Packet.{again_event, arrive_event, arriving, discard_event, packet_at, packet_work}
 use Rattle.network_model.specs.State.{NetworkState, stands, with_edge, with_frame, with_packet, with_pipe, without_octets_to, without_packet}
@@ -225,7 +226,7 @@ bridged_beside these me origin hops (effect.Sent peer wire came octets ∷ es) n
 bridged_beside these me origin hops (effect.Said peer octets ∷ es) n own = absurd (cc (own))
 bridged_beside these me origin hops (effect.Session peer state ∷ es) n own = absurd (cc (own))
 bridged_beside these me origin hops (effect.Wire wire down ∷ es) n own = absurd (cc (own))
-bridged_beside these me origin hops (effect.Pong wire sequence ∷ es) n own = absurd (cc (own))
+bridged_beside these me origin hops (effect.Pong wire sequence ∷ es) n own = bridged_beside these me origin hops es n own
 bridged_beside these me origin hops (effect.Closed peer ∷ es) n own = absurd (cc (own))
 
 -- nor does an edge whose peerings stay
@@ -267,6 +268,20 @@ arrive_beside : (these : ℕ → Bool) (plan : Plan) (packet : Option Packet) (n
 arrive_beside these plan None n = stays_beside these n
 arrive_beside these plan (Some packet) n = arriving_beside these plan packet n
 
+ping_beside : (these : ℕ → Bool) (plan : Plan) (me : EdgeId) (wire : WireId) (n : NetworkState) → IsKeptBeside these n (ping_event plan me wire n).state
+ping_beside these plan me wire n = by work.idle where
+  work : Work
+  work = ping_work plan n me wire
+
+  pings : PingsInput (begin_at n me) work
+  pings = ping_bridges plan taken_all wire (begin_at n me)
+
+  by : (b : Bool) → IsKeptBeside these n (cond b (idle n) (absorb me 0 0 work n)).state
+  by true = stays_beside these n
+  by false =
+      then_beside these n (with_edge me work.edge n) (absorb me 0 0 work n).state (same_beside these me work.edge n (ap (λ (e : EdgeState). e.peering) pings.edge))
+      (bridged_beside these me 0 0 work.effects (with_edge me work.edge n) (own_effects is_of_bridging work.effects pings.effects))
+
 discard_beside : (these : ℕ → Bool) (packet : Option Packet) (n : NetworkState) → IsKeptBeside these n (discard_event packet n).state
 discard_beside these None n = stays_beside these n
 discard_beside these (Some packet) n = taken_beside these packet.number n
@@ -295,7 +310,7 @@ step_beside plan n (event.Priority me wire priority) = answer_beside me (priorit
 step_beside plan n (event.Arrive number) = arrive_beside (λ k. false) plan (packet_at n number) n
 step_beside plan n (event.Discard number) = discard_beside (λ k. false) (packet_at n number) n
 step_beside plan n (event.Again number) = again_beside (λ k. false) (packet_at n number) n
-step_beside plan n (event.Ping me wire) = stays_beside (λ k. false) n
+step_beside plan n (event.Ping me wire) = ping_beside (λ k. false) plan me wire n
 
 -- ---- so the index is right beside them
 

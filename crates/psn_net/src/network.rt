@@ -67,7 +67,7 @@ impl Network {
     }
 
     /// Does one event, and adds to the trace what it tells. The event names places of the plan, and its numbers are in
-    /// their ranges; a frame has at most 262,144 octets. A ping does not apply yet, and is told as idle.
+    /// their ranges; a frame has at most 262,144 octets.
     ///
     /// `TooMuch` exactly where the trace already weighs more than 268,435,456, and else `Crowded` exactly where the event may
     /// send a packet (a frame, an arrival, a repetition or a ping) and 65,536 or more are under way; network and trace are

@@ -6,7 +6,7 @@ ghost use Rattle.edge_model.specs.Step.{edge_step};
 ghost use Rattle.provider_edge.specs.Lists.{seen as seen_edge};
 ghost use Rattle.provider_edge.specs.Said.{AllFit};
 ghost use Rattle.provider_edge.specs.Taking.{IsInRange};
-ghost use Rattle.network_model.specs.Absorb.{begin_at, idle, taken_all};
+ghost use Rattle.network_model.specs.Absorb.{begin_at, taken_all};
 ghost use Rattle.network_model.specs.State.{edge_at, empty_network};
 ghost use Rattle.network_model.specs.Step.{step};
 ghost use Rattle.psn_net.specs.Lists.{HasDriven, HasRoom, HasStepped, Keeps, seen};
@@ -138,16 +138,8 @@ impl Parts {
                 wire,
                 priority,
             } => self.priority(alloc, *edge, *wire, *priority),
-            Event::Ping { .. } => self.ping(),
+            Event::Ping { edge, wire } => self.ping(alloc, *edge, *wire),
         }
-    }
-
-    // No control channel is built yet, so a ping does not apply.
-    fn ping(&mut self) -> Result<(), NoMemory>
-        ensures keeps { Keeps self.old self.new }
-        ensures step { OnOk result (HasStepped self.old self.new (idle (seen self.old))) }
-    {
-        self.tell(Entry::Idle)
     }
 
     // Adds an entry to the trace.

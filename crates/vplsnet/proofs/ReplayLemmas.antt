@@ -15,7 +15,8 @@ use Rattle.flight_model.proofs.RuledRunLemmas.{runs_keep_label_rule, runs_keep_t
 use Rattle.flight_model.proofs.RunLemmas.{runs_come_up, runs_end_well, runs_follow_table}
 use Rattle.network_model.proofs.SplitLemmas.{run_split}
 use Rattle.network_model.proofs.KnownLemmas.{run_serves_known_once}
-use Rattle.packet_model.proofs.RunLemmas.{runs_are_isolated, runs_keep_packet_rule}
+use Rattle.packet_model.proofs.SharedLemmas.{runs_share_channels}
+use Rattle.packet_model.proofs.RunLemmas.{runs_are_isolated, runs_keep_echoes_apart, runs_keep_packet_rule}
 use Rattle.flood_model.proofs.ChainLemmas.{runs_tell_in_chains}
 use Rattle.flood_model.proofs.RunLemmas.{runs_serve_once}
 use Rattle.flood_model.proofs.ShareLemmas.{runs_share_sites}
@@ -49,6 +50,8 @@ promises_kept plan events run = record {
   isolated = runs_are_isolated plan events run;
   split = run_split plan events run.checked;
   packets = λ before after joined. runs_keep_packet_rule plan before (first before after joined);
+  echoes = λ before after joined. runs_keep_echoes_apart plan before (first before after joined);
+  channels = λ before after joined. runs_share_channels plan before (first before after joined);
   once = runs_serve_once plan events run;
   shared = runs_share_sites plan events run;
   known = run_serves_known_once plan events run.checked;

@@ -11,15 +11,19 @@ use Rattle.net_base.specs.plan.Places.{wire_row}
 use Rattle.net_base.specs.plan.Roles.{are_joined_by}
 use Rattle.net_base.specs.trace.Isolated.{Isolated}
 use Rattle.net_base.specs.trace.Split.{Split}
+use Rattle.network_model.specs.declared.packet.Packet.{Packet}
 use Rattle.network_model.specs.Calm.{is_quiet}
 use Rattle.network_model.specs.KnownOnce.{KnownOnce}
 use Rattle.network_model.specs.OnceEach.{OnceEach}
+use Rattle.network_model.specs.Packet.{packet_at}
 use Rattle.network_model.specs.Run.{run}
 use Rattle.network_model.specs.State.{NetworkState}
 use Rattle.flight_model.specs.Across.{TakesAll, TellsAcross}
 use Rattle.flight_model.specs.Endings.{TellGoodEnds}
 use Rattle.flight_model.specs.Releases.{AllAwaitReleases, AllReleaseUnadvertised}
+use Rattle.packet_model.specs.Apart.{IsNoFrame}
 use Rattle.packet_model.specs.Carried.{KeepsPacketRule}
+use Rattle.packet_model.specs.Channel.{SharesChannel}
 use Rattle.flood_model.specs.Laws.{IsWholeWhereCalm, TellsWhereQuiet}
 use Rattle.flood_model.specs.Shares.{SharesEach}
 use Rattle.address_model.specs.Laws.{KnownAreReached, PointsLast}
@@ -46,7 +50,7 @@ AreSettledWhereQuiet plan network = (service : ServiceId) → is_quiet plan netw
 abbrev pub AreUpWhereStill : NetworkState → Type 0
 AreUpWhereStill network = (a b : ℕ) → IsStillBetween network a b → IsUp network a b × IsUp network b a
 
--- each packet under way carries a frame that entered, in the service of its wire
+-- each packet under way carries a frame that entered, in the service of its wire, or is a ping of its wire or the answer to one
 abbrev pub CarryFrames : Plan → List Event → Type 0
 CarryFrames plan events = (before after : List Event) → events ≡ before ++ after → KeepsPacketRule plan (network_after plan before) (run plan before).entries
 
@@ -58,14 +62,23 @@ TellAcross plan network = (me from to : EdgeId) (wire : WireId) (row : WirePlan)
 abbrev pub TakeMappings : Plan → NetworkState → Type 0
 TakeMappings plan network = (from to : ℕ) → nat_eq from to ≡ false → TakesAll plan network from to
 
+-- whatever packet under way belongs to no frame, no bridge hears it, and it stays on its wire
+abbrev pub KeepEchoesApart : Plan → NetworkState → Type 0
+KeepEchoesApart plan network = (number : ℕ) (packet : Packet) → packet_at network number ≡ Some packet → packet.origin ≡ 0 → IsNoFrame plan network packet
+
 pub record KeepsPromises (plan : Plan) (events : List Event) : Type 0 where
   -- customers stay apart, over wires too
   pub isolated : Isolated plan (run plan events).entries
   -- split horizon: what came by a mesh wire is sent on no mesh wire
   pub split : Split plan (run plan events).entries
   -- whatever befell it and the network since it was sent, each packet under way carries the inner frame of a frame that entered
-  -- in the service of its wire, and whoever owns its label where it goes is the end of that wire
+  -- in the service of its wire, or is a ping of that wire or the answer to one, in the control channel that both terminal edges pick;
+  -- and whoever owns its label where it goes is the end of that wire
   pub packets : CarryFrames plan events
+  -- a ping and the answer to one are never taken for a frame where they arrive
+  pub echoes : Throughout (KeepEchoesApart plan) plan events
+  -- and the two terminal edges of a wire pick one control channel for them, where both ends are bound and use a control word alike
+  pub channels : Throughout (SharesChannel plan) plan events
   -- each flooded frame reaches each site once, within twelve segments
   pub once : OnceEach 12 plan events
   -- and at each moment before that each other site was served, or is ahead of one copy under way, which has passed four segments at

@@ -25,6 +25,30 @@ circuit = [{ name = "ca", edge = "a", service = "s" }, { name = "cb", edge = "b"
 wire = [{ name = "w", service = "s", class = "mesh", path = ["a", "b"], pw_id = 100 }]
 "#;
 
+/// Two edges and a wire with a control word, whose ends offer the associated channel header (RFC 5085 section 5.1.1).
+pub const BY_HEADER: &str = r#"
+version = 1
+edge = [{ name = "a", address = "10.0.0.1" }, { name = "b", address = "10.0.0.2" }]
+service = [{ name = "s" }]
+wire = [{ name = "w", service = "s", class = "mesh", path = ["a", "b"], pw_id = 100, vccv = 1 }]
+"#;
+
+/// The same without a control word, whose ends offer the router alert label (RFC 5085 section 5.1.2).
+pub const BY_ALERT: &str = r#"
+version = 1
+edge = [{ name = "a", address = "10.0.0.1" }, { name = "b", address = "10.0.0.2" }]
+service = [{ name = "s" }]
+wire = [{ name = "w", service = "s", class = "mesh", path = ["a", "b"], pw_id = 100, vccv = 2, control_word = false }]
+"#;
+
+/// The same, whose ends offer the TTL that expires (RFC 5085 section 5.1.3).
+pub const BY_EXPIRY: &str = r#"
+version = 1
+edge = [{ name = "a", address = "10.0.0.1" }, { name = "b", address = "10.0.0.2" }]
+service = [{ name = "s" }]
+wire = [{ name = "w", service = "s", class = "mesh", path = ["a", "b"], pw_id = 100, vccv = 4, control_word = false }]
+"#;
+
 /// Three edges, and a wire from the first to the last of them, of which the second is a switching point.
 pub const PATH: &str = r#"
 version = 1

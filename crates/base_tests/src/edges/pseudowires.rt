@@ -40,7 +40,7 @@ const RELEASE_OF_OWN: &str =
     "000100260a00000100000403001c000000040100000c8080050400000000000000640200000400000010";
 
 /// The session of the edge with the larger address comes up.
-const UP: [Step; 3] = [
+pub const UP: [Step; 3] = [
     Step::Connected(A),
     Step::Hears(A, PROPOSAL_OF_A),
     Step::Hears(A, KEEP_ALIVE_OF_A),

@@ -39,6 +39,10 @@ pub enum Step {
     Left(usize, u16, &'static str),
     /// A packet was sent to this neighbour on this wire, for a frame of a circuit.
     SentOn(usize, EdgeId, u16),
+    /// The one effect: an echo packet was sent to this neighbour on this wire, for no frame; or the answer to the ping of this wire with
+    /// this number was told.
+    Echoed(EdgeId, u16),
+    Ponged(u16, u16),
     /// The one effect: a frame or a packet was dropped.
     Dropped(DropCause),
     /// The link was called so often; the call at this place put octets towards a neighbour, or sent it a packet.
@@ -147,6 +151,31 @@ fn is_sent(effects: &Effects, place: usize, to: EdgeId, on: u16) -> bool {
     }
 }
 
+// Whether one packet on this wire was given out that is for no frame, and nothing else.
+fn is_echoed(effects: &Effects, to: EdgeId, on: u16) -> bool {
+    match effects.list.get(0) {
+        Some(
+            Effect::Sent {
+                peer,
+                wire,
+                arrival: Arrival::Own,
+                ..
+            },
+        ) => effects.list.len() == 1 && *peer == to && wire.0 == on,
+        _ => false,
+    }
+}
+
+// Whether one answer to a ping was given out, and nothing else.
+fn is_ponged(effects: &Effects, of: u16, number: u16) -> bool {
+    match effects.list.get(0) {
+        Some(Effect::Pong { wire, sequence }) => {
+            effects.list.len() == 1 && wire.0 == of && *sequence == number
+        }
+        _ => false,
+    }
+}
+
 // Whether one loss for this cause was given out, and nothing else.
 fn is_dropped(effects: &Effects, cause: DropCause) -> bool {
     match effects.list.get(0) {
@@ -163,6 +192,8 @@ fn agrees_in_effects(effects: &Effects, step: Step, octets: &[u8]) -> Option<boo
         Step::Told(place, state) => Some(is_told(effects, place, state)),
         Step::Left(place, circuit, _) => Some(is_left(effects, place, circuit, octets)),
         Step::SentOn(place, peer, wire) => Some(is_sent(effects, place, peer, wire)),
+        Step::Echoed(peer, wire) => Some(is_echoed(effects, peer, wire)),
+        Step::Ponged(wire, sequence) => Some(is_ponged(effects, wire, sequence)),
         Step::Dropped(cause) => Some(is_dropped(effects, cause)),
         _ => None,
     }

@@ -11,6 +11,7 @@ ghost use Rattle.provider_edge.specs.Spokes.{IsNewSpokes};
 
 use crate::Edge;
 use crate::parts::Parts;
+use crate::pings::first_pings;
 use crate::spokes::{Spokes, priorities};
 use edge_forwarding::Forwarding;
 use net_base::{EdgeId, NoMemory, Plan};
@@ -85,6 +86,7 @@ impl Edge {
                 wires_on: lists.wires_on,
                 bits: lists.bits,
                 priorities: lists.priorities,
+                pings: lists.pings,
                 spokes: parts.spokes,
                 forwarding: parts.forwarding,
                 stopped: false,
@@ -110,18 +112,21 @@ struct FirstLists {
     wires_on: Vec<bool>,
     bits: Vec<u8>,
     priorities: Vec<u8>,
+    pings: Vec<u16>,
 }
 
-// No session stands, every wire is on without a failure, and spokes have the priorities of the plan.
+// No session stands, every wire is on without a failure and was not pinged, and spokes have the priorities of the plan.
 fn first_lists(alloc: Global, plan: &Plan) -> Result<FirstLists, NoMemory>
     ensures peerings { IfOk result (λ lists. lists.peerings.items ≡ replicate (length plan.now.edges) None) }
     ensures wires { IfOk result (λ lists. lists.wires_on.items ≡ replicate (length plan.now.wires) true) }
     ensures zeros { IfOk result (λ lists. lists.bits.items ≡ replicate (length plan.now.wires) 0) }
+    ensures ones { IfOk result (λ lists. lists.pings.items ≡ replicate (length plan.now.wires) 1) }
     ensures priorities { IfOk result (λ lists. lists.priorities.items ≡ map (λ row. row.priority) plan.now.wires) }
 {
     let count = plan.wires.len();
     let wires_on = vec![in alloc; true; count]?;
     let bits = vec![in alloc; 0u8; count]?;
+    let pings = first_pings(alloc, count)?;
     let priorities = priorities(alloc, plan)?;
     let peerings = no_peerings(alloc, plan.edges.len())?;
     Ok(FirstLists {
@@ -129,6 +134,7 @@ fn first_lists(alloc: Global, plan: &Plan) -> Result<FirstLists, NoMemory>
         wires_on,
         bits,
         priorities,
+        pings,
     })
 }
 

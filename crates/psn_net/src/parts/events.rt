@@ -5,6 +5,7 @@ ghost use Rattle.edge_model.specs.Step.{edge_step};
 ghost use Rattle.network_model.specs.Absorb.{absorb, begin_at, taken_all};
 ghost use Rattle.network_model.specs.Circuit.{circuit_event};
 ghost use Rattle.network_model.specs.Frame.{frame_event};
+ghost use Rattle.network_model.specs.Ping.{ping_event};
 ghost use Rattle.network_model.specs.State.{with_frame};
 ghost use Rattle.network_model.specs.Tick.{tick_at, tick_event};
 ghost use Rattle.network_model.specs.Wire.{priority_event, status_event, wire_event};
@@ -162,6 +163,17 @@ impl Parts {
         ensures step { OnOk result (HasStepped self.old self.new (priority_event self.old.plan me wire priority (seen self.old))) }
     {
         self.answer_input(alloc, me, Input::Priority { wire, priority })
+    }
+
+    // An edge pings the far end of a wire.
+    #[tactic(auto, using(crate::proofs::AnswerLemmas::ping_stepped))]
+    pub(crate) fn ping(&mut self, alloc: Global, me: EdgeId, wire: WireId) -> Result<(), NoMemory>
+        requires me { me.0 < length self.old.plan.edges }
+        requires room { HasRoom self.old }
+        ensures keeps { Keeps self.old self.new }
+        ensures step { OnOk result (HasStepped self.old self.new (ping_event self.old.plan me wire (seen self.old))) }
+    {
+        self.answer_input(alloc, me, Input::Ping { wire })
     }
 
     // A customer's frame enters at a circuit.

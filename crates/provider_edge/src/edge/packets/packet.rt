@@ -1,35 +1,36 @@
 //! A packet comes from a neighbour (RFC 3032 section 2.1, RFC 4448 section 4, RFC 5085 section 5): the first step that applies
 //! decides.
-ghost use Rattle.std.specs.Prelude.{◌≡◌, ◌≤◌, ◌<◌, List, Some, Ok, Err, true, length, option_map, position, is_some, IfOk, IfSome, OnOk, MatchResult};
-ghost use Rattle.net_base.specs.declared.outside.link_call.LinkCall.{LinkCall};
+ghost use Rattle.std.specs.Prelude.{◌≡◌, ◌==◌, ◌&&◌, ◌≤◌, ◌<◌, Some, Ok, Err, true, length, option_map, position, is_some, IfOk, IfSome, OnOk, MatchResult};
 ghost use Rattle.net_base.specs.declared.plan.wire_plan.WirePlan.{WirePlan};
 ghost use Rattle.net_base.specs.plan.Paths.{offer_of};
 ghost use Rattle.net_base.specs.plan.Places.{mtu_of, wire_row};
 ghost use Rattle.eth_encap.specs.Fault.{cause_of};
 ghost use Rattle.eth_encap.specs.Packet.{entry_of};
 ghost use Rattle.hvpls_spokes.specs.Port.{is_wire_port, ports_of};
-ghost use Rattle.edge_model.specs.declared.effect.Effect.{Effect as Given};
+ghost use Rattle.vccv_channel.specs.declared.cc.Cc.TheVariants.{Expiry};
+ghost use Rattle.edge_model.specs.Echo.{is_picked};
 ghost use Rattle.edge_model.specs.Ends.{is_up};
-ghost use Rattle.edge_model.specs.Packet.{advertiser, alerted, alerts_end, enters, is_alert, is_channel, labelled, packet_input, terminated, unpacked_at};
+ghost use Rattle.edge_model.specs.Packet.{advertiser, alerted, alerts_end, by_control_word, enters, is_alert, is_channel, labelled, packet_input, terminated, unpacked_at};
 ghost use Rattle.edge_model.specs.Role.{down_at};
-ghost use Rattle.edge_model.specs.Send.{drops};
 ghost use Rattle.edge_model.specs.Synced.{InSync};
-ghost use Rattle.edge_model.specs.Work.{Agrees, Answers, Work};
+ghost use Rattle.edge_model.specs.Work.{Agrees, Answers};
 ghost use Rattle.pw_ends.specs.Ends.{end_in, place_of};
 ghost use Rattle.edge_forwarding.specs.Forwarding.{open_ports};
-ghost use Rattle.peer_dialogue.specs.Peering.{at_edge};
+ghost use Rattle.peer_dialogue.specs.AtWork.{WorkGoes};
+ghost use Rattle.pw_signalling.specs.declared.binding.Binding.{Binding as Bound};
 ghost use Rattle.provider_edge.specs.AtWork.{Works, at_work};
 ghost use Rattle.provider_edge.specs.Lists.{seen};
 
 use crate::Edge;
+use crate::edge::packets::verify::is_picked;
 use crate::ingress::Ingress;
 use crate::quiet::drop_for;
 use edge_forwarding::{read_payload, without_entry};
-use edge_model::Effect;
 use eth_encap::{FrameFault, StackEntry, read_entry};
-use net_base::{Arrival, DropCause, Link, List, NoMemory, Offer, ServiceId};
+use net_base::{Arrival, DropCause, Link, NoMemory, Offer, ServiceId};
 use peer_dialogue::AtWork;
 use std::alloc::Global;
+use vccv_channel::Cc;
 
 // The label of a router alert (RFC 3032 section 2.1).
 const ROUTER_ALERT: u32 = 1;
@@ -58,54 +59,60 @@ impl Edge {
             Err(fault) => return drop_for(fault.cause(), &mut work.effects.list),
         };
         if is_alert(&entry) {
-            return self.alerted(without_entry(octets), &mut work.effects.list);
+            return self.alerted(without_entry(octets), work);
         }
         self.labelled(octets, &entry, work)
     }
 
-    // 1. Behind a router alert a second entry is read. Connectivity verification is not offered yet.
-    fn alerted(&self, octets: &[u8], out: &mut List<Effect>) -> Result<(), NoMemory>
-        ensures { OnOk result ((calls : List LinkCall)
-            → at_edge (seen self.now) calls out.new ≡ alerted self.now.plan (entry_of octets.now) (at_edge (seen self.now) calls out.old)) }
+    // 1. Behind a router alert a second entry is read.
+    fn alerted<L: Link>(&self, octets: &[u8], work: &mut AtWork<'_, L>) -> Result<(), NoMemory>
+        ensures goes { WorkGoes L.calls work.old work.new }
+        ensures step { OnOk result ((told : Answers) → Agrees told (L.calls work.new.link.now)
+            → at_work L.calls self.now work.new ≡ alerted self.now.plan told octets.now (entry_of octets.now) (at_work L.calls self.now work.old)) }
     {
         match read_entry(octets) {
-            Ok(entry) => drop_for(self.entry_cause(&entry), out),
-            Err(fault) => drop_for(fault.cause(), out),
+            Ok(entry) => self.alerted_by(octets, &entry, work),
+            Err(fault) => drop_for(fault.cause(), &mut work.effects.list),
         }
     }
 
-    // Why what has this entry behind a router alert is dropped.
-    fn entry_cause(&self, entry: &StackEntry) -> DropCause
-        ensures { (calls : List LinkCall) (out : List Given)
-            → drops result (at_edge (seen self.now) calls out) ≡ alerted self.now.plan (Ok entry.now) (at_edge (seen self.now) calls out) }
+    // What stands behind a router alert has this entry.
+    fn alerted_by<L: Link>(
+        &self,
+        octets: &[u8],
+        entry: &StackEntry,
+        work: &mut AtWork<'_, L>,
+    ) -> Result<(), NoMemory>
+        requires long { 4 ≤ length octets.now }
+        ensures goes { WorkGoes L.calls work.old work.new }
+        ensures step { OnOk result ((told : Answers) → Agrees told (L.calls work.new.link.now)
+            → at_work L.calls self.now work.new ≡ alerted self.now.plan told octets.now (Ok entry.now) (at_work L.calls self.now work.old)) }
     {
         if !entry.bottom {
-            return DropCause::NotBottom;
+            return drop_for(DropCause::NotBottom, &mut work.effects.list);
         }
-        self.alert_cause(entry.label)
+        let Some(slot) = self.advertiser(entry.label) else {
+            return drop_for(DropCause::NoLabel, &mut work.effects.list);
+        };
+        self.alert_end(slot, without_entry(octets), work)
     }
 
-    // Why connectivity verification under a label is dropped.
-    fn alert_cause(&self, label: u32) -> DropCause
-        ensures { (calls : List LinkCall) (out : List Given)
-            → drops result (at_edge (seen self.now) calls out) ≡ alerts_end (advertiser self.now.plan (seen self.now) label) (at_edge (seen self.now) calls out) }
-    {
-        match self.advertiser(label) {
-            Some(slot) => self.slot_cause(slot),
-            None => DropCause::NoLabel,
-        }
-    }
-
-    // Why connectivity verification at the end of a slot is dropped.
-    fn slot_cause(&self, slot: usize) -> DropCause
+    // A terminal end takes connectivity verification behind a router alert.
+    fn alert_end<L: Link>(
+        &self,
+        slot: usize,
+        payload: &[u8],
+        work: &mut AtWork<'_, L>,
+    ) -> Result<(), NoMemory>
         requires { slot < length self.now.ends.places }
-        ensures { (work : Work) → drops result work ≡ alerts_end (Some (place_of self.now.ends slot)) work }
+        ensures goes { WorkGoes L.calls work.old work.new }
+        ensures step { OnOk result ((told : Answers) → Agrees told (L.calls work.new.link.now)
+            → at_work L.calls self.now work.new ≡ alerts_end self.now.plan told payload.now (Some (place_of self.now.ends slot)) (at_work L.calls self.now work.old)) }
     {
-        let place = self.place_at(slot);
-        if place.terminal {
-            return DropCause::NotOffered;
+        if !self.place_at(slot).terminal {
+            return drop_for(DropCause::NoLabel, &mut work.effects.list);
         }
-        DropCause::NoLabel
+        self.verify_in(slot, Cc::Alert, payload, work)
     }
 
     // The end that advertises a label.
@@ -146,14 +153,15 @@ impl Edge {
         if !place.terminal {
             return self.switch(slot, octets, entry, work);
         }
-        self.terminated(slot, without_entry(octets), work)
+        self.terminated(slot, entry.ttl, without_entry(octets), work)
     }
 
     // 4. A terminal end takes what stands behind its label, where it is bound. With a control word, an associated channel is
-    // connectivity verification, and else a frame stands behind it.
+    // connectivity verification; without one, a TTL that ends here is, where the end has picked that. Else a frame stands behind it.
     fn terminated<L: Link>(
         &mut self,
         slot: usize,
+        ttl: u8,
         payload: &[u8],
         work: &mut AtWork<'_, L>,
     ) -> Result<(), NoMemory>
@@ -164,20 +172,41 @@ impl Edge {
         ensures goes { Works L.calls self.old work.old self.new work.new }
         ensures step { OnOk result ((told : Answers) → Agrees told (L.calls work.new.link.now)
             → at_work L.calls self.new work.new
-            ≡ terminated self.old.plan told (place_of self.old.ends slot) (wire_row self.old.plan (place_of self.old.ends slot).wire) (end_in self.old.ends slot).remote payload.now (at_work L.calls self.old work.old)) }
+            ≡ terminated self.old.plan told (place_of self.old.ends slot) ttl (wire_row self.old.plan (place_of self.old.ends slot).wire) (end_in self.old.ends slot).remote payload.now (at_work L.calls self.old work.old)) }
     {
         if !self.is_bound(slot) {
             return drop_for(DropCause::Down, &mut work.effects.list);
         }
-        let offer = self.offer_at(slot);
-        if !offer.cword {
-            return self.enter(slot, payload, work);
+        if self.offer_at(slot).cword {
+            return self.with_word(slot, payload, work);
         }
+        if expires(ttl, self.channel_at(slot)) {
+            return self.verify(slot, Cc::Expiry, payload, work);
+        }
+        self.enter(slot, payload, work)
+    }
+
+    // The same with a control word.
+    fn with_word<L: Link>(
+        &mut self,
+        slot: usize,
+        payload: &[u8],
+        work: &mut AtWork<'_, L>,
+    ) -> Result<(), NoMemory>
+        requires working { self.old.stopped ≡ true }
+        requires synced { InSync self.old.plan (seen self.old) }
+        requires slot { slot < length self.old.ends.places }
+        requires terminal { (place_of self.old.ends slot).terminal ≡ true }
+        ensures goes { Works L.calls self.old work.old self.new work.new }
+        ensures step { OnOk result ((told : Answers) (row : WirePlan) (binding : Bound) → Agrees told (L.calls work.new.link.now) → wire_row self.old.plan (place_of self.old.ends slot).wire ≡ Some row
+            → (end_in self.old.ends slot).remote ≡ Some binding
+            → at_work L.calls self.new work.new ≡ by_control_word self.old.plan told row (place_of self.old.ends slot) binding payload.now (at_work L.calls self.old work.old)) }
+    {
         if payload.is_empty() {
             return drop_for(DropCause::Short, &mut work.effects.list);
         }
         if is_channel(payload) {
-            return drop_for(DropCause::NotOffered, &mut work.effects.list);
+            return self.verify_in(slot, Cc::Header, payload, work);
         }
         self.enter(slot, payload, work)
     }
@@ -192,7 +221,7 @@ impl Edge {
 
     // What the edge offers at the end of a slot.
     #[tactic(auto, using(edge_forwarding::proofs::ForwardingLemmas::row_read))]
-    fn offer_at(&self, slot: usize) -> Offer
+    pub(crate) fn offer_at(&self, slot: usize) -> Offer
         requires { slot < length self.now.ends.places }
         ensures row { (row : WirePlan) → wire_row self.now.plan (place_of self.now.ends slot).wire ≡ Some row → result ≡ offer_of row self.now.me.0 }
         ensures within { (place_of self.now.ends slot).wire.0 < length self.now.plan.wires }
@@ -287,6 +316,13 @@ fn is_alert(entry: &StackEntry) -> bool
     ensures { result ≡ is_alert entry.now }
 {
     entry.label == ROUTER_ALERT && !entry.bottom
+}
+
+// Whether a TTL ends at an end that has picked that as its control channel (RFC 5085 section 5.1.3).
+fn expires(ttl: u8, channel: Option<Cc>) -> bool
+    ensures { result ≡ (ttl == 1 && is_picked Expiry channel) }
+{
+    ttl == 1 && is_picked(Cc::Expiry, channel)
 }
 
 // Whether an associated channel stands behind the label stack.

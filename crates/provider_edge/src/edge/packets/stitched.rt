@@ -43,7 +43,7 @@ fn is_joined_end(end: &PwEnd) -> bool
 }
 
 // The end advertises its label.
-fn has_told(end: &PwEnd) -> bool
+pub(crate) fn has_told(end: &PwEnd) -> bool
     ensures { result ≡ has_told (end_of end.now).local }
 {
     matches!(end, PwEnd::Advertised(_))

@@ -10,6 +10,7 @@ ghost use Rattle.provider_edge.specs.AtWork.{Takes, Works, at_work, worked_at};
 ghost use Rattle.provider_edge.specs.Lists.{Keeps, seen, worked};
 
 use crate::Edge;
+use crate::pings::forget_pings;
 use edge_model::Effect;
 use net_base::{EdgeId, Link, NoMemory, StateName};
 use peer_dialogue::{AtWork, Event, Peering};
@@ -108,13 +109,14 @@ impl Edge {
         self.clear_bridges();
     }
 
-    // Each end is as it was opened, what was told of it is forgotten, and no spoke is chosen.
+    // Each end is as it was opened, what was told of it and how often it was pinged is forgotten, and no spoke is chosen.
     fn forget_ends(&mut self)
         requires working { self.old.stopped ≡ true }
         ensures keeps { Keeps self.old self.new }
         ensures step { seen self.new ≡ without_ends (seen self.old) }
     {
         self.ends.restarted();
+        forget_pings(&mut self.pings);
         self.spokes.clear();
         self.forwarding.close_wires();
     }
