@@ -12,5 +12,6 @@ mod sessions;
 mod side;
 mod steps;
 mod stitches;
+mod switched_pings;
 mod switching_faults;
 mod withdraws;

@@ -61,6 +61,42 @@ service = [{ name = "s" }]
 wire = [{ name = "w", service = "s", class = "mesh", path = ["a", "b", "c"], pw_id = 100 }]
 "#;
 
+/// The same, whose ends offer the associated channel header.
+pub const PATH_BY_HEADER: &str = r#"
+version = 1
+edge = [
+  { name = "a", address = "10.0.0.1" },
+  { name = "b", address = "10.0.0.2" },
+  { name = "c", address = "10.0.0.3" },
+]
+service = [{ name = "s" }]
+wire = [{ name = "w", service = "s", class = "mesh", path = ["a", "b", "c"], pw_id = 100, vccv = 1 }]
+"#;
+
+/// The same without a control word, whose ends offer the router alert label.
+pub const PATH_BY_ALERT: &str = r#"
+version = 1
+edge = [
+  { name = "a", address = "10.0.0.1" },
+  { name = "b", address = "10.0.0.2" },
+  { name = "c", address = "10.0.0.3" },
+]
+service = [{ name = "s" }]
+wire = [{ name = "w", service = "s", class = "mesh", path = ["a", "b", "c"], pw_id = 100, vccv = 2, control_word = false }]
+"#;
+
+/// The same, whose ends offer the TTL that expires too.
+pub const PATH_BY_EXPIRY: &str = r#"
+version = 1
+edge = [
+  { name = "a", address = "10.0.0.1" },
+  { name = "b", address = "10.0.0.2" },
+  { name = "c", address = "10.0.0.3" },
+]
+service = [{ name = "s" }]
+wire = [{ name = "w", service = "s", class = "mesh", path = ["a", "b", "c"], pw_id = 100, vccv = 6, control_word = false }]
+"#;
+
 /// Three core edges in full mesh, and a spoke edge that hangs on the first of them: there, wires 0 and 1 are the mesh wires to B
 /// and C, and wire 3 is the spoke from X.
 pub const HIERARCHY: &str = r#"
