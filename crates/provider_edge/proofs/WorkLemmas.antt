@@ -125,9 +125,3 @@ pub input_done : {A E : Type 0} (r : Result A E) (e now : EdgeLists) (calls new 
     → OnOk r ((told : Answers) → Agrees told new → worked now new effects ≡ edge_step e.plan told came (beginning (seen e) calls))
 input_done r e now calls new effects came input is done =
     subst (λ (i : Input). OnOk r ((told : Answers) → Agrees told new → worked now new effects ≡ edge_step e.plan told i (beginning (seen e) calls))) (sym is) done
-
--- ---- inputs that are to come
-
-pub idle_done : (e : EdgeLists) (calls : List LinkCall) → worked e calls (no_effects true) ≡ idles (beginning (seen e) calls)
-unfolding worked idles
-idle_done e calls = refl

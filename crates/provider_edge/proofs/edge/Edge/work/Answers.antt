@@ -1,13 +1,9 @@
-use Rattle.std.proofs.Common.{◌≡◌, ◌∙◌, ap, sym, subst, true, refl}
+use Rattle.std.proofs.Common.{◌∙◌, ap, refl}
 use Rattle.edge_model.specs.declared.effects.Effects.{Effects}
-use Rattle.edge_model.specs.declared.input.Input.{Input}
 use Rattle.edge_model.specs.declared.input.Input.TheVariants as input
-use Rattle.edge_model.specs.Step.{edge_step}
-use Rattle.edge_model.specs.Work.{beginning}
 use Rattle.peer_dialogue.proofs.SpeakerLemmas.{goes_nowhere}
-use Rattle.provider_edge.proofs.ListLemmas.{keeps_same}
-use Rattle.provider_edge.proofs.WorkLemmas.{idle_done, input_done}
-use Rattle.provider_edge.specs.Lists.{seen, worked}
+use Rattle.provider_edge.proofs.WorkLemmas.{input_done}
+use Rattle.provider_edge.specs.Lists.{seen}
 use Rattle.edge_model.specs.Packet.{packet_input}
 use Rattle.peer_dialogue.proofs.SettleLemmas.{map_on}
 use Rattle.peer_dialogue.specs.Peering.{at_edge}
@@ -157,11 +153,15 @@ returns-in-Priority-clause-step g c =
 pub returns-in-Restart-clause-goes : goal.returns-in-Restart-clause-goes
 returns-in-Restart-clause-goes g c = record { keeps = c.restart.ensures.keeps; link = refl; effects = refl; calls = goes_nowhere (g.L.Link.calls c.args.work.now.link.now) }
 
+pub ping-requires-clause-working : goal.ping-requires-clause-working
+ping-requires-clause-working g c = c.requires.working
+
+pub ping-requires-clause-fresh : goal.ping-requires-clause-fresh
+ping-requires-clause-fresh g c = c.requires.fresh
+
 pub returns-in-Ping-clause-goes : goal.returns-in-Ping-clause-goes
-returns-in-Ping-clause-goes g c = record { keeps = keeps_same c.args.self.now; link = refl; effects = refl; calls = goes_nowhere (g.L.Link.calls c.args.work.now.link.now) }
+returns-in-Ping-clause-goes g c = c.ping.ensures.goes
 
 pub returns-in-Ping-clause-step : goal.returns-in-Ping-clause-step
-returns-in-Ping-clause-step g c = λ told agrees.
-    subst (λ (i : Input). worked c.args.self.now (g.L.Link.calls c.args.work.now.link.now) (record c.args.work.now.effects.now { idle = true }) ≡ edge_step c.args.self.now.plan told i (beginning (seen c.args.self.now) (g.L.Link.calls c.args.work.now.link.now))) (sym c.in-Ping.is)
-    (subst (λ (e : Effects). worked c.args.self.now (g.L.Link.calls c.args.work.now.link.now) (record e { idle = true }) ≡ edge_step c.args.self.now.plan told (input.Ping c.in-Ping.wire) (beginning (seen c.args.self.now) (g.L.Link.calls c.args.work.now.link.now))) (sym c.requires.fresh)
-    (idle_done c.args.self.now (g.L.Link.calls c.args.work.now.link.now)))
+returns-in-Ping-clause-step g c =
+    input_done c.ping.result c.args.self.now c.ping.new.self (g.L.Link.calls c.args.work.now.link.now) (g.L.Link.calls c.ping.new.work.link.now) c.ping.new.work.effects.now c.args.input (input.Ping c.in-Ping.wire) c.in-Ping.is c.ping.ensures.step
