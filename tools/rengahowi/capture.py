@@ -3,6 +3,7 @@
 import ipaddress
 
 from . import headers, pcapng
+from .labels import label_of
 
 LDP = 646
 FIRST_PORT = 49152
@@ -78,12 +79,18 @@ class Capture:
             self.close(*words[:2])
         elif entry.kind == "sent":
             octets = bytes.fromhex(words[7])
-            has_control_word = self.plan.wires[words[3]].near["control_word"]
-            self.kinds.setdefault(int(words[7][:5], 16), set()).add("pwethcw" if has_control_word else "pwethnocw")
+            self.kinds.setdefault(label_of(words[7]), set()).add(self.kind_of(words[3], words[5]))
             self.packets[words[0]] = (words[1], words[2], octets)
             self.mpls(words[1], words[2], octets, words[1], pcapng.OUTBOUND)
         elif entry.kind == "copied":
             self.packets[words[0]] = self.packets[words[1]]
+
+    def kind_of(self, wire, origin):
+        """What Wireshark is told of a packet's label: whether a control word follows, or nothing of a ping that has none, which its
+        own guess finds."""
+        if self.plan.wires[wire].near["control_word"]:
+            return "pwethcw"
+        return "pwethnocw" if origin else ""
 
     def mpls(self, start, end, octets, where, direction):
         """A packet of a pseudowire between two neighbours (RFC 4448, RFC 3032)."""
@@ -92,13 +99,15 @@ class Capture:
 
     def decode_as(self):
         """What tells Wireshark of each label whether a control word follows it, which no packet says; labels in ranges. A label
-        that stands for both at two edges is left to Wireshark."""
+        that stands for both at two edges, or for a ping without a control word, is left to Wireshark."""
         ranges = []
         for label, kinds in sorted(self.kinds.items()):
             kind = min(kinds)
-            if len(kinds) == 1 and ranges and ranges[-1][1:] == [label - 1, kind]:
+            if "" in kinds or len(kinds) > 1:
+                continue
+            if ranges and ranges[-1][1:] == [label - 1, kind]:
                 ranges[-1][1] = label
-            elif len(kinds) == 1:
+            else:
                 ranges.append([label, label, kind])
         spans = [(str(first) if first == last else f"{first}-{last}", kind) for first, last, kind in ranges]
         return [word for span, kind in spans for word in ("-d", f"mpls.label=={span},{kind}")]

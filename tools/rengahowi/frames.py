@@ -3,8 +3,11 @@
 from collections import Counter
 
 from .network import Network
+from .pings import Pings
 
 WINDOW = ("frame", "arrive", "drop", "again")
+# Which word of an entry is the number of the frame that it is of.
+ORIGIN = {"in": 1, "sent": 5, "left": 1, "dropped": 1}
 
 
 class Frame:
@@ -78,7 +81,7 @@ class Run:
         self.joined = {service: set() for service in plan.services}
         self.spans = {service: [] for service in plan.services}
         self.open_spans = {}
-        self.drops, self.deliveries = [], 0
+        self.pings, self.drops, self.deliveries = Pings(), [], 0
 
     def follow(self):
         """Follows all events."""
@@ -86,6 +89,7 @@ class Run:
             self.disturb(event)
             self.network.begin(event)
             self.lose_copies(event)
+            self.pings.follow(event)
             for entry in event.entries:
                 self.enter(event, entry)
                 self.network.take(entry)
@@ -113,22 +117,34 @@ class Run:
                     frame.lost.append(packet)
 
     def enter(self, event, entry):
-        """What an entry tells of a frame."""
-        kind, words = entry.kind, entry.words
+        """What an entry tells of a frame, and what it counts of drops."""
+        kind, words, origin = entry.kind, entry.words, self.origin_of(entry)
         if kind == "in":
-            self.frames[words[1]] = self.open_frames[words[1]] = Frame(self.network, event, entry)
-        elif kind == "sent":
-            self.frames[words[5]].under_way.add(words[0])
-        elif kind == "copied":
-            origin = self.network.packets[words[1]][4]
-            self.frames[origin].under_way.add(words[0])
-            self.frames[origin].repeated.append(words[1])
-        elif kind == "left":
-            self.frames[words[1]].left[words[0]] += 1
-            self.frames[words[1]].hops = max(self.frames[words[1]].hops, words[2])
+            self.frames[origin] = self.open_frames[origin] = Frame(self.network, event, entry)
         elif kind == "dropped":
-            self.frames[words[1]].dropped.append((event, words[0], words[2]))
             self.drops.append(words)
+        if origin != 0:
+            self.enter_copy(event, kind, words, self.frames[origin])
+
+    def origin_of(self, entry):
+        """The number of the frame that an entry is of: 0 where it is of none, as what is of a ping."""
+        if entry.kind == "copied":
+            return self.network.packets[entry.words[1]][4]
+        return entry.words[ORIGIN[entry.kind]] if entry.kind in ORIGIN else 0
+
+    @staticmethod
+    def enter_copy(event, kind, words, frame):
+        """What an entry tells of a frame's copy."""
+        if kind == "sent":
+            frame.under_way.add(words[0])
+        elif kind == "copied":
+            frame.under_way.add(words[0])
+            frame.repeated.append(words[1])
+        elif kind == "left":
+            frame.left[words[0]] += 1
+            frame.hops = max(frame.hops, words[2])
+        elif kind == "dropped":
+            frame.dropped.append((event, words[0], words[2]))
 
     def hear(self, event):
         """Whose station is heard, and whose window is over, behind an event."""

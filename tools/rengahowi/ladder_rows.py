@@ -1,5 +1,6 @@
 """A report as the rows of a ladder: a row for each line, drawn between the columns of edges and circuits."""
 
+from .labels import label_of
 from .network import NEVER, Network
 from .program import decoded
 
@@ -19,6 +20,16 @@ def lanes(plan):
     sessions = [{"kind": "session", "edge": a, "name": b} for pair in plan.pairs() for a, b in (pair, pair[::-1])]
     wires = [{"kind": "wire", "edge": edge, "name": wire.name} for wire in plan.wires.values() for edge in wire.ends()]
     return [{**lane, "states": [[0, NEVER if lane["kind"] == "session" else "NoLocal"]]} for lane in sessions + wires]
+
+
+def carried(origin):
+    """What a packet carries: a copy of a frame, or a ping or the answer to one."""
+    return f"frame {origin}" if origin else "ping"
+
+
+def frame_of(origin):
+    """The frame by which a row is found, where it is of one."""
+    return {"f": origin} if origin else {}
 
 
 class Rows:
@@ -55,7 +66,7 @@ class Rows:
         row = self.row("event", event.text, where, n=event.number)
         if event.kind in ("arrive", "drop", "again") and event.words[0] in self.network.packets:
             packet = self.network.packets[event.words[0]]
-            row["f"] = packet[4]
+            row.update(frame_of(packet[4]))
             row["c"] = [self.column["edge", packet[1]]]
         return row
 
@@ -91,18 +102,17 @@ class Rows:
     def sent(self, packet, start, end, wire, *more):
         """A packet, with its wire and its label."""
         _arrival, origin, hops, octets = more
-        label = int(octets[:5] or "0", 16)
-        text = f"packet {packet} on {wire}, label {label}, frame {origin}, segment {hops}"
-        return self.row("sent", text, [("edge", start), ("edge", end)], f=origin, o=octets, w=wire)
+        text = f"packet {packet} on {wire}, label {label_of(octets)}, {carried(origin)}, segment {hops}"
+        return self.row("sent", text, [("edge", start), ("edge", end)], **frame_of(origin), o=octets, w=wire)
 
     def copied(self, packet, old):
         """A packet that the network repeated."""
         start, end, _wire, _arrival, origin = self.network.packets[old]
-        return self.row("copied", f"packet {packet} repeats {old}", [("edge", start), ("edge", end)], f=origin)
+        return self.row("copied", f"packet {packet} repeats {old}", [("edge", start), ("edge", end)], **frame_of(origin))
 
     def dropped(self, edge, origin, cause):
         """A copy that was dropped."""
-        return self.row("dropped", f"dropped: {cause}, frame {origin}", [("edge", edge)], f=origin)
+        return self.row("dropped", f"dropped: {cause}, {carried(origin)}", [("edge", edge)], **frame_of(origin))
 
     def session(self, edge, peer, state):
         """A session's next state at one end."""

@@ -11,6 +11,7 @@ def text_of(summary):
         wires(summary["wires"]),
         *(service(row) for row in summary["services"]),
         frames(summary["frames"]),
+        pings(summary["pings"]),
         drops(summary["drops"]),
         under_way(summary["under_way"]),
     ]
@@ -107,8 +108,29 @@ def other_line(row):
 
 def nowhere_line(row):
     """Why a frame ended nowhere, as far as it is told."""
-    why = [f"dropped at {drop['edge']}: {drop['cause']}" for drop in row["dropped"]] + [f"packet {number} lost" for number in row["lost"]]
-    return f"{head(row)}: {', '.join(why) or 'no port to go to'}"
+    return f"{head(row)}: {why_nowhere(row) or 'no port to go to'}"
+
+
+def why_nowhere(row):
+    """Where what was sent was dropped, and which of its packets were lost."""
+    dropped = [f"dropped at {drop['edge']}: {drop['cause']}" for drop in row["dropped"]]
+    return ", ".join(dropped + [f"packet {number} lost" for number in row["lost"]])
+
+
+def pings(rows):
+    """How many pings were answered, and why each other one was not."""
+    if not rows:
+        return []
+    unanswered = [row for row in rows if not row["answers"]]
+    head_line = f"Pings: {len(rows) - len(unanswered)} of {len(rows)} were answered"
+    return [head_line, *cut(f"  event {row['event']} (ping {row['edge']} {row['wire']}): {why_unanswered(row)}" for row in unanswered)]
+
+
+def why_unanswered(row):
+    """Why a ping was not answered, as far as it is told."""
+    if row["idle"]:
+        return "idle"
+    return why_nowhere(row) or "still under way"
 
 
 def drops(rows):
@@ -120,7 +142,8 @@ def under_way(found):
     """What is on its way at the end."""
     lines = [f"  {row['octets']} octets from {row['from']} to {row['to']}" for row in found["octets"]]
     for row in found["packets"]:
-        lines.append(f"  packet {row['packet']} of frame {row['frame']} from {row['from']} to {row['to']} on {row['wire']}")
+        of = f"frame {row['frame']}" if row["frame"] else "a ping"
+        lines.append(f"  packet {row['packet']} of {of} from {row['from']} to {row['to']} on {row['wire']}")
     return ["Under way at the end", *cut(lines)] if lines else ["Nothing is under way at the end"]
 
 

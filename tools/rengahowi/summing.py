@@ -12,6 +12,7 @@ def sum_up(plan, run):
         "wires": [wire_row(run, wire) for wire in plan.wires.values()],
         "services": [service_row(plan, run, service) for service in plan.services],
         "frames": [frame_row(frame) for frame in run.frames.values()],
+        "pings": [ping_row(run, ping) for ping in run.pings.all],
         "drops": drop_rows(run),
         "under_way": under_way(run.network),
     }
@@ -93,11 +94,30 @@ def frame_row(frame):
         "missed": frame.missed() if flooded else [],
         "twice": frame.twice(),
         "segments": frame.hops,
-        "dropped": [{"event": event.number, "edge": edge, "cause": cause} for event, edge, cause in frame.dropped],
+        "dropped": dropped(frame),
         "lost": frame.lost,
         "repeated": frame.repeated,
         "under_way": sorted(frame.under_way),
         "nowhere": not frame.left and not frame.under_way,
+    }
+
+
+def dropped(frame):
+    """Where copies of a frame, or packets of a ping, were dropped, and why."""
+    return [{"event": event.number, "edge": edge, "cause": cause} for event, edge, cause in frame.dropped]
+
+
+def ping_row(run, ping):
+    """What became of a ping."""
+    return {
+        "event": ping.event.number,
+        "edge": ping.edge,
+        "wire": ping.wire,
+        "idle": ping.event.is_idle(),
+        "answers": ping.answers,
+        "dropped": dropped(ping),
+        "lost": ping.lost,
+        "under_way": run.pings.under_way(ping),
     }
 
 
