@@ -208,6 +208,25 @@ static UNSHARED: [Case; 2] = [
     },
 ];
 
+// One end alone uses a control word, so each sends in a channel that the other one has not picked.
+const UNHEARD: &str = "> ping a w
+sent 1 a b w - 0 1 000101ff100000214500001c00000000ff01a7de0a0000010a0000020800f79a00640001
+> arrive 1
+dropped b 0 Down
+> ping b w
+sent 2 b a w - 0 1 000010ff000101ff4500001c00000000ff01a7de0a0000020a0000010800f79a00640001
+> arrive 2
+dropped a 0 NotOffered
+end events=9 in=0 left=0 sent=2 dropped=2
+";
+
+static UNANSWERED: [Case; 1] = [Case {
+    back: "\"ping a w\", \"flow 10\", \"ping b w\", \"flow 10\"",
+    more: "vccv = 3, far_vccv = 3, far_control_word = false }]\n",
+    taken: Taken::Ends("", UNHEARD),
+    ..HEADER
+}];
+
 #[test]
 fn pings_are_answered_in_each_channel(rt: HostRuntime) {
     all_play(&rt, rt.alloc(), ANSWERED.as_slice());
@@ -216,4 +235,9 @@ fn pings_are_answered_in_each_channel(rt: HostRuntime) {
 #[test]
 fn no_ping_is_sent_where_no_channel_is_shared(rt: HostRuntime) {
     all_play(&rt, rt.alloc(), UNSHARED.as_slice());
+}
+
+#[test]
+fn no_ping_is_answered_where_the_control_words_differ(rt: HostRuntime) {
+    all_play(&rt, rt.alloc(), UNANSWERED.as_slice());
 }
