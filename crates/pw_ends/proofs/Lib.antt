@@ -3,6 +3,7 @@ pub mod BesideLemmas
 pub mod HoldLemmas
 pub mod IndexLemmas
 pub mod KeptLemmas
+pub mod LabelLemmas
 pub mod NoneLemmas
 pub mod OrderLemmas
 pub mod OwnedLemmas

@@ -1,5 +1,5 @@
 //! The pseudowire ends of an edge.
-ghost use Rattle.std.specs.Prelude.{◌≡◌, ◌≤◌, ◌<◌, ◌+◌, ◌==◌, ◌↔◌, Some, None, [], length, map, position, replicate, slice_get, option_and_then, option_map, IfOk, IfSome};
+ghost use Rattle.std.specs.Prelude.{◌≡◌, ◌≤◌, ◌<◌, ◌+◌, ◌==◌, ◌↔◌, ℕ, Some, None, [], length, map, position, replicate, slice_get, option_and_then, option_map, IfOk, IfSome};
 ghost use Rattle.std.specs.List.{find, list_any};
 ghost use Rattle.net_base.specs.plan.Accepted.{IsChecked};
 ghost use Rattle.label_space.specs.Labels.{numbers_end, opened_space, owner_of};
@@ -184,6 +184,17 @@ impl PwEnds {
         ensures below { result ≤ numbers_end }
     {
         self.labels.next_number()
+    }
+
+    /// The labels that the ends own, each with the segment and the side of its end, and the number that is given next (RFC 5036
+    /// section 2.6.3).
+    pub fn labels(&self) -> &LabelSpace
+        ensures labels { result.now ≡ self.now.labels }
+        ensures owners { (label : ℕ) → owner_of label result.now.owners ≡ option_map (λ place. (segment_of place, place.side)) (find (λ place. owns_label label (end_there self.now place)) self.now.places) }
+    {
+        // Named so that what always holds of the fields is at hand for the proof.
+        let _ = &self.places;
+        &self.labels
     }
 
     /// The slot of the end that owns the label: from its advertisement until the end is idle. `None` exactly where no end
