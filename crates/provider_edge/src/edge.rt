@@ -21,6 +21,7 @@ ghost use Rattle.provider_edge.specs.Lists.{seen, worked};
 
 mod administration;
 mod frames;
+mod labels;
 mod mending;
 mod opening;
 mod packets;

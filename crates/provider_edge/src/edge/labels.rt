@@ -1,0 +1,24 @@
+//! The labels of an edge.
+ghost use Rattle.std.specs.Prelude.{◌≡◌, ℕ, option_map};
+ghost use Rattle.std.specs.List.{find};
+ghost use Rattle.label_space.specs.Labels.{owner_of};
+ghost use Rattle.edge_model.specs.EndPlaces.{end_places};
+ghost use Rattle.edge_model.specs.State.{end_at};
+ghost use Rattle.pw_ends.specs.Ends.{owns_label};
+ghost use Rattle.pw_ends.specs.Kept.{segment_of};
+ghost use Rattle.provider_edge.specs.Lists.{seen};
+
+use crate::Edge;
+use label_space::LabelSpace;
+
+impl Edge {
+    /// The labels that the edge gives, and whose they are (RFC 5036 section 2.6.3): the next number, and for each label the segment
+    /// and the side of the end that owns it, from its advertisement until the end is idle.
+    #[tactic(auto, unfolding(crate::specs::Lists::seen))]
+    pub fn labels(&self) -> &LabelSpace
+        ensures next { result.now.next ≡ (seen self.now).next_label }
+        ensures owners { (label : ℕ) → owner_of label result.now.owners ≡ option_map (λ place. (segment_of place, place.side)) (find (λ place. owns_label label (end_at (seen self.now) place)) (end_places self.now.plan self.now.me)) }
+    {
+        self.ends.labels()
+    }
+}
