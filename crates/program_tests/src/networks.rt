@@ -2,6 +2,7 @@
 
 mod hierarchy;
 mod largest;
+mod lent_maps;
 mod limit;
 mod paths;
 mod plans;

@@ -1,6 +1,6 @@
 //! A pseudowire over the network comes up and ends.
 
-use crate::networks::plans::PAIR;
+use crate::networks::plans::{LARGEST, PAIR};
 use crate::networks::steps::{Step, plays};
 
 // The Label Mapping of edge 0, and that of edge 1: each offers PW ID 100 under label 16, with control word, MTU 1500 and
@@ -61,6 +61,21 @@ const COMES_UP_ANEW: [Step; 5] = [
     Step::Over(22),
 ];
 
+// A packet under a label that its edge has withdrawn leaves nowhere.
+const OUTLIVES_ITS_LABEL: [Step; 11] = [
+    Step::Frame(0, "ffffffffffff0200000000010800"),
+    Step::UnderWay(1),
+    Step::Wire(1, false),
+    Step::Settle,
+    Step::Wire(1, true),
+    Step::Settle,
+    Step::Bound(17, 16),
+    Step::UnderWay(1),
+    Step::Flow(1),
+    Step::UnderWay(0),
+    Step::Left(1, "//////"),
+];
+
 const FAILS: [Step; 6] = [
     Step::Status(0, 6),
     Step::Status(0, 6),
@@ -75,6 +90,7 @@ fn sets_pseudowires_up_and_ends_them(rt: HostRuntime) {
     let alloc = rt.alloc();
     plays(&rt, alloc, &PAIR, &UP, &IS_UP);
     plays(&rt, alloc, &PAIR, &UP, &WITHDRAWS);
+    plays(&rt, alloc, &LARGEST, &UP, &OUTLIVES_ITS_LABEL);
     plays(&rt, alloc, &PAIR, &UP, &RESTARTS);
     plays(&rt, alloc, &PAIR, &CUT, &COMES_UP_ANEW);
     plays(&rt, alloc, &PAIR, &UP, &FAILS);

@@ -2,6 +2,7 @@
 ghost use Rattle.std.specs.Prelude.{◌<◌, ◌≤◌, length, IfSome};
 ghost use Rattle.net_base.specs.plan.Planned.{IsEventOf, IsInPlan};
 
+use crate::networks::lent_maps::have_all;
 use crate::networks::plans::network_of;
 use crate::networks::traces::{
     bound_label, hops_of, is_idle, kinds_of, next_label, says, ticks_of,
@@ -122,11 +123,12 @@ fn octets_of(rt: &impl Abort, alloc: Global, text: &str) -> Octets
     List::from_bytes(alloc, octets.as_slice()).expect(rt, "memory")
 }
 
-// The network does an event.
+// The network does an event, and after it every map that it lends has what its table has.
 fn apply(rt: &impl Abort, alloc: Global, network: &mut Network, event: &Event)
     requires { IsEventOf network.old.plan event.now }
 {
     assert!(rt; network.apply(alloc, event).is_ok());
+    assert!(rt; have_all(network));
 }
 
 // The network does an event, where it is one; answers whether it is.

@@ -1,0 +1,61 @@
+//! The maps that the tables of a network lend: where memory is not wanting, each has what its table has.
+
+use label_space::LabelSpace;
+use net_base::{EdgeId, Label, ServiceId};
+use provider_edge::Edge;
+use psn_net::Network;
+use vsi_bridge::Bridge;
+
+// Whether the map of a bridge's table has each of its addresses.
+fn has_addresses(bridge: &Bridge) -> bool {
+    bridge.table().map().len() == bridge.table().len()
+}
+
+// Whether the label is owned.
+fn is_owned(labels: &LabelSpace, number: u32) -> bool {
+    match Label::new(number) {
+        Some(label) => labels.owner(label).is_some(),
+        None => false,
+    }
+}
+
+// Whether the slots of a label space have each of its owned labels.
+fn has_labels(labels: &LabelSpace) -> bool {
+    let mut owned: usize = 0;
+    for number in 16..labels.next_number() {
+        if is_owned(labels, number) {
+            owned = owned.saturating_add(1);
+        }
+    }
+    labels.slots().len() == owned
+}
+
+// Whether the maps of an edge have what its tables have, where the plan has so many services.
+fn has_all(edge: &Edge, services: u16) -> bool {
+    for service in 0..services {
+        if let Some(bridge) = edge.bridge(ServiceId(service))
+            && !has_addresses(bridge)
+        {
+            return false;
+        }
+    }
+    has_labels(edge.labels())
+}
+
+// Whether the maps of the edge at a place have what its tables have.
+fn has_all_at(network: &Network, place: u16, services: u16) -> bool {
+    match network.edge(EdgeId(place)) {
+        Some(edge) => has_all(edge, services),
+        None => true,
+    }
+}
+
+/// Whether the maps of every edge and service have what their tables have. A plan has at most 64 edges and 64 services.
+pub fn have_all(network: &Network) -> bool {
+    for place in 0..64 {
+        if !has_all_at(network, place, 64) {
+            return false;
+        }
+    }
+    true
+}
