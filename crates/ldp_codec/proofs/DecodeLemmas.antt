@@ -1,35 +1,23 @@
 -- What a decoder answers.
-use Rattle.std.proofs.Common.{◌≡◌, ◌≤◌, ◌<◌, ◌++◌, ◌⊎◌, inl, inr, ℕ, List, length, refl, ap, subst, ◌∙◌}
+use Rattle.std.proofs.Common.{◌≡◌, ◌≤◌, ◌<◌, ◌++◌, ◌⊎◌, inl, inr, ℕ, List, length, flat_map, refl, sym, ap, subst, ◌∙◌}
 use Rattle.std.specs.Prelude.{Result, Ok, Err, IfOk, IfErr}
 use Rattle.ldp_grammar.specs.declared.fault.Fault.{Fault}
 use Rattle.ldp_grammar.specs.declared.cause.Cause.{Cause}
 use Rattle.ldp_grammar.specs.declared.cause.Cause.TheVariants as cause
 use Rattle.ldp_grammar.specs.declared.ldp_id.LdpId.{LdpId}
-use Rattle.ldp_grammar.specs.declared.message.Message.{Message}
 use Rattle.ldp_grammar.specs.declared.pdu.Pdu.{Pdu}
 use Rattle.ldp_grammar.specs.Octets.{two}
-use Rattle.ldp_grammar.specs.Spells.{IsFramed, Spells}
-use Rattle.ldp_grammar.specs.FirstFault.{FirstFault, Names, IsFirst, NamesMessages}
-use Rattle.ldp_grammar.proofs.PduLemmas.{never_both, one_first, first_inside}
+use Rattle.ldp_grammar.specs.Spells.{IsFramed, Spelling, Spells, StandInOrder, spell_message}
+use Rattle.ldp_grammar.specs.FirstFault.{FirstFault, Names}
+use Rattle.ldp_grammar.proofs.PduLemmas.{never_both, one_first}
 use Rattle.ldp_grammar.proofs.MeaningLemmas.{one_pdu}
 use Rattle.ldp_codec.specs.declared.decode_fault.DecodeFault.{DecodeFault}
 use Rattle.ldp_codec.specs.declared.decode_fault.DecodeFault.TheVariants.{Version, PduLength, MessageLength, TlvLength, TlvValue, Repeated, NoMemory}
 use Rattle.ldp_codec.specs.Decoded.{IsUnlessNoMemory, TellsFault, refusal_at, refusal_of, refusal_for}
 use Rattle.ldp_codec.specs.declared.stop.Stop.{Stop}
 use Rattle.ldp_codec.specs.declared.stop.Stop.TheVariants as stop
-use Rattle.ldp_codec.specs.Stop.{StopsAt, stop_behind}
-use Rattle.ldp_codec.specs.Walk.{AreMessages}
-
--- a right header and messages behind it spell a PDU
-pub pdu_spelled : (bytes body : List ℕ) (max : ℕ) (id : LdpId) (messages : List Message) → length id.router.0 ≡ 4 → id.space < 65536 → IsFramed bytes max (id.router.0 ++ two id.space) body → AreMessages body messages → Spells bytes max (record { id = id; messages = messages })
-pdu_spelled bytes body max id messages router space framed are = record {
-  spellings = are.spellings;
-  framed = subst (IsFramed bytes max (id.router.0 ++ two id.space)) are.spelled framed;
-  router = router;
-  space = space;
-  fit = are.fit;
-  stand = are.stand;
-}
+use Rattle.ldp_codec.specs.Stop.{StopsAt}
+use Rattle.ldp_codec.specs.Views.{IsPduOf, IsViewOf, SeenPdu}
 
 tells_at : (P : Fault → Type 0) (c : Cause) (place : ℕ) → P (record { place = place; cause = c }) → TellsFault P (refusal_at c place)
 tells_at P cause.Version place holds = holds
@@ -68,12 +56,24 @@ refuses bytes max (Err e) small spelled fault f is = elim (told (FirstFault byte
   | inr none ↦ inr (ap Err none)
 ]
 
--- a stop among the messages is one of the PDU
-pub stops_inside : (bytes sender body : List ℕ) (max : ℕ) (s : Stop) → max ≤ 4096 → IsFramed bytes max sender body → StopsAt (IsFirst (NamesMessages body)) s → StopsAt (FirstFault bytes max) (stop_behind 10 s)
-stops_inside bytes sender body max (stop.At f) small framed first = first_inside bytes sender body max f small framed first
-stops_inside bytes sender body max stop.NoMemory small framed first = tt
-
 -- what stopped the reading is told by its refusal
 pub tells_for : (P : Fault → Type 0) (s : Stop) → StopsAt P s → TellsFault P (refusal_for s)
 tells_for P (stop.At f) stops = tells_of P f stops
 tells_for P stop.NoMemory stops = tt
+
+-- the PDU of which something is seen is the one that is spelled
+pub view_read : (bytes : List ℕ) (max : ℕ) (seen : SeenPdu) (pdu : Pdu) → IsViewOf bytes max seen → IsPduOf seen pdu → Spells bytes max pdu
+view_read bytes max seen pdu v is =
+    let id : v.pdu.id ≡ pdu.id = sym (is.id ∙ v.id) in
+    record {
+      spellings = v.spells.spellings;
+      framed = subst (λ (i : LdpId). IsFramed bytes max (i.router.0 ++ two i.space) (flat_map spell_message v.spells.spellings)) id v.spells.framed;
+      router = subst (λ (i : LdpId). length i.router.0 ≡ 4) id v.spells.router;
+      space = subst (λ (i : LdpId). i.space < 65536) id v.spells.space;
+      fit = v.spells.fit;
+      stand = subst (λ (ss : List Spelling). StandInOrder ss pdu.messages) v.spellings is.stand;
+    }
+
+-- a PDU that is seen has no fault
+pub viewed_faultless : (bytes : List ℕ) (max : ℕ) (seen : SeenPdu) (f : Fault) → max ≤ 4096 → IsViewOf bytes max seen → FirstFault bytes max f → ⊥
+viewed_faultless bytes max seen f small v first = never_both bytes max v.pdu f small v.spells first

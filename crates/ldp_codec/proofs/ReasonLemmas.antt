@@ -13,8 +13,8 @@ use Rattle.pw_tlvs.specs.Fec.{IsFecValue, IsPwFec}
 use Rattle.ldp_grammar.specs.declared.message_kind.MessageKind.{MessageKind}
 use Rattle.ldp_grammar.specs.declared.why.Why.TheVariants.{UnknownTlv, Missing}
 use Rattle.ldp_grammar.specs.Octets.{four_at}
-use Rattle.ldp_grammar.specs.Rows.{Row, row_of, is_in, fec, label, pw_status}
-use Rattle.ldp_grammar.specs.Layouts.{listed}
+use Rattle.ldp_grammar.specs.Rows.{Row, row_of, is_in, fec, label}
+use Rattle.ldp_grammar.specs.Layouts.{fits, listed}
 use Rattle.ldp_grammar.specs.Tlvs.{Tlv, IsJoined, IsFaultless, IsReason, IsForeign, HasValue, OfBoth, all_there, stands_instead, missing, fec_value, where_listed, fec_reason, reason_of, first_absent, first_unknown, value_of}
 use Rattle.ldp_grammar.specs.Spells.{OfValue}
 use Rattle.ldp_grammar.proofs.TlvLemmas.{value_fits, none_of, needed_there, rows_have_fields, joined_once}
@@ -129,9 +129,10 @@ label_is k body value w is_listed with_fec has =
     by (inl foreign) = absurd (not_foreign k body w.tlvs w.joined w.reason with_fec foreign)
     by (inr is) = is
 
--- the octets of a status and of a label
-pub state_length : (k : MessageKind) (body value : List ℕ) → listed (row_of k) pw_status ≡ Some field.PwStatus → HasValue body (listed (row_of k) pw_status) value → length value ≡ 4
-state_length k body value is_listed has = eqb-true _ _ ((subst (λ (o : Option Field). HasValue body o value) is_listed has).0)
-
+-- the octets of a label
 pub label_length : (k : MessageKind) (body value : List ℕ) → listed (row_of k) label ≡ Some field.Label → HasValue body (listed (row_of k) label) value → length value ≡ 4
 label_length k body value is_listed has = eqb-true _ _ ((subst (λ (o : Option Field). HasValue body o value) is_listed has).0)
+
+-- a listed TLV has a value of the right Length
+pub fitting : (body value : List ℕ) (o : Option Field) (f : Field) → HasValue body o value → o ≡ Some f → fits f value ≡ true
+fitting body value o f has is = (subst (λ (x : Option Field). HasValue body x value) is has).0

@@ -1,5 +1,5 @@
 //! What the values of TLVs hold, and the first fault of it.
-ghost use Rattle.std.specs.Prelude.{◌≡◌, ◌≤◌, ◌<◌, ◌+◌, ◌^◌, ℕ, List, None, true, false, length, Ok, Err, IfSome};
+ghost use Rattle.std.specs.Prelude.{◌≡◌, ◌≤◌, ◌<◌, ◌+◌, ◌^◌, None, true, false, length, Ok, Err, IfSome};
 ghost use Rattle.pw_tlvs.specs.Faults.{IsFirstIn, IsInside, fault_place};
 ghost use Rattle.pw_tlvs.specs.Fec.{IsFecFault};
 ghost use Rattle.pw_tlvs.specs.Point.{IsPointFault};
@@ -28,8 +28,10 @@ fn is_foreign(value: &[u8]) -> bool
     }
 }
 
-/// Whether the first FEC in a message's octets is no single PWid element.
-pub fn has_foreign(body: &[u8]) -> bool
+// Whether the first FEC in a message's octets is no single PWid element.
+#[cold]
+#[inline(never)]
+fn has_foreign(body: &[u8]) -> bool
     ensures { ReadsForeign body.now result }
 {
     match find_value(FEC, body) {
@@ -64,15 +66,19 @@ fn point_fault(value: &[u8]) -> Option<FieldFault>
     }
 }
 
-// The fault of the value of a Generic Label TLV, which is not looked at where the first FEC is foreign.
+// The fault of the value of a Generic Label TLV in a message with these octets. A number that is no label is looked at
+// where the first FEC is no foreign one, which is looked for only then.
 #[tactic(auto, using(crate::proofs::ContentLemmas::label_first))]
-fn label_fault(foreign: bool, value: &[u8]) -> Option<FieldFault>
+fn label_fault(body: &[u8], value: &[u8]) -> Option<FieldFault>
     requires { length value.now ≡ 4 }
-    ensures fault { (body : List ℕ) → ReadsForeign body foreign → IfSome result (IsFirstIn (ContentFault body Field.Label value.now)) }
-    ensures none { (body : List ℕ) → ReadsForeign body foreign → result ≡ None → HasContent body Field.Label value.now }
+    ensures fault { IfSome result (IsFirstIn (ContentFault body.now Field.Label value.now)) }
+    ensures none { result ≡ None → HasContent body.now Field.Label value.now }
     ensures near { IfSome result (IsInside value.now) }
 {
-    if foreign || Label::new(four(value, 0)).is_some() {
+    if Label::new(four(value, 0)).is_some() {
+        return None;
+    }
+    if has_foreign(body) {
         return None;
     }
     Some(FieldFault::Value {
@@ -81,17 +87,17 @@ fn label_fault(foreign: bool, value: &[u8]) -> Option<FieldFault>
     })
 }
 
-// The first fault of the value of a TLV, whose Length fits.
-fn content_fault(foreign: bool, field: Field, value: &[u8]) -> Option<FieldFault>
+// The first fault of the value of a TLV, whose Length fits, in a message with these octets.
+fn content_fault(body: &[u8], field: Field, value: &[u8]) -> Option<FieldFault>
     requires few { length value.now ≤ 65535 }
     requires fitting { fits field value.now ≡ true }
-    ensures fault { (body : List ℕ) → ReadsForeign body foreign → IfSome result (IsFirstIn (ContentFault body field value.now)) }
-    ensures none { (body : List ℕ) → ReadsForeign body foreign → result ≡ None → HasContent body field value.now }
+    ensures fault { IfSome result (IsFirstIn (ContentFault body.now field value.now)) }
+    ensures none { result ≡ None → HasContent body.now field value.now }
     ensures near { IfSome result (IsInside value.now) }
 {
     match field {
         Field::Fec => fec_fault(value),
-        Field::Label => label_fault(foreign, value),
+        Field::Label => label_fault(body, value),
         Field::Point => point_fault(value),
         _ => None,
     }
@@ -118,15 +124,15 @@ fn placed(field: Field, fault: FieldFault) -> Fault
     }
 }
 
-/// The first fault of the value of a TLV of this type, where the message lists it; its Length fits.
-pub fn wrong_content(kind: MessageKind, foreign: bool, tlv: u16, value: &[u8]) -> Option<Fault>
+/// The first fault of the value of a TLV of this type, where the message with these octets lists it; its Length fits.
+pub fn wrong_content(kind: MessageKind, body: &[u8], tlv: u16, value: &[u8]) -> Option<Fault>
     requires few { 4 + length value.now < 65536 }
     requires fitting { HasLength (listed (row_of kind) tlv) value.now }
-    ensures fault { (body : List ℕ) → ReadsForeign body foreign → IfSome result (IsFirstContent body (listed (row_of kind) tlv) value.now) }
-    ensures none { (body : List ℕ) → ReadsForeign body foreign → result ≡ None → HasContents body (listed (row_of kind) tlv) value.now }
+    ensures fault { IfSome result (IsFirstContent body.now (listed (row_of kind) tlv) value.now) }
+    ensures none { result ≡ None → HasContents body.now (listed (row_of kind) tlv) value.now }
     ensures near { IfSome result (λ fault. fault.place < 4 + length value.now) }
 {
     let field = kind.listed(tlv)?;
-    let fault = content_fault(foreign, field, value)?;
+    let fault = content_fault(body, field, value)?;
     Some(placed(field, fault))
 }

@@ -1,33 +1,49 @@
 //! The PDU that octets spell.
-ghost use Rattle.std.specs.Prelude.{◌≤◌, Ok, Err, IfOk, IfErr};
+ghost use Rattle.std.specs.Prelude.{◌≡◌, ◌≢◌, ◌≤◌, ◌++◌, Ok, Err, IfOk, IfErr, IsOk};
 ghost use Rattle.ldp_grammar.specs.declared.pdu.Pdu.{Pdu};
 ghost use Rattle.ldp_grammar.specs.declared.fault.Fault.{Fault};
 ghost use Rattle.ldp_grammar.specs.Spells.{Spells};
 ghost use Rattle.ldp_grammar.specs.FirstFault.{FirstFault};
 ghost use Rattle.ldp_codec.specs.Decoded.{IsUnlessNoMemory, TellsFault, refusal_of};
+ghost use Rattle.ldp_codec.specs.Part.{joined};
 ghost use Rattle.ldp_codec.specs.Stop.{StopsAt};
+ghost use Rattle.ldp_codec.specs.Views.{IsViewOf};
 
-use crate::DecodeFault;
-use crate::message_walk::read_messages;
-use crate::pdu_header::read_header;
+use crate::pdu_view::view_part;
 use crate::stop::Stop;
-use ldp_grammar::{PDU_HEADER, Pdu};
+use crate::{DecodeFault, Part, PduView};
+use ldp_grammar::Pdu;
 use std::alloc::Global;
+
+/// The PDU that the octets spell, lent from them, without any memory: the octets are `front` and those of `back` behind
+/// them (RFC 5036 sections 3.1 and 3.3 to 3.5). `max` is the session's Max PDU Length, in octets. Where no PDU is spelled,
+/// the answer is the first fault, as in `decode_pdu`.
+#[tactic(auto, unfolding(crate::specs::Part::joined), using(crate::proofs::DecodeLemmas::viewed_faultless, crate::proofs::DecodeLemmas::tells_of))]
+pub fn view_pdu<'a>(front: &'a [u8], back: &'a [u8], max: u16) -> Result<PduView<'a>, DecodeFault>
+    requires least { 256 ≤ max }
+    requires most { max ≤ 4096 }
+    ensures viewed { IfOk result (IsViewOf (front.now ++ back.now) max) }
+    ensures fault { IfErr result (TellsFault (FirstFault (front.now ++ back.now) max)) }
+    ensures memory { result ≢ Err DecodeFault.NoMemory }
+    ensures accepts { (pdu : Pdu) → Spells (front.now ++ back.now) max pdu → IsOk result }
+    ensures refuses { (fault : Fault) → FirstFault (front.now ++ back.now) max fault → result ≡ Err (refusal_of fault) }
+{
+    match view_part(Part { front, back }, max) {
+        Ok(view) => Ok(view),
+        Err(fault) => Err(DecodeFault::from(fault)),
+    }
+}
 
 /// The PDU that the octets spell, or why their reading stopped: at their first fault, or as memory was refused. It is
 /// `decode_pdu` with a fault as the grammar has it, for a caller that keeps one. `max` is at most 4096.
-#[tactic(auto, using(crate::proofs::DecodeLemmas::pdu_spelled, ldp_grammar::proofs::PduLemmas::first_inside))]
+#[tactic(auto, using(crate::proofs::DecodeLemmas::view_read))]
 pub fn read_pdu(alloc: Global, bytes: &[u8], max: u16) -> Result<Pdu, Stop>
     requires { max ≤ 4096 }
     ensures spelled { IfOk result (Spells bytes.now max) }
     ensures fault { IfErr result (StopsAt (FirstFault bytes.now max)) }
 {
-    let id = read_header(bytes, max)?;
-    let (_, body) = bytes.split_at(PDU_HEADER);
-    match read_messages(alloc, body) {
-        Ok(messages) => Ok(Pdu { id, messages }),
-        Err(stop) => Err(stop.behind(PDU_HEADER as u16)),
-    }
+    let view = view_part(Part::whole(bytes), max)?;
+    Ok(view.read(alloc)?)
 }
 
 // The PDU, or the first fault.

@@ -3,25 +3,25 @@ ghost use Rattle.std.specs.Prelude.{◌≡◌, ◌≤◌, ◌<◌, ◌%◌, [], 
 ghost use Rattle.pw_tlvs.specs.declared.fec_value.FecValue.{FecValue as FecValueOf};
 ghost use Rattle.pw_tlvs.specs.Fec.{IsFecValue, IsPwFec};
 ghost use Rattle.pw_tlvs.specs.Macs.{AreMacs};
-ghost use Rattle.pw_tlvs.specs.Status.{IsPwStatus};
 ghost use Rattle.ldp_grammar.specs.declared.message_kind.MessageKind.{MessageKind};
-ghost use Rattle.ldp_grammar.specs.Rows.{row_of, is_in, fec, label, mac_list, pw_status, transport_address, address_list};
+ghost use Rattle.ldp_grammar.specs.Rows.{row_of, is_in, fec, label, mac_list, pw_status, address_list};
 ghost use Rattle.ldp_grammar.specs.Layouts.{listed};
 ghost use Rattle.ldp_grammar.specs.Tlvs.{Tlv, IsFaultless, IsJoined, IsReason, HasValue, OfBoth, all_there, fec_reason, fec_value, first_absent, first_unknown, missing as missing_in, needs_pw_id, value_of};
 ghost use Rattle.ldp_grammar.specs.Spells.{Means, OfValue};
-ghost use Rattle.ldp_grammar.specs.Values.{IsAddressList, IsNumber, IsTransportAddress};
+ghost use Rattle.ldp_grammar.specs.Values.{IsAddressList, IsNumber};
 ghost use Rattle.ldp_codec.specs.Walk.{IsComplete};
 
 use crate::numbers::four;
 use crate::points::points;
 use crate::tlv_search::{count_tlvs, find_value};
-use crate::values::{address_list, addresses, hello_params, session_params, status_code};
+use crate::tlv_value::{further, needed};
+use crate::values::{address_list, addresses, hello_params};
 use ldp_grammar::{
     ADDRESS_LIST, AddressList, FEC, HELLO_PARAMETERS, LABEL, MAC_LIST, Message, MessageKind,
-    PW_STATUS, REQUEST_ID, SESSION_PARAMETERS, STATUS, TRANSPORT_ADDRESS, Why, field_of_type,
+    REQUEST_ID, Why, field_of_type,
 };
-use net_values::{Addr, Field, Label, List as Items, Mac, NoMemory};
-use pw_tlvs::{FecValue, MacsFault, PwFec, PwStatus, read_fec, read_macs, read_status};
+use net_values::{Field, Label, List as Items, Mac, NoMemory};
+use pw_tlvs::{FecValue, MacsFault, PwFec, read_fec, read_macs};
 use std::alloc::Global;
 
 // The first of the TLVs that is absent.
@@ -122,8 +122,8 @@ pub fn reason_not(unknown: Option<u16>, kind: MessageKind, body: &[u8]) -> Optio
     reason_of_fec(kind, fec)
 }
 
-// The value of a TLV that the message needs.
-fn needed_value(kind: MessageKind, tlv: u16, body: &[u8]) -> &[u8]
+/// The value of a TLV that the message needs.
+pub fn needed_value(kind: MessageKind, tlv: u16, body: &[u8]) -> &[u8]
     requires complete { IsComplete kind body.now }
     requires needed { is_in tlv (row_of kind).needed ≡ true }
     requires alone { (row_of kind).instead ≡ [] }
@@ -134,8 +134,8 @@ fn needed_value(kind: MessageKind, tlv: u16, body: &[u8]) -> &[u8]
     find_value(tlv, body).unwrap()
 }
 
-// The value of a TLV that the message may have.
-fn further_value(kind: MessageKind, tlv: u16, body: &[u8]) -> Option<&[u8]>
+/// The value of a TLV that the message may have.
+pub fn further_value(kind: MessageKind, tlv: u16, body: &[u8]) -> Option<&[u8]>
     requires complete { IsComplete kind body.now }
     ensures value { (ts : List Tlv) → IsJoined body.now ts → option_copied result ≡ value_of tlv ts }
     ensures fits { IfSome result (λ value. HasValue body.now (listed (row_of kind) tlv) value.now) }
@@ -169,31 +169,6 @@ fn needed_fec(kind: MessageKind, body: &[u8]) -> PwFec
     pw_fec(kind, body).unwrap()
 }
 
-// The PW status, where it is told.
-#[tactic(auto, using(crate::proofs::ReasonLemmas::state_length))]
-fn state(kind: MessageKind, body: &[u8]) -> Option<PwStatus>
-    requires complete { IsComplete kind body.now }
-    requires is_listed { listed (row_of kind) pw_status ≡ Some Field.PwStatus }
-    ensures status { (ts : List Tlv) → IsJoined body.now ts → OfBoth (value_of pw_status ts) result IsPwStatus }
-{
-    match further_value(kind, PW_STATUS, body) {
-        Some(value) => Some(state_in(value)),
-        None => None,
-    }
-}
-
-// The PW status of four octets.
-fn state_in(value: &[u8]) -> PwStatus
-    requires { length value.now ≡ 4 }
-    ensures { IsPwStatus value.now result }
-{
-    match read_status(value) {
-        Ok(status) => status,
-        // Four octets are a status, whatever they are.
-        Err(_) => unreachable!(),
-    }
-}
-
 // The label, where there is one.
 #[tactic(auto, using(crate::proofs::ReasonLemmas::label_is, crate::proofs::ReasonLemmas::label_length))]
 fn label_of(kind: MessageKind, body: &[u8]) -> Option<Label>
@@ -213,23 +188,11 @@ fn notification(id: u32, body: &[u8]) -> Message
     requires { IsComplete MessageKind.Notification body.now }
     ensures means { (ts : List Tlv) → IsJoined body.now ts → Means MessageKind.Notification id ts result }
 {
-    let value = needed_value(MessageKind::Notification, STATUS, body);
     Message::Notification {
         id,
-        status: status_code(value),
-        pw_status: state(MessageKind::Notification, body),
+        status: needed(MessageKind::Notification, body),
+        pw_status: further(MessageKind::Notification, body),
         fec: pw_fec(MessageKind::Notification, body),
-    }
-}
-
-// The transport address, where it is told.
-fn transport(body: &[u8]) -> Option<Addr>
-    requires { IsComplete MessageKind.Hello body.now }
-    ensures address { (ts : List Tlv) → IsJoined body.now ts → OfBoth (value_of transport_address ts) result IsTransportAddress }
-{
-    match further_value(MessageKind::Hello, TRANSPORT_ADDRESS, body) {
-        Some(value) => Some(Addr([value[0], value[1], value[2], value[3]])),
-        None => None,
     }
 }
 
@@ -245,7 +208,7 @@ fn hello(id: u32, body: &[u8]) -> Message
         hold,
         targeted,
         request,
-        transport: transport(body),
+        transport: further(MessageKind::Hello, body),
     }
 }
 
@@ -254,10 +217,9 @@ fn initialization(id: u32, body: &[u8]) -> Message
     requires { IsComplete MessageKind.Initialization body.now }
     ensures means { (ts : List Tlv) → IsJoined body.now ts → Means MessageKind.Initialization id ts result }
 {
-    let value = needed_value(MessageKind::Initialization, SESSION_PARAMETERS, body);
     Message::Initialization {
         id,
-        params: session_params(value),
+        params: needed(MessageKind::Initialization, body),
     }
 }
 
@@ -340,7 +302,7 @@ fn label_mapping(id: u32, body: &[u8]) -> Message
         id,
         fec: needed_fec(MessageKind::LabelMapping, body),
         label: mapped_label(body),
-        pw_status: state(MessageKind::LabelMapping, body),
+        pw_status: further(MessageKind::LabelMapping, body),
         points: points(body),
     }
 }

@@ -1,13 +1,13 @@
 //! The walk over the TLVs of a message.
-ghost use Rattle.std.specs.Prelude.{◌≡◌, ◌≤◌, ◌<◌, ◌+◌, ℕ, List, Some, None, false, length, IfOk, IfErr, IfSome};
+ghost use Rattle.std.specs.Prelude.{◌≡◌, ◌≤◌, ◌<◌, ◌+◌, List, Some, None, false, length, IfOk, IfErr, IfSome};
 ghost use Rattle.net_values.specs.declared.field.Field.{Field};
 ghost use Rattle.ldp_grammar.specs.Layouts.{fits, listed, most};
 ghost use Rattle.ldp_grammar.specs.FirstFault.{IsFirst, IsFirstTlvFault, NamesTlvs};
 ghost use Rattle.ldp_grammar.specs.Rows.{row_of};
 ghost use Rattle.ldp_grammar.specs.Tlvs.{Tlv, IsJoined, MayComeAgain, count_of, unknown_in};
-ghost use Rattle.ldp_codec.specs.Walk.{HasLength, IsTaken, IsWalked, ReadsForeign};
+ghost use Rattle.ldp_codec.specs.Walk.{HasLength, IsTaken, IsWalked};
 
-use crate::content::{has_foreign, wrong_content};
+use crate::content::wrong_content;
 use crate::numbers::two;
 use crate::tlv::{TYPE_LIMIT, split_tlv};
 use crate::tlv_search::count_tlvs;
@@ -38,8 +38,8 @@ fn misfit(kind: MessageKind, tlv: u16, value: &[u8]) -> Option<Field>
     Some(field)
 }
 
-// The type of the TLV with this word, where it is unknown in the message and not to be ignored.
-fn unknown(kind: MessageKind, word: u16) -> Option<u16>
+/// The type of the TLV with this word, where it is unknown in the message and not to be ignored.
+pub fn unknown(kind: MessageKind, word: u16) -> Option<u16>
     ensures { result ≡ unknown_in (row_of kind) word }
 {
     match kind.part(word % TYPE_LIMIT) {
@@ -48,21 +48,21 @@ fn unknown(kind: MessageKind, word: u16) -> Option<u16>
     }
 }
 
-// The word and the size of the TLV in front, behind others of its message. A label is not looked at where the first FEC
-// is foreign.
+// The word and the size of the TLV in front, behind others of the message with these octets. A label is not looked at where
+// the first FEC is foreign.
 #[tactic(auto, using(crate::proofs::WalkLemmas::taken_here, crate::proofs::WalkLemmas::misfit_here, ldp_grammar::proofs::TlvLemmas::short_tlv, ldp_grammar::proofs::TlvLemmas::long_tlv, ldp_grammar::proofs::TlvLemmas::repeated_tlv))]
 fn take_tlv(
     kind: MessageKind,
-    foreign: bool,
+    body: &[u8],
     before: &[u8],
     rest: &[u8],
 ) -> Result<(u16, usize), Fault>
     requires some { 0 < length rest.now }
     requires few { length rest.now < 65536 }
-    ensures taken { (body : List ℕ) → ReadsForeign body foreign → (ts : List Tlv) → IsJoined before.now ts → IfOk result (λ r. IsTaken (row_of kind) body ts rest.now r.0 r.1) }
+    ensures taken { (ts : List Tlv) → IsJoined before.now ts → IfOk result (λ r. IsTaken (row_of kind) body.now ts rest.now r.0 r.1) }
     ensures some { IfOk result (λ r. 0 < r.1) }
     ensures within { IfOk result (λ r. r.1 ≤ length rest.now) }
-    ensures fault { (body : List ℕ) → ReadsForeign body foreign → (ts : List Tlv) → IsJoined before.now ts → IfErr result (IsFirstTlvFault (row_of kind) body ts rest.now) }
+    ensures fault { (ts : List Tlv) → IsJoined before.now ts → IfErr result (IsFirstTlvFault (row_of kind) body.now ts rest.now) }
     ensures near { IfErr result (λ fault. fault.place < length rest.now) }
 {
     if rest.len() < TLV_HEADER {
@@ -78,7 +78,7 @@ fn take_tlv(
     if let Some(field) = misfit(kind, tlv, value) {
         return Err(fault_at(2, Cause::TlvValue(field)));
     }
-    if let Some(fault) = wrong_content(kind, foreign, tlv, value) {
+    if let Some(fault) = wrong_content(kind, body, tlv, value) {
         return Err(fault);
     }
     Ok((word, TLV_HEADER + value.len()))
@@ -100,12 +100,11 @@ pub fn walk_tlvs(kind: MessageKind, body: &[u8]) -> Result<Option<u16>, Fault>
     ensures fault { IfErr result (IsFirst (NamesTlvs (row_of kind) body.now)) }
     ensures near { IfErr result (λ fault. fault.place < length body.now) }
 {
-    let foreign = has_foreign(body);
     let mut first = None;
     let mut at = 0;
     'walking: while at < body.len() {
         let (before, rest) = body.split_at(at);
-        let (word, size) = match take_tlv(kind, foreign, before, rest) {
+        let (word, size) = match take_tlv(kind, body, before, rest) {
             Ok(taken) => taken,
             Err(fault) => return Err(fault.behind(at as u16)),
         };

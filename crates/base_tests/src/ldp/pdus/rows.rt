@@ -4,7 +4,7 @@ ghost use Rattle.ldp_grammar.specs.Written.{address_octets, list_length, mac_cou
 
 use crate::ldp::tables::About;
 use crate::words::{is_front, is_told};
-use ldp_codec::{decode_pdu, encode_into};
+use ldp_codec::{DecodeFault, decode_pdu, encode_into, view_pdu};
 use ldp_grammar::{AddressList, LdpId, Message, Pdu, is_writable, message_size};
 use net_base::{Addr, List, Mac};
 use std::alloc::Global;
@@ -91,20 +91,51 @@ fn goes_back(rt: &impl Abort, about: About, message: &Message, octets: &[u8]) {
 }
 
 // The message of a PDU has these words; where its sender is not 10.0.0.1:0, the whole PDU has them.
-fn is_pdu(rt: &impl Abort, alloc: Global, about: About, pdu: &Pdu, octets: &[u8], words: &str) {
+fn has_words(rt: &impl Abort, alloc: Global, pdu: &Pdu, words: &str) {
     let message = only_message(pdu).expect(rt, "one message");
     if pdu.id == SENDER {
         is_told(rt, alloc, message, words);
     } else {
         is_told(rt, alloc, pdu, words);
     }
+}
+
+// The same, and the message is written as these octets again, or cannot be written.
+fn is_pdu(rt: &impl Abort, alloc: Global, about: About, pdu: &Pdu, octets: &[u8], words: &str) {
+    has_words(rt, alloc, pdu, words);
+    let message = only_message(pdu).expect(rt, "one message");
     goes_back(rt, about, message, octets);
 }
 
-/// The octets of a row are the message or have the fault of its words.
+// The PDU of octets that lie in two pieces, which meet at this place, or their fault.
+fn lent(rt: &impl Abort, alloc: Global, octets: &[u8], at: usize) -> Result<Pdu, DecodeFault> {
+    let (front, back) = octets.split_at(at.min(octets.len()));
+    match view_pdu(front, back, 4096) {
+        Ok(view) => Ok(view.read(alloc).expect(rt, "memory")),
+        Err(fault) => Err(fault),
+    }
+}
+
+// Octets in two pieces are the message or have the fault of these words.
+fn is_lent(rt: &impl Abort, alloc: Global, octets: &[u8], at: usize, words: &str) {
+    match lent(rt, alloc, octets, at) {
+        Ok(pdu) => has_words(rt, alloc, &pdu, words),
+        Err(fault) => is_told(rt, alloc, &fault, words),
+    }
+}
+
+// The same, wherever the pieces meet.
+fn is_lent_at_each(rt: &impl Abort, alloc: Global, octets: &[u8], words: &str) {
+    for at in 0..octets.len() {
+        is_lent(rt, alloc, octets, at, words);
+    }
+}
+
+/// The octets of a row are the message or have the fault of its words, also where they lie in two pieces.
 pub fn agrees(rt: &impl Abort, alloc: Global, about: About, octets: &[u8], words: &str) {
     match decode_pdu(alloc, octets, 4096) {
         Ok(pdu) => is_pdu(rt, alloc, about, &pdu, octets, words),
         Err(fault) => is_told(rt, alloc, &fault, words),
     }
+    is_lent_at_each(rt, alloc, octets, words);
 }

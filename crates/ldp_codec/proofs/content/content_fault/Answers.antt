@@ -7,7 +7,7 @@ use Rattle.ldp_grammar.specs.FirstFault.{ContentFault}
 use Rattle.ldp_codec.proofs.content.content_fault.Goals as goal
 
 pub returns-in-Fec-clause-fault : goal.returns-in-Fec-clause-fault
-returns-in-Fec-clause-fault c = λ body reads. subst (λ (f : Field). IfSome c.fec_fault.result (IsFirstIn (ContentFault body f c.args.value.now))) (sym c.in-Fec.is) c.fec_fault.ensures.fault
+returns-in-Fec-clause-fault c = subst (λ (f : Field). IfSome c.fec_fault.result (IsFirstIn (ContentFault c.args.body.now f c.args.value.now))) (sym c.in-Fec.is) c.fec_fault.ensures.fault
 
 pub returns-in-Label-clause-fault : goal.returns-in-Label-clause-fault
-returns-in-Label-clause-fault c = λ body reads. subst (λ (f : Field). IfSome c.label_fault.result (IsFirstIn (ContentFault body f c.args.value.now))) (sym c.in-Label.is) (c.label_fault.ensures.fault body reads)
+returns-in-Label-clause-fault c = subst (λ (f : Field). IfSome c.label_fault.result (IsFirstIn (ContentFault c.args.body.now f c.args.value.now))) (sym c.in-Label.is) c.label_fault.ensures.fault

@@ -1,0 +1,26 @@
+//! The IPv4 Transport Address TLV.
+
+use crate::tlv_value::TlvValue;
+use ldp_grammar::TRANSPORT_ADDRESS;
+use net_values::Addr;
+
+/// IPv4 Transport Address (RFC 5036 section 3.5.2).
+impl TlvValue for Addr {
+    ghost use Rattle.net_values.specs.declared.field.Field.TheVariants as field;
+    ghost use Rattle.ldp_grammar.specs.Rows.{transport_address};
+    ghost use Rattle.ldp_grammar.specs.Values.{IsTransportAddress};
+
+    ghost number = { transport_address };
+
+    ghost field = { field.Transport };
+
+    ghost means = { IsTransportAddress };
+
+    fn number() -> u16 {
+        TRANSPORT_ADDRESS
+    }
+
+    fn read(value: &[u8]) -> Addr {
+        Addr([value[0], value[1], value[2], value[3]])
+    }
+}
