@@ -2,6 +2,7 @@
 
 mod labels;
 mod pdus;
+mod rings;
 mod scripts;
 mod sessions;
 mod spokes;

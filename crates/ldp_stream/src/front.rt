@@ -1,24 +1,27 @@
 //! What stands in front of the octets held.
-ghost use Rattle.std.specs.Prelude.{◌≡◌, ◌≤◌, Ok, None, IfErr, IfOk, IfSome};
-ghost use Rattle.ldp_stream.specs.Front.{HasPdu, HasPduHeader, IsFrontFault, IsPending, size_of};
+ghost use Rattle.std.specs.Prelude.{◌≡◌, ◌≤◌, ◌+◌, Ok, None, IfErr, IfOk, IfSome, length};
+ghost use Rattle.ldp_codec.specs.Part.{joined};
+ghost use Rattle.ldp_stream.specs.Front.{HasPduHeader, HasPdu, IsFrontFault, IsPending, size_of};
 ghost use Rattle.ldp_stream.specs.Halt.{Halts, IsSpelledBy};
+ghost use Rattle.ldp_stream.specs.Seen.{IsSeenIn};
 
-use byteorder::{BigEndian, ByteOrder};
-use ldp_codec::{Stop, read_pdu};
+use ldp_codec::{Part, PduView, Stop, view_part};
 use ldp_grammar::{Cause, Fault, LEAST_LENGTH, LENGTH_HEADER, Pdu, VERSION};
+use net_values::NoMemory;
 use std::alloc::Global;
 
 // The size of the PDU in front where its header is there, in octets, or the fault of the header.
-fn read_size(held: &[u8], max: u16) -> Result<Option<usize>, Fault>
-    ensures pending { result ≡ Ok None → IsPending max held.now }
-    ensures size { IfOk result (λ size. IfSome size (λ n. (n ≡ size_of held.now) × HasPduHeader max held.now)) }
-    ensures fault { IfErr result (IsFrontFault max held.now) }
+#[inline(always)]
+fn read_size(held: Part<'_>, max: u16) -> Result<Option<usize>, Fault>
+    ensures pending { result ≡ Ok None → IsPending max (joined held.entry) }
+    ensures size { IfOk result (λ size. IfSome size (λ n. (n ≡ size_of (joined held.entry)) × HasPduHeader max (joined held.entry))) }
+    ensures fault { IfErr result (IsFrontFault max (joined held.entry)) }
 {
     // A wrong version is told as soon as it is there, before the PDU Length comes.
     if held.len() < 2 {
         return Ok(None);
     }
-    if BigEndian::read_u16(held) != VERSION {
+    if held.two(0) != VERSION {
         return Err(Fault {
             place: 0,
             cause: Cause::Version,
@@ -27,8 +30,7 @@ fn read_size(held: &[u8], max: u16) -> Result<Option<usize>, Fault>
     if held.len() < LENGTH_HEADER {
         return Ok(None);
     }
-    let (_, behind) = held.split_at(2);
-    let len = BigEndian::read_u16(behind);
+    let len = held.two(2);
     if len < LEAST_LENGTH || max < len {
         return Err(Fault {
             place: 2,
@@ -38,39 +40,68 @@ fn read_size(held: &[u8], max: u16) -> Result<Option<usize>, Fault>
     Ok(Some(LENGTH_HEADER + len as usize))
 }
 
-// The PDU that the first octets spell.
-#[tactic(auto, using(crate::proofs::StreamLemmas::halts_whole))]
-fn decode_first(alloc: Global, held: &[u8], size: usize, max: u16) -> Result<Pdu, Stop>
-    requires least { 256 ≤ max }
+/// The size of the PDU in front, in octets, as its PDU Length tells.
+pub fn size_in(held: Part<'_>) -> usize
+    requires { 4 ≤ length (joined held) }
+    ensures { result ≡ size_of (joined held.entry) }
+{
+    LENGTH_HEADER + held.two(2) as usize
+}
+
+// The PDU that the first octets spell, lent from them.
+#[tactic(auto, using(crate::proofs::StreamLemmas::faulty_whole))]
+#[inline(always)]
+fn view_first(held: Part<'_>, size: usize, max: u16) -> Result<PduView<'_>, Fault>
     requires most { max ≤ 4096 }
-    requires whole { HasPdu max held.now }
-    requires size { size ≡ size_of held.now }
-    ensures spelled { IfOk result (λ pdu. IsSpelledBy max held.now pdu size) }
-    ensures halt { IfErr result (Halts max held.now) }
+    requires whole { HasPdu max (joined held) }
+    requires size { size ≡ size_of (joined held) }
+    ensures viewed { IfOk result (IsSeenIn max (joined held.entry)) }
+    ensures fault { IfErr result (IsFrontFault max (joined held.entry)) }
 {
     let (piece, _) = held.split_at(size);
-    match read_pdu(alloc, piece, max) {
-        Ok(pdu) => Ok(pdu),
-        Err(stop) => Err(stop),
+    match view_part(piece, max) {
+        Ok(view) => Ok(view),
+        Err(fault) => Err(fault),
     }
 }
 
-/// The PDU in front and its size in octets, or nothing where the octets are a proper prefix of a PDU.
-pub fn decode_front(alloc: Global, held: &[u8], max: u16) -> Result<Option<(Pdu, usize)>, Stop>
-    requires least { 256 ≤ max }
+/// The PDU in front, lent, or nothing where the octets are a proper prefix of a PDU.
+#[inline(always)]
+pub fn view_front(held: Part<'_>, max: u16) -> Result<Option<PduView<'_>>, Fault>
     requires most { max ≤ 4096 }
-    ensures pending { result ≡ Ok None → IsPending max held.now }
-    ensures spelled { IfOk result (λ front. IfSome front (λ f. IsSpelledBy max held.now f.0 f.1)) }
-    ensures halt { IfErr result (Halts max held.now) }
+    ensures pending { result ≡ Ok None → IsPending max (joined held.entry) }
+    ensures viewed { IfOk result (λ front. IfSome front (IsSeenIn max (joined held.entry))) }
+    ensures fault { IfErr result (IsFrontFault max (joined held.entry)) }
 {
     let size = match read_size(held, max) {
         Ok(Some(size)) => size,
         Ok(None) => return Ok(None),
-        Err(fault) => return Err(Stop::At(fault)),
+        Err(fault) => return Err(fault),
     };
     if held.len() < size {
         return Ok(None);
     }
-    let pdu = decode_first(alloc, held, size, max)?;
-    Ok(Some((pdu, size)))
+    match view_first(held, size, max) {
+        Ok(view) => Ok(Some(view)),
+        Err(fault) => Err(fault),
+    }
+}
+
+/// The PDU in front and its size in octets, or nothing where the octets are a proper prefix of a PDU.
+#[tactic(auto, using(crate::proofs::StreamLemmas::seen_read))]
+pub fn decode_front(alloc: Global, held: Part<'_>, max: u16) -> Result<Option<(Pdu, usize)>, Stop>
+    requires most { max ≤ 4096 }
+    ensures pending { result ≡ Ok None → IsPending max (joined held.entry) }
+    ensures spelled { IfOk result (λ front. IfSome front (λ f. IsSpelledBy max (joined held.entry) f.0 f.1)) }
+    ensures halt { IfErr result (Halts max (joined held.entry)) }
+{
+    let view = match view_front(held, max) {
+        Ok(Some(view)) => view,
+        Ok(None) => return Ok(None),
+        Err(fault) => return Err(Stop::At(fault)),
+    };
+    match view.read(alloc) {
+        Ok(pdu) => Ok(Some((pdu, size_in(held)))),
+        Err(NoMemory) => Err(Stop::NoMemory),
+    }
 }

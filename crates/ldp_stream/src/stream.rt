@@ -1,16 +1,17 @@
 //! Streams.
-ghost use Rattle.std.specs.Prelude.{◌≡◌, ◌≤◌, ◌↔◌, ◌⊎◌, ◌++◌, ℕ, List, Ok, Err, Some, None, IfErr, IfOk, drop, length, take};
+ghost use Rattle.std.specs.Prelude.{◌≡◌, ◌≤◌, ◌↔◌, ◌⊎◌, ◌++◌, ℕ, List, Ok, Err, Some, None, IfErr, IfOk, IfSome, drop, length, take};
 ghost use Rattle.ldp_grammar.specs.declared.fault.Fault.{Fault};
 ghost use Rattle.ldp_grammar.specs.declared.pdu.Pdu.{Pdu};
 ghost use Rattle.ldp_codec.specs.Decoded.{refusal_of};
 ghost use Rattle.ldp_stream.specs.declared.stream_fault.StreamFault.TheVariants as stop;
 ghost use Rattle.ldp_stream.specs.Front.{HasFront, IsPending};
-ghost use Rattle.ldp_stream.specs.State.{AnswersNext, IsFaultOf, Refuses, empty, place_behind, taken_count};
+ghost use Rattle.ldp_stream.specs.Seen.{HasNext, IsPeeked, IsRefusal};
+ghost use Rattle.ldp_stream.specs.State.{AnswersNext, IsFaultOf, Passes, Refuses, empty, place_behind, taken_count};
 
 use crate::StreamFault;
-use crate::buffer::Buffer;
-use crate::front::decode_front;
-use ldp_codec::{DecodeFault, Stop};
+use crate::front::{decode_front, size_in, view_front};
+use crate::ring::Ring;
+use ldp_codec::{DecodeFault, PduView, Stop};
 use ldp_grammar::{Fault, Pdu};
 use net_values::NoMemory;
 use std::alloc::Global;
@@ -20,7 +21,7 @@ use std::marker::Model;
 /// held, the maximum, the place in the stream of the first octet held, and the fault that was answered.
 #[derive(Drop)]
 pub struct Stream {
-    buffer: Buffer,
+    ring: Ring,
     max: u16,
     base: u64,
     refused: Option<Fault>,
@@ -32,9 +33,9 @@ impl Model for Stream {
 
     ghost Value = { StreamState };
 
-    ghost view = { λ s. record { held = s.buffer; max = s.max; base = s.base; refused = s.refused } };
+    ghost view = { λ s. record { held = s.ring; max = s.max; base = s.base; refused = s.refused } };
 
-    ghost invariant = { λ s. (256 ≤ s.max) × (s.max ≤ 4096) × (length s.buffer ≤ 4100) };
+    ghost invariant = { λ s. (256 ≤ s.max) × (s.max ≤ 4096) × (length s.ring ≤ 4100) };
 }
 
 impl Stream {
@@ -43,7 +44,7 @@ impl Stream {
         ensures { IfOk result (λ stream. stream ≡ empty) }
     {
         Ok(Stream {
-            buffer: Buffer::new(alloc)?,
+            ring: Ring::new(alloc)?,
             max: 4096,
             base: 0,
             refused: None,
@@ -71,7 +72,7 @@ impl Stream {
         if self.refused.is_some() {
             return 0;
         }
-        self.buffer.take(piece)
+        self.ring.take(piece)
     }
 
     /// The PDU in front of the octets held, which are then those behind it. `None` exactly where they are a proper
@@ -89,10 +90,10 @@ impl Stream {
         if let Some(fault) = self.refused {
             return Err(self.refuse(fault));
         }
-        match decode_front(alloc, self.buffer.as_slice(), self.max) {
+        match decode_front(alloc, self.ring.part(), self.max) {
             Ok(None) => Ok(None),
             Ok(Some((pdu, size))) => {
-                self.pass(size);
+                self.give_up(size);
                 Ok(Some(pdu))
             }
             Err(Stop::At(fault)) => Err(self.refuse(fault)),
@@ -100,12 +101,43 @@ impl Stream {
         }
     }
 
+    /// The PDU in front of the octets held, lent from them: it takes no memory, and nothing changes. `None` and `Refused`
+    /// come exactly where `next` answers them.
+    #[tactic(auto, using(crate::proofs::StreamLemmas::peeked))]
+    #[inline(always)]
+    pub fn peek(&self) -> Result<Option<PduView<'_>>, StreamFault>
+        ensures seen { IfOk result (λ front. IfSome front (IsPeeked self.now)) }
+        ensures ready { IfOk result (λ front. IfSome front (λ _. HasNext self.now)) }
+        ensures waits { (result ≡ Ok None) ↔ ((self.now.refused ≡ None) × IsPending self.now.max self.now.held) }
+        ensures refused { IfErr result (IsRefusal self.now) }
+        ensures refuses { (fault : Fault) → IsFaultOf self.now fault → result ≡ Err (stop.Refused self.now.base (refusal_of fault)) }
+    {
+        if let Some(fault) = self.refused {
+            return Err(refusal(self.base, fault));
+        }
+        match view_front(self.ring.part(), self.max) {
+            Ok(None) => Ok(None),
+            Ok(Some(view)) => Ok(Some(view)),
+            Err(fault) => Err(refusal(self.base, fault)),
+        }
+    }
+
+    /// Gives up the PDU in front, where `peek` lends one.
+    #[tactic(auto, using(crate::proofs::StreamLemmas::next_whole))]
+    pub fn pass(&mut self)
+        requires { HasNext self.old }
+        ensures { (pdu : Pdu) (rest : List ℕ) → HasFront self.old.max self.old.held pdu rest → Passes self.old self.new pdu }
+    {
+        let size = size_in(self.ring.part());
+        self.give_up(size);
+    }
+
     /// How many octets are held: at most 4,100.
     pub fn held(&self) -> usize
         ensures count { result ≡ length self.now.held }
         ensures within { result ≤ 4100 }
     {
-        self.buffer.len()
+        self.ring.len()
     }
 
     // The answer that refuses with the fault, which is kept.
@@ -114,20 +146,27 @@ impl Stream {
         ensures kept { self.new ≡ record self.old { refused = Some fault } }
     {
         self.refused = Some(fault);
-        StreamFault::Refused {
-            base: self.base,
-            fault: DecodeFault::from(fault),
-        }
+        refusal(self.base, fault)
     }
 
     // Passes the first octets, and their number goes to the place.
     #[tactic(auto, unfolding(crate::specs::State::place_behind))]
-    fn pass(&mut self, count: usize)
+    fn give_up(&mut self, count: usize)
         requires { count ≤ length self.old.held }
         ensures { self.new ≡ record self.old { held = drop count self.old.held; base = place_behind self.old.base count } }
     {
-        self.buffer.pass(count);
+        self.ring.pass(count);
         // Behind 2^64 - 1 octets the place is counted no further.
         self.base = self.base.saturating_add(count as u64);
+    }
+}
+
+// The answer that refuses with a fault at this place.
+fn refusal(base: u64, fault: Fault) -> StreamFault
+    ensures { result ≡ stop.Refused base (refusal_of fault) }
+{
+    StreamFault::Refused {
+        base,
+        fault: DecodeFault::from(fault),
     }
 }

@@ -4,13 +4,25 @@ ghost use Rattle.std.specs.Prelude.{◌≤◌};
 use crate::hex::octets_of;
 use crate::ldp::scripts::{event_of, number};
 use crate::words::is_told;
+use ldp_grammar::Pdu;
 use ldp_stream::{Stream, StreamFault};
 use net_base::NoMemory;
 use std::alloc::Global;
 use std::process::Abort;
 
-// What the stream answers next has these words.
+// What the stream lends, as a value of its own.
+fn lent(rt: &impl Abort, alloc: Global, stream: &Stream) -> Result<Option<Pdu>, StreamFault> {
+    match stream.peek() {
+        Ok(Some(view)) => Ok(Some(view.read(alloc).expect(rt, "memory"))),
+        Ok(None) => Ok(None),
+        Err(fault) => Err(fault),
+    }
+}
+
+// What the stream lends, and answers next, has these words.
 fn is_next(rt: &impl Abort, alloc: Global, stream: &mut Stream, words: &str) {
+    let lent = lent(rt, alloc, stream);
+    is_told(rt, alloc, &lent, words);
     let next = stream.next(alloc);
     is_told(rt, alloc, &next, words);
 }
