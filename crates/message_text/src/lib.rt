@@ -4,11 +4,13 @@
 //! `specs/Words.antt` has the words of each part, and `specs/Line.antt` the lines.
 #![tactic(auto)]
 
+mod lent;
 mod line;
 mod names;
 mod parts;
 mod pieces;
 mod pseudowire;
 
+pub use lent::put_views;
 pub use line::put_messages;
 pub use names::field_text;

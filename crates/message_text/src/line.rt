@@ -9,8 +9,8 @@ use ldp_grammar::Message;
 use net_values::NoMemory;
 use text_pieces::{put_number, put_text, put_word};
 
-// Adds the line of a message: the place of its PDU, its name, its Message ID and its parts.
-fn put_message(text: &mut Vec<u8>, base: u64, message: &Message) -> Result<(), NoMemory>
+/// Adds the line of a message: the place of its PDU, its name, its Message ID and its parts.
+pub fn put_message(text: &mut Vec<u8>, base: u64, message: &Message) -> Result<(), NoMemory>
     ensures { OnOk result (text.new.items ≡ text.old.items ++ decoded_line base message.now) }
 {
     put_number(text, base)?;
