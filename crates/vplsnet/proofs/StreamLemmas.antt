@@ -4,20 +4,25 @@ use Rattle.std.proofs.lemmas.Bool.Decides.{nat_tests}
 use Rattle.std.proofs.lemmas.List.{append-nil, take-take, drop-drop, take-append-drop, drop_all, length-take-le}
 use Rattle.ldp_grammar.specs.declared.fault.Fault.{Fault}
 use Rattle.ldp_grammar.specs.declared.pdu.Pdu.{Pdu}
+use Rattle.ldp_codec.proofs.DecodeLemmas.{view_read}
+use Rattle.ldp_codec.specs.Decoded.{refusal_of}
+use Rattle.ldp_codec.specs.Views.{SeenPdu}
 use Rattle.ldp_grammar.specs.Octets.{two}
 use Rattle.ldp_grammar.specs.Spells.{Spells, spell_message}
 use Rattle.ldp_stream.specs.declared.stream_fault.StreamFault.{StreamFault}
 use Rattle.ldp_stream.specs.declared.stream_fault.StreamFault.TheVariants as stop
-use Rattle.ldp_stream.specs.Front.{IsPending, IsFrontFault}
+use Rattle.ldp_stream.specs.Front.{HasFront, IsPending, IsFrontFault}
 use Rattle.ldp_stream.specs.Parsed.{Ending, Pending, Refused, IsParsedFrom}
-use Rattle.ldp_stream.specs.State.{StreamState, empty, taken_count, Passes, Waits, place_behind, Refuses}
+use Rattle.ldp_stream.specs.Seen.{HasNext, IsPeeked, IsRefusal}
+use Rattle.ldp_stream.specs.State.{StreamState, empty, taken_count, Passes, Waits, place_behind}
 use Rattle.ldp_stream.proofs.ParsedLemmas.{one_parsing}
 use Rattle.ldp_stream.proofs.StreamLemmas.{going_fault}
 use Rattle.vplsnet.specs.declared.outcome.Outcome.{Outcome}
 use Rattle.vplsnet.specs.declared.outcome.Outcome.TheVariants.{Done, Unfinished}
+use Rattle.message_text.specs.Lent.{AddsLines}
 use Rattle.message_text.specs.Line.{decoded_lines}
 use Rattle.vplsnet.specs.StreamText.{largest_pdu, IsTextFrom, IsStreamText, outcome_of_ending}
-use Rattle.vplsnet.specs.StreamSteps.{IsGoing, AddsPdu, TakesOne, TextGoesOn, IsStopped, IsFedTo, LeavesSome, StopsIn, EndsWith}
+use Rattle.vplsnet.specs.StreamSteps.{IsGoing, AddsPdu, PutsFront, PutsOne, TakesOne, TextGoesOn, IsStopped, IsFedTo, LeavesSome, StopsIn, EndsWith}
 
 -- a PDU in front has some octets
 piece_some : (piece : List ℕ) (max : ℕ) (pdu : Pdu) → Spells piece max pdu → 0 < length piece
@@ -33,22 +38,56 @@ place_near base count few =
     omega (arith, counted, few)
 
 -- the fault in front, whatever follows
-pub stopped_here : (old new : StreamState) (fed : ℕ) (before : List ℕ) (fault : StreamFault) → IsGoing old fed → Refuses old new fault → IsStopped fault old before before
-stopped_here old new fed before stop.NoMemory going refuses = tt
-stopped_here old new fed before (stop.Refused base refusal) going refuses =
-    let front : IsFrontFault largest_pdu old.held refuses.fault = subst (λ (max : ℕ). IsFrontFault max old.held refuses.fault) going.max (going_fault old refuses.fault going.going refuses.stands) in
-    record {
-      fault = refuses.fault;
-      names = refuses.names;
+pub stopped_at : (s : StreamState) (fed : ℕ) (before : List ℕ) (fault : StreamFault) → IsGoing s fed → IsRefusal s fault → IsStopped fault s before before
+stopped_at s fed before fault going refusal =
+    let front : IsFrontFault largest_pdu s.held refusal.fault = subst (λ (max : ℕ). IsFrontFault max s.held refusal.fault) going.max (going_fault s refusal.fault going.going refusal.stands) in
+    let stopped : IsStopped (stop.Refused s.base (refusal_of refusal.fault)) s before before = record {
+      fault = refusal.fault;
+      names = refl;
       added = [];
       adds = sym (append-nil before);
       text = λ more. record {
         pdus = [];
-        parsed = subst (λ (place : ℕ). IsParsedFrom old.base largest_pdu (old.held ++ more) [] (Refused place refuses.fault)) (sym refuses.place)
-            (one_parsing.faulty old.base largest_pdu old.held more refuses.fault front);
+        parsed = one_parsing.faulty s.base largest_pdu s.held more refusal.fault front;
         text_is = refl;
       };
+    } in
+    subst (λ (e : StreamFault). IsStopped e s before before) (sym refusal.is) stopped
+
+-- the lines of what is lent of the PDU in front were added
+pub puts_front : (s : StreamState) (seen : SeenPdu) (fed base : ℕ) (before after : List ℕ) → IsGoing s fed → base ≡ fed - length s.held → IsPeeked s seen → HasNext s → AddsLines base seen.spellings before after → PutsFront s before after
+puts_front s seen fed base before after going is peeked ready adds =
+    let place : base ≡ s.base = omega (arith, is, going.place) in
+    record {
+      ready = ready;
+      pdu = record { id = seen.id; messages = adds.messages };
+      rest = peeked.rest;
+      front = record {
+        piece = peeked.piece;
+        split = peeked.split;
+        spelled = view_read peeked.piece s.max seen (record { id = seen.id; messages = adds.messages }) peeked.viewed (record { id = refl; stand = adds.stand });
+      };
+      lines = adds.lines ∙ ap (λ (b : ℕ). before ++ decoded_lines b adds.messages) place;
     }
+
+-- where lines were added, a PDU can be given up
+puts_more : (more : Bool) (s : StreamState) (before after : List ℕ) → more ≡ true → PutsOne more s before after → PutsFront s before after
+puts_more true s before after went puts = puts
+puts_more false s before after went puts = absurd (cc (went))
+
+pub puts_ready : (more : Bool) (s : StreamState) (before after : List ℕ) → more ≡ true → PutsOne more s before after → HasNext s
+puts_ready more s before after went puts = (puts_more more s before after went puts).ready
+
+-- the PDU in front was given up
+pub takes_front : (more : Bool) (old new : StreamState) (before after : List ℕ) → more ≡ true → PutsOne more old before after → ((pdu : Pdu) (rest : List ℕ) → HasFront old.max old.held pdu rest → Passes old new pdu) → AddsPdu old new before after
+takes_front more old new before after went puts passes =
+    let p = puts_more more old before after went puts in
+    record { pdu = p.pdu; passes = passes p.pdu p.rest p.front; lines = p.lines }
+
+-- no line was added
+pub puts_none : (more : Bool) (s : StreamState) (before after : List ℕ) → more ≡ false → PutsOne more s before after → Waits s s × (after ≡ before)
+puts_none true s before after went puts = absurd (cc (went))
+puts_none false s before after went puts = (record { going = puts.0.0; pending = puts.0.1; unchanged = refl }, puts.1)
 
 -- the place behind the PDU in front
 passed_base : (old new : StreamState) (fed : ℕ) (pdu : Pdu) → IsGoing old fed → fed < 2 ^ 63 → (passes : Passes old new pdu) → new.base ≡ old.base + length passes.piece

@@ -6,8 +6,9 @@ use Rattle.ldp_codec.specs.declared.decode_fault.DecodeFault.{DecodeFault}
 use Rattle.ldp_codec.specs.Decoded.{refusal_of}
 use Rattle.ldp_stream.specs.declared.stream_fault.StreamFault.{StreamFault}
 use Rattle.ldp_stream.specs.declared.stream_fault.StreamFault.TheVariants as stop
-use Rattle.ldp_stream.specs.Front.{IsPending}
+use Rattle.ldp_stream.specs.Front.{HasFront, IsPending}
 use Rattle.ldp_stream.specs.Parsed.{Ending, Pending, Refused}
+use Rattle.ldp_stream.specs.Seen.{HasNext}
 use Rattle.ldp_stream.specs.State.{StreamState, Passes, Waits}
 use Rattle.vplsnet.specs.declared.outcome.Outcome.{Outcome}
 use Rattle.message_text.specs.Line.{decoded_lines}
@@ -18,6 +19,19 @@ pub record IsGoing (s : StreamState) (fed : ℕ) : Type 0 where
   pub going : s.refused ≡ None
   pub max : s.max ≡ largest_pdu
   pub place : s.base + length s.held ≡ fed
+
+-- a PDU stands in front and can be given up, and the lines of its messages were added
+pub record PutsFront (s : StreamState) (before after : List ℕ) : Type 0 where
+  pub ready : HasNext s
+  pub pdu : Pdu
+  pub rest : List ℕ
+  pub front : HasFront s.max s.held pdu rest
+  pub lines : after ≡ before ++ decoded_lines s.base pdu.messages
+
+-- the lines of a PDU were added, or none stands in front whole
+abbrev pub PutsOne : Bool → StreamState → List ℕ → List ℕ → Type 0
+PutsOne true s before after = PutsFront s before after
+PutsOne false s before after = ((s.refused ≡ None) × IsPending s.max s.held) × (after ≡ before)
 
 -- the PDU in front was taken, and the lines of its messages were added
 pub record AddsPdu (old new : StreamState) (before after : List ℕ) : Type 0 where

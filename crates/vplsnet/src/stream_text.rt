@@ -1,24 +1,45 @@
 //! The text of a stream: it is fed in pieces, and PDUs are taken as soon as they are whole.
-ghost use Rattle.std.specs.Prelude.{◌≡◌, ◌==◌, ◌<◌, ◌≤◌, ◌-◌, ◌^◌, ◌++◌, [], true, drop, length, min, take, if◌then◌else◌, IfErr, IfOk, OnOk};
+ghost use Rattle.std.specs.Prelude.{◌≡◌, ◌==◌, ◌<◌, ◌≤◌, ◌-◌, ◌^◌, [], true, drop, length, min, take, if◌then◌else◌, IfErr, IfOk, OnOk};
 ghost use Rattle.ldp_stream.specs.Front.{IsPending};
 ghost use Rattle.ldp_stream.specs.State.{empty};
-ghost use Rattle.message_text.specs.Line.{decoded_lines};
-ghost use Rattle.vplsnet.specs.StreamSteps.{EndsWith, IsGoing, IsStopped, LeavesSome, StopsIn, TakesOne, TextGoesOn};
+ghost use Rattle.vplsnet.specs.StreamSteps.{EndsWith, IsGoing, IsStopped, LeavesSome, PutsOne, StopsIn, TakesOne, TextGoesOn};
 ghost use Rattle.vplsnet.specs.StreamText.{largest_pdu};
 
 use crate::outcome::Outcome;
-use ldp_grammar::Pdu;
 use ldp_stream::{Stream, StreamFault};
-use message_text::put_messages;
+use message_text::put_views;
 use net_base::NoMemory;
 use std::alloc::Global;
 
-/// The most octets that are fed at once. What is left of a piece is moved when the next one is fed.
+/// The most octets that are fed at once.
 const PIECE: usize = 2048;
 
-// Takes the PDU in front and adds the lines of its messages; `false` where none stands there whole. `fed` is how many
+// Adds the lines of the messages of the PDU in front, which is lent; `false` where none stands there whole. `fed` is how many
 // octets were fed.
-#[tactic(auto, using(crate::proofs::StreamLemmas::stopped_here))]
+#[tactic(auto, using(crate::proofs::StreamLemmas::puts_front, crate::proofs::StreamLemmas::stopped_at))]
+fn put_front(
+    alloc: Global,
+    stream: &Stream,
+    fed: u64,
+    text: &mut Vec<u8>,
+) -> Result<bool, StreamFault>
+    requires going { IsGoing stream.now fed }
+    ensures put { IfOk result (λ more. PutsOne more stream.now text.old.items text.new.items) }
+    ensures stopped { IfErr result (λ fault. IsStopped fault stream.now text.old.items text.new.items) }
+{
+    let base = fed - stream.held() as u64;
+    match stream.peek() {
+        Ok(Some(view)) => match put_views(alloc, text, base, &view) {
+            Ok(()) => Ok(true),
+            Err(NoMemory) => Err(StreamFault::NoMemory),
+        },
+        Ok(None) => Ok(false),
+        Err(fault) => Err(fault),
+    }
+}
+
+// Adds the lines of the messages of the PDU in front, and gives it up; `false` where none stands there whole.
+#[tactic(auto, using(crate::proofs::StreamLemmas::puts_ready, crate::proofs::StreamLemmas::puts_none, crate::proofs::StreamLemmas::takes_front))]
 fn take_pdu(
     alloc: Global,
     stream: &mut Stream,
@@ -29,23 +50,11 @@ fn take_pdu(
     ensures taken { IfOk result (λ more. TakesOne more stream.old stream.new text.old.items text.new.items) }
     ensures stopped { IfErr result (λ fault. IsStopped fault stream.old text.old.items text.new.items) }
 {
-    let base = fed - stream.held() as u64;
-    match stream.next(alloc) {
-        Ok(Some(pdu)) => put_pdu(base, pdu, text),
-        Ok(None) => Ok(false),
-        Err(fault) => Err(fault),
+    if !put_front(alloc, stream, fed, text)? {
+        return Ok(false);
     }
-}
-
-// Adds the lines of the messages of a PDU, and owns it.
-fn put_pdu(base: u64, pdu: Pdu, text: &mut Vec<u8>) -> Result<bool, StreamFault>
-    ensures lines { IfOk result (λ more. (more ≡ true) × (text.new.items ≡ text.old.items ++ decoded_lines base pdu.messages)) }
-    ensures stopped { IfErr result (λ fault. fault ≡ StreamFault.NoMemory) }
-{
-    match put_messages(text, base, pdu.messages.as_slice()) {
-        Ok(()) => Ok(true),
-        Err(NoMemory) => Err(StreamFault::NoMemory),
-    }
+    stream.pass();
+    Ok(true)
 }
 
 // Takes the PDUs that stand in front whole, and adds the lines of their messages.
