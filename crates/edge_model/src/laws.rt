@@ -25,7 +25,7 @@ pub fn packets_stay_local()
     ensures { PacketsStayLocal }
 {}
 
-/// Local isolation of pings: no frame leaves, and what an edge sends is one echo request on the wire that is pinged, to its far
+/// Local isolation of pings: no frame leaves, and whatever an edge sends is an echo request on the wire that is pinged, to its far
 /// terminal edge, in the control channel that both ends have told, with the sequence number that comes next (RFC 5085 section 5).
 #[tactic(auto, using(crate::proofs::PingLemmas::pings_stay_local))]
 pub fn pings_stay_local()
