@@ -36,7 +36,7 @@ use Rattle.network_model.proofs.PacketListLemmas.{absorb_sends, append_holds, co
 use Rattle.network_model.proofs.OtherLemmas.{numbered_from}
 use Rattle.flight_model.specs.Ends.{HasTypes}
 use Rattle.flight_model.proofs.RuledNetworkLemmas.{IsRuledNetwork}
-use Rattle.packet_model.specs.Carried.{IsCarried, KeepsPacketRule, FollowsPacketRule}
+use Rattle.packet_model.specs.Carried.{KeepsPacketRule, FollowsPacketRule}
 use Rattle.flood_model.specs.Copy.{IsStill, IsStillEdge}
 use Rattle.flood_model.proofs.WindowLemmas.{IsReached, step_reached}
 use Rattle.address_model.specs.Points.{PointsToSite}

@@ -1,5 +1,5 @@
 -- What comes in a control channel is never taken for a customer's frame.
-use Rattle.std.proofs.Common.{◌≡◌, ◌&&◌, ◌∙◌, Bool, true, false, ℕ, List, [], ◌∷◌, Option, Some, None, Result, Ok, Err, cond, length, nat_eq, nat_lt, not, refl, ap, sym, subst}
+use Rattle.std.proofs.Common.{◌≡◌, ◌&&◌, ◌∙◌, Bool, true, false, ℕ, List, Option, Some, None, Result, Ok, Err, cond, length, nat_eq, nat_lt, not, refl, ap, sym, subst}
 use Rattle.net_base.specs.declared.outside.link_call.LinkCall.{LinkCall}
 use Rattle.net_base.specs.declared.plan.Plan.{Plan}
 use Rattle.net_base.specs.declared.plan.wire_plan.WirePlan.{WirePlan}
@@ -22,7 +22,7 @@ use Rattle.vccv_channel.specs.Pick.{offers, offers_ping, picked, shared}
 use Rattle.edge_model.specs.Apart.{EchoesStayApart, IsAnswered, IsDropped, IsForEnd, IsTold, StaysInChannel, on_packet}
 use Rattle.edge_model.specs.declared.end_place.EndPlace.{EndPlace}
 use Rattle.edge_model.specs.Echo.{channel_octets, channel_under, echoes, is_picked, verifies, verifies_in}
-use Rattle.edge_model.specs.Local.{ComesInChannel, channel_payload, from_label, has_alert, is_in_channel}
+use Rattle.edge_model.specs.Local.{ComesInChannel, from_label, has_alert, is_in_channel}
 use Rattle.edge_model.specs.Packet.{advertiser, alerted, alerts_by, alerts_end, behind_entry, by_offer, enters, is_alert, is_channel, labelled, least_label, opened_by, owned, switched, terminated}
 use Rattle.edge_model.specs.Send.{drops, had_posted}
 use Rattle.edge_model.specs.State.{EdgeState, end_at}

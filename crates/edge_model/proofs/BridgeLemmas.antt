@@ -50,7 +50,7 @@ use Rattle.edge_model.specs.Packet.{switched_by, switched_to, switched_under, to
 use Rattle.edge_model.specs.Ping.{asks, far_address, ping_between, ping_input, pinging, pings_at, pings_by, pings_in, pings_under}
 use Rattle.edge_model.specs.Role.{down_at}
 use Rattle.edge_model.specs.Send.{drops, had_posted, packet_of, sends, sends_copy, sends_under}
-use Rattle.edge_model.specs.State.{EdgeState, end_at, is_on, put_at, with_addresses, with_next_ping}
+use Rattle.edge_model.specs.State.{EdgeState, end_at, is_on, with_addresses, with_next_ping}
 use Rattle.edge_model.specs.Work.{Work, Answers, changes, gives, idles, next_answer, posts}
 use Rattle.edge_model.proofs.SessionLemmas.{GivesOnly, gives_none, gives_then}
 

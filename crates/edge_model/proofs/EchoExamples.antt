@@ -14,7 +14,7 @@ use Rattle.net_base.specs.declared.trace.drop_cause.DropCause.TheVariants as cau
 use Rattle.pw_signalling.specs.declared.binding.Binding.{Binding}
 use Rattle.pw_signalling.specs.declared.told.Told.{Told}
 use Rattle.pw_signalling.specs.Down.{down}
-use Rattle.pw_signalling.specs.End.{EndState, LocalPart, Advertised, Withdrawing}
+use Rattle.pw_signalling.specs.End.{LocalPart, Advertised, Withdrawing}
 use Rattle.pw_stitch.specs.Passing.{past_point}
 use Rattle.vccv_channel.specs.Checksum.{ones_plus}
 use Rattle.vccv_channel.specs.Reading.{reading}

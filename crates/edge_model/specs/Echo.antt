@@ -1,5 +1,5 @@
 -- The control channel of a terminal end, and what an edge makes of an echo packet that came in it (RFC 5085 sections 3 and 5).
-use Rattle.std.specs.Prelude.{◌%◌, ℕ, Bool, true, false, List, length, Option, Some, None, Result, Ok, Err, if◌then◌else◌}
+use Rattle.std.specs.Prelude.{◌%◌, ℕ, Bool, true, false, List, length, Option, Some, Result, Ok, Err, if◌then◌else◌}
 use Rattle.net_base.specs.declared.plan.places.EdgeId.{EdgeId}
 use Rattle.net_base.specs.declared.plan.wire_plan.WirePlan.{WirePlan}
 use Rattle.net_base.specs.declared.trace.arrival.Arrival.TheVariants as arrival

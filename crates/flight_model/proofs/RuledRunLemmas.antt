@@ -23,7 +23,7 @@ use Rattle.flight_model.proofs.PlanLemmas.{row_holds}
 use Rattle.flight_model.proofs.RuledDeliverLemmas.{connect_event_ruled, deliver_event_ruled, ruled_said}
 use Rattle.flight_model.proofs.RuledEventLemmas.{again_event_ruled, arrive_event_ruled, circuit_event_ruled, discard_event_ruled, frame_event_ruled, lose_ruled, priority_event_ruled, restart_event_ruled, status_event_ruled, tick_event_ruled, wire_event_ruled, ping_event_ruled}
 use Rattle.flight_model.proofs.RuledLemmas.{IsRuled}
-use Rattle.flight_model.proofs.RuledNetworkLemmas.{IsRuledNetwork, RulesTo, StaysRuled, stays_ruled}
+use Rattle.flight_model.proofs.RuledNetworkLemmas.{IsRuledNetwork, RulesTo, StaysRuled}
 use Rattle.flight_model.proofs.RunLemmas.{empty_ordered, run_ordered, step_keeps}
 use Rattle.flight_model.proofs.ToldLemmas.{fresh_tells, tells_plan}
 

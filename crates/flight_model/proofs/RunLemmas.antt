@@ -29,7 +29,7 @@ use Rattle.flight_model.specs.Messages.{octets_of_all}
 use Rattle.flight_model.specs.Pair.{ArePaired}
 use Rattle.flight_model.proofs.CircuitLemmas.{again_keeps, arrive_keeps, circuit_keeps, discard_keeps, frame_keeps, priority_keeps, status_keeps, wire_keeps, ping_keeps}
 use Rattle.flight_model.proofs.ConnectLemmas.{connect_keeps}
-use Rattle.flight_model.proofs.EventLemmas.{deliver_keeps, idle_keeps, lose_keeps, restart_keeps, tick_keeps}
+use Rattle.flight_model.proofs.EventLemmas.{deliver_keeps, lose_keeps, restart_keeps, tick_keeps}
 use Rattle.flight_model.proofs.PipeLemmas.{good-append}
 use Rattle.flight_model.proofs.PlanLemmas.{row_holds}
 use Rattle.flight_model.proofs.RowLemmas.{clash, quiet}

@@ -1,14 +1,12 @@
 -- In a quiet service what is told along a wire is one chain from terminal edge to terminal edge.
-use Rattle.std.proofs.Common.{◌≡◌, ◌+◌, ◌++◌, ◌&&◌, ◌||◌, ◌==◌, ◌∙◌, ℕ, zero, suc, Bool, true, false, not, List, [], ◌∷◌, Option, Some, None, length, refl, sym, ap, subst, arith, length-append}
-use Rattle.label_space.specs.Labels.{numbers_end}
+use Rattle.std.proofs.Common.{◌≡◌, ◌+◌, ◌++◌, ◌&&◌, ◌||◌, ◌∙◌, ℕ, zero, suc, Bool, true, false, not, List, [], ◌∷◌, Option, Some, None, length, refl, sym, ap, arith, length-append}
 use Rattle.net_base.specs.declared.plan.Plan.{Plan}
 use Rattle.net_base.specs.declared.plan.places.EdgeId.{EdgeId}
 use Rattle.net_base.specs.declared.plan.places.ServiceId.{ServiceId}
 use Rattle.net_base.specs.declared.plan.places.WireId.{WireId}
 use Rattle.net_base.specs.declared.plan.wire_plan.WirePlan.{WirePlan}
-use Rattle.net_base.specs.declared.trace.event.Event.{Event}
 use Rattle.net_base.specs.plan.Accepted.{IsChecked, IsWireOf}
-use Rattle.net_base.specs.plan.Paths.{edge_address, is_first, is_last, joins, mate, mate_on}
+use Rattle.net_base.specs.plan.Paths.{is_first, is_last, joins, mate, mate_on}
 use Rattle.net_base.specs.plan.Places.{wire_row}
 use Rattle.net_base.specs.plan.Roles.{are_joined_by, is_wire_of}
 use Rattle.net_base.proofs.PathLemmas.{joins_turned, mate_back, mate_joined, place_of}
@@ -18,13 +16,13 @@ use Rattle.pw_signalling.specs.declared.told.Told.{Told}
 use Rattle.pw_signalling.specs.End.{LocalPart, Idle, Advertised, Withdrawing}
 use Rattle.edge_model.specs.EndPlaces.{is_terminal}
 use Rattle.edge_model.specs.Mend.{is_up_with}
-use Rattle.edge_model.specs.State.{EdgeState, Peering, is_there}
-use Rattle.network_model.specs.Calm.{is_drained, is_quiet, is_settled}
+use Rattle.edge_model.specs.State.{Peering, is_there}
+use Rattle.network_model.specs.Calm.{is_drained, is_quiet}
 use Rattle.network_model.specs.State.{NetworkState, stands}
 use Rattle.network_model.proofs.GoalLemmas.{has_mate}
 use Rattle.flight_model.specs.Across.{PassesOn, TellsAcross}
 use Rattle.flight_model.specs.Binding.{advertised_by, is_idle, is_withdrawing}
-use Rattle.flight_model.specs.Laws.{AreSettled, BothStand, IsRun, network_after}
+use Rattle.flight_model.specs.Laws.{AreSettled, BothStand, network_after}
 use Rattle.flight_model.proofs.AcrossLemmas.{runs_tell_across}
 use Rattle.flight_model.proofs.BoundRunLemmas.{runs_settle}
 use Rattle.packet_model.proofs.PackLemmas.{wire_checked}

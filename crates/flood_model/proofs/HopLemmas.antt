@@ -24,7 +24,7 @@ use Rattle.network_model.proofs.WayLemmas.{clash, joins_is}
 use Rattle.flood_model.proofs.ChosenLemmas.{one_chosen}
 use Rattle.flood_model.proofs.LinkLemmas.{IsLink, link_at}
 use Rattle.flood_model.proofs.MeshLemmas.{far_core, mesh_near}
-use Rattle.flood_model.proofs.WireEdgeLemmas.{AreSides, IsFar, IsNear, both, far_apart, never, sides_ended, sides_far, starts_spoke}
+use Rattle.flood_model.proofs.WireEdgeLemmas.{AreSides, IsFar, IsNear, both, far_apart, never, sides_ended, sides_far}
 use Rattle.flood_model.specs.Hops.{most_hops, stage}
 
 -- ---- the stage of a wire, by its terminal edges

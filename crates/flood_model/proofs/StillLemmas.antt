@@ -51,7 +51,7 @@ use Rattle.network_model.proofs.CalmLemmas.{none_first, none_later}
 use Rattle.network_model.proofs.EdgeLemmas.{HoldsOfEach}
 use Rattle.network_model.proofs.PacketListLemmas.{absorb_sends, copy_of, holds_by, packet_holds, packets_of, repeating_sends, without_hold, packet_from}
 use Rattle.flight_model.proofs.RuledNetworkLemmas.{IsRuledNetwork}
-use Rattle.packet_model.specs.Carried.{IsCarried, KeepsPacketRule, FollowsPacketRule}
+use Rattle.packet_model.specs.Carried.{KeepsPacketRule, FollowsPacketRule}
 use Rattle.packet_model.specs.Echoed.{IsEchoed}
 use Rattle.packet_model.proofs.ArriveLemmas.{IsSized, come_sized}
 use Rattle.packet_model.proofs.EchoArriveLemmas.{echo_unheard}

@@ -1,5 +1,5 @@
 -- What the ends hold of their peers can be told on, before and after the calls.
-use Rattle.std.proofs.Common.{◌≡◌, ◌<◌, ℕ, zero, suc, Bool, true, false, cond, List, [], ◌∷◌, Option, Some, None, length, get_or, set, replicate, arith}
+use Rattle.std.proofs.Common.{◌<◌, ℕ, zero, suc, Bool, true, false, cond, List, [], ◌∷◌, Option, Some, None, length, get_or, set, replicate, arith}
 use Rattle.pw_tlvs.specs.declared.pw_status.PwStatus.{PwStatus}
 use Rattle.pw_signalling.specs.declared.binding.Binding.{Binding}
 use Rattle.pw_signalling.specs.End.{EndState, fresh}
@@ -8,7 +8,7 @@ use Rattle.edge_model.specs.declared.end_place.EndPlace.{EndPlace}
 use Rattle.pw_ends.specs.declared.end_change.EndChange.{EndChange}
 use Rattle.pw_ends.specs.declared.end_change.EndChange.TheVariants as change
 use Rattle.pw_ends.specs.Changes.{changed}
-use Rattle.pw_ends.specs.Ends.{CanHold, Holds, no_place}
+use Rattle.pw_ends.specs.Ends.{Holds, no_place}
 use Rattle.pw_ends.specs.Kept.{AreHolding}
 
 -- ---- an end is changed
