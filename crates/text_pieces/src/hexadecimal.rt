@@ -53,8 +53,9 @@ fn put_piece(text: &mut Vec<u8>, piece: &[u8]) -> Result<(), NoMemory>
     put_text(text, digits)
 }
 
-// Writes the digits of octets into a room of just their size. A look into the table takes half the time of two digits.
-fn write_digits(octets: &[u8], digits: &mut [u8])
+/// Writes two digits for each octet, the high one first, in lower case, into room of just their size. It takes no memory.
+/// A look into the table takes half the time of two digits.
+pub fn write_digits(octets: &[u8], digits: &mut [u8])
     requires { length digits.old ≡ 2 * length octets.now }
     ensures { digits.new ≡ hex octets.now }
 {

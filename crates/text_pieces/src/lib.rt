@@ -7,5 +7,5 @@
 mod hexadecimal;
 mod pieces;
 
-pub use hexadecimal::{put_digits, put_hex_word};
+pub use hexadecimal::{put_digits, put_hex_word, write_digits};
 pub use pieces::{put_number, put_number_word, put_text, put_word};
