@@ -1,0 +1,3 @@
+pub mod WrittenLemmas
+pub mod LineLemmas
+pub mod HexLemmas

@@ -1,0 +1,32 @@
+-- Lines of words.
+use Rattle.std.specs.Prelude.{◌++◌, codes, ℕ, List, [], ◌∷◌}
+use Rattle.std.specs.Fmt.{decimal}
+use Rattle.text_pieces.specs.Pieces.{hex, spaced}
+use Rattle.text_lines.specs.declared.word.Word.{Word}
+use Rattle.text_lines.specs.declared.word.Word.TheVariants.{Text, Number, Labelled, Marked, Hex}
+
+-- the octets of a word
+abbrev pub word_octets : Word → List ℕ
+word_octets (Text text) = text.now
+word_octets (Number number) = decimal number
+word_octets (Labelled label number) = label.now ++ decimal number
+word_octets (Marked number mark) = decimal number ++ mark.now
+word_octets (Hex octets) = hex octets.now
+
+-- words behind the first one: a blank before each, and a line feed after the last
+abbrev pub line_end : List (List ℕ) → List ℕ
+line_end [] = codes "\n"
+line_end (word ∷ words) = (codes " " ++ word) ++ line_end words
+
+-- the line of these words
+abbrev pub line_of : List (List ℕ) → List ℕ
+line_of [] = codes "\n"
+line_of (word ∷ words) = word ++ line_end words
+
+-- the octets of the first word of a line, and of those behind it
+pub record LineWords : Type 0 where
+  pub first : List ℕ
+  pub words : List (List ℕ)
+
+abbrev pub line_octets : LineWords → List ℕ
+line_octets line = line.first ++ (spaced line.words ++ codes "\n")

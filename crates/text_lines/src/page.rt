@@ -1,0 +1,232 @@
+//! Pages.
+ghost use Rattle.std.specs.Prelude.{◌≡◌, ◌<◌, ◌≤◌, ◌++◌, ◌∷◌, [], codes, length, take, map, IfOk, OnOk, OnErr};
+ghost use Rattle.std.specs.Fmt.{decimal};
+ghost use Rattle.text_pieces.specs.Pieces.{hex, spaced};
+ghost use Rattle.text_lines.specs.Lines.{line_octets, word_octets};
+ghost use Rattle.text_lines.specs.Written.{written, GoesOn, IsCut, Moves, Puts, Writes};
+
+use crate::line::Line;
+use crate::whole::write_text;
+use crate::word::Word;
+use itoa::Buffer;
+use net_base::{Failed, NoMemory, Sink};
+use std::alloc::Global;
+use std::marker::Model;
+use text_pieces::write_digits;
+
+/// How many octets a page holds: 64 KiB.
+const ROOM: usize = 65_536;
+
+/// The most octets that are turned into hexadecimal at once.
+const PIECE: usize = 64;
+
+/// Octets that wait until there are many of them, and are then written to a sink at once. Contracts see it as the list of these octets.
+#[derive(Drop)]
+pub struct Page {
+    octets: Vec<u8>,
+}
+
+impl Model for Page {
+    ghost use Rattle.std.specs.Prelude.{◌≤◌, ℕ, List, vec_len, vec_capacity};
+
+    ghost Value = { List ℕ };
+
+    ghost view = { λ p. p.octets.items };
+
+    ghost invariant = { λ p. (65536 ≤ vec_capacity p.octets) × (vec_len p.octets ≤ 65536) };
+}
+
+impl Page {
+    /// A page in which nothing waits. It has all the memory that it ever takes.
+    pub fn new(alloc: Global) -> Result<Page, NoMemory>
+        ensures { IfOk result (λ page. page ≡ []) }
+    {
+        Ok(Page {
+            octets: Vec::with_capacity(alloc, ROOM)?,
+        })
+    }
+
+    // Lets a front of the octets wait, as long as there is room.
+    fn fill(&mut self, octets: &[u8]) -> usize
+        ensures front { self.new ≡ self.old ++ take result octets.now }
+        ensures within { result ≤ length octets.now }
+        ensures some { 0 < length octets.now → length self.old < 65536 → 0 < result }
+    {
+        let count = octets.len().min(ROOM - self.octets.len());
+        let (front, _) = octets.split_at(count);
+        self.octets.extend_from_slice(front).unwrap();
+        count
+    }
+
+    /// Writes what waits to the sink. After `Failed` a front of it was taken that lacks its end.
+    #[tactic(auto, using(crate::proofs::WrittenLemmas::cut_waiting))]
+    pub fn flush<K: Sink>(&mut self, sink: &mut K) -> Result<(), Failed>
+        ensures whole { OnOk result (Writes (K.taken sink.old) (K.taken sink.new) self.old) }
+        ensures none { OnOk result (self.new ≡ []) }
+        ensures cut { OnErr result (IsCut (written (K.taken sink.old) (K.faults sink.old) self.old) (written (K.taken sink.new) (K.faults sink.new) self.new) []) }
+        ensures never_falls { K.faults sink.old ≤ K.faults sink.new }
+    {
+        match write_text(sink, self.octets.as_slice()) {
+            Ok(()) => {
+                self.octets.truncate(0);
+                Ok(())
+            }
+            Err(fault) => Err(fault),
+        }
+    }
+
+    // Makes room for an octet at least.
+    #[tactic(auto, using(crate::proofs::WrittenLemmas::moves_all, crate::proofs::WrittenLemmas::moves_none))]
+    fn make_room<K: Sink>(&mut self, sink: &mut K) -> Result<(), Failed>
+        ensures moves { OnOk result (Moves (written (K.taken sink.old) (K.faults sink.old) self.old) (written (K.taken sink.new) (K.faults sink.new) self.new)) }
+        ensures room { OnOk result (length self.new < 65536) }
+        ensures cut { OnErr result (IsCut (written (K.taken sink.old) (K.faults sink.old) self.old) (written (K.taken sink.new) (K.faults sink.new) self.new) []) }
+    {
+        if self.octets.len() < ROOM {
+            return Ok(());
+        }
+        self.flush(sink)
+    }
+
+    // Puts a front of octets, one at least.
+    #[tactic(auto, using(crate::proofs::WrittenLemmas::moves_goes, crate::proofs::WrittenLemmas::cut_first))]
+    fn put_some<K: Sink>(&mut self, sink: &mut K, octets: &[u8]) -> Result<usize, Failed>
+        requires some { 0 < length octets.now }
+        ensures count { IfOk result (λ count. (0 < count) × (count ≤ length octets.now)) }
+        ensures goes { IfOk result (λ count. GoesOn (written (K.taken sink.old) (K.faults sink.old) self.old) (written (K.taken sink.new) (K.faults sink.new) self.new) (take count octets.now)) }
+        ensures cut { OnErr result (IsCut (written (K.taken sink.old) (K.faults sink.old) self.old) (written (K.taken sink.new) (K.faults sink.new) self.new) octets.now) }
+    {
+        match self.make_room(sink) {
+            Ok(()) => Ok(self.fill(octets)),
+            Err(fault) => Err(fault),
+        }
+    }
+
+    /// Puts octets: they wait, or are written with all that waits. After `Failed` a front of what waited and of them was taken.
+    pub fn put<K: Sink>(&mut self, sink: &mut K, octets: &[u8]) -> Result<(), Failed>
+        ensures { Puts result (written (K.taken sink.old) (K.faults sink.old) self.old) (written (K.taken sink.new) (K.faults sink.new) self.new) octets.now }
+    {
+        let mut at = 0;
+        'putting: while at < octets.len() {
+            let (_, rest) = octets.split_at(at);
+            at += self.put_some(sink, rest)?;
+        }
+        Ok(())
+    }
+
+    // Puts the digits of a piece.
+    fn put_piece<K: Sink>(&mut self, sink: &mut K, piece: &[u8]) -> Result<(), Failed>
+        requires { length piece.now ≤ 64 }
+        ensures { Puts result (written (K.taken sink.old) (K.faults sink.old) self.old) (written (K.taken sink.new) (K.faults sink.new) self.new) (hex piece.now) }
+    {
+        let mut room = [0u8; 2 * PIECE];
+        let (digits, _) = room.split_at_mut(2 * piece.len());
+        write_digits(piece, digits);
+        self.put(sink, digits)
+    }
+
+    // Puts two digits for each octet.
+    fn put_hex<K: Sink>(&mut self, sink: &mut K, octets: &[u8]) -> Result<(), Failed>
+        ensures { Puts result (written (K.taken sink.old) (K.faults sink.old) self.old) (written (K.taken sink.new) (K.faults sink.new) self.new) (hex octets.now) }
+    {
+        let mut at = 0;
+        'putting: while at < octets.len() {
+            let (_, rest) = octets.split_at(at);
+            let (piece, _) = rest.split_at(rest.len().min(PIECE));
+            self.put_piece(sink, piece)?;
+            at += piece.len();
+        }
+        Ok(())
+    }
+
+    // Puts a number in decimal.
+    fn put_number<K: Sink>(&mut self, sink: &mut K, number: u64) -> Result<(), Failed>
+        ensures { Puts result (written (K.taken sink.old) (K.faults sink.old) self.old) (written (K.taken sink.new) (K.faults sink.new) self.new) (decimal number) }
+    {
+        let mut buffer = Buffer::new();
+        self.put(sink, buffer.format(number).as_bytes())
+    }
+
+    // Puts a number behind a label.
+    #[tactic(auto, using(crate::proofs::WrittenLemmas::puts_two, crate::proofs::WrittenLemmas::cut_first))]
+    fn put_labelled<K: Sink>(
+        &mut self,
+        sink: &mut K,
+        label: &[u8],
+        number: u64,
+    ) -> Result<(), Failed>
+        ensures { Puts result (written (K.taken sink.old) (K.faults sink.old) self.old) (written (K.taken sink.new) (K.faults sink.new) self.new) (label.now ++ decimal number) }
+    {
+        match self.put(sink, label) {
+            Ok(()) => self.put_number(sink, number),
+            Err(fault) => Err(fault),
+        }
+    }
+
+    // Puts a number with a mark behind it.
+    #[tactic(auto, using(crate::proofs::WrittenLemmas::puts_two, crate::proofs::WrittenLemmas::cut_first))]
+    fn put_marked<K: Sink>(&mut self, sink: &mut K, number: u64, mark: &[u8]) -> Result<(), Failed>
+        ensures { Puts result (written (K.taken sink.old) (K.faults sink.old) self.old) (written (K.taken sink.new) (K.faults sink.new) self.new) (decimal number ++ mark.now) }
+    {
+        match self.put_number(sink, number) {
+            Ok(()) => self.put(sink, mark),
+            Err(fault) => Err(fault),
+        }
+    }
+
+    // Puts a word.
+    fn put_word<K: Sink>(&mut self, sink: &mut K, word: Word<'_>) -> Result<(), Failed>
+        ensures { Puts result (written (K.taken sink.old) (K.faults sink.old) self.old) (written (K.taken sink.new) (K.faults sink.new) self.new) (word_octets word.entry) }
+    {
+        match word {
+            Word::Text(text) => self.put(sink, text),
+            Word::Number(number) => self.put_number(sink, number),
+            Word::Labelled(label, number) => self.put_labelled(sink, label, number),
+            Word::Marked(number, mark) => self.put_marked(sink, number, mark),
+            Word::Hex(octets) => self.put_hex(sink, octets),
+        }
+    }
+
+    // Puts a blank and a word.
+    #[tactic(auto, using(crate::proofs::WrittenLemmas::puts_two, crate::proofs::WrittenLemmas::cut_first))]
+    fn put_behind<K: Sink>(&mut self, sink: &mut K, word: Word<'_>) -> Result<(), Failed>
+        ensures { Puts result (written (K.taken sink.old) (K.faults sink.old) self.old) (written (K.taken sink.new) (K.faults sink.new) self.new) (codes " " ++ word_octets word.entry) }
+    {
+        match self.put(sink, b" ") {
+            Ok(()) => self.put_word(sink, word),
+            Err(fault) => Err(fault),
+        }
+    }
+
+    // Puts words with a blank before each.
+    fn put_words<K: Sink>(&mut self, sink: &mut K, words: &[Word<'_>]) -> Result<(), Failed>
+        ensures { Puts result (written (K.taken sink.old) (K.faults sink.old) self.old) (written (K.taken sink.new) (K.faults sink.new) self.new) (spaced (map word_octets words.now)) }
+    {
+        for word in words {
+            self.put_behind(sink, *word)?;
+        }
+        Ok(())
+    }
+
+    // Puts what stands behind the first word of a line.
+    #[tactic(auto, using(crate::proofs::WrittenLemmas::puts_two, crate::proofs::WrittenLemmas::cut_first))]
+    fn put_rest<K: Sink>(&mut self, sink: &mut K, words: &[Word<'_>]) -> Result<(), Failed>
+        ensures { Puts result (written (K.taken sink.old) (K.faults sink.old) self.old) (written (K.taken sink.new) (K.faults sink.new) self.new) (spaced (map word_octets words.now) ++ codes "\n") }
+    {
+        match self.put_words(sink, words) {
+            Ok(()) => self.put(sink, b"\n"),
+            Err(fault) => Err(fault),
+        }
+    }
+
+    /// Puts a line.
+    #[tactic(auto, using(crate::proofs::WrittenLemmas::puts_two, crate::proofs::WrittenLemmas::cut_first))]
+    pub fn put_line<K: Sink>(&mut self, sink: &mut K, line: &Line<'_>) -> Result<(), Failed>
+        ensures { Puts result (written (K.taken sink.old) (K.faults sink.old) self.old) (written (K.taken sink.new) (K.faults sink.new) self.new) (line_octets line.now) }
+    {
+        match self.put(sink, line.first()) {
+            Ok(()) => self.put_rest(sink, line.words()),
+            Err(fault) => Err(fault),
+        }
+    }
+}
