@@ -8,7 +8,8 @@ use Rattle.report_text.specs.declared.ending.Ending.{Ending}
 use Rattle.report_text.specs.declared.ending.Ending.TheVariants.{End, Crowded, TooMuch}
 use Rattle.report_text.specs.declared.last_line.Counted.{Counted}
 use Rattle.report_text.specs.declared.last_line.Counted.TheVariants as counted
-use Rattle.report_text.specs.Words.{line_of, edge_name, circuit_name, wire_name, arrival_name, cause_name, wire_end_name, state_name, event_words}
+use Rattle.report_text.specs.Words.{edge_name, circuit_name, wire_name, arrival_name, cause_name, wire_end_name, state_name, event_words}
+use Rattle.text_lines.specs.Lines.{line_of, LineWords}
 use Rattle.text_pieces.specs.Pieces.{hex}
 
 -- the words of an entry's line
@@ -25,6 +26,11 @@ entry_words plan (Dropped edge origin cause) = codes "dropped" ∷ edge_name pla
 entry_words plan (Session edge peer state) = codes "session" ∷ edge_name plan edge ∷ edge_name plan peer ∷ state_name state ∷ []
 entry_words plan (Wire edge wire down) = codes "wire" ∷ edge_name plan edge ∷ wire_name plan wire ∷ wire_end_name down ∷ []
 entry_words plan (Pong edge wire sequence) = codes "pong" ∷ edge_name plan edge ∷ wire_name plan wire ∷ decimal sequence ∷ []
+
+-- words as those of a line: the first one, and those behind it
+abbrev pub line_words : List (List ℕ) → LineWords
+line_words [] = record { first = []; words = [] }
+line_words (word ∷ words) = record { first = word; words = words }
 
 -- the line of an entry
 abbrev pub entry_line : Plan → Entry → List ℕ
@@ -48,30 +54,37 @@ is_counted kind entry = false
 abbrev pub counted_more : Counted → Entry → ℕ → ℕ
 counted_more kind entry count = if is_counted kind entry then count + 1 else count
 
--- the line of these counts
-abbrev pub told_counts : ℕ → ℕ → ℕ → ℕ → ℕ → List ℕ
-told_counts events entered left sent dropped = line_of
-    (codes "end"
+-- the words of the line of these counts
+abbrev pub counts_words : ℕ → ℕ → ℕ → ℕ → ℕ → List (List ℕ)
+counts_words events entered left sent dropped =
+    codes "end"
     ∷ (codes "events=" ++ decimal events)
     ∷ (codes "in=" ++ decimal entered)
     ∷ (codes "left=" ++ decimal left)
     ∷ (codes "sent=" ++ decimal sent)
-    ∷ (codes "dropped=" ++ decimal dropped) ∷ [])
+    ∷ (codes "dropped=" ++ decimal dropped) ∷ []
 
 -- how many events were done, frames entered, frames left, packets were sent, and drops there were
-abbrev pub counts_line : List Entry → List ℕ
-counts_line trace = told_counts
+abbrev pub told_words : List Entry → List (List ℕ)
+told_words trace = counts_words
     (count_by (is_counted counted.Event) trace)
     (count_by (is_counted counted.Entered) trace)
     (count_by (is_counted counted.Left) trace)
     (count_by (is_counted counted.Sent) trace)
     (count_by (is_counted counted.Dropped) trace)
 
+abbrev pub counts_line : List Entry → List ℕ
+counts_line trace = line_of (told_words trace)
+
 -- the counts of a run that came to its end, or the bound at which it stopped
+abbrev pub last_words : List Entry → Ending → List (List ℕ)
+last_words trace End = told_words trace
+last_words trace (Crowded count) = codes "stop" ∷ codes "Crowded" ∷ decimal count ∷ []
+last_words trace (TooMuch weight) = codes "stop" ∷ codes "TooMuch" ∷ decimal weight ∷ []
+
+-- the last line
 abbrev pub last_line : List Entry → Ending → List ℕ
-last_line trace End = counts_line trace
-last_line trace (Crowded count) = line_of (codes "stop" ∷ codes "Crowded" ∷ decimal count ∷ [])
-last_line trace (TooMuch weight) = line_of (codes "stop" ∷ codes "TooMuch" ∷ decimal weight ∷ [])
+last_line trace ending = line_of (last_words trace ending)
 
 -- the whole report
 unfoldable pub report : Plan → List Entry → Ending → List ℕ

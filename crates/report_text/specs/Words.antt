@@ -19,16 +19,6 @@ use Rattle.net_base.specs.declared.trace.state_name.StateName.{StateName}
 use Rattle.net_base.specs.declared.trace.state_name.StateName.TheVariants as state
 use Rattle.text_pieces.specs.Pieces.{hex}
 
--- words behind the first one: a blank before each, and a line feed after the last
-abbrev pub line_end : List (List ℕ) → List ℕ
-line_end [] = codes "\n"
-line_end (word ∷ words) = (codes " " ++ word) ++ line_end words
-
--- the line of these words
-abbrev pub line_of : List (List ℕ) → List ℕ
-line_of [] = codes "\n"
-line_of (word ∷ words) = word ++ line_end words
-
 -- a name, or the empty text where there is none
 abbrev pub name_or_empty : Option (List ℕ) → List ℕ
 name_or_empty None = []

@@ -1,194 +1,166 @@
 //! The line of an entry.
-ghost use Rattle.std.specs.Prelude.{◌≡◌, ◌++◌, ◌∷◌, [], codes, OnOk};
+ghost use Rattle.std.specs.Prelude.{◌≡◌, ◌∷◌, [], codes};
 ghost use Rattle.std.specs.Fmt.{decimal};
-ghost use Rattle.report_text.specs.Words.{line_of, line_end, edge_name, circuit_name, wire_name, cause_name, state_name, wire_end_name};
+ghost use Rattle.report_text.specs.Report.{entry_line, entry_words, line_words};
+ghost use Rattle.report_text.specs.Words.{cause_name, circuit_name, edge_name, state_name, wire_end_name, wire_name};
+ghost use Rattle.text_lines.specs.Lines.{line_octets};
 ghost use Rattle.text_pieces.specs.Pieces.{hex};
-ghost use Rattle.report_text.specs.Report.{entry_line};
 
-use crate::event::put_event;
-use crate::lines::{
-    begin_with_circuit, begin_with_edge, begin_with_edges, end_with_octets, end_with_word,
-    put_end_line, put_end_number_line, put_numbers_line,
+use crate::event::words_of_event;
+use crate::names::{
+    arrival_word, cause_text, circuit_word, edge_word, state_text, wire_end_text, wire_word,
 };
-use crate::names::{cause_text, put_arrival, put_edge, put_wire, state_text, wire_end_text};
-use crate::origin::Origin;
-use crate::wire_end::WireEnd;
-use net_base::{CircuitId, Down, DropCause, EdgeId, Entry, NoMemory, Plan, StateName};
-use text_pieces::{put_number_word, put_text};
+use net_base::{CircuitId, Down, DropCause, EdgeId, Entry, Plan, StateName, WireId};
+use text_lines::{Line, Word};
 
-// Adds the line of octets that an edge put towards a peer.
-fn put_said(
-    text: &mut Vec<u8>,
-    plan: &Plan,
-    from: EdgeId,
-    to: EdgeId,
-    octets: &[u8],
-) -> Result<(), NoMemory>
-    ensures { OnOk result (text.new.items ≡ text.old.items ++ line_of (codes "said" ∷ edge_name plan.now from ∷ edge_name plan.now to ∷ hex octets.now ∷ [])) }
+// Octets that an edge put towards a peer.
+fn said<'a>(plan: &'a Plan, from: EdgeId, to: EdgeId, octets: &'a [u8]) -> Line<'a>
+    ensures { result ≡ line_words (codes "said" ∷ edge_name plan.now from ∷ edge_name plan.now to ∷ hex octets.now ∷ []) }
 {
-    begin_with_edges(text, plan, b"said", from, to)?;
-    end_with_octets(text, octets)
+    Line::of(b"said")
+        .and(edge_word(plan, from))
+        .and(edge_word(plan, to))
+        .and(Word::Hex(octets))
 }
 
-// Adds the line of a frame that entered.
-fn put_in(
-    text: &mut Vec<u8>,
-    plan: &Plan,
-    circuit: CircuitId,
-    number: u64,
-    octets: &[u8],
-) -> Result<(), NoMemory>
-    ensures { OnOk result (text.new.items ≡ text.old.items ++ line_of (codes "in" ∷ circuit_name plan.now circuit ∷ decimal number ∷ hex octets.now ∷ [])) }
+// A frame that entered.
+fn entered<'a>(plan: &'a Plan, at: CircuitId, number: u64, octets: &'a [u8]) -> Line<'a>
+    ensures { result ≡ line_words (codes "in" ∷ circuit_name plan.now at ∷ decimal number ∷ hex octets.now ∷ []) }
 {
-    begin_with_circuit(text, plan, b"in", circuit)?;
-    put_number_word(text, number)?;
-    end_with_octets(text, octets)
+    Line::of(b"in")
+        .and(circuit_word(plan, at))
+        .and(Word::Number(number))
+        .and(Word::Hex(octets))
 }
 
-// Adds the front of the line of a packet that was sent: its number, the edge that sent it, and the end of the wire to which it
-// goes.
-fn put_packet(
-    text: &mut Vec<u8>,
-    plan: &Plan,
-    packet: u64,
-    from: EdgeId,
-    to: WireEnd,
-) -> Result<(), NoMemory>
-    ensures { OnOk result (text.new.items ≡ text.old.items ++ ((((codes "sent" ++ (codes " " ++ decimal packet)) ++ (codes " " ++ edge_name plan.now from)) ++ (codes " " ++ edge_name plan.now to.edge)) ++ (codes " " ++ wire_name plan.now to.wire))) }
+// A frame that left.
+fn left<'a>(plan: &'a Plan, at: CircuitId, origin: u64, hops: u64, octets: &'a [u8]) -> Line<'a>
+    ensures { result ≡ line_words (codes "left" ∷ circuit_name plan.now at ∷ decimal origin ∷ decimal hops ∷ hex octets.now ∷ []) }
 {
-    put_text(text, b"sent")?;
-    put_number_word(text, packet)?;
-    put_edge(text, plan, from)?;
-    put_edge(text, plan, to.edge)?;
-    put_wire(text, plan, to.wire)
+    Line::of(b"left")
+        .and(circuit_word(plan, at))
+        .and(Word::Number(origin))
+        .and(Word::Number(hops))
+        .and(Word::Hex(octets))
 }
 
-// Ends a line with the origin of a frame, its hops and its octets.
-fn put_origin(text: &mut Vec<u8>, origin: Origin, octets: &[u8]) -> Result<(), NoMemory>
-    ensures { OnOk result (text.new.items ≡ text.old.items ++ line_end (decimal origin.number ∷ decimal origin.hops ∷ hex octets.now ∷ [])) }
+// A packet that came a second time.
+fn copied<'a>(packet: u64, of: u64) -> Line<'a>
+    ensures { result ≡ line_words (codes "copied" ∷ decimal packet ∷ decimal of ∷ []) }
 {
-    put_number_word(text, origin.number)?;
-    put_number_word(text, origin.hops)?;
-    end_with_octets(text, octets)
+    Line::of(b"copied")
+        .and(Word::Number(packet))
+        .and(Word::Number(of))
 }
 
-// Adds the line of a frame that left.
-fn put_left(
-    text: &mut Vec<u8>,
-    plan: &Plan,
-    circuit: CircuitId,
-    origin: Origin,
-    octets: &[u8],
-) -> Result<(), NoMemory>
-    ensures { OnOk result (text.new.items ≡ text.old.items ++ line_of (codes "left" ∷ circuit_name plan.now circuit ∷ decimal origin.number ∷ decimal origin.hops ∷ hex octets.now ∷ [])) }
+// A drop.
+fn dropped(plan: &Plan, at: EdgeId, origin: u64, cause: DropCause) -> Line<'_>
+    ensures { result ≡ line_words (codes "dropped" ∷ edge_name plan.now at ∷ decimal origin ∷ cause_name cause ∷ []) }
 {
-    begin_with_circuit(text, plan, b"left", circuit)?;
-    put_origin(text, origin, octets)
+    Line::of(b"dropped")
+        .and(edge_word(plan, at))
+        .and(Word::Number(origin))
+        .and(Word::Text(cause_text(cause).as_bytes()))
 }
 
-// Adds the line of a drop.
-fn put_dropped(
-    text: &mut Vec<u8>,
-    plan: &Plan,
-    edge: EdgeId,
-    origin: u64,
-    cause: DropCause,
-) -> Result<(), NoMemory>
-    ensures { OnOk result (text.new.items ≡ text.old.items ++ line_of (codes "dropped" ∷ edge_name plan.now edge ∷ decimal origin ∷ cause_name cause ∷ [])) }
+// A session that moved to a state.
+fn session(plan: &Plan, at: EdgeId, peer: EdgeId, state: StateName) -> Line<'_>
+    ensures { result ≡ line_words (codes "session" ∷ edge_name plan.now at ∷ edge_name plan.now peer ∷ state_name state ∷ []) }
 {
-    begin_with_edge(text, plan, b"dropped", edge)?;
-    put_number_word(text, origin)?;
-    end_with_word(text, cause_text(cause).as_bytes())
+    Line::of(b"session")
+        .and(edge_word(plan, at))
+        .and(edge_word(plan, peer))
+        .and(Word::Text(state_text(state).as_bytes()))
 }
 
-// Adds the line of a session that moved to a state.
-fn put_session(
-    text: &mut Vec<u8>,
-    plan: &Plan,
-    edge: EdgeId,
-    peer: EdgeId,
-    state: StateName,
-) -> Result<(), NoMemory>
-    ensures { OnOk result (text.new.items ≡ text.old.items ++ line_of (codes "session" ∷ edge_name plan.now edge ∷ edge_name plan.now peer ∷ state_name state ∷ [])) }
+// An end of a wire that has come up, or is down for a cause.
+fn wire_end(plan: &Plan, at: EdgeId, of: WireId, down: Option<Down>) -> Line<'_>
+    ensures { result ≡ line_words (codes "wire" ∷ edge_name plan.now at ∷ wire_name plan.now of ∷ wire_end_name down ∷ []) }
 {
-    begin_with_edges(text, plan, b"session", edge, peer)?;
-    end_with_word(text, state_text(state).as_bytes())
+    Line::of(b"wire")
+        .and(edge_word(plan, at))
+        .and(wire_word(plan, of))
+        .and(Word::Text(wire_end_text(down).as_bytes()))
 }
 
-// Adds the line of an end that has come up, or is down for a cause.
-fn put_down(
-    text: &mut Vec<u8>,
-    plan: &Plan,
-    end: WireEnd,
-    down: Option<Down>,
-) -> Result<(), NoMemory>
-    ensures { OnOk result (text.new.items ≡ text.old.items ++ line_of (codes "wire" ∷ edge_name plan.now end.edge ∷ wire_name plan.now end.wire ∷ wire_end_name down ∷ [])) }
+// An answer to a ping.
+fn pong(plan: &Plan, at: EdgeId, of: WireId, sequence: u16) -> Line<'_>
+    ensures { result ≡ line_words (codes "pong" ∷ edge_name plan.now at ∷ wire_name plan.now of ∷ decimal sequence ∷ []) }
 {
-    put_end_line(text, plan, b"wire", end, wire_end_text(down).as_bytes())
+    Line::of(b"pong")
+        .and(edge_word(plan, at))
+        .and(wire_word(plan, of))
+        .and(Word::Number(u64::from(sequence)))
 }
 
-// Adds the line of an answer to a ping.
-fn put_pong(text: &mut Vec<u8>, plan: &Plan, end: WireEnd, sequence: u16) -> Result<(), NoMemory>
-    ensures { OnOk result (text.new.items ≡ text.old.items ++ line_of (codes "pong" ∷ edge_name plan.now end.edge ∷ wire_name plan.now end.wire ∷ decimal sequence ∷ [])) }
+// The front of the line of a packet that was sent: its number, the edge that sent it, and the end of the wire to which it goes.
+fn sent(plan: &Plan, packet: u64, from: EdgeId, to: EdgeId, over: WireId) -> Line<'_>
+    ensures { result ≡ line_words (codes "sent" ∷ decimal packet ∷ edge_name plan.now from ∷ edge_name plan.now to ∷ wire_name plan.now over ∷ []) }
 {
-    put_end_number_line(text, plan, b"pong", end, u64::from(sequence))
+    Line::of(b"sent")
+        .and(Word::Number(packet))
+        .and(edge_word(plan, from))
+        .and(edge_word(plan, to))
+        .and(wire_word(plan, over))
 }
 
-/// Adds the line of an entry.
-pub fn put_entry(text: &mut Vec<u8>, plan: &Plan, entry: &Entry) -> Result<(), NoMemory>
-    ensures { OnOk result (text.new.items ≡ text.old.items ++ entry_line plan.now entry.now) }
+// The words of an entry's line.
+fn words_of_entry<'a>(plan: &'a Plan, entry: &'a Entry) -> Line<'a>
+    ensures { result ≡ line_words (entry_words plan.now entry.now) }
 {
     match *entry {
-        Entry::Did { ref event } => put_event(text, plan, event),
-        Entry::Idle => put_text(text, b"idle\n"),
+        Entry::Did { ref event } => words_of_event(plan, event),
+        Entry::Idle => Line::of(b"idle"),
         Entry::Said {
             from,
             to,
             ref bytes,
-        } => put_said(text, plan, from, to, bytes.as_slice()),
+        } => said(plan, from, to, bytes.as_slice()),
         Entry::In {
             circuit,
             number,
             ref bytes,
-        } => put_in(text, plan, circuit, number, bytes.as_slice()),
+        } => entered(plan, circuit, number, bytes.as_slice()),
         Entry::Sent {
             packet,
             from,
             to,
-            wire,
-            arrival,
-            origin: number,
+            wire: over,
+            arrival: by,
+            origin,
             hops,
             ref bytes,
-        } => {
-            put_packet(text, plan, packet, from, WireEnd { edge: to, wire })?;
-            put_arrival(text, plan, arrival)?;
-            put_origin(text, Origin { number, hops }, bytes.as_slice())
-        }
-        Entry::Copied { packet, of } => put_numbers_line(text, b"copied", packet, of),
+        } => sent(plan, packet, from, to, over)
+            .and(arrival_word(plan, by))
+            .and(Word::Number(origin))
+            .and(Word::Number(hops))
+            .and(Word::Hex(bytes.as_slice())),
+        Entry::Copied { packet, of } => copied(packet, of),
         Entry::Left {
             circuit,
-            origin: number,
+            origin,
             hops,
             ref bytes,
-        } => put_left(
-            text,
-            plan,
-            circuit,
-            Origin { number, hops },
-            bytes.as_slice(),
-        ),
+        } => left(plan, circuit, origin, hops, bytes.as_slice()),
         Entry::Dropped {
             edge,
             origin,
             cause,
-        } => put_dropped(text, plan, edge, origin, cause),
-        Entry::Session { edge, peer, state } => put_session(text, plan, edge, peer, state),
-        Entry::Wire { edge, wire, down } => put_down(text, plan, WireEnd { edge, wire }, down),
+        } => dropped(plan, edge, origin, cause),
+        Entry::Session { edge, peer, state } => session(plan, edge, peer, state),
+        Entry::Wire { edge, wire, down } => wire_end(plan, edge, wire, down),
         Entry::Pong {
             edge,
             wire,
             sequence,
-        } => put_pong(text, plan, WireEnd { edge, wire }, sequence),
+        } => pong(plan, edge, wire, sequence),
     }
+}
+
+/// The line of an entry, in the words of the plan. A place outside the plan is written as the empty text.
+#[tactic(auto, using(crate::proofs::LineLemmas::line_told))]
+pub fn line_of_entry<'a>(plan: &'a Plan, entry: &'a Entry) -> Line<'a>
+    ensures { line_octets result ≡ entry_line plan.now entry.now }
+{
+    words_of_entry(plan, entry)
 }

@@ -1,107 +1,96 @@
 //! The line of an event that was done.
-ghost use Rattle.std.specs.Prelude.{◌≡◌, ◌++◌, ◌∷◌, [], codes, OnOk};
+ghost use Rattle.std.specs.Prelude.{◌≡◌, ◌∷◌, [], codes};
 ghost use Rattle.std.specs.Fmt.{decimal};
-ghost use Rattle.report_text.specs.Words.{line_of, edge_name, circuit_name, wire_name, switch_name, event_words};
+ghost use Rattle.report_text.specs.Report.{line_words};
+ghost use Rattle.report_text.specs.Words.{circuit_name, edge_name, event_words, switch_name, wire_name};
+ghost use Rattle.text_lines.specs.Lines.{word_octets};
 ghost use Rattle.text_pieces.specs.Pieces.{hex};
 
-use crate::lines::{
-    begin_with_circuit, begin_with_edges, begin_with_end, end_with_number, end_with_octets,
-    end_with_word, put_edge_line, put_edges_line, put_end_line, put_end_number_line,
-    put_number_line,
-};
-use crate::names::switch_text;
-use crate::wire_end::WireEnd;
-use net_base::{CircuitId, EdgeId, Event, NoMemory, Plan};
-use text_pieces::put_text;
+use crate::names::{circuit_word, edge_word, switch_text, wire_word};
+use net_base::{CircuitId, EdgeId, Event, Plan, WireId};
+use text_lines::{Line, Word};
 
-// Adds the line of a delivery.
-fn put_deliver(
-    text: &mut Vec<u8>,
-    plan: &Plan,
-    from: EdgeId,
-    to: EdgeId,
-    count: u16,
-) -> Result<(), NoMemory>
-    ensures { OnOk result (text.new.items ≡ text.old.items ++ line_of (codes ">" ∷ codes "deliver" ∷ edge_name plan.now from ∷ edge_name plan.now to ∷ decimal count ∷ [])) }
+// An event's name behind a pointed bracket.
+fn named(name: &[u8]) -> Line<'_>
+    ensures { result ≡ line_words (codes ">" ∷ name.now ∷ []) }
 {
-    begin_with_edges(text, plan, b"> deliver", from, to)?;
-    end_with_number(text, u64::from(count))
+    Line::of(b">").and(Word::Text(name))
 }
 
-// Adds the line of a frame that a customer sends.
-fn put_frame(
-    text: &mut Vec<u8>,
-    plan: &Plan,
-    circuit: CircuitId,
-    octets: &[u8],
-) -> Result<(), NoMemory>
-    ensures { OnOk result (text.new.items ≡ text.old.items ++ line_of (codes ">" ∷ codes "frame" ∷ circuit_name plan.now circuit ∷ hex octets.now ∷ [])) }
+// Two edges behind an event's name.
+fn edges<'a>(plan: &'a Plan, name: &'a [u8], from: EdgeId, to: EdgeId) -> Line<'a>
+    ensures { result ≡ line_words (codes ">" ∷ name.now ∷ edge_name plan.now from ∷ edge_name plan.now to ∷ []) }
 {
-    begin_with_circuit(text, plan, b"> frame", circuit)?;
-    end_with_octets(text, octets)
+    named(name)
+        .and(edge_word(plan, from))
+        .and(edge_word(plan, to))
 }
 
-// Adds the line of a circuit put on or off.
-fn put_circuit_switch(
-    text: &mut Vec<u8>,
-    plan: &Plan,
-    circuit: CircuitId,
-    on: bool,
-) -> Result<(), NoMemory>
-    ensures { OnOk result (text.new.items ≡ text.old.items ++ line_of (codes ">" ∷ codes "circuit" ∷ circuit_name plan.now circuit ∷ switch_name on ∷ [])) }
+// A packet behind an event's name.
+fn packet<'a>(name: &'a [u8], number: u64) -> Line<'a>
+    ensures { result ≡ line_words (codes ">" ∷ name.now ∷ decimal number ∷ []) }
 {
-    begin_with_circuit(text, plan, b"> circuit", circuit)?;
-    end_with_word(text, switch_text(on).as_bytes())
+    named(name).and(Word::Number(number))
 }
 
-// Adds the line of a ping.
-fn put_ping(text: &mut Vec<u8>, plan: &Plan, end: WireEnd) -> Result<(), NoMemory>
-    ensures { OnOk result (text.new.items ≡ text.old.items ++ line_of (codes ">" ∷ codes "ping" ∷ edge_name plan.now end.edge ∷ wire_name plan.now end.wire ∷ [])) }
+// An end of a wire and a word behind an event's name.
+fn end<'a>(plan: &'a Plan, name: &'a [u8], at: EdgeId, of: WireId, word: Word<'a>) -> Line<'a>
+    ensures { result ≡ line_words (codes ">" ∷ name.now ∷ edge_name plan.now at ∷ wire_name plan.now of ∷ word_octets word.entry ∷ []) }
 {
-    begin_with_end(text, plan, b"> ping", end)?;
-    put_text(text, b"\n")
+    named(name)
+        .and(edge_word(plan, at))
+        .and(wire_word(plan, of))
+        .and(word)
 }
 
-/// Adds the line of an event that was done: its words behind a pointed bracket and a blank.
-pub fn put_event(text: &mut Vec<u8>, plan: &Plan, event: &Event) -> Result<(), NoMemory>
-    ensures { OnOk result (text.new.items ≡ text.old.items ++ line_of (codes ">" ∷ event_words plan.now event.now)) }
+// A circuit and a word behind an event's name.
+fn site<'a>(plan: &'a Plan, name: &'a [u8], at: CircuitId, word: Word<'a>) -> Line<'a>
+    ensures { result ≡ line_words (codes ">" ∷ name.now ∷ circuit_name plan.now at ∷ word_octets word.entry ∷ []) }
+{
+    named(name).and(circuit_word(plan, at)).and(word)
+}
+
+// `on` or `off`.
+fn switch<'a>(on: bool) -> Word<'a>
+    ensures { word_octets result ≡ switch_name on }
+{
+    Word::Text(switch_text(on).as_bytes())
+}
+
+/// The words of the line of an event that was done: those of the event behind a pointed bracket.
+pub fn words_of_event<'a>(plan: &'a Plan, event: &'a Event) -> Line<'a>
+    ensures { result ≡ line_words (codes ">" ∷ event_words plan.now event.now) }
 {
     match *event {
-        Event::Connect { from, to } => put_edges_line(text, plan, b"> connect", from, to),
-        Event::Deliver { from, to, count } => put_deliver(text, plan, from, to, count),
-        Event::Lose { edge, peer } => put_edges_line(text, plan, b"> lose", edge, peer),
-        Event::Restart { edge } => put_edge_line(text, plan, b"> restart", edge),
-        Event::Tick => put_text(text, b"> tick\n"),
-        Event::Frame { circuit, ref bytes } => put_frame(text, plan, circuit, bytes.as_slice()),
-        Event::Arrive { packet } => put_number_line(text, b"> arrive", packet),
-        Event::Discard { packet } => put_number_line(text, b"> drop", packet),
-        Event::Again { packet } => put_number_line(text, b"> again", packet),
-        Event::Wire { edge, wire, on } => put_end_line(
-            text,
-            plan,
-            b"> wire",
-            WireEnd { edge, wire },
-            switch_text(on).as_bytes(),
-        ),
-        Event::Circuit { circuit, on } => put_circuit_switch(text, plan, circuit, on),
-        Event::Status { edge, wire, bits } => put_end_number_line(
-            text,
-            plan,
-            b"> status",
-            WireEnd { edge, wire },
-            u64::from(bits),
-        ),
+        Event::Connect { from, to } => edges(plan, b"connect", from, to),
+        Event::Deliver { from, to, count } => {
+            edges(plan, b"deliver", from, to).and(Word::Number(u64::from(count)))
+        }
+        Event::Lose { edge, peer } => edges(plan, b"lose", edge, peer),
+        Event::Restart { edge: at } => named(b"restart").and(edge_word(plan, at)),
+        Event::Tick => named(b"tick"),
+        Event::Frame { circuit, ref bytes } => {
+            site(plan, b"frame", circuit, Word::Hex(bytes.as_slice()))
+        }
+        Event::Arrive { packet: number } => packet(b"arrive", number),
+        Event::Discard { packet: number } => packet(b"drop", number),
+        Event::Again { packet: number } => packet(b"again", number),
+        Event::Wire { edge, wire, on } => end(plan, b"wire", edge, wire, switch(on)),
+        Event::Circuit { circuit, on } => site(plan, b"circuit", circuit, switch(on)),
+        Event::Status { edge, wire, bits } => {
+            let bits = Word::Number(u64::from(bits));
+            end(plan, b"status", edge, wire, bits)
+        }
         Event::Priority {
             edge,
             wire,
             priority,
-        } => put_end_number_line(
-            text,
-            plan,
-            b"> priority",
-            WireEnd { edge, wire },
-            u64::from(priority),
-        ),
-        Event::Ping { edge, wire } => put_ping(text, plan, WireEnd { edge, wire }),
+        } => {
+            let priority = Word::Number(u64::from(priority));
+            end(plan, b"priority", edge, wire, priority)
+        }
+        Event::Ping { edge: at, wire: of } => named(b"ping")
+            .and(edge_word(plan, at))
+            .and(wire_word(plan, of)),
     }
 }

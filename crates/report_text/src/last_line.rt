@@ -1,12 +1,12 @@
 //! The last line of a report.
-ghost use Rattle.std.specs.Prelude.{◌≡◌, ◌<◌, ◌^◌, ◌++◌, count_by, OnOk};
+ghost use Rattle.std.specs.Prelude.{◌≡◌, ◌<◌, ◌^◌, ◌∷◌, [], codes, count_by};
 ghost use Rattle.std.specs.Fmt.{decimal};
-ghost use Rattle.report_text.specs.Report.{is_counted, counted_more, last_line, told_counts};
+ghost use Rattle.report_text.specs.Report.{is_counted, counted_more, counts_words, last_line, last_words, line_words};
+ghost use Rattle.text_lines.specs.Lines.{line_octets};
 
 use crate::ending::Ending;
-use crate::lines::put_number_line;
-use net_base::{Entry, NoMemory};
-use text_pieces::{put_number, put_text};
+use net_base::Entry;
+use text_lines::{Line, Word};
 
 /// The kinds of entries that the last line counts. Contracts name a count by its kind.
 #[derive(Clone, Copy, Debug, PartialEq, Eq)]
@@ -80,33 +80,42 @@ fn counts_of(trace: &[Entry]) -> Counts
     counts
 }
 
-// Adds a count under its label.
-fn put_count(text: &mut Vec<u8>, label: &[u8], count: u64) -> Result<(), NoMemory>
-    ensures { OnOk result (text.new.items ≡ text.old.items ++ (label.now ++ decimal count)) }
+// The line that tells these counts.
+fn told<'a>(counts: Counts) -> Line<'a>
+    ensures { result ≡ line_words (counts_words counts.events counts.entered counts.left counts.sent counts.dropped) }
 {
-    put_text(text, label)?;
-    put_number(text, count)
+    Line::of(b"end")
+        .and(Word::Labelled(b"events=", counts.events))
+        .and(Word::Labelled(b"in=", counts.entered))
+        .and(Word::Labelled(b"left=", counts.left))
+        .and(Word::Labelled(b"sent=", counts.sent))
+        .and(Word::Labelled(b"dropped=", counts.dropped))
 }
 
-// Adds the line that tells these counts.
-fn put_told(text: &mut Vec<u8>, counts: Counts) -> Result<(), NoMemory>
-    ensures { OnOk result (text.new.items ≡ text.old.items ++ told_counts counts.events counts.entered counts.left counts.sent counts.dropped) }
+// The line of a bound at which a run stopped.
+fn stopped<'a>(bound: &'a [u8], number: u64) -> Line<'a>
+    ensures { result ≡ line_words (codes "stop" ∷ bound.now ∷ decimal number ∷ []) }
 {
-    put_count(text, b"end events=", counts.events)?;
-    put_count(text, b" in=", counts.entered)?;
-    put_count(text, b" left=", counts.left)?;
-    put_count(text, b" sent=", counts.sent)?;
-    put_count(text, b" dropped=", counts.dropped)?;
-    put_text(text, b"\n")
+    Line::of(b"stop")
+        .and(Word::Text(bound))
+        .and(Word::Number(number))
 }
 
-/// Adds the last line of a report: the counts of a run that came to its end, or the bound at which it stopped.
-pub fn put_last_line(text: &mut Vec<u8>, trace: &[Entry], ending: Ending) -> Result<(), NoMemory>
-    ensures { OnOk result (text.new.items ≡ text.old.items ++ last_line trace.now ending) }
+// The words of the last line.
+fn last_words_of<'a>(trace: &[Entry], ending: Ending) -> Line<'a>
+    ensures { result ≡ line_words (last_words trace.now ending) }
 {
     match ending {
-        Ending::End => put_told(text, counts_of(trace)),
-        Ending::Crowded { count } => put_number_line(text, b"stop Crowded", u64::from(count)),
-        Ending::TooMuch { weight } => put_number_line(text, b"stop TooMuch", weight),
+        Ending::End => told(counts_of(trace)),
+        Ending::Crowded { count } => stopped(b"Crowded", u64::from(count)),
+        Ending::TooMuch { weight } => stopped(b"TooMuch", weight),
     }
+}
+
+/// The last line of a report: the counts of a run that came to its end, or the bound at which it stopped.
+#[tactic(auto, using(crate::proofs::LineLemmas::line_told))]
+pub fn last_line_of<'a>(trace: &[Entry], ending: Ending) -> Line<'a>
+    ensures { line_octets result ≡ last_line trace.now ending }
+{
+    last_words_of(trace, ending)
 }

@@ -8,12 +8,11 @@ mod ending;
 mod entry;
 mod event;
 mod last_line;
-mod lines;
 mod names;
-mod origin;
 mod report;
-mod wire_end;
 
 pub use ending::Ending;
-pub use last_line::Counted;
-pub use report::report_of;
+pub use entry::line_of_entry;
+pub use last_line::{Counted, last_line_of};
+pub use names::{circuit_word, edge_word, state_text, wire_end_text, wire_word};
+pub use report::{put_last_line, put_report};

@@ -1,11 +1,10 @@
 //! The names that a report tells.
-ghost use Rattle.std.specs.Prelude.{◌≡◌, ◌++◌, codes, OnOk};
+ghost use Rattle.std.specs.Prelude.{◌≡◌, ◌++◌, codes};
+ghost use Rattle.text_lines.specs.Lines.{word_octets};
 ghost use Rattle.report_text.specs.Words.{edge_name, circuit_name, wire_name, arrival_name, switch_name, cause_name, down_name, wire_end_name, reason_name, state_name};
 
-use net_base::{
-    Arrival, CircuitId, Down, DropCause, EdgeId, NoMemory, Plan, Reason, StateName, WireId,
-};
-use text_pieces::put_word;
+use net_base::{Arrival, CircuitId, Down, DropCause, EdgeId, Plan, Reason, StateName, WireId};
+use text_lines::Word;
 
 // The name of an edge; empty outside the plan.
 fn edge_octets(plan: &Plan, edge: EdgeId) -> &[u8]
@@ -37,35 +36,35 @@ fn wire_octets(plan: &Plan, wire: WireId) -> &[u8]
     }
 }
 
-/// Adds a blank and the name of an edge; outside the plan it is empty.
-pub fn put_edge(text: &mut Vec<u8>, plan: &Plan, edge: EdgeId) -> Result<(), NoMemory>
-    ensures { OnOk result (text.new.items ≡ text.old.items ++ (codes " " ++ edge_name plan.now edge)) }
+/// The name of an edge; empty outside the plan.
+pub fn edge_word(plan: &Plan, edge: EdgeId) -> Word<'_>
+    ensures { word_octets result ≡ edge_name plan.now edge }
 {
-    put_word(text, edge_octets(plan, edge))
+    Word::Text(edge_octets(plan, edge))
 }
 
-/// Adds a blank and the name of a circuit; outside the plan it is empty.
-pub fn put_circuit(text: &mut Vec<u8>, plan: &Plan, circuit: CircuitId) -> Result<(), NoMemory>
-    ensures { OnOk result (text.new.items ≡ text.old.items ++ (codes " " ++ circuit_name plan.now circuit)) }
+/// The name of a circuit; empty outside the plan.
+pub fn circuit_word(plan: &Plan, circuit: CircuitId) -> Word<'_>
+    ensures { word_octets result ≡ circuit_name plan.now circuit }
 {
-    put_word(text, circuit_octets(plan, circuit))
+    Word::Text(circuit_octets(plan, circuit))
 }
 
-/// Adds a blank and the name of a wire; outside the plan it is empty.
-pub fn put_wire(text: &mut Vec<u8>, plan: &Plan, wire: WireId) -> Result<(), NoMemory>
-    ensures { OnOk result (text.new.items ≡ text.old.items ++ (codes " " ++ wire_name plan.now wire)) }
+/// The name of a wire; empty outside the plan.
+pub fn wire_word(plan: &Plan, wire: WireId) -> Word<'_>
+    ensures { word_octets result ≡ wire_name plan.now wire }
 {
-    put_word(text, wire_octets(plan, wire))
+    Word::Text(wire_octets(plan, wire))
 }
 
-/// Adds a blank and by what a frame came: a circuit, a wire, or a dash for none.
-pub fn put_arrival(text: &mut Vec<u8>, plan: &Plan, arrival: Arrival) -> Result<(), NoMemory>
-    ensures { OnOk result (text.new.items ≡ text.old.items ++ (codes " " ++ arrival_name plan.now arrival)) }
+/// By what a frame came: a circuit, a wire, or a dash for none.
+pub fn arrival_word(plan: &Plan, arrival: Arrival) -> Word<'_>
+    ensures { word_octets result ≡ arrival_name plan.now arrival }
 {
     match arrival {
-        Arrival::Circuit(circuit) => put_circuit(text, plan, circuit),
-        Arrival::Wire(wire) => put_wire(text, plan, wire),
-        Arrival::Own => put_word(text, b"-"),
+        Arrival::Circuit(place) => circuit_word(plan, place),
+        Arrival::Wire(place) => wire_word(plan, place),
+        Arrival::Own => Word::Text(b"-"),
     }
 }
 

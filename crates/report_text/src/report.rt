@@ -1,37 +1,82 @@
 //! The report of a run.
-ghost use Rattle.std.specs.Prelude.{◌≡◌, ◌++◌, IfOk, OnOk};
-ghost use Rattle.report_text.specs.Report.{entry_lines, report};
+ghost use Rattle.std.specs.Prelude.{◌++◌, codes};
+ghost use Rattle.report_text.specs.Report.{entry_line, entry_lines, last_line, report};
+ghost use Rattle.text_lines.specs.Written.{written, Puts};
 
 use crate::ending::Ending;
-use crate::entry::put_entry;
-use crate::last_line::put_last_line;
-use net_base::{Entry, NoMemory, Plan};
-use std::alloc::Global;
-use text_pieces::put_text;
+use crate::entry::line_of_entry;
+use crate::last_line::last_line_of;
+use net_base::{Entry, Failed, Plan, Sink};
+use text_lines::Page;
 
-// Adds a line for each entry.
-fn put_entries(text: &mut Vec<u8>, plan: &Plan, trace: &[Entry]) -> Result<(), NoMemory>
-    ensures { OnOk result (text.new.items ≡ text.old.items ++ entry_lines plan.now trace.now) }
+// Puts the line of an entry.
+fn put_entry<K: Sink>(
+    page: &mut Page,
+    sink: &mut K,
+    plan: &Plan,
+    entry: &Entry,
+) -> Result<(), Failed>
+    ensures { Puts result (written (K.taken sink.old) (K.faults sink.old) page.old) (written (K.taken sink.new) (K.faults sink.new) page.new) (entry_line plan.now entry.now) }
+{
+    page.put_line(sink, &line_of_entry(plan, entry))
+}
+
+// Puts a line for each entry.
+fn put_entries<K: Sink>(
+    page: &mut Page,
+    sink: &mut K,
+    plan: &Plan,
+    trace: &[Entry],
+) -> Result<(), Failed>
+    ensures { Puts result (written (K.taken sink.old) (K.faults sink.old) page.old) (written (K.taken sink.new) (K.faults sink.new) page.new) (entry_lines plan.now trace.now) }
 {
     for entry in trace {
-        put_entry(text, plan, entry)?;
+        put_entry(page, sink, plan, entry)?;
     }
     Ok(())
 }
 
-/// The report of a run as octets: a line that names the format, a line for each entry, and a line that tells
-/// how the run ended. A place outside the plan is written as the empty text. The one error is want of memory.
-#[tactic(auto, unfolding(crate::specs::Report::report))]
-pub fn report_of(
-    alloc: Global,
+/// Puts the last line of a report.
+pub fn put_last_line<K: Sink>(
+    page: &mut Page,
+    sink: &mut K,
+    trace: &[Entry],
+    ending: Ending,
+) -> Result<(), Failed>
+    ensures { Puts result (written (K.taken sink.old) (K.faults sink.old) page.old) (written (K.taken sink.new) (K.faults sink.new) page.new) (last_line trace.now ending) }
+{
+    page.put_line(sink, &last_line_of(trace, ending))
+}
+
+// Puts the first line and a line for each entry.
+fn put_body<K: Sink>(
+    page: &mut Page,
+    sink: &mut K,
+    plan: &Plan,
+    trace: &[Entry],
+) -> Result<(), Failed>
+    ensures { Puts result (written (K.taken sink.old) (K.faults sink.old) page.old) (written (K.taken sink.new) (K.faults sink.new) page.new) (codes "vplsnet 1\n" ++ entry_lines plan.now trace.now) }
+{
+    match page.put(sink, b"vplsnet 1\n") {
+        Ok(()) => put_entries(page, sink, plan, trace),
+        Err(fault) => Err(fault),
+    }
+}
+
+/// Puts the report of a run: a line that names the format, a line for each entry, and a line that tells how the run ended. A place
+/// outside the plan is written as the empty text. It takes no memory. After `Failed` a front of what waited and of the report was
+/// taken, and the sink counted a fault.
+pub fn put_report<K: Sink>(
+    page: &mut Page,
+    sink: &mut K,
     plan: &Plan,
     trace: &[Entry],
     ending: Ending,
-) -> Result<Vec<u8>, NoMemory>
-    ensures { IfOk result (λ text. text.items ≡ report plan.now trace.now ending) }
+) -> Result<(), Failed>
+    ensures { Puts result (written (K.taken sink.old) (K.faults sink.old) page.old) (written (K.taken sink.new) (K.faults sink.new) page.new) (report plan.now trace.now ending) }
 {
-    let mut text = Vec::from_slice(alloc, b"vplsnet 1\n")?;
-    put_entries(&mut text, plan, trace)?;
-    put_last_line(&mut text, trace, ending)?;
-    Ok(text)
+    match put_body(page, sink, plan, trace) {
+        Ok(()) => put_last_line(page, sink, trace, ending),
+        Err(fault) => Err(fault),
+    }
 }

@@ -1,25 +1,16 @@
--- The line of one more entry is told, and at the end those of all.
-use Rattle.std.proofs.Common.{◌+◌, ◌++◌, ◌∷◌, ◌∙◌, ℕ, List, append_assoc, ap, drop, refl, sym}
-use Rattle.std.proofs.lemmas.List.{append-nil, at_drop_more, drop_all}
-use Rattle.net_base.specs.declared.trace.entry.Entry.{Entry}
-use Rattle.report_text.specs.Report.{entry_line, entry_lines}
+-- The line of one more entry is put.
+use Rattle.std.proofs.lemmas.Result.{err_from_is_err_and}
+use Rattle.report_text.proofs.LineLemmas.{lines_from}
+use Rattle.text_lines.proofs.WrittenLemmas.{putting_cut, putting_more}
 use Rattle.report_text.proofs.report.put_entries.Goals as goal
 
+pub returns-in_err-put_entry : goal.returns-in_err-put_entry
+returns-in_err-put_entry g c =
+    let p = err_from_is_err_and c.from_residual.result c.from_residual.ensures.1 in
+    let split = lines_from c.args.plan.now c.args.trace.now c.loop-entry.entry-index c.entry-item.result c.loop-entry-test.true c.entry-item.is in
+    rw p.1 (putting_cut _ _ _ _ _ _ _ split c.loop-entry.invariant c.in_err-put_entry.ensures)
+
 pub loop-entry-preserved : goal.loop-entry-preserved
-loop-entry-preserved c =
-    let plan = c.args.plan.now in
-    let before = c.loop-entry.text.items in
-    let entry = c.entry-item.result in
-    let behind = drop (c.loop-entry.entry-index + 1) c.args.trace.now in
-    let next = at_drop_more (entry_lines plan) c.args.trace.now c.loop-entry.entry-index entry c.loop-entry-test.true ∙ ap (λ (first : Entry). entry_lines plan (first ∷ behind)) (sym c.entry-item.is) in
-    (ap (λ (text : List ℕ). text ++ entry_lines plan behind) c.in_ok-put_entry.ensures ∙ append_assoc before (entry_line plan entry) (entry_lines plan behind))
-    ∙ (ap (λ (back : List ℕ). before ++ back) (sym next) ∙ c.loop-entry.invariant)
-
-pub loop-entry-init : goal.loop-entry-init
-loop-entry-init c = refl
-
-pub returns : goal.returns
-returns c =
-    let text = c.loop-entry.text.items in
-    let none = ap (entry_lines c.args.plan.now) (drop_all c.loop-entry.entry-index c.args.trace.now c.loop-entry-test.false) in
-    (sym (append-nil text) ∙ ap (λ (back : List ℕ). text ++ back) (sym none)) ∙ c.loop-entry.invariant
+loop-entry-preserved g c =
+    let split = lines_from c.args.plan.now c.args.trace.now c.loop-entry.entry-index c.entry-item.result c.loop-entry-test.true c.entry-item.is in
+    putting_more _ _ _ _ _ _ _ split c.loop-entry.invariant c.in_ok-put_entry.ensures
