@@ -1,0 +1,4 @@
+pub mod Commands
+pub mod Draws
+pub mod Rows
+pub mod Scenario

@@ -1,0 +1,152 @@
+//! The wires of a rehearsal.
+ghost use Rattle.std.specs.Prelude.{◌≡◌, ◌<◌, ◌≤◌, ◌+◌, ◌-◌, ◌*◌, ◌++◌, ◌∷◌, [], IfOk, OnOk};
+ghost use Rattle.rehearsal.specs.Rows.{offer, wire_row, mesh_wire, mesh_beside, mesh_among, first_spoke, second_spoke, spokes_from, wires};
+
+use crate::link::Link;
+use crate::numbered::numbered;
+use net_base::{Class, EdgeId, List, Name, NoMemory, Offer, ServiceId, Text, WirePlan};
+use std::alloc::Global;
+
+// What every wire offers at both ends.
+fn offer() -> Offer
+    ensures { result ≡ offer }
+{
+    Offer {
+        tagged: false,
+        cword: true,
+        mtu: Some(1500),
+        vlan: None,
+        vccv: None,
+        status: true,
+        group: 0,
+        description: Text::read(&[]).unwrap(),
+    }
+}
+
+// The path from one edge to another one, by their numbers.
+fn path(alloc: Global, from: u16, to: u16) -> Result<List<EdgeId>, NoMemory>
+    requires from { 1 ≤ from }
+    requires to { 1 ≤ to }
+    ensures { IfOk result (λ path. path ≡ record { 0 = from - 1 } ∷ record { 0 = to - 1 } ∷ []) }
+{
+    let mut path = List::new(alloc);
+    path.push(EdgeId(from - 1))?;
+    path.push(EdgeId(to - 1))?;
+    Ok(path)
+}
+
+fn wire(alloc: Global, name: Name, link: Link) -> Result<WirePlan, NoMemory>
+    requires from { 1 ≤ link.from }
+    requires to { 1 ≤ link.to }
+    ensures { IfOk result (λ row. row ≡ wire_row name link) }
+{
+    let path = path(alloc, link.from, link.to)?;
+    Ok(WirePlan {
+        name,
+        service: ServiceId(0),
+        class: link.class,
+        path,
+        pw_id: link.pw_id,
+        near: offer(),
+        far: offer(),
+        priority: link.priority,
+    })
+}
+
+// The mesh wire of this number.
+fn mesh(alloc: Global, from: u16, to: u16, number: u16) -> Result<WirePlan, NoMemory>
+    requires from { 1 ≤ from }
+    requires to { 1 ≤ to }
+    ensures { IfOk result (λ row. row ≡ mesh_wire from to number) }
+{
+    let name = numbered(alloc, "m", number)?;
+    let link = Link {
+        class: Class::Mesh,
+        from,
+        to,
+        pw_id: 100 + number as u32,
+        priority: 100,
+    };
+    wire(alloc, name, link)
+}
+
+// Adds the mesh wires from a core edge to those behind it, of which the first has this number.
+fn add_mesh(
+    alloc: Global,
+    wires: &mut List<WirePlan>,
+    from: u16,
+    number: u16,
+) -> Result<(), NoMemory>
+    requires from { (1 ≤ from) × (from ≤ 8) }
+    requires few { number ≤ 64 }
+    ensures { OnOk result (wires.new ≡ wires.old ++ mesh_beside (8 - from) from (from + 1) number) }
+{
+    for to in from + 1..9 {
+        wires.push(mesh(alloc, from, to, number + (to - from - 1))?)?;
+    }
+    Ok(())
+}
+
+// The full mesh of the core edges.
+fn mesh_wires(alloc: Global) -> Result<List<WirePlan>, NoMemory>
+    ensures { IfOk result (λ rows. rows ≡ mesh_among 8 1 1) }
+{
+    let mut rows = List::new(alloc);
+    let mut number = 1;
+    for from in 1..9u16 {
+        add_mesh(alloc, &mut rows, from, number)?;
+        number += 8 - from;
+    }
+    Ok(rows)
+}
+
+fn spoke_to_first(alloc: Global, place: u16) -> Result<WirePlan, NoMemory>
+    requires { place < 8 }
+    ensures { IfOk result (λ row. row ≡ first_spoke place) }
+{
+    let name = numbered(alloc, "p", place + 9)?;
+    let link = Link {
+        class: Class::Spoke,
+        from: place + 9,
+        to: place + 1,
+        pw_id: 201 + 2 * place as u32,
+        priority: 10,
+    };
+    wire(alloc, name, link)
+}
+
+fn spoke_to_second(alloc: Global, place: u16) -> Result<WirePlan, NoMemory>
+    requires { place < 8 }
+    ensures { IfOk result (λ row. row ≡ second_spoke place) }
+{
+    let name = numbered(alloc, "q", place + 9)?;
+    let link = Link {
+        class: Class::Spoke,
+        from: place + 9,
+        to: (place + 1) % 8 + 1,
+        pw_id: 202 + 2 * place as u32,
+        priority: 20,
+    };
+    wire(alloc, name, link)
+}
+
+// Adds the two spokes of a spoke edge.
+fn add_spokes(alloc: Global, wires: &mut List<WirePlan>, place: u16) -> Result<(), NoMemory>
+    requires { place < 8 }
+    ensures { OnOk result (wires.new ≡ (wires.old ++ first_spoke place ∷ []) ++ second_spoke place ∷ []) }
+{
+    wires.push(spoke_to_first(alloc, place)?)?;
+    wires.push(spoke_to_second(alloc, place)?)
+}
+
+/// The full mesh of the core edges, and behind it the spokes, edge by edge.
+#[tactic(auto, unfolding(crate::specs::Rows::wires))]
+pub fn wires(alloc: Global) -> Result<List<WirePlan>, NoMemory>
+    ensures { IfOk result (λ rows. rows ≡ wires) }
+{
+    let mut rows = mesh_wires(alloc)?;
+    for place in 0..8u16 {
+        add_spokes(alloc, &mut rows, place)?;
+    }
+    Ok(rows)
+}
