@@ -287,6 +287,14 @@ impl Edge {
         self.forwarding.ticks()
     }
 
+    /// Where the edge has ends of pseudowires, by slots: in the plan's order of the wires, and in that of the segments of each.
+    pub fn places(&self) -> &[EndPlace]
+        ensures places { result.now ≡ end_places self.now.plan self.now.me }
+        ensures slots { result.now ≡ self.now.ends.places }
+    {
+        self.ends.places()
+    }
+
     /// The plan.
     pub fn plan(&self) -> &Plan
         ensures { result.now ≡ self.now.plan }

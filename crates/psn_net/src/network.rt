@@ -1,5 +1,5 @@
 //! The network of a run.
-ghost use Rattle.std.specs.Prelude.{◌≡◌, ◌<◌, ◌++◌, ◌^◌, ◌-◌, ◌↔◌, [], min, true, false, length, None, IfErr, IfOk, IfSome, IsSome, OnOk};
+ghost use Rattle.std.specs.Prelude.{◌≡◌, ◌<◌, ◌≤◌, ◌++◌, ◌^◌, ◌-◌, ◌↔◌, [], min, true, false, length, None, IfErr, IfOk, IfSome, IsSome, OnOk};
 ghost use Rattle.net_base.specs.plan.Accepted.{IsChecked};
 ghost use Rattle.net_base.specs.plan.Planned.{IsEventOf};
 ghost use Rattle.provider_edge.specs.Lists.{seen as seen_edge};
@@ -139,6 +139,15 @@ impl Network {
             return self.parts.first_deliverable();
         }
         self.index.first()
+    }
+
+    /// How many edges the plan has, at most 64, since it is checked.
+    pub fn count(&self) -> usize
+        ensures count { result ≡ length self.now.plan.edges }
+        ensures few { result ≤ 64 }
+        ensures checked { IsChecked self.now.plan }
+    {
+        self.parts.count()
     }
 
     /// The plan.

@@ -14,6 +14,7 @@ impl Parts {
     pub fn count(&self) -> usize
         ensures count { result ≡ length self.now.plan.edges }
         ensures few { result ≤ 64 }
+        ensures checked { IsChecked self.now.plan }
     {
         self.plan.edges.len()
     }

@@ -286,8 +286,8 @@ impl Edge {
         self.ends.place(slot)
     }
 
-    // The end of a slot. Where it advertises, its PW type has 15 bits, and what it holds can be told on.
-    pub(crate) fn end_in(&self, slot: usize) -> &PwEnd
+    /// The end of a slot: of the place of this number in `places`. Where it advertises, its PW type has 15 bits, and what it holds can be told on.
+    pub fn end_in(&self, slot: usize) -> &PwEnd
         requires { slot < length self.now.ends.places }
         ensures end { end_of result.now ≡ end_in self.now.ends slot }
         ensures kind { HasKind (end_in self.now.ends slot).local }
@@ -330,9 +330,9 @@ impl Edge {
         }
     }
 
-    // Why an end does not forward.
+    /// Why the end of a slot does not forward; `None` exactly where it forwards (RFC 8077 sections 6 and 6.3).
     #[tactic(auto, unfolding(crate::specs::Lists::seen))]
-    pub(crate) fn down_of(&self, slot: usize) -> Option<Down>
+    pub fn down_of(&self, slot: usize) -> Option<Down>
         requires { slot < length self.now.ends.places }
         ensures { result ≡ down_at self.now.plan (seen self.now) (place_of self.now.ends slot) }
     {
