@@ -1,0 +1,16 @@
+-- The lines of the addresses stand behind those of the ends.
+use Rattle.edge_model.specs.EndPlaces.{end_places}
+use Rattle.provider_edge.specs.Lists.{seen}
+use Rattle.tables_text.specs.Tables.{end_lines, service_lines}
+use Rattle.text_lines.proofs.WrittenLemmas.{cut_first, puts_two}
+use Rattle.tables_text.proofs.edge_text.put_ends_on.Goals as goal
+
+pub returns-in-Ok : goal.returns-in-Ok
+returns-in-Ok g c =
+    let edge = c.args.edge.now in
+    puts_two c.put_addresses.result _ _ _ (end_lines edge.plan (seen edge) (end_places edge.plan edge.me)) (service_lines edge.plan edge.me (seen edge) 0 edge.plan.services) c.in-Ok.ensures c.put_addresses.ensures
+
+pub returns-in-Err : goal.returns-in-Err
+returns-in-Err g c =
+    let edge = c.args.edge.now in
+    cut_first _ _ (end_lines edge.plan (seen edge) (end_places edge.plan edge.me)) (service_lines edge.plan edge.me (seen edge) 0 edge.plan.services) c.in-Err.ensures

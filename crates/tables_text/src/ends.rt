@@ -1,0 +1,142 @@
+//! The lines of the ends of an edge.
+ghost use Rattle.std.specs.Prelude.{◌≡◌, ◌<◌, ◌∷◌, [], codes, length, option_copied};
+ghost use Rattle.std.specs.Fmt.{decimal};
+ghost use Rattle.edge_model.specs.EndPlaces.{end_places};
+ghost use Rattle.edge_model.specs.Role.{down_at};
+ghost use Rattle.edge_model.specs.State.{end_at};
+ghost use Rattle.provider_edge.specs.Lists.{seen};
+ghost use Rattle.pw_ends.specs.Ends.{place_of};
+ghost use Rattle.pw_signalling.specs.AnyEnd.{end_of};
+ghost use Rattle.report_text.specs.Report.{line_words};
+ghost use Rattle.report_text.specs.Words.{edge_name, wire_name};
+ghost use Rattle.tables_text.specs.Tables.{end_line, end_lines, end_text, end_words, local_text, remote_text};
+ghost use Rattle.text_lines.specs.Lines.{line_octets, word_octets};
+ghost use Rattle.text_lines.specs.Written.{written, Puts};
+
+use edge_model::EndPlace;
+use net_base::{Down, Failed, Plan, Sink};
+use provider_edge::Edge;
+use pw_signalling::{Binding, PwEnd};
+use report_text::{edge_word, wire_end_text, wire_word};
+use text_lines::{Line, Page, Word};
+
+// What an end tells its peer.
+fn local<'a>(end: &PwEnd) -> Word<'a>
+    ensures { word_octets result ≡ local_text (end_of end.now).local }
+{
+    match end {
+        PwEnd::Idle(_) => Word::Text(b"-"),
+        PwEnd::Advertised(end) => Word::Number(u64::from(end.label().number())),
+        PwEnd::Withdrawing(end) => Word::Marked(u64::from(end.label().number()), b"!"),
+    }
+}
+
+// What an end holds of its peer.
+fn remote<'a>(binding: Option<&Binding>) -> Word<'a>
+    ensures { word_octets result ≡ remote_text (option_copied binding.entry) }
+{
+    match binding {
+        Some(binding) => Word::Number(u64::from(binding.label.number())),
+        None => Word::Text(b"-"),
+    }
+}
+
+// Why the end of a slot does not forward.
+fn down(edge: &Edge, slot: usize, place: EndPlace) -> Option<Down>
+    requires slot { slot < length edge.now.ends.places }
+    requires place { place ≡ place_of edge.now.ends slot }
+    ensures { result ≡ down_at edge.now.plan (seen edge.now) place }
+{
+    edge.down_of(slot)
+}
+
+// Whether the end of a slot forwards, or is stitched.
+fn state<'a>(edge: &Edge, slot: usize, place: EndPlace) -> Word<'a>
+    requires slot { slot < length edge.now.ends.places }
+    requires place { place ≡ place_of edge.now.ends slot }
+    ensures { word_octets result ≡ end_text edge.now.plan (seen edge.now) place }
+{
+    if place.terminal {
+        Word::Text(wire_end_text(down(edge, slot, place)).as_bytes())
+    } else if edge.is_stitched(place.wire) {
+        Word::Text(b"stitched")
+    } else {
+        Word::Text(b"open")
+    }
+}
+
+// The end of a slot.
+fn end_at(edge: &Edge, slot: usize, place: EndPlace) -> &PwEnd
+    requires slot { slot < length edge.now.ends.places }
+    requires place { place ≡ place_of edge.now.ends slot }
+    ensures { end_of result.now ≡ end_at (seen edge.now) place }
+{
+    edge.end_in(slot)
+}
+
+// Where an end is: its wire and segment, and the edge beside it.
+fn front(plan: &Plan, place: EndPlace) -> Line<'_>
+    ensures { result ≡ line_words (codes "end" ∷ wire_name plan.now place.wire ∷ decimal place.segment ∷ edge_name plan.now place.peer ∷ []) }
+{
+    Line::of(b"end")
+        .and(wire_word(plan, place.wire))
+        .and(Word::Number(u64::from(place.segment)))
+        .and(edge_word(plan, place.peer))
+}
+
+// The words of the end of a slot.
+fn words(edge: &Edge, slot: usize, place: EndPlace) -> Line<'_>
+    requires slot { slot < length edge.now.ends.places }
+    requires place { place ≡ place_of edge.now.ends slot }
+    ensures { result ≡ line_words (end_words edge.now.plan (seen edge.now) place) }
+{
+    let end = end_at(edge, slot, place);
+    front(edge.plan(), place)
+        .and(local(end))
+        .and(remote(end.remote()))
+        .and(state(edge, slot, place))
+}
+
+// The line of the end of a slot.
+#[tactic(auto, using(report_text::proofs::LineLemmas::line_told))]
+fn line(edge: &Edge, slot: usize, place: EndPlace) -> Line<'_>
+    requires slot { slot < length edge.now.ends.places }
+    requires place { place ≡ place_of edge.now.ends slot }
+    ensures { line_octets result ≡ end_line edge.now.plan (seen edge.now) place }
+{
+    words(edge, slot, place)
+}
+
+// The place of a slot.
+fn place_in(edge: &Edge, slot: usize) -> EndPlace
+    requires { slot < length edge.now.ends.places }
+    ensures { result ≡ place_of edge.now.ends slot }
+{
+    edge.places()[slot]
+}
+
+// Puts the line of the end of a slot.
+fn put_end<K: Sink>(page: &mut Page, sink: &mut K, edge: &Edge, slot: usize) -> Result<(), Failed>
+    requires { slot < length edge.now.ends.places }
+    ensures { Puts result (written (K.taken sink.old) (K.faults sink.old) page.old) (written (K.taken sink.new) (K.faults sink.new) page.new) (end_line edge.now.plan (seen edge.now) (place_of edge.now.ends slot)) }
+{
+    page.put_line(sink, &line(edge, slot, place_in(edge, slot)))
+}
+
+// How many ends the edge has.
+fn end_count(edge: &Edge) -> usize
+    ensures count { result ≡ length edge.now.ends.places }
+    ensures places { edge.now.ends.places ≡ end_places edge.now.plan edge.now.me }
+{
+    edge.places().len()
+}
+
+/// Puts the lines of the ends of an edge, in the plan's order of the wires, and in that of the segments of each.
+pub fn put_ends<K: Sink>(page: &mut Page, sink: &mut K, edge: &Edge) -> Result<(), Failed>
+    ensures { Puts result (written (K.taken sink.old) (K.faults sink.old) page.old) (written (K.taken sink.new) (K.faults sink.new) page.new) (end_lines edge.now.plan (seen edge.now) (end_places edge.now.plan edge.now.me)) }
+{
+    for slot in 0..end_count(edge) {
+        put_end(page, sink, edge, slot)?;
+    }
+    Ok(())
+}

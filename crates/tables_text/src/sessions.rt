@@ -1,0 +1,67 @@
+//! The lines of the sessions of an edge.
+ghost use Rattle.std.specs.Prelude.{◌≡◌, [], length, if◌then◌else◌};
+ghost use Rattle.net_base.specs.plan.Accepted.{IsWithinLimits};
+ghost use Rattle.net_base.specs.plan.Paths.{are_joined};
+ghost use Rattle.provider_edge.specs.Lists.{seen};
+ghost use Rattle.report_text.specs.Report.{line_words};
+ghost use Rattle.tables_text.specs.Tables.{session_line, session_lines, session_words};
+ghost use Rattle.text_lines.specs.Lines.{line_octets};
+ghost use Rattle.text_lines.specs.Written.{written, Puts};
+
+use net_base::{EdgeId, Failed, Sink};
+use provider_edge::Edge;
+use report_text::{edge_word, state_text};
+use text_lines::{Line, Page, Word};
+
+// The words of the session of an edge with a peer.
+fn words(edge: &Edge, peer: EdgeId) -> Line<'_>
+    ensures { result ≡ line_words (session_words edge.now.plan (seen edge.now) peer) }
+{
+    Line::of(b"session")
+        .and(edge_word(edge.plan(), peer))
+        .and(Word::Text(state_text(edge.session(peer)).as_bytes()))
+}
+
+// The session of an edge with a peer.
+#[tactic(auto, using(report_text::proofs::LineLemmas::line_told))]
+fn line(edge: &Edge, peer: EdgeId) -> Line<'_>
+    ensures { line_octets result ≡ session_line edge.now.plan (seen edge.now) peer }
+{
+    words(edge, peer)
+}
+
+// Puts the line of the session with a peer, where a segment joins the two edges.
+#[tactic(auto, using(text_lines::proofs::WrittenLemmas::goes_none))]
+fn put_session<K: Sink>(
+    page: &mut Page,
+    sink: &mut K,
+    edge: &Edge,
+    peer: EdgeId,
+) -> Result<(), Failed>
+    ensures { Puts result (written (K.taken sink.old) (K.faults sink.old) page.old) (written (K.taken sink.new) (K.faults sink.new) page.new)
+        (if are_joined edge.now.plan edge.now.me.0 peer.0 then session_line edge.now.plan (seen edge.now) peer else []) }
+{
+    if edge.plan().joined(edge.me(), peer) {
+        page.put_line(sink, &line(edge, peer))
+    } else {
+        Ok(())
+    }
+}
+
+// How many edges the plan has.
+fn edge_count(edge: &Edge) -> usize
+    ensures { result ≡ length edge.now.plan.edges }
+{
+    edge.plan().edges.len()
+}
+
+/// Puts the lines of the sessions of an edge with its neighbours, in the plan's order.
+pub fn put_sessions<K: Sink>(page: &mut Page, sink: &mut K, edge: &Edge) -> Result<(), Failed>
+    requires { IsWithinLimits edge.now.plan }
+    ensures { Puts result (written (K.taken sink.old) (K.faults sink.old) page.old) (written (K.taken sink.new) (K.faults sink.new) page.new) (session_lines edge.now.plan edge.now.me (seen edge.now) 0 edge.now.plan.edges) }
+{
+    for place in 0..edge_count(edge) {
+        put_session(page, sink, edge, EdgeId(place as u16))?;
+    }
+    Ok(())
+}
