@@ -6,7 +6,7 @@
 
 mod command;
 mod commands;
-mod decimal;
+pub mod decimal;
 mod event_place;
 mod events;
 mod hex;

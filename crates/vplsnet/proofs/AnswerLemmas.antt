@@ -1,91 +1,212 @@
--- What a call answers by what its stages say, and that in a sound surrounding the answer is what the octets call for.
-use Rattle.std.proofs.Common.{true, false, ◌≡◌, ◌<◌, ◌≤◌, ◌∙◌, ℕ, Bool, List, [], ◌∷◌, Option, Some, None, IfSome, length, inl, inr, refl, ap, sym, subst, arith}
+-- What a call answers by what its stages say, and that in a sound surrounding the answer is what the files call for.
+use Rattle.std.proofs.Common.{true, false, ◌≡◌, ◌⊎◌, ◌<◌, ◌≤◌, ◌++◌, ◌∙◌, ℕ, Bool, List, [], ◌∷◌, Option, Some, None, Result, Ok, Err, IfSome, length, inl, inr, refl, ap, sym, subst, arith, append_assoc}
+use Rattle.std.proofs.lemmas.List.{append-nil}
+use Rattle.command_text.specs.declared.scenario_fault.ScenarioFault.{ScenarioFault}
+use Rattle.pcap_file.specs.declared.capture_fault.CaptureFault.{CaptureFault}
+use Rattle.pcap_file.specs.FirstFault.{IsFirstFault}
+use Rattle.pcap_file.specs.Records.{IsCapture}
+use Rattle.pcap_file.proofs.ReadingLemmas.{one_reading}
+use Rattle.psn_net.specs.declared.net_stop.NetStop.{NetStop}
 use Rattle.psn_net.specs.Lists.{NetLists}
 use Rattle.psn_net.specs.Runs.{Ended}
 use Rattle.ldp_stream.specs.Parsed.{Ending, Pending, Refused}
 use Rattle.ldp_stream.proofs.ParsedLemmas.{one_parsing}
+use Rattle.scenario_text.specs.declared.scenario.Scenario.{Scenario}
 use Rattle.scenario_text.specs.Document.{document}
+use Rattle.text_lines.specs.Written.{Written, written, Writes}
 use Rattle.vplsnet.specs.declared.outcome.Outcome.{Outcome}
-use Rattle.vplsnet.specs.declared.outcome.Outcome.TheVariants.{Done, Usage, ReadFault, WriteFault, TooLong, ScenarioRefused, NotBuilt, Stopped, DecodeRefused, Unfinished, NoMemory}
-use Rattle.vplsnet.specs.Answers.{file_of, limit_of, Makes, IsEndOf, IsMade, IsCutShort, SaysOutcome, CallsFor, IsTakenWhole, IsSoundOutcome, Completes, IsUnread}
+use Rattle.vplsnet.specs.declared.outcome.Outcome.TheVariants.{Done, Usage, ReadFault, WriteFault, TooLong, ScenarioRefused, NoCircuit, CaptureRefused, Stopped, DecodeRefused, Unfinished, NoMemory}
+use Rattle.vplsnet.specs.Answers.{CallsFor, CallsTooLong, Completes, IsCutShort, IsEndOf, IsMade, IsRefused, IsSound, IsSoundOutcome, IsTooLong, IsWhole, Makes, MakesRun, SaysOutcome, TellsRun, run_text}
 use Rattle.vplsnet.specs.Around.{Files, Around, HasWriteFault, IsUntouched, Has, TellsFile}
-use Rattle.vplsnet.specs.Asked.{Asked, Replay, Decode}
+use Rattle.vplsnet.specs.Asked.{Asked, Replay, Tables, Capture, Decode, Rehearse}
+use Rattle.vplsnet.specs.Capture.{lacks_circuit}
 use Rattle.vplsnet.specs.Decode.{IsDecoding, IsDecodedAs}
-use Rattle.vplsnet.specs.Files.{IsLonger, Writes}
-use Rattle.vplsnet.specs.Replay.{Replays, built_outcome, outcome_by, replay_outcome}
+use Rattle.vplsnet.specs.Files.{IsLonger, IsNotHad}
+use Rattle.vplsnet.specs.Inputs.{AreReadNext, ComesTo, IsNext, IsNextOf, IsNextPlayed, IsNextRead, IsReadNext, Next, Reads, Refuses, Run, Stream, Wanted, Work, Works, played, stream_limit}
+use Rattle.vplsnet.specs.ScenarioRun.{IsScenarioRun, outcome_by, whole_run}
 use Rattle.vplsnet.specs.StreamText.{largest_pdu, outcome_of_ending}
+use Rattle.vplsnet.specs.Writing.{EndsRun, EndsStream, EndsText, GivesUp, RunsScenario, TellsRunOf, TellsStream, WritesFront, WritesNone, WritesWhole}
 
--- why a file was not had is an answer
-pub unread_answers : (around : Around) (asked : Asked) (network : Option NetLists) (outcome : Outcome)
-    → IsUnread around.files around.shelf_before around.shelf_after (file_of asked) (limit_of asked) outcome → IsUntouched around network → SaysOutcome around asked network outcome
-unread_answers around asked network Done unread untouched = absurd unread
-unread_answers around asked network Usage unread untouched = absurd unread
-unread_answers around asked network ReadFault unread untouched = (unread, untouched)
-unread_answers around asked network WriteFault unread untouched = absurd unread
-unread_answers around asked network (TooLong named limit) unread untouched = (record { same = unread.0; is_limit = unread.1; longer = unread.2 }, untouched)
-unread_answers around asked network (ScenarioRefused fault) unread untouched = absurd unread
-unread_answers around asked network NotBuilt unread untouched = absurd unread
-unread_answers around asked network (Stopped stop) unread untouched = absurd unread
-unread_answers around asked network (DecodeRefused fault) unread untouched = absurd unread
-unread_answers around asked network (Unfinished at) unread untouched = absurd unread
-unread_answers around asked network NoMemory unread untouched = untouched
+-- ---- what the stages say is an answer
 
--- an outcome that a command makes of octets
+-- where memory was refused and nothing was taken
+says_want : (around : Around) (asked : Asked) (network : Option NetLists) → IsUntouched around network → SaysOutcome around asked network NoMemory
+says_want around (Replay file) network untouched = untouched
+says_want around (Tables file) network untouched = untouched
+says_want around (Capture file circuit) network untouched = untouched
+says_want around (Rehearse seed) network untouched = untouched
+says_want around (Decode file) network untouched = inl untouched
+
+-- what is refused before any run
+pub refused_answers : (around : Around) (asked : Asked) (network : Option NetLists) (outcome : Outcome) → IsRefused around.files around.shelf_before around.shelf_after asked outcome → IsUntouched around network
+    → SaysOutcome around asked network outcome
+refused_answers around asked network ReadFault refused untouched = (refused, untouched)
+refused_answers around asked network (TooLong named limit) refused untouched = (refused, untouched)
+refused_answers around asked network (ScenarioRefused fault) refused untouched = (refused, untouched)
+refused_answers around asked network (NoCircuit circuit) refused untouched = (refused, untouched)
+refused_answers around asked network (CaptureRefused file fault) refused untouched = (refused, untouched)
+refused_answers around asked network NoMemory refused untouched = says_want around asked network untouched
+refused_answers around asked network Done refused untouched = absurd refused
+refused_answers around asked network Usage refused untouched = absurd refused
+refused_answers around asked network WriteFault refused untouched = absurd refused
+refused_answers around asked network (Stopped stop) refused untouched = absurd refused
+refused_answers around asked network (DecodeRefused fault) refused untouched = absurd refused
+refused_answers around asked network (Unfinished at) refused untouched = absurd refused
+
+-- an outcome that a command makes of its work
 abbrev is_own : Outcome → Bool
 is_own Usage = false
 is_own ReadFault = false
 is_own WriteFault = false
 is_own (TooLong named limit) = false
+is_own (ScenarioRefused fault) = false
+is_own (NoCircuit circuit) = false
+is_own (CaptureRefused file fault) = false
 is_own NoMemory = false
 is_own outcome = true
 
--- an outcome before any run
-abbrev is_refusal : Outcome → Bool
-is_refusal (TooLong named limit) = true
-is_refusal (ScenarioRefused fault) = true
-is_refusal NotBuilt = true
-is_refusal outcome = false
+run_own : (reason : Option NetStop) → is_own (outcome_by reason) ≡ true
+run_own None = refl
+run_own (Some reason) = refl
 
 stream_own : (ending : Ending) → is_own (outcome_of_ending ending) ≡ true
 stream_own (Pending at []) = refl
 stream_own (Pending at (octet ∷ rest)) = refl
 stream_own (Refused base fault) = refl
 
-stream_refuses_none : (ending : Ending) → is_refusal (outcome_of_ending ending) ≡ false
-stream_refuses_none (Pending at []) = refl
-stream_refuses_none (Pending at (octet ∷ rest)) = refl
-stream_refuses_none (Refused base fault) = refl
-
-replay_own : (octets text : List ℕ) (network : Option NetLists) (outcome : Outcome) → Replays octets text network outcome → is_own outcome ≡ true
-replay_own octets text network Done makes = refl
-replay_own octets text network Usage makes = absurd makes
-replay_own octets text network ReadFault makes = absurd makes
-replay_own octets text network WriteFault makes = absurd makes
-replay_own octets text network (TooLong named limit) makes = absurd makes
-replay_own octets text network (ScenarioRefused fault) makes = refl
-replay_own octets text network NotBuilt makes = refl
-replay_own octets text network (Stopped stop) makes = refl
-replay_own octets text network (DecodeRefused fault) makes = absurd makes
-replay_own octets text network (Unfinished at) makes = absurd makes
-replay_own octets text network NoMemory makes = absurd makes
-
-makes_own : (asked : Asked) (octets text : List ℕ) (network : Option NetLists) (outcome : Outcome) → Makes asked octets text network outcome → is_own outcome ≡ true
-makes_own (Replay file) octets text network outcome makes = replay_own octets text network outcome makes
-makes_own (Decode file) octets text network outcome makes = ap is_own makes.ends ∙ stream_own makes.ending
-
 -- what was made and taken whole is an answer
-pub whole_answers : (around : Around) (asked : Asked) (text : List ℕ) (network : Option NetLists) (outcome : Outcome) → IsMade around asked text network outcome → Writes around.taken_before around.taken_after text → SaysOutcome around asked network outcome
-whole_answers around asked text network Done made taken = record { text = text; made = made; taken = taken }
-whole_answers around asked text network Usage made taken = absurd (cc (makes_own asked made.octets text network Usage made.makes))
-whole_answers around asked text network ReadFault made taken = absurd (cc (makes_own asked made.octets text network ReadFault made.makes))
-whole_answers around asked text network WriteFault made taken = absurd (cc (makes_own asked made.octets text network WriteFault made.makes))
-whole_answers around asked text network (TooLong named limit) made taken = absurd (cc (makes_own asked made.octets text network (TooLong named limit) made.makes))
-whole_answers around asked text network (ScenarioRefused fault) made taken = record { text = text; made = made; taken = taken }
-whole_answers around asked text network NotBuilt made taken = record { text = text; made = made; taken = taken }
-whole_answers around asked text network (Stopped stop) made taken = record { text = text; made = made; taken = taken }
-whole_answers around asked text network (DecodeRefused fault) made taken = record { text = text; made = made; taken = taken }
-whole_answers around asked text network (Unfinished at) made taken = record { text = text; made = made; taken = taken }
-whole_answers around asked text network NoMemory made taken = absurd (cc (makes_own asked made.octets text network NoMemory made.makes))
+whole_answers : (around : Around) (asked : Asked) (network : Option NetLists) (outcome : Outcome) → is_own outcome ≡ true → IsWhole around asked network outcome → SaysOutcome around asked network outcome
+whole_answers around asked network Done own whole = whole
+whole_answers around asked network (Stopped stop) own whole = whole
+whole_answers around asked network (DecodeRefused fault) own whole = whole
+whole_answers around asked network (Unfinished at) own whole = whole
+whole_answers around asked network Usage own whole = absurd (cc own)
+whole_answers around asked network ReadFault own whole = absurd (cc own)
+whole_answers around asked network WriteFault own whole = absurd (cc own)
+whole_answers around asked network (TooLong named limit) own whole = absurd (cc own)
+whole_answers around asked network (ScenarioRefused fault) own whole = absurd (cc own)
+whole_answers around asked network (NoCircuit circuit) own whole = absurd (cc own)
+whole_answers around asked network (CaptureRefused file fault) own whole = absurd (cc own)
+whole_answers around asked network NoMemory own whole = absurd (cc own)
+
+-- what the sink took by a call, and how its count of faults stands
+abbrev old_of : Around → Written
+old_of around = written around.taken_before around.sink_before []
+
+abbrev now_of : Around → Written
+now_of around = written around.taken_after around.sink_after []
+
+none_answers : (around : Around) (asked : Asked) (network : Option NetLists) (outcome : Outcome) → WritesNone (old_of around) (now_of around) network outcome → SaysOutcome around asked network outcome
+none_answers around asked network outcome none =
+    subst (λ (o : Outcome). SaysOutcome around asked network o) (sym none.outcome_is) (says_want around asked network (record { taken = none.taken; no_run = none.no_run }))
+
+-- how the writing of a text ended that the command makes
+text_answers : (around : Around) (asked : Asked) (text : List ℕ) (left : Option NetLists) (made : Outcome) (network : Option NetLists) (outcome : Outcome) → is_own made ≡ true → IsMade around asked text left made
+    → EndsText text left made (old_of around) (now_of around) network outcome → SaysOutcome around asked network outcome
+text_answers around asked text left made network outcome own is (inl whole) =
+    subst (λ (o : Outcome). SaysOutcome around asked network o) (sym whole.outcome_is)
+    (subst (λ (n : Option NetLists). SaysOutcome around asked n made) (sym whole.network_is) (whole_answers around asked left made own (record { text = text; made = is; taken = whole.taken })))
+text_answers around asked text left made network outcome own is (inr (inl front)) =
+    subst (λ (o : Outcome). SaysOutcome around asked network o) (sym front.outcome_is)
+    (subst (λ (n : Option NetLists). IsCutShort around asked n) (sym front.network_is) (record { text = text; outcome = made; made = is; taken = front.taken; cause = front.cause }))
+text_answers around asked text left made network outcome own is (inr (inr none)) = none_answers around asked network outcome none
+
+-- a run is made of its scenario
+run_made : (asked : Asked) (scenario : Scenario) (captures : List (List (List ℕ))) (left : NetLists) (reason : Option NetStop) → IsScenarioRun scenario captures left reason
+    → MakesRun asked scenario captures (run_text asked left reason) (Some left) (outcome_by reason)
+run_made asked scenario captures left None run = record { left = left; network_is = refl; is_run = run; text_is = refl }
+run_made asked scenario captures left (Some reason) run = record { left = left; network_is = refl; is_run = run; text_is = refl }
+
+pub run_answers : (around : Around) (asked : Asked) (scenario : Scenario) (captures : List (List (List ℕ))) (network : Option NetLists) (outcome : Outcome) → ComesTo (Has around.files) asked (Works (Run scenario captures))
+    → EndsRun scenario captures asked (written around.taken_before around.sink_before []) (written around.taken_after around.sink_after []) network outcome → SaysOutcome around asked network outcome
+run_answers around asked scenario captures network outcome come (inl run) =
+    text_answers around asked (run_text asked run.left run.reason) (Some run.left) (outcome_by run.reason) network outcome (run_own run.reason)
+    (record { work = Run scenario captures; come = come; makes = run_made asked scenario captures run.left run.reason run.is_run }) run.ends
+run_answers around asked scenario captures network outcome come (inr none) = none_answers around asked network outcome none
+
+-- a stream's file was not had
+pub stream_not_had : (around : Around) (file : List ℕ) (network : Option NetLists) (outcome : Outcome) → IsNotHad around.files around.shelf_before around.shelf_after file stream_limit outcome → IsUntouched around network
+    → SaysOutcome around (Decode file) network outcome
+stream_not_had around file network outcome why untouched = refused_answers around (Decode file) network outcome (by outcome why) untouched where
+  first : ComesTo (Has around.files) (Decode file) (Reads (record { name = file; limit = stream_limit }))
+  first = record { read = []; are_read = tt; is_next = refl }
+
+  longer_of : (files : Files) (named : List ℕ) (limit : ℕ) → named ≡ file → limit ≡ stream_limit → IfSome files (λ held. IsLonger stream_limit (held file)) → IfSome files (λ held. IsLonger limit (held named))
+  longer_of None named limit is_name is_limit longer = tt
+  longer_of (Some held) named limit is_name is_limit longer =
+      subst (λ (n : List ℕ). IsLonger limit (held n)) (sym is_name) (subst (λ (l : ℕ). IsLonger l (held file)) (sym is_limit) longer)
+
+  by : (o : Outcome) → IsNotHad around.files around.shelf_before around.shelf_after file stream_limit o → IsRefused around.files around.shelf_before around.shelf_after (Decode file) o
+  by ReadFault why = record { wanted = record { name = file; limit = stream_limit }; come = first; cause = why }
+  by (TooLong named limit) why = record {
+    come = subst (λ (w : Wanted). ComesTo (Has around.files) (Decode file) (Reads w)) (sym (ap (λ (n : List ℕ). record { name = n; limit = limit }) why.0 ∙ ap (λ (l : ℕ). record { name = file; limit = l }) why.1)) first;
+    longer = longer_of around.files named limit why.0 why.1 why.2;
+  }
+  by NoMemory why = tt
+  by Done why = absurd why
+  by Usage why = absurd why
+  by WriteFault why = absurd why
+  by (ScenarioRefused fault) why = absurd why
+  by (NoCircuit circuit) why = absurd why
+  by (CaptureRefused name fault) why = absurd why
+  by (Stopped stop) why = absurd why
+  by (DecodeRefused fault) why = absurd why
+  by (Unfinished at) why = absurd why
+
+-- how the writing of a stream's text ended
+told_answers : (around : Around) (file text : List ℕ) (made : Outcome) (network : Option NetLists) (outcome : Outcome) → is_own made ≡ true → IsMade around (Decode file) text None made
+    → EndsText text None made (old_of around) (now_of around) network outcome ⊎ GivesUp text (old_of around) (now_of around) network outcome → SaysOutcome around (Decode file) network outcome
+told_answers around file text made network outcome own is (inl ends) = text_answers around (Decode file) text None made network outcome own is ends
+told_answers around file text made network outcome own is (inr gives) =
+    subst (λ (o : Outcome). SaysOutcome around (Decode file) network o) (sym gives.outcome_is)
+    (subst (λ (n : Option NetLists). SaysOutcome around (Decode file) n NoMemory) (sym gives.no_run)
+    (inr (record { text = text; outcome = made; made = is; taken = gives.taken })))
+
+pub stream_answers : (around : Around) (file octets : List ℕ) (network : Option NetLists) (outcome : Outcome) → Has around.files file octets → length octets ≤ stream_limit
+    → EndsStream octets (written around.taken_before around.sink_before []) (written around.taken_after around.sink_after []) network outcome → SaysOutcome around (Decode file) network outcome
+stream_answers around file octets network outcome has fits (inl told) =
+    told_answers around file told.text told.made network outcome (ap is_own told.is_decoding.ends ∙ stream_own told.is_decoding.ending)
+    (record {
+      work = Stream octets;
+      come = record { read = octets ∷ []; are_read = (record { wanted = record { name = file; limit = stream_limit }; next = refl; holds = has; fits = fits }, tt); is_next = refl };
+      makes = told.is_decoding;
+    }) told.ends
+stream_answers around file octets network outcome has fits (inr none) = none_answers around (Decode file) network outcome none
+
+-- ---- one thing comes next
+
+one_played : (scenario : Scenario) (captures : List (List (List ℕ))) (files read : List (List ℕ)) (next other : Next) → IsNextPlayed scenario captures files read next → IsNextPlayed scenario captures files read other → next ≡ other
+one_played scenario captures [] read next other a b = a ∙ sym b
+one_played scenario captures (file ∷ files) [] next other a b = a ∙ sym b
+one_played scenario captures (file ∷ files) (octets ∷ read) next other (inl (frames, is, a)) (inl (others, are, b)) =
+    let same : others ≡ frames = one_reading.one_list octets others frames are is in
+    one_played scenario (captures ++ frames ∷ []) files read next other a (subst (λ (fs : List (List ℕ)). IsNextPlayed scenario (captures ++ fs ∷ []) files read other) same b)
+one_played scenario captures (file ∷ files) (octets ∷ read) next other (inl (frames, is, a)) (inr (fault, first, b)) = absurd (one_reading.never_both octets frames fault is first)
+one_played scenario captures (file ∷ files) (octets ∷ read) next other (inr (fault, first, a)) (inl (frames, is, b)) = absurd (one_reading.never_both octets frames fault is first)
+one_played scenario captures (file ∷ files) (octets ∷ read) next other (inr (fault, first, a)) (inr (more, also, b)) =
+    let same : fault ≡ more = one_reading.one_fault octets fault more first also in
+    a ∙ (ap (λ (f : CaptureFault). Refuses (CaptureRefused file f)) same ∙ sym b)
+
+one_of : (circuit : Option (List ℕ)) (scenario : Scenario) (read : List (List ℕ)) (next other : Next) → IsNextOf circuit scenario read next → IsNextOf circuit scenario read other → next ≡ other
+one_of (Some name) scenario read next other a b = a ∙ sym b
+one_of None scenario read next other a b = one_played scenario [] (played scenario.commands) read next other a b
+
+one_read : (asked : Asked) (result : Result Scenario ScenarioFault) (read : List (List ℕ)) (next other : Next) → IsNextRead asked result read next → IsNextRead asked result read other → next ≡ other
+one_read asked (Err fault) read next other a b = a ∙ sym b
+one_read asked (Ok scenario) read next other a b = one_of (lacks_circuit asked scenario.plan) scenario read next other a b
+
+one_next : (asked : Asked) (read : List (List ℕ)) (next other : Next) → IsNext asked read next → IsNext asked read other → next ≡ other
+one_next (Replay file) [] next other a b = a ∙ sym b
+one_next (Replay file) (octets ∷ read) next other a b = one_read (Replay file) (document octets) read next other a b
+one_next (Tables file) [] next other a b = a ∙ sym b
+one_next (Tables file) (octets ∷ read) next other a b = one_read (Tables file) (document octets) read next other a b
+one_next (Capture file circuit) [] next other a b = a ∙ sym b
+one_next (Capture file circuit) (octets ∷ read) next other a b = one_read (Capture file circuit) (document octets) read next other a b
+one_next (Decode file) [] next other a b = a ∙ sym b
+one_next (Decode file) (octets ∷ read) next other a b = a ∙ sym b
+one_next (Rehearse seed) read next other a b = a ∙ sym b
+
+-- ---- the files that are read are one list
 
 -- a told file has one content
 same_octets : (files : Files) (name octets other : List ℕ) → TellsFile files name octets → Has files name other → octets ≡ other
@@ -101,97 +222,152 @@ longer_octets (Some held) name octets limit tells longer =
     let same : octets ≡ longer.bytes = same_octets (Some held) name octets longer.bytes tells longer.held in
     omega (arith, ap length same, longer.longer)
 
--- octets have one outcome
-replay_end : (octets text : List ℕ) (network : Option NetLists) (outcome called : Outcome) → Replays octets text network outcome → called ≡ replay_outcome (document octets) → outcome ≡ called
-replay_end octets text network Done called makes is =
-    sym (is ∙ (ap replay_outcome makes.reads ∙ (ap (built_outcome makes.scenario) makes.built ∙ sym (ap (λ (r : Ended). outcome_by r.stop) makes.ends))))
-replay_end octets text network (Stopped stop) called makes is =
-    sym (is ∙ (ap replay_outcome makes.reads ∙ (ap (built_outcome makes.scenario) makes.built ∙ sym (ap (λ (r : Ended). outcome_by r.stop) makes.ends))))
-replay_end octets text network Usage called makes is = absurd makes
-replay_end octets text network ReadFault called makes is = absurd makes
-replay_end octets text network WriteFault called makes is = absurd makes
-replay_end octets text network (TooLong named limit) called makes is = absurd makes
-replay_end octets text network (ScenarioRefused fault) called makes is = sym (is ∙ ap replay_outcome makes.0.reads)
-replay_end octets text network NotBuilt called makes is = sym (is ∙ (ap replay_outcome makes.0.reads ∙ ap (built_outcome makes.0.scenario) makes.0.unbuilt))
-replay_end octets text network (DecodeRefused fault) called makes is = absurd makes
-replay_end octets text network (Unfinished at) called makes is = absurd makes
-replay_end octets text network NoMemory called makes is = absurd makes
+-- one more file is read
+record ReadsOn (Holds : List ℕ → List ℕ → Type 0) (next : Next) : Type 0 where
+  wanted : Wanted
+  is : next ≡ Reads wanted
+  octets : List ℕ
+  holds : Holds wanted.name octets
+  fits : length octets ≤ wanted.limit
+
+reads_on : (Holds : List ℕ → List ℕ → Type 0) (asked : Asked) (before : List (List ℕ)) (octets : List ℕ) (next : Next) → IsReadNext Holds asked before octets → IsNext asked before next → ReadsOn Holds next
+reads_on Holds asked before octets next reads is = record {
+  wanted = reads.wanted;
+  is = one_next asked before next (Reads reads.wanted) is reads.next;
+  octets = octets;
+  holds = reads.holds;
+  fits = reads.fits;
+}
+
+-- of two readings behind the same files, of which one tells them, the same comes next, or one of them reads on
+followed : (around : Around) (asked : Asked) (before read others : List (List ℕ)) (next other : Next) → AreReadNext (Has around.files) asked before read → IsNext asked (before ++ read) next
+    → AreReadNext (IsSound around) asked before others → IsNext asked (before ++ others) other → (next ≡ other) ⊎ ReadsOn (IsSound around) next ⊎ ReadsOn (Has around.files) other
+followed around asked before [] [] next other are is told calls =
+    inl (one_next asked before next other (subst (λ (l : List (List ℕ)). IsNext asked l next) (append-nil before) is) (subst (λ (l : List (List ℕ)). IsNext asked l other) (append-nil before) calls))
+followed around asked before [] (octets ∷ others) next other are is told calls =
+    inr (inl (reads_on (IsSound around) asked before octets next told.0 (subst (λ (l : List (List ℕ)). IsNext asked l next) (append-nil before) is)))
+followed around asked before (octets ∷ read) [] next other are is told calls =
+    inr (inr (reads_on (Has around.files) asked before octets other are.0 (subst (λ (l : List (List ℕ)). IsNext asked l other) (append-nil before) calls)))
+followed around asked before (octets ∷ read) (same ∷ others) next other are is told calls =
+    let wanted : Reads told.0.wanted ≡ Reads are.0.wanted = one_next asked before (Reads told.0.wanted) (Reads are.0.wanted) told.0.next are.0.next in
+    let file : told.0.wanted ≡ are.0.wanted = cc (wanted) in
+    let tells : TellsFile around.files are.0.wanted.name same = subst (λ (w : Wanted). TellsFile around.files w.name same) file told.0.holds.tells in
+    let equal : same ≡ octets = same_octets around.files are.0.wanted.name same octets tells are.0.holds in
+    followed around asked (before ++ octets ∷ []) read others next other are.1
+    (subst (λ (l : List (List ℕ)). IsNext asked l next) (sym (append_assoc before (octets ∷ []) read)) is)
+    (subst (λ (o : List ℕ). AreReadNext (IsSound around) asked (before ++ o ∷ []) others) equal told.1)
+    (subst (λ (l : List (List ℕ)). IsNext asked l other) (sym (append_assoc before (octets ∷ []) others)) (subst (λ (o : List ℕ). IsNext asked (before ++ o ∷ others) other) equal calls))
+
+-- the reading of an answer, beside that of a sound surrounding
+met : (around : Around) (asked : Asked) (next : Next) (called : Outcome) → ComesTo (Has around.files) asked next → (sound : IsSoundOutcome around asked called) → (next ≡ sound.next) ⊎ ReadsOn (IsSound around) next ⊎ ReadsOn (Has around.files) sound.next
+met around asked next called come sound = followed around asked [] come.read sound.come.read next sound.next come.are_read come.is_next sound.come.are_read sound.come.is_next
+
+-- what calls for an outcome does not read on
+called_ends : (around : Around) (next : Next) (called : Outcome) → CallsFor around next called → ReadsOn (Has around.files) next → ⊥
+called_ends around (Reads wanted) called calls on =
+    let both : Reads wanted ≡ Reads on.wanted = on.is in
+    let file : wanted ≡ on.wanted = cc (both) in
+    let tells : TellsFile around.files on.wanted.name calls.octets = subst (λ (w : Wanted). TellsFile around.files w.name calls.octets) file calls.sound.tells in
+    let same : calls.octets ≡ on.octets = same_octets around.files on.wanted.name calls.octets on.octets tells on.holds in
+    let limit : wanted.limit ≡ on.wanted.limit = ap (λ (w : Wanted). w.limit) file in
+    omega (arith, ap length same, limit, calls.longer, on.fits)
+called_ends around (Refuses refused) called calls on = absurd (cc (on.is))
+called_ends around (Works work) called calls on = absurd (cc (on.is))
+
+calls_same : (around : Around) (next other : Next) (called : Outcome) → next ≡ other → CallsFor around other called → CallsFor around next called
+calls_same around next other called same calls = subst (λ (n : Next). CallsFor around n called) (sym same) calls
+
+-- ---- the outcome is what is called for
+
+-- a refusal that comes next
+refused_called : (around : Around) (asked : Asked) (refused called : Outcome) → ComesTo (Has around.files) asked (Refuses refused) → IsSoundOutcome around asked called → refused ≡ called
+refused_called around asked refused called come sound = elim (met around asked (Refuses refused) called come sound) [
+  | inl same ↦ sym (calls_same around (Refuses refused) sound.next called same sound.calls)
+  | inr more ↦ elim more [
+    | inl on ↦ absurd (cc (on.is))
+    | inr on ↦ absurd (called_ends around sound.next called sound.calls on)
+  ]
+]
+
+unread_never : (around : Around) (asked : Asked) (called : Outcome) → IsRefused around.files around.shelf_before around.shelf_after asked ReadFault → IsSoundOutcome around asked called → ⊥
+unread_never around asked called unread sound = elim (met around asked (Reads unread.wanted) called unread.come sound) [
+  | inl same ↦ (calls_same around (Reads unread.wanted) sound.next called same sound.calls).sound.read unread.cause
+  | inr more ↦ elim more [
+    | inl on ↦ (let both : Reads unread.wanted ≡ Reads on.wanted = on.is in
+        let file : unread.wanted ≡ on.wanted = cc (both) in
+        (subst (λ (w : Wanted). IsSound around w.name on.octets) (sym file) on.holds).read unread.cause)
+    | inr on ↦ called_ends around sound.next called sound.calls on
+  ]
+]
+
+long_called : (around : Around) (asked : Asked) (named : List ℕ) (limit : ℕ) (called : Outcome) → IsTooLong around.files asked named limit → IsSoundOutcome around asked called → TooLong named limit ≡ called
+long_called around asked named limit called long sound = elim (met around asked (Reads (record { name = named; limit = limit })) called long.come sound) [
+  | inl same ↦ sym (calls_same around (Reads (record { name = named; limit = limit })) sound.next called same sound.calls).is
+  | inr more ↦ elim more [
+    | inl on ↦ absurd (fits_never on)
+    | inr on ↦ absurd (called_ends around sound.next called sound.calls on)
+  ]
+]
+  where
+    fits_never : ReadsOn (IsSound around) (Reads (record { name = named; limit = limit })) → ⊥
+    fits_never on =
+        let both : Reads (record { name = named; limit = limit }) ≡ Reads on.wanted = on.is in
+        let file : record { name = named; limit = limit } ≡ on.wanted = cc (both) in
+        let tells : TellsFile around.files named on.octets = subst (λ (w : Wanted). TellsFile around.files w.name on.octets) (sym file) on.holds.tells in
+        let is_limit : limit ≡ on.wanted.limit = ap (λ (w : Wanted). w.limit) file in
+        let beyond : limit < length on.octets = longer_octets around.files named on.octets limit tells long.longer in
+        omega (arith, is_limit, beyond, on.fits)
+
+-- a run has one outcome
+run_end : (asked : Asked) (scenario : Scenario) (captures : List (List (List ℕ))) (text : List ℕ) (network : Option NetLists) (outcome called : Outcome) → MakesRun asked scenario captures text network outcome
+    → called ≡ outcome_by (whole_run scenario captures).stop → outcome ≡ called
+run_end asked scenario captures text network Done called makes is = sym (is ∙ sym (ap (λ (r : Ended). outcome_by r.stop) makes.is_run.ends))
+run_end asked scenario captures text network (Stopped stop) called makes is = sym (is ∙ sym (ap (λ (r : Ended). outcome_by r.stop) makes.is_run.ends))
+run_end asked scenario captures text network Usage called makes is = absurd makes
+run_end asked scenario captures text network ReadFault called makes is = absurd makes
+run_end asked scenario captures text network WriteFault called makes is = absurd makes
+run_end asked scenario captures text network (TooLong named limit) called makes is = absurd makes
+run_end asked scenario captures text network (ScenarioRefused fault) called makes is = absurd makes
+run_end asked scenario captures text network (NoCircuit circuit) called makes is = absurd makes
+run_end asked scenario captures text network (CaptureRefused file fault) called makes is = absurd makes
+run_end asked scenario captures text network (DecodeRefused fault) called makes is = absurd makes
+run_end asked scenario captures text network (Unfinished at) called makes is = absurd makes
+run_end asked scenario captures text network NoMemory called makes is = absurd makes
 
 decode_end : (octets text : List ℕ) (network : Option NetLists) (outcome called : Outcome) → IsDecoding octets text network outcome → IsDecodedAs octets called → outcome ≡ called
 decode_end octets text network outcome called makes end =
     let same = (one_parsing.one 0 largest_pdu octets makes.text_is.pdus end.pdus makes.ending end.ending (omega arith) makes.text_is.parsed end.parsed).ending_is in
     makes.ends ∙ (ap outcome_of_ending same ∙ sym end.ends)
 
-makes_end : (asked : Asked) (octets text : List ℕ) (network : Option NetLists) (outcome called : Outcome) → Makes asked octets text network outcome → IsEndOf asked octets called → outcome ≡ called
-makes_end (Replay file) octets text network outcome called makes end = replay_end octets text network outcome called makes end
-makes_end (Decode file) octets text network outcome called makes end = decode_end octets text network outcome called makes end
+makes_end : (asked : Asked) (work : Work) (text : List ℕ) (network : Option NetLists) (outcome called : Outcome) → Makes asked work text network outcome → IsEndOf work called → outcome ≡ called
+makes_end asked (Run scenario captures) text network outcome called makes end = run_end asked scenario captures text network outcome called makes end
+makes_end asked (Stream octets) text network outcome called makes end = decode_end octets text network outcome called makes end
 
-called_end : (asked : Asked) (octets text : List ℕ) (network : Option NetLists) (outcome called : Outcome) → length octets ≤ limit_of asked → Makes asked octets text network outcome → CallsFor asked octets called → outcome ≡ called
-called_end asked octets text network outcome called fits makes (inl long) = absurd (omega (arith, fits, long.0))
-called_end asked octets text network outcome called fits makes (inr end) = makes_end asked octets text network outcome called makes end.1
+-- what was made is what is called for, and no call of the sink failed
+made_called : (around : Around) (asked : Asked) (text : List ℕ) (network : Option NetLists) (outcome called : Outcome) → IsMade around asked text network outcome → IsSoundOutcome around asked called
+    → (outcome ≡ called) × (¬ HasWriteFault around)
+made_called around asked text network outcome called made sound = elim (met around asked (Works made.work) called made.come sound) [
+  | inl same ↦ (let calls = calls_same around (Works made.work) sound.next called same sound.calls in
+      (makes_end asked made.work text network outcome called made.makes calls.0, calls.1))
+  | inr more ↦ elim more [
+    | inl on ↦ absurd (cc (on.is))
+    | inr on ↦ absurd (called_ends around sound.next called sound.calls on)
+  ]
+]
 
-same_end : (around : Around) (asked : Asked) (text : List ℕ) (network : Option NetLists) (outcome called : Outcome) → IsMade around asked text network outcome → IsSoundOutcome around asked called → outcome ≡ called
-same_end around asked text network outcome called made sound =
-    let same : made.octets ≡ sound.octets = sym (same_octets around.files (file_of asked) sound.octets made.octets sound.tells made.has) in
-    let calls : CallsFor asked made.octets called = subst (λ (l : List ℕ). CallsFor asked l called) (sym same) sound.calls in
-    called_end asked made.octets text network outcome called made.fits made.makes calls
-
--- what is refused before any run is not written
-replay_silent : (octets text : List ℕ) (network : Option NetLists) (outcome : Outcome) → Replays octets text network outcome → is_refusal outcome ≡ true → text ≡ []
-replay_silent octets text network Done makes refuses = absurd (cc (refuses))
-replay_silent octets text network Usage makes refuses = absurd makes
-replay_silent octets text network ReadFault makes refuses = absurd makes
-replay_silent octets text network WriteFault makes refuses = absurd makes
-replay_silent octets text network (TooLong named limit) makes refuses = absurd makes
-replay_silent octets text network (ScenarioRefused fault) makes refuses = makes.1.text_is
-replay_silent octets text network NotBuilt makes refuses = makes.1.text_is
-replay_silent octets text network (Stopped stop) makes refuses = absurd (cc (refuses))
-replay_silent octets text network (DecodeRefused fault) makes refuses = absurd makes
-replay_silent octets text network (Unfinished at) makes refuses = absurd makes
-replay_silent octets text network NoMemory makes refuses = absurd makes
-
-silent : (asked : Asked) (octets text : List ℕ) (network : Option NetLists) (outcome : Outcome) → Makes asked octets text network outcome → is_refusal outcome ≡ true → text ≡ []
-silent (Replay file) octets text network outcome makes refuses = replay_silent octets text network outcome makes refuses
-silent (Decode file) octets text network outcome makes refuses =
-    let none : is_refusal outcome ≡ false = ap is_refusal makes.ends ∙ stream_refuses_none makes.ending in
-    absurd (cc (refuses, none))
-
--- a write fault comes only where something is written
-needs_sink : (around : Around) (called : Outcome) → IsTakenWhole around called → HasWriteFault around → is_refusal called ≡ true
-needs_sink around Done written cause = absurd (written cause)
-needs_sink around Usage written cause = absurd (written cause)
-needs_sink around ReadFault written cause = absurd (written cause)
-needs_sink around WriteFault written cause = absurd (written cause)
-needs_sink around (TooLong named limit) written cause = refl
-needs_sink around (ScenarioRefused fault) written cause = refl
-needs_sink around NotBuilt written cause = refl
-needs_sink around (Stopped stop) written cause = absurd (written cause)
-needs_sink around (DecodeRefused fault) written cause = absurd (written cause)
-needs_sink around (Unfinished at) written cause = absurd (written cause)
-needs_sink around NoMemory written cause = absurd (written cause)
-
-cut_never : (around : Around) (asked : Asked) (network : Option NetLists) (called : Outcome) → IsCutShort around asked network → IsSoundOutcome around asked called → ⊥
-cut_never around asked network called cut sound =
-    let same : cut.outcome ≡ called = same_end around asked cut.text network cut.outcome called cut.made sound in
-    let refuses : is_refusal cut.outcome ≡ true = ap is_refusal same ∙ needs_sink around called sound.written cut.cause in
-    let empty : cut.text ≡ [] = silent asked cut.made.octets cut.text network cut.outcome cut.made.makes refuses in
-    omega (arith, cut.taken.short, ap length empty)
-
-long_called : (asked : Asked) (octets named : List ℕ) (limit : ℕ) (called : Outcome) → limit_of asked < length octets → named ≡ file_of asked → limit ≡ limit_of asked → CallsFor asked octets called → TooLong named limit ≡ called
-long_called asked octets named limit called longer same is_limit (inl long) =
-    (ap (λ (n : List ℕ). TooLong n limit) same ∙ ap (λ (l : ℕ). TooLong (file_of asked) l) is_limit) ∙ sym long.1
-long_called asked octets named limit called longer same is_limit (inr end) = absurd (omega (arith, longer, end.0))
+whole_called : (around : Around) (asked : Asked) (network : Option NetLists) (outcome called : Outcome) → IsWhole around asked network outcome → IsSoundOutcome around asked called → outcome ≡ called
+whole_called around asked network outcome called whole sound = (made_called around asked whole.text network outcome called whole.made sound).0
 
 pub completes : (around : Around) (asked : Asked) (network : Option NetLists) (outcome : Outcome) → SaysOutcome around asked network outcome → Completes around asked outcome
-completes around asked network Done answers called sound = inl (same_end around asked answers.text network Done called answers.made sound)
+completes around asked network Done answers called sound = inl (whole_called around asked network Done called answers sound)
 completes around asked network Usage answers called sound = absurd answers
-completes around asked network ReadFault answers called sound = absurd (sound.read answers.0)
-completes around asked network WriteFault answers called sound = absurd (cut_never around asked network called answers sound)
-completes around asked network (TooLong named limit) answers called sound =
-    inl (long_called asked sound.octets named limit called (longer_octets around.files (file_of asked) sound.octets (limit_of asked) sound.tells answers.0.longer) answers.0.same answers.0.is_limit sound.calls)
-completes around asked network (ScenarioRefused fault) answers called sound = inl (same_end around asked answers.text network (ScenarioRefused fault) called answers.made sound)
-completes around asked network NotBuilt answers called sound = inl (same_end around asked answers.text network NotBuilt called answers.made sound)
-completes around asked network (Stopped stop) answers called sound = inl (same_end around asked answers.text network (Stopped stop) called answers.made sound)
-completes around asked network (DecodeRefused fault) answers called sound = inl (same_end around asked answers.text network (DecodeRefused fault) called answers.made sound)
-completes around asked network (Unfinished at) answers called sound = inl (same_end around asked answers.text network (Unfinished at) called answers.made sound)
+completes around asked network ReadFault answers called sound = absurd (unread_never around asked called answers.0 sound)
+completes around asked network WriteFault answers called sound = absurd ((made_called around asked answers.text network answers.outcome called answers.made sound).1 answers.cause)
+completes around asked network (TooLong named limit) answers called sound = inl (long_called around asked named limit called answers.0 sound)
+completes around asked network (ScenarioRefused fault) answers called sound = inl (refused_called around asked (ScenarioRefused fault) called answers.0.0 sound)
+completes around asked network (NoCircuit circuit) answers called sound = inl (refused_called around asked (NoCircuit circuit) called answers.0 sound)
+completes around asked network (CaptureRefused file fault) answers called sound = inl (refused_called around asked (CaptureRefused file fault) called answers.0.0 sound)
+completes around asked network (Stopped stop) answers called sound = inl (whole_called around asked network (Stopped stop) called answers sound)
+completes around asked network (DecodeRefused fault) answers called sound = inl (whole_called around asked network (DecodeRefused fault) called answers sound)
+completes around asked network (Unfinished at) answers called sound = inl (whole_called around asked network (Unfinished at) called answers sound)
 completes around asked network NoMemory answers called sound = inr refl

@@ -1,29 +1,11 @@
--- Reading and writing in pieces.
+-- Reading in pieces.
 use Rattle.std.proofs.Common.{◌≡◌, ◌≢◌, ◌≤◌, ◌<◌, ◌+◌, ◌-◌, ◌++◌, ℕ, List, [], ◌∷◌, Option, Some, None, Result, Ok, Err, IfSome, IfOk, IfErr, OnOk, IsErrOf, length, take, drop, refl, sym, ap, ◌∙◌, subst, arith, append_assoc, length-append, length-take, length-drop}
 use Rattle.std.proofs.Math.Seq.{take-add}
 use Rattle.std.proofs.lemmas.List.{take_all, take-append-le}
-use Rattle.net_base.specs.outside.Outside.{Appends, ReadsFrom}
+use Rattle.net_base.specs.outside.Outside.{ReadsFrom}
 use Rattle.vplsnet.specs.declared.files.ReadStop.{ReadStop}
 use Rattle.vplsnet.specs.declared.files.ReadStop.TheVariants.{TooLong}
-use Rattle.vplsnet.specs.Files.{IsFrontOf, IsLonger, Writes}
-
--- what was taken goes on, piece by piece
-pub appends_more : (old between new : Option (List ℕ)) (first second both : List ℕ) → first ++ second ≡ both → Appends old between first → Appends between new second → Appends old new both
-appends_more None between new first second both joins p q = tt
-appends_more (Some before) between new first second both joins p q =
-    let next : new ≡ Some ((before ++ first) ++ second) = subst (λ (k : Option (List ℕ)). Appends k new second) p q in
-    next ∙ ap Some (append_assoc before first second ∙ ap (λ (l : List ℕ). before ++ l) joins)
-
--- a text that is not empty is taken whole where what was taken goes on by it
-pub writes_some : (old new : Option (List ℕ)) (text : List ℕ) → length text ≢ 0 → Appends old new text → Writes old new text
-writes_some old new [] some appends = absurd (some refl)
-writes_some old new (octet ∷ text) some appends = appends
-
--- a front of the rest goes on a front
-pub take_front : (at count : ℕ) (text : List ℕ) → at ≤ length text → take at text ++ take count (take (length text - at) (drop at text)) ≡ take (at + count) text
-take_front at count text within =
-    let whole : take (length text - at) (drop at text) ≡ drop at text = take_all _ _ (omega (arith, length-drop at text)) in
-    rw whole (sym (take-add at count text))
+use Rattle.vplsnet.specs.Files.{IsFrontOf, IsLonger}
 
 abbrev pub Held : Type 0
 Held = List ℕ → Option (List ℕ)

@@ -1,8 +1,11 @@
 pub mod SeenLemmas
 pub mod AnswerLemmas
+pub mod CaptureLemmas
 pub mod FaultLemmas
 pub mod FileLemmas
 pub mod MadeLemmas
 pub mod PlannedLemmas
-pub mod ReplayLemmas
+pub mod RunLemmas
+pub mod ScenarioFileLemmas
 pub mod StreamLemmas
+pub mod WritingLemmas

@@ -1,10 +1,14 @@
 -- The events of commands, one command after another.
 use Rattle.std.proofs.Common.{◌≡◌, ◌<◌, ◌≤◌, ◌+◌, ◌-◌, ◌∷◌, ◌++◌, [], ◌∙◌, ℕ, zero, suc, List, Option, Some, None, refl, ap, sym, subst, arith, length, slice_index_or, drop}
 use Rattle.std.proofs.lemmas.List.{at_drop_more, drop_more}
+use Rattle.std.specs.List.{All}
+use Rattle.std.proofs.lemmas.List.Elements.{All-head, All-nil, All-tail}
 use Rattle.net_base.specs.declared.plan.Plan.{Plan}
+use Rattle.net_base.specs.declared.plan.places.CircuitId.{CircuitId}
 use Rattle.net_base.specs.declared.trace.entry.Entry.{Entry}
 use Rattle.net_base.specs.declared.trace.event.Event.{Event}
-use Rattle.net_base.specs.declared.trace.event.Event.TheVariants.{Tick}
+use Rattle.net_base.specs.declared.trace.event.Event.TheVariants.{Frame, Tick}
+use Rattle.net_base.specs.plan.Planned.{IsFrame}
 use Rattle.network_model.specs.Delivery.{next_delivery}
 use Rattle.network_model.specs.Packet.{next_arrival}
 use Rattle.network_model.specs.Run.{state_after}
@@ -17,27 +21,62 @@ use Rattle.psn_net.specs.Runs.{Ended, RunHalts, ended, ran}
 use Rattle.psn_net.specs.Weight.{stop_at}
 use Rattle.psn_net.proofs.RunLemmas.{halts_first, halts_on, ran_first, ran_on, ran_state}
 use Rattle.command_text.specs.declared.command.Command.{Command}
-use Rattle.vplsnet.specs.Made.{arrivals, deliveries, event_and, made, made_by, ticks, turns}
+use Rattle.command_text.specs.declared.command.Command.TheVariants.{One, Settle, Flow, Ticks, Play}
+use Rattle.vplsnet.specs.Made.{arrivals, captures_after, deliveries, entering, event_and, made, made_by, next_frames, ticks, turns}
 
-made_on : (plan : Plan) (n : NetLists) (s : NetworkState) (t : List Entry) (c : Command) (cs : List Command)
-    → ended n None ≡ ran plan s t (made_by plan s c) → ran plan (seen n) n.trace (made plan (seen n) cs) ≡ ran plan s t (made plan s (c ∷ cs))
-made_on plan n s t c cs h =
-    let to : seen n ≡ state_after plan s (made_by plan s c) = ap (λ (r : Ended). r.state) h ∙ ran_state plan s t (made_by plan s c) (sym (ap (λ (r : Ended). r.stop) h)) in
-    ap (λ (q : NetworkState). ran plan (seen n) n.trace (made plan q cs)) to ∙ ran_on plan s t (made_by plan s c) (made plan (state_after plan s (made_by plan s c)) cs) n h
+made_on : (plan : Plan) (n : NetLists) (s : NetworkState) (t : List Entry) (captures : List (List (List ℕ))) (c : Command) (cs : List Command)
+    → ended n None ≡ ran plan s t (made_by plan s captures c) → ran plan (seen n) n.trace (made plan (seen n) (captures_after c captures) cs) ≡ ran plan s t (made plan s captures (c ∷ cs))
+made_on plan n s t captures c cs h =
+    let to : seen n ≡ state_after plan s (made_by plan s captures c) = ap (λ (r : Ended). r.state) h ∙ ran_state plan s t (made_by plan s captures c) (sym (ap (λ (r : Ended). r.stop) h)) in
+    ap (λ (q : NetworkState). ran plan (seen n) n.trace (made plan q (captures_after c captures) cs)) to
+    ∙ ran_on plan s t (made_by plan s captures c) (made plan (state_after plan s (made_by plan s captures c)) (captures_after c captures) cs) n h
 
 -- at a place of the list of commands
-pub made_on_at : (plan : Plan) (n : NetLists) (s : NetworkState) (t : List Entry) (cs : List Command) (i : ℕ) (d : Command) → i < length cs
-    → ended n None ≡ ran plan s t (made_by plan s (slice_index_or cs i d)) → ran plan (seen n) n.trace (made plan (seen n) (drop (i + 1) cs)) ≡ ran plan s t (made plan s (drop i cs))
-made_on_at plan n s t cs i d l h =
-    made_on plan n s t (slice_index_or cs i d) (drop (i + 1) cs) h ∙ sym (at_drop_more (λ (xs : List Command). ran plan s t (made plan s xs)) cs i d l)
+pub made_on_at : (plan : Plan) (n : NetLists) (s : NetworkState) (t : List Entry) (captures later : List (List (List ℕ))) (cs : List Command) (i : ℕ) (d : Command) → i < length cs
+    → ended n None ≡ ran plan s t (made_by plan s captures (slice_index_or cs i d)) → later ≡ captures_after (slice_index_or cs i d) captures
+    → ran plan (seen n) n.trace (made plan (seen n) later (drop (i + 1) cs)) ≡ ran plan s t (made plan s captures (drop i cs))
+made_on_at plan n s t captures later cs i d l h is =
+    ap (λ (left : List (List (List ℕ))). ran plan (seen n) n.trace (made plan (seen n) left (drop (i + 1) cs))) is
+    ∙ (made_on plan n s t captures (slice_index_or cs i d) (drop (i + 1) cs) h ∙ sym (at_drop_more (λ (xs : List Command). ran plan s t (made plan s captures xs)) cs i d l))
 
-pub made_err_at : (plan : Plan) (n : NetLists) (stop : NetStop) (s : NetworkState) (t : List Entry) (cs : List Command) (i : ℕ) (d : Command) → i < length cs
-    → RunHalts stop n (ran plan s t (made_by plan s (slice_index_or cs i d))) → RunHalts stop n (ran plan s t (made plan s (drop i cs)))
-made_err_at plan n stop s t cs i d l h =
-    subst (λ (xs : List Command). RunHalts stop n (ran plan s t (made plan s xs))) (sym (drop_more cs i d l))
-    (halts_on plan s t (made_by plan s (slice_index_or cs i d)) (made plan (state_after plan s (made_by plan s (slice_index_or cs i d))) (drop (i + 1) cs)) n stop h)
+pub made_err_at : (plan : Plan) (n : NetLists) (stop : NetStop) (s : NetworkState) (t : List Entry) (captures : List (List (List ℕ))) (cs : List Command) (i : ℕ) (d : Command) → i < length cs
+    → RunHalts stop n (ran plan s t (made_by plan s captures (slice_index_or cs i d))) → RunHalts stop n (ran plan s t (made plan s captures (drop i cs)))
+made_err_at plan n stop s t captures cs i d l h =
+    subst (λ (xs : List Command). RunHalts stop n (ran plan s t (made plan s captures xs))) (sym (drop_more cs i d l))
+    (halts_on plan s t (made_by plan s captures (slice_index_or cs i d))
+    (made plan (state_after plan s (made_by plan s captures (slice_index_or cs i d))) (captures_after (slice_index_or cs i d) captures) (drop (i + 1) cs)) n stop h)
 
-pub ruleset made_steps = (made_on_at, made_err_at)
+-- the frames of the captures that are left are short
+pub left_short : (command : Command) (captures : List (List (List ℕ))) → All (All IsFrame) captures → All (All IsFrame) (captures_after command captures)
+left_short (One event) captures short = short
+left_short (Settle count) captures short = short
+left_short (Flow count) captures short = short
+left_short (Ticks count) captures short = short
+left_short (Play circuit file) [] short = short
+left_short (Play circuit file) (frames ∷ captures) short = All-tail (All IsFrame) frames captures short
+
+pub next_short : (captures : List (List (List ℕ))) → All (All IsFrame) captures → All IsFrame (next_frames captures)
+next_short [] short = All-nil IsFrame
+next_short (frames ∷ captures) short = All-head (All IsFrame) frames captures short
+
+pub ruleset made_steps = (made_on_at, made_err_at, left_short)
+
+-- ---- frames of a capture
+
+-- at a place of the list of frames
+pub entering_on_at : (plan : Plan) (n : NetLists) (s : NetworkState) (t : List Entry) (circuit : CircuitId) (frames : List (List ℕ)) (i : ℕ) (d : List ℕ) → i < length frames
+    → ended n None ≡ ran plan s t (Frame circuit (slice_index_or frames i d) ∷ []) → ran plan (seen n) n.trace (entering circuit (drop (i + 1) frames)) ≡ ran plan s t (entering circuit (drop i frames))
+entering_on_at plan n s t circuit frames i d l h =
+    ran_on plan s t (Frame circuit (slice_index_or frames i d) ∷ []) (entering circuit (drop (i + 1) frames)) n h
+    ∙ sym (at_drop_more (λ (xs : List (List ℕ)). ran plan s t (entering circuit xs)) frames i d l)
+
+pub entering_err_at : (plan : Plan) (n : NetLists) (stop : NetStop) (s : NetworkState) (t : List Entry) (circuit : CircuitId) (frames : List (List ℕ)) (i : ℕ) (d : List ℕ) → i < length frames
+    → RunHalts stop n (ran plan s t (Frame circuit (slice_index_or frames i d) ∷ [])) → RunHalts stop n (ran plan s t (entering circuit (drop i frames)))
+entering_err_at plan n stop s t circuit frames i d l h =
+    subst (λ (xs : List (List ℕ)). RunHalts stop n (ran plan s t (entering circuit xs))) (sym (drop_more frames i d l))
+    (halts_on plan s t (Frame circuit (slice_index_or frames i d) ∷ []) (entering circuit (drop (i + 1) frames)) n stop h)
+
+pub ruleset entering_steps = (entering_on_at, entering_err_at)
 
 ticks_more : (n i : ℕ) → i < n → ticks (n - i) ≡ Tick ∷ ticks (n - (i + 1))
 ticks_more n i h = let e : n - i ≡ suc (n - (i + 1)) = omega arith in rw e refl

@@ -4,9 +4,10 @@ use Rattle.std.proofs.lemmas.Bool.{cases_Bool}
 use Rattle.std.proofs.lemmas.List.Elements.{All-append, All-cons, All-head, All-nil, All-tail}
 use Rattle.std.specs.List.{All}
 use Rattle.net_base.specs.declared.plan.Plan.{Plan}
+use Rattle.net_base.specs.declared.plan.places.CircuitId.{CircuitId}
 use Rattle.net_base.specs.declared.trace.event.Event.{Event}
-use Rattle.net_base.specs.declared.trace.event.Event.TheVariants.{Tick}
-use Rattle.net_base.specs.plan.Planned.{IsEventOf}
+use Rattle.net_base.specs.declared.trace.event.Event.TheVariants.{Frame, Tick}
+use Rattle.net_base.specs.plan.Planned.{IsEventOf, IsFrame}
 use Rattle.network_model.specs.Connection.{is_deliverable}
 use Rattle.network_model.specs.Delivery.{delivery_of, first_from, first_pair, next_delivery, pair_or}
 use Rattle.network_model.specs.declared.packet.Packet.{Packet}
@@ -17,7 +18,8 @@ use Rattle.network_model.specs.Step.{step}
 use Rattle.command_text.specs.declared.command.Command.{Command}
 use Rattle.command_text.specs.declared.command.Command.TheVariants.{One, Settle, Flow, Ticks, Play}
 use Rattle.command_text.specs.Planned.{IsPlanned}
-use Rattle.vplsnet.specs.Made.{arrivals, deliveries, event_and, made, made_by, ticks, turns}
+use Rattle.vplsnet.specs.Made.{arrivals, captures_after, deliveries, entering, event_and, made, made_by, next_frames, ticks, turns}
+use Rattle.vplsnet.proofs.MadeLemmas.{left_short, next_short}
 
 -- the first ones of a list
 pub All-first : {X : Type 0} (P : X → Type 0) (xs ys : List X) → All P (xs ++ ys) → All P xs
@@ -95,16 +97,23 @@ arrival_planned plan (Some packet) event found =
 arrivals_planned : (plan : Plan) (count : ℕ) (network : NetworkState) → All (IsEventOf plan) (arrivals plan count network)
 arrivals_planned plan count network = turns_planned plan next_arrival count network (λ n event found. arrival_planned plan (slice_get n.under_way 0) event found)
 
-made_by_planned : (plan : Plan) (network : NetworkState) (command : Command) → IsPlanned plan command → All (IsEventOf plan) (made_by plan network command)
-made_by_planned plan network (One event) planned = All-cons (IsEventOf plan) event [] planned (All-nil (IsEventOf plan))
-made_by_planned plan network (Settle count) planned = deliveries_planned plan count network
-made_by_planned plan network (Flow count) planned = arrivals_planned plan count network
-made_by_planned plan network (Ticks count) planned = ticks_planned plan count
-made_by_planned plan network (Play circuit file) planned = All-nil (IsEventOf plan)
+entering_planned : (plan : Plan) (circuit : CircuitId) (frames : List (List ℕ)) → circuit.0 < length plan.circuits → All IsFrame frames → All (IsEventOf plan) (entering circuit frames)
+entering_planned plan circuit [] within short = All-nil (IsEventOf plan)
+entering_planned plan circuit (frame ∷ frames) within short =
+    All-cons (IsEventOf plan) (Frame circuit frame) (entering circuit frames) (within, All-head IsFrame frame frames short) (entering_planned plan circuit frames within (All-tail IsFrame frame frames short))
 
-pub made_planned : (plan : Plan) (network : NetworkState) (commands : List Command) → All (IsPlanned plan) commands → All (IsEventOf plan) (made plan network commands)
-made_planned plan network [] planned = All-nil (IsEventOf plan)
-made_planned plan network (command ∷ commands) planned =
-    All-append (IsEventOf plan) (made_by plan network command) (made plan (state_after plan network (made_by plan network command)) commands)
-    (made_by_planned plan network command (All-head (IsPlanned plan) command commands planned))
-    (made_planned plan (state_after plan network (made_by plan network command)) commands (All-tail (IsPlanned plan) command commands planned))
+made_by_planned : (plan : Plan) (network : NetworkState) (captures : List (List (List ℕ))) (command : Command) → All (All IsFrame) captures → IsPlanned plan command → All (IsEventOf plan) (made_by plan network captures command)
+made_by_planned plan network captures (One event) short planned = All-cons (IsEventOf plan) event [] planned (All-nil (IsEventOf plan))
+made_by_planned plan network captures (Settle count) short planned = deliveries_planned plan count network
+made_by_planned plan network captures (Flow count) short planned = arrivals_planned plan count network
+made_by_planned plan network captures (Ticks count) short planned = ticks_planned plan count
+made_by_planned plan network captures (Play circuit file) short planned = entering_planned plan circuit (next_frames captures) planned (next_short captures short)
+
+pub made_planned : (plan : Plan) (network : NetworkState) (captures : List (List (List ℕ))) (commands : List Command) → All (All IsFrame) captures → All (IsPlanned plan) commands
+    → All (IsEventOf plan) (made plan network captures commands)
+made_planned plan network captures [] short planned = All-nil (IsEventOf plan)
+made_planned plan network captures (command ∷ commands) short planned =
+    let here = made_by plan network captures command in
+    All-append (IsEventOf plan) here (made plan (state_after plan network here) (captures_after command captures) commands)
+    (made_by_planned plan network captures command short (All-head (IsPlanned plan) command commands planned))
+    (made_planned plan (state_after plan network here) (captures_after command captures) commands (left_short command captures short) (All-tail (IsPlanned plan) command commands planned))

@@ -1,41 +1,61 @@
--- How a call of the program ends: what is common to all commands, and what each makes of the octets of its file.
-use Rattle.std.specs.Prelude.{◌≡◌, ◌⊎◌, ◌≤◌, ◌<◌, ℕ, List, length, Option, Some, None, IfSome}
+-- How a call of the program ends: what is common to all commands.
+use Rattle.std.specs.Prelude.{◌≡◌, ◌≢◌, ◌⊎◌, ◌≤◌, ◌<◌, ℕ, List, [], length, Option, Some, None, IfSome}
 use Rattle.net_base.specs.outside.Outside.{Rose}
+use Rattle.command_text.specs.declared.scenario_fault.ScenarioFault.TheVariants as scenario_fault
+use Rattle.pcap_file.specs.declared.capture_fault.CaptureFault.TheVariants as capture_fault
+use Rattle.psn_net.specs.declared.net_stop.NetStop.{NetStop}
 use Rattle.psn_net.specs.Lists.{NetLists}
-use Rattle.scenario_text.specs.Document.{document}
+use Rattle.scenario_text.specs.declared.scenario.Scenario.{Scenario}
+use Rattle.text_lines.specs.Written.{AppendsFront, Writes}
 use Rattle.vplsnet.specs.declared.outcome.Outcome.{Outcome}
-use Rattle.vplsnet.specs.declared.outcome.Outcome.TheVariants.{Usage, ReadFault, WriteFault, TooLong, ScenarioRefused, NotBuilt, NoMemory}
+use Rattle.vplsnet.specs.declared.outcome.Outcome.TheVariants.{Done, Usage, ReadFault, WriteFault, TooLong, ScenarioRefused, NoCircuit, CaptureRefused, Stopped, DecodeRefused, Unfinished, NoMemory}
 use Rattle.vplsnet.specs.Around.{Files, Around, HasReadFault, HasWriteFault, IsUntouched, Has, TellsFile}
-use Rattle.vplsnet.specs.Asked.{Asked, Replay, Decode}
-use Rattle.vplsnet.specs.Decode.{stream_limit, IsDecoding, IsDecodedAs}
-use Rattle.vplsnet.specs.Files.{IsLonger, AppendsFront, Writes}
-use Rattle.vplsnet.specs.Replay.{scenario_limit, Replays, replay_outcome}
+use Rattle.vplsnet.specs.Asked.{Asked, Replay, Tables, Capture, Decode, Rehearse}
+use Rattle.vplsnet.specs.Capture.{captured}
+use Rattle.vplsnet.specs.Decode.{AppendsPart, IsDecoding, IsDecodedAs}
+use Rattle.vplsnet.specs.Files.{IsLonger}
+use Rattle.vplsnet.specs.Inputs.{Wanted, Next, Reads, Refuses, Works, Work, Run, Stream, ComesTo}
+use Rattle.vplsnet.specs.Rehearse.{rehearse_text}
+use Rattle.vplsnet.specs.Replay.{replay_text}
+use Rattle.vplsnet.specs.ScenarioRun.{IsScenarioRun, outcome_by, whole_run}
+use Rattle.vplsnet.specs.Tables.{tables_text}
 
--- The commands, a row for each: the file that it reads, the most octets of that file, the text, the network after the run and
--- the outcome of these octets, and their outcome alone.
+-- The text of a command, a row for each: what it writes of the network that a run left, and of the limit that stopped it, if one did.
+-- That of `decode` is told of octets.
+abbrev pub run_text : Asked → NetLists → Option NetStop → List ℕ
+run_text (Replay file) left reason = replay_text left reason
+run_text (Tables file) left reason = tables_text left reason
+run_text (Capture file circuit) left reason = captured left circuit reason
+run_text (Rehearse seed) left reason = rehearse_text seed left reason
+run_text (Decode file) left reason = []
 
-abbrev pub file_of : Asked → List ℕ
-file_of (Replay file) = file
-file_of (Decode file) = file
+-- the text and the network of a run
+pub record TellsRun (asked : Asked) (scenario : Scenario) (captures : List (List (List ℕ))) (text : List ℕ) (network : Option NetLists) (reason : Option NetStop) : Type 0 where
+  pub left : NetLists
+  pub network_is : network ≡ Some left
+  pub is_run : IsScenarioRun scenario captures left reason
+  pub text_is : text ≡ run_text asked left reason
 
-abbrev pub limit_of : Asked → ℕ
-limit_of (Replay file) = scenario_limit
-limit_of (Decode file) = stream_limit
+-- the text, the network after the run and the outcome that a command makes of its work
+abbrev pub MakesRun : Asked → Scenario → List (List (List ℕ)) → List ℕ → Option NetLists → Outcome → Type 0
+MakesRun asked scenario captures text network Done = TellsRun asked scenario captures text network None
+MakesRun asked scenario captures text network (Stopped reason) = TellsRun asked scenario captures text network (Some reason)
+MakesRun asked scenario captures text network outcome = ⊥
 
-abbrev pub Makes : Asked → List ℕ → List ℕ → Option NetLists → Outcome → Type 0
-Makes (Replay file) octets text network outcome = Replays octets text network outcome
-Makes (Decode file) octets text network outcome = IsDecoding octets text network outcome
+abbrev pub Makes : Asked → Work → List ℕ → Option NetLists → Outcome → Type 0
+Makes asked (Run scenario captures) text network outcome = MakesRun asked scenario captures text network outcome
+Makes asked (Stream octets) text network outcome = IsDecoding octets text network outcome
 
-abbrev pub IsEndOf : Asked → List ℕ → Outcome → Type 0
-IsEndOf (Replay file) octets outcome = outcome ≡ replay_outcome (document octets)
-IsEndOf (Decode file) octets outcome = IsDecodedAs octets outcome
+-- the outcome of this work alone
+abbrev pub IsEndOf : Work → Outcome → Type 0
+IsEndOf (Run scenario captures) outcome = outcome ≡ outcome_by (whole_run scenario captures).stop
+IsEndOf (Stream octets) outcome = IsDecodedAs octets outcome
 
--- the file was read whole, and of its octets the command makes this text, the network of this run and this outcome
+-- the files were read, and the command had its work, and makes this text, the network of this run and this outcome of it
 pub record IsMade (around : Around) (asked : Asked) (text : List ℕ) (network : Option NetLists) (outcome : Outcome) : Type 0 where
-  pub octets : List ℕ
-  pub has : Has around.files (file_of asked) octets
-  pub fits : length octets ≤ limit_of asked
-  pub makes : Makes asked octets text network outcome
+  pub work : Work
+  pub come : ComesTo (Has around.files) asked (Works work)
+  pub makes : Makes asked work text network outcome
 
 -- the whole text was taken
 pub record IsWhole (around : Around) (asked : Asked) (network : Option NetLists) (outcome : Outcome) : Type 0 where
@@ -51,19 +71,57 @@ pub record IsCutShort (around : Around) (asked : Asked) (network : Option NetLis
   pub taken : AppendsFront around.taken_before around.taken_after text
   pub cause : HasWriteFault around
 
--- the file has more octets than the command's limit
-pub record IsTooLong (files : Files) (asked : Asked) (named : List ℕ) (limit : ℕ) : Type 0 where
-  pub same : named ≡ file_of asked
-  pub is_limit : limit ≡ limit_of asked
-  pub longer : IfSome files (λ held. IsLonger (limit_of asked) (held (file_of asked)))
+-- a file that comes next was not read, since the shelf failed
+pub record IsUnread (files : Files) (before after : List ℕ → ℕ) (asked : Asked) : Type 0 where
+  pub wanted : Wanted
+  pub come : ComesTo (Has files) asked (Reads wanted)
+  pub cause : Rose (before wanted.name) (after wanted.name)
 
--- What an outcome says, its cause among it. The outcomes of a command's own are those that it makes of the octets.
+-- a file that comes next has more octets than its limit
+pub record IsTooLong (files : Files) (asked : Asked) (named : List ℕ) (limit : ℕ) : Type 0 where
+  pub come : ComesTo (Has files) asked (Reads (record { name = named; limit = limit }))
+  pub longer : IfSome files (λ held. IsLonger limit (held named))
+
+-- What is refused before any run, by the files and by the shelf's counts of faults before and after: a file that comes next was not had,
+-- or the outcome is what comes next. Want of memory says nothing.
+abbrev pub IsRefused : Files → (List ℕ → ℕ) → (List ℕ → ℕ) → Asked → Outcome → Type 0
+IsRefused files before after asked ReadFault = IsUnread files before after asked
+IsRefused files before after asked (TooLong named limit) = IsTooLong files asked named limit
+IsRefused files before after asked (ScenarioRefused fault) = ComesTo (Has files) asked (Refuses (ScenarioRefused fault)) × (fault ≢ scenario_fault.NoMemory)
+IsRefused files before after asked (NoCircuit circuit) = ComesTo (Has files) asked (Refuses (NoCircuit circuit))
+IsRefused files before after asked (CaptureRefused file fault) = ComesTo (Has files) asked (Refuses (CaptureRefused file fault)) × (fault ≢ capture_fault.NoMemory)
+IsRefused files before after asked NoMemory = Unit {0}
+IsRefused files before after asked outcome = ⊥
+
+-- no run began, and nothing was taken
+abbrev pub SaysRefusal : Around → Asked → Option NetLists → Outcome → Type 0
+SaysRefusal around asked network outcome = IsRefused around.files around.shelf_before around.shelf_after asked outcome × IsUntouched around network
+
+-- where memory was refused in the middle of a stream, a front of the text of its messages was taken, all of it perhaps
+pub record IsGivenUp (around : Around) (asked : Asked) (network : Option NetLists) : Type 0 where
+  pub text : List ℕ
+  pub outcome : Outcome
+  pub made : IsMade around asked text network outcome
+  pub taken : AppendsPart around.taken_before around.taken_after text
+
+-- where memory was refused: nothing was taken, or a front of the text of a decoding, whose messages want memory one by one
+abbrev pub SaysWant : Around → Asked → Option NetLists → Type 0
+SaysWant around (Replay file) network = IsUntouched around network
+SaysWant around (Tables file) network = IsUntouched around network
+SaysWant around (Capture file circuit) network = IsUntouched around network
+SaysWant around (Rehearse seed) network = IsUntouched around network
+SaysWant around (Decode file) network = IsUntouched around network ⊎ IsGivenUp around (Decode file) network
+
+-- What an outcome says, its cause among it.
 abbrev pub SaysOutcome : Around → Asked → Option NetLists → Outcome → Type 0
 SaysOutcome around asked network Usage = ⊥
-SaysOutcome around asked network ReadFault = HasReadFault around (file_of asked) × IsUntouched around network
-SaysOutcome around asked network (TooLong named limit) = IsTooLong around.files asked named limit × IsUntouched around network
+SaysOutcome around asked network ReadFault = SaysRefusal around asked network ReadFault
+SaysOutcome around asked network (TooLong named limit) = SaysRefusal around asked network (TooLong named limit)
+SaysOutcome around asked network (ScenarioRefused fault) = SaysRefusal around asked network (ScenarioRefused fault)
+SaysOutcome around asked network (NoCircuit circuit) = SaysRefusal around asked network (NoCircuit circuit)
+SaysOutcome around asked network (CaptureRefused file fault) = SaysRefusal around asked network (CaptureRefused file fault)
 SaysOutcome around asked network WriteFault = IsCutShort around asked network
-SaysOutcome around asked network NoMemory = IsUntouched around network
+SaysOutcome around asked network NoMemory = SaysWant around asked network
 SaysOutcome around asked network outcome = IsWhole around asked network outcome
 
 -- the same of words that may ask for nothing
@@ -71,33 +129,31 @@ abbrev pub Finishes : Around → Option Asked → Option NetLists → Outcome �
 Finishes around None network outcome = (outcome ≡ Usage) × IsUntouched around network
 Finishes around (Some asked) network outcome = SaysOutcome around asked network outcome
 
--- the outcome that the octets of the file call for: by their length, and then by the command
-abbrev pub CallsFor : Asked → List ℕ → Outcome → Type 0
-CallsFor asked octets outcome =
-    ((limit_of asked < length octets) × (outcome ≡ TooLong (file_of asked) (limit_of asked))) ⊎ ((length octets ≤ limit_of asked) × IsEndOf asked octets outcome)
+-- the shelf tells these octets of a file, and no call with its name failed
+pub record IsSound (around : Around) (name octets : List ℕ) : Type 0 where
+  pub tells : TellsFile around.files name octets
+  pub read : ¬ HasReadFault around name
 
--- no call of the sink failed that this outcome needs: what is refused before any run is not written
-abbrev pub IsTakenWhole : Around → Outcome → Type 0
-IsTakenWhole around (TooLong named limit) = Unit {0}
-IsTakenWhole around (ScenarioRefused fault) = Unit {0}
-IsTakenWhole around NotBuilt = Unit {0}
-IsTakenWhole around outcome = ¬ HasWriteFault around
-
--- the shelf tells the file, whose octets call for this outcome, and no call failed that it needs
-pub record IsSoundOutcome (around : Around) (asked : Asked) (outcome : Outcome) : Type 0 where
+-- a file that comes next and is too long
+pub record CallsTooLong (around : Around) (wanted : Wanted) (outcome : Outcome) : Type 0 where
   pub octets : List ℕ
-  pub tells : TellsFile around.files (file_of asked) octets
-  pub calls : CallsFor asked octets outcome
-  pub read : ¬ HasReadFault around (file_of asked)
-  pub written : IsTakenWhole around outcome
+  pub sound : IsSound around wanted.name octets
+  pub longer : wanted.limit < length octets
+  pub is : outcome ≡ TooLong wanted.name wanted.limit
 
--- in a sound surrounding the outcome is what the octets call for, or memory was refused
+-- The outcome that is called for by what comes next: a file that is too long, what is refused before any run, or what the command makes
+-- of its work, where no call of the sink failed.
+abbrev pub CallsFor : Around → Next → Outcome → Type 0
+CallsFor around (Reads wanted) outcome = CallsTooLong around wanted outcome
+CallsFor around (Refuses refused) outcome = outcome ≡ refused
+CallsFor around (Works work) outcome = IsEndOf work outcome × (¬ HasWriteFault around)
+
+-- the shelf tells the files that are read, no call with their names failed, and what comes next behind them calls for this outcome
+pub record IsSoundOutcome (around : Around) (asked : Asked) (outcome : Outcome) : Type 0 where
+  pub next : Next
+  pub come : ComesTo (IsSound around) asked next
+  pub calls : CallsFor around next outcome
+
+-- in a sound surrounding the outcome is what the files call for, or memory was refused
 abbrev pub Completes : Around → Asked → Outcome → Type 0
 Completes around asked outcome = (called : Outcome) → IsSoundOutcome around asked called → (outcome ≡ called) ⊎ (outcome ≡ NoMemory)
-
--- why a file was not had
-abbrev pub IsUnread : Files → (List ℕ → ℕ) → (List ℕ → ℕ) → List ℕ → ℕ → Outcome → Type 0
-IsUnread files before after name limit ReadFault = Rose (before name) (after name)
-IsUnread files before after name limit (TooLong named most) = (named ≡ name) × (most ≡ limit) × IfSome files (λ held. IsLonger limit (held name))
-IsUnread files before after name limit NoMemory = Unit {0}
-IsUnread files before after name limit outcome = ⊥

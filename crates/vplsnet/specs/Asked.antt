@@ -1,31 +1,51 @@
 -- What the words of the command line ask for.
-use Rattle.std.specs.Prelude.{◌&&◌, ◌==◌, not, nat_lt, codes, ℕ, Bool, List, [], ◌∷◌, length, slice_index, Option, Some, None, if◌then◌else◌}
+use Rattle.std.specs.Prelude.{◌&&◌, ◌==◌, ◌-◌, ◌^◌, not, nat_lt, codes, ℕ, Bool, List, [], ◌∷◌, length, slice_index, Option, Some, None, option_map, if◌then◌else◌}
 use Rattle.std.specs.Str.{bytes_eq}
+use Rattle.command_text.specs.Words.{decimal_from}
 use Rattle.vplsnet.specs.declared.request.Request.{Request}
 use Rattle.vplsnet.specs.declared.request.Request.TheVariants as request
 
 -- a command with what its words name
 pub data Asked : Type 0 where
   Replay : (file : List ℕ) → Asked
+  Tables : (file : List ℕ) → Asked
+  Capture : (file circuit : List ℕ) → Asked
   Decode : (file : List ℕ) → Asked
+  Rehearse : (seed : ℕ) → Asked
 
 -- a request as it was asked for
 abbrev pub asked_by : Request → Asked
 asked_by (request.Replay file) = Replay file.now
+asked_by (request.Tables file) = Tables file.now
+asked_by (request.Capture file circuit) = Capture file.now circuit.now
 asked_by (request.Decode file) = Decode file.now
+asked_by (request.Rehearse seed) = Rehearse seed
 
 -- neither empty nor an option: it does not begin with `-`
 abbrev pub is_plain : List ℕ → Bool
 is_plain word = nat_lt 0 (length word) && not (slice_index word 0 == 45)
 
--- a command that reads one file, by its name
-abbrev pub file_command : List ℕ → List ℕ → Option Asked
-file_command command file =
-    if bytes_eq command (codes "replay") then Some (Replay file) else if bytes_eq command (codes "decode") then Some (Decode file) else None
+-- a seed is a number below 2^64, in decimal without leading zeros
+abbrev pub rehearsed : List ℕ → Option Asked
+rehearsed word = option_map Rehearse (decimal_from 0 (2 ^ 64 - 1) word)
 
--- `replay FILE` or `decode FILE`, whose FILE is plain; any other words ask for nothing
+-- a command of one more word, which is plain, by its name
+abbrev pub one_word_command : List ℕ → List ℕ → Option Asked
+one_word_command command word =
+    if bytes_eq command (codes "replay") then Some (Replay word) else
+    if bytes_eq command (codes "tables") then Some (Tables word) else
+    if bytes_eq command (codes "decode") then Some (Decode word) else
+    if bytes_eq command (codes "rehearse") then rehearsed word else None
+
+-- a command of two more words, which are plain, by its name
+abbrev pub two_word_command : List ℕ → List ℕ → List ℕ → Option Asked
+two_word_command command file circuit = if bytes_eq command (codes "capture") then Some (Capture file circuit) else None
+
+-- `replay FILE`, `tables FILE`, `capture FILE CIRCUIT`, `decode FILE` or `rehearse SEED`, whose words behind the first are plain; any
+-- other words ask for nothing
 abbrev pub asked : List (List ℕ) → Option Asked
 asked [] = None
 asked (command ∷ []) = None
-asked (command ∷ file ∷ []) = if is_plain file then file_command command file else None
-asked (command ∷ file ∷ more ∷ rest) = None
+asked (command ∷ word ∷ []) = if is_plain word then one_word_command command word else None
+asked (command ∷ file ∷ circuit ∷ []) = if is_plain file && is_plain circuit then two_word_command command file circuit else None
+asked (command ∷ file ∷ circuit ∷ more ∷ rest) = None

@@ -1,12 +1,14 @@
 -- The status and the line by which the program ends.
 use Rattle.std.specs.Prelude.{◌++◌, codes, ℕ, List, []}
 use Rattle.std.specs.Fmt.{decimal}
+use Rattle.vplsnet.specs.CaptureFaultText.{capture_fault_words}
 use Rattle.vplsnet.specs.FaultText.{fault_words}
+use Rattle.pcap_file.specs.declared.capture_fault.CaptureFault.{CaptureFault}
 use Rattle.text_pieces.specs.Pieces.{spaced}
 use Rattle.vplsnet.specs.StopText.{stop_words}
 use Rattle.vplsnet.specs.StreamFaultText.{stream_fault_words}
 use Rattle.vplsnet.specs.declared.outcome.Outcome.{Outcome}
-use Rattle.vplsnet.specs.declared.outcome.Outcome.TheVariants.{Done, Usage, ReadFault, WriteFault, TooLong, ScenarioRefused, NotBuilt, Stopped, DecodeRefused, Unfinished, NoMemory}
+use Rattle.vplsnet.specs.declared.outcome.Outcome.TheVariants.{Done, Usage, ReadFault, WriteFault, TooLong, ScenarioRefused, NoCircuit, CaptureRefused, Stopped, DecodeRefused, Unfinished, NoMemory}
 
 abbrev pub status_of : Outcome → ℕ
 status_of Done = 0
@@ -15,7 +17,8 @@ status_of ReadFault = 3
 status_of WriteFault = 4
 status_of (TooLong name limit) = 5
 status_of (ScenarioRefused fault) = 5
-status_of NotBuilt = 5
+status_of (NoCircuit circuit) = 5
+status_of (CaptureRefused file fault) = 6
 status_of (DecodeRefused fault) = 6
 status_of (Unfinished at) = 6
 status_of (Stopped stop) = 7
@@ -23,6 +26,9 @@ status_of NoMemory = 8
 
 abbrev pub long_line : List ℕ → ℕ → List ℕ
 long_line name limit = ((codes "vplsnet: " ++ name) ++ codes " is longer than ") ++ decimal limit
+
+abbrev pub capture_line : List ℕ → CaptureFault → List ℕ
+capture_line file fault = ((codes "vplsnet: capture " ++ file) ++ codes ":") ++ spaced (capture_fault_words fault)
 
 -- the line that tells how a run ended; one that is done has none
 abbrev pub finish_text : Outcome → List ℕ
@@ -32,7 +38,8 @@ finish_text ReadFault = codes "vplsnet: read fault"
 finish_text WriteFault = codes "vplsnet: write fault"
 finish_text (TooLong name limit) = long_line name limit
 finish_text (ScenarioRefused fault) = codes "vplsnet: scenario:" ++ spaced (fault_words fault)
-finish_text NotBuilt = codes "vplsnet: not built"
+finish_text (NoCircuit circuit) = codes "vplsnet: no circuit " ++ circuit
+finish_text (CaptureRefused file fault) = capture_line file fault
 finish_text (Stopped stop) = codes "vplsnet: stopped:" ++ spaced (stop_words stop)
 finish_text (DecodeRefused fault) = codes "vplsnet: stream:" ++ spaced (stream_fault_words fault)
 finish_text (Unfinished at) = codes "vplsnet: stream ends at " ++ decimal at

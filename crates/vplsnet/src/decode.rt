@@ -1,24 +1,57 @@
 //! The command `decode`: the lines of a stream of LDP messages.
-ghost use Rattle.std.specs.Prelude.{◌≤◌, length, IfOk};
-ghost use Rattle.vplsnet.specs.Decode.{IsDecoding, stream_limit};
+ghost use Rattle.std.specs.Prelude.{◌≡◌, ◌<◌, ◌^◌, [], None, length};
+ghost use Rattle.text_lines.specs.Written.{written};
+ghost use Rattle.vplsnet.specs.Answers.{SaysOutcome};
+ghost use Rattle.vplsnet.specs.Asked.{Decode};
+ghost use Rattle.vplsnet.specs.Finish.{status_of};
+ghost use Rattle.vplsnet.specs.Writing.{EndsStream};
 
-use crate::answer::Answer;
-use crate::stream_text::stream_text;
-use net_base::NoMemory;
+use crate::decoder::Decoder;
+use crate::finish::Finish;
+use crate::named_file::octets_of;
+use crate::outcome::Outcome;
+use net_base::{NoMemory, Shelf, Sink};
 use std::alloc::Global;
 
-/// A line for each LDP message of a stream (RFC 5036 section 3.1), those before a fault too. `DecodeRefused` comes exactly
-/// where the stream has a fault, and `Unfinished` where it ends within a PDU. No run begins. The one error is want of memory.
-pub fn decode(alloc: Global, octets: &[u8]) -> Result<Answer, NoMemory>
-    requires fits { length octets.now ≤ stream_limit }
-    ensures { IfOk result (λ answer. IsDecoding octets.now answer.text.items answer.network answer.outcome) }
+/// The most octets of a stream.
+const STREAM_LIMIT: usize = 67_108_864;
+
+/// Reads a stream whole, and writes a line for each LDP message of it (RFC 5036 section 3.1), those before a fault too. The lines go
+/// to the sink page by page.
+/// `DecodeRefused` comes exactly where the stream has a fault, and `Unfinished` where it ends within a PDU. No run begins.
+#[tactic(auto, using(crate::proofs::AnswerLemmas::stream_not_had, crate::proofs::AnswerLemmas::stream_answers))]
+pub fn decode_file<F: Shelf, K: Sink>(
+    alloc: Global,
+    file: &str,
+    shelf: &mut F,
+    sink: &mut K,
+) -> Finish
+    ensures status { result.status ≡ status_of result.outcome }
+    ensures answers { SaysOutcome (record {
+      files = F.files shelf.old;
+      shelf_before = F.faults shelf.old;
+      shelf_after = F.faults shelf.new;
+      taken_before = K.taken sink.old;
+      taken_after = K.taken sink.new;
+      sink_before = K.faults sink.old;
+      sink_after = K.faults sink.new;
+    }) (Decode file.now) result.network result.outcome }
+    ensures same_files { F.files shelf.new ≡ F.files shelf.old }
 {
-    match stream_text(alloc, octets) {
-        Ok((text, outcome)) => Ok(Answer {
-            text,
-            network: None,
-            outcome,
-        }),
-        Err(fault) => Err(fault),
+    match octets_of(alloc, shelf, file, STREAM_LIMIT) {
+        Ok(octets) => Finish::without_run(write_stream(alloc, octets.as_slice(), sink)),
+        Err(outcome) => Finish::without_run(outcome),
+    }
+}
+
+// Writes the lines of a stream, and answers the outcome.
+#[tactic(auto, using(crate::proofs::WritingLemmas::ends_no_stream))]
+fn write_stream<K: Sink>(alloc: Global, octets: &[u8], sink: &mut K) -> Outcome
+    requires few { length octets.now < 2 ^ 62 }
+    ensures { EndsStream octets.now (written (K.taken sink.old) (K.faults sink.old) []) (written (K.taken sink.new) (K.faults sink.new) []) None result }
+{
+    match Decoder::new(alloc) {
+        Ok(mut decoder) => decoder.write(alloc, octets, sink),
+        Err(NoMemory) => Outcome::NoMemory,
     }
 }

@@ -1,9 +1,9 @@
-//! Whole files and whole texts, read and written in pieces.
+//! Whole files, read in pieces.
 ghost use Rattle.std.specs.Prelude.{◌≡◌, ◌<◌, ◌≤◌, ◌+◌, ◌^◌, [], length, IfErr, IfOk, IfSome, IsErrOf, OnErr, OnOk, Some};
-ghost use Rattle.net_base.specs.outside.Outside.{Rose, NeverFall, Appends};
-ghost use Rattle.vplsnet.specs.Files.{IsFrontOf, IsLonger, AppendsFront, Writes};
+ghost use Rattle.net_base.specs.outside.Outside.{Rose, NeverFall};
+ghost use Rattle.vplsnet.specs.Files.{IsFrontOf, IsLonger};
 
-use net_base::{Failed, List, NoMemory, Octets, Shelf, Sink};
+use net_base::{Failed, List, NoMemory, Octets, Shelf};
 use std::alloc::Global;
 
 /// The most octets that one call asks a shelf for.
@@ -129,33 +129,4 @@ fn within(octets: Octets, limit: usize) -> Result<Octets, ReadStop>
         return Err(ReadStop::TooLong);
     }
     Ok(octets)
-}
-
-/// Writes a text whole; of an empty text nothing is taken. After `Failed` a front of it was taken that lacks its end.
-#[tactic(auto, using(crate::proofs::FileLemmas::writes_some))]
-pub fn write_text<K: Sink>(sink: &mut K, text: &[u8]) -> Result<(), Failed>
-    ensures whole { OnOk result (Writes (K.taken sink.old) (K.taken sink.new) text.now) }
-    ensures front { OnErr result (AppendsFront (K.taken sink.old) (K.taken sink.new) text.now) }
-    ensures fault { OnErr result (Rose (K.faults sink.old) (K.faults sink.new)) }
-    ensures never_falls { K.faults sink.old ≤ K.faults sink.new }
-{
-    if text.is_empty() {
-        return Ok(());
-    }
-    write_pieces(sink, text)
-}
-
-// Writes a text piece by piece.
-fn write_pieces<K: Sink>(sink: &mut K, text: &[u8]) -> Result<(), Failed>
-    ensures whole { OnOk result (Appends (K.taken sink.old) (K.taken sink.new) text.now) }
-    ensures front { OnErr result (AppendsFront (K.taken sink.old) (K.taken sink.new) text.now) }
-    ensures fault { OnErr result (Rose (K.faults sink.old) (K.faults sink.new)) }
-    ensures never_falls { K.faults sink.old ≤ K.faults sink.new }
-{
-    let mut at = 0;
-    'writing: while at < text.len() {
-        let count = sink.write(&text[at..])?;
-        at += count;
-    }
-    Ok(())
 }

@@ -3,16 +3,18 @@ ghost use Rattle.std.specs.Prelude.{◌≡◌, ◌≢◌, ◌++◌, codes, IfOk}
 ghost use Rattle.std.specs.Fmt.{decimal};
 ghost use Rattle.text_pieces.specs.Pieces.{spaced};
 ghost use Rattle.vplsnet.specs.FaultText.{fault_words};
-ghost use Rattle.vplsnet.specs.Finish.{long_line, finish_text};
+ghost use Rattle.vplsnet.specs.Finish.{capture_line as told_capture_line, long_line, finish_text};
 ghost use Rattle.vplsnet.specs.StopText.{stop_words};
 ghost use Rattle.vplsnet.specs.StreamFaultText.{stream_fault_words};
 
+use crate::capture_fault_text::put_capture_fault;
 use crate::fault_text::put_fault;
 use crate::outcome::Outcome;
 use crate::stop_text::put_stop;
 use crate::stream_fault_text::put_stream_fault;
 use ldp_stream::StreamFault;
 use net_base::{NoMemory, Word};
+use pcap_file::CaptureFault;
 use psn_net::NetStop;
 use scenario_text::ScenarioFault;
 use std::alloc::Global;
@@ -30,7 +32,8 @@ pub fn finish_line(alloc: Global, outcome: &Outcome) -> Result<Vec<u8>, NoMemory
         Outcome::WriteFault => plain_line(alloc, b"vplsnet: write fault"),
         Outcome::TooLong { name, limit } => too_long_line(alloc, name, *limit),
         Outcome::ScenarioRefused(fault) => refused_line(alloc, *fault),
-        Outcome::NotBuilt => plain_line(alloc, b"vplsnet: not built"),
+        Outcome::NoCircuit(circuit) => no_circuit_line(alloc, circuit),
+        Outcome::CaptureRefused(file, fault) => capture_line(alloc, file, *fault),
         Outcome::Stopped(stop) => stopped_line(alloc, *stop),
         Outcome::DecodeRefused(fault) => stream_line(alloc, *fault),
         Outcome::Unfinished { at } => unfinished_line(alloc, *at),
@@ -61,6 +64,26 @@ fn refused_line(alloc: Global, fault: ScenarioFault) -> Result<Vec<u8>, NoMemory
 {
     let mut line = Vec::from_slice(alloc, b"vplsnet: scenario:")?;
     put_fault(&mut line, fault)?;
+    Ok(line)
+}
+
+// The line for a circuit that the scenario lacks.
+fn no_circuit_line(alloc: Global, circuit: &Word) -> Result<Vec<u8>, NoMemory>
+    ensures { IfOk result (λ line. line.items ≡ codes "vplsnet: no circuit " ++ circuit.now) }
+{
+    let mut line = Vec::from_slice(alloc, b"vplsnet: no circuit ")?;
+    put_text(&mut line, circuit.as_slice())?;
+    Ok(line)
+}
+
+// The line for a capture that is refused.
+fn capture_line(alloc: Global, file: &Word, fault: CaptureFault) -> Result<Vec<u8>, NoMemory>
+    ensures { IfOk result (λ line. line.items ≡ told_capture_line file.now fault) }
+{
+    let mut line = Vec::from_slice(alloc, b"vplsnet: capture ")?;
+    put_text(&mut line, file.as_slice())?;
+    put_text(&mut line, b":")?;
+    put_capture_fault(&mut line, fault)?;
     Ok(line)
 }
 

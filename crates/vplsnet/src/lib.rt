@@ -1,9 +1,11 @@
 //! `vplsnet`: a network of VPLS provider edges, run from a file.
 #![tactic(auto)]
 
-mod answer;
-mod built;
+mod capture;
+mod capture_fault_text;
+mod captures;
 mod decode;
+mod decoder;
 mod fault_text;
 mod file_shelf;
 mod files;
@@ -11,18 +13,26 @@ mod finish;
 pub mod finish_line;
 mod named_file;
 mod outcome;
+mod rehearse;
 mod replay;
 mod request;
 pub mod run;
+mod run_text;
+mod scenario_file;
 mod scenario_run;
 mod std_sink;
 mod stop_text;
 mod stream_fault_text;
+mod stream_stop;
 mod stream_text;
+mod tables;
 mod types;
+mod work;
 
 pub use file_shelf::FileShelf;
-pub use files::{ReadStop, read_file, write_text};
+pub use files::{ReadStop, read_file};
 pub use finish::Finish;
 pub use outcome::Outcome;
+pub use rehearsal::rehearsal;
 pub use std_sink::StdSink;
+pub use text_lines::write_text;

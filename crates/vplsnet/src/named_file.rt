@@ -1,8 +1,8 @@
-//! The file that the words name, read whole.
+//! A file that is named, read whole.
 ghost use Rattle.std.specs.Prelude.{◌≡◌, ◌≤◌, ◌<◌, ◌^◌, length, IfErr, IfOk};
+ghost use Rattle.net_base.specs.outside.Outside.{NeverFall};
 ghost use Rattle.vplsnet.specs.Around.{Has};
-ghost use Rattle.vplsnet.specs.Answers.{IsUnread};
-ghost use Rattle.vplsnet.specs.Files.{Unread};
+ghost use Rattle.vplsnet.specs.Files.{IsNotHad, Unread};
 
 use crate::files::{ReadStop, read_file};
 use crate::outcome::Outcome;
@@ -19,8 +19,9 @@ pub fn octets_of<F: Shelf>(
     requires { limit < 2 ^ 62 }
     ensures has { IfOk result (Has (F.files shelf.old) name.now) }
     ensures fits { IfOk result (λ octets. length octets ≤ limit) }
-    ensures unread { IfErr result (IsUnread (F.files shelf.old) (F.faults shelf.old) (F.faults shelf.new) name.now limit) }
+    ensures not_had { IfErr result (IsNotHad (F.files shelf.old) (F.faults shelf.old) (F.faults shelf.new) name.now limit) }
     ensures same_files { F.files shelf.new ≡ F.files shelf.old }
+    ensures never_fall { NeverFall (F.faults shelf.old) (F.faults shelf.new) }
 {
     match read_file(alloc, shelf, name, limit) {
         Ok(octets) => Ok(octets),

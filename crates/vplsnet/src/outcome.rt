@@ -4,6 +4,7 @@ ghost use Rattle.vplsnet.specs.Finish.{status_of};
 
 use ldp_stream::StreamFault;
 use net_base::Word;
+use pcap_file::CaptureFault;
 use psn_net::NetStop;
 use scenario_text::ScenarioFault;
 
@@ -14,7 +15,8 @@ pub enum Outcome {
     Done,
     /// The words are not those of a command.
     Usage,
-    /// A call of the shelf for the named file failed. Nothing was taken.
+    /// A call of the shelf failed for the file that comes next: that of the words, or one that the scenario plays. Nothing was
+    /// taken.
     ReadFault,
     /// The sink failed. What was taken is a front of the text.
     WriteFault,
@@ -22,16 +24,19 @@ pub enum Outcome {
     TooLong { name: Word, limit: u64 },
     /// The scenario has this first fault, which is not want of memory. Nothing was taken.
     ScenarioRefused(ScenarioFault),
-    /// The scenario is accepted, and has something that is not built yet. Nothing was taken.
-    NotBuilt,
-    /// A limit of the run stopped it, which is not want of memory. The report of what was done before was taken.
+    /// The scenario is accepted, and has no circuit of this name. Nothing was taken.
+    NoCircuit(Word),
+    /// The scenario is accepted, and this file that it plays has this first fault, which is not want of memory. Nothing was taken.
+    CaptureRefused(Word, CaptureFault),
+    /// A limit of the run stopped it, which is not want of memory. The report of what was done before was taken, and of another
+    /// command nothing.
     Stopped(NetStop),
     /// The stream has this first fault, which is not want of memory. The lines of the messages before it were taken.
     DecodeRefused(StreamFault),
     /// The stream ends within a PDU that begins at `at`, in octets from 0. The lines of the messages before it were
     /// taken.
     Unfinished { at: u64 },
-    /// Memory was refused. Nothing was taken.
+    /// Memory was refused. Nothing was taken, or of a stream a front of the lines of its messages.
     NoMemory,
 }
 
@@ -45,8 +50,9 @@ impl Outcome {
             Outcome::Usage => 2,
             Outcome::ReadFault => 3,
             Outcome::WriteFault => 4,
-            Outcome::TooLong { .. } | Outcome::ScenarioRefused(_) | Outcome::NotBuilt => 5,
-            Outcome::DecodeRefused(_) | Outcome::Unfinished { .. } => 6,
+            Outcome::TooLong { .. } | Outcome::ScenarioRefused(_) | Outcome::NoCircuit(_) => 5,
+            Outcome::CaptureRefused(..) | Outcome::DecodeRefused(_) | Outcome::Unfinished { .. } =>
+                6,
             Outcome::Stopped(_) => 7,
             Outcome::NoMemory => 8,
         }

@@ -1,54 +1,41 @@
 //! What the words of the command line ask for. They are read by hand: the rows are few and fixed.
-ghost use Rattle.std.specs.Prelude.{◌≡◌, ◌<◌, ◌^◌, map, option_map, string_bytes};
-ghost use Rattle.vplsnet.specs.Answers.{file_of, limit_of};
-ghost use Rattle.vplsnet.specs.Asked.{asked, asked_by, file_command, is_plain};
+ghost use Rattle.std.specs.Prelude.{◌≡◌, map, option_map, string_bytes};
+ghost use Rattle.vplsnet.specs.Asked.{asked, asked_by, is_plain, one_word_command, rehearsed, two_word_command};
 
-/// The most octets of a scenario.
-const SCENARIO_LIMIT: usize = 8_388_608;
-
-/// The most octets of a stream.
-const STREAM_LIMIT: usize = 67_108_864;
+use command_text::decimal::decimal;
+use command_text::is_same;
 
 /// A command with what its words name.
 #[derive(Clone, Copy)]
 pub enum Request<'a> {
     /// `replay FILE`: the report of the run of the scenario in FILE.
     Replay { file: &'a str },
+    /// `tables FILE`: the tables of the network after this run.
+    Tables { file: &'a str },
+    /// `capture FILE CIRCUIT`: a capture of the frames that left the circuit in this run.
+    Capture { file: &'a str, circuit: &'a str },
     /// `decode FILE`: a line for each LDP message of the stream in FILE.
     Decode { file: &'a str },
-}
-
-impl<'a> Request<'a> {
-    /// The file that the command reads.
-    pub fn file(self) -> &'a str
-        ensures { result.now ≡ file_of (asked_by self.entry) }
-    {
-        match self {
-            Request::Replay { file } | Request::Decode { file } => file,
-        }
-    }
-
-    /// The most octets of this file.
-    pub fn limit(self) -> usize
-        ensures it { result ≡ limit_of (asked_by self.entry) }
-        ensures few { result < 2 ^ 62 }
-    {
-        match self {
-            Request::Replay { .. } => SCENARIO_LIMIT,
-            Request::Decode { .. } => STREAM_LIMIT,
-        }
-    }
+    /// `rehearse SEED`: two lines on the run of the scenario that the seed makes.
+    Rehearse { seed: u64 },
 }
 
 /// What the words ask for; `None` exactly where they are no row of the table of commands. The words are those behind the
-/// program's name. A FILE is not empty and does not begin with `-`.
+/// program's name. None of them is empty or begins with `-`. A SEED is a decimal number below 2^64 without leading zeros.
 pub fn request_of<'a>(words: &'a [String]) -> Option<Request<'a>>
     ensures { option_map asked_by result ≡ asked (map string_bytes words.now) }
 {
     match words {
-        [command, file] => {
-            if is_plain_word(file.as_str()) {
-                file_request(command.as_str(), file.as_str())
+        [command, word] => {
+            if is_plain_word(word.as_str()) {
+                one_word_request(command.as_str(), word.as_str())
+            } else {
+                None
+            }
+        }
+        [command, file, circuit] => {
+            if is_plain_word(file.as_str()) && is_plain_word(circuit.as_str()) {
+                two_word_request(command.as_str(), file.as_str(), circuit.as_str())
             } else {
                 None
             }
@@ -57,14 +44,39 @@ pub fn request_of<'a>(words: &'a [String]) -> Option<Request<'a>>
     }
 }
 
-// A command that reads one file, by its name.
-fn file_request<'a>(command: &str, file: &'a str) -> Option<Request<'a>>
-    ensures { option_map asked_by result ≡ file_command command.now file.now }
+// A command of one more word, by its name.
+fn one_word_request<'a>(command: &str, word: &'a str) -> Option<Request<'a>>
+    ensures { option_map asked_by result ≡ one_word_command command.now word.now }
 {
-    if command == "replay" {
-        Some(Request::Replay { file })
-    } else if command == "decode" {
-        Some(Request::Decode { file })
+    if is_same(command, "replay") {
+        Some(Request::Replay { file: word })
+    } else if is_same(command, "tables") {
+        Some(Request::Tables { file: word })
+    } else if is_same(command, "decode") {
+        Some(Request::Decode { file: word })
+    } else if is_same(command, "rehearse") {
+        rehearse_request(word)
+    } else {
+        None
+    }
+}
+
+// A rehearsal of the seed that a word writes.
+fn rehearse_request<'a>(word: &str) -> Option<Request<'a>>
+    ensures { option_map asked_by result ≡ rehearsed word.now }
+{
+    match decimal(0, u64::MAX, word.as_bytes()) {
+        Some(seed) => Some(Request::Rehearse { seed }),
+        None => None,
+    }
+}
+
+// A command of two more words, by its name.
+fn two_word_request<'a>(command: &str, file: &'a str, circuit: &'a str) -> Option<Request<'a>>
+    ensures { option_map asked_by result ≡ two_word_command command.now file.now circuit.now }
+{
+    if is_same(command, "capture") {
+        Some(Request::Capture { file, circuit })
     } else {
         None
     }

@@ -1,34 +1,48 @@
 //! All that the program does.
-ghost use Rattle.std.specs.Prelude.{◌≡◌, ◌≤◌, ◌↔◌, None, length, map, string_bytes, IfOk, IfSome};
-ghost use Rattle.vplsnet.specs.Answers.{Completes, Finishes, Makes, SaysOutcome, limit_of};
+ghost use Rattle.std.specs.Prelude.{◌≡◌, ◌↔◌, [], All, None, Some, map, string_bytes, IfErr, IfOk, IfSome};
+ghost use Rattle.net_base.specs.plan.Accepted.{IsChecked};
+ghost use Rattle.net_base.specs.plan.Planned.{IsFrame};
+ghost use Rattle.command_text.specs.Planned.{IsPlanned};
+ghost use Rattle.rehearsal.specs.Scenario.{rehearsal as rehearsal_of};
+ghost use Rattle.text_lines.specs.Written.{written};
+ghost use Rattle.vplsnet.specs.Answers.{Completes, Finishes, IsRefused, SaysOutcome, run_text};
+ghost use Rattle.vplsnet.specs.Around.{Has};
 ghost use Rattle.vplsnet.specs.Asked.{asked, asked_by};
 ghost use Rattle.vplsnet.specs.Finish.{status_of};
+ghost use Rattle.vplsnet.specs.Inputs.{ComesTo, Run, Works};
+ghost use Rattle.vplsnet.specs.ScenarioRun.{outcome_by};
+ghost use Rattle.vplsnet.specs.Writing.{EndsRun, EndsText, RunsScenario};
 
-use crate::answer::Answer;
-use crate::decode::decode;
-use crate::files::write_text;
+use crate::decode::decode_file;
 use crate::finish::Finish;
-use crate::named_file::octets_of;
 use crate::outcome::Outcome;
-use crate::replay::replay;
 use crate::request::{Request, request_of};
-use net_base::{NoMemory, Octets, Shelf, Sink};
+use crate::run_text::write_run;
+use crate::scenario_file::scenario_of;
+use crate::scenario_run::{ScenarioRun, run_scenario};
+use crate::work::Work;
+use net_base::{List, NoMemory, Shelf, Sink};
+use psn_net::NetStop;
+use rehearsal::rehearsal;
 use std::alloc::Global;
+use tables_text::Sorting;
+use text_lines::Page;
 
-/// Does what the words ask, over a shelf of files and a sink for the text.
+/// Does what the words ask, over a shelf of files and a sink for the text. `Usage` comes exactly where the words are no row below.
 ///
-/// `Usage` comes exactly where the words are neither row below; then, in this order, `ReadFault` where the shelf's count
-/// for the file rose, and `TooLong` where the file has more octets than its limit.
-///
-/// `replay FILE` reads a scenario, of at most 8,388,608 octets, and writes the report of its run: `ScenarioRefused` where
-/// it has a fault, then `NotBuilt` where it has something that is not built yet, and `WriteFault` where the sink's count
-/// rose.
+/// `replay FILE`, `tables FILE` and `capture FILE CIRCUIT` read a scenario, of at most 8,388,608 octets, and run it. In this order come
+/// `ReadFault` and `TooLong` of the file, `ScenarioRefused`, `NoCircuit`, and then, for each capture that the scenario plays, in the order
+/// of its events and of at most 67,108,864 octets, `ReadFault`, `TooLong` and `CaptureRefused`. `rehearse SEED` reads no file, and runs the
+/// scenario that the seed makes. Only then something is written: the report of the run, the tables of the network after it, a
+/// capture of the frames that left the circuit, or the seed and the counts of the run. Where a limit stopped the run, which is `Stopped`,
+/// the report of what was done before is written, and of the other three nothing.
 ///
 /// `decode FILE` reads a stream of LDP PDUs (RFC 5036 section 3.1), of at most 67,108,864 octets, and writes a line for
-/// each message, those before a fault too: `WriteFault` where the sink's count rose, and then `DecodeRefused` where the
-/// stream has a fault and `Unfinished` where it ends within a PDU.
+/// each message, those before a fault too; then come `DecodeRefused` where the stream has a fault, and `Unfinished` where it ends
+/// within a PDU.
 ///
-/// `NoMemory` may come at any time before the writing.
+/// `ReadFault` comes only where the shelf's count for the name rose, and `WriteFault` only where the sink's count rose; a front of the
+/// text was then taken. `NoMemory` may come at any time before the writing, and of `decode` also within it.
 pub fn run<F: Shelf, K: Sink>(
     alloc: Global,
     words: &[String],
@@ -68,8 +82,7 @@ pub fn run<F: Shelf, K: Sink>(
     }
 }
 
-// Reads the file of a request whole, and writes what the command makes of it.
-#[tactic(auto, using(crate::proofs::AnswerLemmas::unread_answers, crate::proofs::AnswerLemmas::whole_answers))]
+// Does what a request asks.
 fn finish_of<F: Shelf, K: Sink>(
     alloc: Global,
     request: Request<'_>,
@@ -88,31 +101,129 @@ fn finish_of<F: Shelf, K: Sink>(
     }) (asked_by request.entry) result.network result.outcome }
     ensures same_files { F.files shelf.new ≡ F.files shelf.old }
 {
-    let octets = match octets_of(alloc, shelf, request.file(), request.limit()) {
-        Ok(octets) => octets,
-        Err(outcome) => return Finish::without_run(outcome),
-    };
-    let Answer {
-        text,
-        network,
-        outcome,
-    } = match answer_of(alloc, request, octets) {
-        Ok(answer) => answer,
-        Err(_) => return Finish::without_run(Outcome::NoMemory),
-    };
-    match write_text(sink, text.as_slice()) {
-        Ok(()) => Finish::after_run(outcome, network),
-        Err(_) => Finish::after_run(Outcome::WriteFault, network),
+    match request {
+        Request::Decode { file } => decode_file(alloc, file, shelf, sink),
+        Request::Replay { .. }
+        | Request::Tables { .. }
+        | Request::Capture { .. }
+        | Request::Rehearse { .. } => finish_scenario(alloc, request, shelf, sink),
     }
 }
 
-// What the command makes of the octets of its file.
-fn answer_of(alloc: Global, request: Request<'_>, octets: Octets) -> Result<Answer, NoMemory>
-    requires fits { length octets ≤ limit_of (asked_by request) }
-    ensures { IfOk result (λ answer. Makes (asked_by request.entry) octets answer.text.items answer.network answer.outcome) }
+// Does what a request asks that runs a scenario.
+#[tactic(auto, using(crate::proofs::AnswerLemmas::refused_answers))]
+fn finish_scenario<F: Shelf, K: Sink>(
+    alloc: Global,
+    request: Request<'_>,
+    shelf: &mut F,
+    sink: &mut K,
+) -> Finish
+    requires runs { RunsScenario (asked_by request) }
+    ensures status { result.status ≡ status_of result.outcome }
+    ensures answers { SaysOutcome (record {
+      files = F.files shelf.old;
+      shelf_before = F.faults shelf.old;
+      shelf_after = F.faults shelf.new;
+      taken_before = K.taken sink.old;
+      taken_after = K.taken sink.new;
+      sink_before = K.faults sink.old;
+      sink_after = K.faults sink.new;
+    }) (asked_by request.entry) result.network result.outcome }
+    ensures same_files { F.files shelf.new ≡ F.files shelf.old }
+{
+    match work_of(alloc, request, shelf) {
+        Ok(work) => finish_work(alloc, request, work, sink),
+        Err(outcome) => Finish::without_run(outcome),
+    }
+}
+
+// The scenario of a request that runs one, with the captures that it plays, or the outcome of what is refused first.
+#[tactic(auto, using(crate::proofs::ScenarioFileLemmas::work_steps))]
+fn work_of<F: Shelf>(alloc: Global, request: Request<'_>, shelf: &mut F) -> Result<Work, Outcome>
+    requires runs { RunsScenario (asked_by request) }
+    ensures come { IfOk result (λ work. ComesTo (Has (F.files shelf.old)) (asked_by request.entry) (Works (Run work.scenario work.captures))) }
+    ensures checked { IfOk result (λ work. IsChecked work.scenario.plan) }
+    ensures planned { IfOk result (λ work. All (IsPlanned work.scenario.plan) work.scenario.commands) }
+    ensures frames { IfOk result (λ work. All (All IsFrame) work.captures) }
+    ensures refused { IfErr result (IsRefused (F.files shelf.old) (F.faults shelf.old) (F.faults shelf.new) (asked_by request.entry)) }
+    ensures same_files { F.files shelf.new ≡ F.files shelf.old }
 {
     match request {
-        Request::Replay { .. } => replay(alloc, octets.as_slice()),
-        Request::Decode { .. } => decode(alloc, octets.as_slice()),
+        Request::Replay { file } => scenario_of(alloc, shelf, request, file),
+        Request::Tables { file } => scenario_of(alloc, shelf, request, file),
+        Request::Capture { file, .. } => scenario_of(alloc, shelf, request, file),
+        Request::Rehearse { seed } => rehearsed(alloc, seed),
+        Request::Decode { .. } => unreachable!(),
+    }
+}
+
+// The scenario that a seed makes. It plays no capture.
+fn rehearsed(alloc: Global, seed: u64) -> Result<Work, Outcome>
+    ensures scenario { IfOk result (λ work. work.scenario ≡ rehearsal_of seed) }
+    ensures captures { IfOk result (λ work. work.captures ≡ []) }
+    ensures checked { IfOk result (λ work. IsChecked work.scenario.plan) }
+    ensures planned { IfOk result (λ work. All (IsPlanned work.scenario.plan) work.scenario.commands) }
+    ensures want { IfErr result (λ outcome. outcome ≡ Outcome.NoMemory) }
+{
+    match rehearsal(alloc, seed) {
+        Ok(scenario) => Ok(Work {
+            scenario,
+            captures: List::new(alloc),
+        }),
+        Err(NoMemory) => Err(Outcome::NoMemory),
+    }
+}
+
+// Runs a scenario, and writes what the request asks of the run.
+#[tactic(auto, using(crate::proofs::RunLemmas::is_scenario_run, crate::proofs::RunLemmas::checked_as, crate::proofs::WritingLemmas::run_steps))]
+fn finish_work<K: Sink>(alloc: Global, request: Request<'_>, work: Work, sink: &mut K) -> Finish
+    requires checked { IsChecked work.scenario.plan }
+    requires planned { All (IsPlanned work.scenario.plan) work.scenario.commands }
+    requires frames { All (All IsFrame) work.captures }
+    ensures status { result.status ≡ status_of result.outcome }
+    ensures ends { EndsRun work.scenario work.captures (asked_by request.entry) (written (K.taken sink.old) (K.faults sink.old) []) (written (K.taken sink.new) (K.faults sink.new) []) result.network result.outcome }
+{
+    match run_scenario(alloc, &work) {
+        Ok(run) => {
+            drop(work);
+            finish_run(alloc, request, run, sink)
+        }
+        Err(NoMemory) => Finish::without_run(Outcome::NoMemory),
+    }
+}
+
+// Writes what the request asks of a run.
+#[tactic(auto, using(crate::proofs::WritingLemmas::text_steps))]
+fn finish_run<K: Sink>(
+    alloc: Global,
+    request: Request<'_>,
+    run: ScenarioRun,
+    sink: &mut K,
+) -> Finish
+    requires checked { IsChecked run.network.plan }
+    ensures status { result.status ≡ status_of result.outcome }
+    ensures ends { EndsText (run_text (asked_by request.entry) run.network run.stop) (Some run.network) (outcome_by run.stop) (written (K.taken sink.old) (K.faults sink.old) []) (written (K.taken sink.new) (K.faults sink.new) []) result.network result.outcome }
+{
+    let mut page = match Page::new(alloc) {
+        Ok(page) => page,
+        Err(NoMemory) => return Finish::without_run(Outcome::NoMemory),
+    };
+    let mut sorting = match Sorting::new(alloc) {
+        Ok(sorting) => sorting,
+        Err(NoMemory) => return Finish::without_run(Outcome::NoMemory),
+    };
+    match write_run(&mut page, sink, &mut sorting, request, &run) {
+        Ok(()) => Finish::after_run(outcome_of(run.stop), Some(run.network)),
+        Err(_) => Finish::after_run(Outcome::WriteFault, Some(run.network)),
+    }
+}
+
+// The outcome of a run that this limit stopped, or none.
+fn outcome_of(stop: Option<NetStop>) -> Outcome
+    ensures { result ≡ outcome_by stop }
+{
+    match stop {
+        None => Outcome::Done,
+        Some(stop) => Outcome::Stopped(stop),
     }
 }

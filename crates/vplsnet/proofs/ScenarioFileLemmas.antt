@@ -1,0 +1,322 @@
+-- What a scenario's file comes to.
+use Rattle.std.proofs.Common.{◌≡◌, ◌≢◌, ◌≤◌, ◌++◌, ◌∷◌, ◌∙◌, [], ℕ, List, Some, None, Ok, Err, Option, Result, IfSome, refl, ap, sym, subst, length, append_assoc, inl, inr}
+use Rattle.std.proofs.lemmas.List.{append-nil}
+use Rattle.std.proofs.lemmas.List.Elements.{All-nil}
+use Rattle.std.specs.List.{All}
+use Rattle.net_base.specs.outside.Outside.{NeverFall, Rose}
+use Rattle.net_base.specs.plan.Planned.{IsFrame}
+use Rattle.text_lines.proofs.WrittenLemmas.{rose_later}
+use Rattle.command_text.specs.declared.scenario_fault.ScenarioFault.{ScenarioFault}
+use Rattle.command_text.specs.declared.scenario_fault.ScenarioFault.TheVariants as scenario_fault
+use Rattle.command_text.specs.Reading.{Fails}
+use Rattle.pcap_file.specs.declared.capture_fault.CaptureFault.{CaptureFault}
+use Rattle.rehearsal.specs.Scenario.{rehearsal}
+use Rattle.scenario_text.specs.declared.scenario.Scenario.{Scenario}
+use Rattle.scenario_text.specs.Document.{document}
+use Rattle.vplsnet.specs.declared.outcome.Outcome.{Outcome}
+use Rattle.vplsnet.specs.declared.outcome.Outcome.TheVariants.{Done, Usage, ReadFault, WriteFault, TooLong, ScenarioRefused, NoCircuit, CaptureRefused, Stopped, DecodeRefused, Unfinished, NoMemory}
+use Rattle.vplsnet.specs.Answers.{IsRefused}
+use Rattle.vplsnet.specs.Around.{Files, Has}
+use Rattle.vplsnet.specs.Asked.{Asked, Replay, Tables, Capture, Rehearse}
+use Rattle.vplsnet.specs.Capture.{lacks_circuit}
+use Rattle.vplsnet.specs.Captures.{AreCaptures, FailsToPlay, HasPlayed, IsCaptureFile, IsNoCapture}
+use Rattle.vplsnet.specs.Files.{IsLonger, IsNotHad}
+use Rattle.vplsnet.specs.Inputs.{AreReadNext, ComesTo, IsNext, IsNextOf, IsNextPlayed, IsNextRead, IsReadNext, Next, Reads, Refuses, Run, Wanted, Works, capture_file, capture_limit, played, scenario_file, scenario_limit}
+use Rattle.vplsnet.specs.ScenarioFile.{HasAll, IsNoCircuit, IsNoScenario, LacksCapture, LacksSome, ReadsScenario, outcome_of_fault}
+
+-- ---- behind the captures that were read
+
+-- what comes next behind more captures comes next behind all of them
+next_played : (files : Files) (scenario : Scenario) (before captures : List (List (List ℕ))) (names rest read more : List (List ℕ)) (next : Next) → AreCaptures files names read captures
+    → IsNextPlayed scenario (before ++ captures) rest more next → IsNextPlayed scenario before (names ++ rest) (read ++ more) next
+next_played files scenario before [] [] rest [] more next are is = subst (λ (l : List (List (List ℕ))). IsNextPlayed scenario l rest more next) (append-nil before) is
+next_played files scenario before (frames ∷ captures) [] rest [] more next are is = absurd are
+next_played files scenario before captures [] rest (octets ∷ read) more next are is = absurd are
+next_played files scenario before captures (name ∷ names) rest [] more next are is = absurd are
+next_played files scenario before [] (name ∷ names) rest (octets ∷ read) more next are is = absurd are
+next_played files scenario before (frames ∷ captures) (name ∷ names) rest (octets ∷ read) more next are is =
+    inl (
+      frames,
+      are.0.is,
+      next_played files scenario (before ++ frames ∷ []) captures names rest read more next are.1
+          (subst (λ (l : List (List (List ℕ))). IsNextPlayed scenario l rest more next) (sym (append_assoc before (frames ∷ []) captures)) is),
+    )
+
+-- the octets of a scenario's file, which has the circuit that is named, if one is
+pub record IsScenarioFile (files : Files) (asked : Asked) (file octets : List ℕ) (scenario : Scenario) : Type 0 where
+  pub reads : ReadsScenario asked file
+  pub has : Has files file octets
+  pub fits : length octets ≤ scenario_limit
+  pub document_is : document octets ≡ Ok scenario
+  pub circuit : lacks_circuit asked scenario.plan ≡ None
+
+next_of : (files : Files) (asked : Asked) (file octets : List ℕ) (scenario : Scenario) (read : List (List ℕ)) (next : Next) → IsScenarioFile files asked file octets scenario
+    → IsNextPlayed scenario [] (played scenario.commands) read next → IsNext asked (octets ∷ read) next
+next_of files asked file octets scenario read next is comes =
+    let circuit : IsNextOf (lacks_circuit asked scenario.plan) scenario read next = subst (λ (o : Option (List ℕ)). IsNextOf o scenario read next) (sym is.circuit) comes in
+    is.reads.behind octets read next (subst (λ (r : Result Scenario ScenarioFault). IsNextRead asked r read next) (sym is.document_is) circuit)
+
+-- the captures were read next, one after another
+captures_read : (files : Files) (asked : Asked) (file octets : List ℕ) (scenario : Scenario) (captures later : List (List (List ℕ))) (had names rest read more : List (List ℕ)) → IsScenarioFile files asked file octets scenario
+    → played scenario.commands ≡ had ++ (names ++ rest) → AreCaptures files had read captures → AreCaptures files names more later → AreReadNext (Has files) asked (octets ∷ read) more
+captures_read files asked file octets scenario captures later had [] rest read [] is split are_had are = tt
+captures_read files asked file octets scenario captures [] had [] rest read (o ∷ more) is split are_had are = absurd are
+captures_read files asked file octets scenario captures (frames ∷ later) had [] rest read (o ∷ more) is split are_had are = absurd are
+captures_read files asked file octets scenario captures later had (name ∷ names) rest read [] is split are_had are = absurd are
+captures_read files asked file octets scenario captures [] had (name ∷ names) rest read (o ∷ more) is split are_had are = absurd are
+captures_read files asked file octets scenario captures (frames ∷ later) had (name ∷ names) rest read (o ∷ more) is split are_had are =
+    let here : IsNextPlayed scenario [] (had ++ name ∷ (names ++ rest)) (read ++ []) (capture_file name) = next_played files scenario [] captures had (name ∷ (names ++ rest)) read [] (capture_file name) are_had refl in
+    let all : IsNextPlayed scenario [] (played scenario.commands) read (capture_file name) =
+    subst (λ (l : List (List ℕ)). IsNextPlayed scenario [] l read (capture_file name)) (sym split) (subst (λ (l : List (List ℕ)). IsNextPlayed scenario [] (had ++ name ∷ (names ++ rest)) l (capture_file name)) (append-nil read) here) in (
+      record {
+        wanted = record { name = name; limit = capture_limit };
+        next = next_of files asked file octets scenario read (capture_file name) is all;
+        holds = are.0.has;
+        fits = are.0.fits;
+      },
+      captures_read files asked file octets scenario (captures ++ frames ∷ []) later (had ++ name ∷ []) names rest (read ++ o ∷ []) more is
+          (split ∙ sym (append_assoc had (name ∷ []) (names ++ rest)))
+          (snoc files had read captures name o frames are_had are.0) are.1,
+    )
+  where
+    snoc : (files : Files) (names read : List (List ℕ)) (captures : List (List (List ℕ))) (name octets : List ℕ) (frames : List (List ℕ)) → AreCaptures files names read captures → IsCaptureFile files name octets frames
+        → AreCaptures files (names ++ name ∷ []) (read ++ octets ∷ []) (captures ++ frames ∷ [])
+    snoc files [] [] [] name octets frames are one = (one, tt)
+    snoc files [] [] (f ∷ captures) name octets frames are one = absurd are
+    snoc files [] (o ∷ read) captures name octets frames are one = absurd are
+    snoc files (n ∷ names) [] captures name octets frames are one = absurd are
+    snoc files (n ∷ names) (o ∷ read) [] name octets frames are one = absurd are
+    snoc files (n ∷ names) (o ∷ read) (f ∷ captures) name octets frames are one = (are.0, snoc files names read captures name octets frames are.1 one)
+
+-- the first captures were read, and what comes next behind them comes next behind the whole reading
+comes_behind : (files : Files) (asked : Asked) (file octets : List ℕ) (scenario : Scenario) (captures : List (List (List ℕ))) (names rest : List (List ℕ)) (next : Next) → IsScenarioFile files asked file octets scenario
+    → played scenario.commands ≡ names ++ rest → (read more : List (List ℕ)) → AreCaptures files names read captures → AreReadNext (Has files) asked (octets ∷ read) more
+    → IsNextPlayed scenario captures rest more next → ComesTo (Has files) asked next
+comes_behind files asked file octets scenario captures names rest next is split read more are are_more comes = record {
+  read = octets ∷ (read ++ more);
+  are_read = (
+    record { wanted = record { name = file; limit = scenario_limit }; next = is.reads.first; holds = is.has; fits = is.fits },
+    read_both asked (octets ∷ []) read more (captures_read files asked file octets scenario [] captures [] names rest [] read is split tt are) are_more,
+  );
+  is_next = next_of files asked file octets scenario (read ++ more) next is
+      (subst (λ (l : List (List ℕ)). IsNextPlayed scenario [] l (read ++ more) next) (sym split) (next_played files scenario [] captures names rest read more next are comes));
+}
+  where
+    read_both : (asked : Asked) (before read more : List (List ℕ)) → AreReadNext (Has files) asked before read → AreReadNext (Has files) asked (before ++ read) more → AreReadNext (Has files) asked before (read ++ more)
+    read_both asked before [] more one two = subst (λ (l : List (List ℕ)). AreReadNext (Has files) asked l more) (append-nil before) two
+    read_both asked before (o ∷ read) more one two =
+        (one.0, read_both asked (before ++ o ∷ []) read more one.1 (subst (λ (l : List (List ℕ)). AreReadNext (Has files) asked l more) (sym (append_assoc before (o ∷ []) read)) two))
+
+comes_to : (files : Files) (asked : Asked) (file octets : List ℕ) (scenario : Scenario) (captures : List (List (List ℕ))) (names rest : List (List ℕ)) (next : Next) → IsScenarioFile files asked file octets scenario
+    → played scenario.commands ≡ names ++ rest → HasPlayed files names captures → IsNextPlayed scenario captures rest [] next → ComesTo (Has files) asked next
+comes_to files asked file octets scenario captures names rest next is split played comes = comes_behind files asked file octets scenario captures names rest next is split played.read [] played.are tt comes
+
+-- ---- the file of a scenario
+
+-- all was read
+pub comes_to_run : (files here : Files) (asked : Asked) (file octets : List ℕ) (scenario work : Scenario) (captures : List (List (List ℕ))) → here ≡ files → ReadsScenario asked file → Has files file octets → length octets ≤ scenario_limit
+    → document octets ≡ Ok scenario → HasAll here asked scenario captures → work ≡ scenario → ComesTo (Has files) asked (Works (Run work captures))
+comes_to_run files here asked file octets scenario work captures kept reads has fits document_is had same =
+    let all : HasAll files asked scenario captures = subst (λ (f : Files). HasAll f asked scenario captures) kept had in
+    let is : IsScenarioFile files asked file octets scenario = record { reads = reads; has = has; fits = fits; document_is = document_is; circuit = all.circuit } in
+    subst (λ (s : Scenario). ComesTo (Has files) asked (Works (Run s captures))) (sym same)
+    (comes_to files asked file octets scenario captures (played scenario.commands) [] (Works (Run scenario captures)) is (sym (append-nil (played scenario.commands))) all.played refl)
+
+-- the file was not had
+pub file_not_had : (files : Files) (before after : List ℕ → ℕ) (asked : Asked) (file : List ℕ) (outcome : Outcome) → ReadsScenario asked file → IsNotHad files before after file scenario_limit outcome → IsRefused files before after asked outcome
+file_not_had files before after asked file ReadFault reads why = record { wanted = record { name = file; limit = scenario_limit }; come = record { read = []; are_read = tt; is_next = reads.first }; cause = why }
+file_not_had files before after asked file (TooLong named limit) reads why =
+    record {
+      come = subst (λ (w : Wanted). ComesTo (Has files) asked (Reads w)) (sym (ap (λ (n : List ℕ). record { name = n; limit = limit }) why.0 ∙ ap (λ (l : ℕ). record { name = file; limit = l }) why.1))
+          (record { read = []; are_read = tt; is_next = reads.first });
+      longer = longer_as files named limit file scenario_limit why.0 why.1 why.2;
+    }
+  where
+    longer_as : (files : Files) (named : List ℕ) (limit : ℕ) (name : List ℕ) (most : ℕ) → named ≡ name → limit ≡ most → IfSome files (λ held. IsLonger most (held name)) → IfSome files (λ held. IsLonger limit (held named))
+    longer_as None named limit name most is_name is_limit longer = tt
+    longer_as (Some held) named limit name most is_name is_limit longer =
+        subst (λ (n : List ℕ). IsLonger limit (held n)) (sym is_name) (subst (λ (l : ℕ). IsLonger l (held name)) (sym is_limit) longer)
+file_not_had files before after asked file NoMemory reads why = tt
+file_not_had files before after asked file Done reads why = absurd why
+file_not_had files before after asked file Usage reads why = absurd why
+file_not_had files before after asked file WriteFault reads why = absurd why
+file_not_had files before after asked file (ScenarioRefused fault) reads why = absurd why
+file_not_had files before after asked file (NoCircuit circuit) reads why = absurd why
+file_not_had files before after asked file (CaptureRefused name fault) reads why = absurd why
+file_not_had files before after asked file (Stopped stop) reads why = absurd why
+file_not_had files before after asked file (DecodeRefused fault) reads why = absurd why
+file_not_had files before after asked file (Unfinished at) reads why = absurd why
+
+-- behind the file alone
+comes_first : (files : Files) (asked : Asked) (file octets : List ℕ) (read : Result Scenario ScenarioFault) (next : Next) → ReadsScenario asked file → Has files file octets → length octets ≤ scenario_limit → document octets ≡ read
+    → IsNextRead asked read [] next → ComesTo (Has files) asked next
+comes_first files asked file octets read next reads has fits document_is comes = record {
+  read = octets ∷ [];
+  are_read = (record { wanted = record { name = file; limit = scenario_limit }; next = reads.first; holds = has; fits = fits }, tt);
+  is_next = reads.behind octets [] next (subst (λ (r : Result Scenario ScenarioFault). IsNextRead asked r [] next) (sym document_is) comes);
+}
+
+-- the outcome of a fault that is told as it is
+pub no_scenario_by : (octets : List ℕ) (fault : ScenarioFault) (outcome : Outcome) → Fails fault (document octets) → outcome ≡ outcome_of_fault fault → IsNoScenario octets outcome
+no_scenario_by octets fault outcome fails is = subst (λ (o : Outcome). IsNoScenario octets o) (sym is) (by fault fails) where
+  by : (f : ScenarioFault) → Fails f (document octets) → IsNoScenario octets (outcome_of_fault f)
+  by scenario_fault.NoMemory fails = tt
+  by scenario_fault.NotToml fails = (fails, λ want. cc (want))
+  by (scenario_fault.Missing place) fails = (fails, λ want. cc (want))
+  by (scenario_fault.WrongKind place) fails = (fails, λ want. cc (want))
+  by (scenario_fault.UnknownKey place) fails = (fails, λ want. cc (want))
+  by (scenario_fault.BadWord event word) fails = (fails, λ want. cc (want))
+  by (scenario_fault.TooMany table limit) fails = (fails, λ want. cc (want))
+  by scenario_fault.Version fails = (fails, λ want. cc (want))
+  by (scenario_fault.Plan fault) fails = (fails, λ want. cc (want))
+
+-- its octets are no scenario
+pub no_scenario : (files : Files) (before after : List ℕ → ℕ) (asked : Asked) (file octets : List ℕ) (outcome : Outcome) → ReadsScenario asked file → Has files file octets → length octets ≤ scenario_limit → IsNoScenario octets outcome
+    → IsRefused files before after asked outcome
+no_scenario files before after asked file octets (ScenarioRefused fault) reads has fits told = (comes_first files asked file octets (Err fault) (Refuses (ScenarioRefused fault)) reads has fits told.0 refl, told.1)
+no_scenario files before after asked file octets NoMemory reads has fits told = tt
+no_scenario files before after asked file octets Done reads has fits told = absurd told
+no_scenario files before after asked file octets Usage reads has fits told = absurd told
+no_scenario files before after asked file octets ReadFault reads has fits told = absurd told
+no_scenario files before after asked file octets WriteFault reads has fits told = absurd told
+no_scenario files before after asked file octets (TooLong named limit) reads has fits told = absurd told
+no_scenario files before after asked file octets (NoCircuit circuit) reads has fits told = absurd told
+no_scenario files before after asked file octets (CaptureRefused name fault) reads has fits told = absurd told
+no_scenario files before after asked file octets (Stopped stop) reads has fits told = absurd told
+no_scenario files before after asked file octets (DecodeRefused fault) reads has fits told = absurd told
+no_scenario files before after asked file octets (Unfinished at) reads has fits told = absurd told
+
+-- a capture was not had
+capture_wanted : (files : Files) (before after : List ℕ → ℕ) (asked : Asked) (file octets : List ℕ) (scenario : Scenario) (outcome : Outcome) → IsScenarioFile files asked file octets scenario
+    → (fails : FailsToPlay files before after (played scenario.commands) outcome) → ComesTo (Has files) asked (capture_file fails.name)
+capture_wanted files before after asked file octets scenario outcome is fails =
+    comes_to files asked file octets scenario fails.captures fails.had (fails.name ∷ fails.later) (capture_file fails.name) is fails.split fails.played refl
+
+capture_refused : (files : Files) (asked : Asked) (file octets name : List ℕ) (scenario : Scenario) (before after : List ℕ → ℕ) (named : List ℕ) (fault : CaptureFault) → IsScenarioFile files asked file octets scenario
+    → (fails : FailsToPlay files before after (played scenario.commands) (CaptureRefused named fault)) → ComesTo (Has files) asked (Refuses (CaptureRefused fails.name fault))
+capture_refused files asked file octets name scenario before after named fault is fails =
+    let (is_name, broken, some) = fails.why in
+    comes_behind files asked file octets scenario fails.captures fails.had (fails.name ∷ fails.later) (Refuses (CaptureRefused fails.name fault)) is fails.split fails.played.read (broken.octets ∷ []) fails.played.are (
+      record {
+        wanted = record { name = fails.name; limit = capture_limit };
+        next = next_of files asked file octets scenario fails.played.read (capture_file fails.name) is
+            (subst (λ (l : List (List ℕ)). IsNextPlayed scenario [] l fails.played.read (capture_file fails.name)) (sym fails.split)
+            (subst (λ (l : List (List ℕ)). IsNextPlayed scenario [] (fails.had ++ fails.name ∷ fails.later) l (capture_file fails.name)) (append-nil fails.played.read)
+            (next_played files scenario [] fails.captures fails.had (fails.name ∷ fails.later) fails.played.read [] (capture_file fails.name) fails.played.are refl)));
+        holds = broken.has;
+        fits = broken.fits;
+      },
+      tt,
+    )
+    (inr (fault, broken.first, refl))
+
+-- the scenario lacks the circuit, or a capture was not had
+pub lacks_some : (files here : Files) (before between after : List ℕ → ℕ) (asked : Asked) (file octets : List ℕ) (scenario : Scenario) (outcome : Outcome) → here ≡ files → NeverFall before between → ReadsScenario asked file
+    → Has files file octets → length octets ≤ scenario_limit → document octets ≡ Ok scenario → LacksSome here between after asked scenario outcome → IsRefused files before after asked outcome
+lacks_some files here before between after asked file octets scenario outcome same later reads has fits document_is lacks =
+    by outcome (subst (λ (f : Files). LacksSome f between after asked scenario outcome) same lacks)
+  where
+    file_is : lacks_circuit asked scenario.plan ≡ None → IsScenarioFile files asked file octets scenario
+    file_is circuit = record { reads = reads; has = has; fits = fits; document_is = document_is; circuit = circuit }
+
+    longer_of : (held : Files) (named : List ℕ) (limit : ℕ) (name : List ℕ) → named ≡ name → limit ≡ capture_limit → IfSome held (λ h. IsLonger capture_limit (h name)) → IfSome held (λ h. IsLonger limit (h named))
+    longer_of None named limit name is_name is_limit longer = tt
+    longer_of (Some h) named limit name is_name is_limit longer =
+        subst (λ (n : List ℕ). IsLonger limit (h n)) (sym is_name) (subst (λ (l : ℕ). IsLonger l (h name)) (sym is_limit) longer)
+
+    by : (o : Outcome) → LacksSome files between after asked scenario o → IsRefused files before after asked o
+    by ReadFault lacks = record {
+      wanted = record { name = lacks.fails.name; limit = capture_limit };
+      come = capture_wanted files between after asked file octets scenario ReadFault (file_is lacks.circuit) lacks.fails;
+      cause = rose_later (before lacks.fails.name) (between lacks.fails.name) (after lacks.fails.name) (later lacks.fails.name) lacks.fails.why;
+    }
+    by (TooLong named limit) lacks =
+        let (is_name, is_limit, longer) = lacks.fails.why in
+        record {
+          come = subst (λ (w : Wanted). ComesTo (Has files) asked (Reads w))
+              (sym (ap (λ (n : List ℕ). record { name = n; limit = limit }) is_name ∙ ap (λ (l : ℕ). record { name = lacks.fails.name; limit = l }) is_limit))
+              (capture_wanted files between after asked file octets scenario (TooLong named limit) (file_is lacks.circuit) lacks.fails);
+          longer = longer_of files named limit lacks.fails.name is_name is_limit longer;
+        }
+    by (CaptureRefused named fault) lacks =
+        let (is_name, broken, some) = lacks.fails.why in (
+          subst (λ (n : List ℕ). ComesTo (Has files) asked (Refuses (CaptureRefused n fault))) (sym is_name)
+              (capture_refused files asked file octets named scenario between after named fault (file_is lacks.circuit) lacks.fails),
+          some,
+        )
+    by (NoCircuit circuit) lacks =
+        comes_first files asked file octets (Ok scenario) (Refuses (NoCircuit circuit)) reads has fits document_is (subst (λ (o : Option (List ℕ)). IsNextOf o scenario [] (Refuses (NoCircuit circuit))) (sym lacks) refl)
+    by NoMemory lacks = tt
+    by Done lacks = absurd lacks
+    by Usage lacks = absurd lacks
+    by WriteFault lacks = absurd lacks
+    by (ScenarioRefused fault) lacks = absurd lacks
+    by (Stopped stop) lacks = absurd lacks
+    by (DecodeRefused fault) lacks = absurd lacks
+    by (Unfinished at) lacks = absurd lacks
+
+-- the circuit that is named is not there
+pub lacks_named : (files : Files) (before after : List ℕ → ℕ) (asked : Asked) (scenario : Scenario) (circuit : List ℕ) (outcome : Outcome) → Some circuit ≡ lacks_circuit asked scenario.plan → IsNoCircuit circuit outcome
+    → LacksSome files before after asked scenario outcome
+lacks_named files before after asked scenario circuit (NoCircuit named) lacks told = sym lacks ∙ ap Some (sym told)
+lacks_named files before after asked scenario circuit NoMemory lacks told = tt
+lacks_named files before after asked scenario circuit Done lacks told = absurd told
+lacks_named files before after asked scenario circuit Usage lacks told = absurd told
+lacks_named files before after asked scenario circuit ReadFault lacks told = absurd told
+lacks_named files before after asked scenario circuit WriteFault lacks told = absurd told
+lacks_named files before after asked scenario circuit (TooLong named limit) lacks told = absurd told
+lacks_named files before after asked scenario circuit (ScenarioRefused fault) lacks told = absurd told
+lacks_named files before after asked scenario circuit (CaptureRefused file fault) lacks told = absurd told
+lacks_named files before after asked scenario circuit (Stopped stop) lacks told = absurd told
+lacks_named files before after asked scenario circuit (DecodeRefused fault) lacks told = absurd told
+lacks_named files before after asked scenario circuit (Unfinished at) lacks told = absurd told
+
+-- a file that is played was not had
+pub lacks_file : (files : Files) (before after : List ℕ → ℕ) (asked : Asked) (scenario : Scenario) (outcome : Outcome) → None ≡ lacks_circuit asked scenario.plan → FailsToPlay files before after (played scenario.commands) outcome
+    → LacksSome files before after asked scenario outcome
+lacks_file files before after asked scenario ReadFault has fails = record { circuit = sym has; fails = fails }
+lacks_file files before after asked scenario (TooLong named limit) has fails = record { circuit = sym has; fails = fails }
+lacks_file files before after asked scenario (CaptureRefused file fault) has fails = record { circuit = sym has; fails = fails }
+lacks_file files before after asked scenario NoMemory has fails = tt
+lacks_file files before after asked scenario Done has fails = absurd fails.why
+lacks_file files before after asked scenario Usage has fails = absurd fails.why
+lacks_file files before after asked scenario WriteFault has fails = absurd fails.why
+lacks_file files before after asked scenario (ScenarioRefused fault) has fails = absurd fails.why
+lacks_file files before after asked scenario (NoCircuit circuit) has fails = absurd fails.why
+lacks_file files before after asked scenario (Stopped stop) has fails = absurd fails.why
+lacks_file files before after asked scenario (DecodeRefused fault) has fails = absurd fails.why
+lacks_file files before after asked scenario (Unfinished at) has fails = absurd fails.why
+
+pub has_all : (files : Files) (asked : Asked) (scenario : Scenario) (captures : List (List (List ℕ))) → None ≡ lacks_circuit asked scenario.plan → HasPlayed files (played scenario.commands) captures → HasAll files asked scenario captures
+has_all files asked scenario captures has played = record { circuit = sym has; played = played }
+
+pub ruleset lack_steps = (lacks_named, lacks_file, has_all)
+
+pub ruleset file_steps = (comes_to_run, file_not_had, no_scenario, lacks_some)
+
+-- ---- what each command works on
+
+pub reads_replay : (file : List ℕ) → ReadsScenario (Replay file) file
+reads_replay file = record { first = refl; behind = λ octets read next comes. comes }
+
+pub reads_tables : (file : List ℕ) → ReadsScenario (Tables file) file
+reads_tables file = record { first = refl; behind = λ octets read next comes. comes }
+
+pub reads_capture : (file circuit : List ℕ) → ReadsScenario (Capture file circuit) file
+reads_capture file circuit = record { first = refl; behind = λ octets read next comes. comes }
+
+-- a seed makes a scenario, and no file is read
+pub comes_to_rehearsal : (files : Files) (seed : ℕ) (scenario : Scenario) (captures : List (List (List ℕ))) → scenario ≡ rehearsal seed → captures ≡ [] → ComesTo (Has files) (Rehearse seed) (Works (Run scenario captures))
+comes_to_rehearsal files seed scenario captures is none = record {
+  read = [];
+  are_read = tt;
+  is_next = ap (λ (s : Scenario). Works (Run s captures)) is ∙ ap (λ (c : List (List (List ℕ))). Works (Run (rehearsal seed) c)) none;
+}
+
+pub rehearsal_short : (captures : List (List (List ℕ))) → captures ≡ [] → All (All IsFrame) captures
+rehearsal_short captures none = subst (λ (c : List (List (List ℕ))). All (All IsFrame) c) (sym none) (All-nil (All IsFrame))
+
+pub rehearsal_wants : (files : Files) (before after : List ℕ → ℕ) (asked : Asked) (outcome : Outcome) → outcome ≡ NoMemory → IsRefused files before after asked outcome
+rehearsal_wants files before after asked outcome want = subst (λ (o : Outcome). IsRefused files before after asked o) (sym want) tt
+
+pub ruleset work_steps = (reads_replay, reads_tables, reads_capture, comes_to_rehearsal, rehearsal_short, rehearsal_wants)

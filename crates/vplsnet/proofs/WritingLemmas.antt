@@ -1,0 +1,68 @@
+-- How the writing of a text ends.
+use Rattle.std.proofs.Common.{◌≡◌, ℕ, List, [], Option, Some, None, inl, inr, subst}
+use Rattle.std.proofs.lemmas.List.{append-nil}
+use Rattle.net_base.specs.outside.Outside.{Rose}
+use Rattle.psn_net.specs.declared.net_stop.NetStop.{NetStop}
+use Rattle.psn_net.specs.Lists.{NetLists}
+use Rattle.scenario_text.specs.declared.scenario.Scenario.{Scenario}
+use Rattle.text_lines.specs.Written.{Written, AppendsFront, GoesOn, IsCut, Writes}
+use Rattle.text_lines.proofs.WrittenLemmas.{cut_later, cut_text, whole_text}
+use Rattle.vplsnet.specs.declared.outcome.Outcome.{Outcome}
+use Rattle.vplsnet.specs.declared.outcome.Outcome.TheVariants.{WriteFault, NoMemory}
+use Rattle.vplsnet.specs.Answers.{run_text}
+use Rattle.vplsnet.specs.Asked.{Asked}
+use Rattle.vplsnet.specs.ScenarioRun.{IsScenarioRun, outcome_by}
+use Rattle.vplsnet.specs.Writing.{EndsRun, EndsStream, EndsText}
+
+-- ---- a text that was put, and then what waits is written
+
+pub whole_flushed : (a b : Written) (end : Option (List ℕ)) (text : List ℕ) → a.waiting ≡ [] → GoesOn a b text → Writes b.taken end b.waiting → Writes a.taken end text
+whole_flushed a b end text none goes writes = whole_text a b end text none goes writes
+
+cut_all : (a b c : Written) (text : List ℕ) → GoesOn a b text → IsCut b c [] → IsCut a c text
+cut_all a b c text goes cut = subst (λ (l : List ℕ). IsCut a c l) (append-nil text) (cut_later a b c text [] goes cut)
+
+pub front_flushed : (a b c : Written) (text : List ℕ) → a.waiting ≡ [] → GoesOn a b text → IsCut b c [] → AppendsFront a.taken c.taken text
+front_flushed a b c text none goes cut = cut_text a c text none (cut_all a b c text goes cut)
+
+pub rose_flushed : (a b c : Written) (text : List ℕ) → GoesOn a b text → IsCut b c [] → Rose a.faults c.faults
+rose_flushed a b c text goes cut = (cut_all a b c text goes cut).rose
+
+pub front_put : (a b : Written) (text : List ℕ) → a.waiting ≡ [] → IsCut a b text → AppendsFront a.taken b.taken text
+front_put a b text none cut = cut_text a b text none cut
+
+pub rose_put : (a b : Written) (text : List ℕ) → IsCut a b text → Rose a.faults b.faults
+rose_put a b text cut = cut.rose
+
+pub ruleset flush_steps = (whole_flushed, front_flushed, rose_flushed, front_put, rose_put)
+
+-- ---- the end of a call
+
+pub ends_whole : (text : List ℕ) (left : Option NetLists) (made : Outcome) (old now : Written) (network : Option NetLists) (outcome : Outcome) → outcome ≡ made → network ≡ left → Writes old.taken now.taken text
+    → EndsText text left made old now network outcome
+ends_whole text left made old now network outcome is same taken = inl (record { outcome_is = is; network_is = same; taken = taken })
+
+pub ends_front : (text : List ℕ) (left : Option NetLists) (made : Outcome) (old now : Written) (network : Option NetLists) (outcome : Outcome) → outcome ≡ WriteFault → network ≡ left → AppendsFront old.taken now.taken text
+    → Rose old.faults now.faults → EndsText text left made old now network outcome
+ends_front text left made old now network outcome is same taken cause = inr (inl (record { outcome_is = is; network_is = same; taken = taken; cause = cause }))
+
+pub ends_none : (text : List ℕ) (left : Option NetLists) (made : Outcome) (old now : Written) (network : Option NetLists) (outcome : Outcome) → outcome ≡ NoMemory → network ≡ None → now.taken ≡ old.taken
+    → EndsText text left made old now network outcome
+ends_none text left made old now network outcome is none taken = inr (inr (record { outcome_is = is; no_run = none; taken = taken }))
+
+pub ruleset text_steps = (ends_whole, ends_front, ends_none)
+
+-- that of a run
+pub ends_run : (scenario : Scenario) (captures : List (List (List ℕ))) (asked : Asked) (left : NetLists) (reason : Option NetStop) (old now : Written) (network : Option NetLists) (outcome : Outcome)
+    → IsScenarioRun scenario captures left reason → EndsText (run_text asked left reason) (Some left) (outcome_by reason) old now network outcome → EndsRun scenario captures asked old now network outcome
+ends_run scenario captures asked left reason old now network outcome is ends = inl (record { left = left; reason = reason; is_run = is; ends = ends })
+
+pub ends_no_run : (scenario : Scenario) (captures : List (List (List ℕ))) (asked : Asked) (old now : Written) (network : Option NetLists) (outcome : Outcome) → outcome ≡ NoMemory → network ≡ None → now.taken ≡ old.taken
+    → EndsRun scenario captures asked old now network outcome
+ends_no_run scenario captures asked old now network outcome is none taken = inr (record { outcome_is = is; no_run = none; taken = taken })
+
+pub ruleset run_steps = (ends_run, ends_no_run)
+
+-- that of a stream, where memory was refused before anything was put
+pub ends_no_stream : (octets : List ℕ) (old now : Written) (network : Option NetLists) (outcome : Outcome) → outcome ≡ NoMemory → network ≡ None → now.taken ≡ old.taken → EndsStream octets old now network outcome
+ends_no_stream octets old now network outcome is none taken = inr (record { outcome_is = is; no_run = none; taken = taken })

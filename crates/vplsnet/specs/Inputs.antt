@@ -1,0 +1,112 @@
+-- Which files a command reads, in which order, and what is refused on the way.
+use Rattle.std.specs.Prelude.{◌≡◌, ◌⊎◌, ◌≤◌, ◌++◌, ℕ, List, [], ◌∷◌, length, Option, Some, None, Result, Ok, Err}
+use Rattle.command_text.specs.declared.command.Command.{Command}
+use Rattle.command_text.specs.declared.command.Command.TheVariants.{One, Settle, Flow, Ticks, Play}
+use Rattle.command_text.specs.declared.scenario_fault.ScenarioFault.{ScenarioFault}
+use Rattle.pcap_file.specs.declared.capture_fault.CaptureFault.{CaptureFault}
+use Rattle.pcap_file.specs.FirstFault.{IsFirstFault}
+use Rattle.pcap_file.specs.Records.{IsCapture}
+use Rattle.rehearsal.specs.Scenario.{rehearsal}
+use Rattle.scenario_text.specs.declared.scenario.Scenario.{Scenario}
+use Rattle.scenario_text.specs.Document.{document}
+use Rattle.vplsnet.specs.declared.outcome.Outcome.{Outcome}
+use Rattle.vplsnet.specs.declared.outcome.Outcome.TheVariants.{ScenarioRefused, NoCircuit, CaptureRefused}
+use Rattle.vplsnet.specs.Asked.{Asked, Replay, Tables, Capture, Decode, Rehearse}
+use Rattle.vplsnet.specs.Capture.{lacks_circuit}
+
+-- the most octets of a scenario, of a capture and of a stream
+abbrev pub scenario_limit : ℕ
+scenario_limit = 8388608
+
+abbrev pub capture_limit : ℕ
+capture_limit = 67108864
+
+abbrev pub stream_limit : ℕ
+stream_limit = 67108864
+
+-- a file that is read: its name, and the most octets that it may have
+pub record Wanted : Type 0 where
+  pub name : List ℕ
+  pub limit : ℕ
+
+-- what a command works on once its files are read: a scenario with the frames of the captures that it plays, in the order of its
+-- commands, or the octets of a stream
+pub data Work : Type 0 where
+  Run : (scenario : Scenario) (captures : List (List (List ℕ))) → Work
+  Stream : (octets : List ℕ) → Work
+
+-- what comes next where some files were read: a further file is, or an outcome before any run ends the call, or the command has its work
+pub data Next : Type 0 where
+  Reads : (wanted : Wanted) → Next
+  Refuses : (outcome : Outcome) → Next
+  Works : (work : Work) → Next
+
+abbrev pub scenario_file : List ℕ → Next
+scenario_file name = Reads (record { name = name; limit = scenario_limit })
+
+abbrev pub capture_file : List ℕ → Next
+capture_file name = Reads (record { name = name; limit = capture_limit })
+
+abbrev pub stream_file : List ℕ → Next
+stream_file name = Reads (record { name = name; limit = stream_limit })
+
+-- the files that commands play, in their order; one that is played twice stands twice
+abbrev pub played_by : Command → List (List ℕ)
+played_by (One event) = []
+played_by (Settle count) = []
+played_by (Flow count) = []
+played_by (Ticks count) = []
+played_by (Play circuit file) = file ∷ []
+
+abbrev pub played : List Command → List (List ℕ)
+played [] = []
+played (command ∷ commands) = played_by command ++ played commands
+
+-- What comes next where of the files that are played the first ones had these octets: a capture of frames, behind which the next file
+-- is read, or octets that are no capture, by their first fault. The frames of earlier captures stand before theirs.
+abbrev pub IsNextPlayed : Scenario → List (List (List ℕ)) → List (List ℕ) → List (List ℕ) → Next → Type 0
+IsNextPlayed scenario captures [] read next = next ≡ Works (Run scenario captures)
+IsNextPlayed scenario captures (file ∷ files) [] next = next ≡ capture_file file
+IsNextPlayed scenario captures (file ∷ files) (octets ∷ read) next =
+    ((frames : List (List ℕ)) × IsCapture octets frames × IsNextPlayed scenario (captures ++ frames ∷ []) files read next)
+    ⊎ ((fault : CaptureFault) × IsFirstFault octets fault × (next ≡ Refuses (CaptureRefused file fault)))
+
+-- of an accepted scenario, by the circuit that the command names and the plan lacks, if it does
+abbrev pub IsNextOf : Option (List ℕ) → Scenario → List (List ℕ) → Next → Type 0
+IsNextOf (Some circuit) scenario read next = next ≡ Refuses (NoCircuit circuit)
+IsNextOf None scenario read next = IsNextPlayed scenario [] (played scenario.commands) read next
+
+-- of the octets of a scenario's file, by what they read as
+abbrev pub IsNextRead : Asked → Result Scenario ScenarioFault → List (List ℕ) → Next → Type 0
+IsNextRead asked (Err fault) read next = next ≡ Refuses (ScenarioRefused fault)
+IsNextRead asked (Ok scenario) read next = IsNextOf (lacks_circuit asked scenario.plan) scenario read next
+
+-- behind the octets of the files that were read, in their order
+abbrev pub IsNext : Asked → List (List ℕ) → Next → Type 0
+IsNext (Replay file) [] next = next ≡ scenario_file file
+IsNext (Replay file) (octets ∷ read) next = IsNextRead (Replay file) (document octets) read next
+IsNext (Tables file) [] next = next ≡ scenario_file file
+IsNext (Tables file) (octets ∷ read) next = IsNextRead (Tables file) (document octets) read next
+IsNext (Capture file circuit) [] next = next ≡ scenario_file file
+IsNext (Capture file circuit) (octets ∷ read) next = IsNextRead (Capture file circuit) (document octets) read next
+IsNext (Decode file) [] next = next ≡ stream_file file
+IsNext (Decode file) (octets ∷ read) next = next ≡ Works (Stream octets)
+IsNext (Rehearse seed) read next = next ≡ Works (Run (rehearsal seed) [])
+
+-- a file that comes next has these octets, and they are within its limit
+pub record IsReadNext (Holds : List ℕ → List ℕ → Type 0) (asked : Asked) (before : List (List ℕ)) (octets : List ℕ) : Type 0 where
+  pub wanted : Wanted
+  pub next : IsNext asked before (Reads wanted)
+  pub holds : Holds wanted.name octets
+  pub fits : length octets ≤ wanted.limit
+
+-- behind the octets that were read before, these are those of the files that come next, one after another
+abbrev pub AreReadNext : (List ℕ → List ℕ → Type 0) → Asked → List (List ℕ) → List (List ℕ) → Type 0
+AreReadNext Holds asked before [] = Unit {0}
+AreReadNext Holds asked before (octets ∷ rest) = IsReadNext Holds asked before octets × AreReadNext Holds asked (before ++ octets ∷ []) rest
+
+-- the first files were read whole, and behind them this comes next
+pub record ComesTo (Holds : List ℕ → List ℕ → Type 0) (asked : Asked) (next : Next) : Type 0 where
+  pub read : List (List ℕ)
+  pub are_read : AreReadNext Holds asked [] read
+  pub is_next : IsNext asked read next

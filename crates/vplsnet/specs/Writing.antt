@@ -1,0 +1,71 @@
+-- How a call ends that writes a text.
+use Rattle.std.specs.Prelude.{◌≡◌, ◌⊎◌, ℕ, List, Option, Some, None}
+use Rattle.net_base.specs.outside.Outside.{Rose}
+use Rattle.psn_net.specs.declared.net_stop.NetStop.{NetStop}
+use Rattle.psn_net.specs.Lists.{NetLists}
+use Rattle.scenario_text.specs.declared.scenario.Scenario.{Scenario}
+use Rattle.text_lines.specs.Written.{Written, AppendsFront, Writes}
+use Rattle.vplsnet.specs.declared.outcome.Outcome.{Outcome}
+use Rattle.vplsnet.specs.declared.outcome.Outcome.TheVariants.{WriteFault, NoMemory}
+use Rattle.vplsnet.specs.Answers.{run_text}
+use Rattle.vplsnet.specs.Asked.{Asked, Replay, Tables, Capture, Decode, Rehearse}
+use Rattle.vplsnet.specs.Decode.{AppendsPart, IsDecoding}
+use Rattle.vplsnet.specs.ScenarioRun.{IsScenarioRun, outcome_by}
+
+-- the whole text was taken, and the call ends as it was to end
+pub record WritesWhole (text : List ℕ) (left : Option NetLists) (made : Outcome) (old now : Written) (network : Option NetLists) (outcome : Outcome) : Type 0 where
+  pub outcome_is : outcome ≡ made
+  pub network_is : network ≡ left
+  pub taken : Writes old.taken now.taken text
+
+-- the sink failed, and a front of the text was taken that lacks its end
+pub record WritesFront (text : List ℕ) (left : Option NetLists) (old now : Written) (network : Option NetLists) (outcome : Outcome) : Type 0 where
+  pub outcome_is : outcome ≡ WriteFault
+  pub network_is : network ≡ left
+  pub taken : AppendsFront old.taken now.taken text
+  pub cause : Rose old.faults now.faults
+
+-- memory was refused before anything was taken
+pub record WritesNone (old now : Written) (network : Option NetLists) (outcome : Outcome) : Type 0 where
+  pub outcome_is : outcome ≡ NoMemory
+  pub no_run : network ≡ None
+  pub taken : now.taken ≡ old.taken
+
+-- one of the three
+abbrev pub EndsText : List ℕ → Option NetLists → Outcome → Written → Written → Option NetLists → Outcome → Type 0
+EndsText text left made old now network outcome =
+    WritesWhole text left made old now network outcome ⊎ WritesFront text left old now network outcome ⊎ WritesNone old now network outcome
+
+-- the run of a scenario, of which the command's text is written
+pub record TellsRunOf (scenario : Scenario) (captures : List (List (List ℕ))) (asked : Asked) (old now : Written) (network : Option NetLists) (outcome : Outcome) : Type 0 where
+  pub left : NetLists
+  pub reason : Option NetStop
+  pub is_run : IsScenarioRun scenario captures left reason
+  pub ends : EndsText (run_text asked left reason) (Some left) (outcome_by reason) old now network outcome
+
+abbrev pub EndsRun : Scenario → List (List (List ℕ)) → Asked → Written → Written → Option NetLists → Outcome → Type 0
+EndsRun scenario captures asked old now network outcome = TellsRunOf scenario captures asked old now network outcome ⊎ WritesNone old now network outcome
+
+-- memory was refused on the way through a stream, and a front of its text was taken
+pub record GivesUp (text : List ℕ) (old now : Written) (network : Option NetLists) (outcome : Outcome) : Type 0 where
+  pub outcome_is : outcome ≡ NoMemory
+  pub no_run : network ≡ None
+  pub taken : AppendsPart old.taken now.taken text
+
+-- a stream, of which the text is written
+pub record TellsStream (octets : List ℕ) (old now : Written) (network : Option NetLists) (outcome : Outcome) : Type 0 where
+  pub text : List ℕ
+  pub made : Outcome
+  pub is_decoding : IsDecoding octets text None made
+  pub ends : EndsText text None made old now network outcome ⊎ GivesUp text old now network outcome
+
+abbrev pub EndsStream : List ℕ → Written → Written → Option NetLists → Outcome → Type 0
+EndsStream octets old now network outcome = TellsStream octets old now network outcome ⊎ WritesNone old now network outcome
+
+-- the command runs a scenario
+abbrev pub RunsScenario : Asked → Type 0
+RunsScenario (Replay file) = Unit {0}
+RunsScenario (Tables file) = Unit {0}
+RunsScenario (Capture file circuit) = Unit {0}
+RunsScenario (Rehearse seed) = Unit {0}
+RunsScenario (Decode file) = ⊥

@@ -1,0 +1,132 @@
+//! The captures that a scenario plays.
+ghost use Rattle.std.specs.Prelude.{◌≡◌, ◌≢◌, ◌++◌, ◌∷◌, [], All, IfErr, IfOk, OnOk};
+ghost use Rattle.net_base.specs.outside.Outside.{NeverFall};
+ghost use Rattle.net_base.specs.plan.Planned.{IsFrame};
+ghost use Rattle.pcap_file.specs.FirstFault.{IsFirstFault};
+ghost use Rattle.pcap_file.specs.Records.{IsCapture};
+ghost use Rattle.vplsnet.specs.Captures.{FailsToPlay, GainsPlayed, HasFrames, HasPlayed, IsNoCapture, IsToldAs};
+ghost use Rattle.vplsnet.specs.Inputs.{played, played_by};
+
+use crate::named_file::octets_of;
+use crate::outcome::Outcome;
+use net_base::{List, NoMemory, Octets, Shelf, Word};
+use pcap_file::{CaptureFault, read_capture};
+use scenario_text::Command;
+use std::alloc::Global;
+
+/// The most octets of a capture.
+const CAPTURE_LIMIT: usize = 67_108_864;
+
+/// The frames of each capture that the commands play, in their order; or the outcome of the first file whose frames were not had. A
+/// file that is played twice is read twice.
+#[tactic(auto, using(crate::proofs::CaptureLemmas::play_steps))]
+pub fn captures_of<F: Shelf>(
+    alloc: Global,
+    shelf: &mut F,
+    commands: &[Command],
+) -> Result<List<List<Octets>>, Outcome>
+    ensures played { IfOk result (HasPlayed (F.files shelf.old) (played commands.now)) }
+    ensures frames { IfOk result (All (All IsFrame)) }
+    ensures fails { IfErr result (FailsToPlay (F.files shelf.old) (F.faults shelf.old) (F.faults shelf.new) (played commands.now)) }
+    ensures same_files { F.files shelf.new ≡ F.files shelf.old }
+    ensures never_fall { NeverFall (F.faults shelf.old) (F.faults shelf.new) }
+{
+    let mut captures = List::new(alloc);
+    for command in commands {
+        match add_played(alloc, shelf, command, &mut captures) {
+            Ok(()) => {}
+            Err(outcome) => return Err(outcome),
+        }
+    }
+    Ok(captures)
+}
+
+// Adds the frames of the capture that a command plays, where it plays one.
+#[tactic(auto, using(crate::proofs::CaptureLemmas::gains_none))]
+fn add_played<F: Shelf>(
+    alloc: Global,
+    shelf: &mut F,
+    command: &Command,
+    captures: &mut List<List<Octets>>,
+) -> Result<(), Outcome>
+    ensures gains { OnOk result (GainsPlayed (F.files shelf.old) (played_by command.now) captures.old captures.new) }
+    ensures fails { IfErr result (FailsToPlay (F.files shelf.old) (F.faults shelf.old) (F.faults shelf.new) (played_by command.now)) }
+    ensures same_files { F.files shelf.new ≡ F.files shelf.old }
+    ensures never_fall { NeverFall (F.faults shelf.old) (F.faults shelf.new) }
+{
+    match command {
+        Command::Play(_, file) => add_capture(alloc, shelf, file.as_str(), captures),
+        Command::One(_) | Command::Settle(_) | Command::Flow(_) | Command::Ticks(_) => Ok(()),
+    }
+}
+
+// Adds the frames of a capture.
+#[tactic(auto, using(crate::proofs::CaptureLemmas::add_steps))]
+fn add_capture<F: Shelf>(
+    alloc: Global,
+    shelf: &mut F,
+    file: &str,
+    captures: &mut List<List<Octets>>,
+) -> Result<(), Outcome>
+    ensures gains { OnOk result (GainsPlayed (F.files shelf.old) (file.now ∷ []) captures.old captures.new) }
+    ensures fails { IfErr result (FailsToPlay (F.files shelf.old) (F.faults shelf.old) (F.faults shelf.new) (file.now ∷ [])) }
+    ensures same_files { F.files shelf.new ≡ F.files shelf.old }
+    ensures never_fall { NeverFall (F.faults shelf.old) (F.faults shelf.new) }
+{
+    match frames_of(alloc, shelf, file) {
+        Ok(frames) => push(captures, frames),
+        Err(outcome) => Err(outcome),
+    }
+}
+
+// Adds frames.
+fn push(captures: &mut List<List<Octets>>, frames: List<Octets>) -> Result<(), Outcome>
+    ensures added { OnOk result (captures.new ≡ captures.old ++ frames ∷ []) }
+    ensures want { IfErr result (λ outcome. outcome ≡ Outcome.NoMemory) }
+{
+    match captures.push(frames) {
+        Ok(()) => Ok(()),
+        Err(NoMemory) => Err(Outcome::NoMemory),
+    }
+}
+
+// The frames of a capture, or the outcome of why they were not had.
+#[tactic(auto, using(crate::proofs::CaptureLemmas::frame_steps))]
+fn frames_of<F: Shelf>(alloc: Global, shelf: &mut F, file: &str) -> Result<List<Octets>, Outcome>
+    ensures has { IfOk result (HasFrames (F.files shelf.old) file.now) }
+    ensures frames { IfOk result (All IsFrame) }
+    ensures not_had { IfErr result (IsNoCapture (F.files shelf.old) (F.faults shelf.old) (F.faults shelf.new) file.now) }
+    ensures same_files { F.files shelf.new ≡ F.files shelf.old }
+    ensures never_fall { NeverFall (F.faults shelf.old) (F.faults shelf.new) }
+{
+    match octets_of(alloc, shelf, file, CAPTURE_LIMIT) {
+        Ok(octets) => read_frames(alloc, file, octets),
+        Err(outcome) => Err(outcome),
+    }
+}
+
+// The frames that octets are a capture of, or the outcome of their first fault, which is told as it is; want of memory is no fault
+// of the capture.
+#[tactic(auto, using(crate::proofs::CaptureLemmas::told_first, crate::proofs::CaptureLemmas::short_frames))]
+fn read_frames(alloc: Global, file: &str, octets: Octets) -> Result<List<Octets>, Outcome>
+    ensures is { IfOk result (IsCapture octets) }
+    ensures frames { IfOk result (All IsFrame) }
+    ensures refused { IfErr result (IsToldAs (IsFirstFault octets) file.now) }
+{
+    match read_capture(alloc, octets.as_slice()) {
+        Ok(frames) => Ok(frames),
+        Err(CaptureFault::NoMemory) => Err(Outcome::NoMemory),
+        Err(fault) => Err(refused(alloc, file, fault)),
+    }
+}
+
+// The outcome of a fault of the file of this name. The name takes memory.
+fn refused(alloc: Global, file: &str, fault: CaptureFault) -> Outcome
+    requires { fault ≢ CaptureFault.NoMemory }
+    ensures { IsToldAs (λ told. told ≡ fault) file.now result }
+{
+    match Word::new(alloc, file) {
+        Ok(name) => Outcome::CaptureRefused(name, fault),
+        Err(NoMemory) => Outcome::NoMemory,
+    }
+}

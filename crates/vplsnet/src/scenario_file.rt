@@ -1,0 +1,109 @@
+//! The scenario of a file, with the captures that it plays.
+ghost use Rattle.std.specs.Prelude.{◌≡◌, All, IfErr, IfOk, Ok};
+ghost use Rattle.net_base.specs.plan.Accepted.{IsChecked};
+ghost use Rattle.net_base.specs.plan.Planned.{IsFrame};
+ghost use Rattle.command_text.specs.Planned.{IsPlanned};
+ghost use Rattle.scenario_text.specs.Document.{document};
+ghost use Rattle.vplsnet.specs.Answers.{IsRefused};
+ghost use Rattle.vplsnet.specs.Around.{Has};
+ghost use Rattle.vplsnet.specs.Asked.{asked_by};
+ghost use Rattle.vplsnet.specs.Inputs.{ComesTo, Run, Works};
+ghost use Rattle.vplsnet.specs.ScenarioFile.{HasAll, IsNoCircuit, IsNoScenario, LacksSome, ReadsScenario, outcome_of_fault};
+
+use crate::capture::missing_circuit;
+use crate::captures::captures_of;
+use crate::named_file::octets_of;
+use crate::outcome::Outcome;
+use crate::request::Request;
+use crate::work::Work;
+use net_base::{Octets, Shelf, Word};
+use scenario_text::{Scenario, ScenarioFault, read_scenario};
+use std::alloc::Global;
+
+/// The most octets of a scenario.
+const SCENARIO_LIMIT: usize = 8_388_608;
+
+/// The scenario of the file of a request, with the captures that it plays; or the outcome of what is refused first, in this order: the
+/// file is read, its octets are a scenario, the circuit that the request names is there, and the captures are read one after
+/// another.
+#[tactic(auto, using(crate::proofs::ScenarioFileLemmas::file_steps))]
+pub fn scenario_of<F: Shelf>(
+    alloc: Global,
+    shelf: &mut F,
+    request: Request<'_>,
+    file: &str,
+) -> Result<Work, Outcome>
+    requires { ReadsScenario (asked_by request) file.now }
+    ensures come { IfOk result (λ work. ComesTo (Has (F.files shelf.old)) (asked_by request.entry) (Works (Run work.scenario work.captures))) }
+    ensures checked { IfOk result (λ work. IsChecked work.scenario.plan) }
+    ensures planned { IfOk result (λ work. All (IsPlanned work.scenario.plan) work.scenario.commands) }
+    ensures frames { IfOk result (λ work. All (All IsFrame) work.captures) }
+    ensures refused { IfErr result (IsRefused (F.files shelf.old) (F.faults shelf.old) (F.faults shelf.new) (asked_by request.entry)) }
+    ensures same_files { F.files shelf.new ≡ F.files shelf.old }
+{
+    let octets = match octets_of(alloc, shelf, file, SCENARIO_LIMIT) {
+        Ok(octets) => octets,
+        Err(outcome) => return Err(outcome),
+    };
+    match accepted(alloc, octets) {
+        Ok(scenario) => with_captures(alloc, shelf, request, scenario),
+        Err(outcome) => Err(outcome),
+    }
+}
+
+// The scenario that octets are, or the outcome of their first fault.
+#[tactic(auto, using(crate::proofs::ScenarioFileLemmas::no_scenario_by))]
+fn accepted(alloc: Global, octets: Octets) -> Result<Scenario, Outcome>
+    ensures reads { IfOk result (λ scenario. document octets ≡ Ok scenario) }
+    ensures checked { IfOk result (λ scenario. IsChecked scenario.plan) }
+    ensures planned { IfOk result (λ scenario. All (IsPlanned scenario.plan) scenario.commands) }
+    ensures refused { IfErr result (IsNoScenario octets) }
+{
+    match read_scenario(alloc, octets.as_slice()) {
+        Ok(scenario) => Ok(scenario),
+        Err(fault) => Err(refused(fault)),
+    }
+}
+
+// The outcome of a scenario with this fault, which is told as it is; want of memory is no fault of the scenario.
+fn refused(fault: ScenarioFault) -> Outcome
+    ensures { result ≡ outcome_of_fault fault }
+{
+    match fault {
+        ScenarioFault::NoMemory => Outcome::NoMemory,
+        fault => Outcome::ScenarioRefused(fault),
+    }
+}
+
+// The scenario with the captures that it plays, where it has the circuit that the request names, if it names one.
+#[tactic(auto, using(crate::proofs::ScenarioFileLemmas::lack_steps))]
+fn with_captures<F: Shelf>(
+    alloc: Global,
+    shelf: &mut F,
+    request: Request<'_>,
+    scenario: Scenario,
+) -> Result<Work, Outcome>
+    ensures same { IfOk result (λ work. work.scenario ≡ scenario) }
+    ensures all { IfOk result (λ work. HasAll (F.files shelf.old) (asked_by request.entry) scenario work.captures) }
+    ensures frames { IfOk result (λ work. All (All IsFrame) work.captures) }
+    ensures lacks { IfErr result (LacksSome (F.files shelf.old) (F.faults shelf.old) (F.faults shelf.new) (asked_by request.entry) scenario) }
+    ensures same_files { F.files shelf.new ≡ F.files shelf.old }
+{
+    if let Some(circuit) = missing_circuit(request, &scenario.plan) {
+        return Err(no_circuit(alloc, circuit));
+    }
+    match captures_of(alloc, shelf, scenario.commands.as_slice()) {
+        Ok(captures) => Ok(Work { scenario, captures }),
+        Err(outcome) => Err(outcome),
+    }
+}
+
+// The outcome where a circuit is not there. Its name takes memory.
+fn no_circuit(alloc: Global, circuit: &str) -> Outcome
+    ensures { IsNoCircuit circuit.now result }
+{
+    match Word::new(alloc, circuit) {
+        Ok(circuit) => Outcome::NoCircuit(circuit),
+        Err(_) => Outcome::NoMemory,
+    }
+}
