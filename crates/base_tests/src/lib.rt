@@ -24,6 +24,8 @@ mod pings;
 #[cfg(test)]
 mod plans;
 #[cfg(test)]
+mod rehearsals;
+#[cfg(test)]
 mod reports;
 #[cfg(test)]
 mod scenarios;

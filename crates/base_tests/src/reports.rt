@@ -3,12 +3,13 @@
 use crate::edges::plans::{A, B, plan_of};
 use crate::words::is_same;
 use net_base::{
-    Arrival, CircuitId, Down, DropCause, Entry, Event, List, Octets, Plan, Reason, StateName,
-    Trace, WireId,
+    Arrival, CircuitId, Down, DropCause, Entry, Event, List, MemSink, Octets, Plan, Reason,
+    StateName, Trace, WireId,
 };
-use report_text::{Ending, report_of};
+use report_text::{Ending, put_report};
 use std::alloc::Global;
 use std::process::Abort;
+use text_lines::Page;
 
 const CA: CircuitId = CircuitId(0);
 
@@ -223,8 +224,11 @@ fn entries_of_sessions(rt: &impl Abort, alloc: Global, trace: &mut Trace) {
 
 // The report of a trace that ended so is this text.
 fn tells(rt: &impl Abort, alloc: Global, plan: &Plan, trace: &Trace, ending: Ending, text: &str) {
-    let report = report_of(alloc, plan, trace.as_slice(), ending).expect(rt, "memory");
-    assert!(rt; is_same(report.as_slice(), text.as_bytes()), "{text}");
+    let mut sink = MemSink::new(alloc, 65_536, List::new(alloc)).expect(rt, "memory");
+    let mut page = Page::new(alloc).expect(rt, "memory");
+    put_report(&mut page, &mut sink, plan, trace.as_slice(), ending).expect(rt, "a sound sink");
+    page.flush(&mut sink).expect(rt, "a sound sink");
+    assert!(rt; is_same(sink.taken(), text.as_bytes()), "{text}");
 }
 
 // The same in the plan.
