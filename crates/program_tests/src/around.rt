@@ -24,6 +24,8 @@ pub struct Case {
     pub more: &'static str,
     /// Whether the texts are pairs of hexadecimal digits, with blanks between them.
     pub is_hexadecimal: bool,
+    /// What the shelf holds beside it: names, and pairs of hexadecimal digits of the octets.
+    pub others: &'static [(&'static str, &'static str)],
     /// Which calls of the shelf and the sink fail, by their numbers (none for 0), and how much the sink takes.
     pub shelf_fails: u64,
     pub sink_fails: u64,
@@ -41,6 +43,8 @@ pub struct Case {
 pub enum Taken {
     /// This text.
     Whole(&'static str),
+    /// The octets of these pairs of hexadecimal digits.
+    Octets(&'static str),
     /// So many octets of this text, from its front.
     Front(&'static str, usize),
     /// What ends with these two texts.
@@ -62,6 +66,7 @@ pub const REPLAY: Case = Case {
     wires: "",
     more: "",
     is_hexadecimal: false,
+    others: &[],
     shelf_fails: 0,
     sink_fails: 0,
     room: 20_000,
@@ -176,10 +181,29 @@ fn file_of(rt: &impl Abort, alloc: Global, case: &Case) -> Vec<u8> {
     octets
 }
 
-// The shelf that holds the file.
+// The octets of pairs of hexadecimal digits.
+fn octets_of(rt: &impl Abort, alloc: Global, text: &str) -> Vec<u8> {
+    let mut octets = Vec::new(alloc);
+    put_octets(rt, &mut octets, text);
+    octets
+}
+
+// Lets a shelf hold the octets of pairs of hexadecimal digits.
+fn hold(rt: &impl Abort, alloc: Global, shelf: &mut MemShelf, name: &str, text: &str) {
+    let octets = octets_of(rt, alloc, text);
+    shelf
+        .store(alloc, name, octets.as_slice())
+        .expect(rt, "memory");
+}
+
+// The shelf that holds the file, and the others.
 fn case_shelf(rt: &impl Abort, alloc: Global, case: &Case) -> MemShelf {
     let octets = file_of(rt, alloc, case);
-    shelf_of(rt, alloc, octets.as_slice(), case.shelf_fails)
+    let mut shelf = shelf_of(rt, alloc, octets.as_slice(), case.shelf_fails);
+    for (name, text) in case.others {
+        hold(rt, alloc, &mut shelf, name, text);
+    }
+    shelf
 }
 
 // Runs the words over the shelf and this sink.
@@ -198,10 +222,32 @@ fn ends_with(octets: &[u8], front: &str, back: &str) -> bool {
     octets.ends_with(back.as_bytes()) && octets[..count].ends_with(front.as_bytes())
 }
 
+// Whether octets are those of pairs of hexadecimal digits.
+fn are_octets(octets: &[u8], text: &str) -> bool {
+    let text = text.as_bytes();
+    let mut same = text.len() == 2 * octets.len();
+    for (place, octet) in octets.iter().enumerate() {
+        let at = place.saturating_mul(2);
+        same = same && text.get(at) == Some(&digit(octet >> 4));
+        same = same && text.get(at.saturating_add(1)) == Some(&digit(octet & 15));
+    }
+    same
+}
+
+// A hexadecimal digit.
+fn digit(value: u8) -> u8 {
+    match value {
+        0..=9 => b'0' + value,
+        10..=15 => b'a' + (value - 10),
+        _ => b'?',
+    }
+}
+
 // Whether the sink took what it has to take.
 fn is_taken(octets: &[u8], taken: Taken) -> bool {
     match taken {
         Taken::Whole(text) => octets == text.as_bytes(),
+        Taken::Octets(text) => are_octets(octets, text),
         Taken::Front(text, count) => octets.len() == count && text.as_bytes().starts_with(octets),
         Taken::Ends(front, back) => ends_with(octets, front, back),
         Taken::Long(count, back) => octets.len() == count && octets.ends_with(back.as_bytes()),
@@ -223,10 +269,9 @@ fn is_told(rt: &impl Abort, alloc: Global, outcome: &Outcome, told: &str) -> boo
     line.as_slice() == told.as_bytes()
 }
 
-// Whether an outcome is that of a call without a line, or of what is not built, exactly where this line says so.
+// Whether an outcome is that of a call without a line exactly where there is none.
 fn is_kind(outcome: &Outcome, told: &str) -> bool {
     matches!(outcome, Outcome::Done) == told.is_empty()
-        && matches!(outcome, Outcome::NotBuilt) == (told == "vplsnet: not built")
 }
 
 // Whether there are so many entries, where that is told.

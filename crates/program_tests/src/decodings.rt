@@ -359,6 +359,56 @@ static MANY: Case = Case {
     ..DECODE
 };
 
+// KeepAlives whose lines are more than the 65,536 octets that are written at once: 19,381 digits, and 16 characters behind each.
+const LONG: Case = Case {
+    piece: "0001000e0a00000100000201000400000001",
+    times: 4000,
+    room: 90_000,
+    ..DECODE
+};
+
+// How a call of these ends: whole, behind a fault, and by which write fails and how much the sink takes.
+static PAGES: [Case; 6] = [
+    Case {
+        taken: Taken::Long(19_381 + 64_000, "\n71982 KeepAlive id=1\n"),
+        ..LONG
+    },
+    Case {
+        back: "0001000d",
+        status: 6,
+        taken: Taken::Long(19_381 + 64_000, "\n71982 KeepAlive id=1\n"),
+        told: "vplsnet: stream: 72000 PduLength 2",
+        ..LONG
+    },
+    Case {
+        back: "0001",
+        status: 6,
+        taken: Taken::Long(19_381 + 64_000, "\n71982 KeepAlive id=1\n"),
+        told: "vplsnet: stream ends at 72000",
+        ..LONG
+    },
+    Case {
+        sink_fails: 1,
+        status: 4,
+        told: "vplsnet: write fault",
+        ..LONG
+    },
+    Case {
+        sink_fails: 2,
+        status: 4,
+        taken: Taken::Long(65_536, "\n56682 KeepAlive id=1\n56700"),
+        told: "vplsnet: write fault",
+        ..LONG
+    },
+    Case {
+        room: 70_000,
+        status: 4,
+        taken: Taken::Long(70_000, "\n60498 KeepAlive id=1\n60516 KeepAlive i"),
+        told: "vplsnet: write fault",
+        ..LONG
+    },
+];
+
 // 67,108,865 octets.
 static TOO_LONG: Case = Case {
     piece: "\x07\x07\x07\x07\x07\x07\x07\x07\x07\x07\x07\x07\x07\x07\x07\x07\
@@ -395,6 +445,11 @@ fn ends_where_a_stream_or_the_outside_does(rt: HostRuntime) {
     all_play(&rt, alloc, REFUSED.as_slice());
     all_play(&rt, alloc, OUTSIDE.as_slice());
     plays(&rt, alloc, &MANY);
+}
+
+#[test]
+fn writes_long_texts_page_by_page(rt: HostRuntime) {
+    all_play(&rt, rt.alloc(), PAGES.as_slice());
 }
 
 // A test has a minute, so what takes long is a test of its own.

@@ -8,6 +8,10 @@ mod around;
 #[cfg(test)]
 mod bridges;
 #[cfg(test)]
+mod captures;
+#[cfg(test)]
+mod commands;
+#[cfg(test)]
 mod decodings;
 #[cfg(test)]
 mod faults;

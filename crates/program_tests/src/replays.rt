@@ -108,7 +108,7 @@ const REFUSED: Case = Case {
     ..TABLED
 };
 
-static REFUSALS: [Case; 7] = [
+static REFUSALS: [Case; 6] = [
     Case {
         front: "events = 1",
         told: "vplsnet: scenario: WrongKind top 0 events",
@@ -137,12 +137,6 @@ static REFUSALS: [Case; 7] = [
     Case {
         front: "[[circuit]]\nname = \"c2\"\nedge = \"e\"\nservice = \"s\"",
         told: "vplsnet: scenario: Plan RepeatedName circuit 3 name",
-        ..REFUSED
-    },
-    Case {
-        front: "events = [\"play c1 k.pcap\"]",
-        entries: Some(0),
-        told: "vplsnet: not built",
         ..REFUSED
     },
 ];
