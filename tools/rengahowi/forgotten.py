@@ -2,24 +2,13 @@
 
 from .checking import Finding
 
-UNBUILT_EVENTS = {"play": "captures that are played"}
-
 
 def warnings(plan):
     """All warnings on a plan and its events."""
-    yield from unbuilt(plan)
     for service in plan.services:
         yield from mesh_gaps(plan, service)
     yield from never_connected(plan)
     yield from expiring(plan)
-
-
-def unbuilt(plan):
-    """What the program answers `not built` to."""
-    for number, text in enumerate(plan.events):
-        word = text.split(" ")[0]
-        if word in UNBUILT_EVENTS:
-            yield Finding("", ("events", number), 0, f"{UNBUILT_EVENTS[word]} are not built yet: the program answers 'not built'")
 
 
 def mesh_gaps(plan, service):

@@ -10,7 +10,7 @@ import xml.etree.ElementTree
 TOP = pathlib.Path(__file__).resolve().parent.parent.parent
 PROGRAM = str(TOP / "bin" / "vplsnet")
 # External programs that some checks need, and the Debian package of each.
-PACKAGES = {"dot": "graphviz", "tshark": "tshark"}
+PACKAGES = {"dot": "graphviz", "tshark": "tshark", "capinfos": "wireshark-common"}
 # The severity of an error of Wireshark's expert.
 ERROR = 0x00800000
 HTML = "{http://www.w3.org/1999/xhtml}"
@@ -74,3 +74,10 @@ def capture_seen(call, folder):
         packets += bool(label)
         faults += bool(malformed) or any(int(one, 0) >= ERROR for one in severity.split(",") if one)
     return messages, packets, faults
+
+
+def frames_seen(path, folder):
+    """How tshark and capinfos end on a capture of frames, and how many frames each of them counts there."""
+    seen = run(["tshark", "-r", path], folder, text=True)
+    told = run(["capinfos", "-T", "-r", "-c", path], folder, text=True)
+    return (seen.returncode, len(seen.stdout.splitlines())), (told.returncode, int(told.stdout.split()[-1]))
