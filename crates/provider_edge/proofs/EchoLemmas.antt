@@ -1,13 +1,12 @@
 -- What an edge makes of what came in a control channel, and of a ping, exit by exit.
-use Rattle.edge_model.specs.Echo.{channel_octets, channel_under, echoes, is_picked, ping_number, verifies, verifies_in}
-use Rattle.edge_model.specs.Ping.{asks, far_address, far_terminal, ping_between, ping_input, pinging, pings_at, pings_by, pings_in, pings_under}
+use Rattle.edge_model.specs.Echo.{channel_octets, channel_under, echoes, is_picked, ping_number, verifies}
+use Rattle.edge_model.specs.Ping.{asks, far_address, far_terminal, ping_input, pinging, pings_at, pings_by, pings_in, pings_under}
 use Rattle.edge_model.specs.Send.{drops, sends}
 use Rattle.edge_model.specs.State.{EdgeState, end_at}
 use Rattle.edge_model.specs.Work.{Answers, Work, beginning, changes, gives, idles}
 use Rattle.edge_model.specs.Ends.{wire_end}
 use Rattle.edge_model.specs.declared.effect.Effect.{Effect}
 use Rattle.edge_model.specs.declared.effect.Effect.TheVariants.{Dropped, Pong}
-use Rattle.edge_model.specs.declared.effects.Effects.{Effects}
 use Rattle.edge_model.specs.declared.end_place.EndPlace.{EndPlace}
 use Rattle.net_base.specs.declared.outside.link_call.LinkCall.{LinkCall}
 use Rattle.net_base.specs.declared.plan.Plan.{Plan}
@@ -29,14 +28,14 @@ use Rattle.provider_edge.specs.Pings.{asked_with, asks_with, channel_by, ping_fr
 use Rattle.pw_ends.specs.Ends.{end_in, no_place, place_of}
 use Rattle.pw_signalling.specs.declared.binding.Binding.{Binding}
 use Rattle.pw_stitch.specs.Stitch.{has_told}
-use Rattle.std.proofs.Common.{Bool, Err, List, None, Ok, Option, Result, Some, [], ap, arith, cond, drop, false, length, option_and_then, refl, slice_index_or, subst, sym, take, true, ℕ, ◌++◌, ◌∙◌, ◌∷◌, ◌≡◌, ◌≤◌, ◌<◌}
+use Rattle.std.proofs.Common.{Bool, Err, List, None, Ok, Option, Result, Some, [], ap, arith, cond, drop, false, length, option_and_then, refl, slice_index_or, sym, take, true, ℕ, ◌++◌, ◌∙◌, ◌∷◌, ◌≡◌, ◌≤◌, ◌<◌}
 use Rattle.std.proofs.lemmas.List.{length-drop}
 use Rattle.vccv_channel.proofs.ReadingLemmas.{IsRead, read_as}
 use Rattle.vccv_channel.specs.Channel.{has_header}
-use Rattle.vccv_channel.specs.Echo.{answer_packet, request_packet}
+use Rattle.vccv_channel.specs.Echo.{answer_packet}
 use Rattle.vccv_channel.specs.Fault.{vccv_cause_of}
 use Rattle.vccv_channel.specs.Pick.{picked}
-use Rattle.vccv_channel.specs.Reading.{behind_header, ip_packet_of, reading, total_length}
+use Rattle.vccv_channel.specs.Reading.{behind_header, ip_packet_of, reading}
 use Rattle.vccv_channel.specs.declared.cc.Cc.{Cc}
 use Rattle.vccv_channel.specs.declared.cc.Cc.TheVariants.{Alert, Expiry, Header}
 use Rattle.vccv_channel.specs.declared.echo.Echo.{Echo}
@@ -120,17 +119,25 @@ ponged told place row kind binding header number payload sequence edge calls out
     ap (λ (l : List Effect). record { edge = edge; calls = calls; effects = l; idle = false }) gave
     ∙ ap (λ (r : Result Echo VccvFault). echoes told place kind binding (ip_packet_of (has_header kind) payload) r work) (sym (number_is kind header row number payload (Ok (Answer sequence)) by same read))
 
-pub replied : (told : Answers) (place : EndPlace) (row : WirePlan) (kind : Cc) (held binding : Binding) (header : Bool) (number : ℕ) (payload ip : List ℕ) (from to : Addr) (sequence len : ℕ) (work x : Work)
-    → header ≡ has_header kind → number ≡ ping_number row → Ok (Request from to sequence len) ≡ reading header number payload → ip ≡ take len (behind_header header payload) → held ≡ binding
-    → x ≡ sends told place arrival.Own (channel_octets kind held (answer_packet ip)) work → x ≡ verifies told place row kind binding payload work
-replied told place row kind held binding header number payload ip from to sequence len work x by same read cut one is =
-    is
-    ∙ (ap (λ (b : Binding). sends told place arrival.Own (channel_octets kind b (answer_packet ip)) work) one
-    ∙ (ap (λ (l : List ℕ). sends told place arrival.Own (channel_octets kind binding (answer_packet l)) work) (cut ∙ (packet_same header number payload from to sequence len (sym read) ∙ ap (λ (h : Bool). ip_packet_of h payload) by))
-    ∙ ap (λ (r : Result Echo VccvFault). echoes told place kind binding (ip_packet_of (has_header kind) payload) r work) (sym (number_is kind header row number payload (Ok (Request from to sequence len)) by same read))))
-
-pub one_binding : (remote : Option Binding) (held binding : Binding) → remote ≡ Some held → remote ≡ Some binding → held ≡ binding
+one_binding : (remote : Option Binding) (held binding : Binding) → remote ≡ Some held → remote ≡ Some binding → held ≡ binding
 one_binding remote held binding is at = cc (sym is ∙ at)
+
+pub replied : (told : Answers) (place : EndPlace) (row : WirePlan) (kind : Cc) (binding : Binding) (header : Bool) (number : ℕ) (payload ip : List ℕ) (from to : Addr) (sequence len : ℕ) (work x : Work)
+    → header ≡ has_header kind → number ≡ ping_number row → Ok (Request from to sequence len) ≡ reading header number payload → ip ≡ take len (behind_header header payload)
+    → x ≡ sends told place arrival.Own (channel_octets kind binding (answer_packet ip)) work → x ≡ verifies told place row kind binding payload work
+replied told place row kind binding header number payload ip from to sequence len work x by same read cut is =
+    is
+    ∙ (ap (λ (l : List ℕ). sends told place arrival.Own (channel_octets kind binding (answer_packet l)) work) (cut ∙ (packet_same header number payload from to sequence len (sym read) ∙ ap (λ (h : Bool). ip_packet_of h payload) by))
+    ∙ ap (λ (r : Result Echo VccvFault). echoes told place kind binding (ip_packet_of (has_header kind) payload) r work) (sym (number_is kind header row number payload (Ok (Request from to sequence len)) by same read)))
+
+-- the answer goes under the binding of the end
+pub answered : (told : Answers) (place : EndPlace) (kind : Cc) (remote : Option Binding) (held binding : Binding) (ip packet : List ℕ) (work x : Work)
+    → packet ≡ channel_octets kind held (answer_packet ip) → remote ≡ Some held → remote ≡ Some binding
+    → x ≡ sends told place arrival.Own packet work → x ≡ sends told place arrival.Own (channel_octets kind binding (answer_packet ip)) work
+answered told place kind remote held binding ip packet work x made is at sent =
+    sent
+    ∙ (ap (λ (l : List ℕ). sends told place arrival.Own l work) made
+    ∙ ap (λ (b : Binding). sends told place arrival.Own (channel_octets kind b (answer_packet ip)) work) (one_binding remote held binding is at))
 
 -- ---- a ping
 

@@ -73,9 +73,6 @@ impl Edge {
             → (end_in self.now.ends slot).remote ≡ Some binding
             → at_work L.calls self.now work.new ≡ verifies told (place_of self.now.ends slot) row kind binding payload.now (at_work L.calls self.now work.old)) }
     {
-        let Some(binding) = self.end_in(slot).remote() else {
-            return Ok(());
-        };
         let header = has_header(kind);
         let echo = match read_echo(payload, header, self.ping_number(slot)) {
             Ok(echo) => echo,
@@ -83,33 +80,29 @@ impl Edge {
         };
         match echo {
             Echo::Request { length, .. } => {
-                self.reply(
-                    slot,
-                    kind,
-                    binding,
-                    ip_packet(payload, header, length),
-                    work,
-                )
+                self.reply(slot, kind, ip_packet(payload, header, length), work)
             }
             Echo::Answer { sequence } => self.tell_pong(slot, sequence, &mut work.effects.list),
         }
     }
 
-    // The answer to a request goes back in the same control channel.
+    // The answer to a request goes back in the same control channel of the end of a slot, which is bound.
     fn reply<L: Link>(
         &self,
         slot: usize,
         kind: Cc,
-        binding: &Binding,
         ip: &[u8],
         work: &mut AtWork<'_, L>,
     ) -> Result<(), NoMemory>
         requires slot { slot < length self.now.ends.places }
         requires request { IsRequest ip.now }
         ensures goes { WorkGoes L.calls work.old work.new }
-        ensures step { OnOk result ((told : Answers) → Agrees told (L.calls work.new.link.now)
-            → at_work L.calls self.now work.new ≡ sends told (place_of self.now.ends slot) Own (channel_octets kind binding.now (answer_packet ip.now)) (at_work L.calls self.now work.old)) }
+        ensures step { OnOk result ((told : Answers) (binding : Bound) → Agrees told (L.calls work.new.link.now) → (end_in self.now.ends slot).remote ≡ Some binding
+            → at_work L.calls self.now work.new ≡ sends told (place_of self.now.ends slot) Own (channel_octets kind binding (answer_packet ip.now)) (at_work L.calls self.now work.old)) }
     {
+        let Some(binding) = self.end_in(slot).remote() else {
+            return Ok(());
+        };
         let packet = answer_under(work.alloc, kind, binding, ip)?;
         self.send(slot, Arrival::Own, packet, work)
     }

@@ -1,16 +1,11 @@
-use Rattle.std.proofs.Common.{Ok, ap, option_copied, subst, sym, take, ◌∙◌, ◌≡◌}
-use Rattle.pw_ends.specs.Ends.{end_in, place_of}
-use Rattle.pw_signalling.specs.End.{EndState}
+use Rattle.std.proofs.Common.{Ok, ap, subst, sym, ◌∙◌}
+use Rattle.pw_ends.specs.Ends.{place_of}
 use Rattle.peer_dialogue.proofs.SettleLemmas.{map_on}
-use Rattle.provider_edge.proofs.EchoLemmas.{faulty, header_within, length_within, one_binding, ponged, replied}
+use Rattle.provider_edge.proofs.EchoLemmas.{faulty, header_within, length_within, ponged, replied}
 use Rattle.provider_edge.specs.AtWork.{at_work}
 use Rattle.provider_edge.specs.Lists.{seen}
 use Rattle.vccv_channel.specs.Reading.{IsRequest}
 use Rattle.provider_edge.proofs.edge.Edge.verify.Goals as goal
-
-pub returns-in_default-clause-step : goal.returns-in_default-clause-step
-returns-in_default-clause-step g c = λ told row binding agrees at held.
-    absurd (cc (sym held ∙ (sym (c.remote.ensures.remote ∙ ap (λ (e : EndState). e.remote) c.end_in.ensures.end) ∙ ap option_copied c.in_default.is)))
 
 pub returns-in-Err-clause-step : goal.returns-in-Err-clause-step
 returns-in-Err-clause-step g c = map_on _ _ c.drop_for.result
@@ -40,8 +35,6 @@ reply-requires-clause-request g c = subst IsRequest (sym c.ip_packet.ensures) (c
 pub returns-in-Request-clause-step : goal.returns-in-Request-clause-step
 returns-in-Request-clause-step g c = map_on _ _ c.reply.result
     (λ step. λ told row binding agrees at held.
-    replied told (place_of c.args.self.now.ends c.args.slot) row c.args.kind c.in-Some.binding.now binding c.has_header-header.result c.ping_number.result c.args.payload.now c.ip_packet.result.now _ _ _ c.in-Request.length (at_work g.L.Link.calls c.args.self.now c.args.work.now) _
-    c.has_header-header.ensures (c.ping_number.ensures.row row at) (sym (c.in-Ok.is ∙ ap Ok c.in-Request.is) ∙ c.read_echo.ensures.reads) c.ip_packet.ensures
-    (one_binding (end_in c.args.self.now.ends c.args.slot).remote c.in-Some.binding.now binding
-    (sym (c.remote.ensures.remote ∙ ap (λ (e : EndState). e.remote) c.end_in.ensures.end) ∙ ap option_copied c.in-Some.is) held) (step told agrees))
+    replied told (place_of c.args.self.now.ends c.args.slot) row c.args.kind binding c.has_header-header.result c.ping_number.result c.args.payload.now c.ip_packet.result.now _ _ _ c.in-Request.length (at_work g.L.Link.calls c.args.self.now c.args.work.now) _
+    c.has_header-header.ensures (c.ping_number.ensures.row row at) (sym (c.in-Ok.is ∙ ap Ok c.in-Request.is) ∙ c.read_echo.ensures.reads) c.ip_packet.ensures (step told binding agrees held))
     c.reply.ensures.step
