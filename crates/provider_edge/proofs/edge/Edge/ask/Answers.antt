@@ -1,6 +1,3 @@
-use Rattle.std.proofs.Common.{ap, sym}
-use Rattle.edge_model.specs.declared.end_place.EndPlace.{EndPlace}
-use Rattle.net_base.specs.declared.plan.places.WireId.{WireId}
 use Rattle.pw_ends.specs.Ends.{place_of}
 use Rattle.peer_dialogue.proofs.SettleLemmas.{map_on}
 use Rattle.provider_edge.proofs.EchoLemmas.{asks_counted, counted_at, placed_same}

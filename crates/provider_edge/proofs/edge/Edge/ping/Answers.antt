@@ -1,6 +1,5 @@
 use Rattle.std.proofs.Common.{ap, position, refl, subst, true, sym, ◌∙◌, ◌≡◌}
 use Rattle.edge_model.specs.EndPlaces.{is_end_of_wire}
-use Rattle.edge_model.specs.Ends.{wire_end}
 use Rattle.edge_model.specs.Ping.{ping_input}
 use Rattle.edge_model.specs.Work.{beginning}
 use Rattle.edge_model.specs.declared.effects.Effects.{Effects}

@@ -1,6 +1,4 @@
-use Rattle.std.proofs.Common.{Some, ap, length, option_copied, subst, sym, ◌<◌, ◌∙◌, ◌≡◌}
-use Rattle.edge_model.specs.Echo.{channel_octets}
-use Rattle.pw_ends.specs.Ends.{end_in, place_of}
+use Rattle.std.proofs.Common.{Some, ap, option_copied, subst, sym, ◌∙◌}
 use Rattle.pw_signalling.specs.End.{EndState}
 use Rattle.pw_stitch.specs.Stitch.{has_told}
 use Rattle.provider_edge.proofs.EchoLemmas.{request_free, request_made, request_unpicked, request_untold}

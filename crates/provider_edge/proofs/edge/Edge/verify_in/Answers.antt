@@ -2,7 +2,6 @@ use Rattle.std.proofs.Common.{sym, ◌∙◌}
 use Rattle.pw_ends.specs.Ends.{end_in, place_of}
 use Rattle.peer_dialogue.proofs.SettleLemmas.{map_on}
 use Rattle.provider_edge.proofs.EchoLemmas.{not_picked, picked_by}
-use Rattle.provider_edge.specs.Lists.{seen}
 use Rattle.provider_edge.proofs.edge.Edge.verify_in.Goals as goal
 
 pub returns-then-not-is_picked-clause-step : goal.returns-then-not-is_picked-clause-step
