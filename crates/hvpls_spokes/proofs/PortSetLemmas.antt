@@ -1,5 +1,5 @@
--- A bit of a row of words is set or cleared, and the others stay.
-use Rattle.std.proofs.Common.{◌≡◌, ◌≢◌, ◌<◌, ◌/◌, ◌%◌, ◌*◌, ◌^◌, ℕ, true, false, List, length, get_or, set, bit_and, bit_or, nat_eq, inl, inr, ap, arith, eq-eqb, w64, get_or-set_same, get_or-set_other}
+-- A bit of a row of words is set or cleared, and the others stay; and a set whose ports are below a number.
+use Rattle.std.proofs.Common.{◌≡◌, ◌≢◌, ◌<◌, ◌≤◌, ◌/◌, ◌%◌, ◌*◌, ◌^◌, ℕ, Bool, true, false, refl, List, length, get_or, set, bit_and, bit_or, nat_eq, inl, inr, ap, arith, eq-eqb, w64, get_or-set_same, get_or-set_other}
 use Rattle.std.proofs.lemmas.Bool.{cases_eq}
 use Rattle.std.proofs.lemmas.Nat.Bits.{bit_at_set_same, bit_at_set_other, bit_at_clear_same, bit_at_clear_other}
 use Rattle.std.specs.Int.{bit_at, bit_not}
@@ -39,3 +39,8 @@ pub clear_other : (words : List ℕ) (port p : ℕ) → port < 512 → length wo
 clear_other words port p fits len ne =
     let low : port % 64 < 64 = omega arith in
     other_bits words port p _ fits len ne (λ bit within other. bit_at_clear_other w64 (get_or words (port / 64) 0) (port % 64) low bit within other)
+
+-- a set whose ports are below a number does not have this one
+pub beyond : (has_it : Bool) (port len : ℕ) → (has_it ≡ true → port < len) → len ≤ port → false ≡ has_it
+beyond false port len below past = refl
+beyond true port len below past = absurd (omega (arith, below refl))

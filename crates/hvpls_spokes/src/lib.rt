@@ -13,7 +13,7 @@ mod roles;
 mod terminal;
 
 pub use edge_role::Role;
-pub use flood::flood_set;
+pub use flood::{flood_set, is_in_flood_set};
 pub use laws::spoke_edges_have_no_mesh_port;
 pub use port::Port;
 pub use port_kind::PortKind;

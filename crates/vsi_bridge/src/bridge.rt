@@ -1,11 +1,12 @@
 //! Virtual switch instances.
 ghost use Rattle.std.specs.Prelude.{◌≡◌, ◌==◌, ◌<◌, ◌≤◌, ◌&&◌, ℕ, [], filter, not, true, length, IfOk};
+ghost use Rattle.hvpls_spokes.specs.Flood.{is_in_flood};
 ghost use Rattle.hvpls_spokes.specs.PortSet.{has};
 ghost use Rattle.mac_table.specs.Addresses.{NoneAfter, entry_stays, is_young};
 ghost use Rattle.vsi_bridge.specs.BridgeState.{table_of, most_addresses};
 ghost use Rattle.vsi_bridge.specs.Targets.{heard, is_target, known_port};
 
-use hvpls_spokes::{PortSet, Ports, flood_set};
+use hvpls_spokes::{PortSet, Ports, flood_set, is_in_flood_set};
 use mac_table::MacTable;
 use net_base::{List, Mac, NoMemory};
 use std::alloc::Global;
@@ -65,10 +66,9 @@ impl Bridge {
         ensures ticks { NoneAfter now self.new.entries }
     {
         self.hear(source, arrival, now);
-        let flood = flood_set(&self.ports, forwarding, arrival);
         match self.known(destination) {
-            Some(port) => only(&flood, self.ports.len(), port),
-            None => flood,
+            Some(port) => only(&self.ports, forwarding, arrival, port),
+            None => flood_set(&self.ports, forwarding, arrival),
         }
     }
 
@@ -141,28 +141,13 @@ impl Bridge {
     }
 }
 
-// Whether the set, whose ports are below `len`, has the port, which may be any number.
-#[tactic(auto, using(crate::proofs::PortLemmas::beyond))]
-fn is_in(set: &PortSet, len: u16, port: u16) -> bool
-    requires set { (p : ℕ) → has set.now p ≡ true → p < len }
-    requires len { len ≤ 512 }
-    ensures has { result ≡ has set.now port }
-    ensures within { result ≡ true → port < 512 }
-{
-    if port >= len {
-        return false;
-    }
-    set.contains(port)
-}
-
-// The port alone, where it is in the set.
-fn only(set: &PortSet, len: u16, port: u16) -> PortSet
-    requires set { (p : ℕ) → has set.now p ≡ true → p < len }
-    requires len { len ≤ 512 }
-    ensures { (p : ℕ) → has result p ≡ (has set.now p && p == port) }
+// The port alone, where a frame that came by the port `arrival` may go to it.
+fn only(ports: &Ports, forwarding: &PortSet, arrival: u16, port: u16) -> PortSet
+    requires { (p : ℕ) → has forwarding.now p ≡ true → p < length ports.now }
+    ensures { (p : ℕ) → has result p ≡ (is_in_flood ports.now (has forwarding.now) arrival p && p == port) }
 {
     let mut one = PortSet::empty();
-    if is_in(set, len, port) {
+    if is_in_flood_set(ports, forwarding, arrival, port) {
         one.insert(port);
     }
     one
