@@ -1,7 +1,9 @@
 -- The digits of octets one piece after another.
-use Rattle.std.proofs.Common.{◌≡◌, ◌≤◌, ◌+◌, ◌/◌, ◌%◌, ◌++◌, ◌∙◌, ℕ, List, [], ◌∷◌, length, take, drop, refl, ap, sym, append_assoc, take-append-drop}
+use Rattle.std.proofs.Common.{◌≡◌, ◌≤◌, ◌+◌, ◌*◌, ◌/◌, ◌%◌, ◌++◌, ◌∙◌, ℕ, List, [], ◌∷◌, length, take, drop, refl, ap, sym, arith, append_assoc, take-append-drop}
 use Rattle.std.specs.Prelude.{slice_index}
 use Rattle.std.proofs.lemmas.List.{append-nil, drop-drop, drop_all}
+use Rattle.std.proofs.lemmas.Slice.{take-put_mid}
+use borrow.Rule.Slice.PartMut.{put_mid}
 use Rattle.hex.specs.Hex.{encode_with, lower_digits}
 use Rattle.text_pieces.specs.Pieces.{hex}
 
@@ -35,3 +37,20 @@ digits_next text now whole octets rest piece at mid behind front len adds told =
 pub digits_all : (text whole octets : List ℕ) (at : ℕ) → length octets ≤ at → text ++ hex (drop at octets) ≡ whole → text ≡ whole
 digits_all text whole octets at end told =
     (sym (append-nil text) ∙ ap (λ (l : List ℕ). text ++ l) (sym (ap hex (drop_all at octets end) ∙ hex_none))) ∙ told
+
+-- no digit is written yet
+pub hex_begun : (digits octets : List ℕ) → take (2 * 0) digits ++ hex (drop 0 octets) ≡ hex octets
+hex_begun digits octets = refl
+
+-- the digits of a piece are written behind those before it
+pub piece_written : (digits octets rest piece made : List ℕ) (at count room : ℕ) → rest ≡ drop at octets → piece ≡ take count rest
+    → made ≡ hex piece → room ≡ 2 * count → length made ≡ 2 * count → 2 * at ≤ length digits → take (2 * at) digits ++ hex (drop at octets) ≡ hex octets
+    → take (2 * (at + count)) (put_mid (2 * at) room digits made) ++ hex (drop (at + count) octets) ≡ hex octets
+piece_written digits octets rest piece made at count room behind front is size len fits told =
+    let more : List ℕ = hex (drop (at + count) octets) in
+    let adds : take (2 * (at + count)) (put_mid (2 * at) room digits made) ≡ take (2 * at) digits ++ made =
+    take-put_mid (2 * at) room digits made (2 * (at + count)) (omega (arith, len)) fits in
+    let split : hex (drop at octets) ≡ made ++ more =
+    hex_from octets at count ∙ ap (λ (l : List ℕ). l ++ more) (ap hex (sym (front ∙ ap (take count) behind)) ∙ sym is) in
+    (ap (λ (l : List ℕ). l ++ more) adds ∙ append_assoc (take (2 * at) digits) made more)
+    ∙ (ap (λ (l : List ℕ). take (2 * at) digits ++ l) (sym split) ∙ told)

@@ -1,3 +1,4 @@
+pub mod DigitLemmas
 pub mod HexLemmas
 pub mod PairLemmas
 pub mod SpacedLemmas

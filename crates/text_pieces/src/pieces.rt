@@ -21,10 +21,15 @@ pub fn put_word(text: &mut Vec<u8>, word: &[u8]) -> Result<(), NoMemory>
     put_text(text, word)
 }
 
-/// Adds a number in decimal.
+/// Adds a number in decimal. Most numbers of a report have one digit.
+#[tactic(auto, using(std::proofs::lemmas::Fmt::decimal_digit))]
 pub fn put_number(text: &mut Vec<u8>, number: u64) -> Result<(), NoMemory>
     ensures { OnOk result (text.new.items ≡ text.old.items ++ decimal number) }
 {
+    if number < 10 {
+        text.push(b'0' + number as u8)?;
+        return Ok(());
+    }
     let mut buffer = Buffer::new();
     put_text(text, buffer.format(number).as_bytes())
 }
