@@ -8,6 +8,7 @@ mod content;
 mod decode;
 mod decode_fault;
 mod encode;
+mod field_set;
 mod mapped_label;
 mod message_body;
 mod message_head;

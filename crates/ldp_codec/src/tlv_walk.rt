@@ -4,22 +4,29 @@ ghost use Rattle.net_values.specs.declared.field.Field.{Field};
 ghost use Rattle.ldp_grammar.specs.Layouts.{fits, listed, most};
 ghost use Rattle.ldp_grammar.specs.FirstFault.{IsFirst, IsFirstTlvFault, NamesTlvs};
 ghost use Rattle.ldp_grammar.specs.Rows.{row_of};
-ghost use Rattle.ldp_grammar.specs.Tlvs.{Tlv, IsJoined, MayComeAgain, count_of, unknown_in};
+ghost use Rattle.ldp_grammar.specs.Tlvs.{Tlv, IsJoined, MayComeAgain, count_of, type_in, unknown_in};
+ghost use Rattle.ldp_codec.specs.FieldSet.{HoldsListed, IsPutIn};
 ghost use Rattle.ldp_codec.specs.Walk.{HasLength, IsTaken, IsWalked};
 
 use crate::content::wrong_content;
+use crate::field_set::FieldSet;
 use crate::numbers::two;
 use crate::tlv::{TYPE_LIMIT, split_tlv};
 use crate::tlv_search::count_tlvs;
 use ldp_grammar::{Cause, Fault, MessageKind, TLV_HEADER, TlvPart, U_BIT, is_fitting, most_of};
 use net_values::Field;
 
-// The TLV of this type, where the message lists it and has as many before as it may.
-fn repeated(kind: MessageKind, tlv: u16, before: &[u8]) -> Option<Field>
+// The TLV of this type, where the message lists it and has as many before as it may. Only where the set has its field are those
+// before counted.
+fn repeated(kind: MessageKind, tlv: u16, before: &[u8], met: FieldSet) -> Option<Field>
+    requires met { (ts : List Tlv) → IsJoined before.now ts → HoldsListed (row_of kind) met ts }
     ensures full { (ts : List Tlv) → IsJoined before.now ts → IfSome result (λ field. (listed (row_of kind) tlv ≡ Some field) × (most field ≤ count_of tlv ts)) }
     ensures room { (ts : List Tlv) → IsJoined before.now ts → result ≡ None → MayComeAgain (listed (row_of kind) tlv) (count_of tlv ts) }
 {
     let field = kind.listed(tlv)?;
+    if !met.contains(field) {
+        return None;
+    }
     if count_tlvs(tlv, before) < most_of(field) {
         return None;
     }
@@ -48,6 +55,17 @@ pub fn unknown(kind: MessageKind, word: u16) -> Option<u16>
     }
 }
 
+// The set with the field of the TLV with this word, where the message lists it.
+fn put_in(kind: MessageKind, word: u16, met: FieldSet) -> FieldSet
+    ensures { IsPutIn (listed (row_of kind) (type_in word)) met result }
+{
+    let mut met = met;
+    if let Some(field) = kind.listed(word % TYPE_LIMIT) {
+        met.insert(field);
+    }
+    met
+}
+
 // The word and the size of the TLV in front, behind others of the message with these octets. A label is not looked at where
 // the first FEC is foreign.
 #[tactic(auto, using(crate::proofs::WalkLemmas::taken_here, crate::proofs::WalkLemmas::misfit_here, ldp_grammar::proofs::TlvLemmas::short_tlv, ldp_grammar::proofs::TlvLemmas::long_tlv, ldp_grammar::proofs::TlvLemmas::repeated_tlv))]
@@ -56,9 +74,11 @@ fn take_tlv(
     body: &[u8],
     before: &[u8],
     rest: &[u8],
+    met: FieldSet,
 ) -> Result<(u16, usize), Fault>
     requires some { 0 < length rest.now }
     requires few { length rest.now < 65536 }
+    requires met { (ts : List Tlv) → IsJoined before.now ts → HoldsListed (row_of kind) met ts }
     ensures taken { (ts : List Tlv) → IsJoined before.now ts → IfOk result (λ r. IsTaken (row_of kind) body.now ts rest.now r.0 r.1) }
     ensures some { IfOk result (λ r. 0 < r.1) }
     ensures within { IfOk result (λ r. r.1 ≤ length rest.now) }
@@ -69,7 +89,7 @@ fn take_tlv(
         return Err(fault_at(0, Cause::TlvLength));
     }
     let tlv = two(rest, 0) % TYPE_LIMIT;
-    if let Some(field) = repeated(kind, tlv, before) {
+    if let Some(field) = repeated(kind, tlv, before, met) {
         return Err(fault_at(0, Cause::Repeated(field)));
     }
     let Some((word, value, _)) = split_tlv(rest) else {
@@ -93,7 +113,7 @@ fn fault_at(place: u16, cause: Cause) -> Fault
 
 /// The type of the first TLV that is unknown in the message and not to be ignored, where the octets behind the Message
 /// ID are TLVs without fault; or else their first fault, its place counted from the first of them.
-#[tactic(auto, using(crate::proofs::WalkLemmas::walked_more, crate::proofs::WalkLemmas::walk_fault, crate::proofs::WalkLemmas::walked_all, crate::proofs::WalkLemmas::walked_none))]
+#[tactic(auto, using(crate::proofs::WalkLemmas::walked_more, crate::proofs::WalkLemmas::walk_fault, crate::proofs::WalkLemmas::walked_all, crate::proofs::WalkLemmas::walked_none, crate::proofs::FieldSetLemmas::holds_none, crate::proofs::FieldSetLemmas::holds_before))]
 pub fn walk_tlvs(kind: MessageKind, body: &[u8]) -> Result<Option<u16>, Fault>
     requires { length body.now < 65536 }
     ensures walked { IfOk result (IsWalked (row_of kind) body.now body.now) }
@@ -101,14 +121,16 @@ pub fn walk_tlvs(kind: MessageKind, body: &[u8]) -> Result<Option<u16>, Fault>
     ensures near { IfErr result (λ fault. fault.place < length body.now) }
 {
     let mut first = None;
+    let mut met = FieldSet::empty();
     let mut at = 0;
     'walking: while at < body.len() {
         let (before, rest) = body.split_at(at);
-        let (word, size) = match take_tlv(kind, body, before, rest) {
+        let (word, size) = match take_tlv(kind, body, before, rest, met) {
             Ok(taken) => taken,
             Err(fault) => return Err(fault.behind(at as u16)),
         };
         first = first.or(unknown(kind, word));
+        met = put_in(kind, word, met);
         at += size;
     }
     Ok(first)
