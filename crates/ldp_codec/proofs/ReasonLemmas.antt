@@ -11,15 +11,17 @@ use Rattle.pw_tlvs.specs.declared.fec_value.FecValue.TheVariants.{Pw, Foreign}
 use Rattle.pw_tlvs.specs.declared.pw_fec.PwFec.{PwFec}
 use Rattle.pw_tlvs.specs.Fec.{IsFecValue, IsPwFec}
 use Rattle.ldp_grammar.specs.declared.message_kind.MessageKind.{MessageKind}
+use Rattle.ldp_grammar.specs.declared.message.Message.TheVariants.{Unprocessed}
+use Rattle.ldp_grammar.specs.declared.why.Why.{Why}
 use Rattle.ldp_grammar.specs.declared.why.Why.TheVariants.{UnknownTlv, Missing}
 use Rattle.ldp_grammar.specs.Octets.{four_at}
-use Rattle.ldp_grammar.specs.Rows.{Row, row_of, is_in, fec, label}
+use Rattle.ldp_grammar.specs.Rows.{Row, row_of, type_of, is_in, fec, label}
 use Rattle.ldp_grammar.specs.Layouts.{fits, listed}
 use Rattle.ldp_grammar.specs.Tlvs.{Tlv, IsJoined, IsFaultless, IsReason, IsForeign, HasValue, OfBoth, all_there, stands_instead, missing, fec_value, where_listed, fec_reason, reason_of, first_absent, first_unknown, value_of}
-use Rattle.ldp_grammar.specs.Spells.{OfValue}
+use Rattle.ldp_grammar.specs.Spells.{IsRead, OfValue}
 use Rattle.ldp_grammar.proofs.TlvLemmas.{value_fits, none_of, needed_there, rows_have_fields, joined_once}
 use Rattle.ldp_grammar.proofs.ForeignLemmas.{no_reason, told_pw, not_foreign}
-use Rattle.ldp_codec.specs.Walk.{IsComplete}
+use Rattle.ldp_codec.specs.Walk.{HasElement, IsComplete, IsWalked, element_in}
 
 -- where TLVs may stand instead, and all of them do
 pub instead_is : (kinds : List ℕ) (ts : List Tlv) → stands_instead kinds ts ≡ (not (length kinds == 0) && all_there kinds ts)
@@ -76,15 +78,7 @@ reason_missing k ts told f is e m = record { told = told; is_told = is; is = λ 
 pub reason_last : (k : MessageKind) (ts : List Tlv) (told : Option FecValue) → OfBoth (fec_value (row_of k) ts) told IsFecValue → None ≡ first_unknown (row_of k) ts → None ≡ missing (row_of k) ts → IsReason k ts (fec_reason k told)
 reason_last k ts told is e m = record { told = told; is_told = is; is = λ i. reason_of (e i) (m i) (fec_reason k told) }
 
--- the FEC of a processed message
-fec_value_is : (k : MessageKind) (ts : List Tlv) → listed (row_of k) fec ≡ Some field.Fec → fec_value (row_of k) ts ≡ value_of fec ts
-fec_value_is k ts e = ap (λ (o : Option Field). where_listed o (value_of fec ts)) e
-
-abbrev pub element_in : Option FecValue → Option PwFec
-element_in None = None
-element_in (Some (Pw pw)) = Some pw
-element_in (Some (Foreign first)) = None
-
+-- the FEC of a processed message is an element
 element_is : (v : Option (List ℕ)) (r : Option FecValue) → ((first : ℕ) → r ≡ Some (Foreign first) → ⊥) → OfBoth v r IsFecValue → OfBoth v (element_in r) IsPwFec
 element_is None None never is = is
 element_is None (Some x) never is = absurd is
@@ -92,14 +86,20 @@ element_is (Some v) None never is = absurd is
 element_is (Some v) (Some (Pw pw)) never is = is
 element_is (Some v) (Some (Foreign first)) never is = absurd (never first refl)
 
-pub pw_is : (k : MessageKind) (body : List ℕ) (ts : List Tlv) (r : Option FecValue) → IsComplete k body → listed (row_of k) fec ≡ Some field.Fec → IsJoined body ts
-    → ((us : List Tlv) → IsJoined body us → IsFaultless (row_of k) body us → OfBoth (fec_value (row_of k) us) r IsFecValue) → OfBoth (value_of fec ts) (element_in r) IsPwFec
-pw_is k body ts r w is_listed joined tells =
+pub has_element : (k : MessageKind) (body : List ℕ) (r : Option FecValue) → IsComplete k body → ((ts : List Tlv) → IsJoined body ts → IsFaultless (row_of k) body ts → OfBoth (fec_value (row_of k) ts) r IsFecValue) → HasElement k body (element_in r)
+has_element k body r w tells = λ ts joined.
     let same : w.tlvs ≡ ts = joined_once body w.tlvs ts w.joined joined in
-    let is : OfBoth (value_of fec w.tlvs) r IsFecValue = subst (λ (v : Option (List ℕ)). OfBoth v r IsFecValue) (fec_value_is k w.tlvs is_listed) (tells w.tlvs w.joined w.faultless) in
-    let told : OfBoth (value_of fec w.tlvs) w.reason.told IsFecValue = subst (λ (v : Option (List ℕ)). OfBoth v w.reason.told IsFecValue) (fec_value_is k w.tlvs is_listed) w.reason.is_told in
+    let is : OfBoth (fec_value (row_of k) w.tlvs) r IsFecValue = tells w.tlvs w.joined w.faultless in
     let none = no_reason _ _ _ w.reason.is in
-    subst (λ (us : List Tlv). OfBoth (value_of fec us) (element_in r) IsPwFec) same (element_is (value_of fec w.tlvs) r (told_pw k (value_of fec w.tlvs) w.reason.told r none.fec told is) is)
+    subst (λ (us : List Tlv). OfBoth (fec_value (row_of k) us) (element_in r) IsPwFec) same (element_is (fec_value (row_of k) w.tlvs) r (told_pw k (fec_value (row_of k) w.tlvs) w.reason.told r none.fec w.reason.is_told is) is)
+
+-- a message that is not processed
+pub unprocessed : (k : MessageKind) (body : List ℕ) (unknown : Option ℕ) (why : Option Why) (reason : Why) (w : IsWalked (row_of k) body body unknown) → IsReason k w.tlvs why → why ≡ Some reason → (id : ℕ) → IsRead k id body (Unprocessed id (type_of k) reason)
+unprocessed k body unknown why reason w is e = λ id. record { tlvs = w.tlvs; joined = w.joined; faultless = w.faultless; why = Some reason; reason = subst (IsReason k w.tlvs) e is; tells = refl }
+
+-- a message that is processed
+pub complete : (k : MessageKind) (body : List ℕ) (unknown : Option ℕ) (why : Option Why) (w : IsWalked (row_of k) body body unknown) → IsReason k w.tlvs why → why ≡ None → IsComplete k body
+complete k body unknown why w is e = record { tlvs = w.tlvs; joined = w.joined; faultless = w.faultless; reason = subst (IsReason k w.tlvs) e is }
 
 -- what a message needs is there
 pub complete_of : (k : MessageKind) (body : List ℕ) (w : IsComplete k body) → (row_of k).instead ≡ [] → first_absent (row_of k).needed w.tlvs ≡ None
@@ -119,6 +119,12 @@ pub both_some : {A : Type 0} (P : List ℕ → A → Type 0) (v : Option (List �
 both_some P None o some is = absurd (some refl)
 both_some P (Some v) None some is = absurd is
 both_some P (Some v) (Some x) some is = refl
+
+-- the PWid element of a message that needs a FEC is there
+pub needed_element : (k : MessageKind) (body : List ℕ) (pw : Option PwFec) → IsComplete k body → listed (row_of k) fec ≡ Some field.Fec → (row_of k).instead ≡ [] → is_in fec (row_of k).needed ≡ true → HasElement k body pw → IsSome pw
+needed_element k body pw w is_listed alone needed has =
+    let is : OfBoth (value_of fec w.tlvs) pw IsPwFec = subst (λ (o : Option Field). OfBoth (where_listed o (value_of fec w.tlvs)) pw IsPwFec) is_listed (has w.tlvs w.joined) in
+    both_some IsPwFec (value_of fec w.tlvs) pw (needed_some k fec body w alone needed) is
 
 -- the label of a message that is processed is looked at
 pub label_is : (k : MessageKind) (body value : List ℕ) → IsComplete k body → listed (row_of k) label ≡ Some field.Label → listed (row_of k) fec ≡ Some field.Fec → HasValue body (listed (row_of k) label) value → IsLabel (four_at 0 value)

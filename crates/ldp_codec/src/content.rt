@@ -1,19 +1,18 @@
 //! What the values of TLVs hold, and the first fault of it.
 ghost use Rattle.std.specs.Prelude.{◌≡◌, ◌≤◌, ◌<◌, ◌+◌, ◌^◌, None, true, false, length, Ok, Err, IfSome};
 ghost use Rattle.pw_tlvs.specs.Faults.{IsFirstIn, IsInside, fault_place};
-ghost use Rattle.pw_tlvs.specs.Fec.{IsFecFault};
 ghost use Rattle.pw_tlvs.specs.Point.{IsPointFault};
 ghost use Rattle.ldp_grammar.specs.FirstFault.{ContentFault, fault_in};
 ghost use Rattle.ldp_grammar.specs.Layouts.{fits, listed};
 ghost use Rattle.ldp_grammar.specs.Rows.{row_of};
-ghost use Rattle.ldp_grammar.specs.Tlvs.{HasContent, IsFec, IsSwitchingPoint};
+ghost use Rattle.ldp_grammar.specs.Tlvs.{HasContent, IsSwitchingPoint};
 ghost use Rattle.ldp_codec.specs.Walk.{HasContents, HasLength, IsFirstContent, IsForeignValue, ReadsForeign};
 
 use crate::numbers::four;
 use crate::tlv_search::find_value;
 use ldp_grammar::{Cause, FEC, Fault, MessageKind, TLV_HEADER};
 use net_values::{Field, Label};
-use pw_tlvs::{FecValue, FieldFault, read_fec, read_point};
+use pw_tlvs::{FecValue, FieldFault, fec_fault, read_fec, read_point};
 
 // Whether the value of a FEC TLV is no single PWid element.
 fn is_foreign(value: &[u8]) -> bool
@@ -37,19 +36,6 @@ fn has_foreign(body: &[u8]) -> bool
     match find_value(FEC, body) {
         Some(value) => is_foreign(value),
         None => false,
-    }
-}
-
-// The first fault of the value of a FEC TLV.
-fn fec_fault(value: &[u8]) -> Option<FieldFault>
-    requires { length value.now ≤ 65535 }
-    ensures fault { IfSome result (IsFirstIn (IsFecFault value.now)) }
-    ensures none { result ≡ None → IsFec value.now }
-    ensures near { IfSome result (IsInside value.now) }
-{
-    match read_fec(value) {
-        Ok(_) => None,
-        Err(fault) => Some(fault),
     }
 }
 

@@ -1,15 +1,16 @@
 //! The message that its octets behind the Message ID tell.
-ghost use Rattle.std.specs.Prelude.{◌≡◌, ◌≤◌, ◌<◌, ◌%◌, [], true, false, Some, None, List, length, option_copied, IfOk, IfSome};
+ghost use Rattle.std.specs.Prelude.{◌≡◌, ◌≤◌, ◌<◌, ◌%◌, [], ℕ, true, false, Some, None, List, length, option_copied, IfOk, IfErr, IfSome};
 ghost use Rattle.pw_tlvs.specs.declared.fec_value.FecValue.{FecValue as FecValueOf};
-ghost use Rattle.pw_tlvs.specs.Fec.{IsFecValue, IsPwFec};
+ghost use Rattle.pw_tlvs.specs.Fec.{IsFecValue};
 ghost use Rattle.pw_tlvs.specs.Macs.{AreMacs};
 ghost use Rattle.ldp_grammar.specs.declared.message_kind.MessageKind.{MessageKind};
-ghost use Rattle.ldp_grammar.specs.Rows.{row_of, is_in, fec, label, mac_list, pw_status, address_list};
+ghost use Rattle.ldp_grammar.specs.Rows.{row_of, type_of, is_in, fec, label, mac_list, address_list};
 ghost use Rattle.ldp_grammar.specs.Layouts.{listed};
 ghost use Rattle.ldp_grammar.specs.Tlvs.{Tlv, IsFaultless, IsJoined, IsReason, HasValue, OfBoth, all_there, fec_reason, fec_value, first_absent, first_unknown, missing as missing_in, needs_pw_id, value_of};
-ghost use Rattle.ldp_grammar.specs.Spells.{Means, OfValue};
+ghost use Rattle.ldp_grammar.specs.Spells.{IsRead, Means, OfValue};
+ghost use Rattle.ldp_grammar.specs.declared.message.Message.TheVariants as message;
 ghost use Rattle.ldp_grammar.specs.Values.{IsAddressList, IsNumber};
-ghost use Rattle.ldp_codec.specs.Walk.{IsComplete};
+ghost use Rattle.ldp_codec.specs.Walk.{HasElement, IsComplete, IsWalked, element_in};
 
 use crate::numbers::four;
 use crate::points::points;
@@ -96,23 +97,26 @@ fn pw_id_reason(kind: MessageKind, pw_id: Option<u32>) -> Option<Why>
 }
 
 // Why a message with this FEC is not processed.
-fn reason_of_fec(kind: MessageKind, fec: Option<FecValue>) -> Option<Why>
-    ensures { result ≡ fec_reason kind fec }
+fn reason_of_fec(kind: MessageKind, fec: &Option<FecValue>) -> Option<Why>
+    ensures { result ≡ fec_reason kind fec.now }
 {
-    match fec {
-        Some(FecValue::Pw(fec)) => pw_id_reason(kind, fec.pw_id),
+    match *fec {
+        Some(FecValue::Pw(ref fec)) => pw_id_reason(kind, fec.pw_id),
         Some(FecValue::Foreign(first)) => Some(Why::UnknownFec(first)),
         None => None,
     }
 }
 
-/// The first reason why the message is not processed.
+// The first reason why the message with this FEC is not processed.
 #[tactic(auto, using(crate::proofs::ReasonLemmas::reason_unknown, crate::proofs::ReasonLemmas::reason_missing, crate::proofs::ReasonLemmas::reason_last))]
-pub fn reason_not(unknown: Option<u16>, kind: MessageKind, body: &[u8]) -> Option<Why>
-    ensures first { (ts : List Tlv) → IsJoined body.now ts → IsFaultless (row_of kind) body.now ts → unknown ≡ first_unknown (row_of kind) ts → IsReason kind ts result }
+fn reason_not(
+    unknown: Option<u16>,
+    kind: MessageKind,
+    body: &[u8],
+    fec: &Option<FecValue>,
+) -> Option<Why>
+    ensures first { (ts : List Tlv) → IsJoined body.now ts → OfBoth (fec_value (row_of kind) ts) fec.now IsFecValue → unknown ≡ first_unknown (row_of kind) ts → IsReason kind ts result }
 {
-    // Read first, though it is looked at last: each reason is one beside what the FEC is.
-    let fec = fec_of(kind, body);
     if let Some(tlv) = unknown {
         return Some(Why::UnknownTlv(tlv));
     }
@@ -120,6 +124,36 @@ pub fn reason_not(unknown: Option<u16>, kind: MessageKind, body: &[u8]) -> Optio
         return Some(Why::Missing(field));
     }
     reason_of_fec(kind, fec)
+}
+
+// The PWid element that a FEC is.
+fn element_in(fec: Option<FecValue>) -> Option<PwFec>
+    ensures { result ≡ element_in fec }
+{
+    match fec {
+        Some(FecValue::Pw(fec)) => Some(fec),
+        Some(FecValue::Foreign(_)) => None,
+        None => None,
+    }
+}
+
+/// The PWid element of a message without fault that is processed, where it has a FEC, which is read here once and for all; or
+/// else the first reason why it is not processed.
+pub fn processable(
+    unknown: Option<u16>,
+    kind: MessageKind,
+    body: &[u8],
+) -> Result<Option<PwFec>, Why>
+    requires walked { IsWalked (row_of kind) body.now body.now unknown }
+    ensures complete { IfOk result (λ _. IsComplete kind body.now) }
+    ensures element { IfOk result (HasElement kind body.now) }
+    ensures unprocessed { IfErr result (λ why. (id : ℕ) → IsRead kind id body.now (message.Unprocessed id (type_of kind) why)) }
+{
+    let fec = fec_of(kind, body);
+    match reason_not(unknown, kind, body, &fec) {
+        Some(why) => Err(why),
+        None => Ok(element_in(fec)),
+    }
 }
 
 /// The value of a TLV that the message needs.
@@ -144,31 +178,6 @@ pub fn further_value(kind: MessageKind, tlv: u16, body: &[u8]) -> Option<&[u8]>
     find_value(tlv, body)
 }
 
-// The PWid element that a processed message has, where it has a FEC.
-fn pw_fec(kind: MessageKind, body: &[u8]) -> Option<PwFec>
-    requires complete { IsComplete kind body.now }
-    requires is_listed { listed (row_of kind) fec ≡ Some Field.Fec }
-    ensures pw { (ts : List Tlv) → IsJoined body.now ts → OfBoth (value_of fec ts) result IsPwFec }
-{
-    match fec_of(kind, body) {
-        Some(FecValue::Pw(fec)) => Some(fec),
-        Some(FecValue::Foreign(_)) => None,
-        None => None,
-    }
-}
-
-// The PWid element that a processed message needs.
-#[tactic(auto, using(crate::proofs::ReasonLemmas::of_value))]
-fn needed_fec(kind: MessageKind, body: &[u8]) -> PwFec
-    requires complete { IsComplete kind body.now }
-    requires is_listed { listed (row_of kind) fec ≡ Some Field.Fec }
-    requires needed { is_in fec (row_of kind).needed ≡ true }
-    requires alone { (row_of kind).instead ≡ [] }
-    ensures pw { (ts : List Tlv) → IsJoined body.now ts → OfValue (value_of fec ts) (λ v. IsPwFec v result) }
-{
-    pw_fec(kind, body).unwrap()
-}
-
 // The label, where there is one.
 #[tactic(auto, using(crate::proofs::ReasonLemmas::label_is, crate::proofs::ReasonLemmas::label_length))]
 fn label_of(kind: MessageKind, body: &[u8]) -> Option<Label>
@@ -184,15 +193,16 @@ fn label_of(kind: MessageKind, body: &[u8]) -> Option<Label>
 }
 
 // The processed Notification.
-fn notification(id: u32, body: &[u8]) -> Message
-    requires { IsComplete MessageKind.Notification body.now }
+fn notification(id: u32, body: &[u8], element: Option<PwFec>) -> Message
+    requires complete { IsComplete MessageKind.Notification body.now }
+    requires element { HasElement MessageKind.Notification body.now element }
     ensures means { (ts : List Tlv) → IsJoined body.now ts → Means MessageKind.Notification id ts result }
 {
     Message::Notification {
         id,
         status: needed(MessageKind::Notification, body),
         pw_status: further(MessageKind::Notification, body),
-        fec: pw_fec(MessageKind::Notification, body),
+        fec: element,
     }
 }
 
@@ -270,8 +280,14 @@ fn withdrawn_macs(alloc: Global, body: &[u8]) -> Result<Option<Items<Mac>>, NoMe
 }
 
 // The processed Address Withdraw.
-fn address_withdraw(alloc: Global, id: u32, body: &[u8]) -> Result<Message, NoMemory>
-    requires { IsComplete MessageKind.AddressWithdraw body.now }
+fn address_withdraw(
+    alloc: Global,
+    id: u32,
+    body: &[u8],
+    element: Option<PwFec>,
+) -> Result<Message, NoMemory>
+    requires complete { IsComplete MessageKind.AddressWithdraw body.now }
+    requires element { HasElement MessageKind.AddressWithdraw body.now element }
     ensures means { IfOk result (λ m. (ts : List Tlv) → IsJoined body.now ts → Means MessageKind.AddressWithdraw id ts m) }
 {
     let addresses = withdrawn(alloc, body)?;
@@ -279,7 +295,7 @@ fn address_withdraw(alloc: Global, id: u32, body: &[u8]) -> Result<Message, NoMe
     Ok(Message::AddressWithdraw {
         id,
         addresses,
-        fec: pw_fec(MessageKind::AddressWithdraw, body),
+        fec: element,
         macs,
     })
 }
@@ -294,13 +310,15 @@ fn mapped_label(body: &[u8]) -> Label
 }
 
 // The processed Label Mapping.
-fn label_mapping(id: u32, body: &[u8]) -> Message
-    requires { IsComplete MessageKind.LabelMapping body.now }
+#[tactic(auto, using(crate::proofs::ReasonLemmas::of_value))]
+fn label_mapping(id: u32, body: &[u8], element: Option<PwFec>) -> Message
+    requires complete { IsComplete MessageKind.LabelMapping body.now }
+    requires element { HasElement MessageKind.LabelMapping body.now element }
     ensures means { (ts : List Tlv) → IsJoined body.now ts → Means MessageKind.LabelMapping id ts result }
 {
     Message::LabelMapping {
         id,
-        fec: needed_fec(MessageKind::LabelMapping, body),
+        fec: element.unwrap(),
         label: mapped_label(body),
         pw_status: further(MessageKind::LabelMapping, body),
         points: points(body),
@@ -308,74 +326,84 @@ fn label_mapping(id: u32, body: &[u8]) -> Message
 }
 
 // The processed Label Withdraw.
-fn label_withdraw(id: u32, body: &[u8]) -> Message
-    requires { IsComplete MessageKind.LabelWithdraw body.now }
+#[tactic(auto, using(crate::proofs::ReasonLemmas::of_value))]
+fn label_withdraw(id: u32, body: &[u8], element: Option<PwFec>) -> Message
+    requires complete { IsComplete MessageKind.LabelWithdraw body.now }
+    requires element { HasElement MessageKind.LabelWithdraw body.now element }
     ensures means { (ts : List Tlv) → IsJoined body.now ts → Means MessageKind.LabelWithdraw id ts result }
 {
     Message::LabelWithdraw {
         id,
-        fec: needed_fec(MessageKind::LabelWithdraw, body),
+        fec: element.unwrap(),
         label: label_of(MessageKind::LabelWithdraw, body),
     }
 }
 
 // The processed Label Release.
-fn label_release(id: u32, body: &[u8]) -> Message
-    requires { IsComplete MessageKind.LabelRelease body.now }
+#[tactic(auto, using(crate::proofs::ReasonLemmas::of_value))]
+fn label_release(id: u32, body: &[u8], element: Option<PwFec>) -> Message
+    requires complete { IsComplete MessageKind.LabelRelease body.now }
+    requires element { HasElement MessageKind.LabelRelease body.now element }
     ensures means { (ts : List Tlv) → IsJoined body.now ts → Means MessageKind.LabelRelease id ts result }
 {
     Message::LabelRelease {
         id,
-        fec: needed_fec(MessageKind::LabelRelease, body),
+        fec: element.unwrap(),
         label: label_of(MessageKind::LabelRelease, body),
     }
 }
 
 // The processed Label Abort Request.
-fn label_abort(id: u32, body: &[u8]) -> Message
-    requires { IsComplete MessageKind.LabelAbort body.now }
+#[tactic(auto, using(crate::proofs::ReasonLemmas::of_value))]
+fn label_abort(id: u32, body: &[u8], element: Option<PwFec>) -> Message
+    requires complete { IsComplete MessageKind.LabelAbort body.now }
+    requires element { HasElement MessageKind.LabelAbort body.now element }
     ensures means { (ts : List Tlv) → IsJoined body.now ts → Means MessageKind.LabelAbort id ts result }
 {
     let value = needed_value(MessageKind::LabelAbort, REQUEST_ID, body);
     Message::LabelAbort {
         id,
-        fec: needed_fec(MessageKind::LabelAbort, body),
+        fec: element.unwrap(),
         request: four(value, 0),
     }
 }
 
 // The processed Label Request.
-fn label_request(id: u32, body: &[u8]) -> Message
-    requires { IsComplete MessageKind.LabelRequest body.now }
+#[tactic(auto, using(crate::proofs::ReasonLemmas::of_value))]
+fn label_request(id: u32, body: &[u8], element: Option<PwFec>) -> Message
+    requires complete { IsComplete MessageKind.LabelRequest body.now }
+    requires element { HasElement MessageKind.LabelRequest body.now element }
     ensures means { (ts : List Tlv) → IsJoined body.now ts → Means MessageKind.LabelRequest id ts result }
 {
     Message::LabelRequest {
         id,
-        fec: needed_fec(MessageKind::LabelRequest, body),
+        fec: element.unwrap(),
     }
 }
 
-/// The processed message.
+/// The processed message, with the PWid element that `processable` answered.
 pub fn processed(
     alloc: Global,
     kind: MessageKind,
     id: u32,
     body: &[u8],
+    element: Option<PwFec>,
 ) -> Result<Message, NoMemory>
-    requires { IsComplete kind body.now }
+    requires complete { IsComplete kind body.now }
+    requires element { HasElement kind body.now element }
     ensures means { IfOk result (λ m. (ts : List Tlv) → IsJoined body.now ts → Means kind id ts m) }
 {
     match kind {
-        MessageKind::Notification => Ok(notification(id, body)),
+        MessageKind::Notification => Ok(notification(id, body, element)),
         MessageKind::Hello => Ok(hello(id, body)),
         MessageKind::Initialization => Ok(initialization(id, body)),
         MessageKind::KeepAlive => Ok(Message::KeepAlive { id }),
         MessageKind::Address => address(alloc, id, body),
-        MessageKind::AddressWithdraw => address_withdraw(alloc, id, body),
-        MessageKind::LabelMapping => Ok(label_mapping(id, body)),
-        MessageKind::LabelRequest => Ok(label_request(id, body)),
-        MessageKind::LabelWithdraw => Ok(label_withdraw(id, body)),
-        MessageKind::LabelRelease => Ok(label_release(id, body)),
-        MessageKind::LabelAbort => Ok(label_abort(id, body)),
+        MessageKind::AddressWithdraw => address_withdraw(alloc, id, body, element),
+        MessageKind::LabelMapping => Ok(label_mapping(id, body, element)),
+        MessageKind::LabelRequest => Ok(label_request(id, body, element)),
+        MessageKind::LabelWithdraw => Ok(label_withdraw(id, body, element)),
+        MessageKind::LabelRelease => Ok(label_release(id, body, element)),
+        MessageKind::LabelAbort => Ok(label_abort(id, body, element)),
     }
 }

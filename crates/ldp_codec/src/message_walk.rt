@@ -4,7 +4,7 @@ ghost use Rattle.ldp_grammar.specs.Rows.{row_of, kind_of};
 ghost use Rattle.ldp_grammar.specs.Spells.{IsRead, StandsFor};
 ghost use Rattle.ldp_codec.specs.Walk.{IsWalked, IsWalkedAs, IsFirstAs};
 
-use crate::message_body::{processed, reason_not};
+use crate::message_body::{processable, processed};
 use crate::raw_message::RawMessage;
 use crate::tlv_walk::walk_tlvs;
 use ldp_grammar::{Fault, Message, MessageKind, U_BIT};
@@ -35,11 +35,14 @@ fn read_body(
     requires walked { IsWalked (row_of kind) body.now body.now unknown }
     ensures read { IfOk result (IsRead kind id body.now) }
 {
-    if let Some(why) = reason_not(unknown, kind, body) {
-        let kind = kind.number();
-        return Ok(Message::Unprocessed { id, kind, why });
+    match processable(unknown, kind, body) {
+        Ok(element) => processed(alloc, kind, id, body, element),
+        Err(why) => Ok(Message::Unprocessed {
+            id,
+            kind: kind.number(),
+            why,
+        }),
     }
-    processed(alloc, kind, id, body)
 }
 
 /// The message that a spelling without fault stands for.

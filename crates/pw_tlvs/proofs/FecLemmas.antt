@@ -1,6 +1,6 @@
 -- The value of a FEC TLV is one, or its octets have one first fault.
 use Rattle.std.proofs.Common.{◌≡◌, ◌≤◌, ◌<◌, ◌+◌, ℕ, List, length, take, drop, get_or, length-drop, refl, sym, ap, ◌∙◌, subst, arith, inl, inr, Some, None}
-use Rattle.std.specs.Prelude.{slice_index, Option, option_map}
+use Rattle.std.specs.Prelude.{slice_index, IfSome, IfNone, Option, option_map}
 use Rattle.std.proofs.lemmas.List.{drop-drop, get_or-take}
 use Rattle.byteorder.specs.Endian.{big_number}
 use Rattle.pw_tlvs.specs.declared.field_fault.FieldFault.{FieldFault}
@@ -26,6 +26,34 @@ parameter_first octets f begun long some whole inner = record { named = paramete
     first g (too_short begun' few e) = absurd (long few)
     first g (past_end begun' far e) = absurd (omega arith)
     first g (parameter begun' long' some' whole' named) = inner.first g named
+
+-- an element without parameters has no fault
+pub element_bare : (octets : List ℕ) → IsPwid octets → (IsTooShort (information_length octets) → ⊥) → length octets ≡ 8 + information_length octets → length octets < 12 → (f : FieldFault) → IsFecFault octets f → ⊥
+element_bare octets begun long whole few f (empty none e) = let h = begun.header in omega arith
+element_bare octets begun long whole few f (short some first less e) = let h = begun.header in omega arith
+element_bare octets begun long whole few f (too_short begun' low e) = long low
+element_bare octets begun long whole few f (past_end begun' far e) = omega arith
+element_bare octets begun long whole few f (parameter begun' long' some whole' named) = long (some, omega (arith, whole, few))
+
+-- the first fault of parameters is that of their element
+pub element_first : (octets back : List ℕ) (r : Option FieldFault) → IsPwid octets → (IsTooShort (information_length octets) → ⊥) → length octets ≡ 8 + information_length octets → 12 ≤ length octets → back ≡ drop 12 octets
+    → IfSome r (IsFirstIn (IsNamed InterfaceParameter 12 back)) → IfSome r (IsFirstIn (IsFecFault octets))
+element_first octets back None begun long whole enough is first = tt
+element_first octets back (Some f) begun long whole enough is first =
+    parameter_first octets f begun long (omega (arith, whole, enough)) whole (subst (λ (l : List ℕ). IsFirstIn (IsNamed InterfaceParameter 12 l) f) is first)
+
+-- where they have none, the element has none
+pub element_none : (octets back : List ℕ) (r : Option FieldFault) → IsPwid octets → (IsTooShort (information_length octets) → ⊥) → length octets ≡ 8 + information_length octets → back ≡ drop 12 octets
+    → IfNone r ((f : FieldFault) → IsNamed InterfaceParameter 12 back f → ⊥) → IfNone r ((f : FieldFault) → IsFecFault octets f → ⊥)
+element_none octets back (Some f) begun long whole is none = tt
+element_none octets back None begun long whole is none = by
+  where
+    by : (f : FieldFault) → IsFecFault octets f → ⊥
+    by f (empty bare e) = let h = begun.header in omega arith
+    by f (short some first few e) = let h = begun.header in omega arith
+    by f (too_short begun' low e) = long low
+    by f (past_end begun' far e) = omega arith
+    by f (parameter begun' long' some whole' named) = none f (subst (λ (l : List ℕ). IsNamed InterfaceParameter 12 l f) (sym is) named)
 
 -- the parameters of some octets are one
 one_params : (octets : List ℕ) (a b : IfParams) → AreParameters octets a → AreParameters octets b → a ≡ b
@@ -92,6 +120,10 @@ never_fec octets (Foreign a) f (inr more) (short some first few e) = let h = mor
 never_fec octets (Foreign a) f (inr more) (too_short begun few e) = more.long few
 never_fec octets (Foreign a) f (inr more) (past_end begun far e) = let m = more.more in omega arith
 never_fec octets (Foreign a) f (inr more) (parameter begun long some whole named) = let m = more.more in omega arith
+
+-- and so what is not looked into has none
+pub foreign_faultless : (octets : List ℕ) (first : ℕ) → IsFecValue octets (Foreign first) → (f : FieldFault) → IsFecFault octets f → ⊥
+foreign_faultless octets first is f named = never_fec octets (Foreign first) f is named
 
 same_octet : (n : ℕ) (octets other : List ℕ) → n < 4 → take 4 octets ≡ take 4 other → slice_index octets n ≡ slice_index other n
 same_octet n octets other below same = sym (get_or-take 4 octets n 0 below) ∙ (ap (λ (l : List ℕ). get_or l n 0) same ∙ get_or-take 4 other n 0 below)

@@ -1,7 +1,8 @@
 -- What sub-TLVs say, as far as they were read.
-use Rattle.std.specs.Prelude.{◌≡◌, List, option_map}
+use Rattle.std.specs.Prelude.{◌≡◌, List, is_some, option_map}
 use Rattle.byteorder.specs.Endian.{big_number}
 use Rattle.pw_tlvs.specs.declared.found_params.FoundParams.{FoundParams}
+use Rattle.pw_tlvs.specs.declared.met_params.MetParams.{MetParams}
 use Rattle.pw_tlvs.specs.declared.point.Point.{Point}
 use Rattle.pw_tlvs.specs.SubTlvs.{SubTlv, said}
 use Rattle.pw_tlvs.specs.Fec.{vccv_of}
@@ -13,6 +14,13 @@ pub record FoundSays (found : FoundParams) (subs : List SubTlv) : Type 0 where
   pub description : found.description ≡ said 0x03 subs
   pub vlan : found.vlan ≡ option_map (λ value. big_number 2 value) (said 0x06 subs)
   pub vccv : found.vccv ≡ option_map vccv_of (said 0x0C subs)
+
+-- what was met is which of the parameters say something
+pub record MetSays (met : MetParams) (subs : List SubTlv) : Type 0 where
+  pub mtu : met.mtu ≡ is_some (said 0x01 subs)
+  pub description : met.description ≡ is_some (said 0x03 subs)
+  pub vlan : met.vlan ≡ is_some (said 0x06 subs)
+  pub vccv : met.vccv ≡ is_some (said 0x0C subs)
 
 -- the point is what the parts say
 pub record PointSays (point : Point) (subs : List SubTlv) : Type 0 where

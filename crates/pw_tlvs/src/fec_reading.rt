@@ -1,7 +1,8 @@
 //! Reading the value of a FEC TLV.
-ghost use Rattle.std.specs.Prelude.{◌≡◌, ◌≤◌, ◌<◌, ◌+◌, ◌⊎◌, ◌↔◌, length, drop, Ok, Err, IfOk, IfErr};
+ghost use Rattle.std.specs.Prelude.{◌≡◌, ◌≤◌, ◌<◌, ◌+◌, ◌⊎◌, ◌↔◌, ℕ, length, drop, Ok, Err, Some, None, IfOk, IfErr};
 ghost use Rattle.pw_tlvs.specs.declared.registry.Registry.TheVariants.{InterfaceParameter};
 ghost use Rattle.pw_tlvs.specs.declared.fec_value.FecValue.{FecValue};
+ghost use Rattle.pw_tlvs.specs.declared.fec_value.FecValue.TheVariants.{Foreign};
 ghost use Rattle.pw_tlvs.specs.declared.field_fault.FieldFault.{FieldFault};
 ghost use Rattle.pw_tlvs.specs.Faults.{IsFirstIn, IsInside};
 ghost use Rattle.pw_tlvs.specs.SubTlvs.{IsNamed};
@@ -66,16 +67,21 @@ fn element_of(value: &[u8]) -> Result<PwFec, FieldFault>
     })
 }
 
-// The value that the octets are, or their first fault.
-fn fec_of(value: &[u8]) -> Result<FecValue, FieldFault>
-    ensures ok { IfOk result (IsFecValue value.now) }
+/// The first octet of what is not looked into: of another element than PWid, or of one that further octets follow. `None` is one
+/// PWid element, whose information length counts all behind it. Or else the first fault of the octets.
+pub fn foreign_of(value: &[u8]) -> Result<Option<u8>, FieldFault>
+    ensures foreign { (first : ℕ) → result ≡ Ok (Some first) → IsFecValue value.now (Foreign first) }
+    ensures begun { result ≡ Ok None → IsPwid value.now }
+    ensures long { result ≡ Ok None → IsTooShort (information_length value.now) → ⊥ }
+    ensures whole { result ≡ Ok None → length value.now ≡ 8 + information_length value.now }
+    ensures within { result ≡ Ok None → information_length value.now ≤ 255 }
     ensures fault { IfErr result (IsFirstIn (IsFecFault value.now)) }
 {
     if value.is_empty() {
         return Err(FieldFault::Size);
     }
     if value[0] != PWID {
-        return Ok(FecValue::Foreign(value[0]));
+        return Ok(Some(value[0]));
     }
     if value.len() < 8 {
         return Err(FieldFault::Size);
@@ -88,9 +94,21 @@ fn fec_of(value: &[u8]) -> Result<FecValue, FieldFault>
         });
     }
     if value.len() > 8 + count {
-        return Ok(FecValue::Foreign(PWID));
+        return Ok(Some(PWID));
     }
-    Ok(FecValue::Pw(element_of(value)?))
+    Ok(None)
+}
+
+// The value that the octets are, or their first fault.
+fn fec_of(value: &[u8]) -> Result<FecValue, FieldFault>
+    ensures ok { IfOk result (IsFecValue value.now) }
+    ensures fault { IfErr result (IsFirstIn (IsFecFault value.now)) }
+{
+    match foreign_of(value) {
+        Ok(Some(first)) => Ok(FecValue::Foreign(first)),
+        Ok(None) => Ok(FecValue::Pw(element_of(value)?)),
+        Err(fault) => Err(fault),
+    }
 }
 
 /// The value of a FEC TLV that the octets are, or their first fault (RFC 5036 section 3.4.1, RFC 8077 section

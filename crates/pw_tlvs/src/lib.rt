@@ -6,6 +6,7 @@
 //! `specs/` as relations on the octets, and so does the first fault of octets that no value is spelled by.
 #![tactic(auto)]
 
+mod fec_faults;
 mod fec_reading;
 mod fec_value;
 mod fec_writing;
@@ -16,6 +17,7 @@ mod if_params;
 mod laws;
 mod macs;
 mod macs_fault;
+mod met_params;
 mod octets;
 mod parameters;
 mod point;
@@ -30,6 +32,7 @@ mod sub_tlv;
 mod sub_tlv_place;
 mod told;
 
+pub use fec_faults::fec_fault;
 pub use fec_reading::read_fec;
 pub use fec_value::FecValue;
 pub use fec_writing::{fec_size, write_fec};

@@ -1,11 +1,13 @@
 //! Reading interface parameters.
-ghost use Rattle.std.specs.Prelude.{◌≤◌, length, IfOk, IfErr};
+ghost use Rattle.std.specs.Prelude.{◌≤◌, length, IfOk, IfErr, IfSome, IfNone};
+ghost use Rattle.pw_tlvs.specs.declared.field_fault.FieldFault.{FieldFault as FaultOf};
 ghost use Rattle.pw_tlvs.specs.declared.registry.Registry.TheVariants.{InterfaceParameter};
 ghost use Rattle.pw_tlvs.specs.Faults.{IsFirstIn};
 ghost use Rattle.pw_tlvs.specs.SubTlvs.{IsNamed};
 ghost use Rattle.pw_tlvs.specs.Fec.{AreParameters};
 
 use crate::found_params::FoundParams;
+use crate::met_params::MetParams;
 use crate::registry::Registry;
 use crate::sub_tlv::first_sub_tlv;
 use crate::sub_tlv_place::SubTlvPlace;
@@ -31,4 +33,28 @@ pub fn read_parameters(octets: &[u8]) -> Result<IfParams, FieldFault>
         at += 2 + value.len();
     }
     Ok(found.params())
+}
+
+/// The first fault of interface parameters, as `read_parameters` answers it; `None` where they have none.
+pub fn parameters_fault(octets: &[u8]) -> Option<FieldFault>
+    requires { length octets.now ≤ 65523 }
+    ensures fault { IfSome result (IsFirstIn (IsNamed InterfaceParameter 12 octets.now)) }
+    ensures none { IfNone result ((fault : FaultOf) → IsNamed InterfaceParameter 12 octets.now fault → ⊥) }
+{
+    let mut met = MetParams::none();
+    let mut at = 0;
+    'passing: while at < octets.len() {
+        let (_, rest) = octets.split_at(at);
+        let place = SubTlvPlace {
+            at: 12 + at as u16,
+            again: met.has(rest[0]),
+        };
+        let (kind, value) = match first_sub_tlv(Registry::InterfaceParameter, place, rest) {
+            Ok(sub_tlv) => sub_tlv,
+            Err(fault) => return Some(fault),
+        };
+        met = met.with(kind);
+        at += 2 + value.len();
+    }
+    None
 }
