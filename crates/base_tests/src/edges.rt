@@ -12,6 +12,7 @@ mod sessions;
 mod side;
 mod steps;
 mod stitches;
+mod strangers;
 mod switched_pings;
 mod switching_faults;
 mod withdraws;

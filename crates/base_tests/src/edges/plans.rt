@@ -137,6 +137,22 @@ circuit = [
 ]
 "#;
 
+/// A core edge with two circuits, and its mesh wires to two others.
+pub const CORE: &str = r#"
+version = 1
+edge = [
+  { name = "a", address = "10.0.0.1" },
+  { name = "b", address = "10.0.0.2" },
+  { name = "c", address = "10.0.0.3" },
+]
+service = [{ name = "s" }]
+circuit = [{ name = "c0", edge = "a", service = "s" }, { name = "c1", edge = "a", service = "s" }]
+wire = [
+  { name = "w", service = "s", class = "mesh", path = ["a", "b"], pw_id = 100 },
+  { name = "w1", service = "s", class = "mesh", path = ["a", "c"], pw_id = 101 },
+]
+"#;
+
 /// Wires from the first edge, which has four labels, to two others; their ends are of group 7.
 pub const TWO_WIRES: &str = r#"
 version = 1

@@ -43,8 +43,9 @@ pub enum Step {
     /// this number was told.
     Echoed(EdgeId, u16),
     Ponged(u16, u16),
-    /// The one effect: a frame or a packet was dropped.
+    /// The one effect, and the effect at this place: a frame or a packet was dropped.
     Dropped(DropCause),
+    DroppedAt(usize, DropCause),
     /// The link was called so often; the call at this place put octets towards a neighbour, or sent it a packet.
     Calls(usize),
     Put(usize, EdgeId, &'static str),
@@ -176,10 +177,10 @@ fn is_ponged(effects: &Effects, of: u16, number: u16) -> bool {
     }
 }
 
-// Whether one loss for this cause was given out, and nothing else.
-fn is_dropped(effects: &Effects, cause: DropCause) -> bool {
-    match effects.list.get(0) {
-        Some(Effect::Dropped(told)) => effects.list.len() == 1 && *told == cause,
+// Whether what was given out at a place is a loss for this cause.
+fn is_dropped(effects: &Effects, place: usize, cause: DropCause) -> bool {
+    match effects.list.get(place) {
+        Some(Effect::Dropped(told)) => *told == cause,
         _ => false,
     }
 }
@@ -194,7 +195,8 @@ fn agrees_in_effects(effects: &Effects, step: Step, octets: &[u8]) -> Option<boo
         Step::SentOn(place, peer, wire) => Some(is_sent(effects, place, peer, wire)),
         Step::Echoed(peer, wire) => Some(is_echoed(effects, peer, wire)),
         Step::Ponged(wire, sequence) => Some(is_ponged(effects, wire, sequence)),
-        Step::Dropped(cause) => Some(is_dropped(effects, cause)),
+        Step::Dropped(cause) => Some(effects.list.len() == 1 && is_dropped(effects, 0, cause)),
+        Step::DroppedAt(place, cause) => Some(is_dropped(effects, place, cause)),
         _ => None,
     }
 }
