@@ -24,7 +24,7 @@ use Rattle.hvpls_spokes.specs.PortSet.{has}
 use Rattle.mac_table.specs.Addresses.{NoneAfter, entry_stays, is_young}
 use Rattle.mac_table.specs.declared.mac_entry.MacEntry.{MacEntry}
 use Rattle.mac_table.proofs.AddressLemmas.{none_after_filtered, none_after_later}
-use Rattle.vsi_bridge.specs.BridgeState.{BridgeState}
+use Rattle.vsi_bridge.specs.BridgeState.{BridgeState, most_addresses}
 use Rattle.vsi_bridge.specs.Targets.{heard, is_target, known_port}
 use Rattle.edge_model.specs.Clear.{withdrawing_at}
 use Rattle.edge_model.specs.Ends.{is_up}
@@ -38,6 +38,7 @@ use Rattle.edge_forwarding.specs.Forwarding.{ForwardingLists, IsForwarding, IsNe
 use Rattle.edge_forwarding.specs.Views.{view}
 use Rattle.edge_forwarding.proofs.OpenLemmas.{closed_port, opens_within, same_tests, told_elsewhere, told_ports, turned_elsewhere, turned_ports}
 use Rattle.edge_forwarding.proofs.EachLemmas.{each_next}
+use Rattle.edge_forwarding.proofs.FewLemmas.{few_filtered, few_without_port}
 use Rattle.edge_forwarding.proofs.Views.{past_end, same_read, view_at, view_set}
 
 none_past : {X : Type 0} (xs : List X) (k : ℕ) → slice_get xs k ≡ None → length xs ≤ k
@@ -76,6 +77,9 @@ no_ports f service kept was none = subst (IsKeptIn f service) none (the_kept f s
 
 pub ticks_at : (f : ForwardingLists) (service : ServiceId) (kept : Option Domain) (domain : Domain) → WasRead f service kept → kept ≡ Some domain → NoneAfter f.ticks domain.bridge.entries
 ticks_at f service kept domain was some = (the_domain f service kept domain was some).ticks
+
+pub few_at : (f : ForwardingLists) (service : ServiceId) (kept : Option Domain) (domain : Domain) → WasRead f service kept → kept ≡ Some domain → length domain.bridge.entries ≤ most_addresses
+few_at f service kept domain was some = (the_domain f service kept domain was some).few
 
 pub within_at : (f : ForwardingLists) (service : ServiceId) (kept : Option Domain) (domain : Domain) → WasRead f service kept → kept ≡ Some domain → (p : ℕ) → has domain.forwarding p ≡ true → p < length domain.bridge.ports
 within_at f service kept domain was some p on = opens_within (circuits_in f) (told_in f) domain.bridge.ports p (sym ((the_domain f service kept domain was some).forwarding p) ∙ on)
@@ -136,8 +140,8 @@ abbrev pub with_entries : Domain → List MacEntry → Domain
 with_entries domain entries = record domain { bridge = record domain.bridge { entries = entries } }
 
 pub heard_kept : (f : ForwardingLists) (service : ServiceId) (kept : Option Domain) (domain after : Domain) (entries : List MacEntry) → WasRead f service kept → kept ≡ Some domain
-    → after ≡ with_entries domain entries → NoneAfter f.ticks after.bridge.entries → IsForwarding (put_kept f service (Some after))
-heard_kept f service kept domain after entries was some is none =
+    → after ≡ with_entries domain entries → NoneAfter f.ticks after.bridge.entries → length entries ≤ most_addresses → IsForwarding (put_kept f service (Some after))
+heard_kept f service kept domain after entries was some is none few =
     let here = the_domain f service kept domain was some in
     forwarding_put f service (Some after) was.is was.within (record {
       ports = ap (λ (d : Domain). d.bridge.ports) is ∙ here.ports;
@@ -145,6 +149,7 @@ heard_kept f service kept domain after entries was some is none =
       age = λ row found. ap (λ (d : Domain). d.bridge.age) is ∙ here.age row found;
       forwarding = λ p. ap (λ (d : Domain). has d.forwarding p) is ∙ (here.forwarding p ∙ ap (λ (d : Domain). port_opens (circuits_in f) (told_in f) d.bridge.ports p) (sym is));
       ticks = none;
+      few = subst (λ (d : Domain). length d.bridge.entries ≤ most_addresses) (sym is) few;
     })
 
 pub heard_seen : (f : ForwardingLists) (service : ServiceId) (kept : Option Domain) (domain after : Domain) (frame : List ℕ) (arrival : ℕ) (edge : EdgeState) → WasRead f service kept → kept ≡ Some domain
@@ -186,6 +191,7 @@ kept_forgot plan me on told ticks service test (Some domain) is = record {
   age = is.age;
   forwarding = is.forwarding;
   ticks = none_after_port ticks (position test domain.bridge.ports) domain.bridge.entries is.ticks;
+  few = few_without_port (position test domain.bridge.ports) domain.bridge.entries is.few;
 }
 
 nothing_forgot : (found : Option ℕ) → without_port found [] ≡ []
@@ -232,6 +238,7 @@ kept_withdrew plan me on told ticks service from addresses (Some domain) is = re
   age = is.age;
   forwarding = is.forwarding;
   ticks = none_after_filtered (entry_stays from addresses) ticks domain.bridge.entries _ is.ticks refl;
+  few = few_filtered (entry_stays from addresses) domain.bridge.entries is.few;
 }
 
 entries_withdrew : (from : ℕ) (addresses : List Mac) (kept : Option Domain) → entries_of (withdrawn_kept from addresses kept) ≡ filter (entry_stays from addresses) (entries_of kept)
@@ -285,6 +292,7 @@ kept_turned plan me on next told then ticks service test turned (Some domain) (S
           ∙ (ap (λ (ps : List Port). cond (is_found (position test ps) p) turned (port_opens on told ps p)) is.ports
           ∙ (one p ∙ ap (λ (ps : List Port). port_opens next then ps p) (sym ports))));
       ticks = subst (λ (b : BridgeState). NoneAfter ticks b.entries) (sym turns.bridge) is.ticks;
+      few = subst (λ (b : BridgeState). length b.entries ≤ most_addresses) (sym turns.bridge) is.few;
     }
 
 -- a domain whose ports are open as they were
@@ -301,6 +309,7 @@ kept_opens plan me on next told then ticks service (Some domain) same is = recor
       ∙ (ap (λ (ps : List Port). port_opens on told ps p) is.ports
       ∙ (same p ∙ ap (λ (ps : List Port). port_opens next then ps p) (sym is.ports)));
   ticks = is.ticks;
+  few = is.few;
 }
 
 abbrev pub turned_forwarding : ForwardingLists → CircuitId → ServiceId → Bool → Option Domain → ForwardingLists
@@ -414,6 +423,7 @@ kept_closed plan me on told ticks service (Some domain) (Some after) is closed =
       ∙ (closed_port on told domain.bridge.ports p
       ∙ ap (λ (b : BridgeState). port_opens on nothing_told b.ports p) (sym closed.bridge)));
   ticks = subst (λ (b : BridgeState). NoneAfter ticks b.entries) (sym closed.bridge) is.ticks;
+  few = subst (λ (b : BridgeState). length b.entries ≤ most_addresses) (sym closed.bridge) is.few;
 }
 
 closed_entries : (kept after : Option Domain) → IsKeptClosed kept after → entries_of after ≡ entries_of kept
@@ -460,6 +470,7 @@ kept_cleared plan me on told ticks service (Some domain) is = record {
   age = is.age;
   forwarding = is.forwarding;
   ticks = λ k d within. absurd (omega arith);
+  few = omega arith;
 }
 
 pub cleared_is : (f : ForwardingLists) → IsForwarding f → IsForwarding (record f { domains = map cleared_kept f.domains })
@@ -487,6 +498,7 @@ kept_later plan me on told ticks now service (Some domain) time is = record {
   age = is.age;
   forwarding = is.forwarding;
   ticks = none_after_later ticks now domain.bridge.entries is.ticks time;
+  few = is.few;
 }
 
 pub later_is : (f : ForwardingLists) (now : ℕ) → f.ticks ≤ now → IsForwarding f → IsForwarding (record f { ticks = now })
@@ -517,6 +529,7 @@ kept_aged plan me on told ticks service (Some domain) is = record {
   age = is.age;
   forwarding = is.forwarding;
   ticks = none_after_filtered (is_young ticks domain.bridge.age) ticks domain.bridge.entries _ is.ticks refl;
+  few = few_filtered (is_young ticks domain.bridge.age) domain.bridge.entries is.few;
 }
 
 pub aged_is : (f : ForwardingLists) → IsForwarding f → IsForwarding (record f { domains = map (aged_kept f.ticks) f.domains })
@@ -560,6 +573,21 @@ none_later f is = λ k d within.
     not_after k None here = tt
     not_after k (Some domain) here = here.ticks
 
+-- of no service but those of the plan an address is held
+pub none_beyond : (f : ForwardingLists) → IsForwarding f → (service : ℕ) → length f.plan.services ≤ service → entries_of (domain_of f service) ≡ []
+none_beyond f is service beyond = ap entries_of (past_end None f.domains service (omega (arith, is.services, beyond)))
+
+-- of no service more addresses are held than a bridge has room for
+pub few_each : (f : ForwardingLists) → IsForwarding f → (service : ℕ) → length (entries_of (domain_of f service)) ≤ most_addresses
+few_each f is service = of (slice_get f.plan.services service) refl where
+  few_in : (kept : Option Domain) → IsKeptIn f (record { 0 = service }) kept → length (entries_of kept) ≤ most_addresses
+  few_in None here = omega arith
+  few_in (Some domain) here = here.few
+
+  of : (row : Option ServicePlan) → slice_get f.plan.services service ≡ row → length (entries_of (domain_of f service)) ≤ most_addresses
+  of None at = rw (none_beyond f is service (none_past f.plan.services service at)) (omega arith)
+  of (Some row) at = few_in (domain_of f service) (is.domains service (slice_get_within f.plan.services service row at))
+
 -- ---- before the first input
 
 all_same : {X : Type 0} (n k : ℕ) (x : X) → view x (replicate n x) k ≡ x
@@ -593,6 +621,7 @@ kept_new plan me service row (Some domain) at is =
           ap (λ (b : BridgeState). b.age) is.bridge ∙ ap (λ (r : ServicePlan). r.age) one;
       forwarding = λ p. is.forwarding p ∙ ap (λ (ps : List Port). port_opens all_on nothing_told ps p) (sym ports);
       ticks = subst (λ (b : BridgeState). NoneAfter 0 b.entries) (sym is.bridge) (λ k d within. absurd (omega arith));
+      few = subst (λ (b : BridgeState). length b.entries ≤ most_addresses) (sym is.bridge) (omega arith);
     }
 
 abbrev pub new_forwarding : Plan → EdgeId → List Bool → List (Option Down) → List (Option Domain) → ForwardingLists

@@ -4,3 +4,4 @@ pub mod EachLemmas
 pub mod OpenLemmas
 pub mod Views
 pub mod CopyLemmas
+pub mod FewLemmas

@@ -1,5 +1,5 @@
 -- The domain of a service at an edge.
-use Rattle.std.specs.Prelude.{◌≡◌, ◌<◌, ◌==◌, ◌&&◌, not, filter, ℕ, Bool, true, false, List, [], Option, Some, None, option_map, length, position, slice_get, slice_index_or, if◌then◌else◌}
+use Rattle.std.specs.Prelude.{◌≡◌, ◌<◌, ◌≤◌, ◌==◌, ◌&&◌, not, filter, ℕ, Bool, true, false, List, [], Option, Some, None, option_map, length, position, slice_get, slice_index_or, if◌then◌else◌}
 use Rattle.net_base.specs.declared.plan.Plan.{Plan}
 use Rattle.net_base.specs.declared.plan.places.EdgeId.{EdgeId}
 use Rattle.net_base.specs.declared.plan.places.ServiceId.{ServiceId}
@@ -13,6 +13,7 @@ use Rattle.hvpls_spokes.specs.declared.port.Port.TheVariants as port
 use Rattle.hvpls_spokes.specs.Port.{is_wire, ports_of}
 use Rattle.hvpls_spokes.specs.PortSet.{has}
 use Rattle.mac_table.specs.Addresses.{NoneAfter, entry_stays, is_young}
+use Rattle.vsi_bridge.specs.BridgeState.{most_addresses}
 use Rattle.edge_model.specs.Ends.{is_up}
 use Rattle.edge_model.specs.State.{without_port}
 use Rattle.edge_forwarding.specs.declared.domain.Domain.{Domain}
@@ -46,6 +47,7 @@ pub record IsDomain (plan : Plan) (me : EdgeId) (on : ℕ → Bool) (told : ℕ 
   pub age : (row : ServicePlan) → service_row plan service ≡ Some row → domain.bridge.age ≡ row.age
   pub forwarding : (p : ℕ) → has domain.forwarding p ≡ port_opens on told domain.bridge.ports p
   pub ticks : NoneAfter now domain.bridge.entries
+  pub few : length domain.bridge.entries ≤ most_addresses
 
 -- after how many ticks the addresses of a service are forgotten, where the plan has the service
 abbrev pub age_of : Plan → ServiceId → Option ℕ

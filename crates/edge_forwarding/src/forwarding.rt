@@ -1,10 +1,11 @@
 //! What an edge forwards by.
-ghost use Rattle.std.specs.Prelude.{◌≡◌, ◌≤◌, ◌<◌, ◌↔◌, ◌⊎◌, None, Some, [], length, map, position, replicate, true, IfOk, IfSome, IsNone};
+ghost use Rattle.std.specs.Prelude.{◌≡◌, ◌≤◌, ◌<◌, ◌↔◌, ◌⊎◌, ℕ, None, Some, [], length, map, position, replicate, true, IfOk, IfSome, IsNone};
 ghost use Rattle.net_base.specs.declared.trace.down.Down.TheVariants.{NoLocal};
 ghost use Rattle.net_base.specs.plan.Accepted.{IsChecked};
 ghost use Rattle.net_base.specs.plan.Places.{circuit_row, service_row, wire_row};
 ghost use Rattle.hvpls_spokes.specs.Port.{is_circuit_port, is_wire_port, ports_of};
 ghost use Rattle.hvpls_spokes.specs.PortSet.{has};
+ghost use Rattle.vsi_bridge.specs.BridgeState.{most_addresses};
 ghost use Rattle.vsi_bridge.specs.Targets.{is_target, known_port};
 ghost use Rattle.edge_model.specs.Clear.{withdrawing_at};
 ghost use Rattle.edge_model.specs.Frame.{destination, hearing};
@@ -164,6 +165,15 @@ impl Forwarding {
             Some(domain) => Some(&domain.bridge),
             None => None,
         }
+    }
+
+    /// Of each service of the plan at most 4,096 addresses are held, and none of any other. The call does nothing: its clauses
+    /// say what always holds.
+    pub fn bounded(&self)
+        ensures few { (service : ℕ) → length (entries_of (domain_of self.now service)) ≤ most_addresses }
+        ensures past { (service : ℕ) → length self.now.plan.services ≤ service → entries_of (domain_of self.now service) ≡ [] }
+    {
+        let _ = &self.ticks;
     }
 
     /// The ports of a service; `None` exactly where it has none at the edge.

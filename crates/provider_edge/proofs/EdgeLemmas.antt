@@ -302,6 +302,7 @@ pub edge_going : (e : EdgeLists) → IsEdge e → InSync e.plan (seen e) → IsE
 edge_going e is synced = record {
   checked = is.checked;
   peerings = is.peerings;
+  held = is.held;
   places = is.places;
   wires = is.wires;
   each_bits = is.each_bits;

@@ -24,6 +24,7 @@ pub holds_forwarding : (c : EdgeLists) (f : ForwardingLists) → KeepsForwarding
 holds_forwarding c f keeps working is = record {
   checked = is.checked;
   peerings = is.peerings;
+  held = is.held;
   places = is.places;
   wires = is.wires;
   each_bits = is.each_bits;

@@ -1,6 +1,7 @@
 pub mod AcrossLemmas
 pub mod ActLemmas
 pub mod AtWorkLemmas
+pub mod BoundsLemmas
 pub mod BridgeLemmas
 pub mod ClearLemmas
 pub mod ListLemmas

@@ -35,6 +35,7 @@ use Rattle.edge_forwarding.specs.Views.{view}
 use Rattle.peer_dialogue.proofs.SpeakerLemmas.{put_same}
 use Rattle.edge_forwarding.proofs.Views.{past_end, same_read, view_at, view_set}
 use Rattle.provider_edge.proofs.ForwardLemmas.{holds_forwarding, seen_forwarding}
+use Rattle.provider_edge.specs.Bounds.{HoldsFew}
 use Rattle.provider_edge.specs.Invariant.{IsEdge}
 use Rattle.provider_edge.specs.Lists.{EdgeLists, Keeps, seen}
 use Rattle.provider_edge.specs.Opening.{AreNewParts, IsNewEdge}
@@ -43,10 +44,11 @@ use Rattle.provider_edge.specs.Spokes.{AreSpokesOf, IsNewSpokes, SpokeLists, unc
 
 -- ---- what always holds
 
-pub holds_peerings : (c : EdgeLists) (peerings : List (Option Peering)) → length peerings ≡ length c.peerings → c.stopped ≡ true → IsEdge c → IsEdge (record c { peerings = peerings })
-holds_peerings c peerings long working is = record {
+pub holds_peerings : (c : EdgeLists) (peerings : List (Option Peering)) → length peerings ≡ length c.peerings → All HoldsFew peerings → c.stopped ≡ true → IsEdge c → IsEdge (record c { peerings = peerings })
+holds_peerings c peerings long few working is = record {
   checked = is.checked;
   peerings = long ∙ is.peerings;
+  held = few;
   places = is.places;
   wires = is.wires;
   each_bits = is.each_bits;
@@ -63,6 +65,7 @@ pub holds_ends : (c : EdgeLists) (ends : EndLists) → ends.places ≡ c.ends.pl
 holds_ends c ends same working is = record {
   checked = is.checked;
   peerings = is.peerings;
+  held = is.held;
   places = same ∙ is.places;
   wires = is.wires;
   each_bits = is.each_bits;
@@ -79,6 +82,7 @@ pub holds_spokes : (c : EdgeLists) (spokes : SpokeLists) → AreSpokesOf c.plan 
 holds_spokes c spokes are working is = record {
   checked = is.checked;
   peerings = is.peerings;
+  held = is.held;
   places = is.places;
   wires = is.wires;
   each_bits = is.each_bits;
@@ -177,6 +181,7 @@ holds_pings : (c : EdgeLists) (pings : List ℕ) → length pings ≡ length c.p
 holds_pings c pings long working is = record {
   checked = is.checked;
   peerings = is.peerings;
+  held = is.held;
   places = is.places;
   wires = is.wires;
   each_bits = is.each_bits;
@@ -302,6 +307,7 @@ pub holds_new : (plan : Plan) (me : EdgeId) (c : EdgeLists) → IsChecked plan �
 holds_new plan me c checked are = record {
   checked = subst IsChecked (sym are.keeps) checked;
   peerings = ap (λ (l : List (Option Peering)). length l) are.peerings ∙ (long_same (length plan.edges) None ∙ ap (λ (p : Plan). length p.edges) (sym are.keeps));
+  held = subst (All HoldsFew) (sym are.peerings) (All-replicate HoldsFew (length plan.edges) None (omega arith));
   places = are.places ∙ (ap (λ (p : Plan). end_places p me) (sym are.keeps) ∙ ap (end_places c.plan) (sym are.here));
   wires = ap (λ (l : List Bool). length l) are.wires ∙ (long_same (length plan.wires) true ∙ ap (λ (p : Plan). length p.wires) (sym are.keeps));
   each_bits = ap (λ (l : List ℕ). length l) are.zeros ∙ (long_same (length plan.wires) 0 ∙ ap (λ (p : Plan). length p.wires) (sym are.keeps));

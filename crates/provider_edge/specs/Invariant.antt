@@ -3,12 +3,14 @@ use Rattle.std.specs.Prelude.{◌≡◌, ◌≤◌, All, false, length}
 use Rattle.net_base.specs.plan.Accepted.{IsChecked}
 use Rattle.edge_model.specs.EndPlaces.{end_places}
 use Rattle.edge_model.specs.Synced.{InSync}
+use Rattle.provider_edge.specs.Bounds.{HoldsFew}
 use Rattle.provider_edge.specs.Lists.{EdgeLists, seen}
 use Rattle.provider_edge.specs.Spokes.{AreSpokesOf}
 
 pub record IsEdge (edge : EdgeLists) : Type 0 where
   pub checked : IsChecked edge.plan
   pub peerings : length edge.peerings ≡ length edge.plan.edges
+  pub held : All HoldsFew edge.peerings
   pub places : edge.ends.places ≡ end_places edge.plan edge.me
   pub wires : length edge.wires_on ≡ length edge.plan.wires
   pub each_bits : length edge.bits ≡ length edge.plan.wires

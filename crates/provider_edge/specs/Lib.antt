@@ -1,4 +1,5 @@
 pub mod AtWork
+pub mod Bounds
 pub mod EndOf
 pub mod Hearing
 pub mod Invariant

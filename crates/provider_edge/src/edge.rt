@@ -12,6 +12,7 @@ ghost use Rattle.edge_model.specs.Step.{edge_step};
 ghost use Rattle.edge_model.specs.Synced.{InSync};
 ghost use Rattle.edge_model.specs.Work.{Agrees, Answers, GoesOn, beginning};
 ghost use Rattle.edge_forwarding.specs.Domain.{age_of};
+ghost use Rattle.provider_edge.specs.Bounds.{IsBounded};
 ghost use Rattle.provider_edge.specs.EndOf.{is_of_segment};
 ghost use Rattle.peer_dialogue.specs.Peering.{held_octets, session_name};
 ghost use Rattle.provider_edge.specs.Said.{AllFit, TellsTaken};
@@ -118,6 +119,10 @@ impl Edge {
     /// section 6.2) go on in pieces of at most 30, and packets under the label of the other side, with a TTL that is one less
     /// (RFC 6073 section 4).
     ///
+    /// Whatever octets the neighbours send, and whatever the links answer, the plan bounds what the edge holds: at most one connection
+    /// with each edge of the plan, of which at most 4,100 octets are held; at most one binding at each of its own ends; and at most
+    /// 4,096 addresses of each service.
+    ///
     /// `NoMemory` where memory was refused; from then on the edge is given up, and answers `Stopped` to every input.
     pub fn take<L: Link>(
         &mut self,
@@ -137,8 +142,10 @@ impl Edge {
         ensures refused { IsErrOf result EdgeStop.Stopped ↔ (self.old.stopped ≡ true) }
         ensures stopped { IfErr result (λ stop. self.new.stopped ≡ true) }
         ensures going { IfOk result (λ effects. self.new.stopped ≡ false) }
+        ensures bounded { IsBounded self.new.plan (seen self.new) }
     {
         if self.stopped {
+            self.bounded();
             return Err(EdgeStop::Stopped);
         }
         self.stopped = true;
@@ -153,11 +160,22 @@ impl Edge {
         };
         match self.work(input, &mut work) {
             Ok(()) => {
+                self.bounded();
                 self.stopped = false;
                 Ok(effects)
             }
-            Err(NoMemory) => Err(EdgeStop::NoMemory),
+            Err(NoMemory) => {
+                self.bounded();
+                Err(EdgeStop::NoMemory)
+            }
         }
+    }
+
+    // The plan bounds what the edge holds. The call does nothing: its clause says what always holds.
+    fn bounded(&self)
+        ensures { IsBounded self.now.plan (seen self.now) }
+    {
+        self.forwarding.bounded();
     }
 
     // What the edge makes of an input, on which nothing was given out before. Until it is done nothing is said of what was told

@@ -10,9 +10,10 @@ ghost use Rattle.edge_model.specs.Session.{clears_ends, happens, happens_with_en
 ghost use Rattle.edge_model.specs.State.{has_end, with_peering, without_peerings};
 ghost use Rattle.edge_model.specs.Work.{Agrees, Answers};
 ghost use Rattle.peer_dialogue.specs.Event.{MayHappen, event_of};
-ghost use Rattle.peer_dialogue.specs.Peering.{at_edge, gone};
+ghost use Rattle.peer_dialogue.specs.Peering.{at_edge, gone, held_octets};
 ghost use Rattle.peer_dialogue.specs.PwMessage.{CanBeSaid, numbered};
 ghost use Rattle.provider_edge.specs.AtWork.{Works, at_work};
+ghost use Rattle.provider_edge.specs.Bounds.{HoldsFew};
 ghost use Rattle.provider_edge.specs.Lists.{Keeps, seen};
 
 use crate::Edge;
@@ -63,6 +64,7 @@ impl Edge {
         ensures keeps { Keeps self.old self.new }
         ensures step { seen self.new ≡ with_peering peer kept (seen self.old) }
     {
+        held_in(&kept);
         self.peerings[peer.0 as usize] = kept;
     }
 
@@ -157,6 +159,17 @@ impl Edge {
         self.put_peering(peer, left);
         self.clear_ends(peer);
         Ok(())
+    }
+}
+
+// How many octets are held of what is kept of a neighbour.
+fn held_in(kept: &Option<Peering>) -> usize
+    ensures count { result ≡ length (held_octets kept.now) }
+    ensures few { HoldsFew kept.now }
+{
+    match kept {
+        Some(peering) => peering.held(),
+        None => 0,
     }
 }
 

@@ -5,7 +5,8 @@ use Rattle.vsi_bridge.specs.Targets.{heard, is_target, known_port}
 use Rattle.edge_model.specs.Frame.{destination, hearing, source}
 use Rattle.edge_forwarding.specs.Forwarding.{ForwardingLists, domain_of, entries_of, open_ports, with_forwarding}
 use Rattle.edge_forwarding.specs.contracts.forwarding.Forwarding.{the_view}
-use Rattle.edge_forwarding.proofs.ForwardingLemmas.{WasRead, heard_kept, heard_seen, heard_targets, on_at, on_nowhere, put_kept, ticks_at, within_at}
+use Rattle.edge_forwarding.proofs.FewLemmas.{few_heard}
+use Rattle.edge_forwarding.proofs.ForwardingLemmas.{WasRead, few_at, heard_kept, heard_seen, heard_targets, on_at, on_nowhere, put_kept, ticks_at, within_at}
 use Rattle.edge_forwarding.proofs.forwarding.Forwarding.hear.Goals as goal
 
 pub returns-in_default-clause-step : goal.returns-in_default-clause-step
@@ -46,6 +47,7 @@ invariant_of-self-2 c =
     let v : ForwardingLists = the_view c.self.inside in
     let was : WasRead v c.args.service c.index_mut.result.now = record { is = c.self.invariant; within = subst (λ (n : ForwardingLists). c.args.service.0 < length n.plan.services) (sym c.self.view_is) c.requires.service; read = c.index_mut.ensures.value } in
     heard_kept v c.args.service c.index_mut.result.now c.in-Some.domain c.hear.new.self (heard c.in-Some.domain.bridge.entries (source c.args.frame.now) c.args.arrival v.ticks) was c.in-Some.is c.hear.ensures.learns c.hear.ensures.ticks
+    (few_heard c.in-Some.domain.bridge.entries (source c.args.frame.now) c.args.arrival v.ticks (few_at v c.args.service c.index_mut.result.now c.in-Some.domain was c.in-Some.is))
 
 pub returns-clause-step : goal.returns-clause-step
 returns-clause-step c = λ edge.

@@ -10,6 +10,7 @@ use Rattle.provider_edge.specs.contracts.edge.Edge.{the_view}
 use Rattle.provider_edge.proofs.EdgeLemmas.{edge_going, seen_stopped, worked_stopped}
 use Rattle.provider_edge.proofs.EffectLemmas.{Steps, steps_fit, steps_synced, steps_tell}
 use Rattle.provider_edge.proofs.StayLemmas.{steps_local}
+use Rattle.provider_edge.specs.Bounds.{IsBounded}
 use Rattle.provider_edge.specs.Lists.{EdgeLists, seen, worked}
 use Rattle.provider_edge.specs.Said.{AllFit, TellsTaken}
 use Rattle.provider_edge.specs.Taking.{StaysLocal}
@@ -80,3 +81,8 @@ returns-in-Ok-clause-local g c =
     let stays : StaysLocal c.args.self.now.plan (seen c.args.self.now) c.args.input effects.list =
     subst (λ (n : EdgeLists). StaysLocal n.plan (seen n) c.args.input effects.list) c.self.view_is (steps_local v c.work.new.self c.args.input effects before after steps) in
     search (rules, stays)
+
+pub returns-in-Ok-clause-bounded : goal.returns-in-Ok-clause-bounded
+returns-in-Ok-clause-bounded g c =
+    let now : EdgeLists = the_view c.self-2.inside in
+    subst (IsBounded now.plan) (sym (seen_stopped now false)) (subst (λ (n : EdgeLists). IsBounded n.plan (seen n)) (sym c.self-2.view_is) c.bounded-in-Ok.ensures)

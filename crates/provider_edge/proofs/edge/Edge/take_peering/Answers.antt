@@ -1,7 +1,8 @@
-use Rattle.std.proofs.Common.{◌≡◌, ◌∙◌, None, slice_set, ap, sym, subst, arith}
+use Rattle.std.proofs.Common.{◌≡◌, ◌∙◌, None, length-set, slice_set, ap, sym, subst, arith}
 use Rattle.edge_model.specs.State.{with_peering}
 use Rattle.provider_edge.specs.contracts.edge.Edge.{the_view}
-use Rattle.provider_edge.proofs.ListLemmas.{peering_past, peering_read, seen_past, seen_put}
+use Rattle.provider_edge.proofs.BoundsLemmas.{few_ended}
+use Rattle.provider_edge.proofs.ListLemmas.{holds_peerings, peering_past, peering_read, seen_past, seen_put}
 use Rattle.provider_edge.specs.Lists.{EdgeLists, seen}
 use Rattle.provider_edge.proofs.edge.Edge.take_peering.Goals as goal
 
@@ -14,6 +15,12 @@ pub returns-then-peer-len-clause-step : goal.returns-then-peer-len-clause-step
 returns-then-peer-len-clause-step c =
     subst (λ (n : EdgeLists). seen n ≡ with_peering c.args.peer None (seen n)) c.self.view_is
     (seen_past (the_view c.self.inside) c.args.peer (omega (arith, c.if-peer-len.true, c.len.ensures)))
+
+pub invariant_of-self : goal.invariant_of-self
+invariant_of-self c =
+    let v : EdgeLists = the_view c.self.inside in
+    holds_peerings v (slice_set v.peerings c.args.peer.0 c.take.new.self) (length-set v.peerings c.args.peer.0 c.take.new.self) (few_ended v.peerings c.args.peer.0 c.take.new.self c.take.ensures.after c.self.invariant.held)
+    (ap (λ (e : EdgeLists). e.stopped) c.self.view_is ∙ c.requires.working) c.self.invariant
 
 pub returns-clause-taken : goal.returns-clause-taken
 returns-clause-taken c =
