@@ -57,9 +57,6 @@ waiting max set first old new small same is ready made =
       ap (λ (s : StreamState). s.held) waits.unchanged,
     )
 
-pub waiting_ready : (set : ℕ) (first old new : StreamState) → old ≡ record first { max = set } → IsReady first → Waits old new → IsReady new
-waiting_ready set first old new is ready waits = subst IsReady (sym (waits.unchanged ∙ is)) (record { octets = ready.octets; going = ready.going })
-
 pub at_pdu : (max set : ℕ) (first old new : StreamState) (pdu : Pdu) → max ≤ 4096 → set ≡ max → old ≡ record first { max = set } → IsReady first → Passes old new pdu → IsAtPdu max first.held new.held pdu
 at_pdu max set first old new pdu small same is ready made =
     let passes : Passes (record first { max = max }) new pdu = subst (λ (s : StreamState). Passes s new pdu) (is ∙ ap (λ (n : ℕ). record first { max = n }) same) made in

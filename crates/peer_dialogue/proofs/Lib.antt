@@ -1,5 +1,6 @@
 pub mod AtWorkLemmas
 pub mod HearLemmas
+pub mod FrontLemmas
 pub mod HeardLemmas
 pub mod SettleLemmas
 pub mod SpeakerLemmas

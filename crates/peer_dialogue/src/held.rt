@@ -3,8 +3,9 @@ ghost use Rattle.std.specs.Prelude.{◌≡◌, ◌≤◌, ◌<◌, ◌+◌, ◌+
 ghost use Rattle.net_values.specs.Octets.{AreOctets};
 ghost use Rattle.peer_dialogue.specs.Hearing.{StandsNext};
 
+use crate::front::front_in;
 use crate::next::Next;
-use ldp_stream::{Stream, StreamFault};
+use ldp_stream::Stream;
 use net_base::NoMemory;
 use std::alloc::Global;
 use std::marker::Model;
@@ -53,8 +54,9 @@ impl Held {
         self.stream = None;
     }
 
-    /// What stands in front, within this maximum of a PDU Length; a PDU is taken out, and behind a fault all is given up.
-    #[tactic(auto, using(crate::proofs::HearLemmas::waiting_none, crate::proofs::HearLemmas::waiting, crate::proofs::HearLemmas::waiting_ready, crate::proofs::HearLemmas::at_pdu, crate::proofs::HearLemmas::passed_ready, crate::proofs::HearLemmas::at_fault))]
+    /// What stands in front, within this maximum of a PDU Length; a PDU is taken out, and behind a fault all is given up. A
+    /// KeepAlive takes no memory.
+    #[tactic(auto, using(crate::proofs::HearLemmas::waiting_none, crate::proofs::FrontLemmas::set_ready, crate::proofs::FrontLemmas::front_next, crate::proofs::FrontLemmas::front_waits, crate::proofs::FrontLemmas::front_fault))]
     pub fn next(&mut self, alloc: Global, max: u16) -> Result<Next, NoMemory>
         requires least { 256 ≤ max }
         requires most { max ≤ 4096 }
@@ -65,14 +67,20 @@ impl Held {
             return Ok(Next::More);
         };
         stream.set_max(max);
-        match stream.next(alloc) {
-            Ok(None) => Ok(Next::More),
-            Ok(Some(pdu)) => Ok(Next::Pdu(pdu)),
-            Err(StreamFault::Refused { fault, .. }) => {
+        match front_in(alloc, stream)? {
+            Next::More => Ok(Next::More),
+            Next::KeepAlive { sender, id } => {
+                stream.pass();
+                Ok(Next::KeepAlive { sender, id })
+            }
+            Next::Pdu(pdu) => {
+                stream.pass();
+                Ok(Next::Pdu(pdu))
+            }
+            Next::Fault(fault) => {
                 self.stream = None;
                 Ok(Next::Fault(fault))
             }
-            Err(StreamFault::NoMemory) => Err(NoMemory),
         }
     }
 

@@ -7,6 +7,7 @@ mod advice;
 mod at_work;
 mod content;
 mod event;
+mod front;
 mod held;
 mod messages;
 mod moved;

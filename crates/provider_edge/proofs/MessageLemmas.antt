@@ -6,7 +6,9 @@ use Rattle.net_base.specs.declared.outside.link_call.LinkCall.{LinkCall}
 use Rattle.net_base.specs.declared.plan.Plan.{Plan}
 use Rattle.net_base.specs.declared.plan.places.EdgeId.{EdgeId}
 use Rattle.ldp_codec.specs.declared.decode_fault.DecodeFault.{DecodeFault}
+use Rattle.ldp_grammar.specs.declared.ldp_id.LdpId.{LdpId}
 use Rattle.ldp_grammar.specs.declared.message.Message.{Message}
+use Rattle.ldp_grammar.specs.declared.message.Message.TheVariants as message
 use Rattle.ldp_grammar.specs.declared.pdu.Pdu.{Pdu}
 use Rattle.net_values.specs.Octets.{AreOctets}
 use Rattle.session_core.specs.Table.{Heard, Received, Refused, Ticked}
@@ -20,7 +22,7 @@ use Rattle.edge_model.specs.Tick.{ticks_sessions}
 use Rattle.edge_model.specs.Work.{Answers, Work, changes}
 use Rattle.pw_signalling.specs.Rows.{lost}
 use Rattle.peer_dialogue.specs.Heard.{CanBeHeard}
-use Rattle.peer_dialogue.specs.Hearing.{HearsOn, IsAtFault, IsAtPdu, IsWaitingFor}
+use Rattle.peer_dialogue.specs.Hearing.{HearsOn, IsAtFault, IsAtPdu, IsWaitingFor, alive}
 use Rattle.peer_dialogue.specs.Peering.{at_edge}
 use Rattle.peer_dialogue.proofs.HearLemmas.{ended_all, heard_fault, heard_pdu, held_all, messages_more}
 use Rattle.peer_dialogue.proofs.SpeakerLemmas.{put_same, put_twice, read_peer}
@@ -90,6 +92,12 @@ messages_next plan now told peer messages place message work next whole same wit
 pub pdu_begun : (plan : Plan) (told : Answers) (peer : EdgeId) (pdu : Pdu) (messages : List Message) (start mid : Work) → mid ≡ happens_with_ends told peer (Heard pdu.id) start → messages ≡ pdu.messages
     → hears_pdu plan told peer pdu start ≡ hears_messages plan told peer messages mid
 pdu_begun plan told peer pdu messages start mid is all = sym (ap (λ (l : List Message). hears_messages plan told peer l mid) all ∙ ap (hears_messages plan told peer pdu.messages) is)
+
+-- a PDU of one KeepAlive was heard
+pub alive_heard : (plan now : Plan) (told : Answers) (peer : EdgeId) (sender : LdpId) (id : ℕ) (start mid work : Work) → now ≡ plan → mid ≡ happens_with_ends told peer (Heard sender) start
+    → work ≡ hears_message now told peer (message.KeepAlive id) mid → work ≡ hears_pdu plan told peer (alive sender id) start
+alive_heard plan now told peer sender id start mid work same is heard =
+    heard ∙ (ap (λ (p : Plan). hears_message p told peer (message.KeepAlive id) mid) same ∙ ap (hears_message plan told peer (message.KeepAlive id)) is)
 
 -- ---- octets
 

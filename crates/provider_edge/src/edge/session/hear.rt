@@ -8,14 +8,14 @@ ghost use Rattle.edge_model.specs.Hear.{acts_on, advice_of, advises, hears, hear
 ghost use Rattle.edge_model.specs.State.{has_end};
 ghost use Rattle.edge_model.specs.Work.{Agrees, Answers, beginning};
 ghost use Rattle.peer_dialogue.specs.Heard.{CanBeHeard};
-ghost use Rattle.peer_dialogue.specs.Hearing.{HearsOn, IsWaitingFor};
+ghost use Rattle.peer_dialogue.specs.Hearing.{HearsOn, IsWaitingFor, alive};
 ghost use Rattle.peer_dialogue.specs.Peering.{at_edge};
 ghost use Rattle.provider_edge.specs.AtWork.{Takes, Works, at_work, worked_at};
 ghost use Rattle.provider_edge.specs.Hearing.{AreTakenOut};
 ghost use Rattle.provider_edge.specs.Lists.{Keeps, seen};
 
 use crate::Edge;
-use ldp_grammar::{Message, Pdu};
+use ldp_grammar::{LdpId, Message, Pdu};
 use net_base::{EdgeId, Link, NoMemory};
 use peer_dialogue::{AtWork, Event, Held, Next, advice_of, binding_in};
 
@@ -118,9 +118,27 @@ impl Edge {
                 Next::Fault(fault) => {
                     return self.happens(peer, Event::Refused(fault), work);
                 }
+                Next::KeepAlive { sender, id } => self.hear_keep_alive(peer, sender, id, work)?,
                 Next::Pdu(pdu) => self.hear_pdu(peer, &pdu, work)?,
             }
         }
+    }
+
+    // A PDU of one KeepAlive is heard: its sender, and then its message.
+    fn hear_keep_alive<L: Link>(
+        &mut self,
+        peer: EdgeId,
+        sender: LdpId,
+        id: u32,
+        work: &mut AtWork<'_, L>,
+    ) -> Result<(), NoMemory>
+        requires working { self.old.stopped ≡ true }
+        ensures goes { Works L.calls self.old work.old self.new work.new }
+        ensures step { OnOk result ((told : Answers) → Agrees told (L.calls work.new.link.now)
+            → at_work L.calls self.new work.new ≡ hears_pdu self.old.plan told peer (alive sender id) (at_work L.calls self.old work.old)) }
+    {
+        self.happens(peer, Event::Heard(sender), work)?;
+        self.hear_message(peer, &Message::KeepAlive { id }, work)
     }
 
     // A PDU is heard: its sender, and then its messages in turn.
