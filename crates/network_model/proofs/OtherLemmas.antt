@@ -63,7 +63,7 @@ apart_then origin circuit network first next here later = record {
 none_left : (origin : ℕ) (circuit : CircuitId) (es : List Entry) → NoneGoesOut es → times_left origin circuit es ≡ 0
 none_left origin circuit [] none = refl
 none_left origin circuit (Left at from hops octets ∷ es) none = absurd none
-none_left origin circuit (Sent packet from to wire came other hops octets ∷ es) none = absurd none
+none_left origin circuit (Sent from to wire came packet other hops octets ∷ es) none = absurd none
 none_left origin circuit (e ∷ es) none = none_left origin circuit es none
 
 signals_apart : (origin : ℕ) (circuit : CircuitId) (network : NetworkState) (stepped : Stepped) → IsSignalStep network stepped → IsApart origin circuit network stepped

@@ -34,13 +34,13 @@ use Rattle.network_model.specs.Wire.{priority_event, status_event, wire_event}
 abbrev pub NoneGoesOut : List Entry → Type 0
 NoneGoesOut [] = Unit {0}
 NoneGoesOut (Left circuit origin hops octets ∷ es) = ⊥
-NoneGoesOut (Sent packet from to wire came origin hops octets ∷ es) = ⊥
+NoneGoesOut (Sent from to wire came packet origin hops octets ∷ es) = ⊥
 NoneGoesOut (e ∷ es) = NoneGoesOut es
 
 pub none-append : (xs ys : List Entry) → NoneGoesOut xs → NoneGoesOut ys → NoneGoesOut (xs ++ ys)
 none-append [] ys front back = back
 none-append (Left circuit origin hops octets ∷ xs) ys front back = front
-none-append (Sent packet from to wire came origin hops octets ∷ xs) ys front back = front
+none-append (Sent from to wire came packet origin hops octets ∷ xs) ys front back = front
 none-append (x ∷ xs) ys front back = none-append xs ys front back
 
 -- effects of signalling are told so

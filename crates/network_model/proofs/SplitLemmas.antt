@@ -138,7 +138,7 @@ again_split plan network (Some packet) = (tt, tt)
 none_split : (plan : Plan) (es : List Entry) → NoneGoesOut es → Split plan es
 none_split plan [] none = tt
 none_split plan (Left circuit origin hops octets ∷ es) none = absurd none
-none_split plan (Sent packet from to wire came origin hops octets ∷ es) none = absurd none
+none_split plan (Sent from to wire came packet origin hops octets ∷ es) none = absurd none
 none_split plan (e ∷ es) none = (tt, none_split plan es none)
 
 step_split : (plan : Plan) (network : NetworkState) (event : Event) → IsPlaced network → Split plan (step plan network event).entries

@@ -41,7 +41,7 @@ absorb_one me origin hops other network = network
 -- what the network tells of it
 abbrev pub entries_told : EdgeId → ℕ → ℕ → Effect → NetworkState → List Entry
 entries_told me origin hops (effect.Said peer octets) network = entry.Said me peer octets ∷ []
-entries_told me origin hops (effect.Sent peer wire came octets) network = entry.Sent (network.sent + 1) me peer wire came origin (hops + 1) octets ∷ []
+entries_told me origin hops (effect.Sent peer wire came octets) network = entry.Sent me peer wire came (network.sent + 1) origin (hops + 1) octets ∷ []
 entries_told me origin hops (effect.Left circuit octets) network = entry.Left circuit origin hops octets ∷ []
 entries_told me origin hops (effect.Dropped cause) network = entry.Dropped me origin cause ∷ []
 entries_told me origin hops (effect.Session peer state) network = entry.Session me peer state ∷ []

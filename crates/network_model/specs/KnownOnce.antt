@@ -29,7 +29,7 @@ use Rattle.network_model.specs.Step.{step}
 abbrev pub times_out : ℕ → List Entry → ℕ
 times_out origin [] = 0
 times_out origin (Left at from hops octets ∷ es) = (if from == origin then 1 else 0) + times_out origin es
-times_out origin (Sent packet by to wire came from hops octets ∷ es) = (if from == origin then 1 else 0) + times_out origin es
+times_out origin (Sent by to wire came packet from hops octets ∷ es) = (if from == origin then 1 else 0) + times_out origin es
 times_out origin (e ∷ es) = times_out origin es
 
 -- the port that the bridge of a service knows for the destination of a frame, once it has heard the frame by a port

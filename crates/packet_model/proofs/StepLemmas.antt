@@ -223,7 +223,7 @@ copies_isolated plan edge me came service origin hops frame from (effect.Closed 
 none_isolated : (plan : Plan) (trace es : List Entry) → NoneGoesOut es → IsolatedAfter plan trace es
 none_isolated plan trace [] none = tt
 none_isolated plan trace (Left circuit origin hops octets ∷ es) none = absurd none
-none_isolated plan trace (Sent packet from to wire came origin hops octets ∷ es) none = absurd none
+none_isolated plan trace (Sent from to wire came packet origin hops octets ∷ es) none = absurd none
 none_isolated plan trace (e ∷ es) none = (tt, none_isolated plan (trace ++ e ∷ []) es none)
 
 -- ---- the effects of an edge on a frame or a packet

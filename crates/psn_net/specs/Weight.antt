@@ -20,7 +20,7 @@ abbrev pub entry_weight : Entry → ℕ
 entry_weight (Did event) = event_octets event + 64
 entry_weight (Said from to octets) = length octets + 64
 entry_weight (In circuit number octets) = length octets + 64
-entry_weight (Sent packet from to wire came origin hops octets) = length octets + 64
+entry_weight (Sent from to wire came packet origin hops octets) = length octets + 64
 entry_weight (Left circuit origin hops octets) = length octets + 64
 entry_weight entry = 64
 

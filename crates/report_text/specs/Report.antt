@@ -18,7 +18,7 @@ entry_words plan (Did event) = codes ">" ∷ event_words plan event
 entry_words plan Idle = codes "idle" ∷ []
 entry_words plan (Said from to octets) = codes "said" ∷ edge_name plan from ∷ edge_name plan to ∷ hex octets ∷ []
 entry_words plan (In circuit number octets) = codes "in" ∷ circuit_name plan circuit ∷ decimal number ∷ hex octets ∷ []
-entry_words plan (Sent packet from to wire arrival origin hops octets) =
+entry_words plan (Sent from to wire arrival packet origin hops octets) =
     codes "sent" ∷ decimal packet ∷ edge_name plan from ∷ edge_name plan to ∷ wire_name plan wire ∷ arrival_name plan arrival ∷ decimal origin ∷ decimal hops ∷ hex octets ∷ []
 entry_words plan (Copied packet of) = codes "copied" ∷ decimal packet ∷ decimal of ∷ []
 entry_words plan (Left circuit origin hops octets) = codes "left" ∷ circuit_name plan circuit ∷ decimal origin ∷ decimal hops ∷ hex octets ∷ []
@@ -46,7 +46,7 @@ unfoldable pub is_counted : Counted → Entry → Bool
 is_counted counted.Event (Did event) = true
 is_counted counted.Entered (In circuit number octets) = true
 is_counted counted.Left (Left circuit origin hops octets) = true
-is_counted counted.Sent (Sent packet from to wire arrival origin hops octets) = true
+is_counted counted.Sent (Sent from to wire arrival packet origin hops octets) = true
 is_counted counted.Dropped (Dropped edge origin cause) = true
 is_counted kind entry = false
 

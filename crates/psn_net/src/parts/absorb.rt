@@ -205,7 +205,7 @@ impl Parts {
         ensures more { OnOk result (self.old.packets.last ≤ self.new.packets.last) }
         ensures step { OnOk result (HasStepped self.old self.new (record {
           state = with_packet departure.wire departure.from departure.to departure.trail.origin departure.trail.hops departure.bytes (seen self.old);
-          entries = Entry.Sent ((seen self.old).sent + 1) departure.from departure.to departure.wire arrival departure.trail.origin departure.trail.hops departure.bytes ∷ [];
+          entries = Entry.Sent departure.from departure.to departure.wire arrival ((seen self.old).sent + 1) departure.trail.origin departure.trail.hops departure.bytes ∷ [];
         })) }
     {
         let Departure {
