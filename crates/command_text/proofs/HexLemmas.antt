@@ -1,7 +1,8 @@
 -- The values of digits, one more pair of them, and digits that are no pairs.
-use Rattle.std.proofs.Common.{◌≡◌, ◌<◌, ◌≤◌, ◌+◌, ◌*◌, ◌==◌, ◌&&◌, ◌++◌, ℕ, zero, suc, Bool, true, List, [], ◌∷◌, length, get_or, slice_index, drop, Option, Some, None, option_and_then, option_map, unwrap_or, refl, ap, arith, append_assoc}
-use Rattle.std.proofs.Common.{length-drop}
-use Rattle.std.proofs.lemmas.List.{drop_more}
+use Rattle.std.proofs.Common.{◌≡◌, ◌<◌, ◌≤◌, ◌+◌, ◌-◌, ◌*◌, ◌%◌, ◌==◌, ◌&&◌, ◌++◌, ◌∙◌, ℕ, zero, suc, Bool, true, false, List, [], ◌∷◌, length, slice_index, slice_set, take, drop, Option, Some, None, nat_lt, option_and_then, option_map, unwrap_or, if◌then◌else◌, refl, ap, sym, arith, append_assoc}
+use Rattle.std.proofs.Common.{length-drop, take-append-drop}
+use Rattle.std.proofs.lemmas.List.{append-nil, drop_more, drop_all, drop-drop, length-take-le, take_all, take_more_set}
+use Rattle.std.proofs.lemmas.Bool.{lt-ltb}
 use Rattle.std.proofs.lemmas.Bool.Decides.{Decides-below_and, Decides-eqb, nat_tests}
 use Rattle.command_text.specs.Hex.{digit_value, pair_value, unhex}
 use Rattle.command_text.specs.declared.hex.TheConstants.{VALUES}
@@ -19,43 +20,118 @@ value_is =
 below : (octet value : ℕ) → digit_value octet ≡ Some value → value < 16
 below octet value e = grind (arith, nat_tests)
 
-both : (x y : Option ℕ) → unwrap_or x 16 < 16 → unwrap_or y 16 < 16
-    → option_and_then (λ high. option_map (λ low. high * 16 + low) y) x ≡ Some (unwrap_or x 16 * 16 + unwrap_or y 16)
-both (Some high) (Some low) first second = refl
-both (Some high) None first second = absurd (omega arith)
-both None y first second = absurd (omega arith)
+-- two values, each below 16 or no digit's, are the octet of two digits
+joined : (x y : Option ℕ) → ((value : ℕ) → x ≡ Some value → value < 16) → ((value : ℕ) → y ≡ Some value → value < 16)
+    → option_and_then (λ high. option_map (λ low. high * 16 + low) y) x
+    ≡ (if nat_lt (unwrap_or x 16) 16 && nat_lt (unwrap_or y 16) 16 then Some ((unwrap_or x 16 * 16 % 256 + unwrap_or y 16) % 256) else None)
+joined None y first second = refl
+joined (Some high) None first second = rw (lt-ltb high 16 (first high refl)) refl
+joined (Some high) (Some low) first second =
+    let is : (high * 16 % 256 + low) % 256 ≡ high * 16 + low = omega (arith, first high refl, second low refl) in
+    rw (lt-ltb high 16 (first high refl), lt-ltb low 16 (second low refl), is) refl
 
-pub two_digits : (a b : ℕ) → unwrap_or (digit_value a) 16 ≤ 15 → unwrap_or (digit_value b) 16 ≤ 15 → pair_value a b ≡ Some (unwrap_or (digit_value a) 16 * 16 + unwrap_or (digit_value b) 16)
-two_digits a b first second = both (digit_value a) (digit_value b) (omega (arith, first)) (omega (arith, second))
+pub octet_of_two : (a b high low : ℕ) → high ≡ unwrap_or (digit_value a) 16 → low ≡ unwrap_or (digit_value b) 16
+    → pair_value a b ≡ (if nat_lt high 16 && nat_lt low 16 then Some ((high * 16 % 256 + low) % 256) else None)
+octet_of_two a b high low first second = rw (first, second) (joined (digit_value a) (digit_value b) (below a) (below b))
 
-none_first : (x y : Option ℕ) → ((value : ℕ) → x ≡ Some value → value < 16) → 15 < unwrap_or x 16 → option_and_then (λ high. option_map (λ low. high * 16 + low) y) x ≡ None
-none_first None y low none = refl
-none_first (Some value) y low none = absurd (omega (arith, low value refl, none))
+-- the octets behind those of a front, where all of the front are digits
+abbrev pub behind : Option (List ℕ) → Option (List ℕ) → Option (List ℕ)
+behind front back = option_and_then (λ xs. option_map (λ ys. xs ++ ys) back) front
 
-pub no_first : (a b : ℕ) → 15 < unwrap_or (digit_value a) 16 → pair_value a b ≡ None
-no_first a b none = none_first (digit_value a) (digit_value b) (below a) none
+behind_more : (x : Option ℕ) (front back : Option (List ℕ))
+    → option_and_then (λ octet. option_map (λ octets. octet ∷ octets) (behind front back)) x ≡ behind (option_and_then (λ octet. option_map (λ octets. octet ∷ octets) front) x) back
+behind_more None front back = refl
+behind_more (Some octet) None back = refl
+behind_more (Some octet) (Some xs) None = refl
+behind_more (Some octet) (Some xs) (Some ys) = refl
 
-none_second : (x y : Option ℕ) → ((value : ℕ) → y ≡ Some value → value < 16) → 15 < unwrap_or y 16 → option_and_then (λ high. option_map (λ low. high * 16 + low) y) x ≡ None
-none_second None y low none = refl
-none_second (Some high) None low none = refl
-none_second (Some high) (Some value) low none = absurd (omega (arith, low value refl, none))
+same_behind : (read : Option (List ℕ)) → read ≡ behind (Some []) read
+same_behind None = refl
+same_behind (Some ys) = refl
 
-pub no_second : (a b : ℕ) → 15 < unwrap_or (digit_value b) 16 → pair_value a b ≡ None
-no_second a b none = none_second (digit_value a) (digit_value b) (below b) none
+unhex_front : (count : ℕ) (front back : List ℕ) → length front ≡ 2 * count → unhex (front ++ back) ≡ behind (unhex front) (unhex back)
+unhex_front count [] back size = same_behind (unhex back)
+unhex_front count (a ∷ []) back size = absurd (omega (arith, size))
+unhex_front count (a ∷ b ∷ more) back size =
+    rw (unhex_front (count - 1) more back (omega (arith, size))) (behind_more (pair_value a b) (unhex more) (unhex back))
+
+-- the octets of what is left are those of a piece of it, and those behind it
+unhex_from : (digits : List ℕ) (at count : ℕ) → at + 2 * count ≤ length digits
+    → unhex (drop at digits) ≡ behind (unhex (take (2 * count) (drop at digits))) (unhex (drop (at + 2 * count) digits))
+unhex_from digits at count within =
+    let rest : List ℕ = drop at digits in
+    let size : length (take (2 * count) rest) ≡ 2 * count = length-take-le (2 * count) rest (omega (arith, length-drop at digits)) in
+    ap unhex (sym (take-append-drop (2 * count) rest))
+    ∙ (unhex_front count (take (2 * count) rest) (drop (2 * count) rest) size
+    ∙ ap (λ (l : List ℕ). behind (unhex (take (2 * count) rest)) (unhex l)) (drop-drop (2 * count) at digits))
+
+-- what is read of pairs of digits: the octets that are written, and then those of the rest
+abbrev pub filled : List ℕ → List ℕ → ℕ → Bool → Option (List ℕ)
+filled digits room i all = if all then option_map (λ xs. take i room ++ xs) (unhex (drop (2 * i) digits)) else None
 
 -- an octet behind the front or before the rest
 front_more : (front : List ℕ) (x : ℕ) (read : Option (List ℕ)) → option_map (λ xs. front ++ x ∷ [] ++ xs) read ≡ option_map (λ xs. front ++ xs) (option_map (λ xs. x ∷ xs) read)
 front_more front x (Some xs) = ap Some (append_assoc front (x ∷ []) xs)
 front_more front x None = refl
 
-pub unhex_step : (front digits : List ℕ) (at octet : ℕ) → at + 2 ≤ length digits → Some octet ≡ pair_value (get_or digits at 0) (get_or digits (at + 1) 0)
-    → option_map (λ xs. front ++ octet ∷ [] ++ xs) (unhex (drop (at + 2) digits)) ≡ option_map (λ xs. front ++ xs) (unhex (drop at digits))
-unhex_step front digits at octet within value =
-    let next : at + 1 + 1 ≡ at + 2 = omega arith in
-    rw (drop_more digits at 0 (omega arith), drop_more digits (at + 1) 0 (omega arith), next, ← value) (front_more front octet (unhex (drop (at + 2) digits)))
+-- a pair of digits before the rest
+pair_from : (digits : List ℕ) (i : ℕ) → 2 * i + 1 < length digits
+    → unhex (drop (2 * i) digits) ≡ option_and_then (λ octet. option_map (λ octets. octet ∷ octets) (unhex (drop (2 * (i + 1)) digits))) (pair_value (slice_index digits (2 * i)) (slice_index digits (2 * i + 1)))
+pair_from digits i within =
+    let next : 2 * i + 1 + 1 ≡ 2 * (i + 1) = omega arith in
+    rw (drop_more digits (2 * i) 0 (omega arith), drop_more digits (2 * i + 1) 0 (omega arith), next) refl
 
-pub unhex_bad : (digits : List ℕ) (at : ℕ) → at + 2 ≤ length digits → None ≡ pair_value (get_or digits at 0) (get_or digits (at + 1) 0) → unhex (drop at digits) ≡ None
-unhex_bad digits at within value = rw (drop_more digits at 0 (omega arith), drop_more digits (at + 1) 0 (omega arith), ← value) refl
+-- one octet more is written
+pub filled_more : (digits room : List ℕ) (i octet : ℕ) (all are : Bool) → i < length room → length digits ≡ 2 * length room
+    → pair_value (slice_index digits (2 * i)) (slice_index digits (2 * i + 1)) ≡ (if are then Some octet else None)
+    → filled digits room i all ≡ unhex digits → filled digits (slice_set room i octet) (i + 1) (all && are) ≡ unhex digits
+filled_more digits room i octet false are within size pair told = told
+filled_more digits room i octet true false within size pair told =
+    let none : unhex (drop (2 * i) digits) ≡ None = rw (pair_from digits i (omega (arith, size)), pair) refl in
+    rw none at told
+filled_more digits room i octet true true within size pair told =
+    let front : take (i + 1) (slice_set room i octet) ≡ take i room ++ octet ∷ [] = take_more_set room i octet within in
+    let more : unhex (drop (2 * i) digits) ≡ option_map (λ xs. octet ∷ xs) (unhex (drop (2 * (i + 1)) digits)) = rw (pair_from digits i (omega (arith, size)), pair) refl in
+    rw front (front_more (take i room) octet (unhex (drop (2 * (i + 1)) digits)) ∙ (ap (λ (read : Option (List ℕ)). option_map (λ xs. take i room ++ xs) read) (sym more) ∙ told))
+
+-- all octets are written
+pub filled_all : (digits room : List ℕ) (i : ℕ) (all : Bool) → length room ≤ i → length digits ≡ 2 * length room
+    → filled digits room i all ≡ unhex digits → unhex digits ≡ (if all then Some room else None)
+filled_all digits room i false end size told = sym told
+filled_all digits room i true end size told =
+    let none : drop (2 * i) digits ≡ [] = drop_all (2 * i) digits (omega (arith, size)) in
+    let whole : take i room ≡ room = take_all i room end in
+    sym (rw (none, whole, append-nil) at told)
+
+added : (octets now : List ℕ) (front back : Option (List ℕ)) → option_map (λ xs. octets ++ xs) front ≡ Some now
+    → option_map (λ ys. now ++ ys) back ≡ option_map (λ xs. octets ++ xs) (behind front back)
+added octets now None back is = absurd (cc)
+added octets now (Some xs) None is = refl
+added octets now (Some xs) (Some ys) is =
+    let same : octets ++ xs ≡ now = cc in
+    ap Some (ap (λ (l : List ℕ). l ++ ys) (sym same) ∙ append_assoc octets xs ys)
+
+none_added : (octets : List ℕ) (front back : Option (List ℕ)) → option_map (λ xs. octets ++ xs) front ≡ None → option_map (λ xs. octets ++ xs) (behind front back) ≡ None
+none_added octets None back is = refl
+none_added octets (Some xs) back is = absurd (cc)
+
+-- the octets of a piece are added
+pub decoded_more : (digits rest piece octets now : List ℕ) (at count : ℕ) (all : Bool) → all ≡ true → rest ≡ drop at digits → piece ≡ take (2 * count) rest → at + 2 * count ≤ length digits
+    → option_map (λ xs. octets ++ xs) (unhex piece) ≡ (if all then Some now else None) → option_map (λ xs. octets ++ xs) (unhex (drop at digits)) ≡ unhex digits
+    → option_map (λ xs. now ++ xs) (unhex (drop (at + 2 * count) digits)) ≡ unhex digits
+decoded_more digits rest piece octets now at count all are back front within adds told =
+    let is : piece ≡ take (2 * count) (drop at digits) = front ∙ ap (take (2 * count)) back in
+    added octets now (unhex (take (2 * count) (drop at digits))) (unhex (drop (at + 2 * count) digits)) (ap (λ (l : List ℕ). option_map (λ xs. octets ++ xs) (unhex l)) (sym is) ∙ (adds ∙ ap (λ (b : Bool). if b then Some now else None) are))
+    ∙ (ap (λ (read : Option (List ℕ)). option_map (λ xs. octets ++ xs) read) (sym (unhex_from digits at count within)) ∙ told)
+
+-- a piece has what is no digit
+pub decoded_none : (digits rest piece octets now : List ℕ) (at count : ℕ) (all : Bool) → all ≡ false → rest ≡ drop at digits → piece ≡ take (2 * count) rest → at + 2 * count ≤ length digits
+    → option_map (λ xs. octets ++ xs) (unhex piece) ≡ (if all then Some now else None) → option_map (λ xs. octets ++ xs) (unhex (drop at digits)) ≡ unhex digits
+    → None ≡ unhex digits
+decoded_none digits rest piece octets now at count all are back front within none told =
+    let is : piece ≡ take (2 * count) (drop at digits) = front ∙ ap (take (2 * count)) back in
+    sym (none_added octets (unhex (take (2 * count) (drop at digits))) (unhex (drop (at + 2 * count) digits)) (ap (λ (l : List ℕ). option_map (λ xs. octets ++ xs) (unhex l)) (sym is) ∙ (none ∙ ap (λ (b : Bool). if b then Some now else None) are)))
+    ∙ (ap (λ (read : Option (List ℕ)). option_map (λ xs. octets ++ xs) read) (sym (unhex_from digits at count within)) ∙ told)
 
 alone : (rest : List ℕ) → length rest ≡ 1 → unhex rest ≡ None
 alone [] one = absurd (omega arith)

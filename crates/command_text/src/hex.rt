@@ -1,9 +1,12 @@
 //! Octets as pairs of hexadecimal digits.
-ghost use Rattle.std.specs.Prelude.{◌≡◌, unwrap_or, IfOk};
+ghost use Rattle.std.specs.Prelude.{◌≡◌, ◌≤◌, ◌*◌, ◌++◌, Some, None, length, option_map, unwrap_or, if◌then◌else◌, IfOk};
 ghost use Rattle.command_text.specs.Hex.{digit_value, pair_value, unhex};
 
 use net_base::{List, NoMemory, Octets};
 use std::alloc::Global;
+
+/// The most octets that are read at once: what a frame mostly has.
+const PIECE: usize = 64;
 
 // The value of each octet as a digit; 16 where it is none.
 const VALUES: [u8; 256] = [
@@ -28,35 +31,62 @@ fn digit(octet: u8) -> u8
     VALUES[octet as usize]
 }
 
-// The octet of two digits.
-#[tactic(auto, using(crate::proofs::HexLemmas::two_digits, crate::proofs::HexLemmas::no_first, crate::proofs::HexLemmas::no_second))]
-fn pair(first: u8, second: u8) -> Option<u8>
-    ensures { result ≡ pair_value first second }
+// The octet of two digits, and whether they are digits. It has no branch, so that the octets of a piece come one after another.
+#[tactic(auto, using(crate::proofs::HexLemmas::octet_of_two))]
+fn pair(first: u8, second: u8) -> (u8, bool)
+    ensures { pair_value first second ≡ (if result.1 then Some result.0 else None) }
 {
     let high = digit(first);
     let low = digit(second);
-    if high > 15 {
-        return None;
-    }
-    if low > 15 {
-        return None;
-    }
-    Some(high * 16 + low)
+    (
+        high.wrapping_mul(16).wrapping_add(low),
+        (high < 16) & (low < 16),
+    )
 }
 
-/// The octets of pairs of digits; `None` exactly where these are no pairs of hexadecimal digits.
+// Writes the octets of pairs of digits into room of just their size, and answers whether all are digits. It takes no memory.
+fn fill(digits: &[u8], room: &mut [u8]) -> bool
+    requires { length digits.now ≡ 2 * length room.old }
+    ensures { unhex digits.now ≡ (if result then Some room.new else None) }
+{
+    let mut all = true;
+    'filling: for i in 0..room.len() {
+        let (octet, are) = pair(digits[2 * i], digits[2 * i + 1]);
+        all = all & are;
+        room[i] = octet;
+    }
+    all
+}
+
+// Adds the octets of a piece of pairs of digits, and answers whether all are digits. They are made aside, so that the list grows once.
+fn put_piece(octets: &mut Octets, piece: &[u8], count: usize) -> Result<bool, NoMemory>
+    requires count { length piece.now ≡ 2 * count }
+    requires most { count ≤ 64 }
+    ensures { IfOk result (λ all. option_map (λ xs. octets.old ++ xs) (unhex piece.now) ≡ (if all then Some octets.new else None)) }
+{
+    let mut room = [0u8; PIECE];
+    let (made, _) = room.split_at_mut(count);
+    if !fill(piece, made) {
+        return Ok(false);
+    }
+    octets.extend_from_slice(made)?;
+    Ok(true)
+}
+
+/// The octets of pairs of digits; `None` exactly where these are no pairs of hexadecimal digits. They are read a piece at a time.
 pub fn decode(alloc: Global, digits: &[u8]) -> Result<Option<Octets>, NoMemory>
     ensures { IfOk result (λ octets. octets ≡ unhex digits.now) }
 {
     let mut octets = List::with_capacity(alloc, digits.len() / 2)?;
     let mut at = 0;
     'decoding: while digits.len() - at >= 2 {
-        let octet = match pair(digits[at], digits[at + 1]) {
-            Some(octet) => octet,
-            None => return Ok(None),
-        };
-        octets.push(octet)?;
-        at += 2;
+        let (_, rest) = digits.split_at(at);
+        let count = (rest.len() / 2).min(PIECE);
+        let (piece, _) = rest.split_at(2 * count);
+        if !put_piece(&mut octets, piece, count)? {
+            return Ok(None);
+        }
+        at += 2 * count;
     }
     if at < digits.len() {
         return Ok(None);
