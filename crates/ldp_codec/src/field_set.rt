@@ -45,7 +45,9 @@ fn place_of(field: Field) -> usize
 
 impl FieldSet {
     /// The set without a field.
-    pub fn empty() -> FieldSet {
+    pub fn empty() -> FieldSet
+        ensures none { (field : FieldOf) → has result field ≡ false }
+    {
         FieldSet {
             places: [false; 12],
         }

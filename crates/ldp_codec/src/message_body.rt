@@ -1,10 +1,9 @@
 //! The message that its octets behind the Message ID tell.
-ghost use Rattle.std.specs.Prelude.{◌≡◌, ◌≤◌, ◌<◌, ◌%◌, [], ℕ, true, false, Some, None, List, length, option_copied, IfOk, IfErr, IfSome};
+ghost use Rattle.std.specs.Prelude.{◌≡◌, ◌≤◌, ◌<◌, [], ℕ, true, false, Some, None, List, length, option_copied, IfOk, IfErr, IfSome};
 ghost use Rattle.pw_tlvs.specs.declared.fec_value.FecValue.{FecValue as FecValueOf};
 ghost use Rattle.pw_tlvs.specs.Fec.{IsFecValue};
-ghost use Rattle.pw_tlvs.specs.Macs.{AreMacs};
 ghost use Rattle.ldp_grammar.specs.declared.message_kind.MessageKind.{MessageKind};
-ghost use Rattle.ldp_grammar.specs.Rows.{row_of, type_of, is_in, fec, label, mac_list, address_list};
+ghost use Rattle.ldp_grammar.specs.Rows.{row_of, type_of, is_in, fec, label, address_list};
 ghost use Rattle.ldp_grammar.specs.Layouts.{listed};
 ghost use Rattle.ldp_grammar.specs.Tlvs.{Tlv, IsFaultless, IsJoined, IsReason, HasValue, OfBoth, all_there, fec_reason, fec_value, first_absent, first_unknown, missing as missing_in, needs_pw_id, value_of};
 ghost use Rattle.ldp_grammar.specs.Spells.{IsRead, Means, OfValue};
@@ -15,14 +14,14 @@ ghost use Rattle.ldp_codec.specs.Walk.{HasElement, IsComplete, IsWalked, element
 use crate::numbers::four;
 use crate::points::points;
 use crate::tlv_search::{count_tlvs, find_value};
-use crate::tlv_value::{further, needed};
-use crate::values::{address_list, addresses, hello_params};
+use crate::tlv_value::{further, further_kept, needed};
+use crate::tlvs::{HelloParams, RequestId};
+use crate::values::{address_list, addresses};
 use ldp_grammar::{
-    ADDRESS_LIST, AddressList, FEC, HELLO_PARAMETERS, LABEL, MAC_LIST, Message, MessageKind,
-    REQUEST_ID, Why, field_of_type,
+    ADDRESS_LIST, AddressList, FEC, LABEL, Message, MessageKind, Why, field_of_type,
 };
-use net_values::{Field, Label, List as Items, Mac, NoMemory};
-use pw_tlvs::{FecValue, MacsFault, PwFec, read_fec, read_macs};
+use net_values::{Field, Label, NoMemory};
+use pw_tlvs::{FecValue, PwFec, read_fec};
 use std::alloc::Global;
 
 // The first of the TLVs that is absent.
@@ -211,13 +210,12 @@ fn hello(id: u32, body: &[u8]) -> Message
     requires { IsComplete MessageKind.Hello body.now }
     ensures means { (ts : List Tlv) → IsJoined body.now ts → Means MessageKind.Hello id ts result }
 {
-    let value = needed_value(MessageKind::Hello, HELLO_PARAMETERS, body);
-    let (hold, targeted, request) = hello_params(value);
+    let params: HelloParams = needed(MessageKind::Hello, body);
     Message::Hello {
         id,
-        hold,
-        targeted,
-        request,
+        hold: params.hold,
+        targeted: params.targeted,
+        request: params.request,
         transport: further(MessageKind::Hello, body),
     }
 }
@@ -254,31 +252,6 @@ fn withdrawn(alloc: Global, body: &[u8]) -> Result<Option<AddressList>, NoMemory
     }
 }
 
-// The MAC addresses of a multiple of six octets.
-fn macs_in(alloc: Global, value: &[u8]) -> Result<Items<Mac>, NoMemory>
-    requires few { length value.now ≤ 65535 }
-    requires sixes { length value.now % 6 ≡ 0 }
-    ensures macs { IfOk result (AreMacs value.now) }
-{
-    match read_macs(alloc, value) {
-        Ok(list) => Ok(list),
-        Err(MacsFault::NoMemory) => Err(NoMemory),
-        // Whole addresses have no fault.
-        Err(MacsFault::Field(_)) => unreachable!(),
-    }
-}
-
-// The MAC addresses that are withdrawn, where they are told.
-fn withdrawn_macs(alloc: Global, body: &[u8]) -> Result<Option<Items<Mac>>, NoMemory>
-    requires { IsComplete MessageKind.AddressWithdraw body.now }
-    ensures macs { IfOk result (λ macs. (ts : List Tlv) → IsJoined body.now ts → OfBoth (value_of mac_list ts) macs AreMacs) }
-{
-    match further_value(MessageKind::AddressWithdraw, MAC_LIST, body) {
-        Some(value) => Ok(Some(macs_in(alloc, value)?)),
-        None => Ok(None),
-    }
-}
-
 // The processed Address Withdraw.
 fn address_withdraw(
     alloc: Global,
@@ -291,7 +264,7 @@ fn address_withdraw(
     ensures means { IfOk result (λ m. (ts : List Tlv) → IsJoined body.now ts → Means MessageKind.AddressWithdraw id ts m) }
 {
     let addresses = withdrawn(alloc, body)?;
-    let macs = withdrawn_macs(alloc, body)?;
+    let macs = further_kept(alloc, MessageKind::AddressWithdraw, body)?;
     Ok(Message::AddressWithdraw {
         id,
         addresses,
@@ -360,11 +333,11 @@ fn label_abort(id: u32, body: &[u8], element: Option<PwFec>) -> Message
     requires element { HasElement MessageKind.LabelAbort body.now element }
     ensures means { (ts : List Tlv) → IsJoined body.now ts → Means MessageKind.LabelAbort id ts result }
 {
-    let value = needed_value(MessageKind::LabelAbort, REQUEST_ID, body);
+    let request: RequestId = needed(MessageKind::LabelAbort, body);
     Message::LabelAbort {
         id,
         fec: element.unwrap(),
-        request: four(value, 0),
+        request: request.0,
     }
 }
 

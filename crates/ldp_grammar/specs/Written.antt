@@ -58,35 +58,34 @@ tlv number value = record { word = number; value = value }
 abbrev pub ignorable : ℕ → List ℕ → Tlv
 ignorable number value = record { word = 0x8000 + number; value = value }
 
--- the TLV of a part that a message may lack, where it is told: the transport address of a Hello (RFC 5036 section 3.5.2)
+-- the TLV, with this word and the value that is written so, of a part that a message may lack, where it is told
+abbrev pub told_tlvs : {A : Type 0} → ℕ → (A → List ℕ) → Option A → List Tlv
+told_tlvs word octets None = []
+told_tlvs word octets (Some x) = record { word = word; value = octets x } ∷ []
+
+-- the transport address of a Hello (RFC 5036 section 3.5.2)
 abbrev pub transport_tlvs : Option Addr → List Tlv
-transport_tlvs None = []
-transport_tlvs (Some a) = tlv transport_address a.0 ∷ []
+transport_tlvs address = told_tlvs transport_address (λ a. a.0) address
 
 -- the addresses that are withdrawn (RFC 5036 section 3.5.6)
 abbrev pub withdrawn_tlvs : Option AddressList → List Tlv
-withdrawn_tlvs None = []
-withdrawn_tlvs (Some a) = tlv address_list (addresses_octets a.family a.octets) ∷ []
+withdrawn_tlvs addresses = told_tlvs address_list (λ a. addresses_octets a.family a.octets) addresses
 
 -- the FEC (RFC 5036 section 3.4.1, RFC 8077 section 6.1)
 abbrev pub fec_tlvs : Option PwFec → List Tlv
-fec_tlvs None = []
-fec_tlvs (Some pw) = tlv fec (written_fec pw) ∷ []
+fec_tlvs pw = told_tlvs fec written_fec pw
 
 -- the label (RFC 5036 section 3.4.2.1)
 abbrev pub label_tlvs : Option ℕ → List Tlv
-label_tlvs None = []
-label_tlvs (Some given) = tlv label (four given) ∷ []
+label_tlvs given = told_tlvs label four given
 
--- the PW status (RFC 8077 section 6.3.2)
+-- the PW status, with U = 1 (RFC 8077 section 6.3.2)
 abbrev pub status_tlvs : Option PwStatus → List Tlv
-status_tlvs None = []
-status_tlvs (Some state) = ignorable pw_status (written_status state) ∷ []
+status_tlvs state = told_tlvs (0x8000 + pw_status) written_status state
 
--- the MAC List (RFC 4762 section 6.2)
+-- the MAC List, with U = 1 (RFC 4762 section 6.2)
 abbrev pub mac_tlvs : Option (List Mac) → List Tlv
-mac_tlvs None = []
-mac_tlvs (Some macs) = ignorable mac_list (mac_octets macs) ∷ []
+mac_tlvs macs = told_tlvs (0x8000 + mac_list) mac_octets macs
 
 -- a Switching Point PE TLV for each switching point, in order (RFC 6073 section 7.4)
 abbrev pub point_tlvs : List Point → List Tlv
