@@ -4,11 +4,11 @@ use Rattle.std.specs.Prelude.{◌==◌}
 use Rattle.std.proofs.lemmas.Bool.{cases_Bool, cases_eq}
 use Rattle.std.proofs.lemmas.List.{get_or-set_same, get_or-set_other}
 use Rattle.net_values.specs.declared.field.Field.{Field}
-use Rattle.net_values.specs.declared.field.Field.TheVariants as field
 use Rattle.ldp_grammar.specs.Layouts.{listed, most}
 use Rattle.ldp_grammar.specs.Rows.{Row}
 use Rattle.ldp_grammar.specs.Tlvs.{Tlv, IsJoined, MayComeAgain, count_of, spell_tlv, type_in}
 use Rattle.ldp_grammar.proofs.TlvLemmas.{count-append, joined_more, joined_none, joined_once}
+use Rattle.ldp_grammar.proofs.WrittenLemmas.{least_most}
 use Rattle.ldp_codec.specs.FieldSet.{HoldsListed, IsPutIn, has, place_of}
 use Rattle.ldp_codec.specs.Walk.{IsTaken, IsWalked}
 use Rattle.ldp_codec.proofs.PlaceLemmas.{placed}
@@ -25,30 +25,10 @@ has_kept places f other within absent = elim (cases_eq (place_of other) (place_o
     has_at : ℕ → Bool
     has_at n = get_or (set places (place_of f) true) n false
 
--- a TLV that did not come yet may come
-some_may : (f : Field) → 0 < most f
-some_may field.Point = omega arith
-some_may field.Fec = omega arith
-some_may field.AddressList = omega arith
-some_may field.Label = omega arith
-some_may field.Status = omega arith
-some_may field.Hello = omega arith
-some_may field.Transport = omega arith
-some_may field.MacList = omega arith
-some_may field.Session = omega arith
-some_may field.RequestId = omega arith
-some_may field.PwStatus = omega arith
-some_may field.InfoLength = omega arith
-some_may field.Parameter = omega arith
-some_may field.Mtu = omega arith
-some_may field.Description = omega arith
-some_may field.Vlan = omega arith
-some_may field.Vccv = omega arith
-
 pub may_come : (row : Row) (tlv : ℕ) (f : Field) (places : List Bool) (ts : List Tlv) → listed row tlv ≡ Some f → has places f ≡ false → HoldsListed row places ts → MayComeAgain (listed row tlv) (count_of tlv ts)
 may_come row tlv f places ts is_listed absent holds =
     let none : count_of tlv ts ≡ 0 = holds tlv f is_listed absent in
-    subst (λ (o : Option Field). MayComeAgain o (count_of tlv ts)) (sym is_listed) (subst (λ (n : ℕ). n < most f) (sym none) (some_may f))
+    subst (λ (o : Option Field). MayComeAgain o (count_of tlv ts)) (sym is_listed) (subst (λ (n : ℕ). n < most f) (sym none) (least_most f))
 
 -- none came yet
 pub holds_none : (row : Row) (places : List Bool) (ts : List Tlv) → IsJoined [] ts → HoldsListed row places ts

@@ -1,8 +1,8 @@
 -- PDUs: at most one is spelled, one fault at most is first, and never both.
-use Rattle.std.proofs.Common.{◌≡◌, ◌≤◌, ◌+◌, ◌-◌, ◌++◌, ◌⊎◌, inl, inr, ℕ, List, [], ◌∷◌, length, get_or, nat_lt, flat_map, refl, sym, ap, subst, ◌∙◌, length-append, arith}
+use Rattle.std.proofs.Common.{◌≡◌, ◌≤◌, ◌<◌, ◌+◌, ◌-◌, ◌++◌, ◌⊎◌, inl, inr, ℕ, true, false, List, [], ◌∷◌, length, get_or, nat_lt, flat_map, refl, sym, ap, subst, ◌∙◌, length-append, arith}
 use Rattle.std.specs.Prelude.{if◌then◌else◌}
+use Rattle.std.proofs.lemmas.Bool.Decides.{nat_tests}
 use Rattle.net_values.specs.declared.field.Field.{Field}
-use Rattle.net_values.specs.declared.field.Field.TheVariants as field
 use Rattle.ldp_grammar.specs.declared.fault.Fault.{Fault}
 use Rattle.ldp_grammar.specs.declared.cause.Cause.{Cause}
 use Rattle.ldp_grammar.specs.declared.cause.Cause.TheVariants as cause
@@ -11,6 +11,7 @@ use Rattle.ldp_grammar.specs.Octets.{two, two_at}
 use Rattle.ldp_grammar.specs.Spells.{spell_message, IsFramed, Spells}
 use Rattle.ldp_grammar.specs.FirstFault.{IsFirst, FirstFault, Names, HeaderFault, IsInMessages, Precedes, NamesMessages, moved, rank}
 use Rattle.pw_tlvs.specs.Faults.{field_rank}
+use Rattle.pw_tlvs.proofs.FaultLemmas.{field_again, field_at, field_rank_below}
 use Rattle.ldp_grammar.proofs.ItemLemmas.{moved_after}
 use Rattle.ldp_grammar.proofs.SpellingLemmas.{same_front}
 use Rattle.ldp_grammar.proofs.MessageLemmas.{messages_faultless}
@@ -70,56 +71,35 @@ named_nowhere bytes max pdu small s f (inr w) =
 pub never_both : (bytes : List ℕ) (max : ℕ) (pdu : Pdu) (f : Fault) → max ≤ 4096 → Spells bytes max pdu → FirstFault bytes max f → ⊥
 never_both bytes max pdu f small s first = named_nowhere bytes max pdu small s f first.named
 
--- the field and the cause of a rank
-field_at : ℕ → Field
-field_at n = get_or (field.Fec ∷ field.AddressList ∷ field.Label ∷ field.Status ∷ field.Hello ∷ field.Transport ∷ field.MacList ∷ field.Session ∷ field.RequestId ∷ field.PwStatus ∷ field.Point ∷ field.InfoLength ∷ field.Parameter ∷ field.Mtu ∷ field.Description ∷ field.Vlan ∷ field.Vccv ∷ []) n field.Fec
-
+-- the cause of a rank
 cause_at : ℕ → Cause
 cause_at n = if nat_lt n 4 then get_or (cause.Version ∷ cause.PduLength ∷ cause.MessageLength ∷ cause.TlvLength ∷ []) n cause.Version
     else if nat_lt n 32 then cause.TlvValue (field_at (n - 4)) else cause.Repeated (field_at (n - 32))
 
+cause_of_value : (n r : ℕ) → n ≡ 4 + r → r < 28 → cause_at n ≡ cause.TlvValue (field_at r)
+unfolding cause_at
+cause_of_value n r is below =
+    let past : nat_lt n 4 ≡ false = grind (arith, nat_tests) in
+    let under : nat_lt n 32 ≡ true = grind (arith, nat_tests) in
+    let rest : n - 4 ≡ r = omega (arith, is) in
+    rw (past, under, rest) refl
+
+cause_of_repeated : (n r : ℕ) → n ≡ 32 + r → cause_at n ≡ cause.Repeated (field_at r)
+unfolding cause_at
+cause_of_repeated n r is =
+    let past : nat_lt n 4 ≡ false = grind (arith, nat_tests) in
+    let over : nat_lt n 32 ≡ false = grind (arith, nat_tests) in
+    let rest : n - 32 ≡ r = omega (arith, is) in
+    rw (past, over, rest) refl
+
 value_again : (f : Field) → cause_at (4 + field_rank f) ≡ cause.TlvValue f
-unfolding cause_at field_at
-value_again field.Fec = refl
-value_again field.AddressList = refl
-value_again field.Label = refl
-value_again field.Status = refl
-value_again field.Hello = refl
-value_again field.Transport = refl
-value_again field.MacList = refl
-value_again field.Session = refl
-value_again field.RequestId = refl
-value_again field.PwStatus = refl
-value_again field.Point = refl
-value_again field.InfoLength = refl
-value_again field.Parameter = refl
-value_again field.Mtu = refl
-value_again field.Description = refl
-value_again field.Vlan = refl
-value_again field.Vccv = refl
+value_again f = cause_of_value (4 + field_rank f) (field_rank f) refl (omega (arith, field_rank_below f)) ∙ ap (λ (g : Field). cause.TlvValue g) (field_again f)
 
 repeated_again : (f : Field) → cause_at (32 + field_rank f) ≡ cause.Repeated f
-unfolding cause_at field_at
-repeated_again field.Fec = refl
-repeated_again field.AddressList = refl
-repeated_again field.Label = refl
-repeated_again field.Status = refl
-repeated_again field.Hello = refl
-repeated_again field.Transport = refl
-repeated_again field.MacList = refl
-repeated_again field.Session = refl
-repeated_again field.RequestId = refl
-repeated_again field.PwStatus = refl
-repeated_again field.Point = refl
-repeated_again field.InfoLength = refl
-repeated_again field.Parameter = refl
-repeated_again field.Mtu = refl
-repeated_again field.Description = refl
-repeated_again field.Vlan = refl
-repeated_again field.Vccv = refl
+repeated_again f = cause_of_repeated (32 + field_rank f) (field_rank f) refl ∙ ap (λ (g : Field). cause.Repeated g) (field_again f)
 
 cause_again : (c : Cause) → cause_at (rank c) ≡ c
-unfolding cause_at field_at
+unfolding cause_at
 cause_again cause.Version = refl
 cause_again cause.PduLength = refl
 cause_again cause.MessageLength = refl

@@ -19,9 +19,9 @@ use Rattle.ldp_grammar.specs.declared.fault.Fault.{Fault}
 use Rattle.ldp_grammar.specs.declared.cause.Cause.TheVariants as cause
 use Rattle.ldp_grammar.specs.Octets.{two_at, four_at}
 use Rattle.ldp_grammar.specs.Rows.{Row, fec}
-use Rattle.ldp_grammar.specs.Layouts.{fits, most, listed}
-use Rattle.ldp_grammar.specs.Tlvs.{Tlv, type_in, spell_tlv, IsTlv, IsJoined, count_of, StandsFirst, IsForeign, HasContent, HasValue, IsFitting, KeepsTo, MayComeAgain, IsFaultless}
-use Rattle.ldp_grammar.specs.FirstFault.{IsFirst, NamesTlvs, IsFirstTlvFault, ContentFault, fault_in, moved}
+use Rattle.ldp_grammar.specs.Layouts.{Layout, CountedOctets, FamilyAddresses, MacAddresses, FecElement, LabelNumber, PointParts, FreeOctets, fits, fits_as, layout_of, most, listed}
+use Rattle.ldp_grammar.specs.Tlvs.{Tlv, type_in, spell_tlv, IsTlv, IsJoined, count_of, StandsFirst, IsForeign, HasContentAs, HasValue, IsFitting, KeepsTo, MayComeAgain, IsFaultless}
+use Rattle.ldp_grammar.specs.FirstFault.{IsFirst, NamesTlvs, IsFirstTlvFault, ContentFaultAs, fault_in, moved}
 use Rattle.ldp_grammar.proofs.OctetLemmas.{AreOctets}
 use Rattle.ldp_grammar.proofs.ItemLemmas.{items_more}
 use Rattle.ldp_grammar.proofs.TlvLemmas.{size_of, uncut_at, short_tlv, long_tlv, repeated_tlv, misfit_tlv, content_tlv, content_inside, near_of, first_of_tlvs, faultless_more}
@@ -76,18 +76,18 @@ foreign_of body are = elim (standing_of fec body are) [
 ]
 
 -- what a value of the right Length comes to
-pub data ContentReading (body : List ℕ) (f : Field) (value : List ℕ) : Type 0 where
-  fine : HasContent body f value → ContentReading body f value
-  faulty : (fault : FieldFault) → IsFirstIn (ContentFault body f value) fault → ContentReading body f value
+pub data ContentReading (body : List ℕ) (layout : Layout) (value : List ℕ) : Type 0 where
+  fine : HasContentAs body layout value → ContentReading body layout value
+  faulty : (fault : FieldFault) → IsFirstIn (ContentFaultAs body layout value) fault → ContentReading body layout value
 
 no_label : (number : ℕ) → (number < 16) ⊎ (1048575 < number) → IsLabel number → ⊥
 no_label number (inl low) is = omega (arith, is.above, low)
 no_label number (inr high) is = omega (arith, is.below, high)
 
-label_faulty : (body value : List ℕ) → length value ≡ 4 → (IsForeign body → ⊥) → (IsLabel (four_at 0 value) → ⊥) → ContentReading body field.Label value
+label_faulty : (body value : List ℕ) → length value ≡ 4 → (IsForeign body → ⊥) → (IsLabel (four_at 0 value) → ⊥) → ContentReading body LabelNumber value
 label_faulty body value four never is_none = faulty (Value 0 field.Label) (first_alone (Value 0 field.Label) (four, never, is_none, refl) (λ g names. names.3))
 
-label_content : (body value : List ℕ) → AreOctets body → length value ≡ 4 → ContentReading body field.Label value
+label_content : (body value : List ℕ) → AreOctets body → length value ≡ 4 → ContentReading body LabelNumber value
 label_content body value are four = elim (foreign_of body are) [
   | inl foreign ↦ fine (inl foreign)
   | inr never ↦ elim (cases_lt (four_at 0 value) 16) [
@@ -99,30 +99,23 @@ label_content body value are four = elim (foreign_of body are) [
   ]
 ]
 
-pub content_reading : (body : List ℕ) (f : Field) (value : List ℕ) → AreOctets body → fits f value ≡ true → ContentReading body f value
-content_reading body field.Fec value are fit = elim (fec_reading value) [
+content_reading_as : (body : List ℕ) (layout : Layout) (value : List ℕ) → AreOctets body → fits_as layout value ≡ true → ContentReading body layout value
+content_reading_as body FecElement value are fit = elim (fec_reading value) [
   | told fec is ↦ fine (record { told = fec; is = is })
   | refused fault first ↦ faulty fault first
 ]
-content_reading body field.Label value are fit = label_content body value are (eqb-true _ _ fit)
-content_reading body field.Point value are fit = elim (point_reading value) [
+content_reading_as body LabelNumber value are fit = label_content body value are (eqb-true _ _ fit)
+content_reading_as body PointParts value are fit = elim (point_reading value) [
   | told point is ↦ fine (record { point = point; is = is })
   | refused fault first ↦ faulty fault first
 ]
-content_reading body field.AddressList value are fit = fine tt
-content_reading body field.Status value are fit = fine tt
-content_reading body field.Hello value are fit = fine tt
-content_reading body field.Transport value are fit = fine tt
-content_reading body field.MacList value are fit = fine tt
-content_reading body field.Session value are fit = fine tt
-content_reading body field.RequestId value are fit = fine tt
-content_reading body field.PwStatus value are fit = fine tt
-content_reading body field.InfoLength value are fit = fine tt
-content_reading body field.Parameter value are fit = fine tt
-content_reading body field.Mtu value are fit = fine tt
-content_reading body field.Description value are fit = fine tt
-content_reading body field.Vlan value are fit = fine tt
-content_reading body field.Vccv value are fit = fine tt
+content_reading_as body (CountedOctets count) value are fit = fine tt
+content_reading_as body FamilyAddresses value are fit = fine tt
+content_reading_as body MacAddresses value are fit = fine tt
+content_reading_as body FreeOctets value are fit = fine tt
+
+pub content_reading : (body : List ℕ) (f : Field) (value : List ℕ) → AreOctets body → fits f value ≡ true → ContentReading body (layout_of f) value
+content_reading body f value are fit = content_reading_as body (layout_of f) value are fit
 
 -- what stands behind some TLVs of a message comes to
 pub data TlvHere (row : Row) (body : List ℕ) (ts : List Tlv) (rest : List ℕ) : Type 0 where

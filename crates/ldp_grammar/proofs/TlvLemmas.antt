@@ -4,7 +4,6 @@ use Rattle.std.proofs.lemmas.Bool.{cases_Bool}
 use Rattle.std.proofs.lemmas.Grind.{flat_map-append}
 use Rattle.std.specs.List.{AllByRecursion}
 use Rattle.net_values.specs.declared.field.Field.{Field}
-use Rattle.net_values.specs.declared.field.Field.TheVariants as field
 use Rattle.pw_tlvs.specs.declared.field_fault.FieldFault.{FieldFault}
 use Rattle.pw_tlvs.specs.declared.field_fault.FieldFault.TheVariants.{Size, Value, Repeated}
 use Rattle.pw_tlvs.specs.Faults.{IsFirstIn, IsInside, PrecedesIn, fault_place}
@@ -18,9 +17,9 @@ use Rattle.ldp_grammar.specs.Octets.{two_at}
 use Rattle.ldp_grammar.specs.declared.message_kind.MessageKind.{MessageKind}
 use Rattle.ldp_grammar.specs.declared.message_kind.MessageKind.TheVariants.{Notification, Hello, Initialization, KeepAlive, Address, AddressWithdraw, LabelMapping, LabelRequest, LabelWithdraw, LabelRelease, LabelAbort}
 use Rattle.ldp_grammar.specs.Rows.{Row, row_of, is_in}
-use Rattle.ldp_grammar.specs.Layouts.{field_of, fits, most, listed}
-use Rattle.ldp_grammar.specs.Tlvs.{Tlv, type_in, spell_tlv, IsTlv, IsJoined, count_of, value_of, HasContent, HasValue, IsFitting, KeepsTo, MayComeAgain, IsFaultless, first_absent}
-use Rattle.ldp_grammar.specs.FirstFault.{TlvFault, IsTlvFault, CutsTlv, IsRepeated, ContentFault, fault_in, IsWrongContent, Precedes, NamesTlvs, IsFirst, IsFirstTlvFault, IsNamedIn, moved, rank}
+use Rattle.ldp_grammar.specs.Layouts.{Layout, CountedOctets, FamilyAddresses, MacAddresses, FecElement, LabelNumber, PointParts, FreeOctets, field_of, fits, fits_as, layout_of, most, listed}
+use Rattle.ldp_grammar.specs.Tlvs.{Tlv, type_in, spell_tlv, IsTlv, IsJoined, count_of, value_of, HasContent, HasContentAs, HasValue, IsFitting, KeepsTo, MayComeAgain, IsFaultless, first_absent}
+use Rattle.ldp_grammar.specs.FirstFault.{TlvFault, IsTlvFault, CutsTlv, IsRepeated, ContentFault, ContentFaultAs, fault_in, IsWrongContent, Precedes, NamesTlvs, IsFirst, IsFirstTlvFault, IsNamedIn, moved, rank}
 use Rattle.ldp_grammar.proofs.ItemLemmas.{AreClean, first_behind, none_named, items_more, item_at, one_list}
 use Rattle.ldp_grammar.proofs.SpellingLemmas.{tlvs_apart}
 
@@ -86,25 +85,18 @@ no_fault row body before further t rest is fitting keeps (cause.Repeated field) 
     absurd (omega (arith, full, most_of, sum, one))
 
 -- what is in order is not at fault
+content_sound_as : (body : List ℕ) (layout : Layout) (value : List ℕ) (fault : FieldFault) → HasContentAs body layout value → ContentFaultAs body layout value fault → ⊥
+content_sound_as body (CountedOctets count) value fault has names = names
+content_sound_as body FamilyAddresses value fault has names = names
+content_sound_as body MacAddresses value fault has names = names
+content_sound_as body FreeOctets value fault has names = names
+content_sound_as body FecElement value fault has names = never_fec value has.told fault has.is names
+content_sound_as body LabelNumber value fault (inl foreign) names = names.1 foreign
+content_sound_as body LabelNumber value fault (inr is) names = names.2 is
+content_sound_as body PointParts value fault has names = never_point value has.point fault has.is names
+
 content_sound : (body : List ℕ) (f : Field) (value : List ℕ) (fault : FieldFault) → HasContent body f value → ContentFault body f value fault → ⊥
-content_sound body field.Fec value fault has names = never_fec value has.told fault has.is names
-content_sound body field.AddressList value fault has names = names
-content_sound body field.Label value fault (inl foreign) names = names.1 foreign
-content_sound body field.Label value fault (inr is) names = names.2 is
-content_sound body field.Status value fault has names = names
-content_sound body field.Hello value fault has names = names
-content_sound body field.Transport value fault has names = names
-content_sound body field.MacList value fault has names = names
-content_sound body field.Session value fault has names = names
-content_sound body field.RequestId value fault has names = names
-content_sound body field.PwStatus value fault has names = names
-content_sound body field.Point value fault has names = never_point value has.point fault has.is names
-content_sound body field.InfoLength value fault has names = names
-content_sound body field.Parameter value fault has names = names
-content_sound body field.Mtu value fault has names = names
-content_sound body field.Description value fault has names = names
-content_sound body field.Vlan value fault has names = names
-content_sound body field.Vccv value fault has names = names
+content_sound body f value fault has names = content_sound_as body (layout_of f) value fault has names
 
 no_wrong : (row : Row) (body : List ℕ) (t : Tlv) (rest : List ℕ) → IsTlv t → IsFitting row body t → (f : Fault) → IsWrongContent row body (spell_tlv t ++ rest) f → ⊥
 no_wrong row body t rest is fitting f w =
@@ -260,24 +252,17 @@ misfit_first row ts rest more t field is e is_listed room (cause.TlvValue other)
     inr (sym names.0, omega (arith, ap (λ (f : Field). rank (cause.TlvValue f)) same))
 
 -- where the Length does not fit, nothing in the value is looked at
+misfit_holds_nothing_as : (body : List ℕ) (layout : Layout) (value : List ℕ) (fault : FieldFault) → fits_as layout value ≡ false → ContentFaultAs body layout value fault → ⊥
+misfit_holds_nothing_as body (CountedOctets count) value fault bad names = names
+misfit_holds_nothing_as body FamilyAddresses value fault bad names = names
+misfit_holds_nothing_as body MacAddresses value fault bad names = names
+misfit_holds_nothing_as body FreeOctets value fault bad names = names
+misfit_holds_nothing_as body FecElement value fault bad names = cc
+misfit_holds_nothing_as body LabelNumber value fault bad names = let good : fits_as LabelNumber value ≡ true = eq-eqb _ _ names.0 in cc (sym good ∙ bad)
+misfit_holds_nothing_as body PointParts value fault bad names = cc
+
 misfit_holds_nothing : (body : List ℕ) (f : Field) (value : List ℕ) (fault : FieldFault) → fits f value ≡ false → ContentFault body f value fault → ⊥
-misfit_holds_nothing body field.Fec value fault bad names = cc
-misfit_holds_nothing body field.AddressList value fault bad names = names
-misfit_holds_nothing body field.Label value fault bad names = let good : fits field.Label value ≡ true = eq-eqb _ _ names.0 in cc (sym good ∙ bad)
-misfit_holds_nothing body field.Status value fault bad names = names
-misfit_holds_nothing body field.Hello value fault bad names = names
-misfit_holds_nothing body field.Transport value fault bad names = names
-misfit_holds_nothing body field.MacList value fault bad names = names
-misfit_holds_nothing body field.Session value fault bad names = names
-misfit_holds_nothing body field.RequestId value fault bad names = names
-misfit_holds_nothing body field.PwStatus value fault bad names = names
-misfit_holds_nothing body field.Point value fault bad names = cc
-misfit_holds_nothing body field.InfoLength value fault bad names = names
-misfit_holds_nothing body field.Parameter value fault bad names = names
-misfit_holds_nothing body field.Mtu value fault bad names = names
-misfit_holds_nothing body field.Description value fault bad names = names
-misfit_holds_nothing body field.Vlan value fault bad names = names
-misfit_holds_nothing body field.Vccv value fault bad names = names
+misfit_holds_nothing body f value fault bad names = misfit_holds_nothing_as body (layout_of f) value fault bad names
 
 -- the TLV in front, and its field, that a fault of its value speaks of
 record SpeaksOf (body : List ℕ) (field : Field) (value : List ℕ) (fault : Fault) : Type 0 where
@@ -334,24 +319,17 @@ content_before row body ts rest more t field here is e is_listed room fitting fi
     subst (Precedes (fault_in field here)) (sym s.is) (in_order field here s.here (first.first s.here s.names))
 
 -- a fault of a value is within its TLV
+content_inside_as : (body : List ℕ) (layout : Layout) (value : List ℕ) (fault : FieldFault) → ContentFaultAs body layout value fault → IsInside value fault
+content_inside_as body (CountedOctets count) value fault names = absurd names
+content_inside_as body FamilyAddresses value fault names = absurd names
+content_inside_as body MacAddresses value fault names = absurd names
+content_inside_as body FreeOctets value fault names = absurd names
+content_inside_as body FecElement value fault names = fec_inside value fault names
+content_inside_as body LabelNumber value fault names = inr (omega (arith, names.0, ap fault_place names.3))
+content_inside_as body PointParts value fault names = point_inside value fault names
+
 pub content_inside : (body : List ℕ) (f : Field) (value : List ℕ) (fault : FieldFault) → ContentFault body f value fault → IsInside value fault
-content_inside body field.Fec value fault names = fec_inside value fault names
-content_inside body field.AddressList value fault names = absurd names
-content_inside body field.Label value fault names = inr (omega (arith, names.0, ap fault_place names.3))
-content_inside body field.Status value fault names = absurd names
-content_inside body field.Hello value fault names = absurd names
-content_inside body field.Transport value fault names = absurd names
-content_inside body field.MacList value fault names = absurd names
-content_inside body field.Session value fault names = absurd names
-content_inside body field.RequestId value fault names = absurd names
-content_inside body field.PwStatus value fault names = absurd names
-content_inside body field.Point value fault names = point_inside value fault names
-content_inside body field.InfoLength value fault names = absurd names
-content_inside body field.Parameter value fault names = absurd names
-content_inside body field.Mtu value fault names = absurd names
-content_inside body field.Description value fault names = absurd names
-content_inside body field.Vlan value fault names = absurd names
-content_inside body field.Vccv value fault names = absurd names
+content_inside body f value fault names = content_inside_as body (layout_of f) value fault names
 
 pub near_of : (f : Field) (value : List ℕ) (fault : FieldFault) → IsInside value fault → (fault_in f fault).place < 4 + length value
 near_of f value Size near = omega arith

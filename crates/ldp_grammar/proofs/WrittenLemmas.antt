@@ -19,7 +19,7 @@ use Rattle.ldp_grammar.specs.declared.message_kind.MessageKind.TheVariants.{Labe
 use Rattle.ldp_grammar.specs.declared.session_params.SessionParams.{SessionParams}
 use Rattle.ldp_grammar.specs.declared.status_code.StatusCode.{StatusCode}
 use Rattle.ldp_grammar.specs.Octets.{two, four, two_at, four_at, bit}
-use Rattle.ldp_grammar.specs.Layouts.{fits, most, listed}
+use Rattle.ldp_grammar.specs.Layouts.{Layout, CountedOctets, FamilyAddresses, MacAddresses, FecElement, LabelNumber, PointParts, FreeOctets, fits, layout_of, most, most_as, listed}
 use Rattle.ldp_grammar.specs.Rows.{row_of, fec, label, switching_point}
 use Rattle.ldp_grammar.specs.Tlvs.{Tlv, IsTlv, spell_tlv, type_in, count_of, values_of, first_unknown, missing, needs_pw_id, IsFitting, IsFec, KeepsTo}
 use Rattle.ldp_grammar.specs.Values.{IsStatus, IsHello, IsSession, ArePoints}
@@ -118,24 +118,17 @@ addresses_fit family octets small whole =
     rw (least, read, size) whole
 
 -- a TLV or two of different types stand once
+least_most_as : (layout : Layout) → 1 ≤ most_as layout
+least_most_as (CountedOctets count) = omega arith
+least_most_as FamilyAddresses = omega arith
+least_most_as MacAddresses = omega arith
+least_most_as FecElement = omega arith
+least_most_as LabelNumber = omega arith
+least_most_as PointParts = omega arith
+least_most_as FreeOctets = omega arith
+
 pub least_most : (f : Field) → 1 ≤ most f
-least_most field.Fec = omega arith
-least_most field.AddressList = omega arith
-least_most field.Label = omega arith
-least_most field.Status = omega arith
-least_most field.Hello = omega arith
-least_most field.Transport = omega arith
-least_most field.MacList = omega arith
-least_most field.Session = omega arith
-least_most field.RequestId = omega arith
-least_most field.PwStatus = omega arith
-least_most field.Point = omega arith
-least_most field.InfoLength = omega arith
-least_most field.Parameter = omega arith
-least_most field.Mtu = omega arith
-least_most field.Description = omega arith
-least_most field.Vlan = omega arith
-least_most field.Vccv = omega arith
+least_most f = least_most_as (layout_of f)
 
 keeps_one : (o : Option Field) (count : ℕ) → count ≤ 1 → KeepsTo o count
 keeps_one None count few = tt

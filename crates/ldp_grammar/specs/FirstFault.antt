@@ -17,7 +17,7 @@ use Rattle.ldp_grammar.specs.declared.message_kind.MessageKind.{MessageKind}
 use Rattle.ldp_grammar.specs.declared.pdu.Pdu.{Pdu}
 use Rattle.ldp_grammar.specs.Octets.{two_at, four_at}
 use Rattle.ldp_grammar.specs.Rows.{Row, kind_of, row_of}
-use Rattle.ldp_grammar.specs.Layouts.{fits, most, listed}
+use Rattle.ldp_grammar.specs.Layouts.{Layout, CountedOctets, FamilyAddresses, MacAddresses, FecElement, LabelNumber, PointParts, FreeOctets, fits, layout_of, most, listed}
 use Rattle.ldp_grammar.specs.Tlvs.{Tlv, type_in, spell_tlv, IsTlv, count_of, IsForeign}
 use Rattle.ldp_grammar.specs.Spells.{Spelling, spell_message, IsSpelling, IsFramed, Spells}
 
@@ -95,11 +95,17 @@ TlvFault row before rest other place = ⊥
 
 -- What can be wrong in a value of the right Length, in a message with these octets: what a FEC or a switching point is at
 -- fault with, or a label that is none, which is not looked at where the first FEC is no single PWid element.
+abbrev pub ContentFaultAs : List ℕ → Layout → List ℕ → FieldFault → Type 0
+ContentFaultAs body (CountedOctets count) value fault = ⊥
+ContentFaultAs body FamilyAddresses value fault = ⊥
+ContentFaultAs body MacAddresses value fault = ⊥
+ContentFaultAs body FecElement value fault = IsFecFault value fault
+ContentFaultAs body LabelNumber value fault = (length value ≡ 4) × (IsForeign body → ⊥) × (IsLabel (four_at 0 value) → ⊥) × (fault ≡ Value 0 field.Label)
+ContentFaultAs body PointParts value fault = IsPointFault value fault
+ContentFaultAs body FreeOctets value fault = ⊥
+
 abbrev pub ContentFault : List ℕ → Field → List ℕ → FieldFault → Type 0
-ContentFault body field.Fec value fault = IsFecFault value fault
-ContentFault body field.Label value fault = (length value ≡ 4) × (IsForeign body → ⊥) × (IsLabel (four_at 0 value) → ⊥) × (fault ≡ Value 0 field.Label)
-ContentFault body field.Point value fault = IsPointFault value fault
-ContentFault body other value fault = ⊥
+ContentFault body f value = ContentFaultAs body (layout_of f) value
 
 -- the fault of the value of a TLV, counted from the TLV: a wrong size is told at the Length
 abbrev pub fault_in : Field → FieldFault → Fault

@@ -22,24 +22,59 @@ field_of tlv =
     else if tlv == switching_point then Some field.Point
     else None
 
--- Whether the Length of a value fits the layout of its TLV; addresses of family 1 have four octets each. What a FEC and a
--- switching point hold tells their Length.
-abbrev pub fits : Field → List ℕ → Bool
-fits field.AddressList value = nat_le 2 (length value) && not (two_at 0 value == 1 && not ((length value - 2) % 4 == 0))
-fits field.Label value = length value == 4
-fits field.Status value = length value == 10
-fits field.Hello value = length value == 4
-fits field.Transport value = length value == 4
-fits field.MacList value = length value % 6 == 0
-fits field.Session value = length value == 14
-fits field.RequestId value = length value == 4
-fits field.PwStatus value = length value == 4
-fits other value = true
+-- how the value of a TLV is laid out: so many octets; an address family and addresses; addresses of six octets each; a FEC; a
+-- label; a switching point; or as the field does not say
+pub data Layout : Type 0 where
+  CountedOctets : ℕ → Layout
+  FamilyAddresses : Layout
+  MacAddresses : Layout
+  FecElement : Layout
+  LabelNumber : Layout
+  PointParts : Layout
+  FreeOctets : Layout
 
--- how often a TLV may stand in one message that lists it
+-- the layout of each TLV (RFC 5036 sections 3.4 and 3.5, RFC 8077 section 6.3.2, RFC 4762 section 6.2, RFC 6073 section 7.4)
+abbrev pub layout_of : Field → Layout
+layout_of field.Fec = FecElement
+layout_of field.AddressList = FamilyAddresses
+layout_of field.Label = LabelNumber
+layout_of field.Status = CountedOctets 10
+layout_of field.Hello = CountedOctets 4
+layout_of field.Transport = CountedOctets 4
+layout_of field.MacList = MacAddresses
+layout_of field.Session = CountedOctets 14
+layout_of field.RequestId = CountedOctets 4
+layout_of field.PwStatus = CountedOctets 4
+layout_of field.Point = PointParts
+layout_of other = FreeOctets
+
+-- Whether the Length of a value fits a layout; addresses of family 1 have four octets each. What a FEC and a switching point
+-- hold tells their Length.
+abbrev pub fits_as : Layout → List ℕ → Bool
+fits_as (CountedOctets count) value = length value == count
+fits_as FamilyAddresses value = nat_le 2 (length value) && not (two_at 0 value == 1 && not ((length value - 2) % 4 == 0))
+fits_as MacAddresses value = length value % 6 == 0
+fits_as FecElement value = true
+fits_as LabelNumber value = length value == 4
+fits_as PointParts value = true
+fits_as FreeOctets value = true
+
+-- the same of a TLV
+abbrev pub fits : Field → List ℕ → Bool
+fits f value = fits_as (layout_of f) value
+
+-- how often a TLV of a layout may stand in one message that lists it
+abbrev pub most_as : Layout → ℕ
+most_as (CountedOctets count) = 1
+most_as FamilyAddresses = 1
+most_as MacAddresses = 1
+most_as FecElement = 1
+most_as LabelNumber = 1
+most_as PointParts = 3
+most_as FreeOctets = 1
+
 abbrev pub most : Field → ℕ
-most field.Point = 3
-most other = 1
+most f = most_as (layout_of f)
 
 -- the TLV of a type, where the row lists it
 abbrev pub listed : Row → ℕ → Option Field

@@ -18,7 +18,7 @@ use Rattle.ldp_grammar.specs.declared.why.Why.{Why}
 use Rattle.ldp_grammar.specs.declared.why.Why.TheVariants.{UnknownTlv, Missing, UnknownFec}
 use Rattle.ldp_grammar.specs.Octets.{two, four_at, bit}
 use Rattle.ldp_grammar.specs.Rows.{Row, fec, part_of, row_of}
-use Rattle.ldp_grammar.specs.Layouts.{field_of, fits, most, listed}
+use Rattle.ldp_grammar.specs.Layouts.{Layout, CountedOctets, FamilyAddresses, MacAddresses, FecElement, LabelNumber, PointParts, FreeOctets, field_of, fits, layout_of, most, listed}
 
 -- a TLV by the word with U bit, F bit and type, and by its value
 pub record Tlv : Type 0 where
@@ -88,11 +88,17 @@ pub record IsSwitchingPoint (value : List ℕ) : Type 0 where
 
 -- What a value of the right Length holds is in order. In a message with these octets whose first FEC is no single PWid
 -- element a label is not looked at.
+abbrev pub HasContentAs : List ℕ → Layout → List ℕ → Type 0
+HasContentAs body (CountedOctets count) value = Unit {0}
+HasContentAs body FamilyAddresses value = Unit {0}
+HasContentAs body MacAddresses value = Unit {0}
+HasContentAs body FecElement value = IsFec value
+HasContentAs body LabelNumber value = IsForeign body ⊎ IsLabel (four_at 0 value)
+HasContentAs body PointParts value = IsSwitchingPoint value
+HasContentAs body FreeOctets value = Unit {0}
+
 abbrev pub HasContent : List ℕ → Field → List ℕ → Type 0
-HasContent body field.Fec value = IsFec value
-HasContent body field.Label value = IsForeign body ⊎ IsLabel (four_at 0 value)
-HasContent body field.Point value = IsSwitchingPoint value
-HasContent body other value = Unit {0}
+HasContent body f value = HasContentAs body (layout_of f) value
 
 -- a TLV that the row lists, in a message with these octets, has a value that fits
 abbrev pub HasValue : List ℕ → Option Field → List ℕ → Type 0

@@ -6,15 +6,17 @@ use Rattle.pw_tlvs.specs.declared.field_fault.FieldFault.{FieldFault}
 use Rattle.pw_tlvs.specs.declared.field_fault.FieldFault.TheVariants.{Size, Value, Repeated}
 use Rattle.pw_tlvs.specs.Faults.{field_rank, fault_place, rank_of, PrecedesIn, IsFirstIn}
 
+-- the fields in their order
 abbrev fields : List Field
 fields =
     field.Fec ∷ field.AddressList ∷ field.Label ∷ field.Status ∷ field.Hello ∷ field.Transport ∷ field.MacList ∷ field.Session ∷ field.RequestId
     ∷ field.PwStatus ∷ field.Point ∷ field.InfoLength ∷ field.Parameter ∷ field.Mtu ∷ field.Description ∷ field.Vlan ∷ field.Vccv ∷ []
 
-abbrev field_at : ℕ → Field
+-- the field of a rank
+abbrev pub field_at : ℕ → Field
 field_at rank = get_or fields rank field.Fec
 
-field_again : (f : Field) → field_at (field_rank f) ≡ f
+pub field_again : (f : Field) → field_at (field_rank f) ≡ f
 field_again field.Fec = refl
 field_again field.AddressList = refl
 field_again field.Label = refl
