@@ -139,10 +139,14 @@ impl Page {
         Ok(())
     }
 
-    // Puts a number in decimal.
+    // Puts a number in decimal. Most numbers of a report have one digit.
+    #[tactic(auto, using(std::proofs::lemmas::Fmt::decimal_digit))]
     fn put_number<K: Sink>(&mut self, sink: &mut K, number: u64) -> Result<(), Failed>
         ensures { Puts result (written (K.taken sink.old) (K.faults sink.old) self.old) (written (K.taken sink.new) (K.faults sink.new) self.new) (decimal number) }
     {
+        if number < 10 {
+            return self.put(sink, &[b'0' + number as u8]);
+        }
         let mut buffer = Buffer::new();
         self.put(sink, buffer.format(number).as_bytes())
     }
