@@ -6,7 +6,8 @@ ghost use Rattle.net_base.specs.trace.Isolated.{inner_at};
 ghost use Rattle.net_base.specs.trace.Frame.{inner as inner_of};
 ghost use Rattle.eth_encap.specs.Fault.{cause_of};
 
-use eth_encap::{FrameFault, inner};
+use crate::octets::join;
+use eth_encap::{FrameFault, inner_parts};
 use net_base::{CircuitId, CircuitPlan, NoMemory, Plan};
 use std::alloc::Global;
 
@@ -46,12 +47,8 @@ fn read_frame(
     ensures read { IfOk result (λ read. MatchResult read (λ frame. inner_of tag mtu octets.now ≡ Ok frame.items) (λ fault. inner_of tag mtu octets.now ≡ Err (cause_of fault))) }
     ensures header { IfOk result (λ read. IfOk read (λ frame. 14 ≤ length frame.items)) }
 {
-    let mut frame = Vec::from_slice(alloc, octets)?;
-    match inner(tag, mtu, octets, frame.as_mut_slice()) {
-        Ok(count) => {
-            frame.truncate(count);
-            Ok(Ok(frame))
-        }
+    match inner_parts(tag, mtu, octets) {
+        Ok((front, back)) => Ok(Ok(join(alloc, front, back)?.into_items())),
         Err(fault) => Ok(Err(fault)),
     }
 }

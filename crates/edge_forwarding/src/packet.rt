@@ -6,7 +6,7 @@ ghost use Rattle.edge_model.specs.Packet.{behind_entry};
 ghost use Rattle.edge_model.specs.Send.{packet_of, pushed_vlan};
 
 use crate::octets::{join, split_addresses};
-use eth_encap::{FrameFault, pack, unpack};
+use eth_encap::{FrameFault, pack, unpacked_parts};
 use net_base::{NoMemory, Octets, Offer};
 use pw_signalling::Binding;
 use std::alloc::Global;
@@ -68,18 +68,8 @@ pub fn read_payload(
 ) -> Result<Result<Vec<u8>, FrameFault>, NoMemory>
     ensures { IfOk result (λ read. MatchResult read (λ frame. unpacked offer.now.cword offer.now.tagged mtu payload.now ≡ Ok frame.items) (λ fault. unpacked offer.now.cword offer.now.tagged mtu payload.now ≡ Err (cause_of fault))) }
 {
-    let mut frame = Vec::from_slice(alloc, payload)?;
-    match unpack(
-        offer.cword,
-        offer.tagged,
-        mtu,
-        payload,
-        frame.as_mut_slice(),
-    ) {
-        Ok(count) => {
-            frame.truncate(count);
-            Ok(Ok(frame))
-        }
+    match unpacked_parts(offer.cword, offer.tagged, mtu, payload) {
+        Ok((front, back)) => Ok(Ok(join(alloc, front, back)?.into_items())),
         Err(fault) => Ok(Err(fault)),
     }
 }

@@ -15,6 +15,7 @@ const HEADER: usize = 14;
 fn around_tag(tag: u16, frame: &[u8]) -> Result<(&[u8], &[u8]), FrameFault>
     requires { 14 ≤ length frame.now }
     ensures ok { IfOk result (λ parts. untagged (Some tag) frame.now ≡ Ok (parts.0.now ++ parts.1.now)) }
+    ensures least { IfOk result (λ parts. 14 ≤ length parts.0.now + length parts.1.now) }
     ensures fits { IfOk result (λ parts. length parts.0.now + length parts.1.now ≤ length frame.now) }
     ensures fault { IfErr result (λ fault. untagged (Some tag) frame.now ≡ Err (cause_of fault)) }
 {
@@ -30,10 +31,11 @@ fn around_tag(tag: u16, frame: &[u8]) -> Result<(&[u8], &[u8]), FrameFault>
     Ok((frame.split_at(12).0, frame.split_at(16).1))
 }
 
-// The parts of the frame that its inner frame joins.
-fn inner_parts(tag: Option<u16>, frame: &[u8]) -> Result<(&[u8], &[u8]), FrameFault>
+// The parts of the frame that join to it without its tag.
+fn untagged_parts(tag: Option<u16>, frame: &[u8]) -> Result<(&[u8], &[u8]), FrameFault>
     requires { 14 ≤ length frame.now }
     ensures ok { IfOk result (λ parts. untagged tag frame.now ≡ Ok (parts.0.now ++ parts.1.now)) }
+    ensures least { IfOk result (λ parts. 14 ≤ length parts.0.now + length parts.1.now) }
     ensures fits { IfOk result (λ parts. length parts.0.now + length parts.1.now ≤ length frame.now) }
     ensures fault { IfErr result (λ fault. untagged tag frame.now ≡ Err (cause_of fault)) }
 {
@@ -44,11 +46,30 @@ fn inner_parts(tag: Option<u16>, frame: &[u8]) -> Result<(&[u8], &[u8]), FrameFa
 }
 
 /// The inner frame of what enters at a circuit: the frame without the circuit's tag, where it has one (RFC
-/// 4762 section 7.1). Writes it to the front of `out`, which is as long as the frame or longer, and answers
-/// its length in octets. The `mtu` counts the octets behind a header, and leaves room for one tag of the
-/// customer's own. The first fault that holds is answered, and then nothing was written: `Short` for fewer
-/// octets than a header, or than a header and the circuit's tag, `NoTag` where that tag is missing,
-/// `WrongTag` where it has another VLAN ID, and `Long` for an inner frame of more than `mtu` and 18 octets.
+/// 4762 section 7.1). Answers two parts of the frame that join to it, so that nothing is copied; without a tag
+/// the first is all of it, and the second nothing. The `mtu` counts the octets behind a header, and leaves room
+/// for one tag of the customer's own. The first fault that holds is answered: `Short` for fewer octets than a
+/// header, or than a header and the circuit's tag, `NoTag` where that tag is missing, `WrongTag` where it has
+/// another VLAN ID, and `Long` for an inner frame of more than `mtu` and 18 octets.
+pub fn inner_parts(tag: Option<u16>, mtu: u16, frame: &[u8]) -> Result<(&[u8], &[u8]), FrameFault>
+    ensures ok { IfOk result (λ parts. inner_of tag mtu frame.now ≡ Ok (parts.0.now ++ parts.1.now)) }
+    ensures least { IfOk result (λ parts. 14 ≤ length parts.0.now + length parts.1.now) }
+    ensures fits { IfOk result (λ parts. length parts.0.now + length parts.1.now ≤ length frame.now) }
+    ensures fault { IfErr result (λ fault. inner_of tag mtu frame.now ≡ Err (cause_of fault)) }
+{
+    if frame.len() < HEADER {
+        return Err(FrameFault::Short);
+    }
+    let (front, back) = untagged_parts(tag, frame)?;
+    if front.len() + back.len() > mtu as usize + HEADER + 4 {
+        return Err(FrameFault::Long);
+    }
+    Ok((front, back))
+}
+
+/// The inner frame of what enters at a circuit, in one piece. Writes it to the front of `out`, which is as long
+/// as the frame or longer, and answers its length in octets. The faults are those of `inner_parts`, and with a
+/// fault nothing was written.
 pub fn inner(tag: Option<u16>, mtu: u16, frame: &[u8], out: &mut [u8]) -> Result<usize, FrameFault>
     requires { length frame.now ≤ length out.old }
     ensures ok { IfOk result (λ count. inner_of tag mtu frame.now ≡ Ok (take count out.new)) }
@@ -57,12 +78,8 @@ pub fn inner(tag: Option<u16>, mtu: u16, frame: &[u8], out: &mut [u8]) -> Result
     ensures fault { IfErr result (λ fault. inner_of tag mtu frame.now ≡ Err (cause_of fault)) }
     ensures unchanged { OnErr result (out.new ≡ out.old) }
 {
-    if frame.len() < HEADER {
-        return Err(FrameFault::Short);
+    match inner_parts(tag, mtu, frame) {
+        Ok((front, back)) => Ok(join(front, back, out)),
+        Err(fault) => Err(fault),
     }
-    let (front, back) = inner_parts(tag, frame)?;
-    if front.len() + back.len() > mtu as usize + HEADER + 4 {
-        return Err(FrameFault::Long);
-    }
-    Ok(join(front, back, out))
 }

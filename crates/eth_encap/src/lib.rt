@@ -14,10 +14,10 @@ mod stack_entry;
 mod tag;
 mod unpacking;
 
-pub use entering::inner;
+pub use entering::{inner, inner_parts};
 pub use frame_fault::FrameFault;
 pub use laws::packed_is_unpacked;
 pub use leaving::dress;
 pub use packing::pack;
 pub use stack_entry::StackEntry;
-pub use unpacking::{read_entry, unpack};
+pub use unpacking::{read_entry, unpack, unpacked_parts};

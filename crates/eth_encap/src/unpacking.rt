@@ -37,12 +37,37 @@ fn entry_in(number: u32) -> StackEntry
 }
 
 /// The inner frame of what stands behind the label stack of a packet (RFC 4448 section 4): without the control word where the
-/// wire has one, and without the tag of tagged mode, whatever its VLAN ID. Writes it to the front of `out`, which is as long as
-/// the payload or longer, and answers its length in octets. The `mtu` counts the octets behind a header, and leaves room for
-/// one tag of the customer's own. The first fault that holds is answered, and then nothing was written: with control word
-/// `Short` for fewer octets than that, and `BadNibble` where its first nibble is not 0; then `Short` for fewer octets than a
-/// header; in tagged mode `NoTag` where there is no tag, and `Short` for fewer octets than a header and a tag; and `Long` for an
-/// inner frame of more than `mtu` and 18 octets.
+/// wire has one, and without the tag of tagged mode, whatever its VLAN ID. Answers two parts of the payload that join to it, so that
+/// nothing is copied; in raw mode the first is all of it, and the second nothing. The `mtu` counts the octets behind a header, and
+/// leaves room for one tag of the customer's own. The first fault that holds is answered: with control word `Short` for fewer
+/// octets than that, and `BadNibble` where its first nibble is not 0; then `Short` for fewer octets than a header; in tagged mode
+/// `NoTag` where there is no tag, and `Short` for fewer octets than a header and a tag; and `Long` for an inner frame of more than
+/// `mtu` and 18 octets.
+pub fn unpacked_parts(
+    cword: bool,
+    tagged: bool,
+    mtu: u16,
+    payload: &[u8],
+) -> Result<(&[u8], &[u8]), FrameFault>
+    ensures ok { IfOk result (λ parts. unpacked cword tagged mtu payload.now ≡ Ok (parts.0.now ++ parts.1.now)) }
+    ensures least { IfOk result (λ parts. 14 ≤ length parts.0.now + length parts.1.now) }
+    ensures fits { IfOk result (λ parts. length parts.0.now + length parts.1.now ≤ length payload.now) }
+    ensures fault { IfErr result (λ fault. unpacked cword tagged mtu payload.now ≡ Err (cause_of fault)) }
+{
+    let frame = frame_behind(cword, payload)?;
+    if frame.len() < 14 {
+        return Err(FrameFault::Short);
+    }
+    let (front, back) = frame_parts(tagged, frame)?;
+    if front.len() + back.len() > mtu as usize + 18 {
+        return Err(FrameFault::Long);
+    }
+    Ok((front, back))
+}
+
+/// The inner frame of what stands behind the label stack of a packet, in one piece. Writes it to the front of `out`, which is as
+/// long as the payload or longer, and answers its length in octets. The faults are those of `unpacked_parts`, and with a fault
+/// nothing was written.
 pub fn unpack(
     cword: bool,
     tagged: bool,
@@ -57,15 +82,10 @@ pub fn unpack(
     ensures fault { IfErr result (λ fault. unpacked cword tagged mtu payload.now ≡ Err (cause_of fault)) }
     ensures unchanged { OnErr result (out.new ≡ out.old) }
 {
-    let frame = frame_behind(cword, payload)?;
-    if frame.len() < 14 {
-        return Err(FrameFault::Short);
+    match unpacked_parts(cword, tagged, mtu, payload) {
+        Ok((front, back)) => Ok(join(front, back, out)),
+        Err(fault) => Err(fault),
     }
-    let (front, back) = frame_parts(tagged, frame)?;
-    if front.len() + back.len() > mtu as usize + 18 {
-        return Err(FrameFault::Long);
-    }
-    Ok(join(front, back, out))
 }
 
 // What stands behind the control word, where there is one.
@@ -90,6 +110,7 @@ fn frame_behind(cword: bool, payload: &[u8]) -> Result<&[u8], FrameFault>
 fn frame_parts(tagged: bool, frame: &[u8]) -> Result<(&[u8], &[u8]), FrameFault>
     requires { 14 ≤ length frame.now }
     ensures ok { IfOk result (λ parts. without_tag tagged frame.now ≡ Ok (parts.0.now ++ parts.1.now)) }
+    ensures least { IfOk result (λ parts. 14 ≤ length parts.0.now + length parts.1.now) }
     ensures fits { IfOk result (λ parts. length parts.0.now + length parts.1.now ≤ length frame.now) }
     ensures fault { IfErr result (λ fault. without_tag tagged frame.now ≡ Err (cause_of fault)) }
 {
