@@ -11,5 +11,6 @@ mod tagged;
 
 pub use forwarding::Forwarding;
 pub use inner_frame::read_inner;
+pub use octets::join;
 pub use packet::{packet_of, read_payload, without_entry};
 pub use tagged::dressed;

@@ -1,5 +1,5 @@
 //! Packets of pseudowires: a frame as a terminal edge sends it, and as one reads it (RFC 4448 section 4).
-ghost use Rattle.std.specs.Prelude.{◌≡◌, ◌≤◌, Ok, Err, length, IfOk, MatchResult};
+ghost use Rattle.std.specs.Prelude.{◌≡◌, ◌≤◌, ◌+◌, ◌++◌, Ok, Err, length, IfOk, MatchResult};
 ghost use Rattle.eth_encap.specs.Fault.{cause_of};
 ghost use Rattle.eth_encap.specs.Packet.{unpacked};
 ghost use Rattle.edge_model.specs.Packet.{behind_entry};
@@ -59,17 +59,15 @@ pub fn without_entry(octets: &[u8]) -> &[u8]
     octets.split_at(4).1
 }
 
-/// The inner frame of a payload as a terminal edge with this offer reads it, or its first fault.
-pub fn read_payload(
-    alloc: Global,
+/// The inner frame of a payload as a terminal edge with this offer reads it, or its first fault. Answers two parts of the payload
+/// that join to it, so that nothing is copied; in raw mode the first is all of it, and the second nothing.
+pub fn read_payload<'a>(
     offer: &Offer,
     mtu: u16,
-    payload: &[u8],
-) -> Result<Result<Vec<u8>, FrameFault>, NoMemory>
-    ensures { IfOk result (λ read. MatchResult read (λ frame. unpacked offer.now.cword offer.now.tagged mtu payload.now ≡ Ok frame.items) (λ fault. unpacked offer.now.cword offer.now.tagged mtu payload.now ≡ Err (cause_of fault))) }
+    payload: &'a [u8],
+) -> Result<(&'a [u8], &'a [u8]), FrameFault>
+    ensures read { MatchResult result (λ parts. unpacked offer.now.cword offer.now.tagged mtu payload.now ≡ Ok (parts.0.now ++ parts.1.now)) (λ fault. unpacked offer.now.cword offer.now.tagged mtu payload.now ≡ Err (cause_of fault)) }
+    ensures header { IfOk result (λ parts. 14 ≤ length parts.0.now + length parts.1.now) }
 {
-    match unpacked_parts(offer.cword, offer.tagged, mtu, payload) {
-        Ok((front, back)) => Ok(Ok(join(alloc, front, back)?.into_items())),
-        Err(fault) => Ok(Err(fault)),
-    }
+    unpacked_parts(offer.cword, offer.tagged, mtu, payload)
 }

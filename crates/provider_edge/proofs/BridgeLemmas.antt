@@ -1,5 +1,7 @@
 -- An inner frame is bridged, step by step.
-use Rattle.std.proofs.Common.{◌≡◌, ◌++◌, ◌∷◌, ◌∙◌, [], ℕ, Bool, true, false, cond, List, Option, Some, None, Result, Ok, Err, refl, ap, sym, subst}
+use Rattle.std.proofs.Common.{◌≡◌, ◌==◌, ◌++◌, ◌∷◌, ◌∙◌, [], ℕ, Bool, true, false, cond, List, length, Option, Some, None, Result, Ok, Err, refl, ap, sym, subst}
+use Rattle.std.proofs.lemmas.List.{append-nil, nil_from_length}
+use Rattle.std.proofs.lemmas.Bool.{eqb-true}
 use Rattle.net_base.specs.declared.outside.link_call.LinkCall.{LinkCall}
 use Rattle.net_base.specs.declared.plan.Plan.{Plan}
 use Rattle.net_base.specs.declared.plan.offer.Offer.{Offer}
@@ -185,6 +187,16 @@ pub received_ok : (plan : Plan) (told : Answers) (came : Arrival) (service : Ser
     → x ≡ forwarded plan told came service slice port work → x ≡ received plan told came service port formed work
 received_ok plan told came service port formed frame slice work x is same heard =
     heard ∙ (ap (λ (l : List ℕ). forwarded plan told came service l port work) same ∙ ap (λ (r : Result (List ℕ) DropCause). received plan told came service port r work) (sym is))
+
+-- it was read as one part
+one_part : (front back : List ℕ) → (length back == 0) ≡ true → front ≡ front ++ back
+one_part front back none =
+    sym (ap (λ (l : List ℕ). front ++ l) (nil_from_length back (eqb-true (length back) 0 none)) ∙ append-nil front)
+
+pub received_whole : (plan : Plan) (told : Answers) (came : Arrival) (service : ServiceId) (port : Option ℕ) (formed : Result (List ℕ) DropCause) (front back : List ℕ) (work x : Work) → formed ≡ Ok (front ++ back) → (length back == 0) ≡ true
+    → x ≡ forwarded plan told came service front port work → x ≡ received plan told came service port formed work
+received_whole plan told came service port formed front back work x is none heard =
+    received_ok plan told came service port formed (front ++ back) front work x is (one_part front back none) heard
 
 pub received_err : (plan : Plan) (told : Answers) (came : Arrival) (service : ServiceId) (port : Option ℕ) (formed : Result (List ℕ) DropCause) (why : DropCause) (edge : EdgeState) (calls : List LinkCall) (out given : List Effect) → formed ≡ Err why
     → given ≡ out ++ Dropped why ∷ [] → at_edge edge calls given ≡ received plan told came service port formed (at_edge edge calls out)

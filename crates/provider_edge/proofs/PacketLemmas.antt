@@ -1,9 +1,7 @@
 -- A packet comes from a neighbour, exit by exit.
-use Rattle.std.proofs.Common.{◌&&◌, ◌≡◌, ◌<◌, ◌≤◌, ◌+◌, ◌++◌, ◌∷◌, ◌∙◌, ◌==◌, [], ℕ, zero, suc, Bool, true, false, cond, not, nat_lt, is_some, List, Option, Some, None, Result, Ok, Err, drop, take, nat_eq, length, option_map, position, slice_get, refl, ap, sym, subst, arith}
+use Rattle.std.proofs.Common.{◌&&◌, ◌≡◌, ◌<◌, ◌≤◌, ◌++◌, ◌∷◌, ◌∙◌, ◌==◌, [], ℕ, zero, suc, Bool, true, false, cond, not, nat_lt, is_some, List, Option, Some, None, Result, Ok, Err, length, option_map, position, slice_get, refl, ap, sym, subst, arith}
 use Rattle.std.specs.List.{find}
-use Rattle.std.specs.Prelude.{IfOk, MatchResult}
 use Rattle.std.proofs.lemmas.Bool.Decides.{nat_tests}
-use Rattle.std.proofs.lemmas.List.{length-append, length-drop, length-take-le}
 use Rattle.net_base.specs.declared.outside.link_call.LinkCall.{LinkCall}
 use Rattle.net_base.specs.declared.plan.Plan.{Plan}
 use Rattle.net_base.specs.declared.plan.offer.Offer.{Offer}
@@ -16,11 +14,8 @@ use Rattle.net_base.specs.declared.trace.drop_cause.DropCause.{DropCause}
 use Rattle.net_base.specs.declared.trace.drop_cause.DropCause.TheVariants as cause
 use Rattle.net_base.specs.plan.Paths.{offer_of}
 use Rattle.net_base.specs.plan.Places.{mtu_of, wire_row}
-use Rattle.eth_encap.specs.declared.frame_fault.FrameFault.{FrameFault}
-use Rattle.eth_encap.specs.Fault.{cause_of}
 use Rattle.eth_encap.specs.declared.stack_entry.StackEntry.{StackEntry}
-use Rattle.eth_encap.specs.Packet.{behind_control, entry_of, frame_behind, frame_in, unpacked, without_tag}
-use Rattle.net_base.specs.trace.Frame.{of_size, pair_at, tag_protocol}
+use Rattle.eth_encap.specs.Packet.{entry_of, unpacked}
 use Rattle.hvpls_spokes.specs.Port.{is_wire_port, ports_of}
 use Rattle.pw_signalling.specs.declared.binding.Binding.{Binding}
 use Rattle.edge_model.specs.declared.effect.Effect.{Effect}
@@ -339,54 +334,3 @@ pub read_by : (plan : Plan) (row : WirePlan) (me : EdgeId) (offer : Offer) (serv
 read_by plan row me offer service mtu payload offers of known =
     ap (λ (o : Offer). unpacked o.cword o.tagged mtu payload) offers
     ∙ ap (λ (m : Option ℕ). unpacked_by (offer_of row me.0) m payload) (sym (sym (ap (mtu_of plan) of) ∙ known))
-
--- ---- a frame that was read has a header
-
-of_size_is : (mtu : ℕ) (read : Result (List ℕ) DropCause) (frame : List ℕ) → of_size mtu read ≡ Ok frame → read ≡ Ok frame
-of_size_is mtu (Err why) frame is = is
-of_size_is mtu (Ok inner) frame is = by (nat_lt (mtu + 18) (length inner)) is where
-  within : Result (List ℕ) DropCause
-  within = Ok inner
-
-  by : (b : Bool) → cond b (Err cause.Long) within ≡ Ok frame → within ≡ Ok frame
-  by true is = absurd (cc (is))
-  by false is = is
-
-not_less : (n least : ℕ) → nat_lt n least ≡ false → least ≤ n
-not_less n least is = grind (arith, nat_tests, is)
-
-long_parts : (rest : List ℕ) → 18 ≤ length rest → 14 ≤ length (take 12 rest ++ drop 16 rest)
-long_parts rest long =
-    let front : length (take 12 rest) ≡ 12 = length-take-le 12 rest (omega (arith, long)) in
-    omega (arith, length-append (take 12 rest) (drop 16 rest), front, length-drop 16 rest, long)
-
-inner_long : (tagged : Bool) (rest frame : List ℕ) → 14 ≤ length rest → without_tag tagged rest ≡ Ok frame → 14 ≤ length frame
-inner_long false rest frame long is =
-    let same : rest ≡ frame = cc (is) in
-    subst (λ (l : List ℕ). 14 ≤ length l) same long
-inner_long true rest frame long is = by (not (nat_eq (pair_at rest 12) tag_protocol)) (nat_lt (length rest) 18) refl is where
-  by : (other short : Bool) → nat_lt (length rest) 18 ≡ short → cond other (Err cause.NoTag) (cond short (Err cause.Short) (Ok (take 12 rest ++ drop 16 rest))) ≡ Ok frame → 14 ≤ length frame
-  by true short less is = absurd (cc (is))
-  by false true less is = absurd (cc (is))
-  by false false less is =
-      let same : take 12 rest ++ drop 16 rest ≡ frame = cc (is) in
-      subst (λ (l : List ℕ). 14 ≤ length l) same (long_parts rest (not_less (length rest) 18 less))
-
-in_long : (tagged : Bool) (mtu : ℕ) (rest frame : List ℕ) → frame_in tagged mtu rest ≡ Ok frame → 14 ≤ length frame
-in_long tagged mtu rest frame is = by (nat_lt (length rest) 14) refl is where
-  by : (short : Bool) → nat_lt (length rest) 14 ≡ short → cond short (Err cause.Short) (of_size mtu (without_tag tagged rest)) ≡ Ok frame → 14 ≤ length frame
-  by true less is = absurd (cc (is))
-  by false less is = inner_long tagged rest frame (not_less (length rest) 14 less) (of_size_is mtu (without_tag tagged rest) frame is)
-
-pub unpacked_long : (cword tagged : Bool) (mtu : ℕ) (payload frame : List ℕ) → unpacked cword tagged mtu payload ≡ Ok frame → 14 ≤ length frame
-unpacked_long cword tagged mtu payload frame is = by (behind_control cword payload) is where
-  by : (rest : Result (List ℕ) DropCause) → frame_behind tagged mtu rest ≡ Ok frame → 14 ≤ length frame
-  by (Ok rest) is = in_long tagged mtu rest frame is
-  by (Err why) is = absurd (cc (is))
-
--- what was read has a header
-pub header_of : {V : Type 0} (items : V → List ℕ) (cword tagged : Bool) (mtu : ℕ) (payload : List ℕ) (read : Result V FrameFault)
-    → MatchResult read (λ frame. unpacked cword tagged mtu payload ≡ Ok (items frame)) (λ fault. unpacked cword tagged mtu payload ≡ Err (cause_of fault))
-    → IfOk read (λ frame. 14 ≤ length (items frame))
-header_of items cword tagged mtu payload (Ok frame) is = unpacked_long cword tagged mtu payload (items frame) is
-header_of items cword tagged mtu payload (Err fault) is = tt

@@ -1,5 +1,5 @@
 //! An inner frame is bridged: copies of it leave at circuits and are sent on wires (RFC 4762 sections 4.1, 4.4 and 7.1).
-ghost use Rattle.std.specs.Prelude.{◌≡◌, ◌≤◌, ◌<◌, ◌++◌, ◌∷◌, [], ℕ, List, Result, None, Ok, Err, true, length, slice_get, if◌then◌else◌, IfOk, IfSome, OnOk, MatchResult};
+ghost use Rattle.std.specs.Prelude.{◌≡◌, ◌≤◌, ◌<◌, ◌+◌, ◌++◌, ◌∷◌, [], ℕ, List, Result, None, Ok, Err, true, length, slice_get, if◌then◌else◌, IfOk, IfSome, OnOk, MatchResult};
 ghost use Rattle.net_base.specs.declared.trace.drop_cause.DropCause.{DropCause as Cause};
 ghost use Rattle.net_base.specs.plan.Places.{wire_row};
 ghost use Rattle.net_base.specs.trace.Frame.{dress};
@@ -8,7 +8,7 @@ ghost use Rattle.hvpls_spokes.specs.Port.{ports_of};
 ghost use Rattle.hvpls_spokes.specs.PortSet.{has};
 ghost use Rattle.edge_model.specs.declared.effect.Effect.TheVariants.{Left};
 ghost use Rattle.edge_model.specs.Ends.{wire_end};
-ghost use Rattle.edge_model.specs.Frame.{copies, copy_by, hearing, received, tag_of, targets_of};
+ghost use Rattle.edge_model.specs.Frame.{copies, copy_by, forwarded, hearing, received, tag_of, targets_of};
 ghost use Rattle.edge_model.specs.Send.{sends, sends_copy, sends_under};
 ghost use Rattle.edge_model.specs.Synced.{InSync};
 ghost use Rattle.edge_model.specs.Work.{Agrees, Answers, GoesOn};
@@ -23,7 +23,7 @@ use crate::Edge;
 use crate::egress::Egress;
 use crate::ingress::Ingress;
 use crate::quiet::drop_for;
-use edge_forwarding::{dressed, packet_of};
+use edge_forwarding::{dressed, join, packet_of};
 use edge_model::Effect;
 use eth_encap::FrameFault;
 use hvpls_spokes::{Port, PortSet, Ports};
@@ -35,37 +35,59 @@ use peer_dialogue::AtWork;
 use std::alloc::Global;
 
 impl Edge {
-    // What came by a port of a service, and was read: what has a fault is dropped, and teaches nothing. An inner frame is heard by
-    // the bridge of the service, and then its copies go out.
+    // What came by a port of a service, and was read as parts that join to its inner frame: what has a fault is dropped, and teaches
+    // nothing. An inner frame of one part is not copied.
     pub(crate) fn bridge_frame<L: Link>(
         &mut self,
         ingress: Ingress,
-        read: Result<Vec<u8>, FrameFault>,
+        read: Result<(&[u8], &[u8]), FrameFault>,
         work: &mut AtWork<'_, L>,
     ) -> Result<(), NoMemory>
         requires working { self.old.stopped ≡ true }
         requires service { ingress.service.0 < length self.old.plan.services }
         requires synced { InSync self.old.plan (seen self.old) }
         requires on { IfSome ingress.port (λ p. open_ports self.old.forwarding ingress.service p ≡ true) }
-        requires header { IfOk read (λ frame. 14 ≤ length frame.items) }
+        requires header { IfOk read (λ parts. 14 ≤ length parts.0.now + length parts.1.now) }
         ensures goes { Works L.calls self.old work.old self.new work.new }
         ensures step { OnOk result ((told : Answers) (formed : Result (List ℕ) Cause) → Agrees told (L.calls work.new.link.now)
-            → MatchResult read (λ frame. formed ≡ Ok frame.items) (λ fault. formed ≡ Err (cause_of fault))
+            → MatchResult read.entry (λ parts. formed ≡ Ok (parts.0.now ++ parts.1.now)) (λ fault. formed ≡ Err (cause_of fault))
             → at_work L.calls self.new work.new ≡ received self.old.plan told ingress.came ingress.service ingress.port formed (at_work L.calls self.old work.old)) }
     {
-        let frame = match read {
-            Ok(frame) => frame,
+        let (front, back) = match read {
+            Ok(parts) => parts,
             Err(fault) => return drop_for(fault.cause(), &mut work.effects.list),
         };
+        if back.is_empty() {
+            return self.bridge_octets(ingress, front, work);
+        }
+        let frame = join(work.alloc, front, back)?;
+        self.bridge_octets(ingress, frame.as_slice(), work)
+    }
+
+    // An inner frame came by a port of a service: it is heard by the bridge of the service, and then its copies go out.
+    fn bridge_octets<L: Link>(
+        &mut self,
+        ingress: Ingress,
+        frame: &[u8],
+        work: &mut AtWork<'_, L>,
+    ) -> Result<(), NoMemory>
+        requires working { self.old.stopped ≡ true }
+        requires service { ingress.service.0 < length self.old.plan.services }
+        requires synced { InSync self.old.plan (seen self.old) }
+        requires on { IfSome ingress.port (λ p. open_ports self.old.forwarding ingress.service p ≡ true) }
+        requires header { 14 ≤ length frame.now }
+        ensures goes { Works L.calls self.old work.old self.new work.new }
+        ensures step { OnOk result ((told : Answers) → Agrees told (L.calls work.new.link.now)
+            → at_work L.calls self.new work.new ≡ forwarded self.old.plan told ingress.came ingress.service frame.now ingress.port (at_work L.calls self.old work.old)) }
+    {
         let Some(arrival) = ingress.port else {
             return Ok(());
         };
-        let octets = frame.as_slice();
-        let targets = self.hear_frame(arrival, ingress.service, octets);
+        let targets = self.hear_frame(arrival, ingress.service, frame);
         let egress = Egress {
             came: ingress.came,
             targets: &targets,
-            frame: octets,
+            frame,
         };
         self.put_copies(ingress.service, &egress, work)
     }

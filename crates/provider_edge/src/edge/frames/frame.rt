@@ -39,7 +39,7 @@ impl Edge {
             work.effects.idle = true;
             return Ok(());
         }
-        let read = read_inner(work.alloc, &self.plan, circuit, octets)?;
+        let read = read_inner(&self.plan, circuit, octets);
         let port = self.port_of(circuit, service);
         let ingress = Ingress {
             came: Arrival::Circuit(circuit),

@@ -1,6 +1,6 @@
 //! A packet comes from a neighbour (RFC 3032 section 2.1, RFC 4448 section 4, RFC 5085 section 5): the first step that applies
 //! decides.
-ghost use Rattle.std.specs.Prelude.{◌≡◌, ◌==◌, ◌&&◌, ◌≤◌, ◌<◌, Some, Ok, Err, true, length, option_map, position, is_some, IfOk, IfSome, OnOk, MatchResult};
+ghost use Rattle.std.specs.Prelude.{◌≡◌, ◌==◌, ◌&&◌, ◌≤◌, ◌<◌, ◌+◌, ◌++◌, Some, Ok, Err, true, length, option_map, position, is_some, IfOk, IfSome, OnOk, MatchResult};
 ghost use Rattle.net_base.specs.declared.plan.wire_plan.WirePlan.{WirePlan};
 ghost use Rattle.net_base.specs.plan.Paths.{offer_of};
 ghost use Rattle.net_base.specs.plan.Places.{mtu_of, wire_row};
@@ -29,7 +29,6 @@ use edge_forwarding::{read_payload, without_entry};
 use eth_encap::{FrameFault, StackEntry, read_entry};
 use net_base::{Arrival, DropCause, Link, NoMemory, Offer, ServiceId};
 use peer_dialogue::AtWork;
-use std::alloc::Global;
 use vccv_channel::Cc;
 
 // The label of a router alert (RFC 3032 section 2.1).
@@ -251,7 +250,7 @@ impl Edge {
         let place = self.place_at(slot);
         let service = self.service_at(slot);
         let port = self.port_at(slot, service);
-        let read = self.read_frame(work.alloc, slot, payload)?;
+        let read = self.read_frame(slot, payload);
         let ingress = Ingress {
             came: Arrival::Wire(place.wire),
             service,
@@ -285,21 +284,20 @@ impl Edge {
         self.forwarding.port_of_wire(place.wire, service)
     }
 
-    // The inner frame of what came by the end of a slot, by the edge's own offer.
-    fn read_frame(
+    // The parts that join to the inner frame of what came by the end of a slot, by the edge's own offer.
+    fn read_frame<'a>(
         &self,
-        alloc: Global,
         slot: usize,
-        payload: &[u8],
-    ) -> Result<Result<Vec<u8>, FrameFault>, NoMemory>
+        payload: &'a [u8],
+    ) -> Result<(&'a [u8], &'a [u8]), FrameFault>
         requires { slot < length self.now.ends.places }
-        ensures read { IfOk result (λ read. (row : WirePlan) → wire_row self.now.plan (place_of self.now.ends slot).wire ≡ Some row
-            → MatchResult read (λ frame. unpacked_at self.now.plan row self.now.me payload.now ≡ Ok frame.items) (λ fault. unpacked_at self.now.plan row self.now.me payload.now ≡ Err (cause_of fault))) }
-        ensures header { IfOk result (λ read. IfOk read (λ frame. 14 ≤ length frame.items)) }
+        ensures read { (row : WirePlan) → wire_row self.now.plan (place_of self.now.ends slot).wire ≡ Some row
+            → MatchResult result (λ parts. unpacked_at self.now.plan row self.now.me payload.now ≡ Ok (parts.0.now ++ parts.1.now)) (λ fault. unpacked_at self.now.plan row self.now.me payload.now ≡ Err (cause_of fault)) }
+        ensures header { IfOk result (λ parts. 14 ≤ length parts.0.now + length parts.1.now) }
     {
         let offer = self.offer_at(slot);
         let mtu = self.mtu_of(self.service_at(slot));
-        read_payload(alloc, &offer, mtu, payload)
+        read_payload(&offer, mtu, payload)
     }
 
     // The MTU of a service.

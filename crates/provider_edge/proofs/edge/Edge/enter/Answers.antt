@@ -17,5 +17,5 @@ returns-clause-step g c = map_on _ _ c.bridge_frame.result
     (λ step. λ told row agrees at.
     enters_here c.args.self.now told row c.args.slot c.args.payload.now c.down_of.result (g.L.Link.calls c.args.work.now.link.now) c.args.work.now.effects.now.list _ c.down_of.ensures (sym c.is_some.ensures ∙ c.if-is_some.false)
     (bridged_payload c.args.self.now told row c.args.slot c.place_at-place.result c.service_at-service.result c.port_at-port.result c.args.payload.now (g.L.Link.calls c.args.work.now.link.now) c.args.work.now.effects.now.list _ c.place_at-place.ensures.place (c.service_at-service.ensures.row row at) c.port_at-port.ensures.port
-    (step told (unpacked_at c.args.self.now.plan row c.args.self.now.me c.args.payload.now) agrees (c.in_ok-read.ensures.read row at))))
+    (step told (unpacked_at c.args.self.now.plan row c.args.self.now.me c.args.payload.now) agrees (c.read_frame-read.ensures.read row at))))
     c.bridge_frame.ensures.step
