@@ -4,6 +4,7 @@ pub mod HoldLemmas
 pub mod IndexLemmas
 pub mod KeptLemmas
 pub mod LabelLemmas
+pub mod MarkLemmas
 pub mod NoneLemmas
 pub mod OrderLemmas
 pub mod OwnedLemmas

@@ -8,6 +8,7 @@
 mod end_change;
 mod end_slots;
 mod owned_labels;
+mod peer_marks;
 mod place_list;
 mod plan_places;
 mod pw_ends;

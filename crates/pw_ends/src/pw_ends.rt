@@ -1,5 +1,5 @@
 //! The pseudowire ends of an edge.
-ghost use Rattle.std.specs.Prelude.{◌≡◌, ◌≤◌, ◌<◌, ◌+◌, ◌==◌, ◌↔◌, ℕ, Some, None, [], length, map, position, replicate, slice_get, option_and_then, option_map, IfOk, IfSome};
+ghost use Rattle.std.specs.Prelude.{◌≡◌, ◌≤◌, ◌<◌, ◌+◌, ◌==◌, ◌↔◌, ℕ, Some, None, [], true, length, map, position, replicate, slice_get, option_and_then, option_map, IfOk, IfSome};
 ghost use Rattle.std.specs.List.{find, list_any};
 ghost use Rattle.net_base.specs.plan.Accepted.{IsChecked};
 ghost use Rattle.label_space.specs.Labels.{numbers_end, opened_space, owner_of};
@@ -18,6 +18,7 @@ ghost use Rattle.pw_ends.specs.Ends.{CanHold, HasKind, Holds, IsIdle, changed_at
 use crate::end_change::EndChange;
 use crate::end_slots::{advertise_at, bind_at, change_at, idle_ends, own_label_at};
 use crate::owned_labels::OwnedLabels;
+use crate::peer_marks::PeerMarks;
 use crate::place_list::PlaceList;
 use crate::which_ends::WhichEnds;
 use edge_model::EndPlace;
@@ -37,19 +38,20 @@ pub struct PwEnds {
     ends: Vec<PwEnd>,
     labels: LabelSpace,
     owned: OwnedLabels,
+    marks: PeerMarks,
 }
 
 impl Model for PwEnds {
     ghost use Rattle.std.specs.Prelude.{map};
     ghost use Rattle.pw_signalling.specs.AnyEnd.{end_of};
     ghost use Rattle.pw_ends.specs.Ends.{EndLists};
-    ghost use Rattle.pw_ends.specs.Kept.{AreKept};
+    ghost use Rattle.pw_ends.specs.Kept.{AreMarked};
 
     ghost Value = { EndLists };
 
     ghost view = { λ e. record { places = e.places; ends = map end_of e.ends.items; labels = e.labels } };
 
-    ghost invariant = { λ e. AreKept e.places (map end_of e.ends.items) e.labels e.owned };
+    ghost invariant = { λ e. AreMarked e.places (map end_of e.ends.items) e.labels e.owned e.marks };
 }
 
 impl PwEnds {
@@ -63,14 +65,14 @@ impl PwEnds {
         ensures next { IfOk result (λ ends. ends.labels.next ≡ first_label plan.now me) }
     {
         match PlaceList::open(alloc, plan, me) {
-            Ok(places) => PwEnds::over(alloc, places, first_label(plan, me)),
+            Ok(places) => PwEnds::over(alloc, places, first_label(plan, me), plan.edges.len()),
             Err(fault) => Err(fault),
         }
     }
 
-    // The ends of these places, all idle, with a label space that begins at this label.
+    // The ends of these places, all idle, with a label space that begins at this label, among so many edges.
     #[tactic(auto, using(crate::proofs::SlotLemmas::seen_opened, crate::proofs::KeptLemmas::kept_opened))]
-    fn over(alloc: Global, places: PlaceList, first: u32) -> Result<PwEnds, NoMemory>
+    fn over(alloc: Global, places: PlaceList, first: u32, edges: usize) -> Result<PwEnds, NoMemory>
         requires apart { AreApart places }
         requires few { length places ≤ 5120 }
         requires above { 16 ≤ first }
@@ -79,12 +81,13 @@ impl PwEnds {
         ensures seen { IfOk result (λ ends. seen_ends ends ≡ (λ wire peer. fresh)) }
         ensures next { IfOk result (λ ends. ends.labels.next ≡ first) }
     {
-        match idle_slots(alloc, first, places.len()) {
+        match idle_slots(alloc, first, places.len(), edges) {
             Ok(slots) => Ok(PwEnds {
                 places,
                 ends: slots.ends,
                 labels: slots.labels,
                 owned: slots.owned,
+                marks: slots.marks,
             }),
             Err(fault) => Err(fault),
         }
@@ -266,6 +269,7 @@ impl PwEnds {
         };
         advertise_at(&mut self.ends, slot, label, told);
         self.owned.add(label, slot);
+        self.marks.put(place.peer, true);
         Some(label)
     }
 
@@ -312,7 +316,9 @@ impl PwEnds {
         ensures next { self.new.labels.next ≡ self.old.labels.next }
         ensures seen { seen_ends self.new ≡ changed_at (place_of self.old slot) (bound binding.now) (seen_ends self.old) }
     {
+        let peer = self.places.place(slot).peer;
         bind_at(&mut self.ends, slot, binding);
+        self.marks.put(peer, true);
     }
 
     /// A Label Withdraw came (RFC 5036 section 3.5.10), with a label or without one: the binding goes, where the label is
@@ -373,14 +379,39 @@ impl PwEnds {
     }
 
     /// The session with a peer is lost: each end beside it is idle, not declined, and holds no binding, and its label is free
-    /// (RFC 5036 section 3.5.1.1).
+    /// (RFC 5036 section 3.5.1.1). Where nothing was told since then it takes no walk over the ends.
     #[tactic(auto, using(crate::proofs::SlotLemmas::seen_steps))]
     pub fn lose(&mut self, peer: EdgeId)
         ensures places { self.new.places ≡ self.old.places }
         ensures next { self.new.labels.next ≡ self.old.labels.next }
         ensures seen { seen_ends self.new ≡ changed_beside peer lost (seen_ends self.old) }
     {
+        if self.is_untold(peer) {
+            return;
+        }
+        self.lose_told(peer);
+    }
+
+    // Each end beside a peer is lost, and the peer has no mark any more.
+    #[tactic(auto, using(crate::proofs::SlotLemmas::seen_steps))]
+    fn lose_told(&mut self, peer: EdgeId)
+        ensures places { self.new.places ≡ self.old.places }
+        ensures next { self.new.labels.next ≡ self.old.labels.next }
+        ensures seen { seen_ends self.new ≡ changed_beside peer lost (seen_ends self.old) }
+    {
         self.change_each(WhichEnds::Beside(peer), &EndChange::Lost);
+        self.marks.put(peer, false);
+    }
+
+    /// Whether it is known, without a walk over the ends, that nothing was told of any end beside a peer: to lose its session
+    /// changes none of them. So it is before the first change of such an end, and after each loss until the next one.
+    #[tactic(auto, using(crate::proofs::MarkLemmas::seen_untold))]
+    pub fn is_untold(&self, peer: EdgeId) -> bool
+        ensures untold { result ≡ true → changed_beside peer lost (seen_ends self.now) ≡ seen_ends self.now }
+    {
+        // Named so that what always holds of the fields is at hand for the proof.
+        let _ = &self.places;
+        !self.marks.has(peer)
     }
 
     /// The edge restarts: each end is as it was opened, and every label is free. The next label stays, so no label is given
@@ -420,10 +451,12 @@ impl PwEnds {
         ensures next { self.new.labels.next ≡ self.old.labels.next }
         ensures ends { self.new.ends ≡ changed_in (changed change.now) slot self.old.ends }
     {
+        let peer = self.places.place(slot).peer;
         let before = own_label_at(&self.ends, slot);
         change_at(&mut self.ends, slot, change);
         let after = own_label_at(&self.ends, slot);
         free_left(&mut self.labels, &mut self.owned, before, after);
+        self.marks.put(peer, true);
     }
 }
 
@@ -449,10 +482,11 @@ struct IdleSlots {
     ends: Vec<PwEnd>,
     labels: LabelSpace,
     owned: OwnedLabels,
+    marks: PeerMarks,
 }
 
-// So many slots of which nothing was told, and a label space that begins at this label.
-fn idle_slots(alloc: Global, first: u32, count: usize) -> Result<IdleSlots, NoMemory>
+// So many slots of which nothing was told, a label space that begins at this label, and no mark for any of so many edges.
+fn idle_slots(alloc: Global, first: u32, count: usize, edges: usize) -> Result<IdleSlots, NoMemory>
     requires few { count ≤ 5120 }
     requires above { 16 ≤ first }
     requires below { first ≤ numbers_end }
@@ -463,10 +497,12 @@ fn idle_slots(alloc: Global, first: u32, count: usize) -> Result<IdleSlots, NoMe
     let ends = idle_ends(alloc, count)?;
     let labels = LabelSpace::open(alloc, first, count as u32)?;
     let owned = OwnedLabels::open(alloc, count)?;
+    let marks = PeerMarks::open(alloc, edges)?;
     Ok(IdleSlots {
         ends,
         labels,
         owned,
+        marks,
     })
 }
 
