@@ -1,7 +1,8 @@
-"""What the benches have in common: the program that they measure, and scenarios of full meshes."""
+"""What the benches have in common: the program that they measure, its time and its instructions, and scenarios of full meshes."""
 
 import os
 import pathlib
+import shutil
 import subprocess
 import sys
 import time
@@ -46,3 +47,53 @@ def best_replay(path, report):
             sys.exit(f"{pathlib.Path(sys.argv[0]).name}: {path} ended with status {done.returncode}: {said}")
         best = spent if best is None else min(best, spent)
     return best
+
+
+def counts_instructions():
+    """Whether instructions can be counted here; says so where they cannot."""
+    if shutil.which("valgrind") is None:
+        print("instructions are not counted: there is no valgrind")
+        return False
+    return True
+
+
+def instructions(path, report):
+    """How many instructions a replay of a scenario takes, as `valgrind` counts them; its report stands in the file `report` then."""
+    words = ["valgrind", "--tool=callgrind", f"--callgrind-out-file={os.devnull}", PROGRAM, "replay", path]
+    with open(report, "wb") as out:
+        done = subprocess.run(words, stdin=subprocess.DEVNULL, stdout=out, stderr=subprocess.PIPE, text=True, check=False)
+    found = [line.split(":")[1] for line in done.stderr.splitlines() if "Collected" in line]
+    if done.returncode != 0 or len(found) != 1:
+        sys.exit(f"{pathlib.Path(sys.argv[0]).name}: valgrind ended with status {done.returncode}")
+    return int(found[0])
+
+
+def told_in(report):
+    """How many ends of wires are up at the end of a report, and how many messages and octets were said; each is a PDU."""
+    ups = messages = octets = 0
+    with open(report, encoding="ascii") as text:
+        for line in text:
+            if line.startswith("said "):
+                messages += 1
+                octets += len(line.split()[3]) // 2
+            elif line.startswith("wire ") and line.endswith(" up\n"):
+                ups += 1
+    return ups, messages, octets
+
+
+def message_cost(folder, rows):
+    """How many messages are said as everything comes up in the network of these rows, and how many instructions one of them takes,
+    without what it takes to read and to open the plan. Each wire is up at both ends then."""
+    path, report = os.path.join(folder, "counted.toml"), os.path.join(folder, "counted")
+
+    def counted(text):
+        with open(path, "w", encoding="ascii") as out:
+            out.write(text)
+        return instructions(path, report)
+
+    opened = counted(writing.scenario(rows, []))
+    spent = counted(set_up(rows, []))
+    ups, messages, _ = told_in(report)
+    if ups != 2 * len(rows["wire"]):
+        sys.exit(f"{pathlib.Path(sys.argv[0]).name}: {ups} of {2 * len(rows['wire'])} ends are up")
+    return messages, (spent - opened) / messages

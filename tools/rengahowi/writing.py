@@ -51,11 +51,11 @@ def rows_of(count, circuits):
     }
 
 
-def add_wires(rows, kind, pairs, priorities=None):
-    """Adds wires between pairs of edges, whose names and PW IDs go on from those that are there."""
+def add_wires(rows, kind, pairs, priorities=None, service="s"):
+    """Adds wires of a service between pairs of edges, whose names and PW IDs go on from those that are there."""
     for place, (a, b) in enumerate(pairs):
         number = len(rows["wire"]) + 1
-        row = {"name": f"w{number}", "service": "s", "class": kind, "path": [f"e{a}", f"e{b}"], "pw_id": number}
+        row = {"name": f"w{number}", "service": service, "class": kind, "path": [f"e{a}", f"e{b}"], "pw_id": number}
         if priorities:
             row["priority"] = priorities[place]
         rows["wire"].append(row)

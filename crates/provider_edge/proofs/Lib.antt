@@ -24,5 +24,6 @@ pub mod StitchLemmas
 pub mod StayLemmas
 pub mod SwitchLemmas
 pub mod SyncLemmas
+pub mod TickLemmas
 pub mod WorkLemmas
 pub mod WithdrawLemmas

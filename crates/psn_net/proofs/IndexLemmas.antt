@@ -1,7 +1,8 @@
 -- An index of what may be delivered: it begins without a mark, and is made anew for the edges that were set to work.
-use Rattle.std.proofs.Common.{◌≡◌, ◌==◌, ◌<◌, ◌≤◌, ◌+◌, ◌&&◌, ◌||◌, ◌∙◌, subst, ℕ, zero, suc, Bool, true, false, not, List, Option, Some, None, cond, refl, ap, sym, arith, nat_eq, nat_lt, length, replicate, slice_index_or}
+use Rattle.std.proofs.Common.{◌≡◌, ◌==◌, ◌<◌, ◌≤◌, ◌+◌, ◌&&◌, ◌||◌, ◌∙◌, ◌≢◌, subst, ℕ, zero, suc, Bool, true, false, not, List, Option, Some, None, cond, refl, ap, sym, arith, nat_eq, nat_lt, length, replicate, slice_index_or, slice_set, [], ◌∷◌, inl, inr}
 use Rattle.std.proofs.lemmas.Bool.Decides.{nat_tests}
-use Rattle.std.proofs.lemmas.List.{length-replicate}
+use Rattle.std.proofs.lemmas.Bool.{cases_Bool}
+use Rattle.std.proofs.lemmas.List.{get_or-set_other, get_or-set_same, length-replicate}
 use Rattle.net_base.specs.declared.plan.circuit_plan.CircuitPlan.{CircuitPlan}
 use Rattle.net_base.specs.declared.plan.places.EdgeId.{EdgeId}
 use Rattle.network_model.specs.Connection.{is_deliverable}
@@ -27,6 +28,35 @@ pub cleared_within : (words : List ℕ) (n : ℕ) → n ≤ 64 → words ≡ rep
 cleared_within words n few is =
     let long : length words ≡ n = ap length is ∙ length-replicate n zero in
     record { few = omega (arith, long, few); each = λ from to l. (cleared words n is).each from to }
+
+-- the words before a place have been cleared
+pub set_cleared : (words : List ℕ) (place i : ℕ) → place < length words → ((i : ℕ) → i < place → slice_index_or words i 0 ≡ 0) → i < place + 1 → slice_index_or (slice_set words place 0) i 0 ≡ 0
+set_cleared words place i within before less = elim (cases_Bool (i == place)) [
+  | inl same ↦ at_place (equal same)
+  | inr apart ↦ get_or-set_other words place i 0 0 (unequal apart) ∙ before i (omega (arith, less, unequal apart))
+]
+  where
+    equal : (i == place) ≡ true → i ≡ place
+    equal same = grind (arith, nat_tests)
+
+    unequal : (i == place) ≡ false → i ≢ place
+    unequal apart = grind (arith, nat_tests)
+
+    at_place : i ≡ place → slice_index_or (slice_set words place 0) i 0 ≡ 0
+    at_place same = rw same (get_or-set_same words place 0 0 within)
+
+pub words_cleared : (words : List ℕ) (place : ℕ) → length words ≤ place → ((i : ℕ) → i < place → slice_index_or words i 0 ≡ 0) → IsClear words
+words_cleared words place all before = record { each = λ from to. ap (λ word. in_word word to) (zero_in from) ∙ none_in_zero to } where
+  past : (words : List ℕ) (from : ℕ) → length words ≤ from → slice_index_or words from 0 ≡ 0
+  past [] from long = refl
+  past (w ∷ ws) zero long = absurd (omega (arith, long))
+  past (w ∷ ws) (suc from) long = past ws from (omega (arith, long))
+
+  zero_in : (from : ℕ) → slice_index_or words from 0 ≡ 0
+  zero_in from = elim (cases_Bool (nat_lt from place)) [
+    | inl less ↦ before from (grind (arith, nat_tests))
+    | inr more ↦ past words from (grind (arith, nat_tests, all))
+  ]
 
 -- ---- the marks of one edge are made anew
 
@@ -131,6 +161,23 @@ found_first n index size e indexed =
 pub ruleset all_steps = (from_none, from_more, from_all)
 
 pub ruleset marking_steps = (fresh, marked_one, marked_first, marked_circuit)
+
+-- what holds before a place, and at it
+pub before_more : (P : ℕ → Type 0) (place : ℕ) → ((i : ℕ) → i < place → P i) → P place → (i : ℕ) → i < place + 1 → P i
+before_more P place before here i less = elim (cases_Bool (i == place)) [
+  | inl same ↦ subst P (sym (equal same)) here
+  | inr apart ↦ before i (omega (arith, less, unequal apart))
+]
+  where
+    equal : (i == place) ≡ true → i ≡ place
+    equal same = grind (arith, nat_tests)
+
+    unequal : (i == place) ≡ false → i ≢ place
+    unequal apart = grind (arith, nat_tests)
+
+-- where nothing may be delivered no mark is right
+pub indexed_still : (n : NetLists) (index : IndexLists) → ((i j : ℕ) → j < length n.plan.edges → is_deliverable (seen n) i j ≡ false) → IsClear index.rows → IsIndexed n index
+indexed_still n index still clear = record { each = λ i j a b. clear.each i j ∙ sym (still i j b) }
 
 -- before the first event nothing may be delivered
 pub indexed_first : (n : NetLists) (index : IndexLists) → seen n ≡ empty_network n.plan → IsClear index.rows → IsIndexed n index

@@ -46,6 +46,14 @@ impl DeliveryIndex {
         self.rows[from] = with_bit(word, to, on);
     }
 
+    /// Takes every mark away.
+    pub fn clear(&mut self)
+        ensures size { length self.new.rows ≡ length self.old.rows }
+        ensures none { IsClear self.new.rows }
+    {
+        clear_words(&mut self.rows);
+    }
+
     /// The first pair with a mark, by the first edge and then by the second.
     #[tactic(auto, using(crate::proofs::PairLemmas::pair_steps))]
     pub fn first(&self) -> Option<(usize, usize)>
@@ -68,6 +76,17 @@ impl DeliveryIndex {
         ensures within { IfSome result (λ to. to < length self.now.rows) }
     {
         first_in(self.rows[from], self.rows.len())
+    }
+}
+
+// No bit of any word is on.
+#[tactic(auto, using(crate::proofs::IndexLemmas::words_cleared))]
+fn clear_words(rows: &mut Vec<u64>)
+    ensures size { length rows.new.items ≡ length rows.old.items }
+    ensures none { IsClear rows.new.items }
+{
+    for place in 0..rows.len() {
+        rows[place] = 0;
     }
 }
 

@@ -1,5 +1,6 @@
 pub mod AdvertiserLemmas
 pub mod BesideLemmas
+pub mod BitLemmas
 pub mod HoldLemmas
 pub mod IndexLemmas
 pub mod KeptLemmas

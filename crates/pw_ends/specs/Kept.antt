@@ -1,5 +1,5 @@
 -- What always holds of the pseudowire ends of an edge.
-use Rattle.std.specs.Prelude.{◌≡◌, ◌≢◌, ◌≤◌, ◌+◌, ℕ, Bool, true, false, List, [], ◌∷◌, Option, Some, None, length, map, position, slice_index_or}
+use Rattle.std.specs.Prelude.{◌≡◌, ◌≢◌, ◌≤◌, ◌+◌, ℕ, Bool, false, List, [], ◌∷◌, Option, Some, None, length, map, position}
 use Rattle.std.specs.List.{AllByRecursion}
 use Rattle.net_base.specs.declared.plan.places.SegKey.{SegKey}
 use Rattle.label_space.specs.declared.owner.Owner.{Owner}
@@ -90,13 +90,13 @@ pub record AreKept (places : List EndPlace) (ends : List EndState) (labels : Lab
   pub holds : AreHolding places ends
 
 -- nothing was told of an end beside a neighbour that has no mark
-abbrev pub AreUntold : List Bool → List EndPlace → List EndState → Type 0
+abbrev pub AreUntold : (ℕ → Bool) → List EndPlace → List EndState → Type 0
 AreUntold marks [] ends = Unit {0}
 AreUntold marks (place ∷ places) [] = Unit {0}
-AreUntold marks (place ∷ places) (end ∷ ends) = (slice_index_or marks place.peer.0 true ≡ false → end ≡ fresh) × AreUntold marks places ends
+AreUntold marks (place ∷ places) (end ∷ ends) = (marks place.peer.0 ≡ false → end ≡ fresh) × AreUntold marks places ends
 
 -- the ends are kept, and beside each neighbour of which something was told there is a mark
-pub record AreMarked (places : List EndPlace) (ends : List EndState) (labels : LabelNumbers) (index : OwnedList) (marks : List Bool) : Type 0 where
+pub record AreMarked (places : List EndPlace) (ends : List EndState) (labels : LabelNumbers) (index : OwnedList) (marks : ℕ → Bool) : Type 0 where
   pub kept : AreKept places ends labels index
   pub untold : AreUntold marks places ends
 

@@ -1,51 +1,67 @@
 //! The neighbours of which something may have been told.
-ghost use Rattle.std.specs.Prelude.{◌≡◌, true, false, replicate, slice_index_or, slice_set, IfOk};
+ghost use Rattle.std.specs.Prelude.{◌≡◌, ◌==◌, ◌||◌, ℕ, true, false, not, nat_lt, if◌then◌else◌};
+ghost use Rattle.pw_ends.specs.Marks.{has_mark};
 
-use net_base::{EdgeId, NoMemory};
-use std::alloc::Global;
-use std::marker::Model;
+use net_base::EdgeId;
 
-/// A mark for each edge of a plan: without it, nothing was told of the ends beside that neighbour. So a session that is lost
-/// again, as each absent one is at each tick, takes no walk over the ends. An edge beyond the plan counts as marked.
-#[derive(Drop)]
+/// A mark for each edge of a plan, at most 64, as a bit of a word: without it, nothing was told of the ends beside that neighbour. So a
+/// session that is lost again, as each absent one is at each tick, takes no walk over the ends. An edge past the 64 counts as marked.
+#[derive(Clone, Copy)]
 pub struct PeerMarks {
-    marks: Vec<bool>,
-}
-
-impl Model for PeerMarks {
-    ghost use Rattle.std.specs.Prelude.{Bool, List as Items};
-
-    ghost Value = { Items Bool };
-
-    ghost view = { λ m. m.marks.items };
+    word: u64,
 }
 
 impl PeerMarks {
-    /// No mark for any of so many edges.
-    pub(crate) fn open(alloc: Global, count: usize) -> Result<PeerMarks, NoMemory>
-        ensures { IfOk result (λ marks. marks ≡ replicate count false) }
+    /// No edge is marked.
+    #[tactic(auto, using(crate::proofs::BitLemmas::unmarked))]
+    pub(crate) fn new() -> PeerMarks
+        ensures { (k : ℕ) → has_mark result k ≡ not (nat_lt k 64) }
     {
-        let marks = vec![in alloc; false; count]?;
-        Ok(PeerMarks { marks })
+        PeerMarks { word: 0 }
     }
 
     /// Whether a neighbour is marked.
-    pub(crate) fn has(&self, peer: EdgeId) -> bool
-        ensures { result ≡ slice_index_or self.now peer.0 true }
+    #[tactic(auto, unfolding(crate::specs::Marks::has_mark))]
+    pub(crate) fn has(self, peer: EdgeId) -> bool
+        ensures { result ≡ has_mark self peer.0 }
     {
-        match self.marks.get(peer.0 as usize) {
-            Some(mark) => *mark,
-            None => true,
+        if peer.0 >= 64 {
+            return true;
+        }
+        (self.word >> peer.0) & 1 == 1
+    }
+
+    /// Whether none of the 64 is.
+    #[tactic(auto, using(crate::proofs::BitLemmas::unmarked))]
+    pub(crate) fn is_empty(self) -> bool
+        ensures { result ≡ true → (k : ℕ) → has_mark self k ≡ not (nat_lt k 64) }
+    {
+        self.word == 0
+    }
+
+    /// A neighbour is marked.
+    #[tactic(auto, using(crate::proofs::BitLemmas::bit_set, crate::proofs::BitLemmas::bit_past))]
+    pub(crate) fn with(self, peer: EdgeId) -> PeerMarks
+        ensures { (k : ℕ) → has_mark result k ≡ (k == peer.0 || has_mark self k) }
+    {
+        if peer.0 >= 64 {
+            return self;
+        }
+        PeerMarks {
+            word: self.word | 1 << peer.0,
         }
     }
 
-    /// Marks a neighbour, or takes its mark away.
-    #[tactic(auto, using(crate::proofs::MarkLemmas::set_past))]
-    pub(crate) fn put(&mut self, peer: EdgeId, on: bool)
-        ensures { self.new ≡ slice_set self.old peer.0 on }
+    /// The mark of a neighbour is taken away.
+    #[tactic(auto, using(crate::proofs::BitLemmas::bit_cleared, crate::proofs::BitLemmas::bit_kept))]
+    pub(crate) fn without(self, peer: EdgeId) -> PeerMarks
+        ensures { (k : ℕ) → has_mark result k ≡ (if k == peer.0 then not (nat_lt k 64) else has_mark self k) }
     {
-        if let Some(mark) = self.marks.get_mut(peer.0 as usize) {
-            *mark = on;
+        if peer.0 >= 64 {
+            return self;
+        }
+        PeerMarks {
+            word: self.word & !(1 << peer.0),
         }
     }
 }

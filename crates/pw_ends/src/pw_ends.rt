@@ -46,12 +46,13 @@ impl Model for PwEnds {
     ghost use Rattle.pw_signalling.specs.AnyEnd.{end_of};
     ghost use Rattle.pw_ends.specs.Ends.{EndLists};
     ghost use Rattle.pw_ends.specs.Kept.{AreMarked};
+    ghost use Rattle.pw_ends.specs.Marks.{has_mark};
 
     ghost Value = { EndLists };
 
     ghost view = { λ e. record { places = e.places; ends = map end_of e.ends.items; labels = e.labels } };
 
-    ghost invariant = { λ e. AreMarked e.places (map end_of e.ends.items) e.labels e.owned e.marks };
+    ghost invariant = { λ e. AreMarked e.places (map end_of e.ends.items) e.labels e.owned (has_mark e.marks) };
 }
 
 impl PwEnds {
@@ -65,14 +66,14 @@ impl PwEnds {
         ensures next { IfOk result (λ ends. ends.labels.next ≡ first_label plan.now me) }
     {
         match PlaceList::open(alloc, plan, me) {
-            Ok(places) => PwEnds::over(alloc, places, first_label(plan, me), plan.edges.len()),
+            Ok(places) => PwEnds::over(alloc, places, first_label(plan, me)),
             Err(fault) => Err(fault),
         }
     }
 
-    // The ends of these places, all idle, with a label space that begins at this label, among so many edges.
+    // The ends of these places, all idle, with a label space that begins at this label.
     #[tactic(auto, using(crate::proofs::SlotLemmas::seen_opened, crate::proofs::KeptLemmas::kept_opened))]
-    fn over(alloc: Global, places: PlaceList, first: u32, edges: usize) -> Result<PwEnds, NoMemory>
+    fn over(alloc: Global, places: PlaceList, first: u32) -> Result<PwEnds, NoMemory>
         requires apart { AreApart places }
         requires few { length places ≤ 5120 }
         requires above { 16 ≤ first }
@@ -81,13 +82,13 @@ impl PwEnds {
         ensures seen { IfOk result (λ ends. seen_ends ends ≡ (λ wire peer. fresh)) }
         ensures next { IfOk result (λ ends. ends.labels.next ≡ first) }
     {
-        match idle_slots(alloc, first, places.len(), edges) {
+        match idle_slots(alloc, first, places.len()) {
             Ok(slots) => Ok(PwEnds {
                 places,
                 ends: slots.ends,
                 labels: slots.labels,
                 owned: slots.owned,
-                marks: slots.marks,
+                marks: PeerMarks::new(),
             }),
             Err(fault) => Err(fault),
         }
@@ -269,7 +270,7 @@ impl PwEnds {
         };
         advertise_at(&mut self.ends, slot, label, told);
         self.owned.add(label, slot);
-        self.marks.put(place.peer, true);
+        self.marks = self.marks.with(place.peer);
         Some(label)
     }
 
@@ -318,7 +319,7 @@ impl PwEnds {
     {
         let peer = self.places.place(slot).peer;
         bind_at(&mut self.ends, slot, binding);
-        self.marks.put(peer, true);
+        self.marks = self.marks.with(peer);
     }
 
     /// A Label Withdraw came (RFC 5036 section 3.5.10), with a label or without one: the binding goes, where the label is
@@ -400,7 +401,7 @@ impl PwEnds {
         ensures seen { seen_ends self.new ≡ changed_beside peer lost (seen_ends self.old) }
     {
         self.change_each(WhichEnds::Beside(peer), &EndChange::Lost);
-        self.marks.put(peer, false);
+        self.marks = self.marks.without(peer);
     }
 
     /// Whether it is known, without a walk over the ends, that nothing was told of any end beside a peer: to lose its session
@@ -412,6 +413,16 @@ impl PwEnds {
         // Named so that what always holds of the fields is at hand for the proof.
         let _ = &self.places;
         !self.marks.has(peer)
+    }
+
+    /// The same of every peer at once.
+    #[tactic(auto, using(crate::proofs::MarkLemmas::seen_untold))]
+    pub fn are_untold(&self) -> bool
+        ensures untold { result ≡ true → (peer : EdgeId) → peer.0 < 64 → changed_beside peer lost (seen_ends self.now) ≡ seen_ends self.now }
+    {
+        // Named so that what always holds of the fields is at hand for the proof.
+        let _ = &self.places;
+        self.marks.is_empty()
     }
 
     /// The edge restarts: each end is as it was opened, and every label is free. The next label stays, so no label is given
@@ -456,7 +467,7 @@ impl PwEnds {
         change_at(&mut self.ends, slot, change);
         let after = own_label_at(&self.ends, slot);
         free_left(&mut self.labels, &mut self.owned, before, after);
-        self.marks.put(peer, true);
+        self.marks = self.marks.with(peer);
     }
 }
 
@@ -482,11 +493,10 @@ struct IdleSlots {
     ends: Vec<PwEnd>,
     labels: LabelSpace,
     owned: OwnedLabels,
-    marks: PeerMarks,
 }
 
-// So many slots of which nothing was told, a label space that begins at this label, and no mark for any of so many edges.
-fn idle_slots(alloc: Global, first: u32, count: usize, edges: usize) -> Result<IdleSlots, NoMemory>
+// So many slots of which nothing was told, and a label space that begins at this label.
+fn idle_slots(alloc: Global, first: u32, count: usize) -> Result<IdleSlots, NoMemory>
     requires few { count ≤ 5120 }
     requires above { 16 ≤ first }
     requires below { first ≤ numbers_end }
@@ -497,12 +507,10 @@ fn idle_slots(alloc: Global, first: u32, count: usize, edges: usize) -> Result<I
     let ends = idle_ends(alloc, count)?;
     let labels = LabelSpace::open(alloc, first, count as u32)?;
     let owned = OwnedLabels::open(alloc, count)?;
-    let marks = PeerMarks::open(alloc, edges)?;
     Ok(IdleSlots {
         ends,
         labels,
         owned,
-        marks,
     })
 }
 

@@ -36,9 +36,23 @@ pub(crate) fn mark_after(index: &mut DeliveryIndex, parts: &Parts, event: &Event
     }
 }
 
-// The pairs of every edge.
-#[tactic(auto, using(crate::proofs::IndexLemmas::all_steps))]
+// The pairs of every edge. Where no connection stands there is nothing to deliver, and no pair is looked at.
+#[tactic(auto, using(crate::proofs::IndexLemmas::indexed_still))]
 fn mark_all(index: &mut DeliveryIndex, parts: &Parts)
+    requires size { length index.old.rows ≡ length parts.now.plan.edges }
+    ensures size { length index.new.rows ≡ length index.old.rows }
+    ensures after { IsIndexed parts.now index.new }
+{
+    if parts.is_still() {
+        index.clear();
+        return;
+    }
+    mark_each(index, parts);
+}
+
+// The pairs of each edge in turn.
+#[tactic(auto, using(crate::proofs::IndexLemmas::all_steps))]
+fn mark_each(index: &mut DeliveryIndex, parts: &Parts)
     requires size { length index.old.rows ≡ length parts.now.plan.edges }
     ensures size { length index.new.rows ≡ length index.old.rows }
     ensures after { IsIndexed parts.now index.new }

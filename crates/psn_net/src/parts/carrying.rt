@@ -99,7 +99,7 @@ impl Parts {
 
     // The edge with this place, over the plan of the network.
     #[tactic(auto, unfolding(crate::specs::Lists::seen))]
-    fn edge_at(&self, edge: EdgeId) -> &Edge
+    pub(crate) fn edge_at(&self, edge: EdgeId) -> &Edge
         requires { edge.0 < length self.now.plan.edges }
         ensures plan { result.now.plan ≡ self.now.plan }
         ensures state { seen_edge result.now ≡ edge_at (seen self.now) edge }

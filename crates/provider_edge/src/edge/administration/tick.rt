@@ -1,5 +1,9 @@
 //! A tick passes.
-ghost use Rattle.std.specs.Prelude.{◌≡◌, [], true, false, length, OnOk};
+ghost use Rattle.std.specs.Prelude.{◌≡◌, ◌<◌, [], true, false, length, OnOk};
+ghost use Rattle.session_core.specs.Table.{Ticked};
+ghost use Rattle.pw_signalling.specs.Rows.{lost};
+ghost use Rattle.edge_model.specs.Session.{happens_with_ends};
+ghost use Rattle.edge_model.specs.State.{has_end, with_ends_beside};
 ghost use Rattle.edge_model.specs.Tick.{tick_input, ticks_sessions};
 ghost use Rattle.edge_model.specs.Work.{Agrees, Answers, beginning};
 ghost use Rattle.provider_edge.specs.AtWork.{Takes, Works, at_work, worked_at};
@@ -24,8 +28,21 @@ impl Edge {
         self.mend(work)
     }
 
-    // The sessions have a tick, in the plan's order.
+    // The sessions have a tick, in the plan's order. An edge without a session, of which nothing was told beside any peer, takes no walk.
     fn tick_sessions<L: Link>(&mut self, work: &mut AtWork<'_, L>) -> Result<(), NoMemory>
+        requires working { self.old.stopped ≡ true }
+        ensures goes { Works L.calls self.old work.old self.new work.new }
+        ensures step { OnOk result ((told : Answers) → Agrees told (L.calls work.new.link.now)
+            → at_work L.calls self.new work.new ≡ ticks_sessions told 0 (length self.old.plan.edges) (at_work L.calls self.old work.old)) }
+    {
+        if self.is_idle() {
+            return Ok(());
+        }
+        self.tick_each(work)
+    }
+
+    // The same, one session after another.
+    fn tick_each<L: Link>(&mut self, work: &mut AtWork<'_, L>) -> Result<(), NoMemory>
         requires working { self.old.stopped ≡ true }
         ensures goes { Works L.calls self.old work.old self.new work.new }
         ensures step { OnOk result ((told : Answers) → Agrees told (L.calls work.new.link.now)
@@ -33,8 +50,48 @@ impl Edge {
     {
         for place in 0..self.plan.edges.len() {
             let peer = EdgeId(place as u16);
-            self.happens(peer, Event::Ticked, work)?;
+            self.tick_session(peer, work)?;
         }
         Ok(())
+    }
+
+    // The session with a peer has a tick, where it stands. A peer that is apart is passed by, as most are in a large plan.
+    fn tick_session<L: Link>(
+        &mut self,
+        peer: EdgeId,
+        work: &mut AtWork<'_, L>,
+    ) -> Result<(), NoMemory>
+        requires working { self.old.stopped ≡ true }
+        ensures goes { Works L.calls self.old work.old self.new work.new }
+        ensures step { OnOk result ((told : Answers) → Agrees told (L.calls work.new.link.now)
+            → at_work L.calls self.new work.new ≡ happens_with_ends told peer Ticked (at_work L.calls self.old work.old)) }
+    {
+        if self.is_apart(peer) {
+            return Ok(());
+        }
+        self.happens(peer, Event::Ticked, work)
+    }
+
+    // Whether no session with a peer stands, and it is known without a walk over the ends that nothing was told of those beside
+    // it, so that there are none to be lost.
+    fn is_apart(&self, peer: EdgeId) -> bool
+        ensures absent { result ≡ true → has_end (seen self.now) peer ≡ false }
+        ensures untold { result ≡ true → with_ends_beside peer lost (seen self.now) ≡ seen self.now }
+    {
+        if self.has_end(peer) {
+            return false;
+        }
+        self.ends.is_untold(peer)
+    }
+
+    // Whether so it is with every peer of the plan.
+    fn is_idle(&self) -> bool
+        ensures absent { result ≡ true → (peer : EdgeId) → has_end (seen self.now) peer ≡ false }
+        ensures untold { result ≡ true → (peer : EdgeId) → peer.0 < length self.now.plan.edges → with_ends_beside peer lost (seen self.now) ≡ seen self.now }
+    {
+        if !self.is_alone() {
+            return false;
+        }
+        self.ends.are_untold()
     }
 }

@@ -1,5 +1,6 @@
 //! What an edge keeps of its neighbours: what an event makes of a session, and what is put apart from the events.
-ghost use Rattle.std.specs.Prelude.{◌≡◌, ◌<◌, List, Some, None, length, map, option_copied, IfOk, IfSome, OnOk, true};
+ghost use Rattle.std.specs.Prelude.{◌≡◌, ◌<◌, ◌↔◌, not, List, Some, None, length, map, option_copied, IfOk, IfSome, OnOk, true, false};
+ghost use Rattle.std.specs.List.{list_all};
 ghost use Rattle.net_base.specs.declared.outside.link_call.LinkCall.{LinkCall};
 ghost use Rattle.ldp_codec.specs.declared.decode_fault.DecodeFault.{DecodeFault};
 ghost use Rattle.session_core.specs.Messages.{HasData};
@@ -7,7 +8,7 @@ ghost use Rattle.session_core.specs.Table.{Refused};
 ghost use Rattle.edge_model.specs.declared.effect.Effect.{Effect};
 ghost use Rattle.edge_model.specs.Hear.{advises, was_up};
 ghost use Rattle.edge_model.specs.Session.{clears_ends, happens, happens_with_ends, says};
-ghost use Rattle.edge_model.specs.State.{has_end, with_peering, without_peerings};
+ghost use Rattle.edge_model.specs.State.{has_end, is_there, with_peering, without_peerings};
 ghost use Rattle.edge_model.specs.Work.{Agrees, Answers};
 ghost use Rattle.peer_dialogue.specs.Event.{MayHappen, event_of};
 ghost use Rattle.peer_dialogue.specs.Peering.{at_edge, gone, held_octets};
@@ -31,6 +32,13 @@ impl Edge {
             Some(Some(peering)) => Some(peering),
             Some(None) | None => None,
         }
+    }
+
+    /// Whether no end of a connection of the edge stands.
+    pub fn is_alone(&self) -> bool
+        ensures alone { (result ≡ true) ↔ ((peer : EdgeId) → has_end (seen self.now) peer ≡ false) }
+    {
+        is_none_kept(&self.peerings)
     }
 
     // Whether the session with a neighbour is up.
@@ -171,6 +179,13 @@ fn held_in(kept: &Option<Peering>) -> usize
         Some(peering) => peering.held(),
         None => 0,
     }
+}
+
+// Whether nothing is kept of any neighbour.
+fn is_none_kept(peerings: &[Option<Peering>]) -> bool
+    ensures { result ≡ list_all (λ kept. not (is_there kept)) peerings.now }
+{
+    peerings.iter().all(|kept| kept.is_none())
 }
 
 // No session stands any more.

@@ -3,6 +3,7 @@ use Rattle.std.proofs.Common.{◌≡◌, ◌∙◌, subst, sym}
 use Rattle.pw_signalling.specs.Rows.{lost}
 use Rattle.pw_ends.specs.contracts.pw_ends.PwEnds.{the_view}
 use Rattle.pw_ends.specs.Ends.{EndLists, changed_beside, seen_ends}
+use Rattle.pw_ends.specs.Marks.{has_mark}
 use Rattle.pw_ends.proofs.MarkLemmas.{seen_untold, unlike}
 use Rattle.pw_ends.proofs.pw_ends.PwEnds.is_untold.Goals as goal
 
@@ -10,5 +11,5 @@ pub returns : goal.returns
 returns c = record {
   untold = λ is.
       subst (λ (l : EndLists). changed_beside c.args.peer lost (seen_ends l) ≡ seen_ends l) c.self.view_is
-      (seen_untold c.self.inside.marks c.args.peer (the_view c.self.inside) c.self.invariant.untold c.self.invariant.kept.count (sym c.has.ensures ∙ unlike c.has.result is));
+      (seen_untold (has_mark c.self.inside.marks) c.args.peer (the_view c.self.inside) c.self.invariant.untold c.self.invariant.kept.count (sym c.has.ensures ∙ unlike c.has.result is));
 }

@@ -1,6 +1,6 @@
 use Rattle.std.proofs.Common.{◌≡◌, length, nat_lt, not}
 use Rattle.psn_net.specs.DeliveryIndex.{IsIndexedBeside}
-use Rattle.psn_net.proofs.network.marking.mark_all.Given as goal
+use Rattle.psn_net.proofs.network.marking.mark_each.Given as goal
 
 abbrev pub invariant-loop-place : goal.invariant-loop-place
 invariant-loop-place l = record {

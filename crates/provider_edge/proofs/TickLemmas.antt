@@ -1,0 +1,64 @@
+-- A tick passes by a neighbour with which no session stands.
+use Rattle.std.proofs.Common.{◌≡◌, ◌<◌, ◌+◌, ◌↔◌, ◌∙◌, ℕ, zero, suc, Bool, true, false, not, List, [], ◌∷◌, Option, Some, None, get_or, ap, refl, sym, arith}
+use Rattle.std.specs.List.{list_all}
+use Rattle.net_base.specs.declared.outside.link_call.LinkCall.{LinkCall}
+use Rattle.net_base.specs.declared.plan.places.EdgeId.{EdgeId}
+use Rattle.pw_signalling.specs.Rows.{lost}
+use Rattle.session_core.specs.Table.{SessionEvent, Ticked}
+use Rattle.edge_model.specs.declared.effect.Effect.{Effect}
+use Rattle.edge_model.specs.Session.{happens, happens_to, happens_with_ends}
+use Rattle.edge_model.specs.State.{EdgeState, Peering, has_end, is_there, with_ends_beside}
+use Rattle.edge_model.specs.Tick.{ticks_sessions}
+use Rattle.edge_model.specs.Work.{Answers}
+use Rattle.edge_model.proofs.LocalLemmas.{and_left, and_right, is_not}
+use Rattle.peer_dialogue.specs.Peering.{at_edge}
+use Rattle.provider_edge.proofs.LiftLemmas.{happened}
+use Rattle.provider_edge.proofs.ListLemmas.{cleared}
+use Rattle.provider_edge.specs.Lists.{EdgeLists, seen}
+
+absent_is : (kept : Option Peering) → is_there kept ≡ false → None ≡ kept
+absent_is None absent = refl
+absent_is (Some kept) absent = absurd (cc (absent))
+
+-- nothing happens where no session stands
+untouched : (told : Answers) (peer : EdgeId) (event : SessionEvent) (edge : EdgeState) (calls : List LinkCall) (out : List Effect)
+    → has_end edge peer ≡ false → at_edge edge calls out ≡ happens told peer event (at_edge edge calls out)
+unfolding at_edge
+untouched told peer event edge calls out absent =
+    ap (λ (kept : Option Peering). happens_to told peer event kept (record { edge = edge; calls = calls; effects = out; idle = false })) (absent_is (edge.peering peer.0) absent)
+
+-- nor are ends lost of which nothing was told
+pub passed_by : (told : Answers) (peer : EdgeId) (event : SessionEvent) (edge : EdgeState) (calls : List LinkCall) (out : List Effect)
+    → has_end edge peer ≡ false → with_ends_beside peer lost edge ≡ edge → at_edge edge calls out ≡ happens_with_ends told peer event (at_edge edge calls out)
+passed_by told peer event edge calls out absent untold =
+    happened told peer event (at_edge edge calls out) (at_edge edge calls out) (at_edge edge calls out)
+    (untouched told peer event edge calls out absent) (cleared peer edge edge calls out absent (sym untold))
+
+-- so it is with so many neighbours from a place on
+pub all_passed_by : (told : Answers) (size place count : ℕ) (edge : EdgeState) (calls : List LinkCall) (out : List Effect)
+    → place + count ≡ size → ((peer : EdgeId) → has_end edge peer ≡ false) → ((peer : EdgeId) → peer.0 < size → with_ends_beside peer lost edge ≡ edge)
+    → at_edge edge calls out ≡ ticks_sessions told place count (at_edge edge calls out)
+all_passed_by told size place zero edge calls out all absent untold = refl
+all_passed_by told size place (suc count) edge calls out all absent untold =
+    let here : place < size = omega (arith, all) in
+    let rest : place + 1 + count ≡ size = omega (arith, all) in
+    all_passed_by told size (place + 1) count edge calls out rest absent untold
+    ∙ ap (ticks_sessions told (place + 1) count) (passed_by told (record { 0 = place }) Ticked edge calls out (absent (record { 0 = place })) (untold (record { 0 = place }) here))
+
+-- ---- no session stands at all
+
+abbrev is_none_kept : List (Option Peering) → Bool
+is_none_kept peerings = list_all (λ kept. not (is_there kept)) peerings
+
+each_absent : (peerings : List (Option Peering)) (place : ℕ) → is_none_kept peerings ≡ true → is_there (get_or peerings place None) ≡ false
+each_absent [] place none = refl
+each_absent (kept ∷ more) zero none = is_not (is_there kept) (and_left (not (is_there kept)) (is_none_kept more) none)
+each_absent (kept ∷ more) (suc place) none = each_absent more place (and_right (not (is_there kept)) (is_none_kept more) none)
+
+all_absent : (peerings : List (Option Peering)) → ((place : ℕ) → is_there (get_or peerings place None) ≡ false) → is_none_kept peerings ≡ true
+all_absent [] each = refl
+all_absent (kept ∷ more) each = rw (each zero, all_absent more (λ place. each (suc place))) refl
+
+pub alone : (edge : EdgeLists) (none : Bool) → none ≡ list_all (λ kept. not (is_there kept)) edge.peerings → (none ≡ true) ↔ ((peer : EdgeId) → has_end (seen edge) peer ≡ false)
+unfolding seen
+alone edge none is = ((λ all peer. each_absent edge.peerings peer.0 (sym is ∙ all)), (λ each. is ∙ all_absent edge.peerings (λ place. each (record { 0 = place }))))
