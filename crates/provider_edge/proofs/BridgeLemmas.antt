@@ -37,7 +37,7 @@ use Rattle.edge_forwarding.specs.Forwarding.{ForwardingLists, KeepsForwarding, d
 use Rattle.peer_dialogue.specs.Peering.{at_edge}
 use Rattle.edge_forwarding.proofs.OpenLemmas.{same_tests}
 use Rattle.peer_dialogue.proofs.SpeakerLemmas.{told_last}
-use Rattle.provider_edge.proofs.ForwardLemmas.{learned_read, seen_forwarding}
+use Rattle.provider_edge.proofs.ForwardLemmas.{learned_read, seen_kept}
 use Rattle.provider_edge.proofs.SyncLemmas.{forwards_hearing, open_forwards}
 use Rattle.provider_edge.specs.Invariant.{IsEdge}
 use Rattle.provider_edge.specs.Lists.{EdgeLists, Keeps, seen}
@@ -148,7 +148,7 @@ copied_else true work copied away = absurd (cc (away))
 pub heard_edge : (c : EdgeLists) (f : ForwardingLists) (service : ServiceId) (frame : List ℕ) (arrival : ℕ) → IsEdge c → KeepsForwarding c.forwarding f
     → ((edge : EdgeState) → with_forwarding f edge ≡ hearing service frame arrival (with_forwarding c.forwarding edge))
     → seen (record c { forwarding = f }) ≡ hearing service frame arrival (seen c)
-heard_edge c f service frame arrival is keeps step = seen_forwarding (hearing service frame arrival) c f is keeps step
+heard_edge c f service frame arrival is keeps step = seen_kept (hearing service frame arrival) c f is keeps step
 
 pub heard_targets : (c : EdgeLists) (f : ForwardingLists) (service : ServiceId) (frame : List ℕ) (arrival : ℕ) (targets : List ℕ) → IsEdge c → InSync c.plan (seen c) → KeepsForwarding c.forwarding f
     → ((edge : EdgeState) → with_forwarding f edge ≡ hearing service frame arrival (with_forwarding c.forwarding edge))

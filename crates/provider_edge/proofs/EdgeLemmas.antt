@@ -28,6 +28,7 @@ use Rattle.edge_model.specs.Mend.{mends}
 use Rattle.edge_model.specs.Session.{happens_with_ends}
 use Rattle.edge_model.specs.State.{EdgeState, Peering, has_end, later, with_bits, with_learned, with_priority, with_ticks, without_ends, without_peerings}
 use Rattle.edge_model.specs.Synced.{InSync}
+use Rattle.provider_edge.specs.Tidy.{IsTidy}
 use Rattle.edge_model.specs.Tick.{counted, forgetting, ticks_sessions}
 use Rattle.edge_model.specs.Wire.{is_own_spoke, priority_input, status_input, turned_wire, wire_input}
 use Rattle.edge_model.specs.Work.{Answers, Work, beginning, changes, idles}
@@ -297,6 +298,25 @@ pub worked_stopped : (e : EdgeLists) (stopped : Bool) (calls : List LinkCall) (e
 unfolding worked
 worked_stopped e stopped calls effects = ap (λ (s : EdgeState). record { edge = s; calls = calls; effects = effects.list; idle = effects.idle }) (seen_stopped e stopped)
 
+-- an input begins
+pub edge_begins : (e : EdgeLists) → IsEdge e → IsEdge (record e { stopped = true })
+edge_begins e is = record {
+  checked = is.checked;
+  peerings = is.peerings;
+  held = is.held;
+  places = is.places;
+  wires = is.wires;
+  each_bits = is.each_bits;
+  small = is.small;
+  priorities = is.priorities;
+  each_ping = is.each_ping;
+  spokes = is.spokes;
+  plan = is.plan;
+  me = is.me;
+  synced = λ going. absurd (cc (going));
+  tidy = λ set. subst (IsTidy e.plan) (sym (seen_stopped e true)) (is.tidy set);
+}
+
 -- the input is done
 pub edge_going : (e : EdgeLists) → IsEdge e → InSync e.plan (seen e) → IsEdge (record e { stopped = false })
 edge_going e is synced = record {
@@ -313,4 +333,30 @@ edge_going e is synced = record {
   plan = is.plan;
   me = is.me;
   synced = λ going. subst (InSync e.plan) (sym (seen_stopped e false)) synced;
+  tidy = λ set. subst (IsTidy e.plan) (sym (seen_stopped e false)) (is.tidy set);
+}
+
+-- ---- mended
+
+pub seen_mended : (e : EdgeLists) (mended : Bool) → seen (record e { mended = mended }) ≡ seen e
+unfolding seen
+seen_mended e mended = refl
+
+-- an edge that is tidy counts as mended, or not
+pub holds_mended : (e : EdgeLists) (mended : Bool) → (mended ≡ true → IsTidy e.plan (seen e)) → IsEdge e → IsEdge (record e { mended = mended })
+holds_mended e mended tidy is = record {
+  checked = is.checked;
+  peerings = is.peerings;
+  held = is.held;
+  places = is.places;
+  wires = is.wires;
+  each_bits = is.each_bits;
+  spokes = is.spokes;
+  plan = is.plan;
+  me = is.me;
+  small = is.small;
+  priorities = is.priorities;
+  each_ping = is.each_ping;
+  synced = λ going. subst (InSync e.plan) (sym (seen_mended e mended)) (is.synced going);
+  tidy = λ set. subst (IsTidy e.plan) (sym (seen_mended e mended)) (tidy set);
 }

@@ -7,7 +7,7 @@ use Rattle.net_base.specs.declared.plan.places.ServiceId.{ServiceId}
 use Rattle.net_base.specs.declared.plan.places.WireId.{WireId}
 use Rattle.net_base.specs.plan.Places.{wire_row}
 use Rattle.net_base.specs.declared.trace.down.Down.{Down}
-use Rattle.std.proofs.Common.{true, Bool, Bor, Option, Some, None}
+use Rattle.std.proofs.Common.{true, false, Bool, Bor, Option, Some, None}
 use Rattle.std.specs.Prelude.{IfSome}
 use Rattle.vsi_bridge.specs.BridgeState.{BridgeState}
 use Rattle.hvpls_spokes.specs.declared.port.Port.{Port}
@@ -19,8 +19,9 @@ use Rattle.edge_model.specs.Tick.{forgetting}
 use Rattle.edge_forwarding.specs.Forwarding.{ForwardingLists, KeepsForwarding, circuits_in, domain_of, entries_of, told_in, with_forwarding}
 use Rattle.provider_edge.specs.Invariant.{IsEdge}
 use Rattle.provider_edge.specs.Lists.{EdgeLists, Keeps, seen}
+use Rattle.provider_edge.specs.Tidy.{IsTidy}
 
-pub holds_forwarding : (c : EdgeLists) (f : ForwardingLists) → KeepsForwarding c.forwarding f → c.stopped ≡ true → IsEdge c → IsEdge (record c { forwarding = f })
+pub holds_forwarding : (c : EdgeLists) (f : ForwardingLists) → KeepsForwarding c.forwarding f → c.stopped ≡ true → IsEdge c → IsEdge (record c { forwarding = f; mended = false })
 holds_forwarding c f keeps working is = record {
   checked = is.checked;
   peerings = is.peerings;
@@ -35,9 +36,29 @@ holds_forwarding c f keeps working is = record {
   priorities = is.priorities;
   each_ping = is.each_ping;
   synced = λ going. absurd (cc (sym working ∙ going));
+  tidy = λ set. absurd (cc (set));
 }
 
-pub keeps_forwarding : (c : EdgeLists) (f : ForwardingLists) → Keeps c (record c { forwarding = f })
+-- where the edge counts as mended, it is so still
+pub holds_kept : (c : EdgeLists) (f : ForwardingLists) → KeepsForwarding c.forwarding f → c.stopped ≡ true → (c.mended ≡ true → IsTidy c.plan (seen (record c { forwarding = f }))) → IsEdge c → IsEdge (record c { forwarding = f })
+holds_kept c f keeps working tidy is = record {
+  checked = is.checked;
+  peerings = is.peerings;
+  held = is.held;
+  places = is.places;
+  wires = is.wires;
+  each_bits = is.each_bits;
+  spokes = is.spokes;
+  plan = keeps.plan ∙ is.plan;
+  me = keeps.me ∙ is.me;
+  small = is.small;
+  priorities = is.priorities;
+  each_ping = is.each_ping;
+  synced = λ going. absurd (cc (sym working ∙ going));
+  tidy = tidy;
+}
+
+pub keeps_forwarding : {m : Bool} (c : EdgeLists) (f : ForwardingLists) → Keeps c (record c { forwarding = f; mended = m })
 keeps_forwarding c f = record { plan = refl; me = refl; places = refl; count = refl; stopped = refl }
 
 -- the edge forwards by what it has
@@ -50,17 +71,28 @@ unfolding seen with_forwarding
 forwarding_now c f here = λ i. record (seen (record c { forwarding = f })) { me = sym here i }
 
 -- a change of what the edge forwards by
-pub seen_forwarding : (change : EdgeState → EdgeState) (c : EdgeLists) (f : ForwardingLists) → IsEdge c → KeepsForwarding c.forwarding f
+pub seen_kept : (change : EdgeState → EdgeState) (c : EdgeLists) (f : ForwardingLists) → IsEdge c → KeepsForwarding c.forwarding f
     → ((edge : EdgeState) → with_forwarding f edge ≡ change (with_forwarding c.forwarding edge))
     → seen (record c { forwarding = f }) ≡ change (seen c)
-seen_forwarding change c f is keeps step =
+seen_kept change c f is keeps step =
     forwarding_now c f (keeps.me ∙ is.me) ∙ (step (seen c) ∙ ap change (forwarding_at c is.me))
+
+-- what is seen of an edge is no matter of whether it counts as mended
+pub seen_unmended : (c : EdgeLists) → seen (record c { mended = false }) ≡ seen c
+unfolding seen
+seen_unmended c = refl
+
+-- a change after which the edge does not count as mended
+pub seen_forwarding : (change : EdgeState → EdgeState) (c : EdgeLists) (f : ForwardingLists) → IsEdge c → KeepsForwarding c.forwarding f
+    → ((edge : EdgeState) → with_forwarding f edge ≡ change (with_forwarding c.forwarding edge))
+    → seen (record c { forwarding = f; mended = false }) ≡ change (seen c)
+seen_forwarding change c f is keeps step = seen_unmended (record c { forwarding = f }) ∙ seen_kept change c f is keeps step
 
 -- what was learned at the port that is found is forgotten
 pub seen_forgot : (test : Port → Bool) (c : EdgeLists) (f : ForwardingLists) (service : ServiceId) → IsEdge c → KeepsForwarding c.forwarding f
     → ((edge : EdgeState) → with_forwarding f edge
     ≡ with_addresses service (without_port (position test (ports_of c.forwarding.plan service c.forwarding.me)) (addresses_of (with_forwarding c.forwarding edge) service)) (with_forwarding c.forwarding edge))
-    → seen (record c { forwarding = f })
+    → seen (record c { forwarding = f; mended = false })
     ≡ with_addresses service (without_port (position test (ports_of c.plan service c.me)) (addresses_of (seen c) service)) (seen c)
 seen_forgot test c f service is keeps step =
     seen_forwarding (λ edge. with_addresses service (without_port (position test (ports_of c.forwarding.plan service c.forwarding.me)) (addresses_of edge service)) edge) c f is keeps step
@@ -69,7 +101,7 @@ seen_forgot test c f service is keeps step =
 
 pub seen_wire : (c : EdgeLists) (f : ForwardingLists) (wire : WireId) → IsEdge c → KeepsForwarding c.forwarding f
     → ((edge : EdgeState) → with_forwarding f edge ≡ forgetting_wire c.forwarding.plan wire (wire_row c.forwarding.plan wire) (with_forwarding c.forwarding edge))
-    → seen (record c { forwarding = f }) ≡ forgetting_wire c.plan wire (wire_row c.plan wire) (seen c)
+    → seen (record c { forwarding = f; mended = false }) ≡ forgetting_wire c.plan wire (wire_row c.plan wire) (seen c)
 seen_wire c f wire is keeps step =
     seen_forwarding (λ edge. forgetting_wire c.forwarding.plan wire (wire_row c.forwarding.plan wire) edge) c f is keeps step
     ∙ ap (λ (p : Plan). forgetting_wire p wire (wire_row p wire) (seen c)) is.plan
@@ -78,7 +110,7 @@ pub seen_aged : (c : EdgeLists) (f : ForwardingLists) → IsEdge c → KeepsForw
     → ((edge : EdgeState) → with_forwarding f edge ≡ forgetting c.forwarding.plan (with_forwarding c.forwarding edge))
     → seen (record c { forwarding = f }) ≡ forgetting c.plan (seen c)
 seen_aged c f is keeps step =
-    seen_forwarding (forgetting c.forwarding.plan) c f is keeps step ∙ ap (λ (p : Plan). forgetting p (seen c)) is.plan
+    seen_kept (forgetting c.forwarding.plan) c f is keeps step ∙ ap (λ (p : Plan). forgetting p (seen c)) is.plan
 
 -- ---- what is read
 
@@ -105,7 +137,7 @@ pub seen_later : (c : EdgeLists) (f : ForwardingLists) → IsEdge c → KeepsFor
     → ((edge : EdgeState) → with_forwarding f edge ≡ with_ticks (later c.forwarding.ticks) (with_forwarding c.forwarding edge))
     → seen (record c { forwarding = f }) ≡ with_ticks (later (seen c).ticks) (seen c)
 seen_later c f is keeps step =
-    seen_forwarding (with_ticks (later c.forwarding.ticks)) c f is keeps step ∙ ap (λ (n : ℕ). with_ticks (later n) (seen c)) (ticks_read c)
+    seen_kept (with_ticks (later c.forwarding.ticks)) c f is keeps step ∙ ap (λ (n : ℕ). with_ticks (later n) (seen c)) (ticks_read c)
 
 pub learned_if : (c : EdgeLists) (service : ServiceId) (lent : Option (Bor BridgeState)) → IfSome lent (λ bridge. bridge.now.entries ≡ entries_of (domain_of c.forwarding service.0))
     → IfSome lent (λ bridge. bridge.now.entries ≡ addresses_of (seen c) service)

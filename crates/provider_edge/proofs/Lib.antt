@@ -10,6 +10,7 @@ pub mod EchoLemmas
 pub mod EdgeLemmas
 pub mod EffectLemmas
 pub mod ForwardLemmas
+pub mod HeardLemmas
 pub mod KeptLemmas
 pub mod LiftLemmas
 pub mod MendLemmas
@@ -25,5 +26,6 @@ pub mod StayLemmas
 pub mod SwitchLemmas
 pub mod SyncLemmas
 pub mod TickLemmas
+pub mod TidyLemmas
 pub mod WorkLemmas
 pub mod WithdrawLemmas

@@ -66,6 +66,21 @@ happened_none told peer event taken edge now calls out read none took =
     ap (λ (e : EdgeState). record { edge = e; calls = calls; effects = out; idle = false }) (took ∙ put_same peer None edge (sym read ∙ none))
     ∙ ap (λ (x : Option Peering). happens_to told peer event x (record { edge = edge; calls = calls; effects = out; idle = false })) (sym none ∙ read)
 
+absent_is : (x : Option Peering) → is_there x ≡ false → None ≡ x
+absent_is None absent = refl
+absent_is (Some kept) absent = absurd (cc (absent))
+
+-- no session stands, and none is looked for
+pub untouched_none : (told : Answers) (peer : EdgeId) (event : SessionEvent) (edge : EdgeState) (calls : List LinkCall) (out : List Effect)
+    → has_end edge peer ≡ false → at_edge edge calls out ≡ happens told peer event (at_edge edge calls out)
+unfolding at_edge
+untouched_none told peer event edge calls out absent =
+    ap (λ (x : Option Peering). happens_to told peer event x (record { edge = edge; calls = calls; effects = out; idle = false })) (absent_is (edge.peering peer.0) absent)
+
+-- so nothing is kept of the neighbour
+pub nothing_kept : (peer : EdgeId) (edge : EdgeState) → has_end edge peer ≡ false → edge.peering peer.0 ≡ None
+nothing_kept peer edge absent = sym (absent_is (edge.peering peer.0) absent)
+
 -- no end of a connection is lost where none stands
 pub lost_none : (c mid : EdgeLists) (told : Answers) (peer : EdgeId) (taken : Option Peering) (calls : List LinkCall) → taken ≡ (seen c).peering peer.0 → taken ≡ None → seen mid ≡ with_peering peer None (seen c)
     → worked mid calls (record { idle = true; list = [] }) ≡ lost_input c.plan told peer (beginning (seen c) calls)

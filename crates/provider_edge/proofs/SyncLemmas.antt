@@ -1,5 +1,5 @@
 -- Between two inputs the ports that are open are those that forward.
-use Rattle.std.proofs.Common.{◌≡◌, ◌<◌, ◌≤◌, ◌+◌, ◌++◌, ◌&&◌, ◌||◌, ◌∙◌, ◌⊎◌, inl, inr, ℕ, zero, suc, Bool, true, false, cond, List, [], ◌∷◌, Option, Some, None, length, position, slice_get, slice_index_or, nat_eq, refl, ap, sym, subst, arith}
+use Rattle.std.proofs.Common.{◌≡◌, ◌<◌, ◌≤◌, ◌+◌, ◌++◌, ◌&&◌, ◌||◌, ◌∙◌, ◌⊎◌, inl, inr, ℕ, zero, suc, Bool, true, false, cond, List, [], ◌∷◌, Option, Some, None, is_some, length, position, slice_get, slice_index_or, nat_eq, refl, ap, sym, subst, arith}
 use Rattle.std.specs.List.{AllByRecursion, list_any}
 use Rattle.std.specs.Prelude.{IfSome}
 use Rattle.std.proofs.lemmas.Bool.{eq-eqb}
@@ -193,6 +193,20 @@ wire_port_opens c slot service p is synced within terminal up found =
     ∙ (opens_by_wire (circuits_in c.forwarding) (told_in c.forwarding) (ports_of c.plan service c.me) p place.wire.0 (found_wire_port place.wire (ports_of c.plan service c.me) p found)
     ∙ (ap is_up (told_of c place.wire.0)
     ∙ (told_up c.plan (seen c) place (synced_at c slot is synced within) terminal ∙ up)))
+
+-- and that of one that does not is shut
+pub wire_port_shut : (c : EdgeLists) (place : EndPlace) (service : ServiceId) (p : ℕ) → IsEdge c → IsSynced c.plan (seen c) place
+    → place.terminal ≡ true → is_some (down_at c.plan (seen c) place) ≡ true
+    → position (is_wire_port place.wire) (ports_of c.plan service c.me) ≡ Some p → open_ports c.forwarding service p ≡ false
+wire_port_shut c place service p is synced terminal down found =
+    ap (λ (t : ℕ → Bool). t p) (open_in c service is)
+    ∙ (opens_by_wire (circuits_in c.forwarding) (told_in c.forwarding) (ports_of c.plan service c.me) p place.wire.0 (found_wire_port place.wire (ports_of c.plan service c.me) p found)
+    ∙ (ap is_up (told_of c place.wire.0)
+    ∙ (told_up c.plan (seen c) place synced terminal ∙ shut (down_at c.plan (seen c) place) down)))
+  where
+    shut : (d : Option Down) → is_some d ≡ true → is_up d ≡ false
+    shut None some = absurd (cc (some))
+    shut (Some cause) some = refl
 
 -- the port that is found for a circuit that is on is open
 on_of : (c : EdgeLists) (circuit : ℕ) → circuits_in c.forwarding circuit ≡ (seen c).circuit_on circuit

@@ -1,11 +1,12 @@
 -- What always holds of an edge.
-use Rattle.std.specs.Prelude.{◌≡◌, ◌≤◌, All, false, length}
+use Rattle.std.specs.Prelude.{◌≡◌, ◌≤◌, All, true, false, length}
 use Rattle.net_base.specs.plan.Accepted.{IsChecked}
 use Rattle.edge_model.specs.EndPlaces.{end_places}
 use Rattle.edge_model.specs.Synced.{InSync}
 use Rattle.provider_edge.specs.Bounds.{HoldsFew}
 use Rattle.provider_edge.specs.Lists.{EdgeLists, seen}
 use Rattle.provider_edge.specs.Spokes.{AreSpokesOf}
+use Rattle.provider_edge.specs.Tidy.{IsTidy}
 
 pub record IsEdge (edge : EdgeLists) : Type 0 where
   pub checked : IsChecked edge.plan
@@ -22,3 +23,5 @@ pub record IsEdge (edge : EdgeLists) : Type 0 where
   pub me : edge.forwarding.me ≡ edge.me
   -- between two inputs what was told last of each wire is why its end does not forward
   pub synced : edge.stopped ≡ false → InSync edge.plan (seen edge)
+  -- an edge that counts as mended has nothing to mend
+  pub tidy : edge.mended ≡ true → IsTidy edge.plan (seen edge)

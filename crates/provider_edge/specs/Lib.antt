@@ -10,3 +10,4 @@ pub mod Pings
 pub mod Said
 pub mod Spokes
 pub mod Taking
+pub mod Tidy

@@ -33,6 +33,8 @@ pub record EdgeLists : Type 0 where
   pub forwarding : ForwardingLists
   -- it works on an input, or memory was refused
   pub stopped : Bool
+  -- it has mended, and nothing has changed since that it would mend
+  pub mended : Bool
 
 unfoldable pub seen : EdgeLists → EdgeState
 seen edge = record {
@@ -65,6 +67,7 @@ no_edge plan me = record {
   spokes = record { slots = []; chosen = [] };
   forwarding = record { plan = plan; me = me; circuits_on = []; told_down = []; domains = []; ticks = 0 };
   stopped = false;
+  mended = false;
 }
 
 -- the work that the edge has done, over these calls of its link

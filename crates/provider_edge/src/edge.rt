@@ -60,6 +60,7 @@ pub struct Edge {
     spokes: Spokes,
     forwarding: Forwarding,
     stopped: bool,
+    mended: bool,
 }
 
 impl Model for Edge {
@@ -68,9 +69,9 @@ impl Model for Edge {
 
     ghost Value = { EdgeLists };
 
-    ghost view = { λ e. record { plan = e.plan.value; me = e.me; peerings = e.peerings.items; ends = e.ends; wires_on = e.wires_on.items; bits = e.bits.items; priorities = e.priorities.items; pings = e.pings.items; spokes = e.spokes; forwarding = e.forwarding; stopped = e.stopped } };
+    ghost view = { λ e. record { plan = e.plan.value; me = e.me; peerings = e.peerings.items; ends = e.ends; wires_on = e.wires_on.items; bits = e.bits.items; priorities = e.priorities.items; pings = e.pings.items; spokes = e.spokes; forwarding = e.forwarding; stopped = e.stopped; mended = e.mended } };
 
-    ghost invariant = { λ e. IsEdge (record { plan = e.plan.value; me = e.me; peerings = e.peerings.items; ends = e.ends; wires_on = e.wires_on.items; bits = e.bits.items; priorities = e.priorities.items; pings = e.pings.items; spokes = e.spokes; forwarding = e.forwarding; stopped = e.stopped }) };
+    ghost invariant = { λ e. IsEdge (record { plan = e.plan.value; me = e.me; peerings = e.peerings.items; ends = e.ends; wires_on = e.wires_on.items; bits = e.bits.items; priorities = e.priorities.items; pings = e.pings.items; spokes = e.spokes; forwarding = e.forwarding; stopped = e.stopped; mended = e.mended }) };
 }
 
 impl Edge {

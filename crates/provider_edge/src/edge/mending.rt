@@ -3,4 +3,5 @@
 mod mend;
 mod mend_end;
 mod spokes;
+mod tidy;
 mod wish;

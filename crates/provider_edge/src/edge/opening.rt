@@ -90,6 +90,7 @@ impl Edge {
                 spokes: parts.spokes,
                 forwarding: parts.forwarding,
                 stopped: false,
+                mended: false,
             }),
             Err(fault) => Err(fault),
         }

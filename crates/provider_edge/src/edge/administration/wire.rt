@@ -121,6 +121,7 @@ impl Edge {
         ensures keeps { Keeps self.old self.new }
         ensures step { seen self.new ≡ with_wire wire on (seen self.old) }
     {
+        self.mended = false;
         self.wires_on[wire.0 as usize] = on;
     }
 
@@ -130,6 +131,7 @@ impl Edge {
         ensures keeps { Keeps self.old self.new }
         ensures step { seen self.new ≡ with_renewed wire (seen self.old) }
     {
+        self.mended = false;
         self.ends.renew(wire);
     }
 
@@ -141,6 +143,7 @@ impl Edge {
         ensures keeps { Keeps self.old self.new }
         ensures step { seen self.new ≡ with_bits wire bits (seen self.old) }
     {
+        self.mended = false;
         self.bits[wire.0 as usize] = bits;
     }
 }

@@ -20,6 +20,7 @@ impl Edge {
         ensures keeps { Keeps self.old self.new }
         ensures step { seen self.new ≡ with_circuit circuit on (seen self.old) }
     {
+        self.mended = false;
         self.forwarding.turn(circuit, service, on);
     }
 
@@ -32,6 +33,7 @@ impl Edge {
         ensures step { seen self.new
             ≡ with_addresses service (without_port (position (is_circuit_port circuit) (ports_of self.old.plan service self.old.me)) (addresses_of (seen self.old) service)) (seen self.old) }
     {
+        self.mended = false;
         self.forwarding.forget_circuit(circuit, service);
     }
 
@@ -51,11 +53,12 @@ impl Edge {
         ensures keeps { Keeps self.old self.new }
         ensures step { seen self.new ≡ with_learned (λ service. []) (seen self.old) }
     {
+        self.mended = false;
         self.forwarding.clear();
     }
 
     // One tick more.
-    #[tactic(auto, using(crate::proofs::ForwardLemmas::holds_forwarding, crate::proofs::ForwardLemmas::keeps_forwarding))]
+    #[tactic(auto, using(crate::proofs::ForwardLemmas::keeps_forwarding))]
     pub(crate) fn count_tick(&mut self)
         requires working { self.old.stopped ≡ true }
         ensures keeps { Keeps self.old self.new }
@@ -65,7 +68,7 @@ impl Edge {
     }
 
     // Addresses age: each bridge forgets what it has not heard for as long as its age limit.
-    #[tactic(auto, using(crate::proofs::ForwardLemmas::holds_forwarding, crate::proofs::ForwardLemmas::keeps_forwarding))]
+    #[tactic(auto, using(crate::proofs::ForwardLemmas::keeps_forwarding))]
     pub(crate) fn age(&mut self)
         requires working { self.old.stopped ≡ true }
         ensures keeps { Keeps self.old self.new }

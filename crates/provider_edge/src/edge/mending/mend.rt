@@ -23,9 +23,25 @@ impl Edge {
         ensures step { OnOk result ((told : Answers) → Agrees told (L.calls work.new.link.now)
             → at_work L.calls self.new work.new ≡ mends self.old.plan told (at_work L.calls self.old work.old)) }
     {
+        if self.mended {
+            return Ok(());
+        }
+        self.mend_rounds(work)
+    }
+
+    // Round after round, until the link took each message of one.
+    fn mend_rounds<L: Link>(&mut self, work: &mut AtWork<'_, L>) -> Result<(), NoMemory>
+        requires working { self.old.stopped ≡ true }
+        ensures goes { Works L.calls self.old work.old self.new work.new }
+        ensures step { OnOk result ((told : Answers) → Agrees told (L.calls work.new.link.now)
+            → at_work L.calls self.new work.new ≡ mends self.old.plan told (at_work L.calls self.old work.old)) }
+    {
+        // Named so that what always holds of the fields is at hand for the proof.
+        let _ = &self.plan;
         let rounds = self.count_rounds();
         for _round in 0..rounds {
             if !self.mend_once(work)? {
+                self.settle();
                 return Ok(());
             }
         }

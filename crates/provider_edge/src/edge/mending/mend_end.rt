@@ -230,6 +230,7 @@ impl Edge {
         ensures keeps { Keeps self.old self.new }
         ensures step { seen self.new ≡ forgetting_wire self.old.plan wire (wire_row self.old.plan wire) (seen self.old) }
     {
+        self.mended = false;
         self.forwarding.forget_wire(wire);
     }
 
@@ -273,6 +274,7 @@ impl Edge {
         ensures keeps { Keeps self.old self.new }
         ensures step { seen self.new ≡ with_told_down wire down (seen self.old) }
     {
+        self.mended = false;
         self.forwarding.tell(wire, down);
     }
 

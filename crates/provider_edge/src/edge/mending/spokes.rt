@@ -46,6 +46,7 @@ impl Edge {
         ensures keeps { Keeps self.old self.new }
         ensures step { seen self.new ≡ with_chosen (put_at (seen self.old).chosen service chosen) (seen self.old) }
     {
+        self.mended = false;
         self.spokes.choose(service, chosen);
     }
 
@@ -121,6 +122,7 @@ impl Edge {
         ensures keeps { Keeps self.old self.new }
         ensures step { seen self.new ≡ with_priority wire priority (seen self.old) }
     {
+        self.mended = false;
         self.priorities[wire.0 as usize] = priority;
     }
 

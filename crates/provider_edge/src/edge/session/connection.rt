@@ -115,6 +115,7 @@ impl Edge {
         ensures keeps { Keeps self.old self.new }
         ensures step { seen self.new ≡ without_ends (seen self.old) }
     {
+        self.mended = false;
         self.ends.restarted();
         forget_pings(&mut self.pings);
         self.spokes.clear();

@@ -3,12 +3,13 @@ ghost use Rattle.std.specs.Prelude.{◌≡◌, ◌<◌, ◌↔◌, not, List, So
 ghost use Rattle.std.specs.List.{list_all};
 ghost use Rattle.net_base.specs.declared.outside.link_call.LinkCall.{LinkCall};
 ghost use Rattle.ldp_codec.specs.declared.decode_fault.DecodeFault.{DecodeFault};
+ghost use Rattle.pw_signalling.specs.Rows.{lost};
 ghost use Rattle.session_core.specs.Messages.{HasData};
 ghost use Rattle.session_core.specs.Table.{Refused};
 ghost use Rattle.edge_model.specs.declared.effect.Effect.{Effect};
 ghost use Rattle.edge_model.specs.Hear.{advises, was_up};
 ghost use Rattle.edge_model.specs.Session.{clears_ends, happens, happens_with_ends, says};
-ghost use Rattle.edge_model.specs.State.{has_end, is_there, with_peering, without_peerings};
+ghost use Rattle.edge_model.specs.State.{has_end, is_there, with_ends_beside, with_peering, without_peerings};
 ghost use Rattle.edge_model.specs.Work.{Agrees, Answers};
 ghost use Rattle.peer_dialogue.specs.Event.{MayHappen, event_of};
 ghost use Rattle.peer_dialogue.specs.Peering.{at_edge, gone, held_octets};
@@ -16,6 +17,7 @@ ghost use Rattle.peer_dialogue.specs.PwMessage.{CanBeSaid, numbered};
 ghost use Rattle.provider_edge.specs.AtWork.{Works, at_work};
 ghost use Rattle.provider_edge.specs.Bounds.{HoldsFew};
 ghost use Rattle.provider_edge.specs.Lists.{Keeps, seen};
+ghost use Rattle.provider_edge.specs.Tidy.{stands_as};
 
 use crate::Edge;
 use net_base::{EdgeId, Link, NoMemory};
@@ -62,6 +64,7 @@ impl Edge {
         if peer.0 as usize >= self.peerings.len() {
             return None;
         }
+        self.mended = false;
         self.peerings[peer.0 as usize].take()
     }
 
@@ -73,6 +76,7 @@ impl Edge {
         ensures step { seen self.new ≡ with_peering peer kept (seen self.old) }
     {
         held_in(&kept);
+        self.mended = false;
         self.peerings[peer.0 as usize] = kept;
     }
 
@@ -83,8 +87,21 @@ impl Edge {
         ensures step { (calls : List LinkCall) (out : List Effect) → at_edge (seen self.new) calls out ≡ clears_ends peer (at_edge (seen self.old) calls out) }
     {
         if !self.has_end(peer) {
-            self.ends.lose(peer);
+            self.lose_ends(peer);
         }
+    }
+
+    // Each end beside an absent peer is lost; where the edge counts as mended each one is already.
+    fn lose_ends(&mut self, peer: EdgeId)
+        requires working { self.old.stopped ≡ true }
+        requires absent { has_end (seen self.old) peer ≡ false }
+        ensures keeps { Keeps self.old self.new }
+        ensures step { seen self.new ≡ with_ends_beside peer lost (seen self.old) }
+    {
+        if self.mended {
+            return;
+        }
+        self.ends.lose(peer);
     }
 
     // No session stands any more.
@@ -93,6 +110,7 @@ impl Edge {
         ensures keeps { Keeps self.old self.new }
         ensures step { seen self.new ≡ without_peerings (seen self.old) }
     {
+        self.mended = false;
         drop_all(&mut self.peerings);
     }
 
@@ -110,13 +128,22 @@ impl Edge {
         ensures step { OnOk result ((told : Answers) → Agrees told (L.calls work.new.link.now)
             → at_work L.calls self.new work.new ≡ happens_with_ends told peer (event_of event.entry) (at_work L.calls self.old work.old)) }
     {
+        // Nothing is moved where no session stands, which is so for most neighbours at a tick.
+        if !self.has_end(peer) {
+            self.clear_ends(peer);
+            return Ok(());
+        }
+        let tidy = self.mended;
+        let was_up = self.is_up(peer);
         let Some(peering) = self.take_peering(peer) else {
             self.clear_ends(peer);
             return Ok(());
         };
         let left = peering.happens(peer, event, work)?;
+        let stands = stands_as(was_up, &left);
         self.put_peering(peer, left);
         self.clear_ends(peer);
+        self.keep_mended(tidy & stands);
         Ok(())
     }
 
@@ -186,6 +213,22 @@ fn is_none_kept(peerings: &[Option<Peering>]) -> bool
     ensures { result ≡ list_all (λ kept. not (is_there kept)) peerings.now }
 {
     peerings.iter().all(|kept| kept.is_none())
+}
+
+// Whether the session stands, and is up or not as it was.
+fn stands_as(was_up: bool, left: &Option<Peering>) -> bool
+    ensures { result ≡ stands_as was_up left.now }
+{
+    match left {
+        Some(peering) => {
+            if was_up {
+                peering.is_up()
+            } else {
+                !peering.is_up()
+            }
+        }
+        None => false,
+    }
 }
 
 // No session stands any more.

@@ -107,6 +107,7 @@ impl Edge {
         ensures keeps { Keeps self.old self.new }
         ensures step { seen self.new ≡ withdrawing_at service addresses.now from (seen self.old) }
     {
+        self.mended = false;
         self.forwarding.withdraw(service, from, addresses);
     }
 

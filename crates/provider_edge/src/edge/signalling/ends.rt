@@ -44,6 +44,7 @@ impl Edge {
             × (label ≡ (seen self.old).next_label)
             × (seen self.new ≡ advertising (place_of self.old.ends slot) label told.now (seen self.old))) }
     {
+        self.mended = false;
         self.ends.advertise(slot, told)
     }
 
@@ -54,6 +55,7 @@ impl Edge {
         ensures keeps { Keeps self.old self.new }
         ensures step { seen self.new ≡ withdrawing (place_of self.old.ends slot) (seen self.old) }
     {
+        self.mended = false;
         self.ends.withdraw(slot);
     }
 
@@ -64,6 +66,7 @@ impl Edge {
         ensures keeps { Keeps self.old self.new }
         ensures step { seen self.new ≡ telling_status (place_of self.old.ends slot) status (seen self.old) }
     {
+        self.mended = false;
         self.ends.tell(slot, status);
     }
 }

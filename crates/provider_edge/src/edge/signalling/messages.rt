@@ -58,6 +58,7 @@ impl Edge {
         ensures keeps { Keeps self.old self.new }
         ensures step { seen self.new ≡ with_end_changed (bound binding.now) (Some (place_of self.old.ends slot)) (seen self.old) }
     {
+        self.mended = false;
         self.ends.on_mapping(slot, binding);
     }
 
@@ -68,6 +69,7 @@ impl Edge {
         ensures keeps { Keeps self.old self.new }
         ensures step { seen self.new ≡ with_end_changed (unbound None) (Some (place_of self.old.ends slot)) (seen self.old) }
     {
+        self.mended = false;
         self.ends.on_withdraw(slot, None);
     }
 
@@ -118,10 +120,14 @@ impl Edge {
         match fec.pw_id {
             Some(pw_id) => {
                 if let Some(slot) = self.slot_named(peer, pw_id) {
+                    self.mended = false;
                     self.ends.on_withdraw(slot, label);
                 }
             }
-            None => self.ends.on_group_withdraw(peer, fec.group),
+            None => {
+                self.mended = false;
+                self.ends.on_group_withdraw(peer, fec.group);
+            }
         }
     }
 
@@ -133,6 +139,7 @@ impl Edge {
         ensures step { seen self.new ≡ with_end_changed (released label) (end_of_fec self.old.plan (seen self.old) peer fec.now) (seen self.old) }
     {
         if let Some(slot) = self.slot_of(peer, fec) {
+            self.mended = false;
             self.ends.on_release(slot, label);
         }
     }
@@ -170,10 +177,14 @@ impl Edge {
         match fec.pw_id {
             Some(pw_id) => {
                 if let Some(slot) = self.slot_named(peer, pw_id) {
+                    self.mended = false;
                     self.ends.on_status(slot, status);
                 }
             }
-            None => self.ends.on_group_status(peer, fec.group, status),
+            None => {
+                self.mended = false;
+                self.ends.on_group_status(peer, fec.group, status);
+            }
         }
     }
 }

@@ -1,12 +1,17 @@
-use Rattle.std.proofs.Common.{◌≡◌, subst, ◌∙◌, ap}
+use Rattle.std.proofs.Common.{◌≡◌, subst, ◌∙◌, ap, sym}
 use Rattle.edge_model.specs.Tick.{forgetting}
 use Rattle.provider_edge.specs.contracts.edge.Edge.{the_view}
-use Rattle.provider_edge.proofs.ForwardLemmas.{holds_forwarding, seen_aged}
+use Rattle.provider_edge.proofs.ForwardLemmas.{holds_kept, seen_aged}
+use Rattle.provider_edge.proofs.TidyLemmas.{tidy_aged}
 use Rattle.provider_edge.specs.Lists.{EdgeLists, seen}
+use Rattle.provider_edge.specs.Tidy.{IsTidy}
 use Rattle.provider_edge.proofs.edge.Edge.age.Goals as goal
 
 pub invariant_of-self : goal.invariant_of-self
-invariant_of-self c = holds_forwarding (the_view c.self.inside) c.age.new.self c.age.ensures.keeps (ap (λ (e : EdgeLists). e.stopped) c.self.view_is ∙ c.requires.working) c.self.invariant
+invariant_of-self c =
+    let v : EdgeLists = the_view c.self.inside in
+    holds_kept v c.age.new.self c.age.ensures.keeps (ap (λ (e : EdgeLists). e.stopped) c.self.view_is ∙ c.requires.working)
+    (λ set. subst (IsTidy v.plan) (sym (seen_aged v c.age.new.self c.self.invariant c.age.ensures.keeps c.age.ensures.step)) (tidy_aged v.plan (seen v) c.self.invariant.checked (c.self.invariant.tidy set))) c.self.invariant
 
 pub returns-clause-step : goal.returns-clause-step
 returns-clause-step c =

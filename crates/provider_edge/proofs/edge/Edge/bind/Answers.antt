@@ -19,5 +19,5 @@ on_mapping-requires c = record {
 
 pub returns-clause-step : goal.returns-clause-step
 returns-clause-step c =
-    subst (λ (n : EdgeLists). seen (record (the_view c.self.inside) { ends = c.on_mapping.new.self }) ≡ with_end_changed (bound c.args.binding.now) (Some (place_of n.ends c.args.slot)) (seen n)) c.self.view_is
+    subst (λ (n : EdgeLists). seen (record (the_view c.self.inside) { ends = c.on_mapping.new.self; mended = false }) ≡ with_end_changed (bound c.args.binding.now) (Some (place_of n.ends c.args.slot)) (seen n)) c.self.view_is
     (ends_at (the_view c.self.inside) c.on_mapping.new.self (place_of (the_view c.self.inside).ends c.args.slot) (bound c.args.binding.now) c.on_mapping.ensures.seen c.on_mapping.ensures.next)

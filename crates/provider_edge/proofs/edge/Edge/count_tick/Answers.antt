@@ -1,12 +1,17 @@
-use Rattle.std.proofs.Common.{◌≡◌, subst, ◌∙◌, ap}
+use Rattle.std.proofs.Common.{◌≡◌, subst, ◌∙◌, ap, sym}
 use Rattle.edge_model.specs.State.{later, with_ticks}
 use Rattle.provider_edge.specs.contracts.edge.Edge.{the_view}
-use Rattle.provider_edge.proofs.ForwardLemmas.{holds_forwarding, seen_later}
+use Rattle.provider_edge.proofs.ForwardLemmas.{holds_kept, seen_later}
+use Rattle.provider_edge.proofs.TidyLemmas.{tidy_ticked}
 use Rattle.provider_edge.specs.Lists.{EdgeLists, seen}
+use Rattle.provider_edge.specs.Tidy.{IsTidy}
 use Rattle.provider_edge.proofs.edge.Edge.count_tick.Goals as goal
 
 pub invariant_of-self : goal.invariant_of-self
-invariant_of-self c = holds_forwarding (the_view c.self.inside) c.count_tick.new.self c.count_tick.ensures.keeps (ap (λ (e : EdgeLists). e.stopped) c.self.view_is ∙ c.requires.working) c.self.invariant
+invariant_of-self c =
+    let v : EdgeLists = the_view c.self.inside in
+    holds_kept v c.count_tick.new.self c.count_tick.ensures.keeps (ap (λ (e : EdgeLists). e.stopped) c.self.view_is ∙ c.requires.working)
+    (λ set. subst (IsTidy v.plan) (sym (seen_later v c.count_tick.new.self c.self.invariant c.count_tick.ensures.keeps c.count_tick.ensures.step)) (tidy_ticked v.plan (seen v) (later (seen v).ticks) c.self.invariant.checked (c.self.invariant.tidy set))) c.self.invariant
 
 pub returns-clause-step : goal.returns-clause-step
 returns-clause-step c =

@@ -1,4 +1,4 @@
-use Rattle.std.proofs.Common.{◌≡◌, position, subst, ◌∙◌, ap}
+use Rattle.std.proofs.Common.{◌≡◌, position, subst, ◌∙◌, ap, false}
 use Rattle.hvpls_spokes.specs.Port.{is_circuit_port, ports_of}
 use Rattle.edge_model.specs.State.{addresses_of, with_addresses, without_port}
 use Rattle.std.proofs.Common.{Some, sym}
@@ -16,7 +16,7 @@ invariant_of-self c = holds_forwarding (the_view c.self.inside) c.forget_circuit
 
 pub returns-clause-step : goal.returns-clause-step
 returns-clause-step c =
-    subst (λ (n : EdgeLists). seen (record (the_view c.self.inside) { forwarding = c.forget_circuit.new.self }) ≡ with_addresses c.args.service (without_port (position (is_circuit_port c.args.circuit) (ports_of n.plan c.args.service n.me)) (addresses_of (seen n) c.args.service)) (seen n)) c.self.view_is
+    subst (λ (n : EdgeLists). seen (record (the_view c.self.inside) { forwarding = c.forget_circuit.new.self; mended = false }) ≡ with_addresses c.args.service (without_port (position (is_circuit_port c.args.circuit) (ports_of n.plan c.args.service n.me)) (addresses_of (seen n) c.args.service)) (seen n)) c.self.view_is
     (seen_forgot (is_circuit_port c.args.circuit) (the_view c.self.inside) c.forget_circuit.new.self c.args.service c.self.invariant c.forget_circuit.ensures.keeps c.forget_circuit.ensures.step)
 
 pub forget_circuit-requires : goal.forget_circuit-requires

@@ -1,4 +1,4 @@
-use Rattle.std.proofs.Common.{◌≡◌, subst, ◌∙◌, ap}
+use Rattle.std.proofs.Common.{◌≡◌, subst, ◌∙◌, ap, false}
 use Rattle.net_base.specs.plan.Places.{wire_row}
 use Rattle.edge_model.specs.Mend.{forgetting_wire}
 use Rattle.std.proofs.Common.{◌<◌, length, sym}
@@ -13,7 +13,7 @@ invariant_of-self c = holds_forwarding (the_view c.self.inside) c.forget_wire.ne
 
 pub returns-clause-step : goal.returns-clause-step
 returns-clause-step c =
-    subst (λ (n : EdgeLists). seen (record (the_view c.self.inside) { forwarding = c.forget_wire.new.self }) ≡ forgetting_wire n.plan c.args.wire (wire_row n.plan c.args.wire) (seen n)) c.self.view_is
+    subst (λ (n : EdgeLists). seen (record (the_view c.self.inside) { forwarding = c.forget_wire.new.self; mended = false }) ≡ forgetting_wire n.plan c.args.wire (wire_row n.plan c.args.wire) (seen n)) c.self.view_is
     (seen_wire (the_view c.self.inside) c.forget_wire.new.self c.args.wire c.self.invariant c.forget_wire.ensures.keeps c.forget_wire.ensures.step)
 
 pub forget_wire-requires : goal.forget_wire-requires

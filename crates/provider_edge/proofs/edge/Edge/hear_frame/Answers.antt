@@ -7,8 +7,10 @@ use Rattle.edge_model.specs.Synced.{InSync}
 use Rattle.edge_forwarding.specs.Forwarding.{open_ports}
 use Rattle.provider_edge.specs.contracts.edge.Edge.{the_view}
 use Rattle.provider_edge.proofs.BridgeLemmas.{heard_edge, heard_targets}
-use Rattle.provider_edge.proofs.ForwardLemmas.{holds_forwarding}
+use Rattle.provider_edge.proofs.ForwardLemmas.{holds_kept}
+use Rattle.provider_edge.proofs.HeardLemmas.{tidy_heard}
 use Rattle.provider_edge.specs.Lists.{EdgeLists, seen}
+use Rattle.provider_edge.specs.Tidy.{IsTidy}
 use Rattle.provider_edge.proofs.edge.Edge.hear_frame.Goals as goal
 
 pub hear-requires-clause-service : goal.hear-requires-clause-service
@@ -18,7 +20,14 @@ pub hear-requires-clause-on : goal.hear-requires-clause-on
 hear-requires-clause-on c = subst (λ (n : EdgeLists). open_ports n.forwarding c.args.service c.args.arrival ≡ true) (sym c.self.view_is) c.requires.on
 
 pub invariant_of-self : goal.invariant_of-self
-invariant_of-self c = holds_forwarding (the_view c.self.inside) c.hear.new.self c.hear.ensures.keeps (ap (λ (e : EdgeLists). e.stopped) c.self.view_is ∙ c.requires.working) c.self.invariant
+invariant_of-self c =
+    let v : EdgeLists = the_view c.self.inside in
+    let synced : InSync v.plan (seen v) = subst (λ (n : EdgeLists). InSync n.plan (seen n)) (sym c.self.view_is) c.requires.synced in
+    let on : open_ports v.forwarding c.args.service c.args.arrival ≡ true = subst (λ (n : EdgeLists). open_ports n.forwarding c.args.service c.args.arrival ≡ true) (sym c.self.view_is) c.requires.on in
+    holds_kept v c.hear.new.self c.hear.ensures.keeps (ap (λ (e : EdgeLists). e.stopped) c.self.view_is ∙ c.requires.working)
+    (λ set.
+    subst (IsTidy v.plan) (sym (heard_edge v c.hear.new.self c.args.service c.args.frame.now c.args.arrival c.self.invariant c.hear.ensures.keeps c.hear.ensures.step))
+    (tidy_heard v c.args.service c.args.frame.now c.args.arrival c.self.invariant synced on (c.self.invariant.tidy set))) c.self.invariant
 
 pub returns-clause-step : goal.returns-clause-step
 returns-clause-step c =

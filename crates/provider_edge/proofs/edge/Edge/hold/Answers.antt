@@ -1,12 +1,30 @@
+use Rattle.std.proofs.Common.{◌∙◌, ap, subst, sym}
+use Rattle.net_base.specs.declared.plan.Plan.{Plan}
+use Rattle.net_base.specs.plan.Accepted.{IsChecked}
+use Rattle.edge_model.specs.State.{EdgeState, Peering}
+use Rattle.provider_edge.proofs.ListLemmas.{keeps_both}
+use Rattle.peer_dialogue.specs.Peering.{at_edge}
 use Rattle.provider_edge.proofs.MessageLemmas.{not_held, now_held}
-use Rattle.provider_edge.specs.Lists.{seen}
+use Rattle.provider_edge.proofs.TidyLemmas.{tidy_kept}
+use Rattle.provider_edge.specs.Lists.{EdgeLists, Keeps, seen}
+use Rattle.provider_edge.specs.Tidy.{IsTidy}
 use Rattle.provider_edge.proofs.edge.Edge.hold.Goals as goal
 
 pub returns-in-Some-clause-step : goal.returns-in-Some-clause-step
 returns-in-Some-clause-step c = λ calls out.
-    now_held c.args.peer c.take_peering.result c.in-Some.peering c.hold.new.self c.args.held (seen c.args.self.now) (seen c.take_peering.new.self) (seen c.put_peering.new.self) calls out
+    ap (λ (e : EdgeState). at_edge e calls out) c.keep_mended.ensures.step
+    ∙ now_held c.args.peer c.take_peering.result c.in-Some.peering c.hold.new.self c.args.held (seen c.args.self.now) (seen c.take_peering.new.self) (seen c.put_peering.new.self) calls out
     c.take_peering.ensures.taken c.in-Some.is c.hold.ensures c.take_peering.ensures.step c.put_peering.ensures.step
 
 pub returns-in_default-clause-step : goal.returns-in_default-clause-step
 returns-in_default-clause-step c = λ calls out.
     not_held c.args.peer c.take_peering.result c.args.held (seen c.args.self.now) (seen c.take_peering.new.self) calls out c.take_peering.ensures.taken c.in_default.is c.take_peering.ensures.step
+
+pub keep_mended-requires-clause-tidy : goal.keep_mended-requires-clause-tidy
+keep_mended-requires-clause-tidy c = λ set.
+    let keeps : Keeps c.args.self.now c.put_peering.new.self = keeps_both _ _ _ c.take_peering.ensures.keeps c.put_peering.ensures.keeps in
+    subst (λ (p : Plan). IsTidy p (seen c.put_peering.new.self)) (sym keeps.plan)
+    (tidy_kept c.args.self.now.plan c.args.peer c.in-Some.peering c.hold.new.self c.take_peering.result (seen c.args.self.now) (seen c.take_peering.new.self) (seen c.put_peering.new.self)
+    (subst (λ (n : EdgeLists). IsChecked n.plan) c.self.view_is c.self.invariant.checked)
+    (subst (λ (n : EdgeLists). IsTidy n.plan (seen n)) c.self.view_is (c.self.invariant.tidy set))
+    c.take_peering.ensures.taken c.in-Some.is c.take_peering.ensures.step c.put_peering.ensures.step (ap (λ (p : Peering). p.session) c.hold.ensures))

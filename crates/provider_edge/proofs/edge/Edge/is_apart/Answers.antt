@@ -7,6 +7,7 @@ use Rattle.provider_edge.specs.Lists.{EdgeLists, seen}
 use Rattle.provider_edge.proofs.edge.Edge.is_apart.Goals as goal
 
 pub returns-clause-untold : goal.returns-clause-untold
+unfolding seen
 returns-clause-untold c = λ is.
     subst (λ (n : EdgeLists). with_ends_beside c.args.peer lost (seen n) ≡ seen n) c.self.view_is
     (sym (ends_beside (the_view c.self.inside) c.self.inside.ends c.args.peer lost (sym (c.is_untold.ensures.untold is)) refl))

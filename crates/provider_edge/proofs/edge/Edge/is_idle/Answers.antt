@@ -7,6 +7,7 @@ use Rattle.provider_edge.specs.Lists.{EdgeLists, seen}
 use Rattle.provider_edge.proofs.edge.Edge.is_idle.Goals as goal
 
 pub returns-clause-untold : goal.returns-clause-untold
+unfolding seen
 returns-clause-untold c = λ is peer within.
     let few : peer.0 < 64 = omega (arith, subst (λ (n : EdgeLists). peer.0 < length n.plan.edges) (sym c.self.view_is) within, c.self.invariant.checked.limits.edges) in
     subst (λ (n : EdgeLists). with_ends_beside peer lost (seen n) ≡ seen n) c.self.view_is

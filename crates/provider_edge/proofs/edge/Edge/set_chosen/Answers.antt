@@ -1,4 +1,4 @@
-use Rattle.std.proofs.Common.{◌≡◌, ◌<◌, ◌∙◌, length, ap, sym, subst, arith}
+use Rattle.std.proofs.Common.{◌≡◌, ◌<◌, ◌∙◌, length, ap, sym, subst, arith, false}
 use Rattle.edge_model.specs.State.{put_at, with_chosen}
 use Rattle.provider_edge.specs.contracts.edge.Edge.{the_view}
 use Rattle.provider_edge.proofs.ListLemmas.{seen_chosen}
@@ -9,6 +9,6 @@ use Rattle.provider_edge.proofs.edge.Edge.set_chosen.Goals as goal
 pub returns-clause-step : goal.returns-clause-step
 returns-clause-step c =
     let within : c.args.service < length (the_view c.self.inside).plan.services = subst (λ (n : EdgeLists). c.args.service < length n.plan.services) (sym c.self.view_is) c.requires.within in
-    subst (λ (n : EdgeLists). seen (record (the_view c.self.inside) { spokes = c.choose.new.self }) ≡ with_chosen (put_at (seen n).chosen c.args.service c.args.chosen) (seen n)) c.self.view_is
-    (ap (λ (s : SpokeLists). seen (record (the_view c.self.inside) { spokes = s })) c.choose.ensures
+    subst (λ (n : EdgeLists). seen (record (the_view c.self.inside) { spokes = c.choose.new.self; mended = false }) ≡ with_chosen (put_at (seen n).chosen c.args.service c.args.chosen) (seen n)) c.self.view_is
+    (ap (λ (s : SpokeLists). seen (record (the_view c.self.inside) { spokes = s; mended = false })) c.choose.ensures
     ∙ seen_chosen (the_view c.self.inside) c.args.service c.args.chosen (omega (arith, within, c.self.invariant.spokes.chosen)))

@@ -1,4 +1,4 @@
-use Rattle.std.proofs.Common.{◌≡◌, subst, ◌∙◌, ap}
+use Rattle.std.proofs.Common.{◌≡◌, subst, ◌∙◌, ap, false}
 use Rattle.edge_model.specs.State.{with_circuit}
 use Rattle.std.proofs.Common.{Some, sym}
 use Rattle.net_base.specs.declared.plan.Plan.{Plan}
@@ -15,7 +15,7 @@ invariant_of-self c = holds_forwarding (the_view c.self.inside) c.turn.new.self 
 
 pub returns-clause-step : goal.returns-clause-step
 returns-clause-step c =
-    subst (λ (n : EdgeLists). seen (record (the_view c.self.inside) { forwarding = c.turn.new.self }) ≡ with_circuit c.args.circuit c.args.on (seen n)) c.self.view_is
+    subst (λ (n : EdgeLists). seen (record (the_view c.self.inside) { forwarding = c.turn.new.self; mended = false }) ≡ with_circuit c.args.circuit c.args.on (seen n)) c.self.view_is
     (seen_forwarding (with_circuit c.args.circuit c.args.on) (the_view c.self.inside) c.turn.new.self c.self.invariant c.turn.ensures.keeps c.turn.ensures.step)
 
 pub turn-requires : goal.turn-requires

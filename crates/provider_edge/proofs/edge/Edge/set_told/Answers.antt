@@ -1,4 +1,4 @@
-use Rattle.std.proofs.Common.{◌≡◌, subst, ◌∙◌, ap}
+use Rattle.std.proofs.Common.{◌≡◌, subst, ◌∙◌, ap, false}
 use Rattle.edge_model.specs.State.{with_told_down}
 use Rattle.std.proofs.Common.{◌<◌, length, sym}
 use Rattle.net_base.specs.declared.plan.Plan.{Plan}
@@ -12,7 +12,7 @@ invariant_of-self c = holds_forwarding (the_view c.self.inside) c.tell.new.self 
 
 pub returns-clause-step : goal.returns-clause-step
 returns-clause-step c =
-    subst (λ (n : EdgeLists). seen (record (the_view c.self.inside) { forwarding = c.tell.new.self }) ≡ with_told_down c.args.wire c.args.down (seen n)) c.self.view_is
+    subst (λ (n : EdgeLists). seen (record (the_view c.self.inside) { forwarding = c.tell.new.self; mended = false }) ≡ with_told_down c.args.wire c.args.down (seen n)) c.self.view_is
     (seen_forwarding (with_told_down c.args.wire c.args.down) (the_view c.self.inside) c.tell.new.self c.self.invariant c.tell.ensures.keeps c.tell.ensures.step)
 
 pub tell-requires : goal.tell-requires

@@ -7,7 +7,7 @@ use Rattle.edge_model.specs.Step.{edge_step}
 use Rattle.edge_model.specs.Synced.{InSync}
 use Rattle.edge_model.specs.Work.{Agrees, Answers, beginning}
 use Rattle.provider_edge.specs.contracts.edge.Edge.{the_view}
-use Rattle.provider_edge.proofs.EdgeLemmas.{edge_going, seen_stopped, worked_stopped}
+use Rattle.provider_edge.proofs.EdgeLemmas.{edge_begins, edge_going, seen_stopped, worked_stopped}
 use Rattle.provider_edge.proofs.EffectLemmas.{Steps, steps_fit, steps_synced, steps_tell}
 use Rattle.provider_edge.proofs.StayLemmas.{steps_local}
 use Rattle.provider_edge.specs.Bounds.{IsBounded}
@@ -20,6 +20,9 @@ pub work-requires-clause-synced : goal.work-requires-clause-synced
 work-requires-clause-synced g c =
     let v : EdgeLists = the_view c.self.inside in
     subst (InSync v.plan) (sym (seen_stopped v true)) (c.self.invariant.synced c.if-self.false)
+
+pub invariant_of-self : goal.invariant_of-self
+invariant_of-self g c = edge_begins (the_view c.self.inside) c.self.invariant
 
 pub invariant_of-self-in-Ok : goal.invariant_of-self-in-Ok
 invariant_of-self-in-Ok g c =

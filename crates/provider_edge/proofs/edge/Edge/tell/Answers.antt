@@ -1,4 +1,4 @@
-use Rattle.std.proofs.Common.{◌≡◌, subst}
+use Rattle.std.proofs.Common.{◌≡◌, subst, false}
 use Rattle.pw_signalling.specs.Rows.{telling}
 use Rattle.edge_model.specs.Mend.{telling_status}
 use Rattle.pw_ends.specs.Ends.{place_of}
@@ -9,5 +9,5 @@ use Rattle.provider_edge.proofs.edge.Edge.tell.Goals as goal
 
 pub returns-clause-step : goal.returns-clause-step
 returns-clause-step c =
-    subst (λ (n : EdgeLists). seen (record (the_view c.self.inside) { ends = c.tell.new.self }) ≡ telling_status (place_of n.ends c.args.slot) c.args.status (seen n)) c.self.view_is
+    subst (λ (n : EdgeLists). seen (record (the_view c.self.inside) { ends = c.tell.new.self; mended = false }) ≡ telling_status (place_of n.ends c.args.slot) c.args.status (seen n)) c.self.view_is
     (ends_at (the_view c.self.inside) c.tell.new.self (place_of (the_view c.self.inside).ends c.args.slot) (telling c.args.status) c.tell.ensures.seen c.tell.ensures.next)

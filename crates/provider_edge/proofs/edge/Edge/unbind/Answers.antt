@@ -1,4 +1,4 @@
-use Rattle.std.proofs.Common.{◌≡◌, None, Some, subst}
+use Rattle.std.proofs.Common.{◌≡◌, None, Some, subst, false}
 use Rattle.pw_ends.specs.Ends.{place_of}
 use Rattle.pw_signalling.specs.Rows.{unbound}
 use Rattle.edge_model.specs.Signal.{with_end_changed}
@@ -9,5 +9,5 @@ use Rattle.provider_edge.proofs.edge.Edge.unbind.Goals as goal
 
 pub returns-clause-step : goal.returns-clause-step
 returns-clause-step c =
-    subst (λ (n : EdgeLists). seen (record (the_view c.self.inside) { ends = c.on_withdraw.new.self }) ≡ with_end_changed (unbound None) (Some (place_of n.ends c.args.slot)) (seen n)) c.self.view_is
+    subst (λ (n : EdgeLists). seen (record (the_view c.self.inside) { ends = c.on_withdraw.new.self; mended = false }) ≡ with_end_changed (unbound None) (Some (place_of n.ends c.args.slot)) (seen n)) c.self.view_is
     (ends_at (the_view c.self.inside) c.on_withdraw.new.self (place_of (the_view c.self.inside).ends c.args.slot) (unbound None) c.on_withdraw.ensures.seen c.on_withdraw.ensures.next)

@@ -1,4 +1,4 @@
-use Rattle.std.proofs.Common.{◌≡◌, subst}
+use Rattle.std.proofs.Common.{◌≡◌, subst, false}
 use Rattle.pw_signalling.specs.Rows.{withdrawn}
 use Rattle.edge_model.specs.Mend.{withdrawing}
 use Rattle.pw_ends.specs.Ends.{place_of}
@@ -9,5 +9,5 @@ use Rattle.provider_edge.proofs.edge.Edge.withdraw.Goals as goal
 
 pub returns-clause-step : goal.returns-clause-step
 returns-clause-step c =
-    subst (λ (n : EdgeLists). seen (record (the_view c.self.inside) { ends = c.withdraw.new.self }) ≡ withdrawing (place_of n.ends c.args.slot) (seen n)) c.self.view_is
+    subst (λ (n : EdgeLists). seen (record (the_view c.self.inside) { ends = c.withdraw.new.self; mended = false }) ≡ withdrawing (place_of n.ends c.args.slot) (seen n)) c.self.view_is
     (ends_at (the_view c.self.inside) c.withdraw.new.self (place_of (the_view c.self.inside).ends c.args.slot) (withdrawn) c.withdraw.ensures.seen c.withdraw.ensures.next)

@@ -1,4 +1,4 @@
-use Rattle.std.proofs.Common.{◌≡◌, ◌<◌, length, sym, subst, ◌∙◌, ap}
+use Rattle.std.proofs.Common.{◌≡◌, ◌<◌, length, sym, subst, ◌∙◌, ap, false}
 use Rattle.net_base.specs.declared.plan.Plan.{Plan}
 use Rattle.edge_model.specs.Clear.{withdrawing_at}
 use Rattle.provider_edge.specs.contracts.edge.Edge.{the_view}
@@ -14,5 +14,5 @@ invariant_of-self c = holds_forwarding (the_view c.self.inside) c.withdraw.new.s
 
 pub returns-clause-step : goal.returns-clause-step
 returns-clause-step c =
-    subst (λ (n : EdgeLists). seen (record (the_view c.self.inside) { forwarding = c.withdraw.new.self }) ≡ withdrawing_at c.args.service c.args.addresses.now c.args.from (seen n)) c.self.view_is
+    subst (λ (n : EdgeLists). seen (record (the_view c.self.inside) { forwarding = c.withdraw.new.self; mended = false }) ≡ withdrawing_at c.args.service c.args.addresses.now c.args.from (seen n)) c.self.view_is
     (seen_forwarding (withdrawing_at c.args.service c.args.addresses.now c.args.from) (the_view c.self.inside) c.withdraw.new.self c.self.invariant c.withdraw.ensures.keeps c.withdraw.ensures.step)

@@ -1,0 +1,154 @@
+-- What a bridge learns by a port that forwards leaves an edge tidy: nothing is learned at a wire that does not forward.
+use Rattle.std.proofs.Common.{◌≡◌, ◌≤◌, ◌++◌, ◌∙◌, ◌&&◌, not, is_some, length, position, suc, ℕ, Bool, true, false, List, [], ◌∷◌, Option, Some, None, cond, filter, nat_eq, refl, ap, sym, subst, arith}
+use Rattle.std.proofs.lemmas.Bool.{and_parts, eqb-true}
+use Rattle.std.specs.List.{AllByRecursion, list_all}
+use Rattle.net_base.specs.declared.plan.places.ServiceId.{ServiceId}
+use Rattle.net_base.specs.declared.plan.wire_plan.WirePlan.{WirePlan}
+use Rattle.net_base.specs.plan.Places.{wire_row}
+use Rattle.net_values.specs.declared.mac.Mac.{Mac}
+use Rattle.net_values.specs.Mac.{is_group_address}
+use Rattle.mac_table.specs.Addresses.{AddressTable, has_address, has_room, is_of, learned, replaced}
+use Rattle.mac_table.specs.declared.mac_entry.MacEntry.{MacEntry}
+use Rattle.hvpls_spokes.specs.Port.{is_wire_port, ports_of}
+use Rattle.vsi_bridge.specs.BridgeState.{table_of}
+use Rattle.vsi_bridge.specs.Targets.{heard}
+use Rattle.edge_forwarding.specs.Forwarding.{open_ports}
+use Rattle.edge_model.specs.declared.end_place.EndPlace.{EndPlace}
+use Rattle.edge_model.specs.EndPlaces.{end_places}
+use Rattle.edge_model.specs.Frame.{hearing, source}
+use Rattle.edge_model.specs.Mend.{port_of_wire}
+use Rattle.edge_model.specs.Role.{down_at}
+use Rattle.edge_model.specs.State.{EdgeState, addresses_of, with_addresses, without_port}
+use Rattle.edge_model.specs.Synced.{InSync, IsSynced}
+use Rattle.edge_model.proofs.MendedLemmas.{IsForgotten, IsMended}
+use Rattle.provider_edge.proofs.SyncLemmas.{wire_port_shut}
+use Rattle.provider_edge.proofs.TidyLemmas.{mended_nothing, nothing_mended}
+use Rattle.provider_edge.specs.Invariant.{IsEdge}
+use Rattle.provider_edge.specs.Lists.{EdgeLists, seen}
+use Rattle.provider_edge.specs.Tidy.{IsTidy}
+
+-- ---- nothing is filtered out exactly where all pass
+
+both : (a b : Bool) → a ≡ true → b ≡ true → a && b ≡ true
+both true true one other = refl
+both true false one other = absurd (cc (other))
+both false b one other = absurd (cc (one))
+
+filter_short : {X : Type 0} (f : X → Bool) (xs : List X) → length (filter f xs) ≤ length xs
+filter_short {X = X} f [] = omega arith
+filter_short {X = X} f (x ∷ xs) = by (f x) (filter_short f xs) where
+  by : (b : Bool) → length (filter f xs) ≤ length xs → length (cond b (x ∷ filter f xs) (filter f xs)) ≤ suc (length xs)
+  by true rest = omega (arith, rest)
+  by false rest = omega (arith, rest)
+
+passed_all : {X : Type 0} (f : X → Bool) (xs : List X) → filter f xs ≡ xs → list_all f xs ≡ true
+passed_all {X = X} f [] same = refl
+passed_all {X = X} f (x ∷ xs) same = by (f x) (passed_all f xs) (filter_short f xs) same where
+  by : (b : Bool) → (filter f xs ≡ xs → list_all f xs ≡ true) → length (filter f xs) ≤ length xs → cond b (x ∷ filter f xs) (filter f xs) ≡ x ∷ xs → b && list_all f xs ≡ true
+  by true rest short same =
+      let tail : filter f xs ≡ xs = cc (same) in
+      rest tail
+  by false rest short same =
+      let long : length (filter f xs) ≡ suc (length xs) = ap (λ (l : List X). length l) same in
+      absurd (omega (arith, short, long))
+
+all_passed : {X : Type 0} (f : X → Bool) (xs : List X) → list_all f xs ≡ true → filter f xs ≡ xs
+all_passed {X = X} f [] all = refl
+all_passed {X = X} f (x ∷ xs) all = by (f x) (all_passed f xs) all where
+  by : (b : Bool) → (list_all f xs ≡ true → filter f xs ≡ xs) → b && list_all f xs ≡ true → cond b (x ∷ filter f xs) (filter f xs) ≡ x ∷ xs
+  by true rest all = ap (λ (l : List X). x ∷ l) (rest all)
+  by false rest all = absurd (cc (all))
+
+-- ---- entries after one came
+
+replaced_all : (f : MacEntry → Bool) (entry : MacEntry) (xs : List MacEntry) → f entry ≡ true → list_all f xs ≡ true → list_all f (replaced entry xs) ≡ true
+replaced_all f entry [] here all = refl
+replaced_all f entry (x ∷ xs) here all =
+    let parts = and_parts (f x) (list_all f xs) all in
+    by (is_of entry.address x) parts.0 parts.1 (replaced_all f entry xs here parts.1)
+  where
+    by : (b : Bool) → f x ≡ true → list_all f xs ≡ true → list_all f (replaced entry xs) ≡ true → list_all f (cond b (entry ∷ xs) (x ∷ replaced entry xs)) ≡ true
+    by true first rest more = both (f entry) (list_all f xs) here rest
+    by false first rest more = both (f x) (list_all f (replaced entry xs)) first more
+
+added_all : (f : MacEntry → Bool) (entry : MacEntry) (xs : List MacEntry) → f entry ≡ true → list_all f xs ≡ true → list_all f (xs ++ entry ∷ []) ≡ true
+added_all f entry [] here all = both (f entry) true here refl
+added_all f entry (x ∷ xs) here all =
+    let parts = and_parts (f x) (list_all f xs) all in
+    both (f x) (list_all f (xs ++ entry ∷ [])) parts.0 (added_all f entry xs here parts.1)
+
+learned_all : (f : MacEntry → Bool) (table : AddressTable) (entry : MacEntry) → f entry ≡ true → list_all f table.entries ≡ true → list_all f (learned table entry) ≡ true
+learned_all f table entry here all = by (has_address table.entries entry.address) (has_room table) where
+  by : (held room : Bool) → list_all f (cond held (replaced entry table.entries) (cond room (table.entries ++ entry ∷ []) table.entries)) ≡ true
+  by true room = replaced_all f entry table.entries here all
+  by false true = added_all f entry table.entries here all
+  by false false = all
+
+heard_all : (f : MacEntry → Bool) (entries : List MacEntry) (station : Mac) (arrival now : ℕ) → f (record { address = station; port = arrival; tick = now }) ≡ true → list_all f entries ≡ true
+    → list_all f (heard entries station arrival now) ≡ true
+heard_all f entries station arrival now here all = by (is_group_address station.0) where
+  by : (group : Bool) → list_all f (cond group entries (learned (table_of entries) (record { address = station; port = arrival; tick = now }))) ≡ true
+  by true = all
+  by false = learned_all f (table_of entries) (record { address = station; port = arrival; tick = now }) here all
+
+-- at another port than that by which the frame came nothing is learned
+heard_gone : (port : Option ℕ) (entries : List MacEntry) (station : Mac) (arrival now : ℕ) → ((p : ℕ) → port ≡ Some p → nat_eq arrival p ≡ false) → without_port port entries ≡ entries
+    → without_port port (heard entries station arrival now) ≡ heard entries station arrival now
+heard_gone None entries station arrival now apart gone = refl
+heard_gone (Some p) entries station arrival now apart gone =
+    all_passed elsewhere (heard entries station arrival now)
+    (heard_all elsewhere entries station arrival now (ap (λ (b : Bool). not b) (apart p refl)) (passed_all elsewhere entries gone))
+  where
+    elsewhere : MacEntry → Bool
+    elsewhere e = not (nat_eq e.port p)
+
+-- ---- a frame is heard by a port that is open
+
+all_of_two : {X : Type 0} (P Q R : X → Type 0) → ((x : X) → P x → Q x → R x) → (xs : List X) → AllByRecursion P xs → AllByRecursion Q xs → AllByRecursion R xs
+all_of_two P Q R each [] one other = tt
+all_of_two P Q R each (x ∷ xs) one other = (each x one.0 other.0, all_of_two P Q R each xs one.1 other.1)
+
+forgotten_still : (c : EdgeLists) (service : ServiceId) (frame : List ℕ) (arrival : ℕ) (place : EndPlace) → IsEdge c → open_ports c.forwarding service arrival ≡ true → (seen c).me ≡ c.me → IsSynced c.plan (seen c) place
+    → IsForgotten c.plan (seen c) place → IsForgotten c.plan (hearing service frame arrival (seen c)) place
+unfolding with_addresses
+forgotten_still c service frame arrival place is on me synced gone = λ row terminal at down. by row terminal at down (nat_eq row.service.0 service.0) refl where
+  edge : EdgeState
+  edge = seen c
+
+  by : (row : WirePlan) → place.terminal ≡ true → wire_row c.plan place.wire ≡ Some row → is_some (down_at c.plan edge place) ≡ true → (b : Bool) → nat_eq row.service.0 service.0 ≡ b
+      → without_port (port_of_wire c.plan edge place.wire row) (cond b (heard (addresses_of edge service) (source frame) arrival edge.ticks) (edge.learned row.service.0))
+      ≡ cond b (heard (addresses_of edge service) (source frame) arrival edge.ticks) (edge.learned row.service.0)
+  by row terminal at down false away = gone row terminal at down
+  by row terminal at down true here =
+      let same : row.service.0 ≡ service.0 = eqb-true row.service.0 service.0 here in
+      heard_gone (port_of_wire c.plan edge place.wire row) (addresses_of edge service) (source frame) arrival edge.ticks
+      (λ p found. apart p (nat_eq arrival p) refl
+      (ap (λ (k : ℕ). open_ports c.forwarding (record { 0 = k }) p) (sym same)
+      ∙ wire_port_shut c place row.service p is synced terminal down (ap (λ m. position (is_wire_port place.wire) (ports_of c.plan row.service m)) (sym me) ∙ found)))
+      (subst (λ (k : ℕ). without_port (port_of_wire c.plan edge place.wire row) (edge.learned k) ≡ edge.learned k) same (gone row terminal at down))
+    where
+      apart : (p : ℕ) (b : Bool) → nat_eq arrival p ≡ b → open_ports c.forwarding service p ≡ false → b ≡ false
+      apart p false away shut = refl
+      apart p true here shut = absurd (cc (sym on ∙ (ap (open_ports c.forwarding service) (eqb-true arrival p here) ∙ shut)))
+
+me_of : (c : EdgeLists) → (seen c).me ≡ c.me
+unfolding seen
+me_of c = refl
+
+pub tidy_heard : (c : EdgeLists) (service : ServiceId) (frame : List ℕ) (arrival : ℕ) → IsEdge c → InSync c.plan (seen c) → open_ports c.forwarding service arrival ≡ true → IsTidy c.plan (seen c)
+    → IsTidy c.plan (hearing service frame arrival (seen c))
+unfolding with_addresses
+tidy_heard c service frame arrival is synced on tidy =
+    let mended : IsMended c.plan (seen c) = nothing_mended c.plan (seen c) is.checked tidy.nothing in
+    record {
+      nothing = mended_nothing c.plan (hearing service frame arrival (seen c))
+          (record {
+            ends = mended.ends;
+            chosen = mended.chosen;
+            statuses = mended.statuses;
+            forgotten = all_of_two (IsSynced c.plan (seen c)) (IsForgotten c.plan (seen c)) (IsForgotten c.plan (hearing service frame arrival (seen c)))
+                (λ place synced gone. forgotten_still c service frame arrival place is on (me_of c) synced gone) (end_places c.plan (seen c).me) synced.each mended.forgotten;
+            downs = mended.downs;
+          });
+      lost = tidy.lost;
+    }
