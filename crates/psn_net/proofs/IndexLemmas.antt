@@ -8,7 +8,8 @@ use Rattle.net_base.specs.declared.plan.places.EdgeId.{EdgeId}
 use Rattle.network_model.specs.Connection.{is_deliverable}
 use Rattle.network_model.specs.Delivery.{first_pair}
 use Rattle.network_model.specs.State.{NetworkState, empty_network}
-use Rattle.psn_net.specs.DeliveryIndex.{HasMarkedPair, IndexLists, IsClear, IsIndexed, IsIndexedBeside, IsMarked, IsMarkedTo, IsWithin, has_mark, in_word, is_at_edge, put_pair}
+use Rattle.psn_net.specs.DeliveryIndex.{HasMarkedPair, IsIndexed, IsIndexedBeside, IsMarked, IsMarkedTo, is_at_edge}
+use Rattle.psn_net.specs.PairIndex.{IndexLists, IsClear, IsWithin, has_mark, in_word, put_pair}
 use Rattle.psn_net.specs.Lists.{NetLists, edge_of, seen}
 use Rattle.psn_net.proofs.PairLemmas.{same_pair}
 use Rattle.psn_net.proofs.WordLemmas.{none_in_zero}

@@ -27,7 +27,8 @@ use Rattle.network_model.specs.declared.packet.Packet.{Packet}
 use Rattle.network_model.specs.Packet.{again_event, arrive_event, arriving, discard_event, packet_at, packet_work}
 use Rattle.network_model.specs.State.{NetworkState, stands, with_edge, with_frame, with_packet, with_pipe, without_octets_to, without_packet}
 use Rattle.network_model.specs.Step.{step}
-use Rattle.psn_net.specs.DeliveryIndex.{IndexLists, IsIndexed, IsIndexedBeside, is_at_edge, sets_to_work}
+use Rattle.psn_net.specs.DeliveryIndex.{IsIndexed, IsIndexedBeside, is_at_edge, sets_to_work}
+use Rattle.psn_net.specs.PairIndex.{IndexLists}
 use Rattle.psn_net.specs.Lists.{NetLists, seen}
 
 -- the peerings of the other edges stay, and the pipes between them

@@ -7,6 +7,7 @@ pub mod ConnectionLemmas
 pub mod EmptyLemmas
 pub mod IndexLemmas
 pub mod KeptLemmas
+pub mod JoinedLemmas
 pub mod LinkLemmas
 pub mod NetworkLemmas
 pub mod PacketLemmas

@@ -4,7 +4,7 @@ use Rattle.std.proofs.lemmas.Bool.Decides.{nat_tests}
 use Rattle.std.proofs.lemmas.Nat.Bits.{bit_at_set_same, bit_at_set_other, bit_at_clear_same, bit_at_clear_other, bit_at-trailing_zeros, bit_at-zero}
 use Rattle.std.specs.Int.{bit_at, bit_not, trailing_zeros}
 use Rattle.network_model.specs.Delivery.{first_from}
-use Rattle.psn_net.specs.DeliveryIndex.{in_word}
+use Rattle.psn_net.specs.PairIndex.{in_word}
 
 pub on_same : (word k : ℕ) → k < 64 → in_word (bit_or word (1 * 2 ^ k % 2 ^ 64)) k ≡ true
 unfolding in_word

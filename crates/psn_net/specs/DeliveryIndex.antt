@@ -1,6 +1,5 @@
--- Which edges have something to deliver, as words of bits.
-use Rattle.std.specs.Prelude.{◌≡◌, ◌<◌, ◌≤◌, ◌==◌, ◌&&◌, ◌||◌, nat_lt, ℕ, Bool, true, false, List, Option, Some, None, length, slice_index_or, if◌then◌else◌}
-use Rattle.std.specs.Int.{bit_at}
+-- Which edges have something to deliver, as an index of pairs.
+use Rattle.std.specs.Prelude.{◌≡◌, ◌<◌, ◌==◌, ◌&&◌, ◌||◌, nat_lt, ℕ, Bool, true, false, Option, Some, None, length, if◌then◌else◌}
 use Rattle.net_base.specs.declared.plan.Plan.{Plan}
 use Rattle.net_base.specs.declared.plan.circuit_plan.CircuitPlan.{CircuitPlan}
 use Rattle.net_base.specs.declared.trace.event.Event.{Event}
@@ -8,33 +7,7 @@ use Rattle.net_base.specs.declared.trace.event.Event.TheVariants.{Connect, Deliv
 use Rattle.net_base.specs.plan.Places.{circuit_row}
 use Rattle.network_model.specs.Connection.{is_deliverable}
 use Rattle.psn_net.specs.Lists.{NetLists, seen}
-
--- a word for each first edge
-pub record IndexLists : Type 0 where
-  pub rows : List ℕ
-
--- a bit of a word of 64 bits is on
-unfoldable pub in_word : ℕ → ℕ → Bool
-in_word word k = nat_lt k 64 && bit_at word k == 1
-
--- a pair has a mark
-abbrev pub has_mark : IndexLists → ℕ → ℕ → Bool
-has_mark index from to = in_word (slice_index_or index.rows from 0) to
-
--- another mark of one pair
-abbrev pub put_pair : ℕ → ℕ → Bool → (ℕ → ℕ → Bool) → ℕ → ℕ → Bool
-put_pair from to on pairs i j = if i == from && j == to then on else pairs i j
-
--- what always holds of an index: no pair beyond the edges has a mark
-pub record IsWithin (words : List ℕ) : Type 0 where
-  pub few : length words ≤ 64
-  pub each : (from to : ℕ) → length words ≤ to → in_word (slice_index_or words from 0) to ≡ false
-
--- no pair has a mark
-pub record IsClear (words : List ℕ) : Type 0 where
-  pub each : (from to : ℕ) → in_word (slice_index_or words from 0) to ≡ false
-
--- ---- the index of a network
+use Rattle.psn_net.specs.PairIndex.{IndexLists, has_mark, put_pair}
 
 -- the marks say what may be delivered
 pub record IsIndexed (n : NetLists) (index : IndexLists) : Type 0 where

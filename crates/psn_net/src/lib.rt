@@ -3,18 +3,19 @@
 
 mod call;
 mod call_log;
-mod delivery_index;
 mod departure;
 mod edge_pair;
 mod ledger;
 mod net_stop;
 mod network;
 mod packets;
+mod pair_index;
 mod parts;
 mod pipe;
 mod pipe_row;
 mod pipes;
 mod psn_link;
+mod shared_plan;
 mod trail;
 
 pub use net_stop::NetStop;

@@ -16,8 +16,8 @@ mod calm;
 mod marking;
 
 use crate::NetStop;
-use crate::delivery_index::DeliveryIndex;
 use crate::network::marking::mark_after;
+use crate::pair_index::PairIndex;
 use crate::parts::Parts;
 use net_base::{EdgeId, Event, NoMemory, Plan, Trace};
 use provider_edge::Edge;
@@ -34,7 +34,7 @@ const MOST_OCTETS: u16 = 65535;
 #[derive(Drop)]
 pub struct Network {
     parts: Parts,
-    index: DeliveryIndex,
+    index: PairIndex,
 }
 
 impl Model for Network {
@@ -59,7 +59,7 @@ impl Network {
         ensures trace { IfOk result (λ network. network.trace ≡ []) }
         ensures going { IfOk result (λ network. network.failed ≡ false) }
     {
-        let index = DeliveryIndex::open(alloc, plan.edges.len())?;
+        let index = PairIndex::open(alloc, plan.edges.len())?;
         match Parts::open(alloc, plan) {
             Ok(parts) => Ok(Network { parts, index }),
             Err(fault) => Err(fault),

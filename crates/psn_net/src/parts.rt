@@ -29,6 +29,7 @@ use crate::packets::Packets;
 use crate::parts::opening::open_edges;
 use crate::pipes::Pipes;
 use crate::psn_link::PsnLink;
+use crate::shared_plan::SharedPlan;
 use edge_model::{Effects, Input};
 use net_base::{EdgeId, Entry, Event, NoMemory, Plan, Trace};
 use provider_edge::Edge;
@@ -46,7 +47,7 @@ const MOST_PACKETS: u32 = 65_536;
 /// the plan's places, and by `seen` as the state of the network.
 #[derive(Drop)]
 pub struct Parts {
-    plan: Rc<Plan>,
+    plan: SharedPlan,
     edges: Vec<Edge>,
     pipes: Pipes,
     packets: Packets,
@@ -60,9 +61,9 @@ impl Model for Parts {
 
     ghost Value = { NetLists };
 
-    ghost view = { λ n. record { plan = n.plan.value; edges = n.edges.items; pipes = n.pipes; packets = n.packets; entered = n.entered; trace = n.ledger; failed = n.failed } };
+    ghost view = { λ n. record { plan = n.plan; edges = n.edges.items; pipes = n.pipes; packets = n.packets; entered = n.entered; trace = n.ledger; failed = n.failed } };
 
-    ghost invariant = { λ n. IsNetwork (record { plan = n.plan.value; edges = n.edges.items; pipes = n.pipes; packets = n.packets; entered = n.entered; trace = n.ledger; failed = n.failed }) };
+    ghost invariant = { λ n. IsNetwork (record { plan = n.plan; edges = n.edges.items; pipes = n.pipes; packets = n.packets; entered = n.entered; trace = n.ledger; failed = n.failed }) };
 }
 
 impl Parts {
@@ -79,7 +80,7 @@ impl Parts {
         let plan = Rc::new(alloc, plan.copy(alloc)?)?;
         let edges = open_edges(alloc, &plan, count)?;
         Ok(Parts {
-            plan,
+            plan: SharedPlan::over(alloc, plan)?,
             edges,
             pipes: Pipes::open(alloc, count)?,
             packets: Packets::new(alloc),

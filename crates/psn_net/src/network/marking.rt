@@ -3,13 +3,13 @@ ghost use Rattle.std.specs.Prelude.{◌≡◌, ◌<◌, length};
 ghost use Rattle.net_base.specs.plan.Planned.{IsEventOf};
 ghost use Rattle.psn_net.specs.DeliveryIndex.{HasMarkedPair, IsIndexed, IsIndexedBeside, IsMarked, sets_to_work};
 
-use crate::delivery_index::DeliveryIndex;
+use crate::pair_index::PairIndex;
 use crate::parts::Parts;
 use net_base::{EdgeId, Event};
 
 // The index after an event.
 #[tactic(auto, using(crate::proofs::IndexLemmas::marking_steps))]
-pub(crate) fn mark_after(index: &mut DeliveryIndex, parts: &Parts, event: &Event)
+pub(crate) fn mark_after(index: &mut PairIndex, parts: &Parts, event: &Event)
     requires event { IsEventOf parts.now.plan event.now }
     requires size { length index.old.rows ≡ length parts.now.plan.edges }
     requires before { IsIndexedBeside parts.now index.old (sets_to_work parts.now.plan event.now) }
@@ -38,7 +38,7 @@ pub(crate) fn mark_after(index: &mut DeliveryIndex, parts: &Parts, event: &Event
 
 // The pairs of every edge. Where no connection stands there is nothing to deliver, and no pair is looked at.
 #[tactic(auto, using(crate::proofs::IndexLemmas::indexed_still))]
-fn mark_all(index: &mut DeliveryIndex, parts: &Parts)
+fn mark_all(index: &mut PairIndex, parts: &Parts)
     requires size { length index.old.rows ≡ length parts.now.plan.edges }
     ensures size { length index.new.rows ≡ length index.old.rows }
     ensures after { IsIndexed parts.now index.new }
@@ -52,7 +52,7 @@ fn mark_all(index: &mut DeliveryIndex, parts: &Parts)
 
 // The pairs of each edge in turn.
 #[tactic(auto, using(crate::proofs::IndexLemmas::all_steps))]
-fn mark_each(index: &mut DeliveryIndex, parts: &Parts)
+fn mark_each(index: &mut PairIndex, parts: &Parts)
     requires size { length index.old.rows ≡ length parts.now.plan.edges }
     ensures size { length index.new.rows ≡ length index.old.rows }
     ensures after { IsIndexed parts.now index.new }
@@ -65,7 +65,7 @@ fn mark_each(index: &mut DeliveryIndex, parts: &Parts)
 
 // The pairs of one edge.
 #[tactic(auto, using(crate::proofs::IndexLemmas::mark_steps))]
-fn mark(index: &mut DeliveryIndex, parts: &Parts, me: EdgeId)
+fn mark(index: &mut PairIndex, parts: &Parts, me: EdgeId)
     requires me { me.0 < length parts.now.plan.edges }
     requires size { length index.old.rows ≡ length parts.now.plan.edges }
     ensures size { length index.new.rows ≡ length index.old.rows }
@@ -79,7 +79,7 @@ fn mark(index: &mut DeliveryIndex, parts: &Parts, me: EdgeId)
 
 // The two pairs of two edges.
 #[tactic(auto, using(crate::proofs::IndexLemmas::marked_pair))]
-fn mark_pair(index: &mut DeliveryIndex, parts: &Parts, me: EdgeId, other: EdgeId)
+fn mark_pair(index: &mut PairIndex, parts: &Parts, me: EdgeId, other: EdgeId)
     requires me { me.0 < length parts.now.plan.edges }
     requires other { other.0 < length parts.now.plan.edges }
     requires size { length index.old.rows ≡ length parts.now.plan.edges }

@@ -1,21 +1,21 @@
-//! Which edges have something to deliver.
+//! Ordered pairs of edges with a mark.
 ghost use Rattle.std.specs.Prelude.{◌≡◌, ◌<◌, ◌≤◌, ◌≢◌, ℕ, false, length, IfOk, IfSome};
 ghost use Rattle.network_model.specs.Delivery.{first_from, first_pair};
-ghost use Rattle.psn_net.specs.DeliveryIndex.{IsClear, has_mark, in_word, put_pair};
+ghost use Rattle.psn_net.specs.PairIndex.{IsClear, has_mark, in_word, put_pair};
 
 use net_base::NoMemory;
 use std::alloc::Global;
 use std::marker::Model;
 
-/// A mark for each ordered pair of edges that has something to deliver: a word for each first edge, of which bit k stands
-/// for the second edge k. The first pair is found by at most 64 words, whatever is on its way.
+/// Which ordered pairs of edges have a mark, such as those that have something to deliver: a word for each first edge, of which bit k
+/// stands for the second edge k. The first pair is found by at most 64 words, however many have one.
 #[derive(Drop)]
-pub struct DeliveryIndex {
+pub struct PairIndex {
     rows: Vec<u64>,
 }
 
-impl Model for DeliveryIndex {
-    ghost use Rattle.psn_net.specs.DeliveryIndex.{IndexLists, IsWithin};
+impl Model for PairIndex {
+    ghost use Rattle.psn_net.specs.PairIndex.{IndexLists, IsWithin};
 
     ghost Value = { IndexLists };
 
@@ -24,15 +24,15 @@ impl Model for DeliveryIndex {
     ghost invariant = { λ i. IsWithin i.rows.items };
 }
 
-impl DeliveryIndex {
+impl PairIndex {
     /// An index of so many edges without a mark.
-    pub fn open(alloc: Global, size: usize) -> Result<DeliveryIndex, NoMemory>
+    pub fn open(alloc: Global, size: usize) -> Result<PairIndex, NoMemory>
         requires { size ≤ 64 }
         ensures size { IfOk result (λ index. length index.rows ≡ size) }
         ensures none { IfOk result (λ index. IsClear index.rows) }
     {
         let rows = vec![in alloc; 0u64; size]?;
-        Ok(DeliveryIndex { rows })
+        Ok(PairIndex { rows })
     }
 
     /// Marks a pair, or takes its mark away.
@@ -44,6 +44,16 @@ impl DeliveryIndex {
     {
         let word = self.rows[from];
         self.rows[from] = with_bit(word, to, on);
+    }
+
+    /// Whether a pair has a mark.
+    #[tactic(auto, unfolding(crate::specs::PairIndex::in_word))]
+    pub fn has(&self, from: usize, to: usize) -> bool
+        requires from { from < length self.now.rows }
+        requires to { to < length self.now.rows }
+        ensures { result ≡ has_mark self.now from to }
+    {
+        (self.rows[from] >> to) & 1 == 1
     }
 
     /// Takes every mark away.

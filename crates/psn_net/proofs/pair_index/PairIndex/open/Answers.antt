@@ -1,6 +1,6 @@
 use Rattle.std.proofs.Common.{◌≡◌, replicate}
 use Rattle.psn_net.proofs.IndexLemmas.{cleared, cleared_within}
-use Rattle.psn_net.proofs.delivery_index.DeliveryIndex.open.Goals as goal
+use Rattle.psn_net.proofs.pair_index.PairIndex.open.Goals as goal
 
 pub invariant_of-result : goal.invariant_of-result
 invariant_of-result c =
