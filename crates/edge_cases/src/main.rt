@@ -15,8 +15,9 @@ mod input;
 mod names;
 
 use case::Case;
-use net_base::Plan;
+use net_base::{Plan, Sink};
 use scenario_text::read_scenario;
+use std::alloc::Global;
 use std::process::ExitCode;
 use std::{env, fs, io};
 use text_lines::Page;
@@ -34,25 +35,60 @@ fn told(rt: &HostRuntime) -> Option<()> {
     let mut words = env::args(rt).ok()?.skip(1);
     let scenario = fs::read_to_string(rt, words.next()?.as_str()).ok()?;
     let inputs = fs::read_to_string(rt, words.next()?.as_str()).ok()?;
-    let plan = read_scenario(rt.alloc(), scenario.as_bytes()).ok()?.plan;
-    print(rt, &plan, inputs.as_str())
+    print_scenario(rt, scenario.as_str(), inputs.as_str())
+}
+
+// The same over the text of the scenario.
+fn print_scenario(rt: &HostRuntime, scenario: &str, inputs: &str) -> Option<()> {
+    match read_scenario(rt.alloc(), scenario.as_bytes()) {
+        Ok(scenario) => print_plan(rt, &scenario.plan, inputs),
+        Err(_) => None,
+    }
 }
 
 // Takes the inputs at the edge that they name, and prints each.
-fn print(rt: &HostRuntime, plan: &Plan, inputs: &str) -> Option<()>
+fn print_plan(rt: &HostRuntime, plan: &Plan, inputs: &str) -> Option<()>
     requires { IsChecked plan.now }
 {
-    let mut sink = StdSink::new(io::writer(rt));
-    let mut page = Page::new(rt.alloc()).ok()?;
     let mut lines = inputs.lines();
-    let mut case = Case::open(rt.alloc(), plan, lines.next()?, lines.next()?)?;
-    for line in lines {
-        if let Some(words) = line.strip_prefix("> ") {
-            case.take(rt.alloc(), plan, words)?;
-            page.put(&mut sink, line.as_bytes()).ok()?;
-            page.put(&mut sink, b"\n").ok()?;
-            case.put_effects(plan, &mut page, &mut sink)?;
-        }
+    let edge = lines.next()?;
+    match Case::open(rt.alloc(), plan, edge, lines.next()?) {
+        Some(mut case) => print(rt, &mut case, inputs),
+        None => None,
     }
-    page.flush(&mut sink).ok()
+}
+
+// Takes the inputs, and prints each.
+fn print(rt: &HostRuntime, case: &mut Case<'_>, inputs: &str) -> Option<()> {
+    let mut sink = StdSink::new(io::writer(rt));
+    match Page::new(rt.alloc()) {
+        Ok(mut page) => {
+            for line in inputs.lines() {
+                print_line(rt.alloc(), case, line, &mut page, &mut sink)?;
+            }
+            page.flush(&mut sink).ok()
+        }
+        Err(_) => None,
+    }
+}
+
+// Takes the input of a line, where it has one, and prints it with what comes of it.
+fn print_line<K: Sink>(
+    alloc: Global,
+    case: &mut Case<'_>,
+    line: &str,
+    page: &mut Page,
+    sink: &mut K,
+) -> Option<()> {
+    let Some(words) = line.strip_prefix("> ") else {
+        return Some(());
+    };
+    match case.take(alloc, words) {
+        Some(effects) => {
+            page.put(sink, line.as_bytes()).ok()?;
+            page.put(sink, b"\n").ok()?;
+            case.put(&effects, page, sink)
+        }
+        None => None,
+    }
 }
