@@ -23,6 +23,22 @@ def build():
         sys.exit(f"{pathlib.Path(sys.argv[0]).name}: there is no program to measure")
 
 
+def program_of(name):
+    """The path of the program of a crate."""
+    return str(TOP / "crates" / name / "out" / name)
+
+
+def build_beside(name, words):
+    """Proves and builds the program of a crate, by a run with these words, where it is not there or a source is newer."""
+    program = pathlib.Path(program_of(name))
+    sources = (path for part in ("src", "specs", "proofs") for path in TOP.glob(f"crates/*/{part}/**/*"))
+    if not os.access(program, os.X_OK) or any(path.stat().st_mtime > program.stat().st_mtime for path in sources):
+        crate = TOP / "crates" / name
+        made = subprocess.run(["rt", "run", "--", *words], cwd=crate, stdin=subprocess.DEVNULL, stdout=subprocess.DEVNULL, check=False)
+        if made.returncode != 0:
+            sys.exit(f"{pathlib.Path(sys.argv[0]).name}: there is no program to measure")
+
+
 def full_mesh(count):
     """The text of a scenario with so many edges in full mesh of one service: a mesh wire joins each two of them, all are
     connected, and everything is delivered until nothing is left."""
