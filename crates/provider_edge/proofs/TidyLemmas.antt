@@ -5,13 +5,15 @@ use Rattle.std.proofs.lemmas.Bool.Decides.{nat_tests}
 use Rattle.net_base.specs.declared.outside.link_call.LinkCall.{LinkCall}
 use Rattle.net_base.specs.declared.plan.Plan.{Plan}
 use Rattle.net_base.specs.declared.plan.places.EdgeId.{EdgeId}
+use Rattle.net_base.specs.declared.plan.places.ServiceId.{ServiceId}
 use Rattle.net_base.specs.declared.plan.places.WireId.{WireId}
 use Rattle.net_base.specs.declared.plan.service_plan.ServicePlan.{ServicePlan}
 use Rattle.net_base.specs.declared.plan.wire_plan.WirePlan.{WirePlan}
 use Rattle.net_base.specs.plan.Accepted.{IsChecked}
+use Rattle.net_values.specs.declared.mac.Mac.{Mac}
 use Rattle.net_base.specs.plan.Places.{wire_row}
 use Rattle.label_space.specs.Labels.{numbers_end}
-use Rattle.mac_table.specs.Addresses.{is_young}
+use Rattle.mac_table.specs.Addresses.{entry_stays, is_young}
 use Rattle.mac_table.specs.declared.mac_entry.MacEntry.{MacEntry}
 use Rattle.pw_signalling.specs.declared.told.Told.{Told}
 use Rattle.pw_signalling.specs.End.{EndState, LocalPart, Idle, Advertised, Withdrawing, fresh}
@@ -20,12 +22,13 @@ use Rattle.session_core.specs.Phase.{Phase}
 use Rattle.session_core.specs.Phase as phase
 use Rattle.edge_model.specs.declared.effect.Effect.{Effect}
 use Rattle.edge_model.specs.declared.end_place.EndPlace.{EndPlace}
+use Rattle.edge_model.specs.Clear.{withdrawing_at}
 use Rattle.edge_model.specs.EndPlaces.{end_places, is_at}
 use Rattle.edge_model.specs.Hear.{was_up}
 use Rattle.edge_model.specs.Mend.{is_up_with, mends_once, port_of_wire, stands, wish, wish_by, wish_of}
 use Rattle.edge_model.specs.Put.{Spoken}
 use Rattle.edge_model.specs.Session.{clears_ends}
-use Rattle.edge_model.specs.State.{EdgeState, Peering, addresses_of, end_at, has_end, is_there, put_at, with_ends_beside, with_learned, with_next_ping, with_peering, with_ticks, without_port}
+use Rattle.edge_model.specs.State.{EdgeState, Peering, addresses_of, end_at, has_end, is_there, put_at, with_addresses, with_ends_beside, with_learned, with_next_ping, with_peering, with_ticks, without_port}
 use Rattle.edge_model.specs.Tick.{aged, forgetting}
 use Rattle.edge_model.specs.Work.{Answers, Work, changes}
 use Rattle.edge_model.proofs.AgainLemmas.{mends_at_once, one_end}
@@ -120,6 +123,42 @@ tidy_aged plan edge checked tidy =
       lost = tidy.lost;
     }
 
+filtered_gone : (port : Option ℕ) (stays : MacEntry → Bool) (entries : List MacEntry) → without_port port entries ≡ entries → without_port port (filter stays entries) ≡ filter stays entries
+filtered_gone None stays entries gone = refl
+filtered_gone (Some p) stays entries gone = filters (λ (e : MacEntry). not (nat_eq e.port p)) stays entries ∙ ap (filter stays) gone
+
+-- a MAC withdraw is heard: of a service fewer addresses are left
+pub tidy_withdrawn : (plan : Plan) (edge : EdgeState) (service : ServiceId) (addresses : List Mac) (from : ℕ) → IsChecked plan → IsTidy plan edge → IsTidy plan (withdrawing_at service addresses from edge)
+unfolding with_addresses
+tidy_withdrawn plan edge service addresses from checked tidy =
+    let mended : IsMended plan edge = nothing_mended plan edge checked tidy.nothing in
+    record {
+      nothing = mended_nothing plan new
+          (record {
+            ends = mended.ends;
+            chosen = mended.chosen;
+            statuses = mended.statuses;
+            forgotten = all-map (IsForgotten plan edge) (IsForgotten plan new) (end_places plan edge.me)
+                (λ place gone row terminal is down. fewer (port_of_wire plan edge place.wire row) row.service (gone row terminal is down))
+                mended.forgotten;
+            downs = mended.downs;
+          });
+      lost = tidy.lost;
+    }
+  where
+    left : List MacEntry
+    left = filter (entry_stays from addresses) (addresses_of edge service)
+
+    new : EdgeState
+    new = record edge { learned = put_at edge.learned service.0 left }
+
+    fewer : (port : Option ℕ) (at : ServiceId) → without_port port (addresses_of edge at) ≡ addresses_of edge at → without_port port (addresses_of new at) ≡ addresses_of new at
+    fewer port at gone = by (nat_eq at.0 service.0) refl where
+      by : (b : Bool) → nat_eq at.0 service.0 ≡ b → without_port port (cond b left (addresses_of edge at)) ≡ cond b left (addresses_of edge at)
+      by true here = filtered_gone port (entry_stays from addresses) (addresses_of edge service)
+          (subst (λ (n : ℕ). without_port port (edge.learned n) ≡ edge.learned n) (eqb-true at.0 service.0 here) gone)
+      by false away = gone
+
 -- ---- another session with a peer, which is up or not as it was
 
 -- what an end should tell goes by whether the session is up
@@ -145,7 +184,7 @@ mended_up plan edge peering place ups = by (end_at edge place).local where
   by (Advertised label content) = ap (λ (wished : Option Told). stands place content wished) same
   by (Withdrawing label) = refl
 
-pub tidy_up : (plan : Plan) (edge : EdgeState) (peering : ℕ → Option Peering) → IsChecked plan → ((k : ℕ) → is_up_with (peering k) ≡ is_up_with (edge.peering k)) → ((k : ℕ) → is_there (peering k) ≡ is_there (edge.peering k))
+pub tidy_up : (plan : Plan) (edge : EdgeState) (peering : ℕ → Option Peering) → IsChecked plan → ((k : ℕ) → is_up_with (peering k) ≡ is_up_with (edge.peering k)) → ((k : ℕ) → is_there (peering k) ≡ false → is_there (edge.peering k) ≡ false)
     → IsTidy plan edge → IsTidy plan (record edge { peering = peering })
 tidy_up plan edge peering checked ups theres tidy =
     let mended : IsMended plan edge = nothing_mended plan edge checked tidy.nothing in
@@ -159,7 +198,7 @@ tidy_up plan edge peering checked ups theres tidy =
             forgotten = mended.forgotten;
             downs = mended.downs;
           });
-      lost = λ wire peer absent. tidy.lost wire peer (sym (theres peer) ∙ absent);
+      lost = λ wire peer absent. tidy.lost wire peer (theres peer absent);
     }
 
 -- two names of the phase in which a session is up
@@ -178,7 +217,7 @@ pub tidy_put : (plan : Plan) (peer : EdgeId) (before left : Option Peering) (old
 unfolding with_peering
 tidy_put plan peer before left old mid new checked tidy read stood took puts stands same =
     subst (IsTidy plan) (sym (puts ∙ ap (λ (e : EdgeState). record e { peering = put_at e.peering peer.0 left }) took))
-    (tidy_up plan old peering checked (λ k. ups k) (λ k. theres k) tidy)
+    (tidy_up plan old peering checked (λ k. ups k) (λ k absent. sym (theres k) ∙ absent) tidy)
   where
     peering : ℕ → Option Peering
     peering = put_at (put_at old.peering peer.0 None) peer.0 left
@@ -194,6 +233,43 @@ tidy_put plan peer before left old mid new checked tidy read stood took puts sta
 
     theres : (k : ℕ) → is_there (peering k) ≡ is_there (old.peering k)
     theres k = put_else (λ (x : Option Peering). is_there x) (stands ∙ (sym stood ∙ ap (λ (x : Option Peering). is_there x) read)) k
+
+-- a session begins where none stood, and is not up
+pub tidy_begun : (plan : Plan) (peer : EdgeId) (kept : Peering) (mended there : Bool) (old new : EdgeState) → IsChecked plan → (mended ≡ true → IsTidy plan old) → there ≡ has_end old peer → was_up (Some kept) ≡ false
+    → new ≡ with_peering peer (Some kept) old → mended && not there ≡ true → IsTidy plan new
+unfolding with_peering
+tidy_begun plan peer kept mended there old new checked was at down puts both =
+    subst (IsTidy plan) (sym puts) (tidy_up plan old peering checked (λ k. ups k) (λ k absent. theres k absent) (was (first mended (not there) both)))
+  where
+    first : (a b : Bool) → a && b ≡ true → a ≡ true
+    first true b e = refl
+    first false b e = e
+
+    second : (a b : Bool) → a && not b ≡ true → b ≡ false
+    second true true e = absurd (cc (e))
+    second true false e = refl
+    second false b e = absurd (cc (e))
+
+    peering : ℕ → Option Peering
+    peering = put_at old.peering peer.0 (Some kept)
+
+    not_up : (k : Option Peering) → is_there k ≡ false → is_up_with k ≡ false
+    not_up None absent = refl
+    not_up (Some k) absent = absurd (cc (absent))
+
+    ups : (k : ℕ) → is_up_with (peering k) ≡ is_up_with (old.peering k)
+    ups k = by (nat_eq k peer.0) refl where
+      by : (b : Bool) → nat_eq k peer.0 ≡ b → is_up_with (cond b (Some kept) (old.peering k)) ≡ is_up_with (old.peering k)
+      by true here =
+          was_up_with (Some kept)
+          ∙ (down ∙ (sym (not_up (old.peering peer.0) (sym at ∙ second mended there both)) ∙ ap (λ (n : ℕ). is_up_with (old.peering n)) (sym (eqb-true k peer.0 here))))
+      by false away = refl
+
+    theres : (k : ℕ) → is_there (peering k) ≡ false → is_there (old.peering k) ≡ false
+    theres k = by (nat_eq k peer.0) where
+      by : (b : Bool) → is_there (cond b (Some kept) (old.peering k)) ≡ false → is_there (old.peering k) ≡ false
+      by true absent = absurd (cc (absent))
+      by false absent = absent
 
 stands_there : (up : Bool) (left : Option Peering) → stands_as up left ≡ true → is_there left ≡ true
 stands_there up None stands = stands

@@ -55,7 +55,10 @@ impl Edge {
         ensures step { OnOk result ((told : Answers) → Agrees told (L.calls work.new.link.now)
             → at_work L.calls self.new work.new ≡ connects told peer (connection_with peers) (at_work L.calls self.old work.old)) }
     {
+        let absent = !self.has_end(peer);
+        let tidy = self.mended & absent;
         self.put_peering(peer, Some(Peering::open(peers)));
+        self.keep_mended(tidy);
         work.effects.list.push(Effect::Session {
             peer,
             state: StateName::Initialized,

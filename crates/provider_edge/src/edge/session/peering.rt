@@ -162,13 +162,17 @@ impl Edge {
         ensures step { IfOk result (λ failed. (told : Answers) → Agrees told (L.calls work.new.link.now)
             → record { work = at_work L.calls self.new work.new; failed = failed } ≡ says told peer (numbered message.now) (at_work L.calls self.old work.old)) }
     {
+        let tidy = self.mended;
+        let was_up = self.is_up(peer);
         let Some(peering) = self.take_peering(peer) else {
             return Ok(false);
         };
         let left = peering.say(peer, message, work)?;
         let failed = left.is_none();
+        let stands = stands_as(was_up, &left);
         self.put_peering(peer, left);
         self.clear_ends(peer);
+        self.keep_mended(tidy & stands);
         Ok(failed)
     }
 

@@ -100,14 +100,13 @@ impl Edge {
     }
 
     // The bridge of a service forgets what a MAC withdraw by a port names.
-    #[tactic(auto, using(crate::proofs::ForwardLemmas::holds_forwarding, crate::proofs::ForwardLemmas::keeps_forwarding))]
+    #[tactic(auto, using(crate::proofs::ForwardLemmas::keeps_forwarding))]
     fn withdraw_at(&mut self, service: ServiceId, from: u16, addresses: &List<Mac>)
         requires working { self.old.stopped ≡ true }
         requires within { service.0 < length self.old.plan.services }
         ensures keeps { Keeps self.old self.new }
         ensures step { seen self.new ≡ withdrawing_at service addresses.now from (seen self.old) }
     {
-        self.mended = false;
         self.forwarding.withdraw(service, from, addresses);
     }
 

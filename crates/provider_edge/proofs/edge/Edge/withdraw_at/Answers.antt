@@ -2,17 +2,24 @@ use Rattle.std.proofs.Common.{◌≡◌, ◌<◌, length, sym, subst, ◌∙◌,
 use Rattle.net_base.specs.declared.plan.Plan.{Plan}
 use Rattle.edge_model.specs.Clear.{withdrawing_at}
 use Rattle.provider_edge.specs.contracts.edge.Edge.{the_view}
-use Rattle.provider_edge.proofs.ForwardLemmas.{holds_forwarding, seen_forwarding}
+use Rattle.provider_edge.proofs.ForwardLemmas.{holds_kept, seen_kept}
+use Rattle.provider_edge.proofs.TidyLemmas.{tidy_withdrawn}
 use Rattle.provider_edge.specs.Lists.{EdgeLists, seen}
+use Rattle.provider_edge.specs.Tidy.{IsTidy}
 use Rattle.provider_edge.proofs.edge.Edge.withdraw_at.Goals as goal
 
 pub withdraw-requires : goal.withdraw-requires
 withdraw-requires c = subst (λ (p : Plan). c.args.service.0 < length p.services) (sym c.self.invariant.plan) (subst (λ (n : EdgeLists). c.args.service.0 < length n.plan.services) (sym c.self.view_is) c.requires.within)
 
 pub invariant_of-self : goal.invariant_of-self
-invariant_of-self c = holds_forwarding (the_view c.self.inside) c.withdraw.new.self c.withdraw.ensures.keeps (ap (λ (e : EdgeLists). e.stopped) c.self.view_is ∙ c.requires.working) c.self.invariant
+invariant_of-self c =
+    let v : EdgeLists = the_view c.self.inside in
+    holds_kept v c.withdraw.new.self c.withdraw.ensures.keeps (ap (λ (e : EdgeLists). e.stopped) c.self.view_is ∙ c.requires.working)
+    (λ set.
+    subst (IsTidy v.plan) (sym (seen_kept (withdrawing_at c.args.service c.args.addresses.now c.args.from) v c.withdraw.new.self c.self.invariant c.withdraw.ensures.keeps c.withdraw.ensures.step))
+    (tidy_withdrawn v.plan (seen v) c.args.service c.args.addresses.now c.args.from c.self.invariant.checked (c.self.invariant.tidy set))) c.self.invariant
 
 pub returns-clause-step : goal.returns-clause-step
 returns-clause-step c =
-    subst (λ (n : EdgeLists). seen (record (the_view c.self.inside) { forwarding = c.withdraw.new.self; mended = false }) ≡ withdrawing_at c.args.service c.args.addresses.now c.args.from (seen n)) c.self.view_is
-    (seen_forwarding (withdrawing_at c.args.service c.args.addresses.now c.args.from) (the_view c.self.inside) c.withdraw.new.self c.self.invariant c.withdraw.ensures.keeps c.withdraw.ensures.step)
+    subst (λ (n : EdgeLists). seen (record (the_view c.self.inside) { forwarding = c.withdraw.new.self }) ≡ withdrawing_at c.args.service c.args.addresses.now c.args.from (seen n)) c.self.view_is
+    (seen_kept (withdrawing_at c.args.service c.args.addresses.now c.args.from) (the_view c.self.inside) c.withdraw.new.self c.self.invariant c.withdraw.ensures.keeps c.withdraw.ensures.step)
