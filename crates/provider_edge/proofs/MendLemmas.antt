@@ -10,11 +10,12 @@ use Rattle.net_base.specs.declared.plan.places.EdgeId.{EdgeId}
 use Rattle.net_base.specs.declared.plan.places.WireId.{WireId}
 use Rattle.net_base.specs.declared.plan.wire_plan.WirePlan.{WirePlan}
 use Rattle.net_base.specs.declared.trace.down.Down.{Down}
+use Rattle.net_base.specs.declared.trace.down.Down.TheVariants.{NoLocal}
 use Rattle.net_base.specs.plan.Accepted.{IsChecked, IsOffer, IsWireOf}
 use Rattle.net_base.specs.plan.Paths.{is_first, offer_of}
 use Rattle.net_base.specs.plan.Places.{wire_row}
 use Rattle.pw_signalling.specs.AnyEnd.{end_of}
-use Rattle.pw_signalling.specs.Down.{down}
+use Rattle.pw_signalling.specs.Down.{down, far_told, first_cause, own_told}
 use Rattle.pw_signalling.specs.End.{EndState, LocalPart, Idle, Advertised, Withdrawing}
 use Rattle.pw_signalling.specs.declared.binding.Binding.{Binding}
 use Rattle.pw_signalling.specs.declared.end_role.EndRole.{EndRole}
@@ -26,7 +27,7 @@ use Rattle.peer_dialogue.specs.Wish.{wish_by}
 use Rattle.edge_model.specs.declared.effect.Effect.{Effect}
 use Rattle.edge_model.specs.declared.end_place.EndPlace.{EndPlace}
 use Rattle.edge_model.specs.EndPlaces.{end_places}
-use Rattle.edge_model.specs.Mend.{advertises_wish, and_says, each_end, forgets_down, forgets_downs, forgetting_wire, is_new_choice, mends, mends_again, mends_choice, mends_end, mends_few, mends_local, mends_once, mends_status, mends_status_of, tells_down, tells_downs, tells_new_status, tells_over, terminal_wish, then_changes, wish, withdraws_unless}
+use Rattle.edge_model.specs.Mend.{advertises_wish, and_says, each_end, forgets_down, forgets_downs, forgetting_wire, cause_number, is_new_choice, mends, mends_again, mends_choice, mends_end, mends_few, mends_local, mends_once, mends_status, mends_status_of, tells_down, tells_downs, tells_new_status, tells_over, terminal_wish, then_changes, wish, wish_of, withdraws_unless}
 use Rattle.edge_model.specs.Put.{Spoken, stays}
 use Rattle.edge_model.specs.Role.{down_at, role_at, status_to_tell}
 use Rattle.edge_model.specs.Spokes.{choosing}
@@ -35,7 +36,7 @@ use Rattle.edge_model.specs.Withdraw.{tells_piece}
 use Rattle.edge_model.specs.Work.{Answers, Work, changes}
 use Rattle.peer_dialogue.specs.Peering.{at_edge}
 use Rattle.provider_edge.specs.Lists.{EdgeLists, Keeps, seen}
-use Rattle.provider_edge.specs.Mending.{forgotten_down, mended_down}
+use Rattle.provider_edge.specs.Mending.{forgotten_down, may_tell_end, mended_down}
 
 -- ---- rounds
 
@@ -369,3 +370,31 @@ down_read c slot place end role bits why at read is bit so =
     ∙ (ap (λ (r : EndRole). down r bits end) is
     ∙ (ap (λ (b : ℕ). down (role_at c.plan (seen c) (place_of c.ends slot)) b end) (bit ∙ ap (λ (p : EndPlace). (seen c).bits p.wire.0) at)
     ∙ ap (λ (e : EndState). down (role_at c.plan (seen c) (place_of c.ends slot)) ((seen c).bits (place_of c.ends slot).wire.0) e) read))
+
+-- an end that advertises nothing does not forward
+pub down_untold : (c : EdgeLists) (slot : ℕ) (end : EndState) (tells : Bool) → end ≡ end_in c.ends slot → tells ≡ is_some (own_told end.local) → tells ≡ false
+    → Some NoLocal ≡ down_at c.plan (seen c) (place_of c.ends slot)
+unfolding seen down
+down_untold c slot end tells read is none =
+    by (own_told (end_in c.ends slot).local) (sym (is ∙ ap (λ (e : EndState). is_some (own_told e.local)) read) ∙ none)
+  where
+    role : EndRole
+    role = role_at c.plan (seen c) (place_of c.ends slot)
+
+    by : (own : Option Told) → is_some own ≡ false → Some NoLocal ≡ first_cause role ((seen c).bits (place_of c.ends slot).wire.0) own (far_told (end_in c.ends slot).remote)
+    by None e = refl
+    by (Some own) e = absurd (cc (e))
+
+-- an end tells nothing where its wire is off or the session is not up
+pub untold_stays : (plan : Plan) (told : Answers) (place at : EndPlace) (edge : EdgeState) (calls : List LinkCall) (out : List Effect) (may : Bool) → at ≡ place → may ≡ may_tell_end edge at → may ≡ false
+    → stays (at_edge edge calls out) ≡ advertises_wish told place (wish plan edge place) (at_edge edge calls out)
+unfolding at_edge
+untold_stays plan told place at edge calls out may is reads none =
+    sym (ap (λ (w : Option Told). advertises_wish told place w start) (by (wire_row plan place.wire) (sym (reads ∙ ap (may_tell_end edge) is) ∙ none)))
+  where
+    start : Work
+    start = record { edge = edge; calls = calls; effects = out; idle = false }
+
+    by : (row : Option WirePlan) → may_tell_end edge place ≡ false → wish_of plan edge place row ≡ None
+    by None e = refl
+    by (Some row) e = rw e refl

@@ -3,9 +3,10 @@ ghost use Rattle.std.specs.Prelude.{◌≡◌, ◌<◌, ◌≤◌, ◌==◌, ◌
 ghost use Rattle.net_base.specs.declared.outside.link_call.LinkCall.{LinkCall};
 ghost use Rattle.net_base.specs.plan.Places.{wire_row};
 ghost use Rattle.pw_signalling.specs.AnyEnd.{end_of};
+ghost use Rattle.pw_signalling.specs.Down.{own_told};
 ghost use Rattle.pw_ends.specs.Ends.{HasKind, Holds, IsIdle, end_in, place_of};
 ghost use Rattle.edge_model.specs.Mend.{advertises_wish, cause_number, forgetting_wire, is_new_choice, mends_choice, mends_end, mends_status, stands, tells_new_status, wish, withdraws_unless};
-ghost use Rattle.edge_model.specs.Role.{down_at, is_chosen_wire, role_at};
+ghost use Rattle.edge_model.specs.Role.{down_at, end_role_of, is_chosen_wire, role_at};
 ghost use Rattle.edge_model.specs.State.{with_told_down};
 ghost use Rattle.edge_model.specs.Work.{Agrees, Answers};
 ghost use Rattle.provider_edge.specs.Mending.{forgotten_down, mended_down};
@@ -16,7 +17,7 @@ ghost use Rattle.provider_edge.specs.Lists.{Keeps, seen};
 
 use crate::Edge;
 use edge_model::{Effect, EndPlace};
-use net_base::{Down, Label, Link, List, NoMemory, ServiceId, WireId};
+use net_base::{Class, Down, Label, Link, List, NoMemory, ServiceId, WireId, WirePlan};
 use peer_dialogue::{AtWork, PwMessage};
 use pw_ends::role_of;
 use pw_signalling::{EndRole, PwEnd, Told};
@@ -44,6 +45,9 @@ impl Edge {
                 self.put_mapping(slot, work)
             }
             PwEnd::Advertised(end) => {
+                if self.still_stands(slot, end.told()) {
+                    return Ok(false);
+                }
                 let label = end.label();
                 let content = *end.told();
                 self.put_withdrawal(slot, label, content, work)
@@ -66,10 +70,13 @@ impl Edge {
             → record { work = at_work L.calls self.new work.new; failed = failed }
             ≡ advertises_wish told (place_of self.old.ends slot) (wish self.old.plan (seen self.old) (place_of self.old.ends slot)) (at_work L.calls self.old work.old)) }
     {
+        let place = self.place_at(slot);
+        if !self.may_tell(&place) {
+            return Ok(false);
+        }
         let Some(content) = self.wish(slot) else {
             return Ok(false);
         };
-        let place = self.place_at(slot);
         let Some(label) = self.advertise(slot, &content) else {
             return Ok(false);
         };
@@ -97,10 +104,10 @@ impl Edge {
             → record { work = at_work L.calls self.new work.new; failed = failed }
             ≡ withdraws_unless told (place_of self.old.ends slot) label content (wish self.old.plan (seen self.old) (place_of self.old.ends slot)) (at_work L.calls self.old work.old)) }
     {
-        let place = self.place_at(slot);
-        if stands(&place, &content, self.wish(slot)) {
+        if self.still_stands(slot, &content) {
             return Ok(false);
         }
+        let place = self.place_at(slot);
         self.withdraw(slot);
         let message = PwMessage::Withdrawal {
             pw_id: place.pw_id,
@@ -108,6 +115,18 @@ impl Edge {
             told: content,
         };
         self.say(place.peer, &message, work)
+    }
+
+    // What an end has told still stands. A terminal end needs to know no more than that it should tell anything.
+    fn still_stands(&self, slot: usize, content: &Told) -> bool
+        requires { slot < length self.now.ends.places }
+        ensures { result ≡ stands (place_of self.now.ends slot) content.now (wish self.now.plan (seen self.now) (place_of self.now.ends slot)) }
+    {
+        let place = self.place_at(slot);
+        if place.terminal {
+            return self.has_wish(slot);
+        }
+        stands(&place, content, self.wish(slot))
     }
 
     // A status that has changed is told, where the end's mapping carries one; answers whether the link did not take a message.
@@ -124,14 +143,14 @@ impl Edge {
     {
         match self.end_in(slot) {
             PwEnd::Advertised(end) => {
-                let content = *end.told();
-                let Some(last) = content.status else {
+                let Some(last) = end.told().status else {
                     return Ok(false);
                 };
                 let status = self.status_to_tell(slot);
                 if last.0 == status.0 {
                     return Ok(false);
                 }
+                let content = *end.told();
                 self.put_status(slot, content, status, work)
             }
             PwEnd::Idle(_) => Ok(false),
@@ -316,8 +335,19 @@ impl Edge {
     {
         let wire = self.place_at(slot).wire;
         match self.plan.wires.get(wire.0 as usize) {
-            Some(row) => role_of(row, self.me, self.is_chosen(wire, row.service)),
+            Some(row) => self.role_in(row, wire),
             None => EndRole::Mesh,
+        }
+    }
+
+    // What its end of a wire is to the wire's service.
+    #[tactic(auto, unfolding(crate::specs::Lists::seen))]
+    fn role_in(&self, row: &WirePlan, wire: WireId) -> EndRole
+        ensures { result ≡ end_role_of row.now self.now.me (is_chosen_wire wire ((seen self.now).chosen row.now.service.0)) }
+    {
+        match row.class {
+            Class::Mesh => EndRole::Mesh,
+            Class::Spoke => role_of(row, self.me, self.is_chosen(wire, row.service)),
         }
     }
 
@@ -338,9 +368,22 @@ impl Edge {
         requires { slot < length self.now.ends.places }
         ensures { result ≡ down_at self.now.plan (seen self.now) (place_of self.now.ends slot) }
     {
+        if !advertises(self.end_in(slot)) {
+            return Some(Down::NoLocal);
+        }
         let place = self.place_at(slot);
         let role = self.role_of(slot);
         self.end_in(slot).why_down(role, self.bits_of(place.wire))
+    }
+}
+
+// Whether an end advertises a label.
+fn advertises(end: &PwEnd) -> bool
+    ensures { result ≡ is_some (own_told (end_of end.now).local) }
+{
+    match end {
+        PwEnd::Advertised(_) => true,
+        PwEnd::Idle(_) | PwEnd::Withdrawing(_) => false,
     }
 }
 

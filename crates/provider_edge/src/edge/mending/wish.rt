@@ -1,6 +1,6 @@
 //! What an end should tell (RFC 8077 sections 6 and 6.3): a terminal end of itself, and a switching point what it has from its
 //! other side (RFC 6073 section 7).
-ghost use Rattle.std.specs.Prelude.{◌≡◌, ◌<◌, ◌≤◌, length, Some, true, false, IfSome};
+ghost use Rattle.std.specs.Prelude.{◌≡◌, ◌<◌, ◌≤◌, length, is_some, Some, true, false, IfSome};
 ghost use Rattle.net_base.specs.plan.Paths.{edge_address, offer_of};
 ghost use Rattle.net_base.specs.plan.Places.{wire_row};
 ghost use Rattle.pw_tlvs.specs.Written.{has_vlan};
@@ -36,9 +36,36 @@ impl Edge {
         self.wish_by(slot, row)
     }
 
+    // Whether a terminal end should tell anything.
+    pub(crate) fn has_wish(&self, slot: usize) -> bool
+        requires slot { slot < length self.now.ends.places }
+        requires terminal { (place_of self.now.ends slot).terminal ≡ true }
+        ensures { result ≡ is_some (wish self.now.plan (seen self.now) (place_of self.now.ends slot)) }
+    {
+        let place = self.place_at(slot);
+        match self.plan.wires.get(place.wire.0 as usize) {
+            Some(row) => self.may_tell(&place) && self.tells_offer(slot, row),
+            None => false,
+        }
+    }
+
+    // Whether a terminal end should tell its offer, where its wire is on and the session with its peer is up: an end without failure
+    // bits should.
+    fn tells_offer(&self, slot: usize, row: &WirePlan) -> bool
+        requires slot { slot < length self.now.ends.places }
+        requires row { wire_row self.now.plan (place_of self.now.ends slot).wire ≡ Some row.now }
+        ensures { result ≡ is_some (terminal_wish self.now.plan (seen self.now) (place_of self.now.ends slot) (offer_of row.now (seen self.now).me.0)) }
+    {
+        let place = self.place_at(slot);
+        if self.bits_of(place.wire) == 0 {
+            return true;
+        }
+        self.terminal_wish(slot, row).is_some()
+    }
+
     // The wire of an end is on, and the session with its peer is up.
     #[tactic(auto, unfolding(crate::specs::Lists::seen))]
-    fn may_tell(&self, place: &EndPlace) -> bool
+    pub(crate) fn may_tell(&self, place: &EndPlace) -> bool
         requires { place.now.wire.0 < length self.now.plan.wires }
         ensures { result ≡ may_tell_end (seen self.now) place.now }
     {

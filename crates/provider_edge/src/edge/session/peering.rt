@@ -162,7 +162,7 @@ impl Edge {
         ensures step { IfOk result (λ failed. (told : Answers) → Agrees told (L.calls work.new.link.now)
             → record { work = at_work L.calls self.new work.new; failed = failed } ≡ says told peer (numbered message.now) (at_work L.calls self.old work.old)) }
     {
-        let tidy = self.mended;
+        let mended = self.mended;
         let was_up = self.is_up(peer);
         let Some(peering) = self.take_peering(peer) else {
             return Ok(false);
@@ -172,7 +172,7 @@ impl Edge {
         let stands = stands_as(was_up, &left);
         self.put_peering(peer, left);
         self.clear_ends(peer);
-        self.keep_mended(tidy & stands);
+        self.keep_mended(mended & stands);
         Ok(failed)
     }
 

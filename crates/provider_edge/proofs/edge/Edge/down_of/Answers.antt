@@ -1,8 +1,11 @@
 use Rattle.pw_signalling.specs.AnyEnd.{end_of}
-use Rattle.provider_edge.proofs.MendLemmas.{down_read}
+use Rattle.provider_edge.proofs.MendLemmas.{down_read, down_untold}
 use Rattle.provider_edge.proofs.edge.Edge.down_of.Goals as goal
 
 pub returns : goal.returns
 returns c =
-    down_read c.args.self.now c.args.slot c.place_at-place.result (end_of c.end_in.result.now) c.role_of-role.result c.bits_of.result c.why_down.result
-    c.place_at-place.ensures.place c.end_in.ensures.end (c.role_of-role.ensures) (c.bits_of.ensures.bits) c.why_down.ensures.cause
+    down_read c.args.self.now c.args.slot c.place_at-place.result (end_of c.end_in-2.result.now) c.role_of-role.result c.bits_of.result c.why_down.result
+    c.place_at-place.ensures.place c.end_in-2.ensures.end (c.role_of-role.ensures) (c.bits_of.ensures.bits) c.why_down.ensures.cause
+
+pub returns-then-not-advertises : goal.returns-then-not-advertises
+returns-then-not-advertises c = down_untold c.args.self.now c.args.slot (end_of c.end_in.result.now) c.advertises.result c.end_in.ensures.end c.advertises.ensures c.if-not-advertises.true

@@ -14,20 +14,20 @@ use Rattle.provider_edge.proofs.edge.Edge.mend_status.Goals as goal
 pub returns-in_default-clause-step : goal.returns-in_default-clause-step
 unfolding at_edge
 returns-in_default-clause-step g c = λ told agrees.
-    status_over c.args.self.now.plan told (place_of c.args.self.now.ends c.args.slot) (at_work g.L.Link.calls c.args.self.now c.args.work.now) c.in-Advertised.end.label c.told-content.result.now
+    status_over c.args.self.now.plan told (place_of c.args.self.now.ends c.args.slot) (at_work g.L.Link.calls c.args.self.now c.args.work.now) c.in-Advertised.end.label c.told.result.now
     _
     (local_is c.args.self.now (g.L.Link.calls c.args.work.now.link.now) c.args.work.now.effects.now.list c.args.slot c.end_in.result.now _ c.end_in.ensures.end c.in-Advertised.is
-    ∙ ap (λ (t : Told). Advertised c.in-Advertised.end.label t) (sym c.told-content.ensures.told))
-    (over_none told (place_of c.args.self.now.ends c.args.slot) c.told-content.result.now (status_to_tell c.args.self.now.plan (seen c.args.self.now) (place_of c.args.self.now.ends c.args.slot)) c.told-content.result.now.status (at_work g.L.Link.calls c.args.self.now c.args.work.now) c.in_default.is)
+    ∙ ap (λ (t : Told). Advertised c.in-Advertised.end.label t) (sym c.told.ensures.told))
+    (over_none told (place_of c.args.self.now.ends c.args.slot) c.told.result.now (status_to_tell c.args.self.now.plan (seen c.args.self.now) (place_of c.args.self.now.ends c.args.slot)) c.told.result.now.status (at_work g.L.Link.calls c.args.self.now c.args.work.now) c.in_default.is)
 
 pub returns-then-last-status-clause-step : goal.returns-then-last-status-clause-step
 unfolding at_edge
 returns-then-last-status-clause-step g c = λ told agrees.
-    status_over c.args.self.now.plan told (place_of c.args.self.now.ends c.args.slot) (at_work g.L.Link.calls c.args.self.now c.args.work.now) c.in-Advertised.end.label c.told-content.result.now
+    status_over c.args.self.now.plan told (place_of c.args.self.now.ends c.args.slot) (at_work g.L.Link.calls c.args.self.now c.args.work.now) c.in-Advertised.end.label c.told.result.now
     _
     (local_is c.args.self.now (g.L.Link.calls c.args.work.now.link.now) c.args.work.now.effects.now.list c.args.slot c.end_in.result.now _ c.end_in.ensures.end c.in-Advertised.is
-    ∙ ap (λ (t : Told). Advertised c.in-Advertised.end.label t) (sym c.told-content.ensures.told))
-    (over_same told (place_of c.args.self.now.ends c.args.slot) c.told-content.result.now c.status_to_tell-status.result (status_to_tell c.args.self.now.plan (seen c.args.self.now) (place_of c.args.self.now.ends c.args.slot)) c.told-content.result.now.status c.in-Some.last (at_work g.L.Link.calls c.args.self.now c.args.work.now)
+    ∙ ap (λ (t : Told). Advertised c.in-Advertised.end.label t) (sym c.told.ensures.told))
+    (over_same told (place_of c.args.self.now.ends c.args.slot) c.told.result.now c.status_to_tell-status.result (status_to_tell c.args.self.now.plan (seen c.args.self.now) (place_of c.args.self.now.ends c.args.slot)) c.told.result.now.status c.in-Some.last (at_work g.L.Link.calls c.args.self.now c.args.work.now)
     c.status_to_tell-status.ensures c.in-Some.is (eq-eqb c.in-Some.last.0 c.status_to_tell-status.result.0 c.if-last-status.true))
 
 pub returns-else-last-status-clause-step : goal.returns-else-last-status-clause-step
@@ -40,7 +40,7 @@ returns-else-last-status-clause-step g c =
     ∙ ap (λ (t : Told). Advertised c.in-Advertised.end.label t) (sym c.told-content.ensures.told))
     (over_new told (place_of c.args.self.now.ends c.args.slot) c.told-content.result.now c.status_to_tell-status.result (status_to_tell c.args.self.now.plan (seen c.args.self.now) (place_of c.args.self.now.ends c.args.slot)) c.told-content.result.now.status c.in-Some.last (at_work g.L.Link.calls c.args.self.now c.args.work.now)
     (record { work = at_work g.L.Link.calls c.put_status.new.self c.put_status.new.work; failed = failed })
-    c.status_to_tell-status.ensures c.in-Some.is (ne_eqb c.in-Some.last.0 c.status_to_tell-status.result.0 c.if-last-status.false) (said told agrees)))
+    c.status_to_tell-status.ensures (ap (λ (t : Told). t.status) (c.told-content.ensures.told ∙ sym c.told.ensures.told) ∙ c.in-Some.is) (ne_eqb c.in-Some.last.0 c.status_to_tell-status.result.0 c.if-last-status.false) (said told agrees)))
     c.put_status.ensures.step
 
 pub returns-in-Idle-clause-step : goal.returns-in-Idle-clause-step

@@ -5,6 +5,7 @@ use Rattle.edge_model.specs.Mend.{wish}
 use Rattle.edge_model.specs.Session.{says}
 use Rattle.peer_dialogue.proofs.SettleLemmas.{map_ok}
 use Rattle.pw_ends.specs.Ends.{place_of}
+use Rattle.provider_edge.proofs.MendLemmas.{untold_stays}
 use Rattle.provider_edge.proofs.RowLemmas.{advertises_none, advertises_some, wishes_none, wishes_some}
 use Rattle.provider_edge.specs.AtWork.{at_work}
 use Rattle.provider_edge.specs.Lists.{seen}
@@ -34,3 +35,8 @@ returns-clause-step g c =
     some.0 some.1 some.2
     (said told agrees ∙ ap (λ (p : EndPlace). says told p.peer (mapping p.pw_id c.in-Some-advertise.label c.in-Some.content) (at_work g.L.Link.calls c.advertise.new.self c.args.work.now)) c.place_at-place.ensures.place)))
     c.say.ensures.step
+
+pub returns-then-not-may_tell-clause-step : goal.returns-then-not-may_tell-clause-step
+returns-then-not-may_tell-clause-step g c = λ told agrees.
+    untold_stays c.args.self.now.plan told (place_of c.args.self.now.ends c.args.slot) c.place_at-place.result (seen c.args.self.now) (g.L.Link.calls c.args.work.now.link.now) c.args.work.now.effects.now.list c.may_tell.result
+    c.place_at-place.ensures.place c.may_tell.ensures c.if-not-may_tell.true
