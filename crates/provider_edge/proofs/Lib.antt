@@ -15,6 +15,7 @@ pub mod KeptLemmas
 pub mod LiftLemmas
 pub mod MendLemmas
 pub mod MessageLemmas
+pub mod NeighbourLemmas
 pub mod PacketLemmas
 pub mod PingLemmas
 pub mod ProperLemmas

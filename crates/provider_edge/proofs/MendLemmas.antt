@@ -1,5 +1,5 @@
 -- An edge mends its ends, step by step.
-use Rattle.std.proofs.Common.{◌≡◌, ◌<◌, ◌≤◌, ◌+◌, ◌-◌, ◌==◌, ◌||◌, ◌∙◌, ℕ, zero, suc, Bool, true, false, List, [], ◌∷◌, Option, Some, None, cond, is_some, not, length, drop, slice_index_or, refl, ap, sym, subst, arith}
+use Rattle.std.proofs.Common.{◌≡◌, ◌<◌, ◌≤◌, ◌+◌, ◌-◌, ◌==◌, ◌||◌, ◌&&◌, ◌∙◌, ℕ, zero, suc, Bool, true, false, List, [], ◌∷◌, Option, Some, None, cond, is_some, not, length, drop, slice_index_or, refl, ap, sym, subst, arith}
 use Rattle.std.specs.List.{All, slice_get}
 use Rattle.std.proofs.lemmas.List.Elements.{All-get_or}
 use Rattle.std.proofs.lemmas.Option.{get_or_from_slice_get, slice_get_within}
@@ -29,7 +29,7 @@ use Rattle.edge_model.specs.declared.end_place.EndPlace.{EndPlace}
 use Rattle.edge_model.specs.EndPlaces.{end_places}
 use Rattle.edge_model.specs.Mend.{advertises_wish, and_says, each_end, forgets_down, forgets_downs, forgetting_wire, cause_number, is_new_choice, mends, mends_again, mends_choice, mends_end, mends_few, mends_local, mends_once, mends_status, mends_status_of, tells_down, tells_downs, tells_new_status, tells_over, terminal_wish, then_changes, wish, wish_of, withdraws_unless}
 use Rattle.edge_model.specs.Put.{Spoken, stays}
-use Rattle.edge_model.specs.Role.{down_at, role_at, status_to_tell}
+use Rattle.edge_model.specs.Role.{down_at, is_chosen_wire, role_at, status_to_tell}
 use Rattle.edge_model.specs.Spokes.{choosing}
 use Rattle.edge_model.specs.State.{EdgeState, end_at}
 use Rattle.edge_model.specs.Withdraw.{tells_piece}
@@ -334,6 +334,34 @@ unfolding at_edge
 choice_tells plan told before place edge calls out new put is other puts =
     let start : Work = record { edge = edge; calls = calls; effects = out; idle = false } in
     puts ∙ sym (ap (λ (b : Bool). cond b (tells_piece told place [] start) (stays start)) (sym is ∙ other))
+
+no_new_choice : (chosen : ℕ → Option WireId) (wire : WireId) (row : Option WirePlan) → is_new_choice chosen chosen wire row ≡ false
+no_new_choice chosen wire None = refl
+no_new_choice chosen wire (Some row) = by (is_chosen_wire wire (chosen row.service.0)) where
+  by : (b : Bool) → b && not b ≡ false
+  by true = refl
+  by false = refl
+
+choices_not : (plan : Plan) (told : Answers) (places : List EndPlace) (m : Spoken) → each_end (mends_choice plan told m.work.edge.chosen) places m ≡ m
+choices_not plan told [] m = refl
+choices_not plan told (place ∷ places) m = ap (each_end (mends_choice plan told m.work.edge.chosen) places) one ∙ choices_not plan told places m where
+  or_false : (b : Bool) → b || false ≡ b
+  or_false true = refl
+  or_false false = refl
+
+  one : and_says m (mends_choice plan told m.work.edge.chosen place) ≡ m
+  one =
+      ap (λ (b : Bool). record { work = (cond b (tells_piece told place [] m.work) (stays m.work)).work; failed = m.failed || (cond b (tells_piece told place [] m.work) (stays m.work)).failed })
+      (no_new_choice m.work.edge.chosen place.wire (wire_row plan place.wire))
+      ∙ ap (λ (b : Bool). record { work = m.work; failed = b }) (or_false m.failed)
+
+-- where the choice is as it was no spoke was chosen anew
+pub same_choices : (plan : Plan) (told : Answers) (before : ℕ → Option WireId) (places : List EndPlace) (edge : EdgeState) (calls : List LinkCall) (out : List Effect) (failed : Bool) → before ≡ edge.chosen
+    → record { work = at_edge edge calls out; failed = failed } ≡ each_end (mends_choice plan told before) places (record { work = at_edge edge calls out; failed = failed })
+unfolding at_edge
+same_choices plan told before places edge calls out failed same =
+    let m : Spoken = record { work = record { edge = edge; calls = calls; effects = out; idle = false }; failed = failed } in
+    sym (ap (λ (b : ℕ → Option WireId). each_end (mends_choice plan told b) places m) same ∙ choices_not plan told places m)
 
 -- ---- what an end should tell
 

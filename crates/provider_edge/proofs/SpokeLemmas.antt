@@ -1,11 +1,14 @@
 -- The spokes of a spoke edge by their slots, and the choice among them.
 use Rattle.std.proofs.Common.{◌≡◌, ◌<◌, ◌≤◌, ◌+◌, ◌++◌, ◌∙◌, ◌⊎◌, ◌&&◌, ℕ, zero, suc, Bool, true, false, cond, is_some, not, filter, map, nat_eq, nat_lt, List, [], ◌∷◌, Option, Some, None, length, drop, slice_get, slice_index_or, option_and_then, option_map, set, take, append_assoc, append-nil, refl, ap, sym, subst, inl, inr, arith}
-use Rattle.std.proofs.lemmas.Bool.{cases_order, eqb-true}
+use Rattle.std.proofs.lemmas.Bool.{cases_order, eq-eqb, eqb-true}
 use Rattle.std.proofs.lemmas.Bool.Decides.{nat_tests}
 use Rattle.std.proofs.lemmas.List.{drop_all, drop_more}
 use Rattle.std.proofs.lemmas.List.Elements.{All-get_or}
 use Rattle.std.proofs.lemmas.Option.{get_or_from_slice_get, slice_get_within}
+use Rattle.std.specs.Bool.{Decides}
+use Rattle.std.specs.Cmp.Lexicographic.{pointwise, pointwise_decides}
 use Rattle.std.specs.List.{All}
+use Rattle.std.specs.Option.{option_eq}
 use Rattle.net_base.specs.declared.plan.Plan.{Plan}
 use Rattle.net_base.specs.declared.plan.places.EdgeId.{EdgeId}
 use Rattle.net_base.specs.declared.plan.places.ServiceId.{ServiceId}
@@ -288,3 +291,20 @@ unfolding seen
 choice_read c service place spokes wire are some named =
     sym named
     ∙ ap (λ (o : Option ℕ). option_map (λ (end : EndPlace). end.wire) (option_and_then (slice_get (spoke_places c.plan c.me (record { 0 = service }))) o)) (some ∙ ap chosen are)
+
+-- ---- two lists of wires
+
+wires_decide : (one other : Option WireId) → Decides (option_eq (λ a b. nat_eq a.0 b.0) one other) (one ≡ other)
+wires_decide None None = (λ h. refl, λ h. refl)
+wires_decide None (Some y) = (λ h. absurd (cc (h)), λ h. absurd (cc (h)))
+wires_decide (Some x) None = (λ h. absurd (cc (h)), λ h. absurd (cc (h)))
+wires_decide (Some x) (Some y) = (λ h. ap (λ (n : ℕ). Some (record { 0 = n })) (eqb-true x.0 y.0 h), λ h. eq-eqb x.0 y.0 (inside h)) where
+  number : ℕ → Option WireId → ℕ
+  number n None = n
+  number n (Some w) = w.0
+
+  inside : Some x ≡ Some y → x.0 ≡ y.0
+  inside h = ap (number 0) h
+
+pub wires_same : (xs ys : List (Option WireId)) → pointwise (option_eq (λ a b. nat_eq a.0 b.0)) xs ys ≡ true → xs ≡ ys
+wires_same xs ys same = (pointwise_decides wires_decide xs ys).0 same

@@ -1,5 +1,5 @@
 //! The spokes of a spoke edge, and which of them it has chosen.
-ghost use Rattle.std.specs.Prelude.{◌≡◌, ◌≤◌, ◌<◌, ◌++◌, ◌∷◌, [], None, Some, length, map, not, replicate, slice_set, if◌then◌else◌, IfOk, OnOk};
+ghost use Rattle.std.specs.Prelude.{◌≡◌, ◌≤◌, ◌<◌, ◌++◌, ◌∷◌, [], None, Some, true, length, map, not, replicate, slice_set, if◌then◌else◌, IfOk, OnOk};
 ghost use Rattle.net_base.specs.plan.Accepted.{IsChecked};
 ghost use Rattle.net_base.specs.plan.Paths.{is_first};
 ghost use Rattle.net_base.specs.plan.Places.{is_mesh_class, wire_row};
@@ -71,6 +71,13 @@ impl Spokes {
         ensures { IfOk result (λ chosen. chosen.items ≡ self.now.chosen) }
     {
         Ok(Vec::from_slice(alloc, self.chosen.as_slice())?)
+    }
+
+    /// Whether these are the wires of the spokes that are chosen, by services.
+    pub fn are_chosen(&self, chosen: &[Option<WireId>]) -> bool
+        ensures { result ≡ true → chosen.now ≡ self.now.chosen }
+    {
+        chosen == self.chosen.as_slice()
     }
 
     /// This spoke, or none, is chosen for a service.

@@ -119,6 +119,9 @@ impl Edge {
             → record { work = at_work L.calls self.new work.new; failed = failed }
             ≡ each_end (mends_choice self.old.plan told (view None chosen.now)) (end_places self.old.plan self.old.me) (record { work = at_work L.calls self.old work.old; failed = before })) }
     {
+        if self.has_chosen(chosen) {
+            return Ok(before);
+        }
         let mut failed = before;
         for slot in 0..self.count_ends() {
             failed |= self.mend_choice(chosen, slot, work)?;

@@ -145,6 +145,14 @@ impl Edge {
         self.spokes.all_chosen(alloc)
     }
 
+    // Whether these wires are the ones that are chosen, by services.
+    #[tactic(auto, unfolding(crate::specs::Lists::seen))]
+    pub(crate) fn has_chosen(&self, chosen: &[Option<WireId>]) -> bool
+        ensures { result ≡ true → view None chosen.now ≡ (seen self.now).chosen }
+    {
+        self.spokes.are_chosen(chosen)
+    }
+
     // Whether an end would forward if its spoke were the chosen one.
     fn is_usable(&self, slot: usize) -> bool
         requires { slot < length self.now.ends.places }

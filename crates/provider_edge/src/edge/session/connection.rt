@@ -1,5 +1,7 @@
 //! Connections of the edge: one stands, one is lost, and the edge restarts.
 ghost use Rattle.std.specs.Prelude.{◌≡◌, ◌<◌, [], true, false, List, length, slice_get, OnOk};
+ghost use Rattle.std.specs.List.{list_any};
+ghost use Rattle.net_base.specs.plan.Paths.{are_joined};
 ghost use Rattle.session_core.specs.State.{IsProper};
 ghost use Rattle.edge_model.specs.Connection.{connected_input, connects, lost_input, restart_input};
 ghost use Rattle.edge_model.specs.State.{without_ends};
@@ -7,11 +9,12 @@ ghost use Rattle.edge_model.specs.Work.{Agrees, Answers, beginning};
 ghost use Rattle.net_base.specs.declared.outside.link_call.LinkCall.{LinkCall};
 ghost use Rattle.peer_dialogue.specs.Peering.{connection_with, peers_between};
 ghost use Rattle.provider_edge.specs.AtWork.{Takes, Works, at_work, worked_at};
+ghost use Rattle.provider_edge.specs.EndOf.{is_beside};
 ghost use Rattle.provider_edge.specs.Lists.{Keeps, seen, worked};
 
 use crate::Edge;
 use crate::pings::forget_pings;
-use edge_model::Effect;
+use edge_model::{Effect, EndPlace};
 use net_base::{EdgeId, Link, NoMemory, StateName};
 use peer_dialogue::{AtWork, Event, Peering};
 use session_core::Peers;
@@ -29,7 +32,9 @@ impl Edge {
         ensures step { OnOk result ((told : Answers) → Agrees told (L.calls work.new.link.now)
             → worked_at L.calls self.new work.new ≡ connected_input self.old.plan told peer (beginning (seen self.old) (L.calls work.old.link.now))) }
     {
-        if !self.plan.joined(self.me, peer) || self.has_end(peer) {
+        // Named so that what always holds of the fields is at hand for the proof.
+        let _ = &self.plan;
+        if !self.joined(peer) || self.has_end(peer) {
             work.effects.idle = true;
             return Ok(());
         }
@@ -39,6 +44,14 @@ impl Edge {
         };
         self.connect(peer, peers, work)?;
         self.mend(work)
+    }
+
+    // Whether a segment of a wire joins the edge with a peer (RFC 6073 section 4): then an end of the edge is beside it. The wires of
+    // other edges are not looked at.
+    fn joined(&self, peer: EdgeId) -> bool
+        ensures { result ≡ are_joined self.now.plan self.now.me.0 peer.0 }
+    {
+        is_beside(self.ends.places(), peer)
     }
 
     // A connection with a peer stands, and its session begins (RFC 5036 section 2.5.3).
@@ -124,4 +137,11 @@ impl Edge {
         self.spokes.clear();
         self.forwarding.close_wires();
     }
+}
+
+// Whether one of these ends is beside a peer.
+fn is_beside(places: &[EndPlace], peer: EdgeId) -> bool
+    ensures { result ≡ list_any (is_beside peer.0) places.now }
+{
+    places.iter().any(|place| place.peer == peer)
 }

@@ -22,7 +22,7 @@ use Rattle.provider_edge.proofs.edge.Edge.connected.Goals as goal
 pub returns-then-not-joined-clause-step : goal.returns-then-not-joined-clause-step
 returns-then-not-joined-clause-step g c = λ told agrees.
     let joined : c.joined.result ≡ are_joined c.args.self.now.plan c.args.self.now.me.0 c.args.peer.0 =
-    c.joined.ensures ∙ (ap (λ (p : Plan). are_joined p c.self.inside.me.0 c.args.peer.0) c.deref.ensures ∙ ap (λ (e : EdgeLists). are_joined e.plan e.me.0 c.args.peer.0) c.self.view_is) in
+    c.joined.ensures in
     subst (λ (e : Effects). worked c.args.self.now (g.L.Link.calls c.args.work.now.link.now) (record e { idle = true }) ≡ connected_input c.args.self.now.plan told c.args.peer (beginning (seen c.args.self.now) (g.L.Link.calls c.args.work.now.link.now))) (sym c.requires.fresh)
     (connected_idle c.args.self.now told c.args.peer (g.L.Link.calls c.args.work.now.link.now) (elim c.then-not-joined.branch [
       | then-not-joined-via-then-not-joined w ↦ apart_test (are_joined c.args.self.now.plan c.args.self.now.me.0 c.args.peer.0) (has_end (seen c.args.self.now) c.args.peer) (sym joined ∙ w.if-not-joined.true)
@@ -32,7 +32,7 @@ returns-then-not-joined-clause-step g c = λ told agrees.
 pub returns-in_default-clause-step : goal.returns-in_default-clause-step
 returns-in_default-clause-step g c = λ told agrees.
     let joined : c.joined.result ≡ are_joined c.args.self.now.plan c.args.self.now.me.0 c.args.peer.0 =
-    c.joined.ensures ∙ (ap (λ (p : Plan). are_joined p c.self.inside.me.0 c.args.peer.0) c.deref.ensures ∙ ap (λ (e : EdgeLists). are_joined e.plan e.me.0 c.args.peer.0) c.self.view_is) in
+    c.joined.ensures in
     subst (λ (e : Effects). worked c.args.self.now (g.L.Link.calls c.args.work.now.link.now) (record e { idle = true }) ≡ connected_input c.args.self.now.plan told c.args.peer (beginning (seen c.args.self.now) (g.L.Link.calls c.args.work.now.link.now))) (sym c.requires.fresh)
     (connected_none c.args.self.now told c.args.peer c.peers_with.result (g.L.Link.calls c.args.work.now.link.now) (joined_test (are_joined c.args.self.now.plan c.args.self.now.me.0 c.args.peer.0) (has_end (seen c.args.self.now) c.args.peer) (sym joined ∙ c.if-not-joined.false) (sym c.has_end.ensures ∙ c.if-has_end.false)) c.peers_with.ensures c.in_default.is)
 
@@ -43,7 +43,7 @@ connect-requires-clause-within g c =
 pub connect-requires-clause-proper : goal.connect-requires-clause-proper
 connect-requires-clause-proper g c =
     let joined : c.joined.result ≡ are_joined c.args.self.now.plan c.args.self.now.me.0 c.args.peer.0 =
-    c.joined.ensures ∙ (ap (λ (p : Plan). are_joined p c.self.inside.me.0 c.args.peer.0) c.deref.ensures ∙ ap (λ (e : EdgeLists). are_joined e.plan e.me.0 c.args.peer.0) c.self.view_is) in
+    c.joined.ensures in
     proper_between c.args.self.now.plan c.args.self.now.me.0 c.args.peer.0 c.peers_with.result c.in-Some.peers (subst (λ (e : EdgeLists). IsChecked e.plan) c.self.view_is c.self.invariant.checked) (sym joined ∙ c.if-not-joined.false) c.peers_with.ensures c.in-Some.is
 
 pub returns-clause-goes : goal.returns-clause-goes
@@ -53,7 +53,7 @@ pub returns-clause-step : goal.returns-clause-step
 returns-clause-step g c = map_on _ _ c.mend.result
     (λ step told agrees.
     let joined : c.joined.result ≡ are_joined c.args.self.now.plan c.args.self.now.me.0 c.args.peer.0 =
-    c.joined.ensures ∙ (ap (λ (p : Plan). are_joined p c.self.inside.me.0 c.args.peer.0) c.deref.ensures ∙ ap (λ (e : EdgeLists). are_joined e.plan e.me.0 c.args.peer.0) c.self.view_is) in
+    c.joined.ensures in
     connected_done c.args.self.now told c.args.peer c.peers_with.result c.in-Some.peers (g.L.Link.calls c.args.work.now.link.now) _
     (joined_test (are_joined c.args.self.now.plan c.args.self.now.me.0 c.args.peer.0) (has_end (seen c.args.self.now) c.args.peer) (sym joined ∙ c.if-not-joined.false) (sym c.has_end.ensures ∙ c.if-has_end.false))
     c.peers_with.ensures c.in-Some.is

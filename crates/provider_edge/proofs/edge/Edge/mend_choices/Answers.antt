@@ -1,11 +1,13 @@
 use Rattle.std.proofs.Common.{None, ◌<◌, length, arith}
+use Rattle.edge_model.specs.EndPlaces.{end_places}
 use Rattle.edge_model.specs.Mend.{mends_choice}
 use Rattle.edge_forwarding.specs.Views.{view}
 use Rattle.pw_ends.specs.Ends.{place_of}
 use Rattle.peer_dialogue.proofs.SpeakerLemmas.{agrees_before}
 use Rattle.provider_edge.proofs.AtWorkLemmas.{works_both}
-use Rattle.provider_edge.proofs.MendLemmas.{ends_next, ends_past, said_more, within_kept}
+use Rattle.provider_edge.proofs.MendLemmas.{ends_next, ends_past, said_more, same_choices, within_kept}
 use Rattle.provider_edge.specs.AtWork.{at_work}
+use Rattle.provider_edge.specs.Lists.{seen}
 use Rattle.provider_edge.proofs.edge.Edge.mend_choices.Goals as goal
 
 pub mend_choice-requires-clause-slot : goal.mend_choice-requires-clause-slot
@@ -27,3 +29,8 @@ returns-clause-step g c = λ told agrees.
 
 pub returns-in_err-failed-clause-goes : goal.returns-in_err-failed-clause-goes
 returns-in_err-failed-clause-goes g c = works_both g.L.Link.calls _ _ _ _ _ _ c.loop-slot.invariant.goes c.mend_choice.ensures.goes
+
+pub returns-then-has_chosen-clause-step : goal.returns-then-has_chosen-clause-step
+returns-then-has_chosen-clause-step g c = λ told agrees.
+    same_choices c.args.self.now.plan told (view None c.args.chosen.now) (end_places c.args.self.now.plan c.args.self.now.me) (seen c.args.self.now) (g.L.Link.calls c.args.work.now.link.now) c.args.work.now.effects.now.list c.args.before
+    (c.has_chosen.ensures c.if-has_chosen.true)
