@@ -25,15 +25,16 @@ use Rattle.pw_tlvs.specs.declared.pw_status.PwStatus.{PwStatus}
 use Rattle.pw_ends.specs.Ends.{end_in, no_place, place_of}
 use Rattle.peer_dialogue.specs.Wish.{wish_by}
 use Rattle.edge_model.specs.declared.effect.Effect.{Effect}
+use Rattle.edge_model.specs.declared.effect.Effect.TheVariants.{Wire}
 use Rattle.edge_model.specs.declared.end_place.EndPlace.{EndPlace}
 use Rattle.edge_model.specs.EndPlaces.{end_places}
-use Rattle.edge_model.specs.Mend.{advertises_wish, and_says, each_end, forgets_down, forgets_downs, forgetting_wire, cause_number, is_new_choice, mends, mends_again, mends_choice, mends_end, mends_few, mends_local, mends_once, mends_status, mends_status_of, tells_down, tells_downs, tells_new_status, tells_over, terminal_wish, then_changes, wish, wish_of, withdraws_unless}
+use Rattle.edge_model.specs.Mend.{advertises_wish, and_says, each_end, forgets_down, forgets_downs, forgetting_wire, cause_number, is_new_choice, mends, mends_again, mends_choice, mends_end, mends_few, mends_local, mends_once, mends_status, mends_status_of, tells_down, tells_downs, tells_new_status, tells_over, terminal_wish, then_changes, wish, withdraws_unless}
 use Rattle.edge_model.specs.Put.{Spoken, stays}
 use Rattle.edge_model.specs.Role.{down_at, is_chosen_wire, role_at, status_to_tell}
 use Rattle.edge_model.specs.Spokes.{choosing}
-use Rattle.edge_model.specs.State.{EdgeState, end_at}
+use Rattle.edge_model.specs.State.{EdgeState, end_at, with_addresses, with_told_down}
 use Rattle.edge_model.specs.Withdraw.{tells_piece}
-use Rattle.edge_model.specs.Work.{Answers, Work, changes}
+use Rattle.edge_model.specs.Work.{Answers, Work, changes, gives}
 use Rattle.peer_dialogue.specs.Peering.{at_edge}
 use Rattle.provider_edge.specs.Lists.{EdgeLists, Keeps, seen}
 use Rattle.provider_edge.specs.Mending.{forgotten_down, may_tell_end, mended_down}
@@ -74,19 +75,18 @@ rounds_end c told n i start work rounds past so_far = sym (so_far ∙ few_end c.
 
 -- ---- all steps once
 
-pub once_done : (plan : Plan) (told : Answers) (me : EdgeId) (before : ℕ → Option WireId) (start forgot last : Work) (ends chosen statuses moved : Spoken) → start.edge.me ≡ me → before ≡ start.edge.chosen
+pub once_done : (plan : Plan) (told : Answers) (me : EdgeId) (before : ℕ → Option WireId) (start last : Work) (ends chosen statuses moved : Spoken) → start.edge.me ≡ me → before ≡ start.edge.chosen
     → ends ≡ each_end (mends_end plan told) (end_places plan me) (stays start)
     → chosen ≡ then_changes (choosing plan) ends
     → statuses ≡ each_end (mends_status plan told) (end_places plan me) chosen
     → moved ≡ each_end (mends_choice plan told before) (end_places plan me) statuses
-    → forgot ≡ forgets_downs plan (end_places plan me) moved.work
-    → last ≡ tells_downs plan (end_places plan me) forgot
+    → last ≡ tells_downs plan (end_places plan me) (forgets_downs plan (end_places plan me) moved.work)
     → record { work = last; failed = moved.failed } ≡ mends_once plan told start
-once_done plan told me before start forgot last ends chosen statuses moved here chose first chooses next moves forgets downs =
+once_done plan told me before start last ends chosen statuses moved here chose first chooses next moves downs =
     let after : EdgeId → Work → Work = λ m w. tells_downs plan (end_places plan m) (forgets_downs plan (end_places plan m) w) in
     let told_all : EdgeId → Spoken = λ m. each_end (mends_status plan told) (end_places plan m) (then_changes (choosing plan) (each_end (mends_end plan told) (end_places plan m) (stays start))) in
     let all : EdgeId → Spoken = λ m. each_end (mends_choice plan told start.edge.chosen) (end_places plan m) (told_all m) in
-    ap (λ (w : Work). record { work = w; failed = moved.failed }) (downs ∙ ap (tells_downs plan (end_places plan me)) forgets)
+    ap (λ (w : Work). record { work = w; failed = moved.failed }) downs
     ∙ (ap (λ (s : Spoken). record { work = after me s.work; failed = s.failed })
     (moves
     ∙ (ap (λ (b : ℕ → Option WireId). each_end (mends_choice plan told b) (end_places plan me) statuses) chose
@@ -110,13 +110,12 @@ choices_kept c now told before m x keeps is =
     is
     ∙ (ap (λ (p : Plan). each_end (mends_choice p told before) (end_places p now.me) m) keeps.plan ∙ ap (λ (e : EdgeId). each_end (mends_choice c.plan told before) (end_places c.plan e) m) keeps.me)
 
-pub downs_kept : (c now : EdgeLists) (work x : Work) → Keeps c now → x ≡ tells_downs now.plan (end_places now.plan now.me) work → x ≡ tells_downs c.plan (end_places c.plan c.me) work
+pub downs_kept : (c now : EdgeLists) (work x : Work) → Keeps c now → x ≡ tells_downs now.plan (end_places now.plan now.me) (forgets_downs now.plan (end_places now.plan now.me) work)
+    → x ≡ tells_downs c.plan (end_places c.plan c.me) (forgets_downs c.plan (end_places c.plan c.me) work)
 downs_kept c now work x keeps is =
-    is ∙ (ap (λ (p : Plan). tells_downs p (end_places p now.me) work) keeps.plan ∙ ap (λ (e : EdgeId). tells_downs c.plan (end_places c.plan e) work) keeps.me)
-
-pub forgets_kept : (c now : EdgeLists) (work x : Work) → Keeps c now → x ≡ forgets_downs now.plan (end_places now.plan now.me) work → x ≡ forgets_downs c.plan (end_places c.plan c.me) work
-forgets_kept c now work x keeps is =
-    is ∙ (ap (λ (p : Plan). forgets_downs p (end_places p now.me) work) keeps.plan ∙ ap (λ (e : EdgeId). forgets_downs c.plan (end_places c.plan e) work) keeps.me)
+    is
+    ∙ (ap (λ (p : Plan). tells_downs p (end_places p now.me) (forgets_downs p (end_places p now.me) work)) keeps.plan
+    ∙ ap (λ (e : EdgeId). tells_downs c.plan (end_places c.plan e) (forgets_downs c.plan (end_places c.plan e) work)) keeps.me)
 
 pub me_at : (c : EdgeLists) (calls : List LinkCall) (out : List Effect) → (at_edge (seen c) calls out).edge.me ≡ c.me
 unfolding seen at_edge
@@ -142,20 +141,6 @@ each_past mend [] (suc i) m past = refl
 each_past mend (x ∷ places) zero m past = absurd (omega arith)
 each_past mend (x ∷ places) (suc i) m past = each_past mend places i m (omega arith)
 
-downs_more : (plan : Plan) (places : List EndPlace) (i : ℕ) (d : EndPlace) (work : Work) → i < length places
-    → tells_downs plan (drop i places) work ≡ tells_downs plan (drop (i + 1) places) (mended_down plan (slice_index_or places i d) work)
-downs_more plan [] i d work below = absurd (omega arith)
-downs_more plan (x ∷ places) zero d work below = refl
-downs_more plan (x ∷ places) (suc i) d work below =
-    let next : suc i + 1 ≡ suc (i + 1) = omega arith in
-    rw next (downs_more plan places i d work (omega arith))
-
-downs_past : (plan : Plan) (places : List EndPlace) (i : ℕ) (work : Work) → length places ≤ i → tells_downs plan (drop i places) work ≡ work
-downs_past plan [] zero work past = refl
-downs_past plan [] (suc i) work past = refl
-downs_past plan (x ∷ places) zero work past = absurd (omega arith)
-downs_past plan (x ∷ places) (suc i) work past = downs_past plan places i work (omega arith)
-
 -- one end more
 pub said_more : (before failed : Bool) (start next : Work) (mend : Work → Spoken) → record { work = next; failed = failed } ≡ mend start → record { work = next; failed = before || failed } ≡ and_says (record { work = start; failed = before }) mend
 said_more before failed start next mend one = ap (λ (s : Spoken). record { work = s.work; failed = before || s.failed }) one
@@ -173,45 +158,120 @@ pub ends_past : (mends : Plan → EndPlace → Work → Spoken) (c : EdgeLists) 
     → whole ≡ each_end (mends c.plan) (drop i (end_places c.plan c.me)) m → m ≡ whole
 ends_past mends c i m whole placed past so_far = sym (so_far ∙ each_past (mends c.plan) (end_places c.plan c.me) i m (subst (λ (l : List EndPlace). length l ≤ i) placed past))
 
-pub downs_next : (c now : EdgeLists) (i : ℕ) (work next whole : Work) → Keeps c now → c.ends.places ≡ end_places c.plan c.me → i < length now.ends.places
-    → whole ≡ tells_downs c.plan (drop i (end_places c.plan c.me)) work → next ≡ mended_down now.plan (place_of now.ends i) work
-    → whole ≡ tells_downs c.plan (drop (i + 1) (end_places c.plan c.me)) next
-downs_next c now i work next whole keeps placed below so_far one =
-    so_far
-    ∙ (downs_more c.plan (end_places c.plan c.me) i no_place work (subst (λ (l : List EndPlace). i < length l) (keeps.places ∙ placed) below)
-    ∙ ap (tells_downs c.plan (drop (i + 1) (end_places c.plan c.me)))
-    (sym (one ∙ (ap (λ (p : Plan). mended_down p (place_of now.ends i) work) keeps.plan ∙ ap (λ (l : List EndPlace). mended_down c.plan (slice_index_or l i no_place) work) (keeps.places ∙ placed)))))
+-- what is learned is no cause, and neither is what was told
+down_told : (plan : Plan) (p q : EndPlace) (work : Work) → down_at plan (mended_down plan p work).edge q ≡ down_at plan work.edge q
+unfolding changes gives with_told_down
+down_told plan p q work = by p.terminal (cause_number (work.edge.told_down p.wire.0) == cause_number (down_at plan work.edge p)) where
+  by : (terminal same : Bool)
+      → down_at plan (cond terminal (cond same work (gives (Wire p.wire (down_at plan work.edge p)) (changes (with_told_down p.wire (down_at plan work.edge p)) work))) work).edge q ≡ down_at plan work.edge q
+  by false same = refl
+  by true true = refl
+  by true false = refl
 
-pub downs_end : (c : EdgeLists) (i : ℕ) (work whole : Work) → c.ends.places ≡ end_places c.plan c.me → length c.ends.places ≤ i
-    → whole ≡ tells_downs c.plan (drop i (end_places c.plan c.me)) work → work ≡ whole
-downs_end c i work whole placed past so_far = sym (so_far ∙ downs_past c.plan (end_places c.plan c.me) i work (subst (λ (l : List EndPlace). length l ≤ i) placed past))
+forgets_alike : (plan : Plan) (p q : EndPlace) (down : Option Down) (work : Work)
+    → (down_at plan (forgets_down plan q down work).edge p ≡ down_at plan work.edge p) × ((forgets_down plan q down work).edge.told_down ≡ work.edge.told_down)
+unfolding changes with_addresses
+forgets_alike plan p q None work = (refl, refl)
+forgets_alike plan p q (Some why) work = by (wire_row plan q.wire) where
+  by : (row : Option WirePlan)
+      → (down_at plan (changes (forgetting_wire plan q.wire row) work).edge p ≡ down_at plan work.edge p) × ((changes (forgetting_wire plan q.wire row) work).edge.told_down ≡ work.edge.told_down)
+  by None = (refl, refl)
+  by (Some row) = (refl, refl)
 
-forgets_more : (plan : Plan) (places : List EndPlace) (i : ℕ) (d : EndPlace) (work : Work) → i < length places
-    → forgets_downs plan (drop i places) work ≡ forgets_downs plan (drop (i + 1) places) (forgotten_down plan (slice_index_or places i d) work)
-forgets_more plan [] i d work below = absurd (omega arith)
-forgets_more plan (x ∷ places) zero d work below = refl
-forgets_more plan (x ∷ places) (suc i) d work below =
+forgotten_alike : (plan : Plan) (p q : EndPlace) (work : Work)
+    → (down_at plan (forgotten_down plan q work).edge p ≡ down_at plan work.edge p) × ((forgotten_down plan q work).edge.told_down ≡ work.edge.told_down)
+forgotten_alike plan p q work = by q.terminal where
+  by : (terminal : Bool)
+      → (down_at plan (cond terminal (forgets_down plan q (down_at plan work.edge q) work) work).edge p ≡ down_at plan work.edge p)
+      × ((cond terminal (forgets_down plan q (down_at plan work.edge q) work) work).edge.told_down ≡ work.edge.told_down)
+  by false = (refl, refl)
+  by true = forgets_alike plan p q (down_at plan work.edge q) work
+
+-- one wire may be told before what was learned at another is forgotten
+swapped : (plan : Plan) (p q : EndPlace) (work : Work) → forgotten_down plan q (mended_down plan p work) ≡ mended_down plan p (forgotten_down plan q work)
+unfolding changes gives with_told_down with_addresses
+swapped plan p q work =
+    ap (λ (d : Option Down). cond q.terminal (forgets_down plan q d (mended_down plan p work)) (mended_down plan p work)) (down_told plan p q work)
+    ∙ (middle
+    ∙ (ap (λ (t : ℕ → Option Down). tell (cause_number (t p.wire.0) == cause_number down) p.terminal (forgotten_down plan q work)) (sym (forgotten_alike plan p q work).1)
+    ∙ ap (λ (d : Option Down). cond p.terminal (tells_down p d (forgotten_down plan q work)) (forgotten_down plan q work)) (sym (forgotten_alike plan p q work).0)))
+  where
+    down : Option Down
+    down = down_at plan work.edge p
+
+    tell : Bool → Bool → Work → Work
+    tell same terminal w = cond terminal (cond same w (gives (Wire p.wire down) (changes (with_told_down p.wire down) w))) w
+
+    forget : Option Down → Option WirePlan → Work → Work
+    forget None row w = w
+    forget (Some why) row w = changes (forgetting_wire plan q.wire row) w
+
+    forget_is : (d : Option Down) (w : Work) → forget d (wire_row plan q.wire) w ≡ forgets_down plan q d w
+    forget_is None w = refl
+    forget_is (Some why) w = refl
+
+    any : (terminal : Bool) (d : Option Down) (row : Option WirePlan) (own same : Bool) → cond terminal (forget d row (tell same own work)) (tell same own work) ≡ tell same own (cond terminal (forget d row work) work)
+    any false d row own same = refl
+    any true None row own same = refl
+    any true (Some why) None false same = refl
+    any true (Some why) None true true = refl
+    any true (Some why) None true false = refl
+    any true (Some why) (Some row) false same = refl
+    any true (Some why) (Some row) true true = refl
+    any true (Some why) (Some row) true false = refl
+
+    middle : cond q.terminal (forgets_down plan q (down_at plan work.edge q) (mended_down plan p work)) (mended_down plan p work)
+        ≡ tell (cause_number (work.edge.told_down p.wire.0) == cause_number down) p.terminal (forgotten_down plan q work)
+    middle =
+        let u : Work = mended_down plan p work in
+        ap (λ (w : Work). cond q.terminal w u) (sym (forget_is (down_at plan work.edge q) u))
+        ∙ (any q.terminal (down_at plan work.edge q) (wire_row plan q.wire) p.terminal (cause_number (work.edge.told_down p.wire.0) == cause_number down)
+        ∙ ap (λ (w : Work). tell (cause_number (work.edge.told_down p.wire.0) == cause_number down) p.terminal (cond q.terminal w work)) (forget_is (down_at plan work.edge q) work))
+
+-- each end in turn: what was learned there is forgotten, and it is told
+abbrev pub settles_downs : Plan → List EndPlace → Work → Work
+settles_downs plan [] work = work
+settles_downs plan (place ∷ places) work = settles_downs plan places (mended_down plan place (forgotten_down plan place work))
+
+told_later : (plan : Plan) (p : EndPlace) (places : List EndPlace) (work : Work) → forgets_downs plan places (mended_down plan p work) ≡ mended_down plan p (forgets_downs plan places work)
+told_later plan p [] work = refl
+told_later plan p (q ∷ places) work = ap (forgets_downs plan places) (swapped plan p q work) ∙ told_later plan p places (forgotten_down plan q work)
+
+settled_downs : (plan : Plan) (places : List EndPlace) (work : Work) → settles_downs plan places work ≡ tells_downs plan places (forgets_downs plan places work)
+settled_downs plan [] work = refl
+settled_downs plan (p ∷ places) work =
+    settled_downs plan places (mended_down plan p (forgotten_down plan p work)) ∙ ap (tells_downs plan places) (told_later plan p places (forgotten_down plan p work))
+
+settles_more : (plan : Plan) (places : List EndPlace) (i : ℕ) (d : EndPlace) (work : Work) → i < length places
+    → settles_downs plan (drop i places) work ≡ settles_downs plan (drop (i + 1) places) (mended_down plan (slice_index_or places i d) (forgotten_down plan (slice_index_or places i d) work))
+settles_more plan [] i d work below = absurd (omega arith)
+settles_more plan (x ∷ places) zero d work below = refl
+settles_more plan (x ∷ places) (suc i) d work below =
     let next : suc i + 1 ≡ suc (i + 1) = omega arith in
-    rw next (forgets_more plan places i d work (omega arith))
+    rw next (settles_more plan places i d work (omega arith))
 
-forgets_past : (plan : Plan) (places : List EndPlace) (i : ℕ) (work : Work) → length places ≤ i → forgets_downs plan (drop i places) work ≡ work
-forgets_past plan [] zero work past = refl
-forgets_past plan [] (suc i) work past = refl
-forgets_past plan (x ∷ places) zero work past = absurd (omega arith)
-forgets_past plan (x ∷ places) (suc i) work past = forgets_past plan places i work (omega arith)
+settles_past : (plan : Plan) (places : List EndPlace) (i : ℕ) (work : Work) → length places ≤ i → settles_downs plan (drop i places) work ≡ work
+settles_past plan [] zero work past = refl
+settles_past plan [] (suc i) work past = refl
+settles_past plan (x ∷ places) zero work past = absurd (omega arith)
+settles_past plan (x ∷ places) (suc i) work past = settles_past plan places i work (omega arith)
 
-pub forgets_next : (c now : EdgeLists) (i : ℕ) (work next whole : Work) → Keeps c now → c.ends.places ≡ end_places c.plan c.me → i < length now.ends.places
-    → whole ≡ forgets_downs c.plan (drop i (end_places c.plan c.me)) work → next ≡ forgotten_down now.plan (place_of now.ends i) work
-    → whole ≡ forgets_downs c.plan (drop (i + 1) (end_places c.plan c.me)) next
-forgets_next c now i work next whole keeps placed below so_far one =
+pub settles_next : (c now : EdgeLists) (i : ℕ) (work next whole : Work) → Keeps c now → c.ends.places ≡ end_places c.plan c.me → i < length now.ends.places
+    → whole ≡ settles_downs c.plan (drop i (end_places c.plan c.me)) work → next ≡ mended_down now.plan (place_of now.ends i) (forgotten_down now.plan (place_of now.ends i) work)
+    → whole ≡ settles_downs c.plan (drop (i + 1) (end_places c.plan c.me)) next
+settles_next c now i work next whole keeps placed below so_far one =
     so_far
-    ∙ (forgets_more c.plan (end_places c.plan c.me) i no_place work (subst (λ (l : List EndPlace). i < length l) (keeps.places ∙ placed) below)
-    ∙ ap (forgets_downs c.plan (drop (i + 1) (end_places c.plan c.me)))
-    (sym (one ∙ (ap (λ (p : Plan). forgotten_down p (place_of now.ends i) work) keeps.plan ∙ ap (λ (l : List EndPlace). forgotten_down c.plan (slice_index_or l i no_place) work) (keeps.places ∙ placed)))))
+    ∙ (settles_more c.plan (end_places c.plan c.me) i no_place work (subst (λ (l : List EndPlace). i < length l) (keeps.places ∙ placed) below)
+    ∙ ap (settles_downs c.plan (drop (i + 1) (end_places c.plan c.me)))
+    (sym (one
+    ∙ (ap (λ (p : Plan). mended_down p (place_of now.ends i) (forgotten_down p (place_of now.ends i) work)) keeps.plan
+    ∙ ap (λ (l : List EndPlace). mended_down c.plan (slice_index_or l i no_place) (forgotten_down c.plan (slice_index_or l i no_place) work)) (keeps.places ∙ placed)))))
 
-pub forgets_end : (c : EdgeLists) (i : ℕ) (work whole : Work) → c.ends.places ≡ end_places c.plan c.me → length c.ends.places ≤ i
-    → whole ≡ forgets_downs c.plan (drop i (end_places c.plan c.me)) work → work ≡ whole
-forgets_end c i work whole placed past so_far = sym (so_far ∙ forgets_past c.plan (end_places c.plan c.me) i work (subst (λ (l : List EndPlace). length l ≤ i) placed past))
+pub settles_end : (c : EdgeLists) (i : ℕ) (start work : Work) → c.ends.places ≡ end_places c.plan c.me → length c.ends.places ≤ i
+    → settles_downs c.plan (end_places c.plan c.me) start ≡ settles_downs c.plan (drop i (end_places c.plan c.me)) work
+    → work ≡ tells_downs c.plan (end_places c.plan c.me) (forgets_downs c.plan (end_places c.plan c.me) start)
+settles_end c i start work placed past so_far =
+    sym (so_far ∙ settles_past c.plan (end_places c.plan c.me) i work (subst (λ (l : List EndPlace). length l ≤ i) placed past)) ∙ settled_downs c.plan (end_places c.plan c.me) start
 
 pub within_kept : (c now : EdgeLists) (i : ℕ) → Keeps c now → i < length c.ends.places → i < length now.ends.places
 within_kept c now i keeps below = subst (λ (l : List EndPlace). i < length l) (sym keeps.places) below
@@ -273,17 +333,6 @@ local_is c calls out slot read end is so = ap (λ (e : EndState). e.local) (loca
 
 -- ---- a wire that began to forward, or stopped
 
-pub told_down : (plan : Plan) (place at : EndPlace) (down : Option Down) (start work : Work) → at ≡ place → not at.terminal ≡ false → down ≡ down_at plan start.edge place → work ≡ tells_down place down start → work ≡ mended_down plan place start
-told_down plan place at down start work is so why told =
-    told ∙ (ap (λ (d : Option Down). tells_down place d start) why ∙ sym (ap (λ (b : Bool). cond b (tells_down place (down_at plan start.edge place) start) start) (ap (λ (p : EndPlace). p.terminal) (sym is) ∙ (sym (not_not at.terminal) ∙ ap not so)))) where
-      not_not : (b : Bool) → not (not b) ≡ b
-      not_not true = refl
-      not_not false = refl
-
-pub down_edge : (plan : Plan) (place : EndPlace) (down : Option Down) (edge : EdgeState) (calls : List LinkCall) (out : List Effect) → down ≡ down_at plan edge place → down ≡ down_at plan (at_edge edge calls out).edge place
-unfolding at_edge
-down_edge plan place down edge calls out is = is
-
 -- what was learned at a wire whose terminal end does not forward is forgotten
 not_terminal : (b : Bool) → not b ≡ true → b ≡ false
 not_terminal false is = refl
@@ -293,29 +342,51 @@ is_terminal_end : (b : Bool) → not b ≡ false → b ≡ true
 is_terminal_end true is = refl
 is_terminal_end false is = absurd (cc (is))
 
-pub forgot_other : (plan : Plan) (place at : EndPlace) (work : Work) → at ≡ place → not at.terminal ≡ true → work ≡ forgotten_down plan place work
-forgot_other plan place at work is other =
-    sym (ap (λ (b : Bool). cond b (forgets_down plan place (down_at plan work.edge place) work) work) (ap (λ (p : EndPlace). p.terminal) (sym is) ∙ not_terminal at.terminal other))
-
-forgot_terminal : (plan : Plan) (place at : EndPlace) (why : Option Down) (work : Work) → at ≡ place → not at.terminal ≡ false → why ≡ down_at plan work.edge place → forgets_down plan place why work ≡ forgotten_down plan place work
-forgot_terminal plan place at why work is here so =
-    ap (λ (d : Option Down). forgets_down plan place d work) so
-    ∙ sym (ap (λ (b : Bool). cond b (forgets_down plan place (down_at plan work.edge place) work) work) (ap (λ (p : EndPlace). p.terminal) (sym is) ∙ is_terminal_end at.terminal here))
-
-pub forgot_up : (plan : Plan) (place at : EndPlace) (why : Option Down) (edge : EdgeState) (calls : List LinkCall) (out : List Effect) → at ≡ place → not at.terminal ≡ false → why ≡ down_at plan edge place → is_some why ≡ false
-    → at_edge edge calls out ≡ forgotten_down plan place (at_edge edge calls out)
+pub settled_other : (plan : Plan) (place at : EndPlace) (edge : EdgeState) (calls : List LinkCall) (out : List Effect) → at ≡ place → not at.terminal ≡ true
+    → at_edge edge calls out ≡ mended_down plan place (forgotten_down plan place (at_edge edge calls out))
 unfolding at_edge
-forgot_up plan place at None edge calls out is here so up = forgot_terminal plan place at None (at_edge edge calls out) is here so
-forgot_up plan place at (Some cause) edge calls out is here so up = absurd (cc (up))
+settled_other plan place at edge calls out is other = sym (by place.terminal (ap (λ (p : EndPlace). p.terminal) (sym is) ∙ not_terminal at.terminal other)) where
+  start : Work
+  start = record { edge = edge; calls = calls; effects = out; idle = false }
 
-pub forgot_down : (plan : Plan) (place at : EndPlace) (why : Option Down) (edge now : EdgeState) (calls : List LinkCall) (out : List Effect) → at ≡ place → not at.terminal ≡ false → why ≡ down_at plan edge place → is_some why ≡ true
-    → now ≡ forgetting_wire plan at.wire (wire_row plan at.wire) edge
-    → at_edge now calls out ≡ forgotten_down plan place (at_edge edge calls out)
+  forgot : Bool → Work
+  forgot terminal = cond terminal (forgets_down plan place (down_at plan edge place) start) start
+
+  by : (terminal : Bool) → terminal ≡ false → cond terminal (tells_down place (down_at plan (forgot terminal).edge place) (forgot terminal)) (forgot terminal) ≡ start
+  by false none = refl
+  by true none = absurd (cc (none))
+
+-- what was learned at a terminal end is forgotten by its cause, which is then told
+pub settled_down : (plan : Plan) (place at : EndPlace) (down : Option Down) (edge mid : EdgeState) (calls : List LinkCall) (out : List Effect) (told : Work) → at ≡ place → not at.terminal ≡ false → down ≡ down_at plan edge place
+    → mid ≡ cond (is_some down) (forgetting_wire plan at.wire (wire_row plan at.wire) edge) edge → told ≡ tells_down place down (at_edge mid calls out)
+    → told ≡ mended_down plan place (forgotten_down plan place (at_edge edge calls out))
 unfolding at_edge changes
-forgot_down plan place at None edge now calls out is here so down forgets = absurd (cc (down))
-forgot_down plan place at (Some cause) edge now calls out is here so down forgets =
-    ap (λ (e : EdgeState). record { edge = e; calls = calls; effects = out; idle = false }) (forgets ∙ ap (λ (p : EndPlace). forgetting_wire plan p.wire (wire_row plan p.wire) edge) is)
-    ∙ forgot_terminal plan place at (Some cause) (record { edge = edge; calls = calls; effects = out; idle = false }) is here so
+settled_down plan place at down edge mid calls out told is own why forgets tells =
+    tells
+    ∙ (ap (tells_down place down) (ap (λ (e : EdgeState). record { edge = e; calls = calls; effects = out; idle = false }) forgets ∙ (ap (λ (p : EndPlace). forgot down p) is ∙ forgot_is down))
+    ∙ (ap (λ (d : Option Down). tells_down place d (forgets_down plan place down start)) (why ∙ sym (forgets_alike plan place place down start).0)
+    ∙ (ap (λ (d : Option Down). tells_down place (down_at plan (forgets_down plan place d start).edge place) (forgets_down plan place d start)) why
+    ∙ sym (by place.terminal (ap (λ (p : EndPlace). p.terminal) (sym is) ∙ is_terminal_end at.terminal own)))))
+  where
+    start : Work
+    start = record { edge = edge; calls = calls; effects = out; idle = false }
+
+    forgot : Option Down → EndPlace → Work
+    forgot d p = record { edge = cond (is_some d) (forgetting_wire plan p.wire (wire_row plan p.wire) edge) edge; calls = calls; effects = out; idle = false }
+
+    forgot_is : (d : Option Down) → forgot d place ≡ forgets_down plan place d start
+    forgot_is None = refl
+    forgot_is (Some cause) = refl
+
+    whole : Work
+    whole = forgets_down plan place (down_at plan edge place) start
+
+    after : Bool → Work
+    after terminal = cond terminal whole start
+
+    by : (terminal : Bool) → terminal ≡ true → cond terminal (tells_down place (down_at plan (after terminal).edge place) (after terminal)) (after terminal) ≡ tells_down place (down_at plan whole.edge place) whole
+    by true so = refl
+    by false so = absurd (cc (so))
 
 -- ---- a spoke that was chosen anew
 

@@ -67,8 +67,7 @@ impl Edge {
         self.choose_spokes(work.alloc)?;
         let untold = self.mend_statuses(refused, work)?;
         let failed = self.mend_choices(before.as_slice(), untold, work)?;
-        self.forget_downs();
-        self.tell_downs(&mut work.effects.list)?;
+        self.settle_downs(&mut work.effects.list)?;
         Ok(failed)
     }
 
@@ -129,27 +128,16 @@ impl Edge {
         Ok(failed)
     }
 
-    // What was learned at each wire that does not forward is forgotten.
-    fn forget_downs(&mut self)
-        requires working { self.old.stopped ≡ true }
-        ensures keeps { Keeps self.old self.new }
-        ensures step { (calls : List LinkCall) (out : List Effect)
-            → at_edge (seen self.new) calls out ≡ forgets_downs self.old.plan (end_places self.old.plan self.old.me) (at_edge (seen self.old) calls out) }
-    {
-        for slot in 0..self.count_ends() {
-            self.forget_down(slot);
-        }
-    }
-
-    // Each wire that began to forward, or stopped, is told.
-    fn tell_downs(&mut self, out: &mut List<Effect>) -> Result<(), NoMemory>
+    // What was learned at each wire that does not forward is forgotten, and each wire that began to forward, or stopped, is told.
+    fn settle_downs(&mut self, out: &mut List<Effect>) -> Result<(), NoMemory>
         requires working { self.old.stopped ≡ true }
         ensures keeps { Keeps self.old self.new }
         ensures step { OnOk result ((calls : List LinkCall)
-            → at_edge (seen self.new) calls out.new ≡ tells_downs self.old.plan (end_places self.old.plan self.old.me) (at_edge (seen self.old) calls out.old)) }
+            → at_edge (seen self.new) calls out.new
+            ≡ tells_downs self.old.plan (end_places self.old.plan self.old.me) (forgets_downs self.old.plan (end_places self.old.plan self.old.me) (at_edge (seen self.old) calls out.old))) }
     {
         for slot in 0..self.count_ends() {
-            self.tell_down(slot, out)?;
+            self.settle_down(slot, out)?;
         }
         Ok(())
     }

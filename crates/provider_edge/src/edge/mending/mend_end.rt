@@ -1,11 +1,12 @@
 //! One end is mended: what it tells follows what it should tell by now (RFC 8077 sections 6 and 6.3).
-ghost use Rattle.std.specs.Prelude.{◌≡◌, ◌<◌, ◌≤◌, ◌==◌, ◌&&◌, not, List, length, None, true, IfOk, OnOk};
+ghost use Rattle.std.specs.Prelude.{◌≡◌, ◌<◌, ◌≤◌, ◌==◌, ◌&&◌, not, List, length, None, is_some, true, IfOk, OnOk, if◌then◌else◌};
 ghost use Rattle.net_base.specs.declared.outside.link_call.LinkCall.{LinkCall};
 ghost use Rattle.net_base.specs.plan.Places.{wire_row};
+ghost use Rattle.edge_model.specs.declared.end_place.EndPlace.{EndPlace};
 ghost use Rattle.pw_signalling.specs.AnyEnd.{end_of};
 ghost use Rattle.pw_signalling.specs.Down.{own_told};
 ghost use Rattle.pw_ends.specs.Ends.{HasKind, Holds, IsIdle, end_in, place_of};
-ghost use Rattle.edge_model.specs.Mend.{advertises_wish, cause_number, forgetting_wire, is_new_choice, mends_choice, mends_end, mends_status, stands, tells_new_status, wish, withdraws_unless};
+ghost use Rattle.edge_model.specs.Mend.{advertises_wish, cause_number, forgetting_wire, is_new_choice, mends_choice, mends_end, mends_status, stands, tells_down, tells_new_status, wish, withdraws_unless};
 ghost use Rattle.edge_model.specs.Role.{down_at, end_role_of, is_chosen_wire, role_at};
 ghost use Rattle.edge_model.specs.State.{with_told_down};
 ghost use Rattle.edge_model.specs.Work.{Agrees, Answers};
@@ -224,20 +225,38 @@ impl Edge {
         self.is_chosen(wire, service) && !is_wire_of(chosen, wire, service)
     }
 
-    // What was learned at a wire whose terminal end does not forward is forgotten.
-    pub(crate) fn forget_down(&mut self, slot: usize)
+    // What was learned at a wire whose terminal end does not forward is forgotten; a wire that began to forward, or stopped, is told at
+    // its terminal end, where that was not told last.
+    pub(crate) fn settle_down(
+        &mut self,
+        slot: usize,
+        out: &mut List<Effect>,
+    ) -> Result<(), NoMemory>
         requires working { self.old.stopped ≡ true }
         requires slot { slot < length self.old.ends.places }
         ensures keeps { Keeps self.old self.new }
-        ensures step { (calls : List LinkCall) (out : List Effect)
-            → at_edge (seen self.new) calls out ≡ forgotten_down self.old.plan (place_of self.old.ends slot) (at_edge (seen self.old) calls out) }
+        ensures step { OnOk result ((calls : List LinkCall)
+            → at_edge (seen self.new) calls out.new
+            ≡ mended_down self.old.plan (place_of self.old.ends slot) (forgotten_down self.old.plan (place_of self.old.ends slot) (at_edge (seen self.old) calls out.old))) }
     {
         let place = self.place_at(slot);
         if !place.terminal {
-            return;
+            return Ok(());
         }
-        if self.down_of(slot).is_some() {
-            self.forget_wire(place.wire);
+        let down = self.down_of(slot);
+        self.forget_by(place.wire, down);
+        self.tell_by(place.wire, down, out)
+    }
+
+    // What was learned at a wire is forgotten, where its end does not forward for a cause.
+    fn forget_by(&mut self, wire: WireId, down: Option<Down>)
+        requires working { self.old.stopped ≡ true }
+        requires within { wire.0 < length self.old.plan.wires }
+        ensures keeps { Keeps self.old self.new }
+        ensures step { seen self.new ≡ (if is_some down then forgetting_wire self.old.plan wire (wire_row self.old.plan wire) (seen self.old) else seen self.old) }
+    {
+        if down.is_some() {
+            self.forget_wire(wire);
         }
     }
 
@@ -253,27 +272,24 @@ impl Edge {
         self.forwarding.forget_wire(wire);
     }
 
-    // A wire that began to forward, or stopped, is told at its terminal end, where that was not told last.
-    pub(crate) fn tell_down(&mut self, slot: usize, out: &mut List<Effect>) -> Result<(), NoMemory>
+    // Why the end of a wire does not forward is told, where that was not told last.
+    fn tell_by(
+        &mut self,
+        wire: WireId,
+        down: Option<Down>,
+        out: &mut List<Effect>,
+    ) -> Result<(), NoMemory>
         requires working { self.old.stopped ≡ true }
-        requires slot { slot < length self.old.ends.places }
+        requires within { wire.0 < length self.old.plan.wires }
         ensures keeps { Keeps self.old self.new }
-        ensures step { OnOk result ((calls : List LinkCall)
-            → at_edge (seen self.new) calls out.new ≡ mended_down self.old.plan (place_of self.old.ends slot) (at_edge (seen self.old) calls out.old)) }
+        ensures step { OnOk result ((place : EndPlace) (calls : List LinkCall) → place.wire ≡ wire
+            → at_edge (seen self.new) calls out.new ≡ tells_down place down (at_edge (seen self.old) calls out.old)) }
     {
-        let place = self.place_at(slot);
-        if !place.terminal {
+        if is_same(self.told_last(wire), down) {
             return Ok(());
         }
-        let down = self.down_of(slot);
-        if is_same(self.told_last(place.wire), down) {
-            return Ok(());
-        }
-        self.set_told(place.wire, down);
-        out.push(Effect::Wire {
-            wire: place.wire,
-            down,
-        })
+        self.set_told(wire, down);
+        out.push(Effect::Wire { wire, down })
     }
 
     // What was told last of the end of a wire.
