@@ -86,14 +86,7 @@ fn mark_pair(index: &mut PairIndex, parts: &Parts, me: EdgeId, other: EdgeId)
     ensures size { length index.new.rows ≡ length index.old.rows }
     ensures marked { HasMarkedPair parts.now me.0 other.0 index.old index.new }
 {
-    index.put(
-        me.0 as usize,
-        other.0 as usize,
-        parts.is_deliverable(me, other),
-    );
-    index.put(
-        other.0 as usize,
-        me.0 as usize,
-        parts.is_deliverable(other, me),
-    );
+    let (there, back) = parts.deliverable_between(me, other);
+    index.put(me.0 as usize, other.0 as usize, there);
+    index.put(other.0 as usize, me.0 as usize, back);
 }

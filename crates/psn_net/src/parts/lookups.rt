@@ -1,5 +1,5 @@
 //! What stands, and what may be delivered.
-ghost use Rattle.std.specs.Prelude.{◌≡◌, ◌==◌, ◌<◌, ◌≤◌, ℕ, true, false, length, IfSome};
+ghost use Rattle.std.specs.Prelude.{◌≡◌, ◌==◌, ◌<◌, ◌≤◌, ◌&&◌, ◌||◌, ℕ, not, true, false, length, IfSome};
 ghost use Rattle.net_base.specs.plan.Accepted.{IsChecked};
 ghost use Rattle.network_model.specs.Connection.{can_connect, is_deliverable, is_drained_pipe};
 ghost use Rattle.network_model.specs.Delivery.{first_from, first_pair};
@@ -85,6 +85,30 @@ impl Parts {
         ensures { result ≡ is_deliverable (seen self.now) from.0 to.0 }
     {
         self.stands(to, from) && (!self.is_drained(from, to) || !self.stands(from, to))
+    }
+
+    /// The same from one edge to another one, and back from there.
+    pub fn deliverable_between(&self, one: EdgeId, other: EdgeId) -> (bool, bool)
+        requires one { one.0 < length self.now.plan.edges }
+        requires other { other.0 < length self.now.plan.edges }
+        ensures there { result.0 ≡ is_deliverable (seen self.now) one.0 other.0 }
+        ensures back { result.1 ≡ is_deliverable (seen self.now) other.0 one.0 }
+    {
+        let near = self.stands(one, other);
+        let far = self.stands(other, one);
+        (
+            self.is_ready(one, other, near, far),
+            self.is_ready(other, one, far, near),
+        )
+    }
+
+    // Something is to be delivered, where it is known which ends stand.
+    fn is_ready(&self, from: EdgeId, to: EdgeId, sender: bool, receiver: bool) -> bool
+        requires from { from.0 < length self.now.plan.edges }
+        requires to { to.0 < length self.now.plan.edges }
+        ensures { result ≡ (receiver && (not (is_drained_pipe (seen self.now) from.0 to.0) || not sender)) }
+    {
+        receiver && (!self.is_drained(from, to) || !sender)
     }
 
     /// The first two edges that have something to deliver, in the plan's order of the sender and then of the receiver. It
