@@ -1,5 +1,4 @@
 use Rattle.std.proofs.Common.{◌≡◌, ◌∙◌, ap, sym, subst, true, refl}
-use Rattle.net_base.specs.declared.plan.Plan.{Plan}
 use Rattle.net_base.specs.plan.Accepted.{IsChecked}
 use Rattle.net_base.specs.plan.Paths.{are_joined}
 use Rattle.edge_model.specs.declared.effects.Effects.{Effects}

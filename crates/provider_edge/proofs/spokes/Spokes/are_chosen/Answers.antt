@@ -1,5 +1,4 @@
-use Rattle.std.proofs.Common.{◌∙◌, List, Option, ap, sym}
-use Rattle.net_base.specs.declared.plan.places.WireId.{WireId}
+use Rattle.std.proofs.Common.{◌∙◌, ap, sym}
 use Rattle.provider_edge.proofs.SpokeLemmas.{wires_same}
 use Rattle.provider_edge.specs.Spokes.{SpokeLists}
 use Rattle.provider_edge.proofs.spokes.Spokes.are_chosen.Goals as goal
