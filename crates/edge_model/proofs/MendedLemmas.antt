@@ -31,6 +31,7 @@ use Rattle.edge_model.specs.Mend.{passed_wish, advertises_wish, advertising, and
 use Rattle.edge_model.specs.Put.{Spoken, having_spoken, message_octets_of, put_octets, with_spoken, stays}
 use Rattle.edge_model.specs.Role.{down_at, is_chosen, role_in, status_to_tell, own_status}
 use Rattle.edge_model.specs.Session.{had_said, says, says_to}
+use Rattle.edge_model.specs.Settled.{IsForgotten, is_down_told, is_mended, is_status, is_told, tells_now, tells_wish}
 use Rattle.edge_model.specs.Spokes.{choosing}
 use Rattle.edge_model.specs.State.{EdgeState, Peering, addresses_of, end_at, with_addresses, with_chosen, with_end, with_next_label, with_peering, with_told_down, without_port}
 use Rattle.edge_model.specs.Withdraw.{tells_piece, tells_piece_by}
@@ -44,43 +45,9 @@ use Rattle.pw_stitch.specs.Change.{is_same_but_status}
 use Rattle.pw_stitch.specs.Passing.{passed_status}
 use Rattle.pw_stitch.proofs.ChangeLemmas.{same_without_status}
 
--- ---- an end that tells what it should
+-- ---- at an end that is settled there is nothing to mend
 
--- an end that should tell something advertises it, where a label is left and its last one was not declined; one that should tell
--- nothing does not
-abbrev tells_wish : EndPlace → Option Told → (none_left : Bool) → LocalPart → Bool
-tells_wish place wished none_left (Idle declined) = declined || (not (is_some wished) || none_left)
-tells_wish place wished none_left (Advertised label content) = stands place content wished
-tells_wish place wished none_left (Withdrawing label) = true
-
-abbrev pub is_mended : Plan → EdgeState → EndPlace → Bool
-is_mended plan edge place = tells_wish place (wish plan edge place) (nat_eq edge.next_label numbers_end) (end_at edge place).local
-
--- the status that it has told, where it has told one, is the one of now
-abbrev is_status : ℕ → Option PwStatus → Bool
-is_status status None = true
-is_status status (Some last) = nat_eq last.0 status
-
-abbrev tells_now : ℕ → LocalPart → Bool
-tells_now status (Idle declined) = true
-tells_now status (Advertised label content) = is_status status content.status
-tells_now status (Withdrawing label) = true
-
-abbrev pub is_told : Plan → EdgeState → EndPlace → Bool
-is_told plan edge place = tells_now (status_to_tell plan edge place).0 (end_at edge place).local
-
--- and what was told of a terminal end is so
-abbrev pub is_down_told : Plan → EdgeState → EndPlace → Bool
-is_down_told plan edge place = not place.terminal || nat_eq (cause_number (edge.told_down place.wire.0)) (cause_number (down_at plan edge place))
-
--- the addresses at the port of a terminal end that does not forward are gone
-abbrev pub IsForgotten : Plan → EdgeState → EndPlace → Type 0
-IsForgotten plan edge place = (row : WirePlan) → place.terminal ≡ true → wire_row plan place.wire ≡ Some row → is_some (down_at plan edge place) ≡ true
-    → without_port (port_of_wire plan edge place.wire row) (addresses_of edge row.service) ≡ addresses_of edge row.service
-
--- ---- then there is nothing to mend
-
-mends_end_not : (plan : Plan) (told : Answers) (place : EndPlace) (work : Work) → is_mended plan work.edge place ≡ true → mends_end plan told place work ≡ stays work
+pub mends_end_not : (plan : Plan) (told : Answers) (place : EndPlace) (work : Work) → is_mended plan work.edge place ≡ true → mends_end plan told place work ≡ stays work
 mends_end_not plan told place work = of (end_at work.edge place).local where
   none_left : Bool
   none_left = nat_eq work.edge.next_label numbers_end
@@ -102,7 +69,7 @@ mends_end_not plan told place work = of (end_at work.edge place).local where
   of (Advertised label content) e = told_it label content (stands place content (wish plan work.edge place)) e
   of (Withdrawing label) e = refl
 
-mends_status_not : (plan : Plan) (told : Answers) (place : EndPlace) (work : Work) → is_told plan work.edge place ≡ true → mends_status plan told place work ≡ stays work
+pub mends_status_not : (plan : Plan) (told : Answers) (place : EndPlace) (work : Work) → is_told plan work.edge place ≡ true → mends_status plan told place work ≡ stays work
 mends_status_not plan told place work = of (end_at work.edge place).local where
   status : PwStatus
   status = status_to_tell plan work.edge place
@@ -131,7 +98,7 @@ mends_choice_not : (plan : Plan) (told : Answers) (place : EndPlace) (work : Wor
 mends_choice_not plan told place work =
     ap (λ (b : Bool). cond b (tells_piece told place [] work) (stays work)) (no_new_choice work.edge.chosen place.wire (wire_row plan place.wire))
 
-tells_down_not : (plan : Plan) (place : EndPlace) (work : Work) → is_down_told plan work.edge place ≡ true → cond place.terminal (tells_down place (down_at plan work.edge place) work) work ≡ work
+pub tells_down_not : (plan : Plan) (place : EndPlace) (work : Work) → is_down_told plan work.edge place ≡ true → cond place.terminal (tells_down place (down_at plan work.edge place) work) work ≡ work
 tells_down_not plan place work = of place.terminal where
   down : Option Down
   down = down_at plan work.edge place
@@ -172,6 +139,10 @@ forgets_one_not plan place work gone = of place.terminal refl where
   of : (b : Bool) → place.terminal ≡ b → cond b (forgets_down plan place (down_at plan work.edge place) work) work ≡ work
   of true terminal = by terminal (down_at plan work.edge place) refl
   of false middle = refl
+
+pub forgets_down_not : (plan : Plan) (place : EndPlace) (work : Work) → IsForgotten plan work.edge place → cond place.terminal (forgets_down plan place (down_at plan work.edge place) work) work ≡ work
+unfolding forgets_one
+forgets_down_not plan place work gone = forgets_one_not plan place work gone
 
 forgets_downs_not : (plan : Plan) (work : Work) (places : List EndPlace) → AllByRecursion (IsForgotten plan work.edge) places → forgets_downs plan places work ≡ work
 unfolding forgets_one

@@ -41,7 +41,8 @@ use Rattle.edge_model.specs.Wire.{is_own_spoke, turned_wire}
 use Rattle.edge_model.specs.Work.{Work, Answers, changes, idles}
 use Rattle.edge_model.proofs.BridgeLemmas.{LearnsOnly, PingsInput, forgets_downs_only, frame_bridges, learns_is, packet_bridges, ping_bridges, with_pings}
 use Rattle.edge_model.proofs.LocalLemmas.{and_left, and_right}
-use Rattle.edge_model.proofs.MendedLemmas.{HaveTold, all_told, is_down_told}
+use Rattle.edge_model.proofs.MendedLemmas.{HaveTold, all_told}
+use Rattle.edge_model.specs.Settled.{is_down_told}
 use Rattle.edge_model.proofs.OneEndLemmas.{has_one_end}
 use Rattle.edge_model.proofs.PlaceLemmas.{all-map, places_are}
 use Rattle.edge_model.proofs.SignalLemmas.{IsSignalWork, chooses_signals, each_end_signals, mends_choice_signals, mends_end_signals, mends_status_signals}

@@ -23,6 +23,7 @@ pub mod Released
 pub mod Role
 pub mod Send
 pub mod Session
+pub mod Settled
 pub mod Signal
 pub mod Spokes
 pub mod StandbyBit

@@ -26,7 +26,7 @@ use Rattle.edge_model.specs.EndPlaces.{end_places, is_named, is_terminal}
 use Rattle.edge_model.specs.Mend.{is_up_with, passed_from, passed_wish, stands, terminal_wish, wish, wish_by, wish_of}
 use Rattle.edge_model.specs.Role.{own_status, status_to_tell}
 use Rattle.edge_model.specs.State.{EdgeState, end_at}
-use Rattle.edge_model.proofs.MendedLemmas.{is_mended, is_told}
+use Rattle.edge_model.specs.Settled.{is_mended, is_told}
 use Rattle.network_model.proofs.GoalLemmas.{mate_inside}
 use Rattle.flight_model.specs.Across.{IsTaken, PassesOn, RunsTakeMappings, RunsTellAcross, TellsAcross}
 use Rattle.flight_model.specs.Laws.{TellsContents, network_after}

@@ -34,7 +34,8 @@ use Rattle.edge_model.specs.Tick.{counted, forgetting, tick_input, ticks_session
 use Rattle.edge_model.specs.Wire.{is_own_spoke, priority_input, status_input, turned_wire, wire_input}
 use Rattle.edge_model.specs.Work.{Work, changes, idles}
 use Rattle.edge_model.proofs.BridgeLemmas.{LearnsOnly, PingsInput, frame_bridges, learns_is, packet_bridges, ping_bridges}
-use Rattle.edge_model.proofs.MendedLemmas.{IsMended, is_mended, is_told, mends_mended}
+use Rattle.edge_model.specs.Settled.{is_mended, is_told}
+use Rattle.edge_model.proofs.MendedLemmas.{IsMended, mends_mended}
 use Rattle.edge_model.proofs.OneEndLemmas.{has_one_end}
 use Rattle.edge_model.proofs.SessionLemmas.{any, connects_works, happens_with_ends_works}
 use Rattle.edge_model.proofs.SignalLemmas.{hears_on_signals, mends_signals, tick_works}

@@ -1,5 +1,6 @@
 -- Once an edge has mended, what it has learned at one of its spokes is at one that forwards.
-use Rattle.edge_model.proofs.MendedLemmas.{IsForgotten, IsMended, mends_mended}
+use Rattle.edge_model.specs.Settled.{IsForgotten}
+use Rattle.edge_model.proofs.MendedLemmas.{IsMended, mends_mended}
 use Rattle.edge_model.proofs.OneEndLemmas.{has_one_end}
 use Rattle.edge_model.proofs.SignalLemmas.{mends_signals}
 use Rattle.edge_model.specs.EndPlaces.{end_places, is_end_of_wire}

@@ -1,5 +1,5 @@
 -- In every state of a run an end that advertises is of a wire that is on.
-use Rattle.edge_model.proofs.MendedLemmas.{is_mended}
+use Rattle.edge_model.specs.Settled.{is_mended}
 use Rattle.edge_model.specs.EndPlaces.{end_places, is_named}
 use Rattle.edge_model.specs.Mend.{is_up_with, stands, wish, wish_by, wish_of}
 use Rattle.edge_model.specs.State.{EdgeState, end_at}
