@@ -1,8 +1,8 @@
 -- The ends of an edge stand in the order of their wires: so those of a wire are found by halves.
-use Rattle.std.proofs.Common.{◌≡◌, ◌≤◌, ◌+◌, ◌∙◌, ◌==◌, ℕ, Bool, true, false, cond, List, [], ◌∷◌, length, slice_get, get_or, position, refl, sym, arith}
+use Rattle.std.proofs.Common.{◌≡◌, ◌≤◌, ◌<◌, ◌+◌, ◌∙◌, ◌==◌, ◌↔◌, ◌⊎◌, ℕ, Bool, true, false, nat_lt, not, cond, List, [], ◌∷◌, length, slice_get, get_or, position, refl, sym, arith, inl, inr}
 use Rattle.std.specs.List.{All}
 use Rattle.std.specs.List.Sorted.{IsPartitionedBy, IsPartitionPoint}
-use Rattle.std.proofs.lemmas.Bool.{and_from, and_parts}
+use Rattle.std.proofs.lemmas.Bool.{and_from, and_parts, cases_lt, lt-ltb, ltb-true, true≢false}
 use Rattle.std.proofs.lemmas.Bool.Decides.{nat_tests}
 use Rattle.std.proofs.lemmas.List.Elements.{All-append, All-cons, All-from_recursion, All-nil}
 use Rattle.hvpls_spokes.specs.Search.{place_if}
@@ -10,10 +10,11 @@ use Rattle.net_base.specs.declared.plan.Plan.{Plan}
 use Rattle.net_base.specs.declared.plan.places.EdgeId.{EdgeId}
 use Rattle.net_base.specs.declared.plan.places.WireId.{WireId}
 use Rattle.net_base.specs.declared.plan.wire_plan.WirePlan.{WirePlan}
-use Rattle.hvpls_spokes.proofs.SearchLemmas.{first_behind, pairs_append}
+use Rattle.hvpls_spokes.proofs.SearchLemmas.{first_behind, pairs_append, parted}
 use Rattle.edge_model.specs.declared.end_place.EndPlace.{EndPlace}
 use Rattle.edge_model.specs.EndPlaces.{end_place_at, end_places, is_end_of_wire, is_of_wire, is_terminal, places_along, places_at, places_from}
-use Rattle.pw_ends.specs.Order.{AreEndsInOrder, PrecedesEnd, end_precedes_wire}
+use Rattle.pw_ends.specs.Ends.{no_place}
+use Rattle.pw_ends.specs.Order.{AreEndsInOrder, PrecedesEnd, end_follows_wire, end_precedes_wire}
 use Rattle.pw_ends.proofs.PlaceLemmas.{from_later}
 
 -- ---- the ends of one wire
@@ -106,3 +107,69 @@ terminal_behind wire places k ordered bound ends =
         let parts = and_parts (is_of_wire wire y) y.terminal here in
         let same : is_of_wire wire x ≡ true = same_wire wire x y order parts.0 behind in
         and_from (is_of_wire wire x) x.terminal same (order.alike (of_one wire x y same parts.0) ∙ parts.1)
+
+-- ---- the slots of a wire
+
+-- the ends before such a place pass a test, and no other does
+before_point : (before : EndPlace → Bool) (places : List EndPlace) (k : ℕ) → AreEndsInOrder places → ((x y : EndPlace) → PrecedesEnd x y → before y ≡ true → before x ≡ true) → k ≤ length places
+    → (IsPartitionedBy before places → IsPartitionPoint (λ x. before x ≡ true) (λ x. before x ≡ false) places k)
+    → (slot : ℕ) → slot < length places → (slot < k) ↔ (before (get_or places slot no_place) ≡ true)
+before_point before places k ordered passes bound ends slot within =
+    let point = ends (parted PrecedesEnd before places ordered passes) in (
+      λ under. point.0 slot no_place (omega arith) under,
+      by (cases_lt slot k) (λ from. point.1 slot no_place from within),
+    )
+  where
+    by : (slot < k) ⊎ (k ≤ slot) → (k ≤ slot → before (get_or places slot no_place) ≡ false) → before (get_or places slot no_place) ≡ true → slot < k
+    by (inl under) away here = under
+    by (inr from) away here = absurd (true≢false (sym here ∙ away from))
+
+-- so those before the ends of a wire are of earlier ones
+pub slots_before : (wire : WireId) (places : List EndPlace) (k : ℕ) → AreEndsInOrder places → k ≤ length places
+    → (IsPartitionedBy (end_precedes_wire wire) places → IsPartitionPoint (λ x. end_precedes_wire wire x ≡ true) (λ x. end_precedes_wire wire x ≡ false) places k)
+    → (slot : ℕ) → slot < length places → (slot < k) ↔ ((get_or places slot no_place).wire.0 < wire.0)
+slots_before wire places k ordered bound ends slot within =
+    let at = before_point (end_precedes_wire wire) places k ordered (before_wire wire) bound ends slot within in (
+      λ under. ltb-true _ _ (at.0 under),
+      λ less. at.1 (lt-ltb _ _ less),
+    )
+
+through_wire : (wire : WireId) (x y : EndPlace) → PrecedesEnd x y → not (end_follows_wire wire y) ≡ true → not (end_follows_wire wire x) ≡ true
+through_wire wire x y order under = grind (arith, nat_tests, order.wires, under)
+
+-- and those up to them are of no later one
+pub slots_through : (wire : WireId) (places : List EndPlace) (k : ℕ) → AreEndsInOrder places → k ≤ length places
+    → (IsPartitionedBy (λ x. not (end_follows_wire wire x)) places → IsPartitionPoint (λ x. not (end_follows_wire wire x) ≡ true) (λ x. not (end_follows_wire wire x) ≡ false) places k)
+    → (slot : ℕ) → slot < length places → (slot < k) ↔ ((get_or places slot no_place).wire.0 ≤ wire.0)
+slots_through wire places k ordered bound ends slot within =
+    let at = before_point (λ x. not (end_follows_wire wire x)) places k ordered (through_wire wire) bound ends slot within in (
+      λ under. up_to wire.0 (get_or places slot no_place).wire.0 (at.0 under),
+      λ less. at.1 (not_after wire.0 (get_or places slot no_place).wire.0 less),
+    )
+  where
+    up_to : (n m : ℕ) → not (nat_lt n m) ≡ true → m ≤ n
+    up_to n m is = grind (arith, nat_tests, is)
+
+    not_after : (n m : ℕ) → m ≤ n → not (nat_lt n m) ≡ true
+    not_after n m less = grind (arith, nat_tests, less)
+
+-- between the two are those of the wire
+between : (number wire first past slot : ℕ) → (slot < first) ↔ (number < wire) → (slot < past) ↔ (number ≤ wire) → (number ≡ wire) ↔ (first ≤ slot × slot < past)
+between number wire first past slot before through = (
+  λ same. (from same (cases_lt slot first), through.1 (omega (arith, same))),
+  λ within. there within.0 (through.0 within.1) (cases_lt number wire),
+)
+  where
+    from : number ≡ wire → (slot < first) ⊎ (first ≤ slot) → first ≤ slot
+    from same (inl under) = let less = before.0 under in omega (arith, same, less)
+    from same (inr above) = above
+
+    there : first ≤ slot → number ≤ wire → (number < wire) ⊎ (wire ≤ number) → number ≡ wire
+    there above most (inl less) = let under = before.1 less in omega (arith, above, under)
+    there above most (inr least) = omega (arith, most, least)
+
+pub slots_between : (wire : WireId) (places : List EndPlace) (first past : ℕ)
+    → ((slot : ℕ) → slot < length places → (slot < first) ↔ ((get_or places slot no_place).wire.0 < wire.0))
+    → ((slot : ℕ) → slot < length places → (slot < past) ↔ ((get_or places slot no_place).wire.0 ≤ wire.0))
+    → (slot : ℕ) → slot < length places → ((get_or places slot no_place).wire.0 ≡ wire.0) ↔ (first ≤ slot × slot < past)
+slots_between wire places first past before through slot within = between (get_or places slot no_place).wire.0 wire.0 first past slot (before slot within) (through slot within)

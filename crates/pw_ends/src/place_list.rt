@@ -1,12 +1,12 @@
 //! Where an edge has ends.
-ghost use Rattle.std.specs.Prelude.{◌≡◌, ◌≤◌, ◌<◌, ◌+◌, ℕ, IfOk, IfSome, Some, None, drop, length, option_and_then, option_map, position, slice_get, slice_index_or};
+ghost use Rattle.std.specs.Prelude.{◌≡◌, ◌≤◌, ◌<◌, ◌+◌, ◌↔◌, ℕ, IfOk, IfSome, Some, None, drop, length, option_and_then, option_map, position, slice_get, slice_index_or};
 ghost use Rattle.std.specs.List.{find, list_any};
 ghost use Rattle.net_base.specs.plan.Accepted.{IsChecked};
 ghost use Rattle.hvpls_spokes.specs.Search.{place_if};
 ghost use Rattle.edge_model.specs.EndPlaces.{end_places, is_at, is_end_of_wire, is_named, is_of_wire};
 ghost use Rattle.pw_ends.specs.Kept.{AreApart};
 ghost use Rattle.pw_ends.specs.Names.{FindsSlots, end_name_of};
-ghost use Rattle.pw_ends.specs.Order.{AreEndsInOrder, end_precedes_wire};
+ghost use Rattle.pw_ends.specs.Order.{AreEndsInOrder, end_follows_wire, end_precedes_wire};
 ghost use Rattle.pw_ends.specs.Ends.{no_place};
 
 use crate::plan_places::end_places;
@@ -114,6 +114,15 @@ impl PlaceList {
         first_beside(self.list.as_slice(), wire, peer)
     }
 
+    /// The slots of the ends of a wire: the first one, and the one behind the last. Where the wire does not pass the edge, no slot is
+    /// between them.
+    pub(crate) fn slots_of(&self, wire: WireId) -> (usize, usize)
+        ensures { (slot : ℕ) → slot < length self.now → ((slice_index_or self.now slot no_place).wire.0 ≡ wire.0) ↔ (result.0 ≤ slot × slot < result.1) }
+    {
+        let places = self.list.as_slice();
+        (count_before(places, wire), count_through(places, wire))
+    }
+
     /// Whether the edge is a terminal edge of the wire.
     #[tactic(auto, using(hvpls_spokes::proofs::SearchLemmas::any_found))]
     pub(crate) fn ends_here(&self, wire: WireId) -> bool
@@ -175,9 +184,26 @@ fn count_before(places: &[EndPlace], wire: WireId) -> usize
     ensures wire { position (is_of_wire wire) places.now ≡ place_if (is_of_wire wire) result (slice_get places.now result) }
     ensures terminal { position (is_end_of_wire wire) places.now ≡ place_if (is_end_of_wire wire) result (slice_get places.now result) }
     ensures beside { (peer : ℕ) → position (is_at wire.0 peer) places.now ≡ option_map (λ n. result + n) (position (is_at wire.0 peer) (drop result places.now)) }
+    ensures before { (slot : ℕ) → slot < length places.now → (slot < result) ↔ ((slice_index_or places.now slot no_place).wire.0 < wire.0) }
     ensures bound { result ≤ length places.now }
 {
     places.partition_point(|place| precedes(place, wire))
+}
+
+// How many ends are of earlier wires or of this one.
+fn count_through(places: &[EndPlace], wire: WireId) -> usize
+    requires { AreEndsInOrder places.now }
+    ensures through { (slot : ℕ) → slot < length places.now → (slot < result) ↔ ((slice_index_or places.now slot no_place).wire.0 ≤ wire.0) }
+    ensures bound { result ≤ length places.now }
+{
+    places.partition_point(|place| !follows(place, wire))
+}
+
+// Whether the end is one of a later wire.
+fn follows(place: &EndPlace, wire: WireId) -> bool
+    ensures { result ≡ end_follows_wire wire place.now }
+{
+    wire.0 < place.wire.0
 }
 
 // Whether the end is one of an earlier wire.

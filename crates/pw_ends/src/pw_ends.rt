@@ -148,6 +148,14 @@ impl PwEnds {
         self.places.ends_here(wire)
     }
 
+    /// The slots of the ends of a wire, found by halves: the first one, and the one behind the last. Where the wire does not pass
+    /// the edge, no slot is between them.
+    pub fn slots_of(&self, wire: WireId) -> (usize, usize)
+        ensures slots { (slot : ℕ) → slot < length self.now.places → ((place_of self.now slot).wire.0 ≡ wire.0) ↔ (result.0 ≤ slot × slot < result.1) }
+    {
+        self.places.slots_of(wire)
+    }
+
     /// The slot of the end of a wire of which the edge is a terminal edge; `None` exactly where it is none.
     pub fn terminal(&self, wire: WireId) -> Option<usize>
         ensures slot { result ≡ position (is_end_of_wire wire) self.now.places }

@@ -2,7 +2,7 @@
 ghost use Rattle.std.specs.Prelude.{◌≡◌, ◌≤◌, [], None};
 ghost use Rattle.net_base.specs.plan.Accepted.{IsChecked};
 
-use crate::edges::plans::{A, B, C, TWO_WIRES, plan_of};
+use crate::edges::plans::{A, B, C, PATH, TWO_WIRES, plan_of};
 use net_base::{EdgeId, Label, Offer, Plan, Text, WireId};
 use peer_dialogue::content_of;
 use pw_ends::PwEnds;
@@ -100,6 +100,20 @@ fn stand(rt: &impl Abort, ends: &PwEnds) {
     assert!(rt; is_fresh(ends, 0) && is_fresh(ends, 1));
     are_found(rt, ends);
     assert!(rt; knows_wires(ends));
+}
+
+// Both ends of wire 0 are in the slots of the edge, and wire 1 has none.
+fn knows_slots(ends: &PwEnds) -> bool {
+    let (first, past) = ends.slots_of(WireId(1));
+    ends.slots_of(WireId(0)) == (0, 2) && past <= first
+}
+
+// The switching point of a wire has its two ends.
+fn switches(rt: &impl Abort, alloc: Global) {
+    let plan = plan_of(rt, alloc, PATH);
+    assert!(rt; plan.edges.len() == 3);
+    let ends = PwEnds::open(alloc, &plan, B).expect(rt, "memory");
+    assert!(rt; knows_slots(&ends));
 }
 
 // The idle end of a slot advertises with the label of this number, or with none where it is 0.
@@ -202,4 +216,5 @@ fn ends_stand_advertise_and_bind(rt: HostRuntime) {
     opened_do(&rt, alloc, Deed::AdvertiseUntilOneWithdraws);
     opened_do(&rt, alloc, Deed::EndWithTheLabels);
     opened_do(&rt, alloc, Deed::HoldABinding);
+    switches(&rt, alloc);
 }
