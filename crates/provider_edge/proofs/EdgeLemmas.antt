@@ -34,6 +34,7 @@ use Rattle.edge_model.specs.Wire.{is_own_spoke, priority_input, status_input, tu
 use Rattle.edge_model.specs.Work.{Answers, Work, beginning, changes, idles}
 use Rattle.peer_dialogue.specs.Peering.{at_edge, connection_with, peers_between}
 use Rattle.provider_edge.proofs.WorkLemmas.{other_before, same_already}
+use Rattle.provider_edge.specs.declared.end_marks.EndMarks.{EndMarks}
 use Rattle.provider_edge.specs.Hearing.{AreTakenOut}
 use Rattle.provider_edge.specs.Invariant.{IsEdge}
 use Rattle.provider_edge.specs.Lists.{EdgeLists, Keeps, seen, worked}
@@ -314,7 +315,7 @@ edge_begins e is = record {
   plan = is.plan;
   me = is.me;
   synced = λ going. absurd (cc (going));
-  tidy = λ set. subst (IsTidy e.plan) (sym (seen_stopped e true)) (is.tidy set);
+  tidy = subst (λ (s : EdgeState). IfSome e.marks (IsTidy e.plan s)) (sym (seen_stopped e true)) is.tidy;
 }
 
 -- the input is done
@@ -333,18 +334,18 @@ edge_going e is synced = record {
   plan = is.plan;
   me = is.me;
   synced = λ going. subst (InSync e.plan) (sym (seen_stopped e false)) synced;
-  tidy = λ set. subst (IsTidy e.plan) (sym (seen_stopped e false)) (is.tidy set);
+  tidy = subst (λ (s : EdgeState). IfSome e.marks (IsTidy e.plan s)) (sym (seen_stopped e false)) is.tidy;
 }
 
--- ---- mended
+-- ---- marks
 
-pub seen_mended : (e : EdgeLists) (mended : Bool) → seen (record e { mended = mended }) ≡ seen e
+pub seen_marks : (e : EdgeLists) (marks : Option EndMarks) → seen (record e { marks = marks }) ≡ seen e
 unfolding seen
-seen_mended e mended = refl
+seen_marks e marks = refl
 
--- an edge that is tidy counts as mended, or not
-pub holds_mended : (e : EdgeLists) (mended : Bool) → (mended ≡ true → IsTidy e.plan (seen e)) → IsEdge e → IsEdge (record e { mended = mended })
-holds_mended e mended tidy is = record {
+-- each end without a mark is settled
+pub holds_marks : (e : EdgeLists) (marks : Option EndMarks) → e.stopped ≡ true → IfSome marks (IsTidy e.plan (seen e)) → IsEdge e → IsEdge (record e { marks = marks })
+holds_marks e marks working tidy is = record {
   checked = is.checked;
   peerings = is.peerings;
   held = is.held;
@@ -357,6 +358,6 @@ holds_mended e mended tidy is = record {
   small = is.small;
   priorities = is.priorities;
   each_ping = is.each_ping;
-  synced = λ going. subst (InSync e.plan) (sym (seen_mended e mended)) (is.synced going);
-  tidy = λ set. subst (IsTidy e.plan) (sym (seen_mended e mended)) (tidy set);
+  synced = λ going. absurd (cc (sym working ∙ going));
+  tidy = subst (λ (s : EdgeState). IfSome marks (IsTidy e.plan s)) (sym (seen_marks e marks)) tidy;
 }

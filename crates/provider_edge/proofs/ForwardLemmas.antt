@@ -17,11 +17,12 @@ use Rattle.edge_model.specs.Mend.{forgetting_wire}
 use Rattle.edge_model.specs.State.{EdgeState, addresses_of, is_on, later, with_addresses, with_ticks, without_port}
 use Rattle.edge_model.specs.Tick.{forgetting}
 use Rattle.edge_forwarding.specs.Forwarding.{ForwardingLists, KeepsForwarding, circuits_in, domain_of, entries_of, told_in, with_forwarding}
+use Rattle.provider_edge.specs.declared.end_marks.EndMarks.{EndMarks}
 use Rattle.provider_edge.specs.Invariant.{IsEdge}
 use Rattle.provider_edge.specs.Lists.{EdgeLists, Keeps, seen}
 use Rattle.provider_edge.specs.Tidy.{IsTidy}
 
-pub holds_forwarding : (c : EdgeLists) (f : ForwardingLists) → KeepsForwarding c.forwarding f → c.stopped ≡ true → IsEdge c → IsEdge (record c { forwarding = f; mended = false })
+pub holds_forwarding : (c : EdgeLists) (f : ForwardingLists) → KeepsForwarding c.forwarding f → c.stopped ≡ true → IsEdge c → IsEdge (record c { forwarding = f; marks = None })
 holds_forwarding c f keeps working is = record {
   checked = is.checked;
   peerings = is.peerings;
@@ -36,11 +37,11 @@ holds_forwarding c f keeps working is = record {
   priorities = is.priorities;
   each_ping = is.each_ping;
   synced = λ going. absurd (cc (sym working ∙ going));
-  tidy = λ set. absurd (cc (set));
+  tidy = tt;
 }
 
--- where the edge counts as mended, it is so still
-pub holds_kept : (c : EdgeLists) (f : ForwardingLists) → KeepsForwarding c.forwarding f → c.stopped ≡ true → (c.mended ≡ true → IsTidy c.plan (seen (record c { forwarding = f }))) → IsEdge c → IsEdge (record c { forwarding = f })
+-- the marks are as they were
+pub holds_kept : (c : EdgeLists) (f : ForwardingLists) → KeepsForwarding c.forwarding f → c.stopped ≡ true → IfSome c.marks (IsTidy c.plan (seen (record c { forwarding = f }))) → IsEdge c → IsEdge (record c { forwarding = f })
 holds_kept c f keeps working tidy is = record {
   checked = is.checked;
   peerings = is.peerings;
@@ -58,7 +59,7 @@ holds_kept c f keeps working tidy is = record {
   tidy = tidy;
 }
 
-pub keeps_forwarding : {m : Bool} (c : EdgeLists) (f : ForwardingLists) → Keeps c (record c { forwarding = f; mended = m })
+pub keeps_forwarding : {m : Option EndMarks} (c : EdgeLists) (f : ForwardingLists) → Keeps c (record c { forwarding = f; marks = m })
 keeps_forwarding c f = record { plan = refl; me = refl; places = refl; count = refl; stopped = refl }
 
 -- the edge forwards by what it has
@@ -77,22 +78,22 @@ pub seen_kept : (change : EdgeState → EdgeState) (c : EdgeLists) (f : Forwardi
 seen_kept change c f is keeps step =
     forwarding_now c f (keeps.me ∙ is.me) ∙ (step (seen c) ∙ ap change (forwarding_at c is.me))
 
--- what is seen of an edge is no matter of whether it counts as mended
-pub seen_unmended : (c : EdgeLists) → seen (record c { mended = false }) ≡ seen c
+-- what is seen of an edge is no matter of its marks
+pub seen_unmarked : (c : EdgeLists) → seen (record c { marks = None }) ≡ seen c
 unfolding seen
-seen_unmended c = refl
+seen_unmarked c = refl
 
--- a change after which the edge does not count as mended
+-- a change after which the edge knows no marks
 pub seen_forwarding : (change : EdgeState → EdgeState) (c : EdgeLists) (f : ForwardingLists) → IsEdge c → KeepsForwarding c.forwarding f
     → ((edge : EdgeState) → with_forwarding f edge ≡ change (with_forwarding c.forwarding edge))
-    → seen (record c { forwarding = f; mended = false }) ≡ change (seen c)
-seen_forwarding change c f is keeps step = seen_unmended (record c { forwarding = f }) ∙ seen_kept change c f is keeps step
+    → seen (record c { forwarding = f; marks = None }) ≡ change (seen c)
+seen_forwarding change c f is keeps step = seen_unmarked (record c { forwarding = f }) ∙ seen_kept change c f is keeps step
 
 -- what was learned at the port that is found is forgotten
 pub seen_forgot : (test : Port → Bool) (c : EdgeLists) (f : ForwardingLists) (service : ServiceId) → IsEdge c → KeepsForwarding c.forwarding f
     → ((edge : EdgeState) → with_forwarding f edge
     ≡ with_addresses service (without_port (position test (ports_of c.forwarding.plan service c.forwarding.me)) (addresses_of (with_forwarding c.forwarding edge) service)) (with_forwarding c.forwarding edge))
-    → seen (record c { forwarding = f; mended = false })
+    → seen (record c { forwarding = f; marks = None })
     ≡ with_addresses service (without_port (position test (ports_of c.plan service c.me)) (addresses_of (seen c) service)) (seen c)
 seen_forgot test c f service is keeps step =
     seen_forwarding (λ edge. with_addresses service (without_port (position test (ports_of c.forwarding.plan service c.forwarding.me)) (addresses_of edge service)) edge) c f is keeps step
@@ -101,7 +102,7 @@ seen_forgot test c f service is keeps step =
 
 pub seen_wire : (c : EdgeLists) (f : ForwardingLists) (wire : WireId) → IsEdge c → KeepsForwarding c.forwarding f
     → ((edge : EdgeState) → with_forwarding f edge ≡ forgetting_wire c.forwarding.plan wire (wire_row c.forwarding.plan wire) (with_forwarding c.forwarding edge))
-    → seen (record c { forwarding = f; mended = false }) ≡ forgetting_wire c.plan wire (wire_row c.plan wire) (seen c)
+    → seen (record c { forwarding = f; marks = None }) ≡ forgetting_wire c.plan wire (wire_row c.plan wire) (seen c)
 seen_wire c f wire is keeps step =
     seen_forwarding (λ edge. forgetting_wire c.forwarding.plan wire (wire_row c.forwarding.plan wire) edge) c f is keeps step
     ∙ ap (λ (p : Plan). forgetting_wire p wire (wire_row p wire) (seen c)) is.plan

@@ -1,7 +1,8 @@
 -- What a bridge learns by a port that forwards leaves an edge tidy: nothing is learned at a wire that does not forward.
 use Rattle.std.proofs.Common.{◌≡◌, ◌≤◌, ◌++◌, ◌∙◌, ◌&&◌, not, is_some, length, position, suc, ℕ, Bool, true, false, List, [], ◌∷◌, Option, Some, None, cond, filter, nat_eq, refl, ap, sym, subst, arith}
 use Rattle.std.proofs.lemmas.Bool.{and_parts, eqb-true}
-use Rattle.std.specs.List.{AllByRecursion, list_all}
+use Rattle.std.specs.List.{list_all}
+use Rattle.std.specs.Prelude.{IfSome}
 use Rattle.net_base.specs.declared.plan.places.ServiceId.{ServiceId}
 use Rattle.net_base.specs.declared.plan.wire_plan.WirePlan.{WirePlan}
 use Rattle.net_base.specs.plan.Places.{wire_row}
@@ -13,18 +14,22 @@ use Rattle.hvpls_spokes.specs.Port.{is_wire_port, ports_of}
 use Rattle.vsi_bridge.specs.BridgeState.{table_of}
 use Rattle.vsi_bridge.specs.Targets.{heard}
 use Rattle.edge_forwarding.specs.Forwarding.{open_ports}
+use Rattle.pw_ends.specs.Ends.{no_place}
 use Rattle.edge_model.specs.declared.end_place.EndPlace.{EndPlace}
 use Rattle.edge_model.specs.EndPlaces.{end_places}
 use Rattle.edge_model.specs.Frame.{hearing, source}
 use Rattle.edge_model.specs.Mend.{port_of_wire}
 use Rattle.edge_model.specs.Role.{down_at}
+use Rattle.edge_model.specs.Settled.{IsForgotten}
 use Rattle.edge_model.specs.State.{EdgeState, addresses_of, with_addresses, without_port}
 use Rattle.edge_model.specs.Synced.{InSync, IsSynced}
-use Rattle.edge_model.proofs.MendedLemmas.{IsForgotten, IsMended}
 use Rattle.provider_edge.proofs.SyncLemmas.{wire_port_shut}
-use Rattle.provider_edge.proofs.TidyLemmas.{mended_nothing, nothing_mended}
+use Rattle.provider_edge.proofs.ListLemmas.{in_list}
+use Rattle.provider_edge.proofs.TidyLemmas.{tidy_slots}
+use Rattle.provider_edge.specs.declared.end_marks.EndMarks.{EndMarks}
 use Rattle.provider_edge.specs.Invariant.{IsEdge}
 use Rattle.provider_edge.specs.Lists.{EdgeLists, seen}
+use Rattle.provider_edge.specs.Marks.{place_at}
 use Rattle.provider_edge.specs.Tidy.{IsTidy}
 
 -- ---- nothing is filtered out exactly where all pass
@@ -104,10 +109,6 @@ heard_gone (Some p) entries station arrival now apart gone =
 
 -- ---- a frame is heard by a port that is open
 
-all_of_two : {X : Type 0} (P Q R : X → Type 0) → ((x : X) → P x → Q x → R x) → (xs : List X) → AllByRecursion P xs → AllByRecursion Q xs → AllByRecursion R xs
-all_of_two P Q R each [] one other = tt
-all_of_two P Q R each (x ∷ xs) one other = (each x one.0 other.0, all_of_two P Q R each xs one.1 other.1)
-
 forgotten_still : (c : EdgeLists) (service : ServiceId) (frame : List ℕ) (arrival : ℕ) (place : EndPlace) → IsEdge c → open_ports c.forwarding service arrival ≡ true → (seen c).me ≡ c.me → IsSynced c.plan (seen c) place
     → IsForgotten c.plan (seen c) place → IsForgotten c.plan (hearing service frame arrival (seen c)) place
 unfolding with_addresses
@@ -135,20 +136,16 @@ me_of : (c : EdgeLists) → (seen c).me ≡ c.me
 unfolding seen
 me_of c = refl
 
-pub tidy_heard : (c : EdgeLists) (service : ServiceId) (frame : List ℕ) (arrival : ℕ) → IsEdge c → InSync c.plan (seen c) → open_ports c.forwarding service arrival ≡ true → IsTidy c.plan (seen c)
-    → IsTidy c.plan (hearing service frame arrival (seen c))
+pub tidy_heard : (c : EdgeLists) (service : ServiceId) (frame : List ℕ) (arrival : ℕ) (marks : Option EndMarks) → IsEdge c → InSync c.plan (seen c) → open_ports c.forwarding service arrival ≡ true
+    → IfSome marks (IsTidy c.plan (seen c)) → IfSome marks (IsTidy c.plan (hearing service frame arrival (seen c)))
 unfolding with_addresses
-tidy_heard c service frame arrival is synced on tidy =
-    let mended : IsMended c.plan (seen c) = nothing_mended c.plan (seen c) is.checked tidy.nothing in
-    record {
-      nothing = mended_nothing c.plan (hearing service frame arrival (seen c))
-          (record {
-            ends = mended.ends;
-            chosen = mended.chosen;
-            statuses = mended.statuses;
-            forgotten = all_of_two (IsSynced c.plan (seen c)) (IsForgotten c.plan (seen c)) (IsForgotten c.plan (hearing service frame arrival (seen c)))
-                (λ place synced gone. forgotten_still c service frame arrival place is on (me_of c) synced gone) (end_places c.plan (seen c).me) synced.each mended.forgotten;
-            downs = mended.downs;
-          });
-      lost = tidy.lost;
-    }
+tidy_heard c service frame arrival marks is synced on =
+    tidy_slots c.plan (seen c) (hearing service frame arrival (seen c)) marks refl
+    (λ slot within settled. record {
+      mended = settled.mended;
+      told = settled.told;
+      forgotten = forgotten_still c service frame arrival (place_at (end_places c.plan (seen c).me) slot) is on (me_of c)
+          (in_list (IsSynced c.plan (seen c)) (end_places c.plan (seen c).me) slot no_place synced.each within) settled.forgotten;
+      down = settled.down;
+    })
+    (λ service is. is)

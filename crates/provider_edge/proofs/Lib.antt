@@ -13,6 +13,8 @@ pub mod ForwardLemmas
 pub mod HeardLemmas
 pub mod KeptLemmas
 pub mod LiftLemmas
+pub mod MarkLemmas
+pub mod MarkedLemmas
 pub mod MendLemmas
 pub mod MessageLemmas
 pub mod NeighbourLemmas
@@ -20,6 +22,7 @@ pub mod PacketLemmas
 pub mod PingLemmas
 pub mod ProperLemmas
 pub mod RowLemmas
+pub mod SettledLemmas
 pub mod SlotLemmas
 pub mod SpokeLemmas
 pub mod StitchLemmas

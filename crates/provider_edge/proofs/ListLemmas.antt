@@ -35,6 +35,7 @@ use Rattle.edge_forwarding.specs.Views.{view}
 use Rattle.peer_dialogue.proofs.SpeakerLemmas.{put_same}
 use Rattle.edge_forwarding.proofs.Views.{past_end, same_read, view_at, view_set}
 use Rattle.provider_edge.proofs.ForwardLemmas.{holds_forwarding, seen_forwarding}
+use Rattle.provider_edge.specs.declared.end_marks.EndMarks.{EndMarks}
 use Rattle.provider_edge.specs.Bounds.{HoldsFew}
 use Rattle.provider_edge.specs.Invariant.{IsEdge}
 use Rattle.provider_edge.specs.Lists.{EdgeLists, Keeps, seen}
@@ -45,7 +46,7 @@ use Rattle.provider_edge.specs.Tidy.{IsTidy}
 
 -- ---- what always holds
 
-pub holds_peerings : (c : EdgeLists) (peerings : List (Option Peering)) → length peerings ≡ length c.peerings → All HoldsFew peerings → c.stopped ≡ true → IsEdge c → IsEdge (record c { peerings = peerings; mended = false })
+pub holds_peerings : (c : EdgeLists) (peerings : List (Option Peering)) → length peerings ≡ length c.peerings → All HoldsFew peerings → c.stopped ≡ true → IsEdge c → IsEdge (record c { peerings = peerings; marks = None })
 holds_peerings c peerings long few working is = record {
   checked = is.checked;
   peerings = long ∙ is.peerings;
@@ -60,10 +61,10 @@ holds_peerings c peerings long few working is = record {
   priorities = is.priorities;
   each_ping = is.each_ping;
   synced = λ going. absurd (cc (sym working ∙ going));
-  tidy = λ set. absurd (cc (set));
+  tidy = tt;
 }
 
-pub holds_ends : (c : EdgeLists) (ends : EndLists) → ends.places ≡ c.ends.places → c.stopped ≡ true → IsEdge c → IsEdge (record c { ends = ends; mended = false })
+pub holds_ends : (c : EdgeLists) (ends : EndLists) → ends.places ≡ c.ends.places → c.stopped ≡ true → IsEdge c → IsEdge (record c { ends = ends; marks = None })
 holds_ends c ends same working is = record {
   checked = is.checked;
   peerings = is.peerings;
@@ -78,29 +79,10 @@ holds_ends c ends same working is = record {
   priorities = is.priorities;
   each_ping = is.each_ping;
   synced = λ going. absurd (cc (sym working ∙ going));
-  tidy = λ set. absurd (cc (set));
+  tidy = tt;
 }
 
--- of an edge that does not count as mended
-pub holds_lost : (c : EdgeLists) (ends : EndLists) → ends.places ≡ c.ends.places → c.stopped ≡ true → c.mended ≡ false → IsEdge c → IsEdge (record c { ends = ends })
-holds_lost c ends same working unmended is = record {
-  checked = is.checked;
-  peerings = is.peerings;
-  held = is.held;
-  places = same ∙ is.places;
-  wires = is.wires;
-  each_bits = is.each_bits;
-  spokes = is.spokes;
-  plan = is.plan;
-  me = is.me;
-  small = is.small;
-  priorities = is.priorities;
-  each_ping = is.each_ping;
-  synced = λ going. absurd (cc (sym working ∙ going));
-  tidy = λ set. absurd (cc (sym unmended ∙ set));
-}
-
-pub holds_spokes : (c : EdgeLists) (spokes : SpokeLists) → AreSpokesOf c.plan c.me spokes → c.stopped ≡ true → IsEdge c → IsEdge (record c { spokes = spokes; mended = false })
+pub holds_spokes : (c : EdgeLists) (spokes : SpokeLists) → AreSpokesOf c.plan c.me spokes → c.stopped ≡ true → IsEdge c → IsEdge (record c { spokes = spokes; marks = None })
 holds_spokes c spokes are working is = record {
   checked = is.checked;
   peerings = is.peerings;
@@ -115,13 +97,13 @@ holds_spokes c spokes are working is = record {
   priorities = is.priorities;
   each_ping = is.each_ping;
   synced = λ going. absurd (cc (sym working ∙ going));
-  tidy = λ set. absurd (cc (set));
+  tidy = tt;
 }
 
 -- ---- one session
 
 pub seen_put : (c : EdgeLists) (peer : EdgeId) (kept : Option Peering) → peer.0 < length c.peerings
-    → seen (record c { peerings = slice_set c.peerings peer.0 kept; mended = false }) ≡ with_peering peer (kept) (seen c)
+    → seen (record c { peerings = slice_set c.peerings peer.0 kept; marks = None }) ≡ with_peering peer (kept) (seen c)
 unfolding seen with_peering
 seen_put c peer kept within = λ i. record (seen c) { peering = λ k. at k i } where
   chosen : (k : ℕ) (b : Bool) → nat_eq k peer.0 ≡ b
@@ -152,7 +134,7 @@ view_gone [] k = refl
 view_gone (x ∷ xs) zero = refl
 view_gone (x ∷ xs) (suc k) = view_gone xs k
 
-pub seen_gone : (c : EdgeLists) → seen (record c { peerings = map gone c.peerings; mended = false }) ≡ without_peerings (seen c)
+pub seen_gone : (c : EdgeLists) → seen (record c { peerings = map gone c.peerings; marks = None }) ≡ without_peerings (seen c)
 unfolding seen without_peerings
 seen_gone c = λ i. record (seen c) { peering = λ k. (view_gone c.peerings k) i }
 
@@ -160,26 +142,19 @@ seen_gone c = λ i. record (seen c) { peering = λ k. (view_gone c.peerings k) i
 
 pub ends_at : (c : EdgeLists) (ends : EndLists) (place : EndPlace) (change : EndState → EndState)
     → seen_ends ends ≡ changed_at place change (seen_ends c.ends) → ends.labels.next ≡ c.ends.labels.next
-    → seen (record c { ends = ends; mended = false }) ≡ with_end_changed change (Some place) (seen c)
+    → seen (record c { ends = ends; marks = None }) ≡ with_end_changed change (Some place) (seen c)
 unfolding seen with_end
 ends_at c ends place change are next = λ i. record (seen c) { ends = are i; next_label = next i }
 
 pub ends_beside : (c : EdgeLists) (ends : EndLists) (peer : EdgeId) (change : EndState → EndState)
     → seen_ends ends ≡ changed_beside peer change (seen_ends c.ends) → ends.labels.next ≡ c.ends.labels.next
-    → seen (record c { ends = ends; mended = false }) ≡ with_ends_beside peer change (seen c)
+    → seen (record c { ends = ends; marks = None }) ≡ with_ends_beside peer change (seen c)
 unfolding seen with_ends_beside
 ends_beside c ends peer change are next = λ i. record (seen c) { ends = are i; next_label = next i }
 
--- of an edge that does not count as mended
-pub ends_lost : (c : EdgeLists) (ends : EndLists) (peer : EdgeId)
-    → seen_ends ends ≡ changed_beside peer lost (seen_ends c.ends) → ends.labels.next ≡ c.ends.labels.next
-    → seen (record c { ends = ends }) ≡ with_ends_beside peer lost (seen c)
-unfolding seen with_ends_beside
-ends_lost c ends peer are next = λ i. record (seen c) { ends = are i; next_label = next i }
-
 pub ends_renewed : (c : EdgeLists) (ends : EndLists) (wire : WireId)
     → seen_ends ends ≡ renewed_of wire (seen_ends c.ends) → ends.labels.next ≡ c.ends.labels.next
-    → seen (record c { ends = ends; mended = false }) ≡ with_renewed wire (seen c)
+    → seen (record c { ends = ends; marks = None }) ≡ with_renewed wire (seen c)
 unfolding seen with_renewed
 ends_renewed c ends wire are next = λ i. record (seen c) { ends = are i; next_label = next i }
 
@@ -194,7 +169,7 @@ view_unpinged (x ∷ xs) zero = refl
 view_unpinged (x ∷ xs) (suc k) = view_unpinged xs k
 
 ends_fresh : (c : EdgeLists) (ends : EndLists) (pings : List ℕ) (spokes : SpokeLists) → seen_ends ends ≡ (λ wire peer. fresh) → ends.labels.next ≡ c.ends.labels.next → spokes.chosen ≡ map unchosen c.spokes.chosen
-    → pings ≡ map unpinged c.pings → without_told (seen (record c { ends = ends; pings = pings; spokes = spokes; mended = false })) ≡ without_ends (seen c)
+    → pings ≡ map unpinged c.pings → without_told (seen (record c { ends = ends; pings = pings; spokes = spokes; marks = None })) ≡ without_ends (seen c)
 unfolding seen without_ends without_told
 ends_fresh c ends pings spokes are next none ones = λ i. record (without_told (seen c)) {
   ends = are i;
@@ -207,7 +182,7 @@ ends_fresh c ends pings spokes are next none ones = λ i. record (without_told (
 pub spokes_forgotten : (plan : Plan) (me : EdgeId) (old new : SpokeLists) → new ≡ record old { chosen = map unchosen old.chosen } → AreSpokesOf plan me old → AreSpokesOf plan me new
 spokes_forgotten plan me old new is are = subst (AreSpokesOf plan me) (sym is) (record { slots = are.slots; chosen = length-map old.chosen unchosen ∙ are.chosen })
 
-holds_pings : (c : EdgeLists) (pings : List ℕ) → length pings ≡ length c.pings → c.stopped ≡ true → IsEdge c → IsEdge (record c { pings = pings; mended = false })
+holds_pings : (c : EdgeLists) (pings : List ℕ) → length pings ≡ length c.pings → c.stopped ≡ true → IsEdge c → IsEdge (record c { pings = pings; marks = None })
 holds_pings c pings long working is = record {
   checked = is.checked;
   peerings = is.peerings;
@@ -222,11 +197,11 @@ holds_pings c pings long working is = record {
   priorities = is.priorities;
   each_ping = long ∙ is.each_ping;
   synced = λ going. absurd (cc (sym working ∙ going));
-  tidy = λ set. absurd (cc (set));
+  tidy = tt;
 }
 
--- where the edge counts as mended, it is so still
-pub holds_pinged : (c : EdgeLists) (pings : List ℕ) → length pings ≡ length c.pings → c.stopped ≡ true → (c.mended ≡ true → IsTidy c.plan (seen (record c { pings = pings }))) → IsEdge c → IsEdge (record c { pings = pings })
+-- the marks are as they were
+pub holds_pinged : (c : EdgeLists) (pings : List ℕ) → length pings ≡ length c.pings → c.stopped ≡ true → IfSome c.marks (IsTidy c.plan (seen (record c { pings = pings }))) → IsEdge c → IsEdge (record c { pings = pings })
 holds_pinged c pings long working tidy is = record {
   checked = is.checked;
   peerings = is.peerings;
@@ -246,23 +221,23 @@ holds_pinged c pings long working tidy is = record {
 
 -- the ends and how often they were pinged are forgotten
 holds_unpinged : (c : EdgeLists) (ends : EndLists) (pings : List ℕ) (spokes : SpokeLists) → ends.places ≡ c.ends.places → pings ≡ map unpinged c.pings → spokes ≡ record c.spokes { chosen = map unchosen c.spokes.chosen } → c.stopped ≡ true → IsEdge c
-    → IsEdge (record c { ends = ends; pings = pings; spokes = spokes; mended = false })
+    → IsEdge (record c { ends = ends; pings = pings; spokes = spokes; marks = None })
 holds_unpinged c ends pings spokes same ones none working is =
-    holds_spokes (record c { ends = ends; pings = pings; mended = false }) spokes (spokes_forgotten c.plan c.me c.spokes spokes none is.spokes) working
-    (holds_pings (record c { ends = ends; mended = false }) pings (ap (λ (l : List ℕ). length l) ones ∙ length-map c.pings unpinged) working (holds_ends c ends same working is))
+    holds_spokes (record c { ends = ends; pings = pings; marks = None }) spokes (spokes_forgotten c.plan c.me c.spokes spokes none is.spokes) working
+    (holds_pings (record c { ends = ends; marks = None }) pings (ap (λ (l : List ℕ). length l) ones ∙ length-map c.pings unpinged) working (holds_ends c ends same working is))
 
 pub holds_forgotten : (c : EdgeLists) (ends : EndLists) (pings : List ℕ) (spokes : SpokeLists) (f : ForwardingLists) → ends.places ≡ c.ends.places → pings ≡ map unpinged c.pings → spokes ≡ record c.spokes { chosen = map unchosen c.spokes.chosen } → KeepsForwarding c.forwarding f
-    → c.stopped ≡ true → IsEdge c → IsEdge (record c { ends = ends; pings = pings; spokes = spokes; forwarding = f; mended = false })
+    → c.stopped ≡ true → IsEdge c → IsEdge (record c { ends = ends; pings = pings; spokes = spokes; forwarding = f; marks = None })
 holds_forgotten c ends pings spokes f same ones none keeps working is =
-    holds_forwarding (record c { ends = ends; pings = pings; spokes = spokes; mended = false }) f keeps working (holds_unpinged c ends pings spokes same ones none working is)
+    holds_forwarding (record c { ends = ends; pings = pings; spokes = spokes; marks = None }) f keeps working (holds_unpinged c ends pings spokes same ones none working is)
 
 -- each end is as it was opened and counts as not pinged, of no end anything was told, and no spoke is chosen
 pub ends_forgotten : (c : EdgeLists) (ends : EndLists) (pings : List ℕ) (spokes : SpokeLists) (f : ForwardingLists) → c.stopped ≡ true → IsEdge c → ends.places ≡ c.ends.places → pings ≡ map unpinged c.pings → spokes ≡ record c.spokes { chosen = map unchosen c.spokes.chosen }
     → KeepsForwarding c.forwarding f → seen_ends ends ≡ (λ wire peer. fresh) → ends.labels.next ≡ c.ends.labels.next
     → ((edge : EdgeState) → with_forwarding f edge ≡ without_told (with_forwarding c.forwarding edge))
-    → seen (record c { ends = ends; pings = pings; spokes = spokes; forwarding = f; mended = false }) ≡ without_ends (seen c)
+    → seen (record c { ends = ends; pings = pings; spokes = spokes; forwarding = f; marks = None }) ≡ without_ends (seen c)
 ends_forgotten c ends pings spokes f working is same ones none keeps are next closed =
-    seen_forwarding without_told (record c { ends = ends; pings = pings; spokes = spokes; mended = false }) f (holds_unpinged c ends pings spokes same ones none working is) keeps closed
+    seen_forwarding without_told (record c { ends = ends; pings = pings; spokes = spokes; marks = None }) f (holds_unpinged c ends pings spokes same ones none working is) keeps closed
     ∙ ends_fresh c ends pings spokes are next (ap (λ (s : SpokeLists). s.chosen) none) ones
 
 -- ---- where no session stands, the ends are lost
@@ -303,13 +278,13 @@ pub record AreNewLists (plan : Plan) (me : EdgeId) (c : EdgeLists) : Type 0 wher
   pub spokes : IsNewSpokes plan me c.spokes
   pub forwarding : IsNewForwarding plan me c.forwarding
   pub going : c.stopped ≡ false
-  pub unmended : c.mended ≡ false
+  pub unmarked : c.marks ≡ None
 
 -- those of an edge over parts that have taken no input, whose lists are made by the same plan
 pub new_lists : (plan made : Plan) (me : EdgeId) (c : EdgeLists) → made ≡ plan → c.plan ≡ plan → c.me ≡ me → AreNewParts plan me c.ends c.spokes c.forwarding
     → c.peerings ≡ replicate (length made.edges) None → c.wires_on ≡ replicate (length made.wires) true → c.bits ≡ replicate (length made.wires) 0
-    → c.priorities ≡ map (λ (row : WirePlan). row.priority) made.wires → c.pings ≡ replicate (length made.wires) 1 → c.stopped ≡ false → c.mended ≡ false → AreNewLists plan me c
-new_lists plan made me c same keeps here parts peerings wires zeros priorities ones going unmended = record {
+    → c.priorities ≡ map (λ (row : WirePlan). row.priority) made.wires → c.pings ≡ replicate (length made.wires) 1 → c.stopped ≡ false → c.marks ≡ None → AreNewLists plan me c
+new_lists plan made me c same keeps here parts peerings wires zeros priorities ones going unmarked = record {
   keeps = keeps;
   here = here;
   peerings = peerings ∙ ap (λ (p : Plan). replicate (length p.edges) None) same;
@@ -323,7 +298,7 @@ new_lists plan made me c same keeps here parts peerings wires zeros priorities o
   spokes = parts.unchosen;
   forwarding = parts.unheard;
   going = going;
-  unmended = unmended;
+  unmarked = unmarked;
 }
 
 -- the priorities of the plan, in a list as in a map
@@ -370,23 +345,23 @@ holds_new plan me c checked are = record {
   small = subst (All (λ bits. bits ≤ 31)) (sym are.zeros) (All-replicate (λ bits. bits ≤ 31) (length plan.wires) 0 (omega arith));
   priorities = ap (λ (l : List ℕ). length l) are.priorities ∙ (length-map plan.wires (λ (row : WirePlan). row.priority) ∙ ap (λ (p : Plan). length p.wires) (sym are.keeps));
   synced = λ going. subst (λ (p : Plan). InSync p (seen c)) (sym are.keeps) (subst (InSync plan) (sym (new_is plan me c are)) (synced_first plan me));
-  tidy = λ set. absurd (cc (sym are.unmended ∙ set));
+  tidy = subst (λ (m : Option EndMarks). IfSome m (IsTidy c.plan (seen c))) (sym are.unmarked) tt;
 }
 
 -- ---- a wire at a place of its own
 
 pub seen_on : (c : EdgeLists) (wire : WireId) (on : Bool) → wire.0 < length c.wires_on
-    → seen (record c { wires_on = slice_set c.wires_on wire.0 on; mended = false }) ≡ with_wire wire on (seen c)
+    → seen (record c { wires_on = slice_set c.wires_on wire.0 on; marks = None }) ≡ with_wire wire on (seen c)
 unfolding seen with_wire
 seen_on c wire on within = λ i. record (seen c) { wire_on = view_set true c.wires_on wire.0 on within i }
 
 pub seen_bits : (c : EdgeLists) (wire : WireId) (bits : ℕ) → wire.0 < length c.bits
-    → seen (record c { bits = slice_set c.bits wire.0 bits; mended = false }) ≡ with_bits wire bits (seen c)
+    → seen (record c { bits = slice_set c.bits wire.0 bits; marks = None }) ≡ with_bits wire bits (seen c)
 unfolding seen with_bits
 seen_bits c wire bits within = λ i. record (seen c) { bits = view_set 0 c.bits wire.0 bits within i }
 
 pub seen_priority : (c : EdgeLists) (wire : WireId) (priority : ℕ) → wire.0 < length c.priorities
-    → seen (record c { priorities = slice_set c.priorities wire.0 priority; mended = false }) ≡ with_priority wire priority (seen c)
+    → seen (record c { priorities = slice_set c.priorities wire.0 priority; marks = None }) ≡ with_priority wire priority (seen c)
 unfolding seen with_priority
 seen_priority c wire priority within = λ i. record (seen c) { priority = λ k. view_at (priority_in (slice_get c.plan.wires k)) c.priorities wire.0 priority k within i }
 
@@ -398,7 +373,7 @@ seen_next_ping c wire sequence within = λ i. record (seen c) { next_ping = view
 -- ---- the spoke that is chosen for a service
 
 pub seen_chosen : (c : EdgeLists) (service : ℕ) (wire : Option WireId) → service < length c.spokes.chosen
-    → seen (record c { spokes = record c.spokes { chosen = slice_set c.spokes.chosen service wire }; mended = false }) ≡ with_chosen (put_at (seen c).chosen service wire) (seen c)
+    → seen (record c { spokes = record c.spokes { chosen = slice_set c.spokes.chosen service wire }; marks = None }) ≡ with_chosen (put_at (seen c).chosen service wire) (seen c)
 unfolding seen with_chosen
 seen_chosen c service wire within = λ i. record (seen c) { chosen = view_set None c.spokes.chosen service wire within i }
 
@@ -427,14 +402,14 @@ end_read c slot = refl
 -- ---- an end is advertised
 
 pub advertised_none : (c : EdgeLists) (ends : EndLists) → c.ends.labels.next ≡ numbers_end → ends ≡ c.ends
-    → ((seen c).next_label ≡ numbers_end) × (seen (record c { ends = ends; mended = false }) ≡ seen c)
+    → ((seen c).next_label ≡ numbers_end) × (seen (record c { ends = ends; marks = None }) ≡ seen c)
 unfolding seen
 advertised_none c ends none same = (sym (next_at c) ∙ none, ap (λ (l : EndLists). seen (record c { ends = l })) same)
 
 pub advertised_some : (c : EdgeLists) (ends : EndLists) (place : EndPlace) (told : Told) (found : Option ℕ) → (c.ends.labels.next ≡ numbers_end → found ≡ None)
     → IfSome found (λ label. label ≡ c.ends.labels.next) → IfSome found (λ label. ends.labels.next ≡ c.ends.labels.next + 1)
     → IfSome found (λ label. seen_ends ends ≡ changed_at place (advertised label told) (seen_ends c.ends))
-    → IfSome found (λ label. ((seen c).next_label ≡ numbers_end → ⊥) × (label ≡ (seen c).next_label) × (seen (record c { ends = ends; mended = false }) ≡ advertising place label told (seen c)))
+    → IfSome found (λ label. ((seen c).next_label ≡ numbers_end → ⊥) × (label ≡ (seen c).next_label) × (seen (record c { ends = ends; marks = None }) ≡ advertising place label told (seen c)))
 unfolding seen with_end with_next_label
 advertised_some c ends place told None none is next are = tt
 advertised_some c ends place told (Some label) none is next are = (
@@ -445,7 +420,7 @@ advertised_some c ends place told (Some label) none is next are = (
 
 -- ---- where the ends are
 
-in_list : {X : Type 0} (P : X → Type 0) (xs : List X) (k : ℕ) (d : X) → AllByRecursion P xs → k < length xs → P (slice_index_or xs k d)
+pub in_list : {X : Type 0} (P : X → Type 0) (xs : List X) (k : ℕ) (d : X) → AllByRecursion P xs → k < length xs → P (slice_index_or xs k d)
 in_list P [] k d all within = absurd (omega arith)
 in_list P (x ∷ xs) zero d all within = all.0
 in_list P (x ∷ xs) (suc k) d all within = in_list P xs k d all.1 (omega arith)

@@ -237,7 +237,7 @@ told_later : (plan : Plan) (p : EndPlace) (places : List EndPlace) (work : Work)
 told_later plan p [] work = refl
 told_later plan p (q ∷ places) work = ap (forgets_downs plan places) (swapped plan p q work) ∙ told_later plan p places (forgotten_down plan q work)
 
-settled_downs : (plan : Plan) (places : List EndPlace) (work : Work) → settles_downs plan places work ≡ tells_downs plan places (forgets_downs plan places work)
+pub settled_downs : (plan : Plan) (places : List EndPlace) (work : Work) → settles_downs plan places work ≡ tells_downs plan places (forgets_downs plan places work)
 settled_downs plan [] work = refl
 settled_downs plan (p ∷ places) work =
     settled_downs plan places (mended_down plan p (forgotten_down plan p work)) ∙ ap (tells_downs plan places) (told_later plan p places (forgotten_down plan p work))

@@ -1,5 +1,5 @@
 -- What always holds of an edge.
-use Rattle.std.specs.Prelude.{◌≡◌, ◌≤◌, All, true, false, length}
+use Rattle.std.specs.Prelude.{◌≡◌, ◌≤◌, All, IfSome, false, length}
 use Rattle.net_base.specs.plan.Accepted.{IsChecked}
 use Rattle.edge_model.specs.EndPlaces.{end_places}
 use Rattle.edge_model.specs.Synced.{InSync}
@@ -23,5 +23,5 @@ pub record IsEdge (edge : EdgeLists) : Type 0 where
   pub me : edge.forwarding.me ≡ edge.me
   -- between two inputs what was told last of each wire is why its end does not forward
   pub synced : edge.stopped ≡ false → InSync edge.plan (seen edge)
-  -- an edge that counts as mended has nothing to mend
-  pub tidy : edge.mended ≡ true → IsTidy edge.plan (seen edge)
+  -- but for the ends that have a mark there is nothing to mend
+  pub tidy : IfSome edge.marks (IsTidy edge.plan (seen edge))

@@ -4,6 +4,7 @@ pub mod EndOf
 pub mod Hearing
 pub mod Invariant
 pub mod Lists
+pub mod Marks
 pub mod Mending
 pub mod Opening
 pub mod Pings

@@ -10,6 +10,7 @@ use Rattle.edge_model.specs.State.{EdgeState, Peering, first_label, first_ping, 
 use Rattle.edge_model.specs.Work.{Work}
 use Rattle.edge_forwarding.specs.Forwarding.{ForwardingLists, domain_of, entries_of}
 use Rattle.edge_forwarding.specs.Views.{view}
+use Rattle.provider_edge.specs.declared.end_marks.EndMarks.{EndMarks}
 use Rattle.provider_edge.specs.Spokes.{SpokeLists}
 
 pub record EdgeLists : Type 0 where
@@ -33,8 +34,8 @@ pub record EdgeLists : Type 0 where
   pub forwarding : ForwardingLists
   -- it works on an input, or memory was refused
   pub stopped : Bool
-  -- it has mended, and nothing has changed since that it would mend
-  pub mended : Bool
+  -- its ends that have a mark, where it knows that each other one is settled
+  pub marks : Option EndMarks
 
 unfoldable pub seen : EdgeLists → EdgeState
 seen edge = record {
@@ -67,7 +68,7 @@ no_edge plan me = record {
   spokes = record { slots = []; chosen = [] };
   forwarding = record { plan = plan; me = me; circuits_on = []; told_down = []; domains = []; ticks = 0 };
   stopped = false;
-  mended = false;
+  marks = None;
 }
 
 -- the work that the edge has done, over these calls of its link

@@ -30,6 +30,7 @@ mod session;
 mod signalling;
 
 use crate::EdgeStop;
+use crate::end_marks::EndMarks;
 use crate::spokes::Spokes;
 use edge_forwarding::Forwarding;
 use edge_model::{Effects, EndPlace, Input};
@@ -60,7 +61,7 @@ pub struct Edge {
     spokes: Spokes,
     forwarding: Forwarding,
     stopped: bool,
-    mended: bool,
+    marks: Option<EndMarks>,
 }
 
 impl Model for Edge {
@@ -69,9 +70,9 @@ impl Model for Edge {
 
     ghost Value = { EdgeLists };
 
-    ghost view = { λ e. record { plan = e.plan.value; me = e.me; peerings = e.peerings.items; ends = e.ends; wires_on = e.wires_on.items; bits = e.bits.items; priorities = e.priorities.items; pings = e.pings.items; spokes = e.spokes; forwarding = e.forwarding; stopped = e.stopped; mended = e.mended } };
+    ghost view = { λ e. record { plan = e.plan.value; me = e.me; peerings = e.peerings.items; ends = e.ends; wires_on = e.wires_on.items; bits = e.bits.items; priorities = e.priorities.items; pings = e.pings.items; spokes = e.spokes; forwarding = e.forwarding; stopped = e.stopped; marks = e.marks } };
 
-    ghost invariant = { λ e. IsEdge (record { plan = e.plan.value; me = e.me; peerings = e.peerings.items; ends = e.ends; wires_on = e.wires_on.items; bits = e.bits.items; priorities = e.priorities.items; pings = e.pings.items; spokes = e.spokes; forwarding = e.forwarding; stopped = e.stopped; mended = e.mended }) };
+    ghost invariant = { λ e. IsEdge (record { plan = e.plan.value; me = e.me; peerings = e.peerings.items; ends = e.ends; wires_on = e.wires_on.items; bits = e.bits.items; priorities = e.priorities.items; pings = e.pings.items; spokes = e.spokes; forwarding = e.forwarding; stopped = e.stopped; marks = e.marks }) };
 }
 
 impl Edge {

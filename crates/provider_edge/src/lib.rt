@@ -5,6 +5,7 @@ mod echo;
 mod edge;
 mod edge_stop;
 mod egress;
+mod end_marks;
 mod ingress;
 mod parts;
 mod pings;

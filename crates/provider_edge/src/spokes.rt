@@ -58,6 +58,14 @@ impl Spokes {
         }
     }
 
+    /// Whether this wire, or none, is that of the spoke that is chosen for a service.
+    pub fn has_choice(&self, service: usize, wire: Option<WireId>) -> bool
+        requires { service < length self.now.chosen }
+        ensures { result ≡ true → view None self.now.chosen service ≡ wire }
+    {
+        self.chosen[service] == wire
+    }
+
     /// The slots of the edge's ends of the spokes of a service that start at it.
     pub fn slots(&self, service: usize) -> &[usize]
         requires { service < length self.now.slots }

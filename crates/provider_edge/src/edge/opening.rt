@@ -90,7 +90,7 @@ impl Edge {
                 spokes: parts.spokes,
                 forwarding: parts.forwarding,
                 stopped: false,
-                mended: false,
+                marks: None,
             }),
             Err(fault) => Err(fault),
         }

@@ -101,17 +101,19 @@ impl Edge {
         self.wires_on[wire.0 as usize]
     }
 
-    // Puts a wire on or off; its ends are declined no longer where it is put on.
+    // Puts a wire on or off; its ends are declined no longer where it is put on. They are marked.
     fn turn_wire(&mut self, wire: WireId, on: bool)
         requires working { self.old.stopped ≡ true }
         requires within { wire.0 < length self.old.plan.wires }
         ensures keeps { Keeps self.old self.new }
         ensures step { seen self.new ≡ turned_wire wire on (seen self.old) }
     {
+        let marks = self.marks_at(wire);
         self.set_wire(wire, on);
         if on {
             self.renew(wire);
         }
+        self.keep_marks(marks);
     }
 
     // A wire is on or off.
@@ -121,7 +123,7 @@ impl Edge {
         ensures keeps { Keeps self.old self.new }
         ensures step { seen self.new ≡ with_wire wire on (seen self.old) }
     {
-        self.mended = false;
+        self.marks = None;
         self.wires_on[wire.0 as usize] = on;
     }
 
@@ -131,11 +133,11 @@ impl Edge {
         ensures keeps { Keeps self.old self.new }
         ensures step { seen self.new ≡ with_renewed wire (seen self.old) }
     {
-        self.mended = false;
+        self.marks = None;
         self.ends.renew(wire);
     }
 
-    // Sets the failure bits of the end of a wire, at most 31.
+    // Sets the failure bits of the end of a wire, at most 31, and marks it.
     fn set_bits(&mut self, wire: WireId, bits: u8)
         requires working { self.old.stopped ≡ true }
         requires within { wire.0 < length self.old.plan.wires }
@@ -143,7 +145,20 @@ impl Edge {
         ensures keeps { Keeps self.old self.new }
         ensures step { seen self.new ≡ with_bits wire bits (seen self.old) }
     {
-        self.mended = false;
+        let marks = self.marks_at(wire);
+        self.put_bits(wire, bits);
+        self.keep_marks(marks);
+    }
+
+    // Sets the failure bits of the end of a wire, at most 31.
+    fn put_bits(&mut self, wire: WireId, bits: u8)
+        requires working { self.old.stopped ≡ true }
+        requires within { wire.0 < length self.old.plan.wires }
+        requires small { bits ≤ 31 }
+        ensures keeps { Keeps self.old self.new }
+        ensures step { seen self.new ≡ with_bits wire bits (seen self.old) }
+    {
+        self.marks = None;
         self.bits[wire.0 as usize] = bits;
     }
 }

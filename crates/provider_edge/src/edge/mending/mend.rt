@@ -10,6 +10,7 @@ ghost use Rattle.provider_edge.specs.AtWork.{Works, at_work};
 ghost use Rattle.provider_edge.specs.Lists.{Keeps, seen};
 
 use crate::Edge;
+use crate::end_marks::EndMarks;
 use edge_model::Effect;
 use net_base::{Link, List, NoMemory, WireId};
 use peer_dialogue::AtWork;
@@ -23,7 +24,7 @@ impl Edge {
         ensures step { OnOk result ((told : Answers) → Agrees told (L.calls work.new.link.now)
             → at_work L.calls self.new work.new ≡ mends self.old.plan told (at_work L.calls self.old work.old)) }
     {
-        if self.mended {
+        if self.is_tidy() {
             return Ok(());
         }
         self.mend_rounds(work)
@@ -41,7 +42,7 @@ impl Edge {
         let rounds = self.count_rounds();
         for _round in 0..rounds {
             if !self.mend_once(work)? {
-                self.settle();
+                self.keep_marks(Some(EndMarks::none()));
                 return Ok(());
             }
         }
@@ -71,7 +72,7 @@ impl Edge {
         Ok(failed)
     }
 
-    // Each end is advertised, withdrawn or left.
+    // Each end is advertised, withdrawn or left. Those before the first mark and behind the last one are settled.
     fn mend_ends<L: Link>(&mut self, work: &mut AtWork<'_, L>) -> Result<bool, NoMemory>
         requires working { self.old.stopped ≡ true }
         ensures goes { Works L.calls self.old work.old self.new work.new }
@@ -80,7 +81,10 @@ impl Edge {
             ≡ each_end (mends_end self.old.plan told) (end_places self.old.plan self.old.me) (record { work = at_work L.calls self.old work.old; failed = false })) }
     {
         let mut failed = false;
-        for slot in 0..self.count_ends() {
+        for slot in self.first_marked()..self.count_ends() {
+            if self.is_past(slot) {
+                return Ok(failed);
+            }
             failed |= self.mend_end(slot, work)?;
         }
         Ok(failed)
@@ -99,7 +103,10 @@ impl Edge {
             ≡ each_end (mends_status self.old.plan told) (end_places self.old.plan self.old.me) (record { work = at_work L.calls self.old work.old; failed = before })) }
     {
         let mut failed = before;
-        for slot in 0..self.count_ends() {
+        for slot in self.first_marked()..self.count_ends() {
+            if self.is_past(slot) {
+                return Ok(failed);
+            }
             failed |= self.mend_status(slot, work)?;
         }
         Ok(failed)
@@ -136,7 +143,10 @@ impl Edge {
             → at_edge (seen self.new) calls out.new
             ≡ tells_downs self.old.plan (end_places self.old.plan self.old.me) (forgets_downs self.old.plan (end_places self.old.plan self.old.me) (at_edge (seen self.old) calls out.old))) }
     {
-        for slot in 0..self.count_ends() {
+        for slot in self.first_marked()..self.count_ends() {
+            if self.is_past(slot) {
+                return Ok(());
+            }
             self.settle_down(slot, out)?;
         }
         Ok(())

@@ -260,15 +260,27 @@ impl Edge {
         }
     }
 
-    // What was learned at a wire is forgotten.
-    #[tactic(auto, using(crate::proofs::ForwardLemmas::holds_forwarding, crate::proofs::ForwardLemmas::keeps_forwarding))]
+    // What was learned at a wire is forgotten, which unsettles no end.
     fn forget_wire(&mut self, wire: WireId)
         requires working { self.old.stopped ≡ true }
         requires within { wire.0 < length self.old.plan.wires }
         ensures keeps { Keeps self.old self.new }
         ensures step { seen self.new ≡ forgetting_wire self.old.plan wire (wire_row self.old.plan wire) (seen self.old) }
     {
-        self.mended = false;
+        let marks = self.marks;
+        self.drop_learned(wire);
+        self.keep_marks(marks);
+    }
+
+    // What was learned at a wire is dropped.
+    #[tactic(auto, using(crate::proofs::ForwardLemmas::holds_forwarding, crate::proofs::ForwardLemmas::keeps_forwarding))]
+    fn drop_learned(&mut self, wire: WireId)
+        requires working { self.old.stopped ≡ true }
+        requires within { wire.0 < length self.old.plan.wires }
+        ensures keeps { Keeps self.old self.new }
+        ensures step { seen self.new ≡ forgetting_wire self.old.plan wire (wire_row self.old.plan wire) (seen self.old) }
+    {
+        self.marks = None;
         self.forwarding.forget_wire(wire);
     }
 
@@ -301,15 +313,27 @@ impl Edge {
         self.forwarding.told_last(wire)
     }
 
-    // This is told of the end of a wire.
-    #[tactic(auto, using(crate::proofs::ForwardLemmas::holds_forwarding, crate::proofs::ForwardLemmas::keeps_forwarding))]
+    // This is told of the end of a wire, whose ends are marked.
     fn set_told(&mut self, wire: WireId, down: Option<Down>)
         requires working { self.old.stopped ≡ true }
         requires within { wire.0 < length self.old.plan.wires }
         ensures keeps { Keeps self.old self.new }
         ensures step { seen self.new ≡ with_told_down wire down (seen self.old) }
     {
-        self.mended = false;
+        let marks = self.marks_at(wire);
+        self.put_told(wire, down);
+        self.keep_marks(marks);
+    }
+
+    // This is told of the end of a wire.
+    #[tactic(auto, using(crate::proofs::ForwardLemmas::holds_forwarding, crate::proofs::ForwardLemmas::keeps_forwarding))]
+    fn put_told(&mut self, wire: WireId, down: Option<Down>)
+        requires working { self.old.stopped ≡ true }
+        requires within { wire.0 < length self.old.plan.wires }
+        ensures keeps { Keeps self.old self.new }
+        ensures step { seen self.new ≡ with_told_down wire down (seen self.old) }
+    {
+        self.marks = None;
         self.forwarding.tell(wire, down);
     }
 

@@ -25,9 +25,23 @@ impl Edge {
         ensures step { OnOk result (seen self.new ≡ choosing self.old.plan (seen self.old)) }
     {
         for service in 0..self.count_services() {
-            let chosen = self.choice(alloc, service)?;
-            self.set_chosen(service, chosen);
+            self.choose_spoke(alloc, service)?;
         }
+        Ok(())
+    }
+
+    // The edge chooses for a service. One of which no spoke has a mark has its choice.
+    fn choose_spoke(&mut self, alloc: Global, service: usize) -> Result<(), NoMemory>
+        requires working { self.old.stopped ≡ true }
+        requires within { service < length self.old.plan.services }
+        ensures keeps { Keeps self.old self.new }
+        ensures step { OnOk result (seen self.new ≡ with_chosen (put_at (seen self.old).chosen service (choice self.old.plan (seen self.old) (record { 0 = service }))) (seen self.old)) }
+    {
+        if self.passes_by(service) {
+            return Ok(());
+        }
+        let chosen = self.choice(alloc, service)?;
+        self.set_chosen(service, chosen);
         Ok(())
     }
 
@@ -39,14 +53,39 @@ impl Edge {
         self.plan.services.len()
     }
 
-    // This spoke, or none, is chosen for a service.
+    // This spoke, or none, is chosen for a service, as the edge chooses; where it was another one the spokes of the service are marked.
     fn set_chosen(&mut self, service: usize, chosen: Option<WireId>)
+        requires working { self.old.stopped ≡ true }
+        requires within { service < length self.old.plan.services }
+        requires chosen { chosen ≡ choice self.old.plan (seen self.old) (record { 0 = service }) }
+        ensures keeps { Keeps self.old self.new }
+        ensures step { seen self.new ≡ with_chosen (put_at (seen self.old).chosen service chosen) (seen self.old) }
+    {
+        if self.has_choice(service, chosen) {
+            return;
+        }
+        let marks = self.marks_of(service);
+        self.put_chosen(service, chosen);
+        self.keep_marks(marks);
+    }
+
+    // Whether this spoke, or none, is the one that is chosen for a service.
+    #[tactic(auto, unfolding(crate::specs::Lists::seen))]
+    fn has_choice(&self, service: usize, chosen: Option<WireId>) -> bool
+        requires { service < length self.now.plan.services }
+        ensures { result ≡ true → (seen self.now).chosen service ≡ chosen }
+    {
+        self.spokes.has_choice(service, chosen)
+    }
+
+    // This spoke, or none, is chosen for a service.
+    fn put_chosen(&mut self, service: usize, chosen: Option<WireId>)
         requires working { self.old.stopped ≡ true }
         requires within { service < length self.old.plan.services }
         ensures keeps { Keeps self.old self.new }
         ensures step { seen self.new ≡ with_chosen (put_at (seen self.old).chosen service chosen) (seen self.old) }
     {
-        self.mended = false;
+        self.marks = None;
         self.spokes.choose(service, chosen);
     }
 
@@ -77,7 +116,7 @@ impl Edge {
     }
 
     // The slots of its ends of the spokes of a service.
-    fn slots_of(&self, service: usize) -> &[usize]
+    pub(crate) fn slots_of(&self, service: usize) -> &[usize]
         requires { service < length self.now.plan.services }
         ensures slots { result.now ≡ slots_for self.now.plan self.now.me self.now.ends.places service }
         ensures places { self.now.ends.places ≡ end_places self.now.plan self.now.me }
@@ -115,14 +154,26 @@ impl Edge {
         self.priorities[wire.0 as usize]
     }
 
-    // Sets the priority number of the spoke on a wire.
+    // Sets the priority number of the spoke on a wire, and marks its ends.
     pub(crate) fn set_priority(&mut self, wire: WireId, priority: u8)
         requires working { self.old.stopped ≡ true }
         requires within { wire.0 < length self.old.plan.wires }
         ensures keeps { Keeps self.old self.new }
         ensures step { seen self.new ≡ with_priority wire priority (seen self.old) }
     {
-        self.mended = false;
+        let marks = self.marks_at(wire);
+        self.put_priority(wire, priority);
+        self.keep_marks(marks);
+    }
+
+    // Sets the priority number of the spoke on a wire.
+    fn put_priority(&mut self, wire: WireId, priority: u8)
+        requires working { self.old.stopped ≡ true }
+        requires within { wire.0 < length self.old.plan.wires }
+        ensures keeps { Keeps self.old self.new }
+        ensures step { seen self.new ≡ with_priority wire priority (seen self.old) }
+    {
+        self.marks = None;
         self.priorities[wire.0 as usize] = priority;
     }
 

@@ -69,9 +69,9 @@ impl Edge {
             → at_work L.calls self.new work.new ≡ connects told peer (connection_with peers) (at_work L.calls self.old work.old)) }
     {
         let absent = !self.has_end(peer);
-        let tidy = self.mended & absent;
+        let marks = if absent { self.marks } else { None };
         self.put_peering(peer, Some(Peering::open(peers)));
-        self.keep_mended(tidy);
+        self.keep_marks(marks);
         work.effects.list.push(Effect::Session {
             peer,
             state: StateName::Initialized,
@@ -105,12 +105,15 @@ impl Edge {
         ensures step { OnOk result ((told : Answers) → Agrees told (L.calls work.new.link.now)
             → worked_at L.calls self.new work.new ≡ lost_input self.old.plan told peer (beginning (seen self.old) (L.calls work.old.link.now))) }
     {
+        let marks = self.marks;
         let Some(peering) = self.take_peering(peer) else {
             work.effects.idle = true;
             return Ok(());
         };
         peering.lose(peer, work)?;
         self.clear_ends(peer);
+        let marks = self.marks_beside(marks, peer);
+        self.keep_marks(marks);
         self.mend(work)
     }
 
@@ -131,7 +134,7 @@ impl Edge {
         ensures keeps { Keeps self.old self.new }
         ensures step { seen self.new ≡ without_ends (seen self.old) }
     {
-        self.mended = false;
+        self.marks = None;
         self.ends.restarted();
         forget_pings(&mut self.pings);
         self.spokes.clear();

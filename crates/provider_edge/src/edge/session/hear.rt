@@ -47,13 +47,13 @@ impl Edge {
         ensures keeps { Keeps self.old self.new }
         ensures step { AreTakenOut peer ((seen self.old).peering peer.0) (seen self.old) (seen self.new) result }
     {
-        let tidy = self.mended;
+        let marks = self.marks;
         let Some(mut peering) = self.take_peering(peer) else {
             return None;
         };
         let held = peering.take_held();
         self.put_peering(peer, Some(peering));
-        self.keep_mended(tidy);
+        self.keep_marks(marks);
         Some(held)
     }
 
@@ -63,11 +63,11 @@ impl Edge {
         ensures keeps { Keeps self.old self.new }
         ensures step { (calls : List LinkCall) (out : List Effect) → at_edge (seen self.new) calls out ≡ holds peer held ((seen self.old).peering peer.0) (at_edge (seen self.old) calls out) }
     {
-        let tidy = self.mended;
+        let marks = self.marks;
         if let Some(mut peering) = self.take_peering(peer) {
             peering.hold(held);
             self.put_peering(peer, Some(peering));
-            self.keep_mended(tidy);
+            self.keep_marks(marks);
         }
     }
 

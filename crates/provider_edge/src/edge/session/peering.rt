@@ -64,7 +64,7 @@ impl Edge {
         if peer.0 as usize >= self.peerings.len() {
             return None;
         }
-        self.mended = false;
+        self.marks = None;
         self.peerings[peer.0 as usize].take()
     }
 
@@ -76,7 +76,7 @@ impl Edge {
         ensures step { seen self.new ≡ with_peering peer kept (seen self.old) }
     {
         held_in(&kept);
-        self.mended = false;
+        self.marks = None;
         self.peerings[peer.0 as usize] = kept;
     }
 
@@ -91,16 +91,17 @@ impl Edge {
         }
     }
 
-    // Each end beside an absent peer is lost; where the edge counts as mended each one is already.
+    // Each end beside an absent peer is lost, where something was told of one.
     fn lose_ends(&mut self, peer: EdgeId)
         requires working { self.old.stopped ≡ true }
         requires absent { has_end (seen self.old) peer ≡ false }
         ensures keeps { Keeps self.old self.new }
         ensures step { seen self.new ≡ with_ends_beside peer lost (seen self.old) }
     {
-        if self.mended {
+        if self.ends.is_untold(peer) {
             return;
         }
+        self.marks = None;
         self.ends.lose(peer);
     }
 
@@ -110,7 +111,7 @@ impl Edge {
         ensures keeps { Keeps self.old self.new }
         ensures step { seen self.new ≡ without_peerings (seen self.old) }
     {
-        self.mended = false;
+        self.marks = None;
         drop_all(&mut self.peerings);
     }
 
@@ -133,7 +134,7 @@ impl Edge {
             self.clear_ends(peer);
             return Ok(());
         }
-        let tidy = self.mended;
+        let marks = self.marks;
         let was_up = self.is_up(peer);
         let Some(peering) = self.take_peering(peer) else {
             self.clear_ends(peer);
@@ -143,7 +144,8 @@ impl Edge {
         let stands = stands_as(was_up, &left);
         self.put_peering(peer, left);
         self.clear_ends(peer);
-        self.keep_mended(tidy & stands);
+        let marks = self.marks_after(marks, stands, peer);
+        self.keep_marks(marks);
         Ok(())
     }
 
@@ -162,7 +164,7 @@ impl Edge {
         ensures step { IfOk result (λ failed. (told : Answers) → Agrees told (L.calls work.new.link.now)
             → record { work = at_work L.calls self.new work.new; failed = failed } ≡ says told peer (numbered message.now) (at_work L.calls self.old work.old)) }
     {
-        let mended = self.mended;
+        let marks = self.marks;
         let was_up = self.is_up(peer);
         let Some(peering) = self.take_peering(peer) else {
             return Ok(false);
@@ -172,7 +174,8 @@ impl Edge {
         let stands = stands_as(was_up, &left);
         self.put_peering(peer, left);
         self.clear_ends(peer);
-        self.keep_mended(mended & stands);
+        let marks = self.marks_after(marks, stands, peer);
+        self.keep_marks(marks);
         Ok(failed)
     }
 

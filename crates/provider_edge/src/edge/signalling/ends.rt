@@ -32,7 +32,7 @@ impl Edge {
         }
     }
 
-    // An idle end advertises the next label with its content; `None` exactly where no label is left.
+    // An idle end advertises the next label with its content; `None` exactly where no label is left. The ends of its wire are marked.
     pub(crate) fn advertise(&mut self, slot: usize, told: &Told) -> Option<Label>
         requires working { self.old.stopped ≡ true }
         requires slot { slot < length self.old.ends.places }
@@ -44,29 +44,71 @@ impl Edge {
             × (label ≡ (seen self.old).next_label)
             × (seen self.new ≡ advertising (place_of self.old.ends slot) label told.now (seen self.old))) }
     {
-        self.mended = false;
+        let marks = self.marks_at(self.place_at(slot).wire);
+        let label = self.take_label(slot, told);
+        self.keep_marks(marks);
+        label
+    }
+
+    // An idle end takes the next label with its content; `None` exactly where no label is left.
+    fn take_label(&mut self, slot: usize, told: &Told) -> Option<Label>
+        requires working { self.old.stopped ≡ true }
+        requires slot { slot < length self.old.ends.places }
+        requires idle { IsIdle (end_in self.old.ends slot).local }
+        requires kind { told.now.kind ≤ 0x7FFF }
+        ensures keeps { Keeps self.old self.new }
+        ensures none { result ≡ None → ((seen self.old).next_label ≡ numbers_end) × (seen self.new ≡ seen self.old) }
+        ensures step { IfSome result (λ label. ((seen self.old).next_label ≡ numbers_end → ⊥)
+            × (label ≡ (seen self.old).next_label)
+            × (seen self.new ≡ advertising (place_of self.old.ends slot) label told.now (seen self.old))) }
+    {
+        self.marks = None;
         self.ends.advertise(slot, told)
     }
 
-    // An end withdraws its label.
+    // An end withdraws its label; the ends of its wire are marked.
     pub(crate) fn withdraw(&mut self, slot: usize)
         requires working { self.old.stopped ≡ true }
         requires slot { slot < length self.old.ends.places }
         ensures keeps { Keeps self.old self.new }
         ensures step { seen self.new ≡ withdrawing (place_of self.old.ends slot) (seen self.old) }
     {
-        self.mended = false;
+        let marks = self.marks_at(self.place_at(slot).wire);
+        self.leave_label(slot);
+        self.keep_marks(marks);
+    }
+
+    // An end withdraws its label.
+    fn leave_label(&mut self, slot: usize)
+        requires working { self.old.stopped ≡ true }
+        requires slot { slot < length self.old.ends.places }
+        ensures keeps { Keeps self.old self.new }
+        ensures step { seen self.new ≡ withdrawing (place_of self.old.ends slot) (seen self.old) }
+    {
+        self.marks = None;
         self.ends.withdraw(slot);
     }
 
-    // An end tells a new status.
+    // An end tells a new status; the ends of its wire are marked.
     pub(crate) fn tell(&mut self, slot: usize, status: PwStatus)
         requires working { self.old.stopped ≡ true }
         requires slot { slot < length self.old.ends.places }
         ensures keeps { Keeps self.old self.new }
         ensures step { seen self.new ≡ telling_status (place_of self.old.ends slot) status (seen self.old) }
     {
-        self.mended = false;
+        let marks = self.marks_at(self.place_at(slot).wire);
+        self.put_tells(slot, status);
+        self.keep_marks(marks);
+    }
+
+    // An end tells a new status.
+    fn put_tells(&mut self, slot: usize, status: PwStatus)
+        requires working { self.old.stopped ≡ true }
+        requires slot { slot < length self.old.ends.places }
+        ensures keeps { Keeps self.old self.new }
+        ensures step { seen self.new ≡ telling_status (place_of self.old.ends slot) status (seen self.old) }
+    {
+        self.marks = None;
         self.ends.tell(slot, status);
     }
 }

@@ -1,6 +1,8 @@
 use Rattle.std.proofs.Common.{◌≡◌, subst, ◌∙◌, ap, sym}
 use Rattle.edge_model.specs.Tick.{forgetting}
+use Rattle.edge_model.specs.State.{EdgeState}
 use Rattle.provider_edge.specs.contracts.edge.Edge.{the_view}
+use Rattle.std.specs.Prelude.{IfSome}
 use Rattle.provider_edge.proofs.ForwardLemmas.{holds_kept, seen_aged}
 use Rattle.provider_edge.proofs.TidyLemmas.{tidy_aged}
 use Rattle.provider_edge.specs.Lists.{EdgeLists, seen}
@@ -11,7 +13,7 @@ pub invariant_of-self : goal.invariant_of-self
 invariant_of-self c =
     let v : EdgeLists = the_view c.self.inside in
     holds_kept v c.age.new.self c.age.ensures.keeps (ap (λ (e : EdgeLists). e.stopped) c.self.view_is ∙ c.requires.working)
-    (λ set. subst (IsTidy v.plan) (sym (seen_aged v c.age.new.self c.self.invariant c.age.ensures.keeps c.age.ensures.step)) (tidy_aged v.plan (seen v) c.self.invariant.checked (c.self.invariant.tidy set))) c.self.invariant
+    (subst (λ (e : EdgeState). IfSome v.marks (IsTidy v.plan e)) (sym (seen_aged v c.age.new.self c.self.invariant c.age.ensures.keeps c.age.ensures.step)) (tidy_aged v.plan (seen v) v.marks c.self.invariant.tidy)) c.self.invariant
 
 pub returns-clause-step : goal.returns-clause-step
 returns-clause-step c =

@@ -1,4 +1,4 @@
-use Rattle.std.proofs.Common.{◌≡◌, [], subst, ◌∙◌, ap, false}
+use Rattle.std.proofs.Common.{◌≡◌, [], subst, ◌∙◌, ap, None}
 use Rattle.edge_model.specs.State.{with_learned}
 use Rattle.provider_edge.specs.contracts.edge.Edge.{the_view}
 use Rattle.provider_edge.proofs.ForwardLemmas.{holds_forwarding, seen_forwarding}
@@ -10,5 +10,5 @@ invariant_of-self c = holds_forwarding (the_view c.self.inside) c.clear.new.self
 
 pub returns-clause-step : goal.returns-clause-step
 returns-clause-step c =
-    subst (λ (n : EdgeLists). seen (record (the_view c.self.inside) { forwarding = c.clear.new.self; mended = false }) ≡ with_learned (λ service. []) (seen n)) c.self.view_is
+    subst (λ (n : EdgeLists). seen (record (the_view c.self.inside) { forwarding = c.clear.new.self; marks = None }) ≡ with_learned (λ service. []) (seen n)) c.self.view_is
     (seen_forwarding (with_learned (λ service. [])) (the_view c.self.inside) c.clear.new.self c.self.invariant c.clear.ensures.keeps c.clear.ensures.step)

@@ -1,6 +1,7 @@
 use Rattle.std.proofs.Common.{◌≡◌, subst, ◌∙◌, ap, sym}
-use Rattle.edge_model.specs.State.{later, with_ticks}
+use Rattle.edge_model.specs.State.{EdgeState, later, with_ticks}
 use Rattle.provider_edge.specs.contracts.edge.Edge.{the_view}
+use Rattle.std.specs.Prelude.{IfSome}
 use Rattle.provider_edge.proofs.ForwardLemmas.{holds_kept, seen_later}
 use Rattle.provider_edge.proofs.TidyLemmas.{tidy_ticked}
 use Rattle.provider_edge.specs.Lists.{EdgeLists, seen}
@@ -11,7 +12,7 @@ pub invariant_of-self : goal.invariant_of-self
 invariant_of-self c =
     let v : EdgeLists = the_view c.self.inside in
     holds_kept v c.count_tick.new.self c.count_tick.ensures.keeps (ap (λ (e : EdgeLists). e.stopped) c.self.view_is ∙ c.requires.working)
-    (λ set. subst (IsTidy v.plan) (sym (seen_later v c.count_tick.new.self c.self.invariant c.count_tick.ensures.keeps c.count_tick.ensures.step)) (tidy_ticked v.plan (seen v) (later (seen v).ticks) c.self.invariant.checked (c.self.invariant.tidy set))) c.self.invariant
+    (subst (λ (e : EdgeState). IfSome v.marks (IsTidy v.plan e)) (sym (seen_later v c.count_tick.new.self c.self.invariant c.count_tick.ensures.keeps c.count_tick.ensures.step)) (tidy_ticked v.plan (seen v) (later (seen v).ticks) v.marks c.self.invariant.tidy)) c.self.invariant
 
 pub returns-clause-step : goal.returns-clause-step
 returns-clause-step c =

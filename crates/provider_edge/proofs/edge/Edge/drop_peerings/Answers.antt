@@ -1,4 +1,4 @@
-use Rattle.std.proofs.Common.{◌≡◌, ◌∙◌, ap, sym, subst, false}
+use Rattle.std.proofs.Common.{◌≡◌, ◌∙◌, ap, sym, subst, None}
 use Rattle.edge_model.specs.State.{without_peerings}
 use Rattle.provider_edge.specs.contracts.edge.Edge.{the_view}
 use Rattle.peer_dialogue.specs.Peering.{gone}
@@ -12,10 +12,10 @@ use Rattle.provider_edge.proofs.edge.Edge.drop_peerings.Goals as goal
 
 pub invariant_of-self : goal.invariant_of-self
 invariant_of-self c =
-    subst (λ peerings. IsEdge (record (the_view c.self.inside) { peerings = peerings; mended = false })) (sym c.drop_all.ensures)
+    subst (λ peerings. IsEdge (record (the_view c.self.inside) { peerings = peerings; marks = None })) (sym c.drop_all.ensures)
     (holds_peerings (the_view c.self.inside) (map gone (the_view c.self.inside).peerings) (length-map (the_view c.self.inside).peerings gone) (few_gone (the_view c.self.inside).peerings) (ap (λ (e : EdgeLists). e.stopped) c.self.view_is ∙ c.requires.working) c.self.invariant)
 
 pub returns-clause-step : goal.returns-clause-step
 returns-clause-step c =
-    subst (λ (n : EdgeLists). seen (record (the_view c.self.inside) { peerings = c.drop_all.new.peerings.items; mended = false }) ≡ without_peerings (seen n)) c.self.view_is
-    (ap (λ peerings. seen (record (the_view c.self.inside) { peerings = peerings; mended = false })) c.drop_all.ensures ∙ seen_gone (the_view c.self.inside))
+    subst (λ (n : EdgeLists). seen (record (the_view c.self.inside) { peerings = c.drop_all.new.peerings.items; marks = None }) ≡ without_peerings (seen n)) c.self.view_is
+    (ap (λ peerings. seen (record (the_view c.self.inside) { peerings = peerings; marks = None })) c.drop_all.ensures ∙ seen_gone (the_view c.self.inside))

@@ -5,7 +5,9 @@ use Rattle.hvpls_spokes.specs.PortSet.{has}
 use Rattle.edge_model.specs.Frame.{hearing, targets_of}
 use Rattle.edge_model.specs.Synced.{InSync}
 use Rattle.edge_forwarding.specs.Forwarding.{open_ports}
+use Rattle.edge_model.specs.State.{EdgeState}
 use Rattle.provider_edge.specs.contracts.edge.Edge.{the_view}
+use Rattle.std.specs.Prelude.{IfSome}
 use Rattle.provider_edge.proofs.BridgeLemmas.{heard_edge, heard_targets}
 use Rattle.provider_edge.proofs.ForwardLemmas.{holds_kept}
 use Rattle.provider_edge.proofs.HeardLemmas.{tidy_heard}
@@ -25,9 +27,8 @@ invariant_of-self c =
     let synced : InSync v.plan (seen v) = subst (λ (n : EdgeLists). InSync n.plan (seen n)) (sym c.self.view_is) c.requires.synced in
     let on : open_ports v.forwarding c.args.service c.args.arrival ≡ true = subst (λ (n : EdgeLists). open_ports n.forwarding c.args.service c.args.arrival ≡ true) (sym c.self.view_is) c.requires.on in
     holds_kept v c.hear.new.self c.hear.ensures.keeps (ap (λ (e : EdgeLists). e.stopped) c.self.view_is ∙ c.requires.working)
-    (λ set.
-    subst (IsTidy v.plan) (sym (heard_edge v c.hear.new.self c.args.service c.args.frame.now c.args.arrival c.self.invariant c.hear.ensures.keeps c.hear.ensures.step))
-    (tidy_heard v c.args.service c.args.frame.now c.args.arrival c.self.invariant synced on (c.self.invariant.tidy set))) c.self.invariant
+    (subst (λ (e : EdgeState). IfSome v.marks (IsTidy v.plan e)) (sym (heard_edge v c.hear.new.self c.args.service c.args.frame.now c.args.arrival c.self.invariant c.hear.ensures.keeps c.hear.ensures.step))
+    (tidy_heard v c.args.service c.args.frame.now c.args.arrival v.marks c.self.invariant synced on c.self.invariant.tidy)) c.self.invariant
 
 pub returns-clause-step : goal.returns-clause-step
 returns-clause-step c =

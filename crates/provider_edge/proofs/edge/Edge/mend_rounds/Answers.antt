@@ -8,10 +8,11 @@ use Rattle.provider_edge.proofs.AtWorkLemmas.{works_and, works_both}
 use Rattle.peer_dialogue.specs.Peering.{at_edge}
 use Rattle.provider_edge.proofs.EffectLemmas.{agrees_itself, told_by}
 use Rattle.provider_edge.proofs.MendLemmas.{round_again, round_done, rounds_end}
+use Rattle.provider_edge.proofs.SettledLemmas.{tidy_mended}
 use Rattle.provider_edge.proofs.TidyLemmas.{round_nothing}
 use Rattle.provider_edge.specs.AtWork.{at_work}
 use Rattle.provider_edge.specs.Lists.{EdgeLists, seen}
-use Rattle.provider_edge.specs.Tidy.{MendsNothing}
+use Rattle.provider_edge.specs.Tidy.{IsTidy}
 use Rattle.provider_edge.proofs.edge.Edge.mend_rounds.Goals as goal
 
 pub loop-round-preserved : goal.loop-round-preserved
@@ -25,7 +26,7 @@ loop-round-preserved g c = record {
 pub returns-then-not-branch-clause-step : goal.returns-then-not-branch-clause-step
 returns-then-not-branch-clause-step g c = λ told agrees.
     let rounds : c.count_rounds-rounds.result ≡ suc (length c.args.self.now.plan.edges) = omega (arith, c.count_rounds-rounds.ensures) in
-    ap (λ (e : EdgeState). at_edge e (g.L.Link.calls c.mend_once.new.work.link.now) c.mend_once.new.work.effects.now.list) c.settle.ensures.step
+    ap (λ (e : EdgeState). at_edge e (g.L.Link.calls c.mend_once.new.work.link.now) c.mend_once.new.work.effects.now.list) c.keep_marks.ensures.step
     ∙ round_done c.args.self.now c.loop-round.self told c.count_rounds-rounds.result c.loop-round._round _ _ _ c.in_ok-mend_once.field-0 c.loop-round.invariant.goes.keeps rounds (omega (arith, c.loop-round-test.true))
     (c.loop-round.invariant.step told (agrees_before told _ _ c.in_ok-mend_once.ensures.goes.on.calls agrees)) (c.in_ok-mend_once.ensures.step told agrees) c.if-not-branch.true
 
@@ -38,11 +39,12 @@ pub returns-in_err-mend_once-clause-goes : goal.returns-in_err-mend_once-clause-
 returns-in_err-mend_once-clause-goes g c = works_both g.L.Link.calls _ _ _ _ _ _ c.loop-round.invariant.goes c.mend_once.ensures.goes
 
 pub returns-then-not-branch-clause-goes : goal.returns-then-not-branch-clause-goes
-returns-then-not-branch-clause-goes g c = works_both g.L.Link.calls _ _ _ _ _ _ c.loop-round.invariant.goes (works_and g.L.Link.calls _ _ _ _ _ c.in_ok-mend_once.ensures.goes c.settle.ensures.keeps)
+returns-then-not-branch-clause-goes g c = works_both g.L.Link.calls _ _ _ _ _ _ c.loop-round.invariant.goes (works_and g.L.Link.calls _ _ _ _ _ c.in_ok-mend_once.ensures.goes c.keep_marks.ensures.keeps)
 
-pub settle-requires-clause-nothing : goal.settle-requires-clause-nothing
-settle-requires-clause-nothing g c =
+pub keep_marks-requires-clause-tidy : goal.keep_marks-requires-clause-tidy
+keep_marks-requires-clause-tidy g c =
     let calls : List LinkCall = g.L.Link.calls c.mend_once.new.work.link.now in
-    subst (λ (p : Plan). MendsNothing p (seen c.mend_once.new.self)) (sym c.in_ok-mend_once.ensures.goes.keeps.plan)
+    subst (λ (p : Plan). IsTidy p (seen c.mend_once.new.self) c.none.result) (sym c.in_ok-mend_once.ensures.goes.keeps.plan)
+    (tidy_mended c.loop-round.self.plan (seen c.mend_once.new.self) c.none.result
     (round_nothing c.loop-round.self.plan (told_by calls) (seen c.mend_once.new.self) calls c.mend_once.new.work.effects.now.list (at_work g.L.Link.calls c.loop-round.self c.loop-round.work) c.in_ok-mend_once.field-0
-    (subst IsChecked (sym c.loop-round.invariant.goes.keeps.plan) (subst (λ (n : EdgeLists). IsChecked n.plan) c.self.view_is c.self.invariant.checked)) (c.in_ok-mend_once.ensures.step (told_by calls) (agrees_itself calls)) c.if-not-branch.true)
+    (subst IsChecked (sym c.loop-round.invariant.goes.keeps.plan) (subst (λ (n : EdgeLists). IsChecked n.plan) c.self.view_is c.self.invariant.checked)) (c.in_ok-mend_once.ensures.step (told_by calls) (agrees_itself calls)) c.if-not-branch.true))

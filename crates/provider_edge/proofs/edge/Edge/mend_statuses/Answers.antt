@@ -2,7 +2,10 @@ use Rattle.std.proofs.Common.{◌<◌, length, arith}
 use Rattle.edge_model.specs.Mend.{mends_status}
 use Rattle.pw_ends.specs.Ends.{place_of}
 use Rattle.peer_dialogue.proofs.SpeakerLemmas.{agrees_before}
+use Rattle.peer_dialogue.proofs.AtWorkLemmas.{work_same}
 use Rattle.provider_edge.proofs.AtWorkLemmas.{works_both}
+use Rattle.provider_edge.proofs.ListLemmas.{keeps_same}
+use Rattle.provider_edge.proofs.MarkedLemmas.{statuses_begin, statuses_stop}
 use Rattle.provider_edge.proofs.MendLemmas.{ends_next, ends_past, said_more, within_kept}
 use Rattle.provider_edge.specs.AtWork.{at_work}
 use Rattle.provider_edge.proofs.edge.Edge.mend_statuses.Goals as goal
@@ -26,3 +29,15 @@ returns-clause-step g c = λ told agrees.
 
 pub returns-in_err-failed-clause-goes : goal.returns-in_err-failed-clause-goes
 returns-in_err-failed-clause-goes g c = works_both g.L.Link.calls _ _ _ _ _ _ c.loop-slot.invariant.goes c.mend_status.ensures.goes
+
+pub loop-slot-init : goal.loop-slot-init
+loop-slot-init g c = record {
+  goes = record { keeps = keeps_same c.args.self.now; on = work_same g.L.Link.calls c.args.work.now };
+  places = c.count_ends-slot-end.ensures.places;
+  step = λ told agrees. statuses_begin c.args.self.now told (g.L.Link.calls c.args.work.now.link.now) c.args.work.now.effects.now.list c.args.before c.first_marked-slot.result c.first_marked-slot.ensures;
+}
+
+pub returns-then-is_past-clause-step : goal.returns-then-is_past-clause-step
+returns-then-is_past-clause-step g c = λ told agrees.
+    statuses_stop c.args.self.now c.loop-slot.self told (g.L.Link.calls c.loop-slot.work.link.now) c.loop-slot.work.effects.now.list c.loop-slot.failed c.loop-slot.slot _ c.loop-slot.invariant.goes.keeps
+    (c.is_past.ensures c.if-is_past.true) (c.loop-slot.invariant.step told agrees)

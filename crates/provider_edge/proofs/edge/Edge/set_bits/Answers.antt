@@ -1,12 +1,10 @@
-use Rattle.std.proofs.Common.{◌≡◌, ◌<◌, length, slice_set, sym, subst, arith, false}
-use Rattle.edge_model.specs.State.{with_bits}
-use Rattle.provider_edge.specs.contracts.edge.Edge.{the_view}
-use Rattle.provider_edge.proofs.ListLemmas.{seen_bits}
-use Rattle.provider_edge.specs.Lists.{EdgeLists, seen}
+use Rattle.std.proofs.Common.{subst, sym}
+use Rattle.provider_edge.proofs.SettledLemmas.{IsBesides, besides_bits}
+use Rattle.provider_edge.proofs.MarkedLemmas.{besides_kept}
+use Rattle.provider_edge.specs.Lists.{seen}
 use Rattle.provider_edge.proofs.edge.Edge.set_bits.Goals as goal
 
-pub returns-clause-step : goal.returns-clause-step
-returns-clause-step c =
-    let within : c.args.wire.0 < length (the_view c.self.inside).plan.wires = subst (λ (n : EdgeLists). c.args.wire.0 < length n.plan.wires) (sym c.self.view_is) c.requires.within in
-    subst (λ (n : EdgeLists). seen (record (the_view c.self.inside) { bits = slice_set (the_view c.self.inside).bits c.args.wire.0 c.args.bits; mended = false }) ≡ with_bits c.args.wire c.args.bits (seen n)) c.self.view_is
-    (seen_bits (the_view c.self.inside) c.args.wire c.args.bits (omega (arith, within, c.self.invariant.each_bits)))
+pub keep_marks-requires-clause-tidy : goal.keep_marks-requires-clause-tidy
+keep_marks-requires-clause-tidy c =
+    besides_kept c.args.self.now c.put_bits.new.self c.args.wire.0 c.marks_at-marks.result c.put_bits.ensures.keeps c.marks_at-marks.ensures
+    (subst (IsBesides c.args.wire.0 (seen c.args.self.now)) (sym c.put_bits.ensures.step) (besides_bits c.args.wire c.args.bits (seen c.args.self.now)))

@@ -1,14 +1,12 @@
-use Rattle.std.proofs.Common.{◌≡◌, ◌<◌, ◌∙◌, length, ap, sym, subst, arith, false}
-use Rattle.edge_model.specs.State.{put_at, with_chosen}
-use Rattle.provider_edge.specs.contracts.edge.Edge.{the_view}
-use Rattle.provider_edge.proofs.ListLemmas.{seen_chosen}
-use Rattle.provider_edge.specs.Lists.{EdgeLists, seen}
-use Rattle.provider_edge.specs.Spokes.{SpokeLists}
+use Rattle.std.proofs.Common.{sym}
+use Rattle.provider_edge.proofs.MarkedLemmas.{chosen_kept}
+use Rattle.provider_edge.proofs.SettledLemmas.{chosen_already}
+use Rattle.provider_edge.specs.Lists.{seen}
 use Rattle.provider_edge.proofs.edge.Edge.set_chosen.Goals as goal
 
-pub returns-clause-step : goal.returns-clause-step
-returns-clause-step c =
-    let within : c.args.service < length (the_view c.self.inside).plan.services = subst (λ (n : EdgeLists). c.args.service < length n.plan.services) (sym c.self.view_is) c.requires.within in
-    subst (λ (n : EdgeLists). seen (record (the_view c.self.inside) { spokes = c.choose.new.self; mended = false }) ≡ with_chosen (put_at (seen n).chosen c.args.service c.args.chosen) (seen n)) c.self.view_is
-    (ap (λ (s : SpokeLists). seen (record (the_view c.self.inside) { spokes = s; mended = false })) c.choose.ensures
-    ∙ seen_chosen (the_view c.self.inside) c.args.service c.args.chosen (omega (arith, within, c.self.invariant.spokes.chosen)))
+pub keep_marks-requires-clause-tidy : goal.keep_marks-requires-clause-tidy
+keep_marks-requires-clause-tidy c =
+    chosen_kept c.args.self.now c.put_chosen.new.self c.args.service c.args.chosen c.marks_of-marks.result c.put_chosen.ensures.keeps c.marks_of-marks.ensures c.requires.chosen c.put_chosen.ensures.step
+
+pub returns-then-has_choice-clause-step : goal.returns-then-has_choice-clause-step
+returns-then-has_choice-clause-step c = sym (chosen_already c.args.service c.args.chosen (seen c.args.self.now) (c.has_choice.ensures c.if-has_choice.true))

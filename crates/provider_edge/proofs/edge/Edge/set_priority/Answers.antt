@@ -1,12 +1,10 @@
-use Rattle.std.proofs.Common.{◌≡◌, ◌<◌, length, slice_set, sym, subst, arith, false}
-use Rattle.edge_model.specs.State.{with_priority}
-use Rattle.provider_edge.specs.contracts.edge.Edge.{the_view}
-use Rattle.provider_edge.proofs.ListLemmas.{seen_priority}
-use Rattle.provider_edge.specs.Lists.{EdgeLists, seen}
+use Rattle.std.proofs.Common.{subst, sym}
+use Rattle.provider_edge.proofs.SettledLemmas.{IsBesides, besides_priority}
+use Rattle.provider_edge.proofs.MarkedLemmas.{besides_kept}
+use Rattle.provider_edge.specs.Lists.{seen}
 use Rattle.provider_edge.proofs.edge.Edge.set_priority.Goals as goal
 
-pub returns-clause-step : goal.returns-clause-step
-returns-clause-step c =
-    let within : c.args.wire.0 < length (the_view c.self.inside).plan.wires = subst (λ (n : EdgeLists). c.args.wire.0 < length n.plan.wires) (sym c.self.view_is) c.requires.within in
-    subst (λ (n : EdgeLists). seen (record (the_view c.self.inside) { priorities = slice_set (the_view c.self.inside).priorities c.args.wire.0 c.args.priority; mended = false }) ≡ with_priority c.args.wire c.args.priority (seen n)) c.self.view_is
-    (seen_priority (the_view c.self.inside) c.args.wire c.args.priority (omega (arith, within, c.self.invariant.priorities)))
+pub keep_marks-requires-clause-tidy : goal.keep_marks-requires-clause-tidy
+keep_marks-requires-clause-tidy c =
+    besides_kept c.args.self.now c.put_priority.new.self c.args.wire.0 c.marks_at-marks.result c.put_priority.ensures.keeps c.marks_at-marks.ensures
+    (subst (IsBesides c.args.wire.0 (seen c.args.self.now)) (sym c.put_priority.ensures.step) (besides_priority c.args.wire c.args.priority (seen c.args.self.now)))

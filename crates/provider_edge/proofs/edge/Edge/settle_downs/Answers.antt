@@ -1,5 +1,6 @@
 use Rattle.std.proofs.Common.{◌<◌, length, arith}
-use Rattle.provider_edge.proofs.ListLemmas.{keeps_both}
+use Rattle.provider_edge.proofs.ListLemmas.{keeps_both, keeps_same}
+use Rattle.provider_edge.proofs.MarkedLemmas.{settles_begin, settles_stop}
 use Rattle.provider_edge.proofs.MendLemmas.{settles_end, settles_next, within_kept}
 use Rattle.provider_edge.proofs.edge.Edge.settle_downs.Goals as goal
 
@@ -18,3 +19,14 @@ loop-slot-preserved c = record {
 pub returns-clause-step : goal.returns-clause-step
 returns-clause-step c = λ calls.
     settles_end c.args.self.now c.loop-slot.slot _ _ c.loop-slot.invariant.places (omega (arith, c.loop-slot-test.false, c.count_ends-slot-end.ensures.count)) (c.loop-slot.invariant.step calls)
+
+pub loop-slot-init : goal.loop-slot-init
+loop-slot-init c = record {
+  keeps = keeps_same c.args.self.now;
+  places = c.count_ends-slot-end.ensures.places;
+  step = λ calls. settles_begin c.args.self.now calls c.args.out.now c.first_marked-slot.result c.first_marked-slot.ensures;
+}
+
+pub returns-then-is_past-clause-step : goal.returns-then-is_past-clause-step
+returns-then-is_past-clause-step c = λ calls.
+    settles_stop c.args.self.now c.loop-slot.self calls c.loop-slot.out c.loop-slot.slot _ c.loop-slot.invariant.keeps (c.is_past.ensures c.if-is_past.true) (c.loop-slot.invariant.step calls)

@@ -30,6 +30,6 @@ returns-clause-taken c =
 
 pub returns-clause-step : goal.returns-clause-step
 returns-clause-step c =
-    subst (λ (n : EdgeLists). seen (record (the_view c.self.inside) { peerings = slice_set (the_view c.self.inside).peerings c.args.peer.0 c.take.new.self; mended = false }) ≡ with_peering c.args.peer None (seen n)) c.self.view_is
+    subst (λ (n : EdgeLists). seen (record (the_view c.self.inside) { peerings = slice_set (the_view c.self.inside).peerings c.args.peer.0 c.take.new.self; marks = None }) ≡ with_peering c.args.peer None (seen n)) c.self.view_is
     (seen_put (the_view c.self.inside) c.args.peer c.take.new.self (omega (arith, c.if-peer-len.false, c.len.ensures))
     ∙ ap (λ k. with_peering c.args.peer (k) (seen (the_view c.self.inside))) c.take.ensures.after)

@@ -1,13 +1,11 @@
-use Rattle.std.proofs.Common.{◌≡◌, subst, false}
-use Rattle.pw_signalling.specs.Rows.{telling}
-use Rattle.edge_model.specs.Mend.{telling_status}
+use Rattle.edge_model.specs.State.{end_at}
 use Rattle.pw_ends.specs.Ends.{place_of}
-use Rattle.provider_edge.specs.contracts.edge.Edge.{the_view}
-use Rattle.provider_edge.proofs.ListLemmas.{ends_at}
-use Rattle.provider_edge.specs.Lists.{EdgeLists, seen}
+use Rattle.pw_signalling.specs.Rows.{telling}
+use Rattle.provider_edge.proofs.MarkedLemmas.{ended_kept}
+use Rattle.provider_edge.specs.Lists.{seen}
 use Rattle.provider_edge.proofs.edge.Edge.tell.Goals as goal
 
-pub returns-clause-step : goal.returns-clause-step
-returns-clause-step c =
-    subst (λ (n : EdgeLists). seen (record (the_view c.self.inside) { ends = c.tell.new.self; mended = false }) ≡ telling_status (place_of n.ends c.args.slot) c.args.status (seen n)) c.self.view_is
-    (ends_at (the_view c.self.inside) c.tell.new.self (place_of (the_view c.self.inside).ends c.args.slot) (telling c.args.status) c.tell.ensures.seen c.tell.ensures.next)
+pub keep_marks-requires-clause-tidy : goal.keep_marks-requires-clause-tidy
+keep_marks-requires-clause-tidy c =
+    ended_kept c.args.self.now c.put_tells.new.self (telling c.args.status (end_at (seen c.args.self.now) (place_of c.args.self.now.ends c.args.slot))) (place_of c.args.self.now.ends c.args.slot) c.place_at.result c.marks_at-marks.result
+    c.place_at.ensures.place c.put_tells.ensures.keeps c.marks_at-marks.ensures c.put_tells.ensures.step

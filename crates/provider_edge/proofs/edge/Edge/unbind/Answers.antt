@@ -1,13 +1,9 @@
-use Rattle.std.proofs.Common.{◌≡◌, None, Some, subst, false}
 use Rattle.pw_ends.specs.Ends.{place_of}
 use Rattle.pw_signalling.specs.Rows.{unbound}
-use Rattle.edge_model.specs.Signal.{with_end_changed}
-use Rattle.provider_edge.specs.contracts.edge.Edge.{the_view}
-use Rattle.provider_edge.proofs.ListLemmas.{ends_at}
-use Rattle.provider_edge.specs.Lists.{EdgeLists, seen}
+use Rattle.provider_edge.proofs.MarkedLemmas.{changed_kept}
 use Rattle.provider_edge.proofs.edge.Edge.unbind.Goals as goal
 
-pub returns-clause-step : goal.returns-clause-step
-returns-clause-step c =
-    subst (λ (n : EdgeLists). seen (record (the_view c.self.inside) { ends = c.on_withdraw.new.self; mended = false }) ≡ with_end_changed (unbound None) (Some (place_of n.ends c.args.slot)) (seen n)) c.self.view_is
-    (ends_at (the_view c.self.inside) c.on_withdraw.new.self (place_of (the_view c.self.inside).ends c.args.slot) (unbound None) c.on_withdraw.ensures.seen c.on_withdraw.ensures.next)
+pub keep_marks-requires-clause-tidy : goal.keep_marks-requires-clause-tidy
+keep_marks-requires-clause-tidy c =
+    changed_kept c.args.self.now c.drop_binding.new.self (unbound c.args.label) (place_of c.args.self.now.ends c.args.slot) c.place_at.result c.marks_at-marks.result
+    c.place_at.ensures.place c.drop_binding.ensures.keeps c.marks_at-marks.ensures c.drop_binding.ensures.step

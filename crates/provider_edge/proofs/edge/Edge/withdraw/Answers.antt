@@ -1,13 +1,11 @@
-use Rattle.std.proofs.Common.{◌≡◌, subst, false}
-use Rattle.pw_signalling.specs.Rows.{withdrawn}
-use Rattle.edge_model.specs.Mend.{withdrawing}
+use Rattle.edge_model.specs.State.{end_at}
 use Rattle.pw_ends.specs.Ends.{place_of}
-use Rattle.provider_edge.specs.contracts.edge.Edge.{the_view}
-use Rattle.provider_edge.proofs.ListLemmas.{ends_at}
-use Rattle.provider_edge.specs.Lists.{EdgeLists, seen}
+use Rattle.pw_signalling.specs.Rows.{withdrawn}
+use Rattle.provider_edge.proofs.MarkedLemmas.{ended_kept}
+use Rattle.provider_edge.specs.Lists.{seen}
 use Rattle.provider_edge.proofs.edge.Edge.withdraw.Goals as goal
 
-pub returns-clause-step : goal.returns-clause-step
-returns-clause-step c =
-    subst (λ (n : EdgeLists). seen (record (the_view c.self.inside) { ends = c.withdraw.new.self; mended = false }) ≡ withdrawing (place_of n.ends c.args.slot) (seen n)) c.self.view_is
-    (ends_at (the_view c.self.inside) c.withdraw.new.self (place_of (the_view c.self.inside).ends c.args.slot) (withdrawn) c.withdraw.ensures.seen c.withdraw.ensures.next)
+pub keep_marks-requires-clause-tidy : goal.keep_marks-requires-clause-tidy
+keep_marks-requires-clause-tidy c =
+    ended_kept c.args.self.now c.leave_label.new.self (withdrawn (end_at (seen c.args.self.now) (place_of c.args.self.now.ends c.args.slot))) (place_of c.args.self.now.ends c.args.slot) c.place_at.result c.marks_at-marks.result
+    c.place_at.ensures.place c.leave_label.ensures.keeps c.marks_at-marks.ensures c.leave_label.ensures.step

@@ -1,0 +1,20 @@
+use Rattle.std.proofs.Common.{◌≡◌, subst, ◌∙◌, ap, None}
+use Rattle.net_base.specs.plan.Places.{wire_row}
+use Rattle.edge_model.specs.Mend.{forgetting_wire}
+use Rattle.std.proofs.Common.{◌<◌, length, sym}
+use Rattle.net_base.specs.declared.plan.Plan.{Plan}
+use Rattle.provider_edge.specs.contracts.edge.Edge.{the_view}
+use Rattle.provider_edge.proofs.ForwardLemmas.{holds_forwarding, seen_wire}
+use Rattle.provider_edge.specs.Lists.{EdgeLists, seen}
+use Rattle.provider_edge.proofs.edge.Edge.drop_learned.Goals as goal
+
+pub invariant_of-self : goal.invariant_of-self
+invariant_of-self c = holds_forwarding (the_view c.self.inside) c.forget_wire.new.self c.forget_wire.ensures.keeps (ap (λ (e : EdgeLists). e.stopped) c.self.view_is ∙ c.requires.working) c.self.invariant
+
+pub returns-clause-step : goal.returns-clause-step
+returns-clause-step c =
+    subst (λ (n : EdgeLists). seen (record (the_view c.self.inside) { forwarding = c.forget_wire.new.self; marks = None }) ≡ forgetting_wire n.plan c.args.wire (wire_row n.plan c.args.wire) (seen n)) c.self.view_is
+    (seen_wire (the_view c.self.inside) c.forget_wire.new.self c.args.wire c.self.invariant c.forget_wire.ensures.keeps c.forget_wire.ensures.step)
+
+pub forget_wire-requires : goal.forget_wire-requires
+forget_wire-requires c = subst (λ (p : Plan). c.args.wire.0 < length p.wires) (sym c.self.invariant.plan) (subst (λ (n : EdgeLists). c.args.wire.0 < length n.plan.wires) (sym c.self.view_is) c.requires.within)
