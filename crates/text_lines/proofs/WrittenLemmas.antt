@@ -31,6 +31,16 @@ appends_none (Some before) = ap Some (sym (append-nil before))
 pub goes_none : (w : Written) → GoesOn w w []
 goes_none w = record { gained = []; taken = appends_none w.taken; text = sym (append-nil w.waiting); faults = omega arith; still = λ none. (refl, refl) }
 
+-- octets wait behind what does
+pub goes_waiting : (a : Written) (waiting octets : List ℕ) → waiting ≡ a.waiting ++ octets → GoesOn a (record { taken = a.taken; faults = a.faults; waiting = waiting }) octets
+goes_waiting a waiting octets waits = record {
+  gained = [];
+  taken = appends_none a.taken;
+  text = waits;
+  faults = omega arith;
+  still = λ none. (refl, waits ∙ (ap (λ (l : List ℕ). a.waiting ++ l) none ∙ append-nil a.waiting));
+}
+
 none_both : (first second : List ℕ) → first ++ second ≡ [] → (first ≡ []) × (second ≡ [])
 none_both [] second e = (refl, e)
 none_both (x ∷ first) second e = cc e

@@ -1,5 +1,5 @@
 //! Pages.
-ghost use Rattle.std.specs.Prelude.{◌≡◌, ◌<◌, ◌≤◌, ◌++◌, ◌∷◌, [], codes, length, take, map, IfOk, OnOk, OnErr};
+ghost use Rattle.std.specs.Prelude.{◌≡◌, ◌<◌, ◌≤◌, ◌+◌, ◌++◌, ◌∷◌, [], codes, length, take, map, IfOk, OnOk, OnErr};
 ghost use Rattle.std.specs.Fmt.{decimal};
 ghost use Rattle.text_pieces.specs.Pieces.{hex, spaced};
 ghost use Rattle.text_lines.specs.Lines.{line_octets, word_octets};
@@ -103,7 +103,44 @@ impl Page {
     }
 
     /// Puts octets: they wait, or are written with all that waits. After `Failed` a front of what waited and of them was taken.
+    #[inline(always)]
+    #[tactic(auto, using(crate::proofs::WrittenLemmas::goes_waiting))]
     pub fn put<K: Sink>(&mut self, sink: &mut K, octets: &[u8]) -> Result<(), Failed>
+        ensures { Puts result (written (K.taken sink.old) (K.faults sink.old) self.old) (written (K.taken sink.new) (K.faults sink.new) self.new) octets.now }
+    {
+        if octets.len() <= ROOM - self.octets.len() {
+            self.wait(octets);
+            return Ok(());
+        }
+        self.put_over(sink, octets)
+    }
+
+    // Lets octets wait, for which there is room.
+    #[inline(always)]
+    fn wait(&mut self, octets: &[u8])
+        requires room { length self.old + length octets.now ≤ 65536 }
+        ensures { self.new ≡ self.old ++ octets.now }
+    {
+        self.octets.extend_from_slice(octets).unwrap();
+    }
+
+    // Puts one octet.
+    #[inline(always)]
+    #[tactic(auto, using(crate::proofs::WrittenLemmas::goes_waiting))]
+    fn put_octet<K: Sink>(&mut self, sink: &mut K, octet: u8) -> Result<(), Failed>
+        ensures { Puts result (written (K.taken sink.old) (K.faults sink.old) self.old) (written (K.taken sink.new) (K.faults sink.new) self.new) (octet ∷ []) }
+    {
+        if self.octets.len() < ROOM {
+            self.octets.push_reserved(octet);
+            return Ok(());
+        }
+        self.put_over(sink, &[octet])
+    }
+
+    // Puts octets for which there may be no room. Most octets find room, so this stands apart.
+    #[cold]
+    #[inline(never)]
+    fn put_over<K: Sink>(&mut self, sink: &mut K, octets: &[u8]) -> Result<(), Failed>
         ensures { Puts result (written (K.taken sink.old) (K.faults sink.old) self.old) (written (K.taken sink.new) (K.faults sink.new) self.new) octets.now }
     {
         let mut at = 0;
@@ -145,7 +182,7 @@ impl Page {
         ensures { Puts result (written (K.taken sink.old) (K.faults sink.old) self.old) (written (K.taken sink.new) (K.faults sink.new) self.new) (decimal number) }
     {
         if number < 10 {
-            return self.put(sink, &[b'0' + number as u8]);
+            return self.put_octet(sink, b'0' + number as u8);
         }
         let mut buffer = Buffer::new();
         self.put(sink, buffer.format(number).as_bytes())
@@ -196,7 +233,7 @@ impl Page {
     fn put_behind<K: Sink>(&mut self, sink: &mut K, word: Word<'_>) -> Result<(), Failed>
         ensures { Puts result (written (K.taken sink.old) (K.faults sink.old) self.old) (written (K.taken sink.new) (K.faults sink.new) self.new) (codes " " ++ word_octets word.entry) }
     {
-        match self.put(sink, b" ") {
+        match self.put_octet(sink, b' ') {
             Ok(()) => self.put_word(sink, word),
             Err(fault) => Err(fault),
         }
@@ -218,7 +255,7 @@ impl Page {
         ensures { Puts result (written (K.taken sink.old) (K.faults sink.old) self.old) (written (K.taken sink.new) (K.faults sink.new) self.new) (spaced (map word_octets words.now) ++ codes "\n") }
     {
         match self.put_words(sink, words) {
-            Ok(()) => self.put(sink, b"\n"),
+            Ok(()) => self.put_octet(sink, b'\n'),
             Err(fault) => Err(fault),
         }
     }

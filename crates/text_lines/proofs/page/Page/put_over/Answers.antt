@@ -4,7 +4,7 @@ use Rattle.std.proofs.lemmas.Grind.{common_steps}
 use Rattle.std.proofs.lemmas.List.{append-nil, drop-drop}
 use Rattle.text_lines.specs.Written.{GoesOn}
 use Rattle.text_lines.proofs.WrittenLemmas.{putting_cut, putting_more}
-use Rattle.text_lines.proofs.page.Page.put.Goals as goal
+use Rattle.text_lines.proofs.page.Page.put_over.Goals as goal
 
 pub returns-in_err-at : goal.returns-in_err-at
 returns-in_err-at g c =
