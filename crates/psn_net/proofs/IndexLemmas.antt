@@ -1,16 +1,17 @@
--- An index of what may be delivered: it begins without a mark, and is made anew for the edges that were set to work.
-use Rattle.std.proofs.Common.{◌≡◌, ◌==◌, ◌<◌, ◌≤◌, ◌+◌, ◌&&◌, ◌||◌, ◌∙◌, ◌≢◌, subst, ℕ, zero, suc, Bool, true, false, not, List, Option, Some, None, cond, refl, ap, sym, arith, nat_eq, nat_lt, length, replicate, slice_index_or, slice_set, [], ◌∷◌, inl, inr}
+-- An index of what may be delivered: it begins without a mark, and is made anew for the pairs that an event may have changed.
+use Rattle.std.proofs.Common.{◌≡◌, ◌==◌, ◌<◌, ◌≤◌, ◌+◌, ◌&&◌, ◌||◌, ◌∙◌, subst, ℕ, zero, suc, Bool, true, false, List, cond, refl, ap, sym, arith, nat_eq, nat_lt, length, replicate, slice_index_or, [], ◌∷◌}
 use Rattle.std.proofs.lemmas.Bool.Decides.{nat_tests}
-use Rattle.std.proofs.lemmas.Bool.{cases_Bool}
-use Rattle.std.proofs.lemmas.List.{get_or-set_other, get_or-set_same, length-replicate}
-use Rattle.net_base.specs.declared.plan.circuit_plan.CircuitPlan.{CircuitPlan}
+use Rattle.std.proofs.lemmas.List.{length-replicate}
+use Rattle.net_base.specs.declared.trace.entry.Entry.{Entry}
 use Rattle.net_base.specs.declared.plan.places.EdgeId.{EdgeId}
+use Rattle.net_base.specs.declared.trace.event.Event.{Event}
+use Rattle.net_base.specs.declared.trace.event.Event.TheVariants.{Deliver, Restart}
 use Rattle.network_model.specs.Connection.{is_deliverable}
 use Rattle.network_model.specs.Delivery.{first_pair}
 use Rattle.network_model.specs.State.{NetworkState, empty_network}
-use Rattle.psn_net.specs.DeliveryIndex.{HasMarkedPair, IsIndexed, IsIndexedBeside, IsMarked, IsMarkedTo, is_at_edge}
+use Rattle.psn_net.specs.DeliveryIndex.{AreMarkedAnew, HasMarkedPair, IsIndexed, IsIndexedBeside, IsMarked, IsMarkedTo, is_pair, is_set, is_told, is_told_by, is_with, may_change}
 use Rattle.psn_net.specs.PairIndex.{IndexLists, IsClear, IsWithin, has_mark, in_word, put_pair}
-use Rattle.psn_net.specs.Lists.{NetLists, edge_of, seen}
+use Rattle.psn_net.specs.Lists.{NetLists, seen}
 use Rattle.psn_net.proofs.PairLemmas.{same_pair}
 use Rattle.psn_net.proofs.WordLemmas.{none_in_zero}
 
@@ -29,35 +30,6 @@ pub cleared_within : (words : List ℕ) (n : ℕ) → n ≤ 64 → words ≡ rep
 cleared_within words n few is =
     let long : length words ≡ n = ap length is ∙ length-replicate n zero in
     record { few = omega (arith, long, few); each = λ from to l. (cleared words n is).each from to }
-
--- the words before a place have been cleared
-pub set_cleared : (words : List ℕ) (place i : ℕ) → place < length words → ((i : ℕ) → i < place → slice_index_or words i 0 ≡ 0) → i < place + 1 → slice_index_or (slice_set words place 0) i 0 ≡ 0
-set_cleared words place i within before less = elim (cases_Bool (i == place)) [
-  | inl same ↦ at_place (equal same)
-  | inr apart ↦ get_or-set_other words place i 0 0 (unequal apart) ∙ before i (omega (arith, less, unequal apart))
-]
-  where
-    equal : (i == place) ≡ true → i ≡ place
-    equal same = grind (arith, nat_tests)
-
-    unequal : (i == place) ≡ false → i ≢ place
-    unequal apart = grind (arith, nat_tests)
-
-    at_place : i ≡ place → slice_index_or (slice_set words place 0) i 0 ≡ 0
-    at_place same = rw same (get_or-set_same words place 0 0 within)
-
-pub words_cleared : (words : List ℕ) (place : ℕ) → length words ≤ place → ((i : ℕ) → i < place → slice_index_or words i 0 ≡ 0) → IsClear words
-words_cleared words place all before = record { each = λ from to. ap (λ word. in_word word to) (zero_in from) ∙ none_in_zero to } where
-  past : (words : List ℕ) (from : ℕ) → length words ≤ from → slice_index_or words from 0 ≡ 0
-  past [] from long = refl
-  past (w ∷ ws) zero long = absurd (omega (arith, long))
-  past (w ∷ ws) (suc from) long = past ws from (omega (arith, long))
-
-  zero_in : (from : ℕ) → slice_index_or words from 0 ≡ 0
-  zero_in from = elim (cases_Bool (nat_lt from place)) [
-    | inl less ↦ before from (grind (arith, nat_tests))
-    | inr more ↦ past words from (grind (arith, nat_tests, all))
-  ]
 
 -- ---- the marks of one edge are made anew
 
@@ -94,62 +66,65 @@ pub ruleset mark_steps = (marked_none, marked_more, marked_all)
 
 -- ---- the marks that are made anew are right
 
-pub fresh : (n : NetLists) (index : IndexLists) → IsIndexedBeside n index (λ k. false) → IsIndexed n index
-fresh n index beside = record { each = λ i j a b. beside.each i j a b refl refl }
+pub marked_nowhere : (n : NetLists) (index : IndexLists) → AreMarkedAnew n (λ i j. false) index index
+marked_nowhere n index = record { each = λ i j a b. refl }
 
-anew : (n : NetLists) (me : ℕ) (old new : IndexLists) (i j : ℕ) → IsMarked n me old new → i < length n.plan.edges → j < length n.plan.edges
-    → has_mark new i j ≡ cond (nat_eq i me || nat_eq j me) (is_deliverable (seen n) i j) (has_mark old i j)
-anew n me old new i j marked a b = marked.each i j ∙ by (nat_eq i me) (nat_eq j me) (nat_lt j (length n.plan.edges)) (nat_lt i (length n.plan.edges)) (grind (arith, nat_tests, b)) (grind (arith, nat_tests, a)) where
-  by : (p q x y : Bool) → x ≡ true → y ≡ true → cond ((p && x) || (q && y)) (is_deliverable (seen n) i j) (has_mark old i j) ≡ cond (p || q) (is_deliverable (seen n) i j) (has_mark old i j)
-  by true q x y e f = rw e refl
-  by false true x y e f = rw f refl
-  by false false x y e f = refl
+-- two edges
+pub marked_two : (n : NetLists) (me other : ℕ) (old new : IndexLists) → HasMarkedPair n me other old new → AreMarkedAnew n (λ i j. is_pair me other i j) old new
+marked_two n me other old new pair = record { each = λ i j a b. ap (λ (f : ℕ → ℕ → Bool). f i j) pair.is ∙ at_each (is_deliverable (seen n)) (has_mark old) i j } where
+  at_each : (test marks : ℕ → ℕ → Bool) (i j : ℕ) → put_pair other me (test other me) (put_pair me other (test me other) marks) i j ≡ cond (is_pair me other i j) (test i j) (marks i j)
+  at_each test marks i j = grind (arith, nat_tests)
 
--- an index that is right beside these and an edge is right beside these, once that edge's marks are made anew
-right_at : (x y fit old now : Bool) → ((x ≡ false) → (y ≡ false) → old ≡ fit) → now ≡ cond (x || y) fit old → now ≡ fit
-right_at true y fit old now h e = e
-right_at false true fit old now h e = e
-right_at false false fit old now h e = e ∙ h refl refl
+-- two edges, one of which the plan does not have
+pub marked_past : (n : NetLists) (me other : ℕ) (index : IndexLists) → length n.plan.edges ≤ me → AreMarkedAnew n (is_pair me other) index index
+marked_past n me other index past = record { each = λ i j a b. at_each i j (is_deliverable (seen n) i j) (has_mark index i j) a b } where
+  at_each : (i j : ℕ) (fit mark : Bool) → i < length n.plan.edges → j < length n.plan.edges → mark ≡ cond (is_pair me other i j) fit mark
+  at_each i j fit mark a b = grind (arith, nat_tests, past, a, b)
 
-pub marked_one : (n : NetLists) (old new : IndexLists) (me : ℕ) → IsIndexedBeside n old (λ k. nat_eq k me) → IsMarked n me old new → IsIndexed n new
-marked_one n old new me beside marked = record {
-  each = λ i j a b. right_at (nat_eq i me) (nat_eq j me) (is_deliverable (seen n) i j) (has_mark old i j) (has_mark new i j) (λ p q. beside.each i j a b p q) (anew n me old new i j marked a b);
-}
+pub marked_past_other : (n : NetLists) (me other : ℕ) (index : IndexLists) → length n.plan.edges ≤ other → AreMarkedAnew n (is_pair me other) index index
+marked_past_other n me other index past = record { each = λ i j a b. at_each i j (is_deliverable (seen n) i j) (has_mark index i j) a b } where
+  at_each : (i j : ℕ) (fit mark : Bool) → i < length n.plan.edges → j < length n.plan.edges → mark ≡ cond (is_pair me other i j) fit mark
+  at_each i j fit mark a b = grind (arith, nat_tests, past, a, b)
 
-both_false : (x y : Bool) → x ≡ false → y ≡ false → x || y ≡ false
-both_false x y p q = rw (p, q) refl
-
-pub marked_first : (n : NetLists) (old new : IndexLists) (me other : ℕ) → IsIndexedBeside n old (λ k. nat_eq k me || nat_eq k other) → IsMarked n me old new → IsIndexedBeside n new (λ k. nat_eq k other)
-marked_first n old new me other beside marked = record {
-  each = λ i j a b p q. right_at (nat_eq i me) (nat_eq j me) (is_deliverable (seen n) i j) (has_mark old i j) (has_mark new i j)
-      (λ x y. beside.each i j a b (both_false (nat_eq i me) (nat_eq i other) x p) (both_false (nat_eq j me) (nat_eq j other) y q)) (anew n me old new i j marked a b);
-}
-
--- the edges from a place on
-pub from_none : (n : NetLists) (index : IndexLists) → IsIndexedBeside n index (λ k. not (nat_lt k 0))
-from_none n index = record { each = λ i j a b p q. absurd (wrong i p) } where
-  wrong : (i : ℕ) → not (nat_lt i 0) ≡ false → ⊥
-  wrong i p = grind (arith, nat_tests, p)
-
-pub from_more : (n : NetLists) (old new : IndexLists) (place : ℕ) → IsIndexedBeside n old (λ k. not (nat_lt k place)) → IsMarked n place old new → IsIndexedBeside n new (λ k. not (nat_lt k (place + 1)))
-from_more n old new place beside marked = record {
-  each = λ i j a b p q. right_at (nat_eq i place) (nat_eq j place) (is_deliverable (seen n) i j) (has_mark old i j) (has_mark new i j)
-      (λ x y. beside.each i j a b (before i x p) (before j y q)) (anew n place old new i j marked a b);
+-- an edge and each other one
+pub marked_each : (n : NetLists) (me : ℕ) (old new : IndexLists) → IsMarked n me old new → AreMarkedAnew n (λ i j. is_with me i j) old new
+marked_each n me old new marked = record {
+  each = λ i j a b. marked.each i j ∙ by (nat_eq i me) (nat_eq j me) (nat_lt j (length n.plan.edges)) (nat_lt i (length n.plan.edges)) (is_deliverable (seen n) i j) (has_mark old i j)
+      (grind (arith, nat_tests, b)) (grind (arith, nat_tests, a));
 } where
-  before : (i : ℕ) → nat_eq i place ≡ false → not (nat_lt i (place + 1)) ≡ false → not (nat_lt i place) ≡ false
-  before i x p = grind (arith, nat_tests, x, p)
+  by : (p q x y fit mark : Bool) → x ≡ true → y ≡ true → cond ((p && x) || (q && y)) fit mark ≡ cond (p || q) fit mark
+  by true q x y fit mark e f = rw e refl
+  by false true x y fit mark e f = rw f refl
+  by false false x y fit mark e f = refl
 
-pub from_all : (n : NetLists) (index : IndexLists) (place : ℕ) → length n.plan.edges ≤ place → IsIndexedBeside n index (λ k. not (nat_lt k place)) → IsIndexed n index
-from_all n index place all beside = record { each = λ i j a b. beside.each i j a b (before i a) (before j b) } where
-  before : (i : ℕ) → i < length n.plan.edges → not (nat_lt i place) ≡ false
-  before i a = grind (arith, nat_tests, a, all)
+-- what a delivery sets, and a restart
+pub marked_delivery : (n : NetLists) (event : Event) (from to : EdgeId) (count : ℕ) (old new : IndexLists) → event ≡ Deliver from to count → HasMarkedPair n from.0 to.0 old new → AreMarkedAnew n (is_set event) old new
+marked_delivery n event from to count old new is pair = subst (λ (e : Event). AreMarkedAnew n (is_set e) old new) (sym is) (record { each = (marked_two n from.0 to.0 old new pair).each })
 
--- the edge of a circuit
-pub marked_circuit : (n : NetLists) (old new : IndexLists) (row : Option CircuitPlan) (me : EdgeId) → edge_of row ≡ Some me → IsIndexedBeside n old (is_at_edge row) → IsMarked n me.0 old new → IsIndexed n new
-marked_circuit n old new None me at beside marked = absurd (cc (at))
-marked_circuit n old new (Some row) me at beside marked =
-    let same : row.edge ≡ me = cc (at) in
-    marked_one n old new me.0 (record { each = λ i j a b p q. beside.each i j a b (ap (λ (e : EdgeId). nat_eq i e.0) same ∙ p) (ap (λ (e : EdgeId). nat_eq j e.0) same ∙ q) }) marked
+pub marked_restart : (n : NetLists) (event : Event) (me : EdgeId) (old new : IndexLists) → event ≡ Restart me → IsMarked n me.0 old new → AreMarkedAnew n (is_set event) old new
+marked_restart n event me old new is marked = subst (λ (e : Event). AreMarkedAnew n (is_set e) old new) (sym is) (record { each = (marked_each n me.0 old new marked).each })
+
+-- an index that is right beside these pairs and others is right beside the others, once the marks of these are made anew
+marked_some : (n : NetLists) (these others : ℕ → ℕ → Bool) (old new : IndexLists) → IsIndexedBeside n old (λ i j. these i j || others i j) → AreMarkedAnew n these old new → IsIndexedBeside n new others
+marked_some n these others old new beside marked = record {
+  each = λ i j a b h. marked.each i j a b ∙ by (these i j) (others i j) (is_deliverable (seen n) i j) (has_mark old i j) h (beside.each i j a b);
+} where
+  by : (x y fit mark : Bool) → y ≡ false → (x || y ≡ false → mark ≡ fit) → cond x fit mark ≡ fit
+  by true y fit mark h right = refl
+  by false y fit mark h right = right h
+
+-- what an event sets
+pub event_marked : (n : NetLists) (event : Event) (entries : List Entry) (old new : IndexLists) → IsIndexedBeside n old (may_change event entries) → AreMarkedAnew n (is_set event) old new
+    → IsIndexedBeside n new (is_told entries)
+event_marked n event entries old new beside marked = marked_some n (is_set event) (is_told entries) old new beside marked
+
+-- and what its entries tell, one by one
+pub entry_marked : (n : NetLists) (entry : Entry) (rest : List Entry) (old new : IndexLists) → IsIndexedBeside n old (is_told (entry ∷ rest)) → AreMarkedAnew n (is_told_by entry) old new
+    → IsIndexedBeside n new (is_told rest)
+entry_marked n entry rest old new beside marked = marked_some n (is_told_by entry) (is_told rest) old new beside marked
+
+pub entries_end : (n : NetLists) (index : IndexLists) → IsIndexedBeside n index (is_told []) → IsIndexed n index
+entries_end n index beside = record { each = λ i j a b. beside.each i j a b refl }
 
 -- ---- what the index finds
 
@@ -159,26 +134,11 @@ found_first n index size e indexed =
     ap (λ (k : ℕ). first_pair (has_mark index) k 0 k) e
     ∙ same_pair (has_mark index) (is_deliverable (seen n)) (length n.plan.edges) 0 (length n.plan.edges) (omega arith) indexed.each
 
-pub ruleset all_steps = (from_none, from_more, from_all)
+pub ruleset set_steps = (marked_nowhere, marked_restart)
 
-pub ruleset marking_steps = (fresh, marked_one, marked_first, marked_circuit)
+pub ruleset known_steps = (marked_past, marked_past_other)
 
--- what holds before a place, and at it
-pub before_more : (P : ℕ → Type 0) (place : ℕ) → ((i : ℕ) → i < place → P i) → P place → (i : ℕ) → i < place + 1 → P i
-before_more P place before here i less = elim (cases_Bool (i == place)) [
-  | inl same ↦ subst P (sym (equal same)) here
-  | inr apart ↦ before i (omega (arith, less, unequal apart))
-]
-  where
-    equal : (i == place) ≡ true → i ≡ place
-    equal same = grind (arith, nat_tests)
-
-    unequal : (i == place) ≡ false → i ≢ place
-    unequal apart = grind (arith, nat_tests)
-
--- where nothing may be delivered no mark is right
-pub indexed_still : (n : NetLists) (index : IndexLists) → ((i j : ℕ) → j < length n.plan.edges → is_deliverable (seen n) i j ≡ false) → IsClear index.rows → IsIndexed n index
-indexed_still n index still clear = record { each = λ i j a b. clear.each i j ∙ sym (still i j b) }
+pub ruleset entry_steps = (entry_marked, entries_end)
 
 -- before the first event nothing may be delivered
 pub indexed_first : (n : NetLists) (index : IndexLists) → seen n ≡ empty_network n.plan → IsClear index.rows → IsIndexed n index

@@ -14,6 +14,7 @@ pub mod PacketLemmas
 pub mod PairLemmas
 pub mod PipeLemmas
 pub mod RunLemmas
+pub mod TellingLemmas
 pub mod TickLemmas
 pub mod UnderWayLemmas
 pub mod WeightLemmas

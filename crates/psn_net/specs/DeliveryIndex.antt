@@ -1,10 +1,9 @@
 -- Which edges have something to deliver, as an index of pairs.
-use Rattle.std.specs.Prelude.{◌≡◌, ◌<◌, ◌==◌, ◌&&◌, ◌||◌, nat_lt, ℕ, Bool, true, false, Option, Some, None, length, if◌then◌else◌}
-use Rattle.net_base.specs.declared.plan.Plan.{Plan}
-use Rattle.net_base.specs.declared.plan.circuit_plan.CircuitPlan.{CircuitPlan}
+use Rattle.std.specs.Prelude.{◌≡◌, ◌<◌, ◌==◌, ◌&&◌, ◌||◌, nat_lt, ℕ, Bool, false, List, [], ◌∷◌, length, if◌then◌else◌}
+use Rattle.net_base.specs.declared.trace.entry.Entry.{Entry}
+use Rattle.net_base.specs.declared.trace.entry.Entry.TheVariants.{Said, Session}
 use Rattle.net_base.specs.declared.trace.event.Event.{Event}
 use Rattle.net_base.specs.declared.trace.event.Event.TheVariants.{Connect, Deliver, Lose, Restart, Tick, Frame, Arrive, Discard, Again, Wire, Circuit, Status, Priority, Ping}
-use Rattle.net_base.specs.plan.Places.{circuit_row}
 use Rattle.network_model.specs.Connection.{is_deliverable}
 use Rattle.psn_net.specs.Lists.{NetLists, seen}
 use Rattle.psn_net.specs.PairIndex.{IndexLists, has_mark, put_pair}
@@ -13,11 +12,15 @@ use Rattle.psn_net.specs.PairIndex.{IndexLists, has_mark, put_pair}
 pub record IsIndexed (n : NetLists) (index : IndexLists) : Type 0 where
   pub each : (i j : ℕ) → i < length n.plan.edges → j < length n.plan.edges → has_mark index i j ≡ is_deliverable (seen n) i j
 
--- they do between all edges but these
-pub record IsIndexedBeside (n : NetLists) (index : IndexLists) (these : ℕ → Bool) : Type 0 where
-  pub each : (i j : ℕ) → i < length n.plan.edges → j < length n.plan.edges → these i ≡ false → these j ≡ false → has_mark index i j ≡ is_deliverable (seen n) i j
+-- they do for all pairs but these
+pub record IsIndexedBeside (n : NetLists) (index : IndexLists) (these : ℕ → ℕ → Bool) : Type 0 where
+  pub each : (i j : ℕ) → i < length n.plan.edges → j < length n.plan.edges → these i j ≡ false → has_mark index i j ≡ is_deliverable (seen n) i j
 
--- the marks of the pairs of an edge with those before a place were made anew, and the others stay
+-- the marks of these pairs were made anew, and the others stay
+pub record AreMarkedAnew (n : NetLists) (these : ℕ → ℕ → Bool) (old new : IndexLists) : Type 0 where
+  pub each : (i j : ℕ) → i < length n.plan.edges → j < length n.plan.edges → has_mark new i j ≡ (if these i j then is_deliverable (seen n) i j else has_mark old i j)
+
+-- the marks of the pairs of an edge with those before a place were
 pub record IsMarkedTo (n : NetLists) (me place : ℕ) (old new : IndexLists) : Type 0 where
   pub each : (i j : ℕ) → has_mark new i j ≡ (if (i == me && nat_lt j place) || (j == me && nat_lt i place) then is_deliverable (seen n) i j else has_mark old i j)
 
@@ -29,24 +32,44 @@ pub record HasMarkedPair (n : NetLists) (me other : ℕ) (old new : IndexLists) 
 abbrev pub IsMarked : NetLists → ℕ → IndexLists → IndexLists → Type 0
 IsMarked n me old new = IsMarkedTo n me (length n.plan.edges) old new
 
--- ---- which edges an event sets to work
+-- ---- which pairs an event changes
 
-abbrev pub is_at_edge : Option CircuitPlan → ℕ → Bool
-is_at_edge None k = false
-is_at_edge (Some row) k = k == row.edge.0
+-- two edges are these two
+abbrev pub is_pair : ℕ → ℕ → ℕ → ℕ → Bool
+is_pair one other i j = (i == one && j == other) || (i == other && j == one)
 
-abbrev pub sets_to_work : Plan → Event → ℕ → Bool
-sets_to_work plan (Connect from to) k = k == from.0 || k == to.0
-sets_to_work plan (Deliver from to count) k = k == to.0
-sets_to_work plan (Lose me peer) k = k == me.0
-sets_to_work plan (Restart me) k = k == me.0
-sets_to_work plan Tick k = true
-sets_to_work plan (Frame circuit octets) k = is_at_edge (circuit_row plan circuit) k
-sets_to_work plan (Circuit circuit on) k = is_at_edge (circuit_row plan circuit) k
-sets_to_work plan (Wire me wire on) k = k == me.0
-sets_to_work plan (Status me wire bits) k = k == me.0
-sets_to_work plan (Priority me wire priority) k = k == me.0
-sets_to_work plan (Arrive number) k = false
-sets_to_work plan (Discard number) k = false
-sets_to_work plan (Again number) k = false
-sets_to_work plan (Ping me wire) k = false
+-- one of two edges is this one
+abbrev pub is_with : ℕ → ℕ → ℕ → Bool
+is_with me i j = i == me || j == me
+
+-- an entry tells of two edges: one put octets towards the other, or has a session with it in another state
+abbrev pub is_told_by : Entry → ℕ → ℕ → Bool
+is_told_by (Said from to octets) i j = is_pair from.0 to.0 i j
+is_told_by (Session edge peer state) i j = is_pair edge.0 peer.0 i j
+is_told_by entry i j = false
+
+-- one of the entries does
+abbrev pub is_told : List Entry → ℕ → ℕ → Bool
+is_told [] i j = false
+is_told (e ∷ es) i j = is_told_by e i j || is_told es i j
+
+-- what an event changes between two edges although no entry tells of them
+abbrev pub is_set : Event → ℕ → ℕ → Bool
+is_set (Deliver from to count) i j = is_pair from.0 to.0 i j
+is_set (Restart me) i j = is_with me.0 i j
+is_set (Connect from to) i j = false
+is_set (Lose me peer) i j = false
+is_set Tick i j = false
+is_set (Frame circuit octets) i j = false
+is_set (Circuit circuit on) i j = false
+is_set (Wire me wire on) i j = false
+is_set (Status me wire bits) i j = false
+is_set (Priority me wire priority) i j = false
+is_set (Arrive number) i j = false
+is_set (Discard number) i j = false
+is_set (Again number) i j = false
+is_set (Ping me wire) i j = false
+
+-- an event with these entries may change what is to be delivered between two edges
+abbrev pub may_change : Event → List Entry → ℕ → ℕ → Bool
+may_change event entries i j = is_set event i j || is_told entries i j

@@ -90,9 +90,10 @@ impl Network {
         if let Some(stop) = self.parts.refusal(event) {
             return Err(stop);
         }
+        let told = self.parts.trace().len();
         match self.parts.work(alloc, event) {
             Ok(()) => {
-                mark_after(&mut self.index, &self.parts, event);
+                mark_after(&mut self.index, &self.parts, event, told);
                 Ok(())
             }
             Err(NoMemory) => {

@@ -56,14 +56,6 @@ impl PairIndex {
         (self.rows[from] >> to) & 1 == 1
     }
 
-    /// Takes every mark away.
-    pub fn clear(&mut self)
-        ensures size { length self.new.rows ≡ length self.old.rows }
-        ensures none { IsClear self.new.rows }
-    {
-        clear_words(&mut self.rows);
-    }
-
     /// The first pair with a mark, by the first edge and then by the second.
     #[tactic(auto, using(crate::proofs::PairLemmas::pair_steps))]
     pub fn first(&self) -> Option<(usize, usize)>
@@ -86,17 +78,6 @@ impl PairIndex {
         ensures within { IfSome result (λ to. to < length self.now.rows) }
     {
         first_in(self.rows[from], self.rows.len())
-    }
-}
-
-// No bit of any word is on.
-#[tactic(auto, using(crate::proofs::IndexLemmas::words_cleared))]
-fn clear_words(rows: &mut Vec<u64>)
-    ensures size { length rows.new.items ≡ length rows.old.items }
-    ensures none { IsClear rows.new.items }
-{
-    for place in 0..rows.len() {
-        rows[place] = 0;
     }
 }
 

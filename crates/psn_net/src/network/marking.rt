@@ -1,65 +1,83 @@
-//! The index of what may be delivered is kept: of the edges that an event sets to work all pairs are marked anew.
-ghost use Rattle.std.specs.Prelude.{◌≡◌, ◌<◌, length};
+//! The index of what may be delivered is kept: the pairs of edges between which an event may have changed something are marked anew. An
+//! edge tells of each connection of which it changes anything, but for what a delivery takes out of its pipe and for a restart.
+ghost use Rattle.std.specs.Prelude.{◌≡◌, ◌<◌, drop, length};
 ghost use Rattle.net_base.specs.plan.Planned.{IsEventOf};
-ghost use Rattle.psn_net.specs.DeliveryIndex.{HasMarkedPair, IsIndexed, IsIndexedBeside, IsMarked, sets_to_work};
+ghost use Rattle.psn_net.specs.DeliveryIndex.{AreMarkedAnew, HasMarkedPair, IsIndexed, IsIndexedBeside, IsMarked, is_pair, is_set, is_told, is_told_by, may_change};
 
 use crate::pair_index::PairIndex;
 use crate::parts::Parts;
-use net_base::{EdgeId, Event};
+use net_base::{EdgeId, Entry, Event};
 
-// The index after an event.
-#[tactic(auto, using(crate::proofs::IndexLemmas::marking_steps))]
-pub(crate) fn mark_after(index: &mut PairIndex, parts: &Parts, event: &Event)
+// The index after an event, whose entries are those of the trace from a place on.
+#[tactic(auto, using(crate::proofs::IndexLemmas::event_marked))]
+pub(crate) fn mark_after(index: &mut PairIndex, parts: &Parts, event: &Event, told: usize)
     requires event { IsEventOf parts.now.plan event.now }
     requires size { length index.old.rows ≡ length parts.now.plan.edges }
-    requires before { IsIndexedBeside parts.now index.old (sets_to_work parts.now.plan event.now) }
+    requires before { IsIndexedBeside parts.now index.old (may_change event.now (drop told parts.now.trace)) }
     ensures size { length index.new.rows ≡ length index.old.rows }
     ensures after { IsIndexed parts.now index.new }
 {
+    mark_set(index, parts, event);
+    mark_told(index, parts, told);
+}
+
+// The pairs that an event changes although no entry tells of them.
+#[tactic(auto, using(crate::proofs::IndexLemmas::set_steps))]
+fn mark_set(index: &mut PairIndex, parts: &Parts, event: &Event)
+    requires event { IsEventOf parts.now.plan event.now }
+    requires size { length index.old.rows ≡ length parts.now.plan.edges }
+    ensures size { length index.new.rows ≡ length index.old.rows }
+    ensures marked { AreMarkedAnew parts.now (is_set event.now) index.old index.new }
+{
     match event {
-        Event::Connect { from, to } => {
-            mark(index, parts, *from);
-            mark(index, parts, *to);
-        }
-        Event::Deliver { to, .. } => mark(index, parts, *to),
-        Event::Lose { edge, .. }
-        | Event::Restart { edge }
-        | Event::Wire { edge, .. }
-        | Event::Status { edge, .. }
-        | Event::Priority { edge, .. } => mark(index, parts, *edge),
-        Event::Tick => mark_all(index, parts),
-        Event::Frame { circuit, .. } | Event::Circuit { circuit, .. } => {
-            mark(index, parts, parts.edge_of(*circuit));
-        }
+        Event::Deliver { from, to, .. } => mark_pair(index, parts, *from, *to),
+        Event::Restart { edge } => mark(index, parts, *edge),
+        Event::Connect { .. } | Event::Lose { .. } | Event::Tick => {}
+        Event::Frame { .. } | Event::Circuit { .. } => {}
+        Event::Wire { .. } | Event::Status { .. } | Event::Priority { .. } => {}
         Event::Arrive { .. } | Event::Discard { .. } | Event::Again { .. } => {}
         Event::Ping { .. } => {}
     }
 }
 
-// The pairs of every edge. Where no connection stands there is nothing to deliver, and no pair is looked at.
-#[tactic(auto, using(crate::proofs::IndexLemmas::indexed_still))]
-fn mark_all(index: &mut PairIndex, parts: &Parts)
+// The pairs of which the entries from a place of the trace on tell.
+#[tactic(auto, using(crate::proofs::IndexLemmas::entry_steps))]
+fn mark_told(index: &mut PairIndex, parts: &Parts, told: usize)
     requires size { length index.old.rows ≡ length parts.now.plan.edges }
+    requires before { IsIndexedBeside parts.now index.old (is_told (drop told parts.now.trace)) }
     ensures size { length index.new.rows ≡ length index.old.rows }
     ensures after { IsIndexed parts.now index.new }
 {
-    if parts.is_still() {
-        index.clear();
-        return;
+    let entries = parts.trace().as_slice();
+    for place in told..entries.len() {
+        mark_entry(index, parts, &entries[place]);
     }
-    mark_each(index, parts);
 }
 
-// The pairs of each edge in turn.
-#[tactic(auto, using(crate::proofs::IndexLemmas::all_steps))]
-fn mark_each(index: &mut PairIndex, parts: &Parts)
+// The pair of which an entry tells, where it tells of one.
+#[tactic(auto, using(crate::proofs::IndexLemmas::marked_nowhere))]
+fn mark_entry(index: &mut PairIndex, parts: &Parts, entry: &Entry)
     requires size { length index.old.rows ≡ length parts.now.plan.edges }
     ensures size { length index.new.rows ≡ length index.old.rows }
-    ensures after { IsIndexed parts.now index.new }
+    ensures marked { AreMarkedAnew parts.now (is_told_by entry.now) index.old index.new }
+{
+    match entry {
+        Entry::Said { from, to, .. } => mark_known(index, parts, *from, *to),
+        Entry::Session { edge, peer, .. } => mark_known(index, parts, *edge, *peer),
+        _ => {}
+    }
+}
+
+// The two pairs of two edges, where the plan has both.
+#[tactic(auto, using(crate::proofs::IndexLemmas::known_steps))]
+fn mark_known(index: &mut PairIndex, parts: &Parts, me: EdgeId, other: EdgeId)
+    requires size { length index.old.rows ≡ length parts.now.plan.edges }
+    ensures size { length index.new.rows ≡ length index.old.rows }
+    ensures marked { AreMarkedAnew parts.now (is_pair me.0 other.0) index.old index.new }
 {
     let count = parts.count();
-    for place in 0..count {
-        mark(index, parts, EdgeId(place as u16));
+    if (me.0 as usize) < count && (other.0 as usize) < count {
+        mark_pair(index, parts, me, other);
     }
 }
 

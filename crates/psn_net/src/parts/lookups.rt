@@ -1,5 +1,5 @@
 //! What stands, and what may be delivered.
-ghost use Rattle.std.specs.Prelude.{◌≡◌, ◌==◌, ◌<◌, ◌≤◌, ◌&&◌, ◌||◌, ℕ, not, true, false, length, IfSome};
+ghost use Rattle.std.specs.Prelude.{◌≡◌, ◌==◌, ◌<◌, ◌≤◌, ◌&&◌, ◌||◌, not, true, false, length, IfSome};
 ghost use Rattle.net_base.specs.plan.Accepted.{IsChecked};
 ghost use Rattle.network_model.specs.Connection.{can_connect, is_deliverable, is_drained_pipe};
 ghost use Rattle.network_model.specs.Delivery.{first_from, first_pair};
@@ -35,27 +35,6 @@ impl Parts {
         ensures { result ≡ stands (seen self.now) edge.0 peer.0 }
     {
         self.edges[edge.0 as usize].has_end(peer)
-    }
-
-    /// Whether it is found, without a look at pairs of edges, that nothing may be delivered: no end of a connection stands.
-    pub fn is_still(&self) -> bool
-        ensures still { result ≡ true → (i j : ℕ) → j < length self.now.plan.edges → is_deliverable (seen self.now) i j ≡ false }
-    {
-        let count = self.count();
-        for place in 0..count {
-            if !self.is_alone(EdgeId(place as u16)) {
-                return false;
-            }
-        }
-        true
-    }
-
-    // No end of a connection of the edge stands.
-    fn is_alone(&self, edge: EdgeId) -> bool
-        requires { edge.0 < length self.now.plan.edges }
-        ensures { result ≡ true → (peer : ℕ) → stands (seen self.now) edge.0 peer ≡ false }
-    {
-        self.edge_at(edge).is_alone()
     }
 
     /// The two edges are joined, and neither end of a connection between them stands. No segment joins an edge with itself.
