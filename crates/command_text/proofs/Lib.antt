@@ -1,4 +1,5 @@
 pub mod DecimalLemmas
+pub mod FrameLemmas
 pub mod HexLemmas
 pub mod NameLemmas
 pub mod WordLemmas

@@ -1,5 +1,5 @@
 -- The commands of a document, word by word.
-use Rattle.std.specs.Prelude.{◌+◌, ◌-◌, ◌^◌, nat_lt, codes, ℕ, List, [], ◌∷◌, is_some, Result, Ok, Err, if◌then◌else◌}
+use Rattle.std.specs.Prelude.{◌+◌, ◌-◌, ◌^◌, nat_lt, codes, not, ℕ, List, [], ◌∷◌, is_some, option_and_then, Result, Ok, Err, if◌then◌else◌}
 use Rattle.std.specs.Str.{bytes_eq}
 use Rattle.toml.specs.Data.{Data, Items, no_items, item, as_str}
 use Rattle.net_base.specs.declared.trace.event.Event.{Event}
@@ -12,7 +12,7 @@ use Rattle.command_text.specs.declared.scenario_fault.ScenarioFault.TheVariants.
 use Rattle.command_text.specs.Reading.{◌>>=◌, checked, found}
 use Rattle.command_text.specs.Places.{place_at, top_row}
 use Rattle.command_text.specs.Names.{place_in}
-use Rattle.command_text.specs.Words.{word_at, first_word, said_word, ends_before, decimal_from, switch_of, some_word}
+use Rattle.command_text.specs.Words.{word_at, word_after, after_word, first_word, said_word, ends_before, decimal_from, switch_of, some_word}
 use Rattle.command_text.specs.Hex.{frame_of}
 
 -- the most events of a document
@@ -57,6 +57,14 @@ frame_event_in names event text = do
   circuit ← said_word (place_in names.circuits) event 2 text
   octets ← said_word frame_of event 3 text
   end ← ends_before event 4 text
+  Ok (Frame (record { 0 = circuit }) octets)
+
+-- the same by what follows its first word
+unfoldable pub frame_behind : PlanNames → ℕ → List ℕ → Result Event ScenarioFault
+frame_behind names event rest = do
+  circuit ← found (BadWord event 2) (place_in names.circuits (first_word rest))
+  octets ← found (BadWord event 3) (option_and_then frame_of (option_and_then (word_after 0) (after_word rest)))
+  end ← checked (BadWord event 4) (not (is_some (option_and_then (word_after 1) (after_word rest))))
   Ok (Frame (record { 0 = circuit }) octets)
 
 -- K, the number of a packet

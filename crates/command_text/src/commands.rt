@@ -1,9 +1,9 @@
 //! The commands of a document.
-ghost use Rattle.std.specs.Prelude.{◌≡◌, ◌≤◌, ◌+◌, length, IfOk};
+ghost use Rattle.std.specs.Prelude.{◌≡◌, ◌≤◌, ◌+◌, ◌++◌, codes, length, IfOk, IfSome};
 ghost use Rattle.std.specs.List.{All};
 ghost use Rattle.toml.specs.View.{view, items_view};
 ghost use Rattle.command_text.specs.declared.plan_names.PlanNames.{PlanNames};
-ghost use Rattle.command_text.specs.Events.{most_events, repeats_in, tick_in, play_in, one, many_of, part_command, packet_command, command_of, event_in, plays_after, commands_in};
+ghost use Rattle.command_text.specs.Events.{most_events, repeats_in, tick_in, play_in, one, many_of, part_command, packet_command, command_of, command_in, event_in, frame_behind, frame_event_in, plays_after, commands_in};
 ghost use Rattle.command_text.specs.Reading.{Gives};
 ghost use Rattle.command_text.specs.Planned.{IsCount, IsAmong, IsInPlanNames};
 
@@ -15,7 +15,7 @@ use crate::events::{
 use crate::plan_names::PlanNames;
 use crate::row_place::RowPlace;
 use crate::said::{bad_word, file_word, name_word, no_word, number_word};
-use crate::words::{first, word};
+use crate::words::{after, first, word};
 use crate::{Command, ScenarioFault};
 use net_base::{CircuitId, Event, List};
 use std::alloc::Global;
@@ -118,6 +118,36 @@ fn part_of_word(
     }
 }
 
+// The command of a frame, by what follows its first word.
+fn framed(
+    alloc: Global,
+    names: &PlanNames<'_>,
+    event: u32,
+    rest: &[u8],
+) -> Result<Command, ScenarioFault>
+    ensures exact { Gives result (one (frame_behind names.now event rest.now)) }
+    ensures named { IfOk result (IsInPlanNames names.now) }
+{
+    Ok(Command::One(frame(alloc, names, event, rest)?))
+}
+
+// The command of a frame by its whole text, whose first word is `frame`.
+#[tactic(auto, using(crate::proofs::FrameLemmas::frame_is, crate::proofs::FrameLemmas::no_frame))]
+fn frame_of_text(
+    alloc: Global,
+    names: &PlanNames<'_>,
+    event: u32,
+    text: &str,
+) -> Result<Command, ScenarioFault>
+    ensures exact { Gives result (one (frame_event_in names.now event text.now)) }
+    ensures named { IfOk result (IsInPlanNames names.now) }
+{
+    match after(text) {
+        Some(rest) => framed(alloc, names, event, rest.as_bytes()),
+        None => Err(bad_word(event, 2)),
+    }
+}
+
 // The command of a first word that speaks of a frame or a packet, or of a later group.
 #[tactic(auto, unfolding(crate::specs::Events::packet_command))]
 fn packet_of_word(
@@ -131,7 +161,7 @@ fn packet_of_word(
     ensures named { IfOk result (IsInPlanNames names.now) }
 {
     match word {
-        "frame" => Ok(Command::One(frame(alloc, names, place.event, text)?)),
+        "frame" => frame_of_text(alloc, names, place.event, text),
         "arrive" => Ok(Command::One(Event::Arrive {
             packet: packet(place.event, text)?,
         })),
@@ -168,6 +198,33 @@ fn command_of_word(
     }
 }
 
+// What follows the word `frame` and its space.
+fn behind_frame(text: &[u8]) -> Option<&[u8]>
+    ensures { IfSome result (λ rest. text.now ≡ codes "frame " ++ rest.now) }
+{
+    match text {
+        [b'f', b'r', b'a', b'm', b'e', b' ', rest @ ..] => Some(rest),
+        _ => None,
+    }
+}
+
+// The command that a text is. Frames come first, since a long document has little else.
+#[tactic(auto, using(crate::proofs::FrameLemmas::frame_command))]
+fn command(
+    alloc: Global,
+    names: &PlanNames<'_>,
+    place: EventPlace,
+    text: &str,
+) -> Result<Command, ScenarioFault>
+    ensures exact { Gives result (command_in names.now place.event place.plays text.now) }
+    ensures named { IfOk result (IsInPlanNames names.now) }
+{
+    match behind_frame(text.as_bytes()) {
+        Some(rest) => framed(alloc, names, place.event, rest),
+        None => command_of_word(alloc, names, place, first(text), text),
+    }
+}
+
 // The command that an item is.
 fn item(
     alloc: Global,
@@ -179,7 +236,7 @@ fn item(
     ensures named { IfOk result (IsInPlanNames names.now) }
 {
     match value.as_str() {
-        Some(text) => command_of_word(alloc, names, place, first(text), text),
+        Some(text) => command(alloc, names, place, text),
         None => Err(RowPlace::top().wrong_kind("events")),
     }
 }
@@ -208,7 +265,7 @@ pub fn read_commands(
     ensures many { IfOk result (λ commands. length commands ≡ length array.now) }
     ensures named { IfOk result (λ commands. All (IsInPlanNames names.now) commands) }
 {
-    let mut commands = List::new(alloc);
+    let mut commands = List::with_capacity(alloc, array.len())?;
     let mut plays = 0;
     for (i, value) in array.iter().enumerate() {
         let place = EventPlace {

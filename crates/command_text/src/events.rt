@@ -1,15 +1,15 @@
 //! The events of a document.
 ghost use Rattle.std.specs.Prelude.{◌≡◌, IfOk};
-ghost use Rattle.command_text.specs.Events.{connect_in, deliver_in, lose_in, restart_in, frame_event_in, packet_in, wire_switch_in, circuit_switch_in, status_in, priority_event_in, ping_in};
+ghost use Rattle.command_text.specs.Events.{connect_in, deliver_in, lose_in, restart_in, frame_behind, packet_in, wire_switch_in, circuit_switch_in, status_in, priority_event_in, ping_in};
 ghost use Rattle.command_text.specs.Reading.{Gives};
 ghost use Rattle.command_text.specs.Planned.{IsAmong};
 
 use crate::ScenarioFault;
 use crate::plan_names::PlanNames;
 use crate::said::{
-    frame_octets, name_word, no_more, no_word, number_word, switch_word, word_place,
+    frame_octets, goes_on, name_word, no_more, no_word, number_word, switch_word, word_place,
 };
-use crate::words::second_and_third;
+use crate::words::cut_octets;
 use net_base::{CircuitId, EdgeId, Event, WireId};
 use std::alloc::Global;
 
@@ -71,21 +71,21 @@ pub fn restart(names: &PlanNames<'_>, event: u32, text: &str) -> Result<Event, S
     Ok(Event::Restart { edge: EdgeId(edge) })
 }
 
-/// `frame C HEX`, with 1 to 9216 octets. These are long, so the text is walked once.
-#[tactic(auto, unfolding(crate::specs::Events::frame_event_in))]
+/// `frame C HEX`, with 1 to 9216 octets, by what follows the first word. These are long, so the digits are walked once.
+#[tactic(auto, unfolding(crate::specs::Events::frame_behind))]
 pub fn frame(
     alloc: Global,
     names: &PlanNames<'_>,
     event: u32,
-    text: &str,
+    rest: &[u8],
 ) -> Result<Event, ScenarioFault>
-    ensures exact { Gives result (frame_event_in names.now event text.now) }
+    ensures exact { Gives result (frame_behind names.now event rest.now) }
     ensures among { IfOk result (IsAmong names.now) }
 {
-    let (second, third, fourth) = second_and_third(text);
-    let circuit = word_place(&names.circuits, event, 2, second)?;
-    let bytes = frame_octets(alloc, event, 3, third)?;
-    no_more(event, 4, fourth)?;
+    let (name, rest) = cut_octets(rest);
+    let circuit = word_place(&names.circuits, event, 2, Some(name))?;
+    let bytes = frame_octets(alloc, event, 3, rest)?;
+    no_more(event, 4, goes_on(rest, &bytes))?;
     Ok(Event::Frame {
         circuit: CircuitId(circuit),
         bytes,

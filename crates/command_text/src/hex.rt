@@ -1,5 +1,5 @@
 //! Octets as pairs of hexadecimal digits.
-ghost use Rattle.std.specs.Prelude.{◌≡◌, ◌≤◌, ◌*◌, ◌++◌, Some, None, length, option_map, unwrap_or, if◌then◌else◌, IfOk};
+ghost use Rattle.std.specs.Prelude.{◌≡◌, ◌≤◌, ◌*◌, ◌++◌, nat_lt, Some, None, length, option_map, unwrap_or, if◌then◌else◌, IfOk};
 ghost use Rattle.command_text.specs.Hex.{digit_value, pair_value, unhex};
 
 use net_base::{List, NoMemory, Octets};
@@ -31,17 +31,15 @@ fn digit(octet: u8) -> u8
     VALUES[octet as usize]
 }
 
-// The octet of two digits, and whether they are digits. It has no branch, so that the octets of a piece come one after another.
+// The octet of two digits, and their values joined: below 16 where both are digits. It has no branch, so that the octets of a piece come
+// one after another.
 #[tactic(auto, using(crate::proofs::HexLemmas::octet_of_two))]
-fn pair(first: u8, second: u8) -> (u8, bool)
-    ensures { pair_value first second ≡ (if result.1 then Some result.0 else None) }
+fn pair(first: u8, second: u8) -> (u8, u8)
+    ensures { pair_value first second ≡ (if nat_lt result.1 16 then Some result.0 else None) }
 {
     let high = digit(first);
     let low = digit(second);
-    (
-        high.wrapping_mul(16).wrapping_add(low),
-        (high < 16) & (low < 16),
-    )
+    (high.wrapping_mul(16).wrapping_add(low), high | low)
 }
 
 // Writes the octets of pairs of digits into room of just their size, and answers whether all are digits. It takes no memory.
@@ -49,13 +47,13 @@ fn fill(digits: &[u8], room: &mut [u8]) -> bool
     requires { length digits.now ≡ 2 * length room.old }
     ensures { unhex digits.now ≡ (if result then Some room.new else None) }
 {
-    let mut all = true;
+    let mut values = 0;
     'filling: for i in 0..room.len() {
-        let (octet, are) = pair(digits[2 * i], digits[2 * i + 1]);
-        all = all & are;
+        let (octet, joined) = pair(digits[2 * i], digits[2 * i + 1]);
+        values = values | joined;
         room[i] = octet;
     }
-    all
+    values < 16
 }
 
 // Adds the octets of a piece of pairs of digits, and answers whether all are digits. They are made aside, so that the list grows once.

@@ -1,17 +1,17 @@
 //! What the words of a command say.
-ghost use Rattle.std.specs.Prelude.{◌≡◌, ◌<◌, ◌≤◌, not, true, length, option_and_then, option_map, IfOk, IfSome};
+ghost use Rattle.std.specs.Prelude.{◌≡◌, ◌<◌, ◌≤◌, not, true, is_some, Some, length, option_and_then, option_map, IfOk, IfSome};
 ghost use Rattle.command_text.specs.Hex.{frame_of, of_frame_size};
 ghost use Rattle.command_text.specs.Names.{place_in};
 ghost use Rattle.command_text.specs.Reading.{Gives, MapsTo, checked, found};
 ghost use Rattle.net_base.specs.plan.Planned.{IsFrame};
-ghost use Rattle.command_text.specs.Words.{said_word, ends_before, decimal_from, switch_of, some_word};
+ghost use Rattle.command_text.specs.Words.{said_word, ends_before, first_word, word_after, decimal_from, switch_of, some_word};
 
 use crate::ScenarioFault;
 use crate::decimal::decimal;
 use crate::hex::decode;
 use crate::name_index::NameIndex;
 use crate::same::is_same;
-use crate::words::word;
+use crate::words::{cut_octets, word};
 use net_base::{NoMemory, Octets, Word};
 use std::alloc::Global;
 
@@ -30,17 +30,27 @@ pub fn word_place(
     names: &NameIndex<'_>,
     event: u32,
     number: u32,
-    word: Option<&str>,
+    word: Option<&[u8]>,
 ) -> Result<u16, ScenarioFault>
     ensures exact { result ≡ found (ScenarioFault.BadWord event number) (option_and_then (place_in names.now) (option_map (λ w. w.now) word.entry)) }
     ensures within { IfOk result (λ place. place < length names.now) }
 {
     match word {
-        Some(word) => match names.place(word.as_bytes()) {
+        Some(word) => match names.place(word) {
             Some(place) => Ok(place),
             None => Err(bad_word(event, number)),
         },
         None => Err(bad_word(event, number)),
+    }
+}
+
+// The octets of a word.
+fn octets_of(word: Option<&str>) -> Option<&[u8]>
+    ensures { option_map (λ o. o.now) result ≡ option_map (λ w. w.now) word.entry }
+{
+    match word {
+        Some(word) => Some(word.as_bytes()),
+        None => None,
     }
 }
 
@@ -55,7 +65,7 @@ pub fn name_word(
     ensures exact { result ≡ said_word (place_in names.now) event number text.now }
     ensures within { IfOk result (λ place. place < length names.now) }
 {
-    word_place(names, event, number, word(text, number))
+    word_place(names, event, number, octets_of(word(text, number)))
 }
 
 /// The number from `low` to `high` that a word writes.
@@ -128,22 +138,52 @@ fn frame(alloc: Global, digits: &[u8]) -> Result<Option<Octets>, NoMemory>
     }
 }
 
-/// The octets of a frame that a word writes, where there is this word.
+// The octets of a frame that the first word writes. Digits have no space among them, so all octets are tried first as they are, and
+// walked once.
+#[tactic(auto, using(crate::proofs::FrameLemmas::frame_of_first))]
+fn first_frame(alloc: Global, octets: &[u8]) -> Result<Option<Octets>, NoMemory>
+    ensures value { IfOk result (λ bytes. bytes ≡ frame_of (first_word octets.now)) }
+    ensures sized { IfOk result (λ bytes. IfSome bytes IsFrame) }
+{
+    match frame(alloc, octets)? {
+        Some(bytes) => Ok(Some(bytes)),
+        None => {
+            let (word, _) = cut_octets(octets);
+            frame(alloc, word)
+        }
+    }
+}
+
+/// The octets of a frame that the first word of a rest writes, where there is this rest.
 pub fn frame_octets(
     alloc: Global,
     event: u32,
     number: u32,
-    word: Option<&str>,
+    rest: Option<&[u8]>,
 ) -> Result<Octets, ScenarioFault>
-    ensures exact { Gives result (found (ScenarioFault.BadWord event number) (option_and_then frame_of (option_map (λ w. w.now) word.entry))) }
+    ensures exact { Gives result (found (ScenarioFault.BadWord event number) (option_and_then frame_of (option_and_then (word_after 0) (option_map (λ r. r.now) rest.entry)))) }
     ensures sized { IfOk result IsFrame }
+    ensures read { IfOk result (λ octets. option_and_then frame_of (option_and_then (word_after 0) (option_map (λ r. r.now) rest.entry)) ≡ Some octets) }
 {
-    match word {
-        Some(word) => match frame(alloc, word.as_bytes())? {
+    match rest {
+        Some(rest) => match first_frame(alloc, rest)? {
             Some(octets) => Ok(octets),
             None => Err(bad_word(event, number)),
         },
         None => Err(bad_word(event, number)),
+    }
+}
+
+/// Whether a word stands behind the one that writes these octets, two digits for each.
+#[tactic(auto, using(crate::proofs::FrameLemmas::more_behind))]
+pub fn goes_on(rest: Option<&[u8]>, bytes: &Octets) -> bool
+    requires read { option_and_then frame_of (option_and_then (word_after 0) (option_map (λ r. r.now) rest)) ≡ Some bytes.now }
+    requires sized { IsFrame bytes.now }
+    ensures { result ≡ is_some (option_and_then (word_after 1) (option_map (λ r. r.now) rest.entry)) }
+{
+    match rest {
+        Some(rest) => rest.len() > 2 * bytes.len(),
+        None => false,
     }
 }
 

@@ -1,6 +1,7 @@
 //! Words of a command.
-ghost use Rattle.std.specs.Prelude.{◌≡◌, ◌≤◌, is_some, option_map};
-ghost use Rattle.command_text.specs.Words.{after_word, first_word, word_at};
+ghost use Rattle.std.specs.Prelude.{◌≡◌, ◌≤◌, length, option_map};
+ghost use Rattle.std.specs.List.{position, position_or_len};
+ghost use Rattle.command_text.specs.Words.{after_word, first_word, is_space, word_at};
 
 // The first word, and what follows the first space.
 #[tactic(auto, using(crate::proofs::WordLemmas::no_space_after, crate::proofs::WordLemmas::no_space_before, crate::proofs::WordLemmas::space_after))]
@@ -22,33 +23,47 @@ pub fn first(text: &str) -> &str
     word
 }
 
-// What follows the first space.
-fn after(text: &str) -> Option<&str>
+/// What follows the first space.
+pub fn after(text: &str) -> Option<&str>
     ensures { option_map (λ r. r.now) result ≡ after_word text.now }
 {
     let (_, rest) = cut(text);
     rest
 }
 
-/// The second and the third word, and whether there is a fourth. The text is walked once.
-#[tactic(auto, unfolding(crate::specs::Words::word_at))]
-pub fn second_and_third(text: &str) -> (Option<&str>, Option<&str>, bool)
-    ensures second { option_map (λ w. w.now) result.0 ≡ word_at 2 text.now }
-    ensures third { option_map (λ w. w.now) result.1 ≡ word_at 3 text.now }
-    ensures fourth { result.2 ≡ is_some (word_at 4 text.now) }
+// The place of the first space.
+fn space_in(octets: &[u8]) -> Option<usize>
+    ensures place { result ≡ position is_space octets.now }
 {
-    match after(text) {
-        Some(rest) => {
-            let (second, rest) = cut(rest);
-            match rest {
-                Some(rest) => {
-                    let (third, rest) = cut(rest);
-                    (Some(second), Some(third), rest.is_some())
-                }
-                None => (Some(second), None, false),
-            }
-        }
-        None => (None, None, false),
+    octets.iter().position(|octet| *octet == b' ')
+}
+
+// How many octets stand before the first space, or all where there is none.
+#[tactic(auto, using(crate::proofs::WordLemmas::place_of_some, crate::proofs::WordLemmas::place_of_none, crate::proofs::WordLemmas::place_le))]
+fn word_len(octets: &[u8]) -> usize
+    ensures length { result ≡ position_or_len is_space octets.now }
+    ensures within { result ≤ length octets.now }
+{
+    match space_in(octets) {
+        Some(at) => at,
+        None => octets.len(),
+    }
+}
+
+/// The first word of octets, and what follows the first space. A short word is found so in a fraction of the time that a search in a
+/// text takes.
+#[tactic(auto, using(crate::proofs::WordLemmas::rest_behind, crate::proofs::WordLemmas::rest_of_none))]
+pub fn cut_octets(octets: &[u8]) -> (&[u8], Option<&[u8]>)
+    ensures word { result.0.now ≡ first_word octets.now }
+    ensures rest { option_map (λ r. r.now) result.1 ≡ after_word octets.now }
+{
+    let at = word_len(octets);
+    let (word, behind) = octets.split_at(at);
+    if at < octets.len() {
+        let (_, rest) = behind.split_at(1);
+        (word, Some(rest))
+    } else {
+        (word, None)
     }
 }
 

@@ -1,8 +1,8 @@
 -- The octet of two more digits is written.
 use Rattle.std.proofs.Common.{arith}
-use Rattle.command_text.proofs.HexLemmas.{filled_more}
+use Rattle.command_text.proofs.HexLemmas.{filled_by}
 use Rattle.command_text.proofs.hex.fill.Goals as goal
 
 pub filling-preserved : goal.filling-preserved
 filling-preserved c =
-    filled_more c.args.digits.now c.filling.room c.filling.i c.pair-octet.result.0 c.filling.all c.pair-octet.result.1 (omega arith) (omega arith) c.pair-octet.ensures c.filling.invariant
+    filled_by c.args.digits.now c.filling.room c.filling.i c.pair-octet.result.0 c.filling.values c.pair-octet.result.1 (omega arith) (omega arith) c.pair-octet.ensures c.filling.invariant

@@ -1,8 +1,8 @@
 -- What is written so far, and then the rest, is what the definition decodes.
-use Rattle.std.proofs.Common.{◌≡◌}
+use Rattle.std.proofs.Common.{◌≡◌, nat_lt}
 use Rattle.command_text.specs.Hex.{unhex}
 use Rattle.command_text.proofs.HexLemmas.{filled}
 use Rattle.command_text.proofs.hex.fill.Given as goal
 
 abbrev pub invariant-filling : goal.invariant-filling
-invariant-filling l = filled l.digits l.room l.i l.all ≡ unhex l.digits
+invariant-filling l = filled l.digits l.room l.i (nat_lt l.values 16) ≡ unhex l.digits
