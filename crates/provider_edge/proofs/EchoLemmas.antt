@@ -1,6 +1,6 @@
 -- What an edge makes of what came in a control channel, and of a ping, exit by exit.
 use Rattle.edge_model.specs.Echo.{channel_octets, channel_under, echoes, is_picked, ping_number, verifies}
-use Rattle.edge_model.specs.Ping.{asks, far_address, far_terminal, ping_input, pinging, pings_at, pings_by, pings_in, pings_under}
+use Rattle.edge_model.specs.Ping.{asks, far_address, ping_input, pinging, pings_at, pings_by, pings_in, pings_under}
 use Rattle.edge_model.specs.Send.{drops, sends}
 use Rattle.edge_model.specs.State.{EdgeState, end_at}
 use Rattle.edge_model.specs.Work.{Answers, Work, beginning, changes, gives, idles}
@@ -28,7 +28,7 @@ use Rattle.provider_edge.specs.Pings.{asked_with, asks_with, channel_by, ping_fr
 use Rattle.pw_ends.specs.Ends.{end_in, no_place, place_of}
 use Rattle.pw_signalling.specs.declared.binding.Binding.{Binding}
 use Rattle.pw_stitch.specs.Stitch.{has_told}
-use Rattle.std.proofs.Common.{Bool, Err, List, None, Ok, Option, Result, Some, [], ap, arith, cond, drop, false, length, option_and_then, refl, slice_index_or, sym, take, true, ℕ, ◌++◌, ◌∙◌, ◌∷◌, ◌≡◌, ◌≤◌, ◌<◌}
+use Rattle.std.proofs.Common.{Bool, Err, List, None, Ok, Option, Result, Some, [], ap, arith, cond, drop, false, length, refl, slice_index_or, sym, take, true, ℕ, ◌++◌, ◌∙◌, ◌∷◌, ◌≡◌, ◌≤◌, ◌<◌}
 use Rattle.std.proofs.lemmas.List.{length-drop}
 use Rattle.vccv_channel.proofs.ReadingLemmas.{IsRead, read_as}
 use Rattle.vccv_channel.specs.Channel.{has_header}
@@ -207,9 +207,6 @@ ping_made e wire row sequence from to ping next near far is =
     ∙ (ap (λ (n : ℕ). ping_from row n from to) next
     ∙ (ap (λ (a : Option Addr). ping_from row ((seen e).next_ping wire.0) a to) near
     ∙ ap (ping_from row ((seen e).next_ping wire.0) (edge_address e.plan e.me)) far))
-
-pub far_found : (plan : Plan) (me : EdgeId) (row : WirePlan) (far : Option EdgeId) (found : Option Addr) → far ≡ far_terminal me row.path → found ≡ option_and_then (edge_address plan) far → found ≡ far_address plan me row
-far_found plan me row far found is same = same ∙ ap (option_and_then (edge_address plan)) is
 
 -- ---- the packet of a ping, exit by exit
 

@@ -7,7 +7,7 @@ use Rattle.net_base.specs.declared.plan.places.ServiceId.{ServiceId}
 use Rattle.net_base.specs.declared.plan.places.WireId.{WireId}
 use Rattle.net_base.specs.plan.Places.{wire_row}
 use Rattle.net_base.specs.declared.trace.down.Down.{Down}
-use Rattle.std.proofs.Common.{true, false, Bool, Bor, Option, Some, None}
+use Rattle.std.proofs.Common.{true, Bool, Bor, Option, Some, None}
 use Rattle.std.specs.Prelude.{IfSome}
 use Rattle.vsi_bridge.specs.BridgeState.{BridgeState}
 use Rattle.hvpls_spokes.specs.declared.port.Port.{Port}

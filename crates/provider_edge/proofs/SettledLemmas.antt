@@ -22,7 +22,7 @@ use Rattle.pw_signalling.specs.declared.end_role.EndRole.TheVariants as role
 use Rattle.pw_signalling.specs.declared.told.Told.{Told}
 use Rattle.pw_signalling.specs.Down.{down}
 use Rattle.pw_signalling.specs.End.{EndState, LocalPart, Idle, Advertised, Withdrawing, fresh}
-use Rattle.pw_signalling.specs.Rows.{advertised, group_stated, group_unbound, lost, renewed, telling, withdrawn}
+use Rattle.pw_signalling.specs.Rows.{advertised, lost, renewed}
 use Rattle.pw_stitch.specs.Passing.{passed_status}
 use Rattle.spoke_redundancy.specs.declared.spoke.Spoke.{Spoke}
 use Rattle.spoke_redundancy.specs.Choice.{chosen}
@@ -32,7 +32,7 @@ use Rattle.edge_model.specs.Content.{content_of}
 use Rattle.edge_model.specs.declared.effect.Effect.{Effect}
 use Rattle.edge_model.specs.declared.end_place.EndPlace.{EndPlace}
 use Rattle.edge_model.specs.EndPlaces.{end_places, is_at, is_terminal}
-use Rattle.edge_model.specs.Mend.{advertising, and_says, cause_number, each_end, is_up_with, mends_end, mends_status, passed_from, port_of_wire, status_held, telling_status, tells_status, wish, wish_of, withdrawing}
+use Rattle.edge_model.specs.Mend.{advertising, and_says, cause_number, each_end, is_up_with, mends_end, mends_status, passed_from, port_of_wire, status_held, tells_status, wish, wish_of}
 use Rattle.edge_model.specs.Put.{Spoken, stays}
 use Rattle.edge_model.specs.Role.{down_at, end_role_of, is_chosen_wire, own_status, role_at, role_in, status_to_tell}
 use Rattle.edge_model.specs.Session.{clears_ends}
@@ -40,7 +40,6 @@ use Rattle.edge_model.specs.Settled.{IsForgotten, IsSettled, is_down_told, is_me
 use Rattle.edge_model.specs.Signal.{with_end_changed}
 use Rattle.edge_model.specs.Spokes.{choice, is_spoke_row, spoke_at, spoke_places}
 use Rattle.edge_model.specs.State.{EdgeState, Peering, addresses_of, end_at, has_end, put_at, with_bits, with_chosen, with_end, with_ends_beside, with_next_label, with_peering, with_priority, with_renewed, with_told_down, with_wire, without_port}
-use Rattle.edge_model.specs.Wire.{turned_wire}
 use Rattle.edge_model.specs.Work.{Answers, Work, changes}
 use Rattle.edge_model.proofs.MendedLemmas.{IsMended, forgets_down_not, mends_end_not, mends_not, mends_status_not, tells_down_not}
 use Rattle.edge_model.proofs.PlaceLemmas.{IsEndOf, places_are}
@@ -334,12 +333,6 @@ besides_end place end edge = record {
 pub besides_changed : (change : EndState → EndState) (place : EndPlace) (edge : EdgeState) → IsBesides place.wire.0 edge (with_end_changed change (Some place) edge)
 besides_changed change place edge = besides_end place (change (end_at edge place)) edge
 
-pub besides_withdrawing : (place : EndPlace) (edge : EdgeState) → IsBesides place.wire.0 edge (withdrawing place edge)
-besides_withdrawing place edge = besides_end place (withdrawn (end_at edge place)) edge
-
-pub besides_telling : (place : EndPlace) (status : PwStatus) (edge : EdgeState) → IsBesides place.wire.0 edge (telling_status place status edge)
-besides_telling place status edge = besides_end place (telling status (end_at edge place)) edge
-
 -- a label was left
 pub besides_advertising : (place : EndPlace) (label : ℕ) (told : Told) (edge : EdgeState) → edge.next_label ≢ numbers_end → IsBesides place.wire.0 edge (advertising place label told edge)
 unfolding with_end with_next_label
@@ -432,10 +425,6 @@ besides_renewed wire edge = record {
   labels = λ none. none;
   learned = λ port service gone. gone;
 }
-
-pub besides_turned : (wire : WireId) (on : Bool) (edge : EdgeState) → IsBesides wire.0 edge (turned_wire wire on edge)
-besides_turned wire true edge = besides_then wire.0 edge (with_wire wire true edge) (with_renewed wire (with_wire wire true edge)) (besides_wire wire true edge) (besides_renewed wire (with_wire wire true edge))
-besides_turned wire false edge = besides_wire wire false edge
 
 -- ---- an edge that has mended is tidy
 
@@ -711,12 +700,6 @@ beside_ends plan peer change edge stays_fresh else = record {
 
 pub beside_lost : (plan : Plan) (peer : EdgeId) (edge : EdgeState) → AreFreshElse plan edge → IsBeside plan peer.0 edge (with_ends_beside peer lost edge)
 beside_lost plan peer edge else = beside_ends plan peer lost edge refl else
-
-pub beside_unbound : (plan : Plan) (peer : EdgeId) (group : ℕ) (edge : EdgeState) → AreFreshElse plan edge → IsBeside plan peer.0 edge (with_ends_beside peer (group_unbound group) edge)
-beside_unbound plan peer group edge else = beside_ends plan peer (group_unbound group) edge refl else
-
-pub beside_stated : (plan : Plan) (peer : EdgeId) (group : ℕ) (status : PwStatus) (edge : EdgeState) → AreFreshElse plan edge → IsBeside plan peer.0 edge (with_ends_beside peer (group_stated group status) edge)
-beside_stated plan peer group status edge else = beside_ends plan peer (group_stated group status) edge refl else
 
 -- another session with the peer, or none
 pub beside_peering : (plan : Plan) (peer : EdgeId) (kept : Option Peering) (edge : EdgeState) → IsBeside plan peer.0 edge (with_peering peer kept edge)

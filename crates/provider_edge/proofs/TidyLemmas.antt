@@ -34,24 +34,14 @@ use Rattle.edge_model.specs.State.{EdgeState, Peering, addresses_of, end_at, has
 use Rattle.edge_model.specs.Tick.{aged, forgetting}
 use Rattle.edge_model.specs.Work.{Answers, Work, changes}
 use Rattle.edge_model.proofs.AgainLemmas.{mends_at_once, one_end}
-use Rattle.edge_model.proofs.MendedLemmas.{IsMended, mends_mended, mends_not, round_mends}
+use Rattle.edge_model.proofs.MendedLemmas.{IsMended, round_mends}
 use Rattle.peer_dialogue.specs.Peering.{at_edge}
 use Rattle.provider_edge.specs.declared.end_marks.EndMarks.{EndMarks}
 use Rattle.provider_edge.specs.Marks.{IsUnmarked, place_at}
 use Rattle.provider_edge.specs.Spokes.{starts_spoke}
-use Rattle.provider_edge.specs.Tidy.{HasChosenFor, IsTidy, MendsNothing, stands_as}
+use Rattle.provider_edge.specs.Tidy.{HasChosenFor, IsTidy, stands_as}
 
 -- ---- mending is nothing exactly where all ends tell what they should
-
-pub nothing_mended : (plan : Plan) (edge : EdgeState) → IsChecked plan → MendsNothing plan edge → IsMended plan edge
-unfolding at_edge
-nothing_mended plan edge checked nothing =
-    subst (λ (w : Work). IsMended plan w.edge) (nothing (λ k. true) [] [])
-    (mends_mended plan (λ k. true) (record { edge = edge; calls = []; effects = []; idle = false }) (λ k. refl) (one_end plan (mends_at_once.fit plan checked) edge.me))
-
-pub mended_nothing : (plan : Plan) (edge : EdgeState) → IsMended plan edge → MendsNothing plan edge
-unfolding at_edge
-mended_nothing plan edge mended = λ told calls out. mends_not plan told (record { edge = edge; calls = calls; effects = out; idle = false }) mended
 
 -- a round in which the link took each message leaves nothing to mend
 pub round_nothing : (plan : Plan) (told : Answers) (edge : EdgeState) (calls : List LinkCall) (out : List Effect) (work : Work) (failed : Bool) → IsChecked plan

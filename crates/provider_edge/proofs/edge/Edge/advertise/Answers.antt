@@ -1,4 +1,3 @@
-use Rattle.std.proofs.Common.{Option, ℕ}
 use Rattle.pw_ends.specs.Ends.{place_of}
 use Rattle.provider_edge.proofs.MarkedLemmas.{labelled_kept}
 use Rattle.provider_edge.proofs.edge.Edge.advertise.Goals as goal

@@ -1,4 +1,4 @@
-use Rattle.std.proofs.Common.{◌≡◌, None, Some, subst, false}
+use Rattle.std.proofs.Common.{◌≡◌, None, Some, subst}
 use Rattle.pw_ends.specs.Ends.{place_of}
 use Rattle.pw_signalling.specs.Rows.{unbound}
 use Rattle.edge_model.specs.Signal.{with_end_changed}

@@ -1,4 +1,4 @@
-use Rattle.std.proofs.Common.{◌∙◌, Bool, None, Some, [], ap, refl, sym}
+use Rattle.std.proofs.Common.{◌∙◌, None, Some, [], ap, refl, sym}
 use Rattle.edge_model.specs.Session.{happens}
 use Rattle.edge_model.specs.State.{EdgeState}
 use Rattle.peer_dialogue.specs.Event.{event_of}
