@@ -1,59 +1,73 @@
 -- The values of digits, one more pair of them, and digits that are no pairs.
-use Rattle.std.proofs.Common.{◌≡◌, ◌<◌, ◌≤◌, ◌+◌, ◌-◌, ◌*◌, ◌%◌, ◌==◌, ◌&&◌, ◌++◌, ◌∙◌, ℕ, zero, suc, Bool, true, false, List, [], ◌∷◌, length, slice_index, slice_set, take, drop, Option, Some, None, nat_lt, option_and_then, option_map, unwrap_or, if◌then◌else◌, refl, ap, sym, arith, append_assoc}
+use Rattle.std.proofs.Common.{◌≡◌, ◌<◌, ◌≤◌, ◌+◌, ◌-◌, ◌*◌, ◌%◌, ◌==◌, ◌&&◌, ◌++◌, ◌∙◌, ℕ, zero, suc, Bool, true, false, List, [], ◌∷◌, length, slice_index, slice_set, take, drop, Option, Some, None, nat_lt, option_and_then, option_map, if◌then◌else◌, refl, ap, sym, arith, append_assoc}
 use Rattle.std.proofs.Common.{length-drop, take-append-drop}
 use Rattle.std.proofs.lemmas.List.{append-nil, drop_more, drop_all, drop-drop, length-take-le, take_all, take_more_set}
 use Rattle.std.proofs.lemmas.Bool.{false_from_ne_true, lt-ltb}
+use Rattle.std.proofs.lemmas.Grind.{or_after_shift}
 use Rattle.std.proofs.lemmas.Nat.{le_or_l, le_or_r, or_lt}
 use Rattle.std.specs.Int.Bits.{bit_or}
 use Rattle.std.proofs.lemmas.Bool.Decides.{Decides-below_and, Decides-eqb, nat_tests}
-use Rattle.command_text.specs.Hex.{digit_value, pair_value, unhex}
-use Rattle.command_text.specs.declared.hex.TheConstants.{VALUES}
+use Rattle.command_text.specs.Hex.{digit_value, pair_value, first_part, second_part, unhex}
+use Rattle.command_text.specs.declared.hex.TheConstants.{FIRST, SECOND}
 
-match_values : ℕ → Bool
-match_values zero = true
-match_values (suc n) = (slice_index VALUES n == unwrap_or (digit_value n) 16) && match_values n
+match_first : ℕ → Bool
+match_first zero = true
+match_first (suc n) = (slice_index FIRST n == first_part (digit_value n)) && match_first n
 
--- what the table has for an octet
-pub value_is : (octet : ℕ) → octet < 256 → slice_index VALUES octet ≡ unwrap_or (digit_value octet) 16
-unfolding match_values
-value_is =
-    (Decides-below_and (λ n. slice_index VALUES n == unwrap_or (digit_value n) 16) (λ n. slice_index VALUES n ≡ unwrap_or (digit_value n) 16) match_values (λ n. Decides-eqb _ _) refl (λ _. refl) 256).0 refl
+match_second : ℕ → Bool
+match_second zero = true
+match_second (suc n) = (slice_index SECOND n == second_part (digit_value n)) && match_second n
+
+-- what the tables have for an octet
+pub first_is : (octet : ℕ) → octet < 256 → slice_index FIRST octet ≡ first_part (digit_value octet)
+unfolding match_first
+first_is =
+    (Decides-below_and (λ n. slice_index FIRST n == first_part (digit_value n)) (λ n. slice_index FIRST n ≡ first_part (digit_value n)) match_first (λ n. Decides-eqb _ _) refl (λ _. refl) 256).0 refl
+
+pub second_is : (octet : ℕ) → octet < 256 → slice_index SECOND octet ≡ second_part (digit_value octet)
+unfolding match_second
+second_is =
+    (Decides-below_and (λ n. slice_index SECOND n == second_part (digit_value n)) (λ n. slice_index SECOND n ≡ second_part (digit_value n)) match_second (λ n. Decides-eqb _ _) refl (λ _. refl) 256).0 refl
 
 below : (octet value : ℕ) → digit_value octet ≡ Some value → value < 16
 below octet value e = grind (arith, nat_tests)
 
-below_both : (a b : ℕ) → bit_or a b < 16 → (a < 16) × (b < 16)
+below_both : (a b : ℕ) → bit_or a b < 256 → (a < 256) × (b < 256)
 below_both a b less = (omega (arith, less, le_or_l a b), omega (arith, less, le_or_r a b))
 
--- joined values are below 16 exactly where both are
-pub joined_below : (a b : ℕ) → nat_lt (bit_or a b) 16 ≡ (nat_lt a 16 && nat_lt b 16)
-joined_below a b = go (nat_lt a 16) (nat_lt b 16) refl refl
+over : (n : ℕ) → nat_lt n 256 ≡ false → ¬ (n < 256)
+over n e less = absurd (cc (sym e ∙ lt-ltb n 256 less))
+
+under : (n : ℕ) → nat_lt n 256 ≡ true → n < 256
+under n e = grind (arith, nat_tests)
+
+-- joined octets are below 256 exactly where both are
+pub joined_below : (a b : ℕ) → nat_lt (bit_or a b) 256 ≡ (nat_lt a 256 && nat_lt b 256)
+joined_below a b = go (nat_lt a 256) (nat_lt b 256) refl refl
   where
-    over : (n : ℕ) → nat_lt n 16 ≡ false → ¬ (n < 16)
-    over n e less = absurd (cc (sym e ∙ lt-ltb n 16 less))
+    go : (p q : Bool) → nat_lt a 256 ≡ p → nat_lt b 256 ≡ q → nat_lt (bit_or a b) 256 ≡ (p && q)
+    go true true x y = lt-ltb (bit_or a b) 256 (or_lt 8 a b (under a x) (under b y))
+    go true false x y = false_from_ne_true (nat_lt (bit_or a b) 256) (λ h. over b y (below_both a b (under (bit_or a b) h)).1)
+    go false q x y = false_from_ne_true (nat_lt (bit_or a b) 256) (λ h. over a x (below_both a b (under (bit_or a b) h)).0)
 
-    under : (n : ℕ) → nat_lt n 16 ≡ true → n < 16
-    under n e = grind (arith, nat_tests)
-
-    go : (p q : Bool) → nat_lt a 16 ≡ p → nat_lt b 16 ≡ q → nat_lt (bit_or a b) 16 ≡ (p && q)
-    go true true x y = lt-ltb (bit_or a b) 16 (or_lt 4 a b (under a x) (under b y))
-    go true false x y = false_from_ne_true (nat_lt (bit_or a b) 16) (λ h. over b y (below_both a b (under (bit_or a b) h)).1)
-    go false q x y = false_from_ne_true (nat_lt (bit_or a b) 16) (λ h. over a x (below_both a b (under (bit_or a b) h)).0)
-
--- two values, each below 16 or no digit's, are the octet of two digits
-of_values : (x y : Option ℕ) → ((value : ℕ) → x ≡ Some value → value < 16) → ((value : ℕ) → y ≡ Some value → value < 16)
+-- what two digits add is the octet of both
+of_parts : (x y : Option ℕ) → ((value : ℕ) → x ≡ Some value → value < 16) → ((value : ℕ) → y ≡ Some value → value < 16)
     → option_and_then (λ high. option_map (λ low. high * 16 + low) y) x
-    ≡ (if nat_lt (unwrap_or x 16) 16 && nat_lt (unwrap_or y 16) 16 then Some ((unwrap_or x 16 * 16 % 256 + unwrap_or y 16) % 256) else None)
-of_values None y first second = refl
-of_values (Some high) None first second = rw (lt-ltb high 16 (first high refl)) refl
-of_values (Some high) (Some low) first second =
-    let is : (high * 16 % 256 + low) % 256 ≡ high * 16 + low = omega (arith, first high refl, second low refl) in
-    rw (lt-ltb high 16 (first high refl), lt-ltb low 16 (second low refl), is) refl
+    ≡ (if nat_lt (bit_or (first_part x) (second_part y)) 256 then Some (bit_or (first_part x) (second_part y) % 256) else None)
+of_parts None y first second = rw (joined_below 256 (second_part y)) refl
+of_parts (Some high) None first second = rw (joined_below (high * 16) 256, lt-ltb (high * 16) 256 (let less = first high refl in omega arith)) refl
+of_parts (Some high) (Some low) first second =
+    let h = first high refl in
+    let l = second low refl in
+    let whole : high * 16 % 65536 ≡ high * 16 = omega arith in
+    let both : bit_or (high * 16) low ≡ high * 16 + low = ap (λ (n : ℕ). bit_or n low) (sym whole) ∙ or_after_shift high 16 65536 low refl l (omega arith) in
+    let less : high * 16 + low < 256 = omega arith in
+    let same : (high * 16 + low) % 256 ≡ high * 16 + low = omega arith in
+    rw (both, lt-ltb (high * 16 + low) 256 less, same) refl
 
-pub octet_of_two : (a b high low : ℕ) → high ≡ unwrap_or (digit_value a) 16 → low ≡ unwrap_or (digit_value b) 16
-    → pair_value a b ≡ (if nat_lt (bit_or high low) 16 then Some ((high * 16 % 256 + low) % 256) else None)
-octet_of_two a b high low first second =
-    rw (joined_below high low, first, second) (of_values (digit_value a) (digit_value b) (below a) (below b))
+pub octet_of_two : (a b high low : ℕ) → high ≡ first_part (digit_value a) → low ≡ second_part (digit_value b)
+    → pair_value a b ≡ (if nat_lt (bit_or high low) 256 then Some (bit_or high low % 256) else None)
+octet_of_two a b high low first second = rw (first, second) (of_parts (digit_value a) (digit_value b) (below a) (below b))
 
 -- the octets behind those of a front, where all of the front are digits
 abbrev pub behind : Option (List ℕ) → Option (List ℕ) → Option (List ℕ)
@@ -115,12 +129,12 @@ filled_more digits room i octet true true within size pair told =
     let more : unhex (drop (2 * i) digits) ≡ option_map (λ xs. octet ∷ xs) (unhex (drop (2 * (i + 1)) digits)) = rw (pair_from digits i (omega (arith, size)), pair) refl in
     rw front (front_more (take i room) octet (unhex (drop (2 * (i + 1)) digits)) ∙ (ap (λ (read : Option (List ℕ)). option_map (λ xs. take i room ++ xs) read) (sym more) ∙ told))
 
--- the same by joined values
-pub filled_by : (digits room : List ℕ) (i octet values joined : ℕ) → i < length room → length digits ≡ 2 * length room
-    → pair_value (slice_index digits (2 * i)) (slice_index digits (2 * i + 1)) ≡ (if nat_lt joined 16 then Some octet else None)
-    → filled digits room i (nat_lt values 16) ≡ unhex digits → filled digits (slice_set room i octet) (i + 1) (nat_lt (bit_or values joined) 16) ≡ unhex digits
-filled_by digits room i octet values joined within size pair told =
-    rw (joined_below values joined) (filled_more digits room i octet (nat_lt values 16) (nat_lt joined 16) within size pair told)
+-- the same by joined octets
+pub filled_by : (digits room : List ℕ) (i joined octet : ℕ) → i < length room → length digits ≡ 2 * length room
+    → pair_value (slice_index digits (2 * i)) (slice_index digits (2 * i + 1)) ≡ (if nat_lt octet 256 then Some (octet % 256) else None)
+    → filled digits room i (nat_lt joined 256) ≡ unhex digits → filled digits (slice_set room i (octet % 256)) (i + 1) (nat_lt (bit_or joined octet) 256) ≡ unhex digits
+filled_by digits room i joined octet within size pair told =
+    rw (joined_below joined octet) (filled_more digits room i (octet % 256) (nat_lt joined 256) (nat_lt octet 256) within size pair told)
 
 -- all octets are written
 pub filled_all : (digits room : List ℕ) (i : ℕ) (all : Bool) → length room ≤ i → length digits ≡ 2 * length room

@@ -1,5 +1,5 @@
 -- Octets as pairs of hexadecimal digits.
-use Rattle.std.specs.Prelude.{◌&&◌, ◌+◌, ◌-◌, ◌*◌, nat_le, ℕ, List, [], ◌∷◌, length, Option, Some, None, option_and_then, option_map, if◌then◌else◌}
+use Rattle.std.specs.Prelude.{◌&&◌, ◌+◌, ◌-◌, ◌*◌, nat_le, ℕ, List, [], ◌∷◌, length, Option, Some, None, option_and_then, option_map, unwrap_or, if◌then◌else◌}
 
 -- the value of a digit: 0 to 9, a to f, A to F
 abbrev pub digit_value : ℕ → Option ℕ
@@ -12,6 +12,13 @@ digit_value octet =
 -- the octet of two digits
 abbrev pub pair_value : ℕ → ℕ → Option ℕ
 pair_value a b = option_and_then (λ high. option_map (λ low. high * 16 + low) (digit_value b)) (digit_value a)
+
+-- what the value of a first digit adds to an octet, and what that of a second one does; 256 where there is none
+abbrev pub first_part : Option ℕ → ℕ
+first_part value = unwrap_or (option_map (λ v. v * 16) value) 256
+
+abbrev pub second_part : Option ℕ → ℕ
+second_part value = unwrap_or value 256
 
 -- the octets of pairs of digits
 abbrev pub unhex : List ℕ → Option (List ℕ)

@@ -1,6 +1,6 @@
 //! Octets as pairs of hexadecimal digits.
-ghost use Rattle.std.specs.Prelude.{◌≡◌, ◌≤◌, ◌*◌, ◌++◌, nat_lt, Some, None, length, option_map, unwrap_or, if◌then◌else◌, IfOk};
-ghost use Rattle.command_text.specs.Hex.{digit_value, pair_value, unhex};
+ghost use Rattle.std.specs.Prelude.{◌≡◌, ◌≤◌, ◌*◌, ◌%◌, ◌++◌, nat_lt, Some, None, length, option_map, if◌then◌else◌, IfOk};
+ghost use Rattle.command_text.specs.Hex.{digit_value, first_part, pair_value, second_part, unhex};
 
 use net_base::{List, NoMemory, Octets};
 use std::alloc::Global;
@@ -8,38 +8,65 @@ use std::alloc::Global;
 /// The most octets that are read at once: what a frame mostly has.
 const PIECE: usize = 64;
 
-// The value of each octet as a digit; 16 where it is none.
-const VALUES: [u8; 256] = [
-    16, 16, 16, 16, 16, 16, 16, 16, 16, 16, 16, 16, 16, 16, 16, 16, 16, 16, 16, 16, 16, 16, 16, 16,
-    16, 16, 16, 16, 16, 16, 16, 16, 16, 16, 16, 16, 16, 16, 16, 16, 16, 16, 16, 16, 16, 16, 16, 16,
-    0, 1, 2, 3, 4, 5, 6, 7, 8, 9, 16, 16, 16, 16, 16, 16, 16, 10, 11, 12, 13, 14, 15, 16, 16, 16,
-    16, 16, 16, 16, 16, 16, 16, 16, 16, 16, 16, 16, 16, 16, 16, 16, 16, 16, 16, 16, 16, 16, 16, 10,
-    11, 12, 13, 14, 15, 16, 16, 16, 16, 16, 16, 16, 16, 16, 16, 16, 16, 16, 16, 16, 16, 16, 16, 16,
-    16, 16, 16, 16, 16, 16, 16, 16, 16, 16, 16, 16, 16, 16, 16, 16, 16, 16, 16, 16, 16, 16, 16, 16,
-    16, 16, 16, 16, 16, 16, 16, 16, 16, 16, 16, 16, 16, 16, 16, 16, 16, 16, 16, 16, 16, 16, 16, 16,
-    16, 16, 16, 16, 16, 16, 16, 16, 16, 16, 16, 16, 16, 16, 16, 16, 16, 16, 16, 16, 16, 16, 16, 16,
-    16, 16, 16, 16, 16, 16, 16, 16, 16, 16, 16, 16, 16, 16, 16, 16, 16, 16, 16, 16, 16, 16, 16, 16,
-    16, 16, 16, 16, 16, 16, 16, 16, 16, 16, 16, 16, 16, 16, 16, 16, 16, 16, 16, 16, 16, 16, 16, 16,
-    16, 16, 16, 16, 16, 16, 16, 16, 16, 16, 16, 16, 16, 16,
+// What each octet adds to an octet as its first digit, 16 times its value; 256 where it is none.
+const FIRST: [u16; 256] = [
+    256, 256, 256, 256, 256, 256, 256, 256, 256, 256, 256, 256, 256, 256, 256, 256, 256, 256, 256,
+    256, 256, 256, 256, 256, 256, 256, 256, 256, 256, 256, 256, 256, 256, 256, 256, 256, 256, 256,
+    256, 256, 256, 256, 256, 256, 256, 256, 256, 256, 0, 16, 32, 48, 64, 80, 96, 112, 128, 144,
+    256, 256, 256, 256, 256, 256, 256, 160, 176, 192, 208, 224, 240, 256, 256, 256, 256, 256, 256,
+    256, 256, 256, 256, 256, 256, 256, 256, 256, 256, 256, 256, 256, 256, 256, 256, 256, 256, 256,
+    256, 160, 176, 192, 208, 224, 240, 256, 256, 256, 256, 256, 256, 256, 256, 256, 256, 256, 256,
+    256, 256, 256, 256, 256, 256, 256, 256, 256, 256, 256, 256, 256, 256, 256, 256, 256, 256, 256,
+    256, 256, 256, 256, 256, 256, 256, 256, 256, 256, 256, 256, 256, 256, 256, 256, 256, 256, 256,
+    256, 256, 256, 256, 256, 256, 256, 256, 256, 256, 256, 256, 256, 256, 256, 256, 256, 256, 256,
+    256, 256, 256, 256, 256, 256, 256, 256, 256, 256, 256, 256, 256, 256, 256, 256, 256, 256, 256,
+    256, 256, 256, 256, 256, 256, 256, 256, 256, 256, 256, 256, 256, 256, 256, 256, 256, 256, 256,
+    256, 256, 256, 256, 256, 256, 256, 256, 256, 256, 256, 256, 256, 256, 256, 256, 256, 256, 256,
+    256, 256, 256, 256, 256, 256, 256, 256, 256, 256, 256, 256, 256, 256, 256, 256, 256, 256, 256,
+    256, 256, 256, 256, 256, 256, 256, 256,
 ];
 
-// The value of a digit, below 16; 16 where it is none. A look into the table takes half the time of tests.
-#[tactic(auto, using(crate::proofs::HexLemmas::value_is))]
-fn digit(octet: u8) -> u8
-    ensures { result ≡ unwrap_or (digit_value octet) 16 }
+// What each octet adds to an octet as its second digit, its value; 256 where it is none.
+const SECOND: [u16; 256] = [
+    256, 256, 256, 256, 256, 256, 256, 256, 256, 256, 256, 256, 256, 256, 256, 256, 256, 256, 256,
+    256, 256, 256, 256, 256, 256, 256, 256, 256, 256, 256, 256, 256, 256, 256, 256, 256, 256, 256,
+    256, 256, 256, 256, 256, 256, 256, 256, 256, 256, 0, 1, 2, 3, 4, 5, 6, 7, 8, 9, 256, 256, 256,
+    256, 256, 256, 256, 10, 11, 12, 13, 14, 15, 256, 256, 256, 256, 256, 256, 256, 256, 256, 256,
+    256, 256, 256, 256, 256, 256, 256, 256, 256, 256, 256, 256, 256, 256, 256, 256, 10, 11, 12, 13,
+    14, 15, 256, 256, 256, 256, 256, 256, 256, 256, 256, 256, 256, 256, 256, 256, 256, 256, 256,
+    256, 256, 256, 256, 256, 256, 256, 256, 256, 256, 256, 256, 256, 256, 256, 256, 256, 256, 256,
+    256, 256, 256, 256, 256, 256, 256, 256, 256, 256, 256, 256, 256, 256, 256, 256, 256, 256, 256,
+    256, 256, 256, 256, 256, 256, 256, 256, 256, 256, 256, 256, 256, 256, 256, 256, 256, 256, 256,
+    256, 256, 256, 256, 256, 256, 256, 256, 256, 256, 256, 256, 256, 256, 256, 256, 256, 256, 256,
+    256, 256, 256, 256, 256, 256, 256, 256, 256, 256, 256, 256, 256, 256, 256, 256, 256, 256, 256,
+    256, 256, 256, 256, 256, 256, 256, 256, 256, 256, 256, 256, 256, 256, 256, 256, 256, 256, 256,
+    256, 256, 256, 256, 256, 256, 256, 256, 256, 256, 256, 256, 256, 256, 256, 256, 256, 256, 256,
+    256, 256, 256,
+];
+
+// What an octet adds as a first digit.
+#[tactic(auto, using(crate::proofs::HexLemmas::first_is))]
+fn first(octet: u8) -> u16
+    ensures { result ≡ first_part (digit_value octet) }
 {
-    VALUES[octet as usize]
+    FIRST[octet as usize]
 }
 
-// The octet of two digits, and their values joined: below 16 where both are digits. It has no branch, so that the octets of a piece come
-// one after another.
-#[tactic(auto, using(crate::proofs::HexLemmas::octet_of_two))]
-fn pair(first: u8, second: u8) -> (u8, u8)
-    ensures { pair_value first second ≡ (if nat_lt result.1 16 then Some result.0 else None) }
+// What an octet adds as a second digit.
+#[tactic(auto, using(crate::proofs::HexLemmas::second_is))]
+fn second(octet: u8) -> u16
+    ensures { result ≡ second_part (digit_value octet) }
 {
-    let high = digit(first);
-    let low = digit(second);
-    (high.wrapping_mul(16).wrapping_add(low), high | low)
+    SECOND[octet as usize]
+}
+
+// The octet of two digits; 256 or more where one of them is none. It has no branch, and looks each digit up in a table of its own, so that
+// the octets of a piece come one after another.
+#[tactic(auto, using(crate::proofs::HexLemmas::octet_of_two))]
+fn pair(high: u8, low: u8) -> u16
+    ensures { pair_value high low ≡ (if nat_lt result 256 then Some (result % 256) else None) }
+{
+    first(high) | second(low)
 }
 
 // Writes the octets of pairs of digits into room of just their size, and answers whether all are digits. It takes no memory.
@@ -47,13 +74,13 @@ fn fill(digits: &[u8], room: &mut [u8]) -> bool
     requires { length digits.now ≡ 2 * length room.old }
     ensures { unhex digits.now ≡ (if result then Some room.new else None) }
 {
-    let mut values = 0;
+    let mut joined = 0;
     'filling: for i in 0..room.len() {
-        let (octet, joined) = pair(digits[2 * i], digits[2 * i + 1]);
-        values = values | joined;
-        room[i] = octet;
+        let octet = pair(digits[2 * i], digits[2 * i + 1]);
+        joined = joined | octet;
+        room[i] = (octet % 256) as u8;
     }
-    values < 16
+    joined < 256
 }
 
 // Adds the octets of a piece of pairs of digits, and answers whether all are digits. They are made aside, so that the list grows once.

@@ -5,4 +5,4 @@ use Rattle.command_text.proofs.hex.fill.Goals as goal
 
 pub filling-preserved : goal.filling-preserved
 filling-preserved c =
-    filled_by c.args.digits.now c.filling.room c.filling.i c.pair-octet.result.0 c.filling.values c.pair-octet.result.1 (omega arith) (omega arith) c.pair-octet.ensures c.filling.invariant
+    filled_by c.args.digits.now c.filling.room c.filling.i c.filling.joined c.pair-octet.result (omega arith) (omega arith) c.pair-octet.ensures c.filling.invariant

@@ -5,4 +5,4 @@ use Rattle.command_text.proofs.HexLemmas.{filled}
 use Rattle.command_text.proofs.hex.fill.Given as goal
 
 abbrev pub invariant-filling : goal.invariant-filling
-invariant-filling l = filled l.digits l.room l.i (nat_lt l.values 16) ≡ unhex l.digits
+invariant-filling l = filled l.digits l.room l.i (nat_lt l.joined 256) ≡ unhex l.digits
