@@ -3,14 +3,14 @@ ghost use Rattle.std.specs.Prelude.{◌<◌, length, IfSome};
 ghost use Rattle.net_base.specs.plan.Accepted.{IsChecked};
 ghost use Rattle.provider_edge.specs.Taking.{IsInRange};
 
-use crate::effect::line_of;
+use crate::effect::put_effect;
 use crate::input::Words;
 use crate::names::edge_of;
 use edge_model::{Effects, Input};
 use net_base::{EdgeId, List, MemLink, Plan, Sink};
 use provider_edge::Edge;
 use std::alloc::Global;
-use text_lines::{Line, Page};
+use text_lines::Page;
 
 /// The edge of a plan, and its link.
 #[derive(Drop)]
@@ -78,12 +78,10 @@ impl<'a> Case<'a> {
     /// Puts a line for each thing that the edge gave out.
     pub fn put<K: Sink>(&self, effects: &Effects, page: &mut Page, sink: &mut K) -> Option<()> {
         if effects.idle {
-            page.put_line(sink, &Line::of(b"idle")).ok()?;
+            page.put_line(sink, b"idle", &[]).ok()?;
         }
         for effect in effects.list.as_slice() {
-            if let Some(line) = line_of(self.plan, effect) {
-                page.put_line(sink, &line).ok()?;
-            }
+            put_effect(page, sink, self.plan, effect).ok()?;
         }
         Some(())
     }

@@ -1,19 +1,9 @@
--- Lines by their words, and the lines of a trace one by one.
-use Rattle.std.proofs.Common.{◌≡◌, ◌<◌, ◌+◌, ◌++◌, ◌∷◌, ◌∙◌, ℕ, List, [], length, get_or, drop, refl, sym, ap}
+-- The lines of a trace one by one.
+use Rattle.std.proofs.Common.{◌≡◌, ◌<◌, ◌+◌, ◌++◌, ◌∙◌, ℕ, List, length, get_or, drop, sym, ap}
 use Rattle.std.proofs.lemmas.List.{at_drop_more}
 use Rattle.net_base.specs.declared.trace.entry.Entry.{Entry}
 use Rattle.net_base.specs.declared.plan.Plan.{Plan}
-use Rattle.text_lines.specs.Lines.{LineWords, line_octets, line_of}
-use Rattle.text_lines.proofs.LineLemmas.{line_end_spaced}
-use Rattle.report_text.specs.Report.{entry_line, entry_lines, line_words}
-
-octets_of : (words : List (List ℕ)) → line_octets (line_words words) ≡ line_of words
-octets_of [] = refl
-octets_of (word ∷ words) = ap (λ (rest : List ℕ). word ++ rest) (sym (line_end_spaced words))
-
--- a line by its words
-pub line_told : (line : LineWords) (words : List (List ℕ)) → line ≡ line_words words → line_octets line ≡ line_of words
-line_told line words is = ap line_octets is ∙ octets_of words
+use Rattle.report_text.specs.Report.{entry_line, entry_lines}
 
 -- the line of the next entry, and those behind it
 pub lines_from : (plan : Plan) (trace : List Entry) (index : ℕ) (entry : Entry) → index < length trace → entry ≡ get_or trace index entry

@@ -9,7 +9,7 @@ use Rattle.report_text.specs.declared.ending.Ending.TheVariants.{End, Crowded, T
 use Rattle.report_text.specs.declared.last_line.Counted.{Counted}
 use Rattle.report_text.specs.declared.last_line.Counted.TheVariants as counted
 use Rattle.report_text.specs.Words.{edge_name, circuit_name, wire_name, arrival_name, cause_name, wire_end_name, state_name, event_words}
-use Rattle.text_lines.specs.Lines.{line_of, LineWords}
+use Rattle.text_lines.specs.Lines.{line_of}
 use Rattle.text_pieces.specs.Pieces.{hex}
 
 -- the words of an entry's line
@@ -26,11 +26,6 @@ entry_words plan (Dropped edge origin cause) = codes "dropped" ∷ edge_name pla
 entry_words plan (Session edge peer state) = codes "session" ∷ edge_name plan edge ∷ edge_name plan peer ∷ state_name state ∷ []
 entry_words plan (Wire edge wire down) = codes "wire" ∷ edge_name plan edge ∷ wire_name plan wire ∷ wire_end_name down ∷ []
 entry_words plan (Pong edge wire sequence) = codes "pong" ∷ edge_name plan edge ∷ wire_name plan wire ∷ decimal sequence ∷ []
-
--- words as those of a line: the first one, and those behind it
-abbrev pub line_words : List (List ℕ) → LineWords
-line_words [] = record { first = []; words = [] }
-line_words (word ∷ words) = record { first = word; words = words }
 
 -- the line of an entry
 abbrev pub entry_line : Plan → Entry → List ℕ

@@ -1,53 +1,58 @@
 //! The line of an event that was done.
-ghost use Rattle.std.specs.Prelude.{◌≡◌, ◌∷◌, [], codes};
+ghost use Rattle.std.specs.Prelude.{◌≡◌, ◌∷◌, [], codes, map};
 ghost use Rattle.std.specs.Fmt.{decimal};
-ghost use Rattle.report_text.specs.Report.{line_words};
 ghost use Rattle.report_text.specs.Words.{circuit_name, edge_name, event_words, switch_name, wire_name};
-ghost use Rattle.text_lines.specs.Lines.{word_octets};
+ghost use Rattle.text_lines.specs.Lines.{line_of, word_octets};
+ghost use Rattle.text_lines.specs.Written.{written, Puts};
 ghost use Rattle.text_pieces.specs.Pieces.{hex};
 
 use crate::names::{circuit_word, edge_word, switch_text, wire_word};
-use net_base::{CircuitId, EdgeId, Event, Plan, WireId};
-use text_lines::{Line, Word};
+use net_base::{CircuitId, EdgeId, Event, Failed, Plan, Sink, WireId};
+use text_lines::{Page, Word};
 
-// An event's name behind a pointed bracket.
-fn named(name: &[u8]) -> Line<'_>
-    ensures { result ≡ line_words (codes ">" ∷ name.now ∷ []) }
+// An event's name, and two edges.
+fn edges<'a>(plan: &'a Plan, name: &'a [u8], from: EdgeId, to: EdgeId) -> [Word<'a>; 3]
+    ensures { map word_octets result ≡ name.now ∷ edge_name plan.now from ∷ edge_name plan.now to ∷ [] }
 {
-    Line::of(b">").and(Word::Text(name))
+    [Word::Text(name), edge_word(plan, from), edge_word(plan, to)]
 }
 
-// Two edges behind an event's name.
-fn edges<'a>(plan: &'a Plan, name: &'a [u8], from: EdgeId, to: EdgeId) -> Line<'a>
-    ensures { result ≡ line_words (codes ">" ∷ name.now ∷ edge_name plan.now from ∷ edge_name plan.now to ∷ []) }
+// A delivery of some octets.
+fn delivery(plan: &Plan, from: EdgeId, to: EdgeId, count: u16) -> [Word<'_>; 4]
+    ensures { map word_octets result ≡ codes "deliver" ∷ edge_name plan.now from ∷ edge_name plan.now to ∷ decimal count ∷ [] }
 {
-    named(name)
-        .and(edge_word(plan, from))
-        .and(edge_word(plan, to))
+    [
+        Word::Text(b"deliver"),
+        edge_word(plan, from),
+        edge_word(plan, to),
+        Word::Number(u64::from(count)),
+    ]
 }
 
-// A packet behind an event's name.
-fn packet<'a>(name: &'a [u8], number: u64) -> Line<'a>
-    ensures { result ≡ line_words (codes ">" ∷ name.now ∷ decimal number ∷ []) }
+// An event's name, and a packet.
+fn packet<'a>(name: &'a [u8], number: u64) -> [Word<'a>; 2]
+    ensures { map word_octets result ≡ name.now ∷ decimal number ∷ [] }
 {
-    named(name).and(Word::Number(number))
+    [Word::Text(name), Word::Number(number)]
 }
 
-// An end of a wire and a word behind an event's name.
-fn end<'a>(plan: &'a Plan, name: &'a [u8], at: EdgeId, of: WireId, word: Word<'a>) -> Line<'a>
-    ensures { result ≡ line_words (codes ">" ∷ name.now ∷ edge_name plan.now at ∷ wire_name plan.now of ∷ word_octets word.entry ∷ []) }
+// An event's name, an end of a wire, and a word.
+fn end<'a>(plan: &'a Plan, name: &'a [u8], at: EdgeId, of: WireId, word: Word<'a>) -> [Word<'a>; 4]
+    ensures { map word_octets result ≡ name.now ∷ edge_name plan.now at ∷ wire_name plan.now of ∷ word_octets word.entry ∷ [] }
 {
-    named(name)
-        .and(edge_word(plan, at))
-        .and(wire_word(plan, of))
-        .and(word)
+    [
+        Word::Text(name),
+        edge_word(plan, at),
+        wire_word(plan, of),
+        word,
+    ]
 }
 
-// A circuit and a word behind an event's name.
-fn site<'a>(plan: &'a Plan, name: &'a [u8], at: CircuitId, word: Word<'a>) -> Line<'a>
-    ensures { result ≡ line_words (codes ">" ∷ name.now ∷ circuit_name plan.now at ∷ word_octets word.entry ∷ []) }
+// An event's name, a circuit, and a word.
+fn site<'a>(plan: &'a Plan, name: &'a [u8], at: CircuitId, word: Word<'a>) -> [Word<'a>; 3]
+    ensures { map word_octets result ≡ name.now ∷ circuit_name plan.now at ∷ word_octets word.entry ∷ [] }
 {
-    named(name).and(circuit_word(plan, at)).and(word)
+    [Word::Text(name), circuit_word(plan, at), word]
 }
 
 // `on` or `off`.
@@ -57,29 +62,43 @@ fn switch<'a>(on: bool) -> Word<'a>
     Word::Text(switch_text(on).as_bytes())
 }
 
-/// The words of the line of an event that was done: those of the event behind a pointed bracket.
-pub fn words_of_event<'a>(plan: &'a Plan, event: &'a Event) -> Line<'a>
-    ensures { result ≡ line_words (codes ">" ∷ event_words plan.now event.now) }
+/// Puts the line of an event that was done: its words behind a pointed bracket.
+pub fn put_event<K: Sink>(
+    page: &mut Page,
+    sink: &mut K,
+    plan: &Plan,
+    event: &Event,
+) -> Result<(), Failed>
+    ensures { Puts result (written (K.taken sink.old) (K.faults sink.old) page.old) (written (K.taken sink.new) (K.faults sink.new) page.new) (line_of (codes ">" ∷ event_words plan.now event.now)) }
 {
     match *event {
-        Event::Connect { from, to } => edges(plan, b"connect", from, to),
+        Event::Connect { from, to } => {
+            page.put_line(sink, b">", &edges(plan, b"connect", from, to))
+        }
         Event::Deliver { from, to, count } => {
-            edges(plan, b"deliver", from, to).and(Word::Number(u64::from(count)))
+            page.put_line(sink, b">", &delivery(plan, from, to, count))
         }
-        Event::Lose { edge, peer } => edges(plan, b"lose", edge, peer),
-        Event::Restart { edge: at } => named(b"restart").and(edge_word(plan, at)),
-        Event::Tick => named(b"tick"),
+        Event::Lose { edge, peer } => page.put_line(sink, b">", &edges(plan, b"lose", edge, peer)),
+        Event::Restart { edge: at } => {
+            page.put_line(sink, b">", &[Word::Text(b"restart"), edge_word(plan, at)])
+        }
+        Event::Tick => page.put_line(sink, b">", &[Word::Text(b"tick")]),
         Event::Frame { circuit, ref bytes } => {
-            site(plan, b"frame", circuit, Word::Hex(bytes.as_slice()))
+            let octets = Word::Hex(bytes.as_slice());
+            page.put_line(sink, b">", &site(plan, b"frame", circuit, octets))
         }
-        Event::Arrive { packet: number } => packet(b"arrive", number),
-        Event::Discard { packet: number } => packet(b"drop", number),
-        Event::Again { packet: number } => packet(b"again", number),
-        Event::Wire { edge, wire, on } => end(plan, b"wire", edge, wire, switch(on)),
-        Event::Circuit { circuit, on } => site(plan, b"circuit", circuit, switch(on)),
+        Event::Arrive { packet: number } => page.put_line(sink, b">", &packet(b"arrive", number)),
+        Event::Discard { packet: number } => page.put_line(sink, b">", &packet(b"drop", number)),
+        Event::Again { packet: number } => page.put_line(sink, b">", &packet(b"again", number)),
+        Event::Wire { edge, wire, on } => {
+            page.put_line(sink, b">", &end(plan, b"wire", edge, wire, switch(on)))
+        }
+        Event::Circuit { circuit, on } => {
+            page.put_line(sink, b">", &site(plan, b"circuit", circuit, switch(on)))
+        }
         Event::Status { edge, wire, bits } => {
             let bits = Word::Number(u64::from(bits));
-            end(plan, b"status", edge, wire, bits)
+            page.put_line(sink, b">", &end(plan, b"status", edge, wire, bits))
         }
         Event::Priority {
             edge,
@@ -87,10 +106,16 @@ pub fn words_of_event<'a>(plan: &'a Plan, event: &'a Event) -> Line<'a>
             priority,
         } => {
             let priority = Word::Number(u64::from(priority));
-            end(plan, b"priority", edge, wire, priority)
+            page.put_line(sink, b">", &end(plan, b"priority", edge, wire, priority))
         }
-        Event::Ping { edge: at, wire: of } => named(b"ping")
-            .and(edge_word(plan, at))
-            .and(wire_word(plan, of)),
+        Event::Ping { edge: at, wire: of } => page.put_line(
+            sink,
+            b">",
+            &[
+                Word::Text(b"ping"),
+                edge_word(plan, at),
+                wire_word(plan, of),
+            ],
+        ),
     }
 }

@@ -1,12 +1,13 @@
 //! The last line of a report.
-ghost use Rattle.std.specs.Prelude.{◌≡◌, ◌<◌, ◌^◌, ◌∷◌, [], codes, count_by};
+ghost use Rattle.std.specs.Prelude.{◌≡◌, ◌<◌, ◌^◌, ◌++◌, ◌∷◌, [], codes, count_by, map};
 ghost use Rattle.std.specs.Fmt.{decimal};
-ghost use Rattle.report_text.specs.Report.{is_counted, counted_more, counts_words, last_line, last_words, line_words};
-ghost use Rattle.text_lines.specs.Lines.{line_octets};
+ghost use Rattle.report_text.specs.Report.{is_counted, counted_more, last_words};
+ghost use Rattle.text_lines.specs.Lines.{line_of, word_octets};
+ghost use Rattle.text_lines.specs.Written.{written, Puts};
 
 use crate::ending::Ending;
-use net_base::Entry;
-use text_lines::{Line, Word};
+use net_base::{Entry, Failed, Sink};
+use text_lines::{Page, Word};
 
 /// The kinds of entries that the last line counts. Contracts name a count by its kind.
 #[derive(Clone, Copy, Debug, PartialEq, Eq)]
@@ -80,42 +81,41 @@ fn counts_of(trace: &[Entry]) -> Counts
     counts
 }
 
-// The line that tells these counts.
-fn told<'a>(counts: Counts) -> Line<'a>
-    ensures { result ≡ line_words (counts_words counts.events counts.entered counts.left counts.sent counts.dropped) }
+// What tells these counts.
+fn told<'a>(counts: Counts) -> [Word<'a>; 5]
+    ensures { map word_octets result
+        ≡ (codes "events=" ++ decimal counts.events) ∷ (codes "in=" ++ decimal counts.entered) ∷ (codes "left=" ++ decimal counts.left) ∷ (codes "sent=" ++ decimal counts.sent) ∷ (codes "dropped=" ++ decimal counts.dropped) ∷ [] }
 {
-    Line::of(b"end")
-        .and(Word::Labelled(b"events=", counts.events))
-        .and(Word::Labelled(b"in=", counts.entered))
-        .and(Word::Labelled(b"left=", counts.left))
-        .and(Word::Labelled(b"sent=", counts.sent))
-        .and(Word::Labelled(b"dropped=", counts.dropped))
+    [
+        Word::Labelled(b"events=", counts.events),
+        Word::Labelled(b"in=", counts.entered),
+        Word::Labelled(b"left=", counts.left),
+        Word::Labelled(b"sent=", counts.sent),
+        Word::Labelled(b"dropped=", counts.dropped),
+    ]
 }
 
-// The line of a bound at which a run stopped.
-fn stopped<'a>(bound: &'a [u8], number: u64) -> Line<'a>
-    ensures { result ≡ line_words (codes "stop" ∷ bound.now ∷ decimal number ∷ []) }
+// A bound at which a run stopped.
+fn stopped<'a>(bound: &'a [u8], number: u64) -> [Word<'a>; 2]
+    ensures { map word_octets result ≡ bound.now ∷ decimal number ∷ [] }
 {
-    Line::of(b"stop")
-        .and(Word::Text(bound))
-        .and(Word::Number(number))
+    [Word::Text(bound), Word::Number(number)]
 }
 
-// The words of the last line.
-fn last_words_of<'a>(trace: &[Entry], ending: Ending) -> Line<'a>
-    ensures { result ≡ line_words (last_words trace.now ending) }
+/// Puts the last line of a report: the counts of a run that came to its end, or the bound at which it stopped.
+pub fn put_last_line<K: Sink>(
+    page: &mut Page,
+    sink: &mut K,
+    trace: &[Entry],
+    ending: Ending,
+) -> Result<(), Failed>
+    ensures { Puts result (written (K.taken sink.old) (K.faults sink.old) page.old) (written (K.taken sink.new) (K.faults sink.new) page.new) (line_of (last_words trace.now ending)) }
 {
     match ending {
-        Ending::End => told(counts_of(trace)),
-        Ending::Crowded { count } => stopped(b"Crowded", u64::from(count)),
-        Ending::TooMuch { weight } => stopped(b"TooMuch", weight),
+        Ending::End => page.put_line(sink, b"end", &told(counts_of(trace))),
+        Ending::Crowded { count } => {
+            page.put_line(sink, b"stop", &stopped(b"Crowded", u64::from(count)))
+        }
+        Ending::TooMuch { weight } => page.put_line(sink, b"stop", &stopped(b"TooMuch", weight)),
     }
-}
-
-/// The last line of a report: the counts of a run that came to its end, or the bound at which it stopped.
-#[tactic(auto, using(crate::proofs::LineLemmas::line_told))]
-pub fn last_line_of<'a>(trace: &[Entry], ending: Ending) -> Line<'a>
-    ensures { line_octets result ≡ last_line trace.now ending }
-{
-    last_words_of(trace, ending)
 }

@@ -12,9 +12,8 @@ mod names;
 mod report;
 
 pub use ending::Ending;
-pub use entry::line_of_entry;
-pub use last_line::{Counted, last_line_of};
+pub use last_line::{Counted, put_last_line};
 pub use names::{
     arrival_word, cause_text, circuit_word, edge_word, state_text, wire_end_text, wire_word,
 };
-pub use report::{put_last_line, put_report};
+pub use report::put_report;

@@ -1,25 +1,13 @@
 //! The report of a run.
 ghost use Rattle.std.specs.Prelude.{◌++◌, codes};
-ghost use Rattle.report_text.specs.Report.{entry_line, entry_lines, last_line, report};
+ghost use Rattle.report_text.specs.Report.{entry_lines, report};
 ghost use Rattle.text_lines.specs.Written.{written, Puts};
 
 use crate::ending::Ending;
-use crate::entry::line_of_entry;
-use crate::last_line::last_line_of;
+use crate::entry::put_entry;
+use crate::last_line::put_last_line;
 use net_base::{Entry, Failed, Plan, Sink};
 use text_lines::Page;
-
-// Puts the line of an entry.
-fn put_entry<K: Sink>(
-    page: &mut Page,
-    sink: &mut K,
-    plan: &Plan,
-    entry: &Entry,
-) -> Result<(), Failed>
-    ensures { Puts result (written (K.taken sink.old) (K.faults sink.old) page.old) (written (K.taken sink.new) (K.faults sink.new) page.new) (entry_line plan.now entry.now) }
-{
-    page.put_line(sink, &line_of_entry(plan, entry))
-}
 
 // Puts a line for each entry.
 fn put_entries<K: Sink>(
@@ -34,18 +22,6 @@ fn put_entries<K: Sink>(
         put_entry(page, sink, plan, entry)?;
     }
     Ok(())
-}
-
-/// Puts the last line of a report.
-pub fn put_last_line<K: Sink>(
-    page: &mut Page,
-    sink: &mut K,
-    trace: &[Entry],
-    ending: Ending,
-) -> Result<(), Failed>
-    ensures { Puts result (written (K.taken sink.old) (K.faults sink.old) page.old) (written (K.taken sink.new) (K.faults sink.new) page.new) (last_line trace.now ending) }
-{
-    page.put_line(sink, &last_line_of(trace, ending))
 }
 
 // Puts the first line and a line for each entry.

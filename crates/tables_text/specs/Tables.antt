@@ -27,17 +27,17 @@ use Rattle.text_pieces.specs.Pieces.{hex}
 
 -- the label that an edge gives next
 abbrev pub edge_words : Plan → EdgeId → EdgeState → List (List ℕ)
-edge_words plan me edge = codes "edge" ∷ edge_name plan me ∷ (codes "next=" ++ decimal edge.next_label) ∷ []
+edge_words plan me edge = edge_name plan me ∷ (codes "next=" ++ decimal edge.next_label) ∷ []
 
 abbrev pub edge_line : Plan → EdgeId → EdgeState → List ℕ
-edge_line plan me edge = line_of (edge_words plan me edge)
+edge_line plan me edge = line_of (codes "edge" ∷ edge_words plan me edge)
 
 -- its session with a peer
 abbrev pub session_words : Plan → EdgeState → EdgeId → List (List ℕ)
-session_words plan edge peer = codes "session" ∷ edge_name plan peer ∷ state_name (session_name (edge.peering peer.0)) ∷ []
+session_words plan edge peer = edge_name plan peer ∷ state_name (session_name (edge.peering peer.0)) ∷ []
 
 abbrev pub session_line : Plan → EdgeState → EdgeId → List ℕ
-session_line plan edge peer = line_of (session_words plan edge peer)
+session_line plan edge peer = line_of (codes "session" ∷ session_words plan edge peer)
 
 -- those with the peers of the rows from a place on, where a segment joins the two edges
 abbrev pub session_lines : Plan → EdgeId → EdgeState → ℕ → List EdgePlan → List ℕ
@@ -64,8 +64,7 @@ end_text plan edge place =
 -- an end: its wire and segment, the edge beside it, both labels, and whether it forwards
 abbrev pub end_words : Plan → EdgeState → EndPlace → List (List ℕ)
 end_words plan edge place =
-    codes "end"
-    ∷ wire_name plan place.wire
+    wire_name plan place.wire
     ∷ decimal place.segment
     ∷ edge_name plan place.peer
     ∷ local_text (end_at edge place).local
@@ -73,7 +72,7 @@ end_words plan edge place =
     ∷ end_text plan edge place ∷ []
 
 abbrev pub end_line : Plan → EdgeState → EndPlace → List ℕ
-end_line plan edge place = line_of (end_words plan edge place)
+end_line plan edge place = line_of (codes "end" ∷ end_words plan edge place)
 
 abbrev pub end_lines : Plan → EdgeState → List EndPlace → List ℕ
 end_lines plan edge [] = []
@@ -89,10 +88,10 @@ port_name plan (Some (port.Spoke wire)) = wire_name plan wire
 -- an address of a service: the port behind which it was learned, and the tick of its last frame
 abbrev pub address_words : Plan → List ℕ → List Port → MacEntry → List (List ℕ)
 address_words plan service ports entry =
-    codes "mac" ∷ service ∷ hex entry.address.0 ∷ port_name plan (slice_get ports entry.port) ∷ decimal entry.tick ∷ []
+    service ∷ hex entry.address.0 ∷ port_name plan (slice_get ports entry.port) ∷ decimal entry.tick ∷ []
 
 abbrev pub address_line : Plan → List ℕ → List Port → MacEntry → List ℕ
-address_line plan service ports entry = line_of (address_words plan service ports entry)
+address_line plan service ports entry = line_of (codes "mac" ∷ address_words plan service ports entry)
 
 abbrev pub address_lines : Plan → List ℕ → List Port → List MacEntry → List ℕ
 address_lines plan service ports [] = []

@@ -1,13 +1,12 @@
 //! The lines of the addresses that an edge has learned.
-ghost use Rattle.std.specs.Prelude.{◌≡◌, ◌<◌, ◌≤◌, length};
+ghost use Rattle.std.specs.Prelude.{◌≡◌, ◌<◌, ◌≤◌, length, map};
 ghost use Rattle.net_base.specs.plan.Accepted.{IsWithinLimits};
 ghost use Rattle.edge_model.specs.State.{addresses_of};
 ghost use Rattle.hvpls_spokes.specs.Port.{ports_of};
 ghost use Rattle.provider_edge.specs.Lists.{seen};
 ghost use Rattle.tables_text.specs.Addresses.{by_address};
-ghost use Rattle.report_text.specs.Report.{line_words};
 ghost use Rattle.tables_text.specs.Tables.{address_line, address_lines, address_words, port_name, service_lines, service_name, service_text};
-ghost use Rattle.text_lines.specs.Lines.{line_octets, word_octets};
+ghost use Rattle.text_lines.specs.Lines.{word_octets};
 ghost use Rattle.text_lines.specs.Written.{written, Puts};
 
 use crate::sorting::Sorting;
@@ -16,7 +15,7 @@ use mac_table::{MacEntry, MacTable};
 use net_base::{Failed, Plan, ServiceId, Sink};
 use provider_edge::Edge;
 use report_text::{circuit_word, wire_word};
-use text_lines::{Line, Page, Word};
+use text_lines::{Page, Word};
 use vsi_bridge::Bridge;
 
 // A port by the name of its circuit or wire.
@@ -38,23 +37,16 @@ struct Service<'a> {
     ports: &'a Ports,
 }
 
-// The words of an address.
-fn words<'a>(service: &Service<'a>, entry: &'a MacEntry) -> Line<'a>
-    ensures { result ≡ line_words (address_words service.now.plan.now service.now.name.now service.now.ports.now entry.now) }
+// The words of an address behind the first one.
+fn words<'a>(service: &Service<'a>, entry: &'a MacEntry) -> [Word<'a>; 4]
+    ensures { map word_octets result ≡ address_words service.now.plan.now service.now.name.now service.now.ports.now entry.now }
 {
-    Line::of(b"mac")
-        .and(Word::Text(service.name))
-        .and(Word::Hex(&entry.address.0))
-        .and(port_word(service.plan, service.ports.get(entry.port)))
-        .and(Word::Number(entry.tick))
-}
-
-// The line of an address.
-#[tactic(auto, using(report_text::proofs::LineLemmas::line_told))]
-fn line<'a>(service: &Service<'a>, entry: &'a MacEntry) -> Line<'a>
-    ensures { line_octets result ≡ address_line service.now.plan.now service.now.name.now service.now.ports.now entry.now }
-{
-    words(service, entry)
+    [
+        Word::Text(service.name),
+        Word::Hex(&entry.address.0),
+        port_word(service.plan, service.ports.get(entry.port)),
+        Word::Number(entry.tick),
+    ]
 }
 
 // Puts the line of an address.
@@ -66,7 +58,7 @@ fn put_entry<K: Sink>(
 ) -> Result<(), Failed>
     ensures { Puts result (written (K.taken sink.old) (K.faults sink.old) page.old) (written (K.taken sink.new) (K.faults sink.new) page.new) (address_line service.now.plan.now service.now.name.now service.now.ports.now entry.now) }
 {
-    page.put_line(sink, &line(service, entry))
+    page.put_line(sink, b"mac", &words(service, entry))
 }
 
 // Puts the lines of addresses.

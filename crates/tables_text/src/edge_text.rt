@@ -1,11 +1,10 @@
 //! All that is told of one edge.
-ghost use Rattle.std.specs.Prelude.{◌≡◌, ◌++◌};
+ghost use Rattle.std.specs.Prelude.{◌≡◌, ◌++◌, map};
 ghost use Rattle.net_base.specs.plan.Accepted.{IsWithinLimits};
 ghost use Rattle.edge_model.specs.EndPlaces.{end_places};
 ghost use Rattle.provider_edge.specs.Lists.{seen};
-ghost use Rattle.report_text.specs.Report.{line_words};
 ghost use Rattle.tables_text.specs.Tables.{edge_line, edge_text, edge_words, end_lines, service_lines, session_lines};
-ghost use Rattle.text_lines.specs.Lines.{line_octets};
+ghost use Rattle.text_lines.specs.Lines.{word_octets};
 ghost use Rattle.text_lines.specs.Written.{written, Puts};
 
 use crate::addresses::put_addresses;
@@ -15,30 +14,23 @@ use crate::sorting::Sorting;
 use net_base::{Failed, Sink};
 use provider_edge::Edge;
 use report_text::edge_word;
-use text_lines::{Line, Page, Word};
+use text_lines::{Page, Word};
 
-// The words of an edge.
-fn words(edge: &Edge) -> Line<'_>
-    ensures { result ≡ line_words (edge_words edge.now.plan edge.now.me (seen edge.now)) }
+// The words of an edge behind the first one.
+fn words(edge: &Edge) -> [Word<'_>; 2]
+    ensures { map word_octets result ≡ edge_words edge.now.plan edge.now.me (seen edge.now) }
 {
-    Line::of(b"edge")
-        .and(edge_word(edge.plan(), edge.me()))
-        .and(Word::Labelled(b"next=", u64::from(edge.next_label())))
-}
-
-// The line of an edge.
-#[tactic(auto, using(report_text::proofs::LineLemmas::line_told))]
-fn line(edge: &Edge) -> Line<'_>
-    ensures { line_octets result ≡ edge_line edge.now.plan edge.now.me (seen edge.now) }
-{
-    words(edge)
+    [
+        edge_word(edge.plan(), edge.me()),
+        Word::Labelled(b"next=", u64::from(edge.next_label())),
+    ]
 }
 
 // Puts the line of an edge.
 fn put_own<K: Sink>(page: &mut Page, sink: &mut K, edge: &Edge) -> Result<(), Failed>
     ensures { Puts result (written (K.taken sink.old) (K.faults sink.old) page.old) (written (K.taken sink.new) (K.faults sink.new) page.new) (edge_line edge.now.plan edge.now.me (seen edge.now)) }
 {
-    page.put_line(sink, &line(edge))
+    page.put_line(sink, b"edge", &words(edge))
 }
 
 // Puts the lines of the ends, and of the addresses.

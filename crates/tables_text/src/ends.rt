@@ -1,24 +1,21 @@
 //! The lines of the ends of an edge.
-ghost use Rattle.std.specs.Prelude.{◌≡◌, ◌<◌, ◌∷◌, [], codes, length, option_copied};
-ghost use Rattle.std.specs.Fmt.{decimal};
+ghost use Rattle.std.specs.Prelude.{◌≡◌, ◌<◌, length, map, option_copied};
 ghost use Rattle.edge_model.specs.EndPlaces.{end_places};
 ghost use Rattle.edge_model.specs.Role.{down_at};
 ghost use Rattle.edge_model.specs.State.{end_at};
 ghost use Rattle.provider_edge.specs.Lists.{seen};
 ghost use Rattle.pw_ends.specs.Ends.{place_of};
 ghost use Rattle.pw_signalling.specs.AnyEnd.{end_of};
-ghost use Rattle.report_text.specs.Report.{line_words};
-ghost use Rattle.report_text.specs.Words.{edge_name, wire_name};
 ghost use Rattle.tables_text.specs.Tables.{end_line, end_lines, end_text, end_words, local_text, remote_text};
-ghost use Rattle.text_lines.specs.Lines.{line_octets, word_octets};
+ghost use Rattle.text_lines.specs.Lines.{word_octets};
 ghost use Rattle.text_lines.specs.Written.{written, Puts};
 
 use edge_model::EndPlace;
-use net_base::{Down, Failed, Plan, Sink};
+use net_base::{Down, Failed, Sink};
 use provider_edge::Edge;
 use pw_signalling::{Binding, PwEnd};
 use report_text::{edge_word, wire_end_text, wire_word};
-use text_lines::{Line, Page, Word};
+use text_lines::{Page, Word};
 
 // What an end tells its peer.
 fn local<'a>(end: &PwEnd) -> Word<'a>
@@ -74,37 +71,23 @@ fn end_at(edge: &Edge, slot: usize, place: EndPlace) -> &PwEnd
     edge.end_in(slot)
 }
 
-// Where an end is: its wire and segment, and the edge beside it.
-fn front(plan: &Plan, place: EndPlace) -> Line<'_>
-    ensures { result ≡ line_words (codes "end" ∷ wire_name plan.now place.wire ∷ decimal place.segment ∷ edge_name plan.now place.peer ∷ []) }
-{
-    Line::of(b"end")
-        .and(wire_word(plan, place.wire))
-        .and(Word::Number(u64::from(place.segment)))
-        .and(edge_word(plan, place.peer))
-}
-
-// The words of the end of a slot.
-fn words(edge: &Edge, slot: usize, place: EndPlace) -> Line<'_>
+// The words of the end of a slot behind the first one: its wire and segment, the edge beside it, the labels of both, and whether it
+// forwards.
+fn words(edge: &Edge, slot: usize, place: EndPlace) -> [Word<'_>; 6]
     requires slot { slot < length edge.now.ends.places }
     requires place { place ≡ place_of edge.now.ends slot }
-    ensures { result ≡ line_words (end_words edge.now.plan (seen edge.now) place) }
+    ensures { map word_octets result ≡ end_words edge.now.plan (seen edge.now) place }
 {
+    let plan = edge.plan();
     let end = end_at(edge, slot, place);
-    front(edge.plan(), place)
-        .and(local(end))
-        .and(remote(end.remote()))
-        .and(state(edge, slot, place))
-}
-
-// The line of the end of a slot.
-#[tactic(auto, using(report_text::proofs::LineLemmas::line_told))]
-fn line(edge: &Edge, slot: usize, place: EndPlace) -> Line<'_>
-    requires slot { slot < length edge.now.ends.places }
-    requires place { place ≡ place_of edge.now.ends slot }
-    ensures { line_octets result ≡ end_line edge.now.plan (seen edge.now) place }
-{
-    words(edge, slot, place)
+    [
+        wire_word(plan, place.wire),
+        Word::Number(u64::from(place.segment)),
+        edge_word(plan, place.peer),
+        local(end),
+        remote(end.remote()),
+        state(edge, slot, place),
+    ]
 }
 
 // The place of a slot.
@@ -120,7 +103,7 @@ fn put_end<K: Sink>(page: &mut Page, sink: &mut K, edge: &Edge, slot: usize) -> 
     requires { slot < length edge.now.ends.places }
     ensures { Puts result (written (K.taken sink.old) (K.faults sink.old) page.old) (written (K.taken sink.new) (K.faults sink.new) page.new) (end_line edge.now.plan (seen edge.now) (place_of edge.now.ends slot)) }
 {
-    page.put_line(sink, &line(edge, slot, place_in(edge, slot)))
+    page.put_line(sink, b"end", &words(edge, slot, place_in(edge, slot)))
 }
 
 // How many ends the edge has.

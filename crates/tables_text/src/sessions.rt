@@ -1,33 +1,25 @@
 //! The lines of the sessions of an edge.
-ghost use Rattle.std.specs.Prelude.{◌≡◌, [], length, if◌then◌else◌};
+ghost use Rattle.std.specs.Prelude.{◌≡◌, [], length, map, if◌then◌else◌};
 ghost use Rattle.net_base.specs.plan.Accepted.{IsWithinLimits};
 ghost use Rattle.net_base.specs.plan.Paths.{are_joined};
 ghost use Rattle.provider_edge.specs.Lists.{seen};
-ghost use Rattle.report_text.specs.Report.{line_words};
 ghost use Rattle.tables_text.specs.Tables.{session_line, session_lines, session_words};
-ghost use Rattle.text_lines.specs.Lines.{line_octets};
+ghost use Rattle.text_lines.specs.Lines.{word_octets};
 ghost use Rattle.text_lines.specs.Written.{written, Puts};
 
 use net_base::{EdgeId, Failed, Sink};
 use provider_edge::Edge;
 use report_text::{edge_word, state_text};
-use text_lines::{Line, Page, Word};
+use text_lines::{Page, Word};
 
-// The words of the session of an edge with a peer.
-fn words(edge: &Edge, peer: EdgeId) -> Line<'_>
-    ensures { result ≡ line_words (session_words edge.now.plan (seen edge.now) peer) }
+// The words of the session of an edge with a peer behind the first one.
+fn words(edge: &Edge, peer: EdgeId) -> [Word<'_>; 2]
+    ensures { map word_octets result ≡ session_words edge.now.plan (seen edge.now) peer }
 {
-    Line::of(b"session")
-        .and(edge_word(edge.plan(), peer))
-        .and(Word::Text(state_text(edge.session(peer)).as_bytes()))
-}
-
-// The session of an edge with a peer.
-#[tactic(auto, using(report_text::proofs::LineLemmas::line_told))]
-fn line(edge: &Edge, peer: EdgeId) -> Line<'_>
-    ensures { line_octets result ≡ session_line edge.now.plan (seen edge.now) peer }
-{
-    words(edge, peer)
+    [
+        edge_word(edge.plan(), peer),
+        Word::Text(state_text(edge.session(peer)).as_bytes()),
+    ]
 }
 
 // Puts the line of the session with a peer, where a segment joins the two edges.
@@ -42,7 +34,7 @@ fn put_session<K: Sink>(
         (if are_joined edge.now.plan edge.now.me.0 peer.0 then session_line edge.now.plan (seen edge.now) peer else []) }
 {
     if edge.plan().joined(edge.me(), peer) {
-        page.put_line(sink, &line(edge, peer))
+        page.put_line(sink, b"session", &words(edge, peer))
     } else {
         Ok(())
     }

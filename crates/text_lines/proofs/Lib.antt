@@ -1,3 +1,4 @@
 pub mod WrittenLemmas
 pub mod LineLemmas
 pub mod HexLemmas
+pub mod RoomLemmas

@@ -1,7 +1,7 @@
 -- Lines of words.
 use Rattle.std.specs.Prelude.{◌++◌, codes, ℕ, List, [], ◌∷◌}
 use Rattle.std.specs.Fmt.{decimal}
-use Rattle.text_pieces.specs.Pieces.{hex, spaced}
+use Rattle.text_pieces.specs.Pieces.{hex}
 use Rattle.text_lines.specs.declared.word.Word.{Word}
 use Rattle.text_lines.specs.declared.word.Word.TheVariants.{Text, Number, Labelled, Marked, Hex}
 
@@ -22,11 +22,3 @@ line_end (word ∷ words) = (codes " " ++ word) ++ line_end words
 abbrev pub line_of : List (List ℕ) → List ℕ
 line_of [] = codes "\n"
 line_of (word ∷ words) = word ++ line_end words
-
--- the octets of the first word of a line, and of those behind it
-pub record LineWords : Type 0 where
-  pub first : List ℕ
-  pub words : List (List ℕ)
-
-abbrev pub line_octets : LineWords → List ℕ
-line_octets line = line.first ++ (spaced line.words ++ codes "\n")

@@ -1,11 +1,10 @@
 //! Pages.
-ghost use Rattle.std.specs.Prelude.{◌≡◌, ◌<◌, ◌≤◌, ◌+◌, ◌++◌, ◌∷◌, [], codes, length, take, map, IfOk, OnOk, OnErr};
+ghost use Rattle.std.specs.Prelude.{◌≡◌, ◌<◌, ◌≤◌, ◌+◌, ◌*◌, ◌++◌, ◌∷◌, [], codes, length, take, map, IfOk, OnOk, OnErr};
 ghost use Rattle.std.specs.Fmt.{decimal};
 ghost use Rattle.text_pieces.specs.Pieces.{hex, spaced};
-ghost use Rattle.text_lines.specs.Lines.{line_octets, word_octets};
+ghost use Rattle.text_lines.specs.Lines.{line_end, line_of, word_octets};
 ghost use Rattle.text_lines.specs.Written.{written, GoesOn, IsCut, Moves, Puts, Writes};
 
-use crate::line::Line;
 use crate::whole::write_text;
 use crate::word::Word;
 use itoa::Buffer;
@@ -21,19 +20,22 @@ const ROOM: usize = 65_536;
 const PIECE: usize = 64;
 
 /// Octets that wait until there are many of them, and are then written to a sink at once. Contracts see it as the list of these octets.
+///
+/// Its room is filled once, and octets are laid down in it behind those that wait. A list would ask each time whether it has to grow.
 #[derive(Drop)]
 pub struct Page {
-    octets: Vec<u8>,
+    room: Vec<u8>,
+    len: usize,
 }
 
 impl Model for Page {
-    ghost use Rattle.std.specs.Prelude.{◌≤◌, ℕ, List, vec_len, vec_capacity};
+    ghost use Rattle.std.specs.Prelude.{◌≡◌, ◌≤◌, ℕ, List, take, vec_len};
 
     ghost Value = { List ℕ };
 
-    ghost view = { λ p. p.octets.items };
+    ghost view = { λ p. take p.len p.room.items };
 
-    ghost invariant = { λ p. (65536 ≤ vec_capacity p.octets) × (vec_len p.octets ≤ 65536) };
+    ghost invariant = { λ p. (vec_len p.room ≡ 65536) × (p.len ≤ 65536) };
 }
 
 impl Page {
@@ -41,9 +43,9 @@ impl Page {
     pub fn new(alloc: Global) -> Result<Page, NoMemory>
         ensures { IfOk result (λ page. page ≡ []) }
     {
-        Ok(Page {
-            octets: Vec::with_capacity(alloc, ROOM)?,
-        })
+        let mut room = Vec::new(alloc);
+        room.resize(ROOM, 0)?;
+        Ok(Page { room, len: 0 })
     }
 
     // Lets a front of the octets wait, as long as there is room.
@@ -52,9 +54,9 @@ impl Page {
         ensures within { result ≤ length octets.now }
         ensures some { 0 < length octets.now → length self.old < 65536 → 0 < result }
     {
-        let count = octets.len().min(ROOM - self.octets.len());
+        let count = octets.len().min(ROOM - self.len);
         let (front, _) = octets.split_at(count);
-        self.octets.extend_from_slice(front).unwrap();
+        self.wait(front);
         count
     }
 
@@ -66,9 +68,9 @@ impl Page {
         ensures cut { OnErr result (IsCut (written (K.taken sink.old) (K.faults sink.old) self.old) (written (K.taken sink.new) (K.faults sink.new) self.new) []) }
         ensures never_falls { K.faults sink.old ≤ K.faults sink.new }
     {
-        match write_text(sink, self.octets.as_slice()) {
+        match write_text(sink, &self.room[..self.len]) {
             Ok(()) => {
-                self.octets.truncate(0);
+                self.len = 0;
                 Ok(())
             }
             Err(fault) => Err(fault),
@@ -82,7 +84,7 @@ impl Page {
         ensures room { OnOk result (length self.new < 65536) }
         ensures cut { OnErr result (IsCut (written (K.taken sink.old) (K.faults sink.old) self.old) (written (K.taken sink.new) (K.faults sink.new) self.new) []) }
     {
-        if self.octets.len() < ROOM {
+        if self.len < ROOM {
             return Ok(());
         }
         self.flush(sink)
@@ -108,7 +110,7 @@ impl Page {
     pub fn put<K: Sink>(&mut self, sink: &mut K, octets: &[u8]) -> Result<(), Failed>
         ensures { Puts result (written (K.taken sink.old) (K.faults sink.old) self.old) (written (K.taken sink.new) (K.faults sink.new) self.new) octets.now }
     {
-        if octets.len() <= ROOM - self.octets.len() {
+        if octets.len() <= ROOM - self.len {
             self.wait(octets);
             return Ok(());
         }
@@ -117,21 +119,36 @@ impl Page {
 
     // Lets octets wait, for which there is room.
     #[inline(always)]
+    #[tactic(auto, using(crate::proofs::RoomLemmas::laid_behind))]
     fn wait(&mut self, octets: &[u8])
         requires room { length self.old + length octets.now ≤ 65536 }
         ensures { self.new ≡ self.old ++ octets.now }
     {
-        self.octets.extend_from_slice(octets).unwrap();
+        let end = self.len + octets.len();
+        self.room[self.len..end].copy_from_slice(octets);
+        self.len = end;
+    }
+
+    // Lets two digits for each octet wait, for which there is room.
+    #[tactic(auto, using(crate::proofs::RoomLemmas::laid_behind))]
+    fn wait_hex(&mut self, octets: &[u8])
+        requires room { length self.old + 2 * length octets.now ≤ 65536 }
+        ensures { self.new ≡ self.old ++ hex octets.now }
+    {
+        let end = self.len + 2 * octets.len();
+        write_digits(octets, &mut self.room[self.len..end]);
+        self.len = end;
     }
 
     // Puts one octet.
     #[inline(always)]
-    #[tactic(auto, using(crate::proofs::WrittenLemmas::goes_waiting))]
+    #[tactic(auto, using(crate::proofs::RoomLemmas::one_behind, crate::proofs::WrittenLemmas::goes_waiting))]
     fn put_octet<K: Sink>(&mut self, sink: &mut K, octet: u8) -> Result<(), Failed>
         ensures { Puts result (written (K.taken sink.old) (K.faults sink.old) self.old) (written (K.taken sink.new) (K.faults sink.new) self.new) (octet ∷ []) }
     {
-        if self.octets.len() < ROOM {
-            self.octets.push_reserved(octet);
+        if self.len < ROOM {
+            self.room[self.len] = octet;
+            self.len += 1;
             return Ok(());
         }
         self.put_over(sink, &[octet])
@@ -163,7 +180,21 @@ impl Page {
     }
 
     // Puts two digits for each octet.
+    #[tactic(auto, using(crate::proofs::WrittenLemmas::goes_waiting))]
     fn put_hex<K: Sink>(&mut self, sink: &mut K, octets: &[u8]) -> Result<(), Failed>
+        ensures { Puts result (written (K.taken sink.old) (K.faults sink.old) self.old) (written (K.taken sink.new) (K.faults sink.new) self.new) (hex octets.now) }
+    {
+        if octets.len() <= (ROOM - self.len) / 2 {
+            self.wait_hex(octets);
+            return Ok(());
+        }
+        self.put_pieces(sink, octets)
+    }
+
+    // Puts two digits for each octet, where there may be no room for all.
+    #[cold]
+    #[inline(never)]
+    fn put_pieces<K: Sink>(&mut self, sink: &mut K, octets: &[u8]) -> Result<(), Failed>
         ensures { Puts result (written (K.taken sink.old) (K.faults sink.old) self.old) (written (K.taken sink.new) (K.faults sink.new) self.new) (hex octets.now) }
     {
         let mut at = 0;
@@ -250,9 +281,9 @@ impl Page {
     }
 
     // Puts what stands behind the first word of a line.
-    #[tactic(auto, using(crate::proofs::WrittenLemmas::puts_two, crate::proofs::WrittenLemmas::cut_first))]
+    #[tactic(auto, using(crate::proofs::LineLemmas::line_end_spaced, crate::proofs::WrittenLemmas::puts_two, crate::proofs::WrittenLemmas::cut_first))]
     fn put_rest<K: Sink>(&mut self, sink: &mut K, words: &[Word<'_>]) -> Result<(), Failed>
-        ensures { Puts result (written (K.taken sink.old) (K.faults sink.old) self.old) (written (K.taken sink.new) (K.faults sink.new) self.new) (spaced (map word_octets words.now) ++ codes "\n") }
+        ensures { Puts result (written (K.taken sink.old) (K.faults sink.old) self.old) (written (K.taken sink.new) (K.faults sink.new) self.new) (line_end (map word_octets words.now)) }
     {
         match self.put_words(sink, words) {
             Ok(()) => self.put_octet(sink, b'\n'),
@@ -260,13 +291,18 @@ impl Page {
         }
     }
 
-    /// Puts a line.
+    /// Puts a line by its words: a first one, and those behind it. It takes no memory.
     #[tactic(auto, using(crate::proofs::WrittenLemmas::puts_two, crate::proofs::WrittenLemmas::cut_first))]
-    pub fn put_line<K: Sink>(&mut self, sink: &mut K, line: &Line<'_>) -> Result<(), Failed>
-        ensures { Puts result (written (K.taken sink.old) (K.faults sink.old) self.old) (written (K.taken sink.new) (K.faults sink.new) self.new) (line_octets line.now) }
+    pub fn put_line<K: Sink>(
+        &mut self,
+        sink: &mut K,
+        first: &[u8],
+        words: &[Word<'_>],
+    ) -> Result<(), Failed>
+        ensures { Puts result (written (K.taken sink.old) (K.faults sink.old) self.old) (written (K.taken sink.new) (K.faults sink.new) self.new) (line_of (first.now ∷ map word_octets words.now)) }
     {
-        match self.put(sink, line.first()) {
-            Ok(()) => self.put_rest(sink, line.words()),
+        match self.put(sink, first) {
+            Ok(()) => self.put_rest(sink, words),
             Err(fault) => Err(fault),
         }
     }

@@ -1,15 +1,15 @@
 //! The command `rehearse`: the counts of the run of a generated scenario.
-ghost use Rattle.std.specs.Prelude.{◌≡◌, ◌++◌, ◌∷◌, [], codes};
+ghost use Rattle.std.specs.Prelude.{◌++◌, ◌∷◌, [], codes};
 ghost use Rattle.std.specs.Fmt.{decimal};
-ghost use Rattle.report_text.specs.Report.{counts_line, line_words};
-ghost use Rattle.text_lines.specs.Lines.{line_octets, line_of};
+ghost use Rattle.report_text.specs.Report.{counts_line};
+ghost use Rattle.text_lines.specs.Lines.{line_of};
 ghost use Rattle.text_lines.specs.Written.{Puts, written};
 ghost use Rattle.vplsnet.specs.Rehearse.{rehearse_text};
 
 use crate::scenario_run::ScenarioRun;
 use net_base::{Entry, Failed, Sink};
 use report_text::{Ending, put_last_line};
-use text_lines::{Line, Page, Word};
+use text_lines::{Page, Word};
 
 /// Puts the seed and the counts of a run, and of a run that a limit stopped nothing.
 #[tactic(auto, using(text_lines::proofs::WrittenLemmas::goes_none))]
@@ -42,24 +42,9 @@ fn put_counts<K: Sink>(
     }
 }
 
-// The words of the line of the seed.
-fn words_of_seed<'a>(seed: u64) -> Line<'a>
-    ensures { result ≡ line_words (codes "rehearse" ∷ decimal seed ∷ []) }
-{
-    Line::of(b"rehearse").and(Word::Number(seed))
-}
-
-// The line of the seed.
-#[tactic(auto, using(report_text::proofs::LineLemmas::line_told))]
-fn line_of_seed<'a>(seed: u64) -> Line<'a>
-    ensures { line_octets result ≡ line_of (codes "rehearse" ∷ decimal seed ∷ []) }
-{
-    words_of_seed(seed)
-}
-
 // Puts the line of the seed.
 fn put_seed<K: Sink>(page: &mut Page, sink: &mut K, seed: u64) -> Result<(), Failed>
     ensures { Puts result (written (K.taken sink.old) (K.faults sink.old) page.old) (written (K.taken sink.new) (K.faults sink.new) page.new) (line_of (codes "rehearse" ∷ decimal seed ∷ [])) }
 {
-    page.put_line(sink, &line_of_seed(seed))
+    page.put_line(sink, b"rehearse", &[Word::Number(seed)])
 }

@@ -1,8 +1,7 @@
-use Rattle.std.proofs.Common.{◌∙◌, ◌++◌, [], drop, take, sym, subst, arith, ap, List, ℕ, take-append-drop}
+use Rattle.std.proofs.Common.{◌∙◌, ◌++◌, [], drop, take, sym, arith, ap, List, ℕ, take-append-drop}
 use Rattle.std.proofs.lemmas.Result.{err_from_is_err_and}
 use Rattle.std.proofs.lemmas.Grind.{common_steps}
 use Rattle.std.proofs.lemmas.List.{append-nil, drop-drop}
-use Rattle.text_lines.specs.Written.{GoesOn}
 use Rattle.text_lines.proofs.WrittenLemmas.{putting_cut, putting_more}
 use Rattle.text_lines.proofs.page.Page.put_over.Goals as goal
 

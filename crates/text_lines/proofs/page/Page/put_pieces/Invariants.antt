@@ -2,7 +2,7 @@ use Rattle.std.proofs.Common.{◌≤◌, ◌-◌, length, drop}
 use Rattle.text_pieces.specs.Pieces.{hex}
 use Rattle.text_lines.specs.Written.{written}
 use Rattle.text_lines.proofs.WrittenLemmas.{Putting}
-use Rattle.text_lines.proofs.page.Page.put_hex.Given as goal
+use Rattle.text_lines.proofs.page.Page.put_pieces.Given as goal
 
 abbrev pub invariant-putting : goal.invariant-putting
 invariant-putting g l = record {

@@ -1,11 +1,8 @@
-use Rattle.std.proofs.Common.{◌≡◌, ◌++◌, ◌∙◌, List, ℕ, length, drop, take, sym, ap, subst, arith}
+use Rattle.std.proofs.Common.{arith}
 use Rattle.std.proofs.lemmas.Result.{err_from_is_err_and}
-use Rattle.std.proofs.lemmas.Grind.{common_steps}
-use Rattle.std.proofs.lemmas.List.{drop_all}
-use Rattle.text_pieces.specs.Pieces.{hex}
 use Rattle.text_lines.proofs.HexLemmas.{hex_at, hex_end}
 use Rattle.text_lines.proofs.WrittenLemmas.{putting_all, putting_cut, putting_more}
-use Rattle.text_lines.proofs.page.Page.put_hex.Goals as goal
+use Rattle.text_lines.proofs.page.Page.put_pieces.Goals as goal
 
 pub returns-in_err-put_piece : goal.returns-in_err-put_piece
 returns-in_err-put_piece g c =
