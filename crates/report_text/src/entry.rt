@@ -106,7 +106,45 @@ fn pong(plan: &Plan, at: EdgeId, of: WireId, sequence: u16) -> [Word<'_>; 3]
 }
 
 /// Puts the line of an entry, in the words of the plan. A place outside the plan is written as the empty text.
+///
+/// Events and frames come first, since a long trace has little else: the words of a line lie on the stack, and room for those of every
+/// kind would be made clear for each line.
 pub fn put_entry<'a, K: Sink>(
+    page: &mut Page,
+    sink: &mut K,
+    plan: &'a Plan,
+    entry: &'a Entry,
+) -> Result<(), Failed>
+    ensures { Puts result (written (K.taken sink.old) (K.faults sink.old) page.old) (written (K.taken sink.new) (K.faults sink.new) page.new) (entry_line plan.now entry.now) }
+{
+    match *entry {
+        Entry::Did { ref event } => put_event(page, sink, plan, event),
+        Entry::In {
+            circuit,
+            number,
+            ref bytes,
+        } => page.put_line(
+            sink,
+            b"in",
+            &entered(plan, circuit, number, bytes.as_slice()),
+        ),
+        Entry::Left {
+            circuit,
+            origin,
+            hops,
+            ref bytes,
+        } => page.put_line(
+            sink,
+            b"left",
+            &left(plan, circuit, origin, hops, bytes.as_slice()),
+        ),
+        _ => put_any_entry(page, sink, plan, entry),
+    }
+}
+
+// Puts the line of an entry of any kind.
+#[inline(never)]
+fn put_any_entry<'a, K: Sink>(
     page: &mut Page,
     sink: &mut K,
     plan: &'a Plan,

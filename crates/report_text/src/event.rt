@@ -62,8 +62,27 @@ fn switch<'a>(on: bool) -> Word<'a>
     Word::Text(switch_text(on).as_bytes())
 }
 
-/// Puts the line of an event that was done: its words behind a pointed bracket.
+/// Puts the line of an event that was done: its words behind a pointed bracket. Frames come first, as in `put_entry`.
 pub fn put_event<K: Sink>(
+    page: &mut Page,
+    sink: &mut K,
+    plan: &Plan,
+    event: &Event,
+) -> Result<(), Failed>
+    ensures { Puts result (written (K.taken sink.old) (K.faults sink.old) page.old) (written (K.taken sink.new) (K.faults sink.new) page.new) (line_of (codes ">" ∷ event_words plan.now event.now)) }
+{
+    match *event {
+        Event::Frame { circuit, ref bytes } => {
+            let octets = Word::Hex(bytes.as_slice());
+            page.put_line(sink, b">", &site(plan, b"frame", circuit, octets))
+        }
+        _ => put_any_event(page, sink, plan, event),
+    }
+}
+
+// Puts the line of an event of any kind.
+#[inline(never)]
+fn put_any_event<K: Sink>(
     page: &mut Page,
     sink: &mut K,
     plan: &Plan,
