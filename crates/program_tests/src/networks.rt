@@ -1,5 +1,6 @@
 //! Runs of small networks, and of the largest one that the limit lets be.
 
+mod given_frames;
 mod hierarchy;
 mod largest;
 mod lent_maps;

@@ -402,3 +402,9 @@ indexed_beside old now index e told indexed planned stepped traced at = record {
   -- behind the entry of the event itself
   entries : drop told now.trace ≡ (step old.plan (seen old) e).entries
   entries = ap (λ (k : ℕ). drop k now.trace) at ∙ (ap (λ (es : List Entry). drop (length old.trace) es) traced ∙ dropped old.trace (step old.plan (seen old) e).entries)
+
+-- a frame sets no pair
+pub indexed_beside_frame : (old now : NetLists) (index : IndexLists) (circuit : CircuitId) (octets : List ℕ) (told : ℕ) → IsIndexed old index → now.plan ≡ old.plan
+    → seen now ≡ (step old.plan (seen old) (event.Frame circuit octets)).state → now.trace ≡ old.trace ++ (step old.plan (seen old) (event.Frame circuit octets)).entries → told ≡ length old.trace
+    → IsIndexedBeside now index (is_told (drop told now.trace))
+indexed_beside_frame old now index circuit octets told indexed planned stepped traced at = indexed_beside old now index (event.Frame circuit octets) told indexed planned stepped traced at

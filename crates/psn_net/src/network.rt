@@ -16,10 +16,10 @@ mod calm;
 mod marking;
 
 use crate::NetStop;
-use crate::network::marking::mark_after;
+use crate::network::marking::{mark_after, mark_told};
 use crate::pair_index::PairIndex;
 use crate::parts::Parts;
-use net_base::{EdgeId, Event, NoMemory, Plan, Trace};
+use net_base::{CircuitId, EdgeId, Event, NoMemory, Octets, Plan, Trace};
 use provider_edge::Edge;
 use std::alloc::Global;
 use std::marker::Model;
@@ -94,6 +94,42 @@ impl Network {
         match self.parts.work(alloc, event) {
             Ok(()) => {
                 mark_after(&mut self.index, &self.parts, event, told);
+                Ok(())
+            }
+            Err(NoMemory) => {
+                self.parts.fail();
+                Err(NetStop::NoMemory)
+            }
+        }
+    }
+
+    /// Lets a frame enter at a circuit: does the event of this frame as `apply` does it, and keeps its octets. The circuit is one
+    /// of the plan; the frame has at most 262,144 octets.
+    ///
+    /// `TooMuch` exactly where the trace already weighs more than 268,435,456, and else `Crowded` exactly where 65,536 or more
+    /// packets are under way; network and trace are then as they were. `NoMemory` where memory was refused; from then on the
+    /// network is given up, and answers the same to every event.
+    #[tactic(auto, using(crate::proofs::WeightLemmas::stops_at, crate::proofs::KeptLemmas::indexed_beside_frame))]
+    pub fn enter(&mut self, alloc: Global, circuit: CircuitId, bytes: Octets) -> Result<(), NetStop>
+        requires { IsEventOf self.old.plan (Event.Frame circuit bytes) }
+        ensures plan { self.new.plan ≡ self.old.plan }
+        ensures state { OnOk result (seen self.new ≡ (step self.old.plan (seen self.old) (Event.Frame circuit bytes)).state) }
+        ensures told { OnOk result (self.new.trace ≡ self.old.trace ++ (step self.old.plan (seen self.old) (Event.Frame circuit bytes)).entries) }
+        ensures within { OnOk result (stop_at self.old.trace (length (seen self.old).under_way) (Event.Frame circuit bytes) ≡ None) }
+        ensures going { OnOk result ((self.old.failed ≡ false) × (self.new.failed ≡ false)) }
+        ensures stops { IfErr result (Stops self.old self.new (Event.Frame circuit bytes)) }
+        ensures given_up { self.old.failed ≡ true → IfErr result (λ stop. stop ≡ NetStop.NoMemory) }
+    {
+        if self.parts.has_failed() {
+            return Err(NetStop::NoMemory);
+        }
+        if let Some(stop) = self.parts.refusal_by(true) {
+            return Err(stop);
+        }
+        let before = self.parts.trace().len();
+        match self.parts.work_frame(alloc, circuit, bytes) {
+            Ok(()) => {
+                mark_told(&mut self.index, &self.parts, before);
                 Ok(())
             }
             Err(NoMemory) => {

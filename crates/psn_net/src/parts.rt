@@ -31,7 +31,7 @@ use crate::pipes::Pipes;
 use crate::psn_link::PsnLink;
 use crate::shared_plan::SharedPlan;
 use edge_model::{Effects, Input};
-use net_base::{EdgeId, Entry, Event, NoMemory, Plan, Trace};
+use net_base::{CircuitId, EdgeId, Entry, Event, NoMemory, Octets, Plan, Trace};
 use provider_edge::Edge;
 use std::alloc::Global;
 use std::marker::Model;
@@ -91,9 +91,16 @@ impl Parts {
     }
 
     /// The limit that stops an event, where there is one.
-    #[tactic(auto, unfolding(crate::specs::Weight::stop_at))]
     pub fn refusal(&self, event: &Event) -> Option<NetStop>
         ensures { result ≡ stop_at self.now.trace (length (seen self.now).under_way) event.now }
+    {
+        self.refusal_by(may_send(event))
+    }
+
+    /// The limit that stops each event that may send a packet, or each that may not, where there is one.
+    #[tactic(auto, unfolding(crate::specs::Weight::stop_at))]
+    pub fn refusal_by(&self, sends: bool) -> Option<NetStop>
+        ensures { (event : Event) → may_send event ≡ sends → result ≡ stop_at self.now.trace (length (seen self.now).under_way) event }
     {
         let weight = self.ledger.weight();
         if weight > MOST_WEIGHT {
@@ -103,7 +110,7 @@ impl Parts {
             });
         }
         let count = self.under_way();
-        if may_send(event) && count >= MOST_PACKETS {
+        if sends && count >= MOST_PACKETS {
             return Some(NetStop::Crowded {
                 count,
                 event: self.ledger.next_event(),
@@ -127,7 +134,7 @@ impl Parts {
             Event::Lose { edge, peer } => self.lose(alloc, *edge, *peer),
             Event::Restart { edge } => self.restart(alloc, *edge),
             Event::Tick => self.tick(alloc),
-            Event::Frame { circuit, bytes } => self.frame(alloc, *circuit, bytes.as_slice()),
+            Event::Frame { circuit, bytes } => self.lend_frame(alloc, *circuit, bytes),
             Event::Arrive { packet } => self.arrive(alloc, *packet),
             Event::Discard { packet } => self.discard(*packet),
             Event::Again { packet } => self.again(alloc, *packet),
@@ -140,6 +147,43 @@ impl Parts {
                 priority,
             } => self.priority(alloc, *edge, *wire, *priority),
             Event::Ping { edge, wire } => self.ping(alloc, *edge, *wire),
+        }
+    }
+
+    /// Tells the event of a frame that enters at a circuit, and then does it. The frame's octets are kept.
+    pub fn work_frame(
+        &mut self,
+        alloc: Global,
+        circuit: CircuitId,
+        bytes: Octets,
+    ) -> Result<(), NoMemory>
+        requires { IsEventOf self.old.plan (Event.Frame circuit bytes) }
+        ensures keeps { Keeps self.old self.new }
+        ensures step { OnOk result (HasStepped self.old self.new (step self.old.plan (seen self.old) (Event.Frame circuit bytes))) }
+    {
+        match self.tell_frame(alloc, circuit, &bytes) {
+            Ok(()) => self.frame(alloc, circuit, bytes),
+            Err(fault) => Err(fault),
+        }
+    }
+
+    // Tells the event of a frame that enters at a circuit.
+    fn tell_frame(
+        &mut self,
+        alloc: Global,
+        circuit: CircuitId,
+        bytes: &Octets,
+    ) -> Result<(), NoMemory>
+        ensures keeps { Keeps self.old self.new }
+        ensures state { seen self.new ≡ seen self.old }
+        ensures made { OnOk result (HasRoom self.new) }
+        ensures told { OnOk result (self.new.trace ≡ self.old.trace ++ Entry.Did (Event.Frame circuit bytes.now) ∷ []) }
+    {
+        match bytes.copy(alloc) {
+            Ok(bytes) => self.tell(Entry::Did {
+                event: Event::Frame { circuit, bytes },
+            }),
+            Err(fault) => Err(fault),
         }
     }
 

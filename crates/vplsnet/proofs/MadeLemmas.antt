@@ -1,6 +1,5 @@
 -- The events of commands, one command after another.
-use Rattle.std.proofs.Common.{◌≡◌, ◌<◌, ◌≤◌, ◌+◌, ◌-◌, ◌∷◌, ◌++◌, [], ◌∙◌, ℕ, zero, suc, List, Option, Some, None, refl, ap, sym, subst, arith, length, slice_index_or, drop}
-use Rattle.std.proofs.lemmas.List.{at_drop_more, drop_more}
+use Rattle.std.proofs.Common.{◌≡◌, ◌<◌, ◌≤◌, ◌+◌, ◌-◌, ◌∷◌, ◌++◌, [], ◌∙◌, ℕ, zero, suc, List, Option, Some, None, refl, ap, sym, subst, arith, length}
 use Rattle.std.specs.List.{All}
 use Rattle.std.proofs.lemmas.List.Elements.{All-head, All-nil, All-tail}
 use Rattle.net_base.specs.declared.plan.Plan.{Plan}
@@ -20,31 +19,43 @@ use Rattle.psn_net.specs.Lists.{NetLists, seen}
 use Rattle.psn_net.specs.Runs.{Ended, RunHalts, ended, ran}
 use Rattle.psn_net.specs.Weight.{stop_at}
 use Rattle.psn_net.proofs.RunLemmas.{halts_first, halts_on, ran_first, ran_on, ran_state}
+use Rattle.command_text.specs.Planned.{IsPlanned}
 use Rattle.command_text.specs.declared.command.Command.{Command}
 use Rattle.command_text.specs.declared.command.Command.TheVariants.{One, Settle, Flow, Ticks, Play}
 use Rattle.vplsnet.specs.Made.{arrivals, captures_after, deliveries, entering, event_and, made, made_by, next_frames, ticks, turns}
 
-made_on : (plan : Plan) (n : NetLists) (s : NetworkState) (t : List Entry) (captures : List (List (List ℕ))) (c : Command) (cs : List Command)
-    → ended n None ≡ ran plan s t (made_by plan s captures c) → ran plan (seen n) n.trace (made plan (seen n) (captures_after c captures) cs) ≡ ran plan s t (made plan s captures (c ∷ cs))
-made_on plan n s t captures c cs h =
+made_on : (plan : Plan) (n : NetLists) (s : NetworkState) (t : List Entry) (captures later : List (List (List ℕ))) (c : Command) (cs : List Command)
+    → ended n None ≡ ran plan s t (made_by plan s captures c) → later ≡ captures_after c captures → ran plan (seen n) n.trace (made plan (seen n) later cs) ≡ ran plan s t (made plan s captures (c ∷ cs))
+made_on plan n s t captures later c cs h is =
     let to : seen n ≡ state_after plan s (made_by plan s captures c) = ap (λ (r : Ended). r.state) h ∙ ran_state plan s t (made_by plan s captures c) (sym (ap (λ (r : Ended). r.stop) h)) in
-    ap (λ (q : NetworkState). ran plan (seen n) n.trace (made plan q (captures_after c captures) cs)) to
-    ∙ ran_on plan s t (made_by plan s captures c) (made plan (state_after plan s (made_by plan s captures c)) (captures_after c captures) cs) n h
+    ap (λ (left : List (List (List ℕ))). ran plan (seen n) n.trace (made plan (seen n) left cs)) is
+    ∙ (ap (λ (q : NetworkState). ran plan (seen n) n.trace (made plan q (captures_after c captures) cs)) to
+    ∙ ran_on plan s t (made_by plan s captures c) (made plan (state_after plan s (made_by plan s captures c)) (captures_after c captures) cs) n h)
 
--- at a place of the list of commands
-pub made_on_at : (plan : Plan) (n : NetLists) (s : NetworkState) (t : List Entry) (captures later : List (List (List ℕ))) (cs : List Command) (i : ℕ) (d : Command) → i < length cs
-    → ended n None ≡ ran plan s t (made_by plan s captures (slice_index_or cs i d)) → later ≡ captures_after (slice_index_or cs i d) captures
-    → ran plan (seen n) n.trace (made plan (seen n) later (drop (i + 1) cs)) ≡ ran plan s t (made plan s captures (drop i cs))
-made_on_at plan n s t captures later cs i d l h is =
-    ap (λ (left : List (List (List ℕ))). ran plan (seen n) n.trace (made plan (seen n) left (drop (i + 1) cs))) is
-    ∙ (made_on plan n s t captures (slice_index_or cs i d) (drop (i + 1) cs) h ∙ sym (at_drop_more (λ (xs : List Command). ran plan s t (made plan s captures xs)) cs i d l))
+made_err : (plan : Plan) (n : NetLists) (stop : NetStop) (s : NetworkState) (t : List Entry) (captures : List (List (List ℕ))) (c : Command) (cs : List Command)
+    → RunHalts stop n (ran plan s t (made_by plan s captures c)) → RunHalts stop n (ran plan s t (made plan s captures (c ∷ cs)))
+made_err plan n stop s t captures c cs h =
+    halts_on plan s t (made_by plan s captures c) (made plan (state_after plan s (made_by plan s captures c)) (captures_after c captures) cs) n stop h
 
-pub made_err_at : (plan : Plan) (n : NetLists) (stop : NetStop) (s : NetworkState) (t : List Entry) (captures : List (List (List ℕ))) (cs : List Command) (i : ℕ) (d : Command) → i < length cs
-    → RunHalts stop n (ran plan s t (made_by plan s captures (slice_index_or cs i d))) → RunHalts stop n (ran plan s t (made plan s captures (drop i cs)))
-made_err_at plan n stop s t captures cs i d l h =
-    subst (λ (xs : List Command). RunHalts stop n (ran plan s t (made plan s captures xs))) (sym (drop_more cs i d l))
-    (halts_on plan s t (made_by plan s captures (slice_index_or cs i d))
-    (made plan (state_after plan s (made_by plan s captures (slice_index_or cs i d))) (captures_after (slice_index_or cs i d) captures) (drop (i + 1) cs)) n stop h)
+-- one more command of those that are left was done by a network that keeps the plan, or was stopped
+pub made_next : (plan : Plan) (old now : NetLists) (last : Ended) (captures later : List (List (List ℕ))) (c : Command) (all rest : List Command) → all ≡ c ∷ rest → old.plan ≡ plan
+    → ran plan (seen old) old.trace (made plan (seen old) captures all) ≡ last → ended now None ≡ ran old.plan (seen old) old.trace (made_by old.plan (seen old) captures c) → later ≡ captures_after c captures
+    → ran plan (seen now) now.trace (made plan (seen now) later rest) ≡ last
+made_next plan old now last captures later c all rest is kept before h left =
+    subst (λ (p : Plan). ran p (seen now) now.trace (made p (seen now) later rest) ≡ ran p (seen old) old.trace (made p (seen old) captures (c ∷ rest))) kept
+    (made_on old.plan now (seen old) old.trace captures later c rest h left)
+    ∙ (ap (λ (cs : List Command). ran plan (seen old) old.trace (made plan (seen old) captures cs)) (sym is) ∙ before)
+
+pub made_stopped : (plan : Plan) (old now : NetLists) (last : Ended) (captures : List (List (List ℕ))) (c : Command) (all rest : List Command) (stop : NetStop) → all ≡ c ∷ rest → old.plan ≡ plan
+    → ran plan (seen old) old.trace (made plan (seen old) captures all) ≡ last → RunHalts stop now (ran old.plan (seen old) old.trace (made_by old.plan (seen old) captures c)) → RunHalts stop now last
+made_stopped plan old now last captures c all rest stop is kept before h =
+    subst (λ (e : Ended). RunHalts stop now e) before
+    (subst (λ (cs : List Command). RunHalts stop now (ran plan (seen old) old.trace (made plan (seen old) captures cs))) (sym is)
+    (subst (λ (p : Plan). RunHalts stop now (ran p (seen old) old.trace (made p (seen old) captures (c ∷ rest)))) kept
+    (made_err old.plan now stop (seen old) old.trace captures c rest h)))
+
+pub planned_first : (plan : Plan) (c : Command) (cs : List Command) → All (IsPlanned plan) (c ∷ cs) → IsPlanned plan c
+planned_first plan c cs planned = All-head (IsPlanned plan) c cs planned
 
 -- the frames of the captures that are left are short
 pub left_short : (command : Command) (captures : List (List (List ℕ))) → All (All IsFrame) captures → All (All IsFrame) (captures_after command captures)
@@ -59,24 +70,25 @@ pub next_short : (captures : List (List (List ℕ))) → All (All IsFrame) captu
 next_short [] short = All-nil IsFrame
 next_short (frames ∷ captures) short = All-head (All IsFrame) frames captures short
 
-pub ruleset made_steps = (made_on_at, made_err_at, left_short)
+pub ruleset made_steps = (made_stopped, planned_first)
 
 -- ---- frames of a capture
 
--- at a place of the list of frames
-pub entering_on_at : (plan : Plan) (n : NetLists) (s : NetworkState) (t : List Entry) (circuit : CircuitId) (frames : List (List ℕ)) (i : ℕ) (d : List ℕ) → i < length frames
-    → ended n None ≡ ran plan s t (Frame circuit (slice_index_or frames i d) ∷ []) → ran plan (seen n) n.trace (entering circuit (drop (i + 1) frames)) ≡ ran plan s t (entering circuit (drop i frames))
-entering_on_at plan n s t circuit frames i d l h =
-    ran_on plan s t (Frame circuit (slice_index_or frames i d) ∷ []) (entering circuit (drop (i + 1) frames)) n h
-    ∙ sym (at_drop_more (λ (xs : List (List ℕ)). ran plan s t (entering circuit xs)) frames i d l)
+pub entering_next : (plan : Plan) (old now : NetLists) (last : Ended) (circuit : CircuitId) (frame : List ℕ) (all rest : List (List ℕ)) → all ≡ frame ∷ rest → old.plan ≡ plan
+    → ran plan (seen old) old.trace (entering circuit all) ≡ last → ended now None ≡ ran old.plan (seen old) old.trace (Frame circuit frame ∷ []) → ran plan (seen now) now.trace (entering circuit rest) ≡ last
+entering_next plan old now last circuit frame all rest is kept before h =
+    subst (λ (p : Plan). ran p (seen now) now.trace (entering circuit rest) ≡ ran p (seen old) old.trace (entering circuit (frame ∷ rest))) kept
+    (ran_on old.plan (seen old) old.trace (Frame circuit frame ∷ []) (entering circuit rest) now h)
+    ∙ (ap (λ (frames : List (List ℕ)). ran plan (seen old) old.trace (entering circuit frames)) (sym is) ∙ before)
 
-pub entering_err_at : (plan : Plan) (n : NetLists) (stop : NetStop) (s : NetworkState) (t : List Entry) (circuit : CircuitId) (frames : List (List ℕ)) (i : ℕ) (d : List ℕ) → i < length frames
-    → RunHalts stop n (ran plan s t (Frame circuit (slice_index_or frames i d) ∷ [])) → RunHalts stop n (ran plan s t (entering circuit (drop i frames)))
-entering_err_at plan n stop s t circuit frames i d l h =
-    subst (λ (xs : List (List ℕ)). RunHalts stop n (ran plan s t (entering circuit xs))) (sym (drop_more frames i d l))
-    (halts_on plan s t (Frame circuit (slice_index_or frames i d) ∷ []) (entering circuit (drop (i + 1) frames)) n stop h)
+pub entering_err : (plan : Plan) (n : NetLists) (stop : NetStop) (s : NetworkState) (t : List Entry) (circuit : CircuitId) (frame : List ℕ) (frames : List (List ℕ))
+    → RunHalts stop n (ran plan s t (Frame circuit frame ∷ [])) → RunHalts stop n (ran plan s t (entering circuit (frame ∷ frames)))
+entering_err plan n stop s t circuit frame frames h = halts_on plan s t (Frame circuit frame ∷ []) (entering circuit frames) n stop h
 
-pub ruleset entering_steps = (entering_on_at, entering_err_at)
+pub short_first : (frame : List ℕ) (frames : List (List ℕ)) → All IsFrame (frame ∷ frames) → IsFrame frame
+short_first frame frames short = All-head IsFrame frame frames short
+
+pub ruleset entering_steps = (entering_err, short_first)
 
 ticks_more : (n i : ℕ) → i < n → ticks (n - i) ≡ Tick ∷ ticks (n - (i + 1))
 ticks_more n i h = let e : n - i ≡ suc (n - (i + 1)) = omega arith in rw e refl

@@ -11,6 +11,7 @@ mod file_shelf;
 mod files;
 mod finish;
 pub mod finish_line;
+mod left_captures;
 mod named_file;
 mod outcome;
 mod rehearse;

@@ -183,11 +183,8 @@ fn finish_work<K: Sink>(alloc: Global, request: Request<'_>, work: Work, sink: &
     ensures status { result.status ≡ status_of result.outcome }
     ensures ends { EndsRun work.scenario work.captures (asked_by request.entry) (written (K.taken sink.old) (K.faults sink.old) []) (written (K.taken sink.new) (K.faults sink.new) []) result.network result.outcome }
 {
-    match run_scenario(alloc, &work) {
-        Ok(run) => {
-            drop(work);
-            finish_run(alloc, request, run, sink)
-        }
+    match run_scenario(alloc, work) {
+        Ok(run) => finish_run(alloc, request, run, sink),
         Err(NoMemory) => Finish::without_run(Outcome::NoMemory),
     }
 }

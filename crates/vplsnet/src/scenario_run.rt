@@ -1,14 +1,15 @@
 //! The run of a scenario: each command makes its events, and the network does them in turn.
 ghost use Rattle.std.specs.Prelude.{◌≡◌, ◌<◌, ◌∷◌, [], All, IfOk, length};
 ghost use Rattle.net_base.specs.plan.Accepted.{IsChecked};
-ghost use Rattle.net_base.specs.plan.Planned.{IsFrame};
+ghost use Rattle.net_base.specs.plan.Planned.{IsEventOf, IsFrame};
 ghost use Rattle.network_model.specs.State.{empty_network};
-ghost use Rattle.psn_net.specs.Lists.{seen};
-ghost use Rattle.psn_net.specs.Runs.{GivesNetwork, ended, ran};
+ghost use Rattle.psn_net.specs.Lists.{NetLists, seen};
+ghost use Rattle.psn_net.specs.Runs.{Ended, GivesNetwork, RunHalts, ended, ran};
 ghost use Rattle.command_text.specs.Planned.{IsPlanned};
 ghost use Rattle.vplsnet.specs.Made.{arrivals, captures_after, deliveries, entering, later_captures, made_by, next_frames, ticks};
 ghost use Rattle.vplsnet.specs.ScenarioRun.{HasRun, whole_run};
 
+use crate::left_captures::LeftCaptures;
 use crate::types::see_types;
 use crate::work::Work;
 use net_base::{CircuitId, Event, List, NoMemory, Octets};
@@ -23,15 +24,18 @@ pub struct ScenarioRun {
     pub stop: Option<NetStop>,
 }
 
-/// The run of a scenario with the captures that it plays. The one error is want of memory.
-pub fn run_scenario(alloc: Global, work: &Work) -> Result<ScenarioRun, NoMemory>
-    requires checked { IsChecked work.now.scenario.plan }
-    requires planned { All (IsPlanned work.now.scenario.plan) work.now.scenario.commands }
-    requires frames { All (All IsFrame) work.now.captures }
-    ensures run { IfOk result (λ run. HasRun work.now.scenario work.now.captures run.network run.stop) }
+/// The run of a scenario with the captures that it plays, which are dropped as it does them. The one error is want of memory.
+pub fn run_scenario(alloc: Global, work: Work) -> Result<ScenarioRun, NoMemory>
+    requires checked { IsChecked work.scenario.plan }
+    requires planned { All (IsPlanned work.scenario.plan) work.scenario.commands }
+    requires frames { All (All IsFrame) work.captures }
+    ensures run { IfOk result (λ run. HasRun work.scenario work.captures run.network run.stop) }
 {
     see_types(&work.scenario.plan);
-    let mut network = Network::open(alloc, &work.scenario.plan)?;
+    let mut network = match Network::open(alloc, &work.scenario.plan) {
+        Ok(network) => network,
+        Err(fault) => return Err(fault),
+    };
     match run_over(alloc, &mut network, work) {
         Ok(stop) => Ok(ScenarioRun { network, stop }),
         Err(fault) => Err(fault),
@@ -41,77 +45,87 @@ pub fn run_scenario(alloc: Global, work: &Work) -> Result<ScenarioRun, NoMemory>
 // Does the events of a scenario over the network of its plan, which is as it was opened. The answer is the limit that
 // stopped the run, where one did. The one error is want of memory.
 #[tactic(auto, using(crate::proofs::MadeLemmas::made_steps))]
-fn run_over(alloc: Global, network: &mut Network, work: &Work) -> Result<Option<NetStop>, NoMemory>
-    requires plan { network.old.plan ≡ work.now.scenario.plan }
-    requires state { seen network.old ≡ empty_network work.now.scenario.plan }
+fn run_over(alloc: Global, network: &mut Network, work: Work) -> Result<Option<NetStop>, NoMemory>
+    requires plan { network.old.plan ≡ work.scenario.plan }
+    requires state { seen network.old ≡ empty_network work.scenario.plan }
     requires trace { network.old.trace ≡ [] }
-    requires planned { All (IsPlanned work.now.scenario.plan) work.now.scenario.commands }
-    requires frames { All (All IsFrame) work.now.captures }
-    ensures plan { network.new.plan ≡ work.now.scenario.plan }
-    ensures ends { IfOk result (λ stop. ended network.new stop ≡ whole_run work.now.scenario work.now.captures) }
+    requires planned { All (IsPlanned work.scenario.plan) work.scenario.commands }
+    requires frames { All (All IsFrame) work.captures }
+    ensures plan { network.new.plan ≡ work.scenario.plan }
+    ensures ends { IfOk result (λ stop. ended network.new stop ≡ whole_run work.scenario work.captures) }
 {
-    let commands = work.scenario.commands.as_slice();
-    let mut captures = work.captures.as_slice();
-    for command in commands {
-        match run_command(alloc, network, captures, command) {
-            Ok(()) => captures = captures_behind(command, captures),
-            Err(NetStop::NoMemory) => return Err(NoMemory),
-            Err(stop) => return Ok(Some(stop)),
+    let Work { scenario, captures } = work;
+    let mut captures = LeftCaptures::of(captures);
+    for command in scenario.commands.into_items() {
+        match run_command(alloc, network, &mut captures, command) {
+            Ok(()) => {}
+            Err(stop) => return limit_of(stop),
         }
     }
     Ok(None)
 }
 
-// The captures that are left to be played once a command was done.
-fn captures_behind<'a>(command: &Command, captures: &'a [List<Octets>]) -> &'a [List<Octets>]
-    ensures { result.now ≡ captures_after command.now captures.now }
+// The limit that stopped a run. Want of memory is none.
+fn limit_of(stop: NetStop) -> Result<Option<NetStop>, NoMemory>
+    ensures { (left : NetLists) (end : Ended) → RunHalts stop left end → IfOk result (λ limit. ended left limit ≡ end) }
 {
-    match command {
-        Command::Play(..) => later(captures),
-        Command::One(_) | Command::Settle(_) | Command::Flow(_) | Command::Ticks(_) => captures,
+    match stop {
+        NetStop::NoMemory => Err(NoMemory),
+        NetStop::Crowded { .. } | NetStop::TooMuch { .. } => Ok(Some(stop)),
     }
 }
 
-// The captures behind the next one.
-fn later(captures: &[List<Octets>]) -> &[List<Octets>]
-    ensures { result.now ≡ later_captures captures.now }
-{
-    match captures {
-        [_, rest @ ..] => rest,
-        [] => captures,
-    }
-}
-
-// The frames of the next capture.
-fn next(captures: &[List<Octets>]) -> &[Octets]
-    ensures { result.now ≡ next_frames captures.now }
-{
-    match captures {
-        [frames, ..] => frames.as_slice(),
-        [] => &[],
-    }
-}
-
-// Does the events of a command.
-#[tactic(auto, using(psn_net::proofs::RunLemmas::ran_one, psn_net::proofs::RunLemmas::ran_none, crate::proofs::MadeLemmas::next_short))]
+// Does the events of a command. A capture that it plays is left no longer.
 fn run_command(
     alloc: Global,
     network: &mut Network,
-    captures: &[List<Octets>],
-    command: &Command,
+    captures: &mut LeftCaptures,
+    command: Command,
 ) -> Result<(), NetStop>
-    requires planned { IsPlanned network.old.plan command.now }
-    requires frames { All (All IsFrame) captures.now }
+    requires planned { IsPlanned network.old.plan command }
+    requires frames { All (All IsFrame) captures.old }
     ensures plan { network.new.plan ≡ network.old.plan }
-    ensures ran { GivesNetwork result network.new (ran network.old.plan (seen network.old) network.old.trace (made_by network.old.plan (seen network.old) captures.now command.now)) }
+    ensures left { captures.new ≡ captures_after command captures.old }
+    ensures ran { GivesNetwork result network.new (ran network.old.plan (seen network.old) network.old.trace (made_by network.old.plan (seen network.old) captures.old command)) }
 {
     match command {
-        Command::One(event) => network.apply(alloc, event),
-        Command::Settle(count) => run_deliveries(alloc, network, *count),
-        Command::Flow(count) => run_arrivals(alloc, network, *count),
-        Command::Ticks(count) => run_ticks(alloc, network, *count),
-        Command::Play(circuit, _) => run_frames(alloc, network, *circuit, next(captures)),
+        Command::One(event) => run_event(alloc, network, event),
+        Command::Settle(count) => run_deliveries(alloc, network, count),
+        Command::Flow(count) => run_arrivals(alloc, network, count),
+        Command::Ticks(count) => run_ticks(alloc, network, count),
+        Command::Play(circuit, _) => run_next(alloc, network, captures, circuit),
     }
+}
+
+// Does an event. The octets of a frame are kept.
+#[tactic(auto, using(psn_net::proofs::RunLemmas::ran_one, psn_net::proofs::RunLemmas::ran_none))]
+fn run_event(alloc: Global, network: &mut Network, event: Event) -> Result<(), NetStop>
+    requires planned { IsEventOf network.old.plan event }
+    ensures plan { network.new.plan ≡ network.old.plan }
+    ensures ran { GivesNetwork result network.new (ran network.old.plan (seen network.old) network.old.trace (event ∷ [])) }
+{
+    match event {
+        Event::Frame { circuit, bytes } => network.enter(alloc, circuit, bytes),
+        other => network.apply(alloc, &other),
+    }
+}
+
+// Lets the frames of the next capture enter at a circuit.
+#[tactic(auto, using(crate::proofs::MadeLemmas::next_short))]
+fn run_next(
+    alloc: Global,
+    network: &mut Network,
+    captures: &mut LeftCaptures,
+    circuit: CircuitId,
+) -> Result<(), NetStop>
+    requires circuit { circuit.0 < length network.old.plan.circuits }
+    requires frames { All (All IsFrame) captures.old }
+    ensures plan { network.new.plan ≡ network.old.plan }
+    ensures left { captures.new ≡ later_captures captures.old }
+    ensures ran { GivesNetwork result network.new (ran network.old.plan (seen network.old) network.old.trace (entering circuit (next_frames captures.old))) }
+{
+    let frames = captures.take_next(alloc);
+    run_frames(alloc, network, circuit, frames)
 }
 
 // Lets frames enter at a circuit, one after another.
@@ -120,14 +134,14 @@ fn run_frames(
     alloc: Global,
     network: &mut Network,
     circuit: CircuitId,
-    frames: &[Octets],
+    frames: List<Octets>,
 ) -> Result<(), NetStop>
     requires circuit { circuit.0 < length network.old.plan.circuits }
-    requires frames { All IsFrame frames.now }
+    requires frames { All IsFrame frames }
     ensures plan { network.new.plan ≡ network.old.plan }
-    ensures ran { GivesNetwork result network.new (ran network.old.plan (seen network.old) network.old.trace (entering circuit frames.now)) }
+    ensures ran { GivesNetwork result network.new (ran network.old.plan (seen network.old) network.old.trace (entering circuit frames)) }
 {
-    for frame in frames {
+    for frame in frames.into_items() {
         match run_frame(alloc, network, circuit, frame) {
             Ok(()) => {}
             Err(stop) => return Err(stop),
@@ -142,17 +156,14 @@ fn run_frame(
     alloc: Global,
     network: &mut Network,
     circuit: CircuitId,
-    frame: &Octets,
+    frame: Octets,
 ) -> Result<(), NetStop>
     requires circuit { circuit.0 < length network.old.plan.circuits }
-    requires frame { IsFrame frame.now }
+    requires frame { IsFrame frame }
     ensures plan { network.new.plan ≡ network.old.plan }
-    ensures ran { GivesNetwork result network.new (ran network.old.plan (seen network.old) network.old.trace (Event.Frame circuit frame.now ∷ [])) }
+    ensures ran { GivesNetwork result network.new (ran network.old.plan (seen network.old) network.old.trace (Event.Frame circuit frame ∷ [])) }
 {
-    match frame.copy(alloc) {
-        Ok(bytes) => network.apply(alloc, &Event::Frame { circuit, bytes }),
-        Err(NoMemory) => Err(NetStop::NoMemory),
-    }
+    network.enter(alloc, circuit, frame)
 }
 
 // Does the next delivery so many times, or until there is none.

@@ -55,8 +55,8 @@ pub enum Step {
     Left(u64, &'static str),
 }
 
-// A place among so many.
-fn place_in(rt: &impl Abort, count: usize, place: u16) -> u16
+/// A place among so many.
+pub fn place_in(rt: &impl Abort, count: usize, place: u16) -> u16
     ensures { result < count }
 {
     assert!(rt; usize::from(place) < count);
@@ -114,8 +114,8 @@ fn event_in(
     }
 }
 
-// The octets of pairs of hexadecimal digits, a frame's at most.
-fn octets_of(rt: &impl Abort, alloc: Global, text: &str) -> Octets
+/// The octets of pairs of hexadecimal digits, a frame's at most.
+pub fn octets_of(rt: &impl Abort, alloc: Global, text: &str) -> Octets
     ensures { length result ≤ 9216 }
 {
     let octets = hex::decode(alloc, text).expect(rt, "octets");

@@ -40,9 +40,9 @@ fn mark_set(index: &mut PairIndex, parts: &Parts, event: &Event)
     }
 }
 
-// The pairs of which the entries from a place of the trace on tell.
+// The pairs of which the entries from a place of the trace on tell. A frame changes no other.
 #[tactic(auto, using(crate::proofs::IndexLemmas::entry_steps))]
-fn mark_told(index: &mut PairIndex, parts: &Parts, told: usize)
+pub(crate) fn mark_told(index: &mut PairIndex, parts: &Parts, told: usize)
     requires size { length index.old.rows ≡ length parts.now.plan.edges }
     requires before { IsIndexedBeside parts.now index.old (is_told (drop told parts.now.trace)) }
     ensures size { length index.new.rows ≡ length index.old.rows }

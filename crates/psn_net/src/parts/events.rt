@@ -16,7 +16,7 @@ ghost use Rattle.psn_net.specs.Lists.{HasAnswered, HasEntered, HasRoom, HasStepp
 use crate::parts::Parts;
 use crate::trail::{NO_TRAIL, Trail};
 use edge_model::{Effects, Input};
-use net_base::{CircuitId, EdgeId, Entry, List, NoMemory, WireId};
+use net_base::{CircuitId, EdgeId, Entry, NoMemory, Octets, WireId};
 use std::alloc::Global;
 
 impl Parts {
@@ -176,28 +176,57 @@ impl Parts {
         self.answer_input(alloc, me, Input::Ping { wire })
     }
 
-    // A customer's frame enters at a circuit.
-    #[tactic(auto, using(crate::proofs::NetworkLemmas::frame_idle_stepped, crate::proofs::NetworkLemmas::frame_stepped))]
-    pub(crate) fn frame(
+    // A customer's frame, which is lent, enters at a circuit.
+    pub(crate) fn lend_frame(
         &mut self,
         alloc: Global,
         circuit: CircuitId,
-        bytes: &[u8],
+        bytes: &Octets,
     ) -> Result<(), NoMemory>
         requires circuit { circuit.0 < length self.old.plan.circuits }
         requires room { HasRoom self.old }
         ensures keeps { Keeps self.old self.new }
         ensures step { OnOk result (HasStepped self.old self.new (frame_event self.old.plan circuit bytes.now (circuit_row self.old.plan circuit) (seen self.old))) }
     {
-        let me = self.edge_of(circuit);
-        let effects = self.drive(alloc, me, Input::Frame { circuit, bytes })?;
-        if effects.idle {
-            self.tell(Entry::Idle)?;
-            return Ok(());
+        match bytes.copy(alloc) {
+            Ok(bytes) => self.frame(alloc, circuit, bytes),
+            Err(fault) => Err(fault),
         }
-        let origin = self.enter(alloc, circuit, bytes)?;
-        let trail = Trail { origin, hops: 0 };
-        self.absorb(alloc, me, trail, effects.list.into_items())
+    }
+
+    // A customer's frame enters at a circuit.
+    #[tactic(auto, using(crate::proofs::NetworkLemmas::frame_idle_stepped, crate::proofs::NetworkLemmas::frame_stepped))]
+    pub(crate) fn frame(
+        &mut self,
+        alloc: Global,
+        circuit: CircuitId,
+        bytes: Octets,
+    ) -> Result<(), NoMemory>
+        requires circuit { circuit.0 < length self.old.plan.circuits }
+        requires room { HasRoom self.old }
+        ensures keeps { Keeps self.old self.new }
+        ensures step { OnOk result (HasStepped self.old self.new (frame_event self.old.plan circuit bytes (circuit_row self.old.plan circuit) (seen self.old))) }
+    {
+        let me = self.edge_of(circuit);
+        let frame = Input::Frame {
+            circuit,
+            bytes: bytes.as_slice(),
+        };
+        match self.drive(alloc, me, frame) {
+            Ok(effects) => {
+                if effects.idle {
+                    return self.tell(Entry::Idle);
+                }
+                match self.enter(circuit, bytes) {
+                    Ok(origin) => {
+                        let trail = Trail { origin, hops: 0 };
+                        self.absorb(alloc, me, trail, effects.list.into_items())
+                    }
+                    Err(fault) => Err(fault),
+                }
+            }
+            Err(fault) => Err(fault),
+        }
     }
 
     /// The edge of a circuit.
@@ -211,21 +240,24 @@ impl Parts {
 
     // The frame has the next number, and is told as it enters.
     #[tactic(auto, unfolding(crate::specs::Lists::seen, network_model::specs::State::with_frame))]
-    fn enter(&mut self, alloc: Global, circuit: CircuitId, bytes: &[u8]) -> Result<u64, NoMemory>
+    fn enter(&mut self, circuit: CircuitId, bytes: Octets) -> Result<u64, NoMemory>
         requires room { HasRoom self.old }
         ensures keeps { Keeps self.old self.new }
         ensures room { OnOk result (HasRoom self.new) }
-        ensures entered { IfOk result (HasEntered self.old self.new circuit bytes.now) }
+        ensures entered { IfOk result (HasEntered self.old self.new circuit bytes) }
     {
         // Asked so that what always holds of it is at hand for the proof.
         let _told = self.ledger.trace().len();
         let number = self.entered + 1;
         self.entered = number;
-        self.tell(Entry::In {
+        let entry = Entry::In {
             circuit,
             number,
-            bytes: List::from_bytes(alloc, bytes)?,
-        })?;
-        Ok(number)
+            bytes,
+        };
+        match self.tell(entry) {
+            Ok(()) => Ok(number),
+            Err(fault) => Err(fault),
+        }
     }
 }

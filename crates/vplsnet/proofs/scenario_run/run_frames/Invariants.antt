@@ -1,12 +1,18 @@
-use Rattle.std.proofs.Common.{◌≡◌, drop}
+use Rattle.std.proofs.Common.{◌≡◌}
+use Rattle.std.specs.List.{All}
+use Rattle.net_base.specs.plan.Planned.{IsFrame}
 use Rattle.psn_net.specs.Lists.{seen}
 use Rattle.psn_net.specs.Runs.{ran}
 use Rattle.vplsnet.specs.Made.{entering}
 use Rattle.vplsnet.proofs.scenario_run.run_frames.Given as goal
 
 abbrev pub invariant-loop-frame : goal.invariant-loop-frame
-invariant-loop-frame l = record {
-  plan : l.network.plan ≡ l.fn.network.plan;
-  ran : ran l.fn.network.plan (seen l.network) l.network.trace (entering l.circuit (drop l.frame-index l.frames))
-      ≡ ran l.fn.network.plan (seen l.fn.network) l.fn.network.trace (entering l.circuit l.frames);
-}
+invariant-loop-frame l =
+    (goal.iterator-loop-frame).can_next l.frame-iterator
+    × (goal.iterator-loop-frame).is_finite l.frame-iterator
+    × record {
+      plan : l.network.plan ≡ l.fn.network.plan;
+      ran : ran l.fn.network.plan (seen l.network) l.network.trace (entering l.circuit l.frame-iterator.rest.items)
+          ≡ ran l.fn.network.plan (seen l.fn.network) l.fn.network.trace (entering l.circuit l.fn.frames);
+      short : All IsFrame l.frame-iterator.rest.items;
+    }

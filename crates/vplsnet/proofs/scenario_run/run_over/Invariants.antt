@@ -1,6 +1,7 @@
-use Rattle.std.proofs.Common.{◌≡◌, drop}
+use Rattle.std.proofs.Common.{◌≡◌}
 use Rattle.std.specs.List.{All}
 use Rattle.net_base.specs.plan.Planned.{IsFrame}
+use Rattle.command_text.specs.Planned.{IsPlanned}
 use Rattle.psn_net.specs.Lists.{seen}
 use Rattle.psn_net.specs.Runs.{ran}
 use Rattle.vplsnet.specs.Made.{made}
@@ -8,8 +9,12 @@ use Rattle.vplsnet.specs.ScenarioRun.{whole_run}
 use Rattle.vplsnet.proofs.scenario_run.run_over.Given as goal
 
 abbrev pub invariant-loop-command : goal.invariant-loop-command
-invariant-loop-command l = record {
-  plan : l.network.plan ≡ l.work.scenario.plan;
-  ran : ran l.work.scenario.plan (seen l.network) l.network.trace (made l.work.scenario.plan (seen l.network) l.captures (drop l.command-index l.commands)) ≡ whole_run l.work.scenario l.work.captures;
-  short : All (All IsFrame) l.captures;
-}
+invariant-loop-command l =
+    (goal.iterator-loop-command).can_next l.command-iterator
+    × (goal.iterator-loop-command).is_finite l.command-iterator
+    × record {
+      plan : l.network.plan ≡ l.fn.work.scenario.plan;
+      ran : ran l.fn.work.scenario.plan (seen l.network) l.network.trace (made l.fn.work.scenario.plan (seen l.network) l.captures l.command-iterator.rest.items) ≡ whole_run l.fn.work.scenario l.fn.work.captures;
+      planned : All (IsPlanned l.fn.work.scenario.plan) l.command-iterator.rest.items;
+      short : All (All IsFrame) l.captures;
+    }

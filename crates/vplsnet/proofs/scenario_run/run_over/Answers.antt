@@ -1,0 +1,31 @@
+use Rattle.std.proofs.Common.{◌∙◌, subst, sym}
+use Rattle.std.specs.List.{All}
+use Rattle.std.proofs.lemmas.List.Elements.{All-rest}
+use Rattle.net_base.specs.plan.Planned.{IsFrame}
+use Rattle.command_text.specs.Planned.{IsPlanned}
+use Rattle.vplsnet.specs.ScenarioRun.{whole_run}
+use Rattle.psn_net.specs.Runs.{RunHalts}
+use Rattle.vplsnet.proofs.MadeLemmas.{left_short, made_next, made_stopped}
+use Rattle.vplsnet.proofs.scenario_run.run_over.Goals as goal
+
+pub loop-command-preserved : goal.loop-command-preserved
+loop-command-preserved c = (
+  tt,
+  tt,
+  record {
+    plan = c.in-Ok.ensures.plan ∙ c.loop-command.invariant.2.plan;
+    ran = made_next c.args.work.scenario.plan c.loop-command.network c.run_command.new.network (whole_run c.args.work.scenario c.args.work.captures) c.loop-command.captures c.run_command.new.captures
+        c.in-Some.command c.loop-command.command-iterator.rest.items c.next.new.self.rest.items c.in-Some.ensures.steps.0 c.loop-command.invariant.2.plan c.loop-command.invariant.2.ran
+        c.in-Ok.ensures.ran c.in-Ok.ensures.left;
+    planned = All-rest (IsPlanned c.args.work.scenario.plan) c.in-Some.command c.next.new.self.rest.items c.loop-command.command-iterator.rest.items c.in-Some.ensures.steps.0 c.loop-command.invariant.2.planned;
+    short = subst (All (All IsFrame)) (sym c.in-Ok.ensures.left) (left_short c.in-Some.command c.loop-command.captures c.loop-command.invariant.2.short);
+  },
+)
+
+pub returns-in-Err : goal.returns-in-Err
+returns-in-Err c =
+    let halts : RunHalts c.in-Err.stop c.run_command.new.network (whole_run c.args.work.scenario c.args.work.captures) =
+    made_stopped c.args.work.scenario.plan c.loop-command.network c.run_command.new.network (whole_run c.args.work.scenario c.args.work.captures) c.loop-command.captures
+    c.in-Some.command c.loop-command.command-iterator.rest.items c.next.new.self.rest.items c.in-Err.stop c.in-Some.ensures.steps.0 c.loop-command.invariant.2.plan c.loop-command.invariant.2.ran
+    c.in-Err.ensures.ran in
+    record { plan = c.in-Err.ensures.plan ∙ c.loop-command.invariant.2.plan; ends = c.limit_of.ensures c.run_command.new.network (whole_run c.args.work.scenario c.args.work.captures) halts }
