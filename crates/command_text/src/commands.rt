@@ -17,7 +17,7 @@ use crate::row_place::RowPlace;
 use crate::said::{bad_word, file_word, name_word, no_word, number_word};
 use crate::words::{after, first, word};
 use crate::{Command, ScenarioFault};
-use net_base::{CircuitId, Event, List};
+use net_base::{CircuitId, Event, List, NoMemory};
 use std::alloc::Global;
 use toml::Value;
 
@@ -253,26 +253,29 @@ fn plays_with(plays: u32, command: &Command) -> u32
     }
 }
 
-/// The commands of an array of strings. `BadWord` comes exactly where a word is missing, one too many, or not
-/// what has to stand there, and at the first word of a fifth `play`.
+/// The commands of an array of strings, each of which is dropped as soon as its command is read. `BadWord` comes exactly
+/// where a word is missing, one too many, or not what has to stand there, and at the first word of a fifth `play`.
 pub fn read_commands(
     alloc: Global,
     names: &PlanNames<'_>,
-    array: &[Value],
+    values: Vec<Value>,
 ) -> Result<List<Command>, ScenarioFault>
-    requires { length array.now ≤ most_events }
-    ensures exact { Gives result (commands_in names.now 1 0 (items_view array.now)) }
-    ensures many { IfOk result (λ commands. length commands ≡ length array.now) }
+    requires { length values.items ≤ most_events }
+    ensures exact { Gives result (commands_in names.now 1 0 (items_view values.items)) }
+    ensures many { IfOk result (λ commands. length commands ≡ length values.items) }
     ensures named { IfOk result (λ commands. All (IsInPlanNames names.now) commands) }
 {
-    let mut commands = List::with_capacity(alloc, array.len())?;
+    let mut commands = match List::with_capacity(alloc, values.len()) {
+        Ok(commands) => commands,
+        Err(NoMemory) => return Err(ScenarioFault::NoMemory),
+    };
     let mut plays = 0;
-    for (i, value) in array.iter().enumerate() {
+    for value in values {
         let place = EventPlace {
-            event: i as u32 + 1,
+            event: commands.len() as u32 + 1,
             plays,
         };
-        let command = item(alloc, names, place, value)?;
+        let command = item(alloc, names, place, &value)?;
         plays = plays_with(plays, &command);
         commands.push(command)?;
     }

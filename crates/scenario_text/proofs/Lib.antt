@@ -1,4 +1,5 @@
 pub mod DocumentLemmas
+pub mod EventLemmas
 pub mod KeyLemmas
 pub mod QuadLemmas
 pub mod RowLemmas

@@ -1,8 +1,9 @@
 //! The top of a document: its version and its arrays.
-ghost use Rattle.std.specs.Prelude.{◌≡◌, ◌≤◌, true, codes, length, IfOk};
+ghost use Rattle.std.specs.Prelude.{◌≡◌, ◌≤◌, [], true, codes, length, option_map, IfNone, IfOk, IfSome};
 ghost use Rattle.std.specs.List.{list_all};
-ghost use Rattle.toml.specs.Data.{no_items};
+ghost use Rattle.toml.specs.Data.{no_items, as_array, get_member};
 ghost use Rattle.toml.specs.View.{view, items_view, table_view};
+ghost use Rattle.command_text.specs.Events.{most_events};
 ghost use Rattle.command_text.specs.Places.{place_at, top_row};
 ghost use Rattle.command_text.specs.Reading.{MapsTo};
 ghost use Rattle.scenario_text.specs.Values.{is_string, an_array, all_items, needed, defaulted};
@@ -16,6 +17,7 @@ use crate::table_row::TableRow;
 use crate::values::strings;
 use command_text::{RowPlace, ScenarioFault};
 use net_base::Table as TableKind;
+use std::alloc::Global;
 use toml::{Table, Value};
 
 /// The arrays of a document, each in the order of its rows.
@@ -152,4 +154,30 @@ pub fn document_arrays(table: &Table) -> Result<Arrays<'_>, ScenarioFault>
     only_known_keys(TableKind::Top, RowPlace::top(), table)?;
     check_limits(&arrays)?;
     Ok(arrays)
+}
+
+// The value at a key, taken out of its table. The rest of the table is dropped.
+fn taken_value(mut table: Table, key: &str) -> Option<Value>
+    ensures { option_map view result ≡ get_member key.now (table_view table) }
+{
+    table.remove(key)
+}
+
+// The items of an array; nothing else has any.
+fn items_in(alloc: Global, value: Option<Value>) -> Vec<Value>
+    ensures array { IfSome value (λ v. IfSome (as_array (view v)) (λ items. items_view result.items ≡ items)) }
+    ensures none { IfNone value (result.items ≡ []) }
+{
+    match value {
+        Some(Value::Array(array)) => array,
+        Some(_) | None => Vec::new(alloc),
+    }
+}
+
+/// The events of a document whose arrays were found. The rest of the document is dropped.
+pub fn take_events(alloc: Global, table: Table) -> Vec<Value>
+    ensures exact { IfOk (arrays_in (table_view table)) (λ arrays. items_view result.items ≡ arrays.events) }
+    ensures few { IfOk (arrays_in (table_view table)) (λ _. length result.items ≤ most_events) }
+{
+    items_in(alloc, taken_value(table, "events"))
 }

@@ -11,7 +11,7 @@ ghost use Rattle.scenario_text.specs.Arrays.{arrays_of, HasLimits};
 ghost use Rattle.scenario_text.specs.Document.{plan_in, scenario_with, scenario_in, scenario_or, document};
 
 use crate::Scenario;
-use crate::arrays::{Arrays, document_arrays};
+use crate::arrays::{Arrays, document_arrays, take_events};
 use crate::circuit_row::CircuitRow;
 use crate::names::{names_of_circuits, names_of_edges, names_of_wires};
 use crate::plan::plan;
@@ -28,14 +28,14 @@ fn named_commands(
     edges: &[Name],
     circuits: &[Name],
     wires: &[Name],
-    events: &[Value],
+    events: Vec<Value>,
 ) -> Result<List<Command>, ScenarioFault>
     requires few_edges { length edges.now ≤ 1664 }
     requires few_circuits { length circuits.now ≤ 1664 }
     requires few_wires { length wires.now ≤ 1664 }
-    requires few { length events.now ≤ most_events }
-    ensures exact { Gives result (commands_in (record { edges = edges.now; circuits = circuits.now; wires = wires.now }) 1 0 (items_view events.now)) }
-    ensures many { IfOk result (λ commands. length commands ≡ length events.now) }
+    requires few { length events.items ≤ most_events }
+    ensures exact { Gives result (commands_in (record { edges = edges.now; circuits = circuits.now; wires = wires.now }) 1 0 (items_view events.items)) }
+    ensures many { IfOk result (λ commands. length commands ≡ length events.items) }
     ensures named { IfOk result (λ commands. All (IsInPlanNames (record { edges = edges.now; circuits = circuits.now; wires = wires.now })) commands) }
 {
     match plan_names(alloc, edges, circuits, wires) {
@@ -100,12 +100,12 @@ fn names_with_wires<'a>(
 fn plan_commands(
     alloc: Global,
     plan: &Plan,
-    events: &[Value],
+    events: Vec<Value>,
 ) -> Result<List<Command>, ScenarioFault>
     requires limits { IsWithinLimits plan.now }
-    requires few { length events.now ≤ most_events }
-    ensures exact { Gives result (commands_in (names_of plan.now) 1 0 (items_view events.now)) }
-    ensures many { IfOk result (λ commands. length commands ≡ length events.now) }
+    requires few { length events.items ≤ most_events }
+    ensures exact { Gives result (commands_in (names_of plan.now) 1 0 (items_view events.items)) }
+    ensures many { IfOk result (λ commands. length commands ≡ length events.items) }
     ensures planned { IfOk result (λ commands. All (IsPlanned plan.now) commands) }
 {
     let edges = names_of_edges(alloc, plan.edges.as_slice())?;
@@ -142,26 +142,28 @@ fn arrays_plan(alloc: Global, arrays: &Arrays<'_>) -> Result<Plan, ScenarioFault
     )
 }
 
-// The scenario of a table.
+// The scenario of a table. Once the plan is made of its arrays, the events alone are kept of it.
 #[tactic(auto, unfolding(crate::specs::Document::scenario_in))]
-fn scenario(alloc: Global, table: &Table) -> Result<Scenario, ScenarioFault>
-    ensures exact { Gives result (scenario_in (table_view table.now)) }
+fn scenario(alloc: Global, table: Table) -> Result<Scenario, ScenarioFault>
+    ensures exact { Gives result (scenario_in (table_view table)) }
     ensures checked { IfOk result (λ scenario. IsChecked scenario.plan) }
     ensures few { IfOk result (λ scenario. length scenario.commands ≤ most_events) }
     ensures planned { IfOk result (λ scenario. All (IsPlanned scenario.plan) scenario.commands) }
 {
-    let arrays = document_arrays(table)?;
-    match arrays_plan(alloc, &arrays) {
-        Ok(plan) => scenario_at(alloc, plan, arrays.events),
+    match document_arrays(&table) {
+        Ok(arrays) => match arrays_plan(alloc, &arrays) {
+            Ok(plan) => scenario_at(alloc, plan, take_events(alloc, table)),
+            Err(fault) => Err(fault),
+        },
         Err(fault) => Err(fault),
     }
 }
 
 // The scenario of these events at a plan.
-fn scenario_at(alloc: Global, plan: Plan, events: &[Value]) -> Result<Scenario, ScenarioFault>
+fn scenario_at(alloc: Global, plan: Plan, events: Vec<Value>) -> Result<Scenario, ScenarioFault>
     requires checked { IsChecked plan }
-    requires few { length events.now ≤ most_events }
-    ensures exact { Gives result (scenario_with plan (commands_in (names_of plan) 1 0 (items_view events.now))) }
+    requires few { length events.items ≤ most_events }
+    ensures exact { Gives result (scenario_with plan (commands_in (names_of plan) 1 0 (items_view events.items))) }
     ensures checked { IfOk result (λ scenario. IsChecked scenario.plan) }
     ensures few { IfOk result (λ scenario. length scenario.commands ≤ most_events) }
     ensures planned { IfOk result (λ scenario. All (IsPlanned scenario.plan) scenario.commands) }
@@ -180,7 +182,7 @@ fn read_text(alloc: Global, text: &str) -> Result<Scenario, ScenarioFault>
     ensures planned { IfOk result (λ scenario. All (IsPlanned scenario.plan) scenario.commands) }
 {
     match toml::table_from_str(alloc, text) {
-        Ok(table) => scenario(alloc, &table),
+        Ok(table) => scenario(alloc, table),
         Err(fault) => {
             if fault.is_memory() {
                 Err(ScenarioFault::NoMemory)
