@@ -11,19 +11,20 @@ use Rattle.net_base.specs.declared.plan.wire_plan.WirePlan.{WirePlan}
 use Rattle.net_base.specs.declared.plan.places.CircuitId.{CircuitId}
 use Rattle.net_base.specs.declared.plan.places.EdgeId.{EdgeId}
 use Rattle.net_base.specs.declared.plan.places.ServiceId.{ServiceId}
-use Rattle.net_base.specs.declared.plan.places.WireId.{WireId}
 use Rattle.net_base.specs.plan.Places.{is_mesh_class}
 use Rattle.net_base.specs.plan.Roles.{is_circuit_at, wire_ends_at}
 use Rattle.hvpls_spokes.specs.Search.{place_if}
 use Rattle.hvpls_spokes.proofs.SearchLemmas.{first_behind, pairs_append}
 use Rattle.hvpls_spokes.specs.declared.port.Port.{Port}
 use Rattle.hvpls_spokes.specs.declared.port.Port.TheVariants as port
-use Rattle.hvpls_spokes.specs.Port.{ArePortsInOrder, circuit_ports, is_circuit_port, is_wire_port, ports_of, precedes, precedes_circuit, precedes_wire, wire_port, wire_ports}
+use Rattle.hvpls_spokes.specs.declared.port_name.PortName.{PortName}
+use Rattle.hvpls_spokes.specs.declared.port_name.PortName.TheVariants as name
+use Rattle.hvpls_spokes.specs.Port.{ArePortsInOrder, circuit_ports, is_named_port, name_of, ports_of, precedes, wire_port, wire_ports}
 use Rattle.hvpls_spokes.proofs.RowPortLemmas.{circuit_made, circuits_made, made_ports, wires_made}
 
 -- the first port comes before the second one
 abbrev Precedes : Port → Port → Type 0
-Precedes first second = precedes first second ≡ true
+Precedes first second = precedes (name_of second) first ≡ true
 
 -- ---- ports that are made of rows in order
 
@@ -75,62 +76,44 @@ ports_in_order plan service edge =
     (subst ArePortsInOrder (sym (wires_made 0 plan.wires service edge)) (made_in_order (wire_ends_at service edge.0) wire_port wires_rise 0 plan.wires))
     (circuits_first plan service edge)
 
--- ---- the search of a circuit
+-- ---- the search of a port
 
-before_circuit : (circuit : CircuitId) (x y : Port) → Precedes x y → precedes_circuit circuit y ≡ true → precedes_circuit circuit x ≡ true
-before_circuit circuit (port.Circuit a) (port.Circuit b) first under = grind (arith, nat_tests, first, under)
-before_circuit circuit (port.Mesh wire) (port.Circuit b) first under = absurd (cc (first))
-before_circuit circuit (port.Spoke wire) (port.Circuit b) first under = absurd (cc (first))
-before_circuit circuit x (port.Mesh wire) first under = absurd (cc (under))
-before_circuit circuit x (port.Spoke wire) first under = absurd (cc (under))
+before_named : (named : PortName) (x y : Port) → Precedes x y → precedes named y ≡ true → precedes named x ≡ true
+before_named (name.Circuit circuit) (port.Circuit a) (port.Circuit b) first under = grind (arith, nat_tests, first, under)
+before_named (name.Circuit circuit) (port.Mesh wire) (port.Circuit b) first under = absurd (cc (first))
+before_named (name.Circuit circuit) (port.Spoke wire) (port.Circuit b) first under = absurd (cc (first))
+before_named (name.Circuit circuit) x (port.Mesh wire) first under = absurd (cc (under))
+before_named (name.Circuit circuit) x (port.Spoke wire) first under = absurd (cc (under))
+before_named (name.Wire wire) (port.Circuit a) y first under = refl
+before_named (name.Wire wire) (port.Mesh a) (port.Circuit b) first under = absurd (cc (first))
+before_named (name.Wire wire) (port.Mesh a) (port.Mesh b) first under = grind (arith, nat_tests, first, under)
+before_named (name.Wire wire) (port.Mesh a) (port.Spoke b) first under = grind (arith, nat_tests, first, under)
+before_named (name.Wire wire) (port.Spoke a) (port.Circuit b) first under = absurd (cc (first))
+before_named (name.Wire wire) (port.Spoke a) (port.Mesh b) first under = grind (arith, nat_tests, first, under)
+before_named (name.Wire wire) (port.Spoke a) (port.Spoke b) first under = grind (arith, nat_tests, first, under)
 
-not_before_circuit : (circuit : CircuitId) (x : Port) → is_circuit_port circuit x ≡ true → precedes_circuit circuit x ≡ false
-not_before_circuit circuit (port.Circuit at) leads = grind (arith, nat_tests, leads)
-not_before_circuit circuit (port.Mesh wire) leads = refl
-not_before_circuit circuit (port.Spoke wire) leads = refl
+not_before_named : (named : PortName) (x : Port) → is_named_port named x ≡ true → precedes named x ≡ false
+not_before_named (name.Circuit circuit) (port.Circuit at) named = grind (arith, nat_tests, named)
+not_before_named (name.Circuit circuit) (port.Mesh at) named = refl
+not_before_named (name.Circuit circuit) (port.Spoke at) named = refl
+not_before_named (name.Wire wire) (port.Circuit at) named = absurd (cc (named))
+not_before_named (name.Wire wire) (port.Mesh at) named = grind (arith, nat_tests, named)
+not_before_named (name.Wire wire) (port.Spoke at) named = grind (arith, nat_tests, named)
 
--- what comes before the circuit's port comes before the circuit
-one_circuit : (circuit : CircuitId) (x y : Port) → Precedes x y → is_circuit_port circuit y ≡ true → precedes_circuit circuit x ≡ true
-one_circuit circuit x (port.Circuit at) first leads = subst (λ (n : ℕ). precedes_circuit (record { 0 = n }) x ≡ true) (eqb-true at.0 circuit.0 leads) first
-one_circuit circuit x (port.Mesh wire) first leads = absurd (cc (leads))
-one_circuit circuit x (port.Spoke wire) first leads = absurd (cc (leads))
+-- what comes before the port of this name comes before the name
+one_named : (named : PortName) (x y : Port) → Precedes x y → is_named_port named y ≡ true → precedes named x ≡ true
+one_named (name.Circuit circuit) x (port.Circuit at) first named = subst (λ (n : ℕ). precedes (name.Circuit (record { 0 = n })) x ≡ true) (eqb-true at.0 circuit.0 named) first
+one_named (name.Circuit circuit) x (port.Mesh at) first named = absurd (cc (named))
+one_named (name.Circuit circuit) x (port.Spoke at) first named = absurd (cc (named))
+one_named (name.Wire wire) x (port.Circuit at) first named = absurd (cc (named))
+one_named (name.Wire wire) x (port.Mesh at) first named = subst (λ (n : ℕ). precedes (name.Wire (record { 0 = n })) x ≡ true) (eqb-true at.0 wire.0 named) first
+one_named (name.Wire wire) x (port.Spoke at) first named = subst (λ (n : ℕ). precedes (name.Wire (record { 0 = n })) x ≡ true) (eqb-true at.0 wire.0 named) first
 
--- where the ports end that come before a circuit, its own stands, if it has one
-pub circuit_behind : (circuit : CircuitId) (ports : List Port) (k : ℕ) → ArePortsInOrder ports → k ≤ length ports
-    → (IsPartitionedBy (precedes_circuit circuit) ports → IsPartitionPoint (λ x. precedes_circuit circuit x ≡ true) (λ x. precedes_circuit circuit x ≡ false) ports k)
-    → position (is_circuit_port circuit) ports ≡ place_if (is_circuit_port circuit) k (slice_get ports k)
-circuit_behind circuit ports k ordered bound ends =
-    (first_behind Precedes (precedes_circuit circuit) (is_circuit_port circuit) ports k ordered (before_circuit circuit) (not_before_circuit circuit)
-    (λ x y first leads behind. absurd (true≢false (sym (one_circuit circuit x y first leads) ∙ behind)))
-    bound ends).place
-
--- ---- the search of a wire
-
-before_wire : (wire : WireId) (x y : Port) → Precedes x y → precedes_wire wire y ≡ true → precedes_wire wire x ≡ true
-before_wire wire (port.Circuit a) y first under = refl
-before_wire wire (port.Mesh a) (port.Circuit b) first under = absurd (cc (first))
-before_wire wire (port.Mesh a) (port.Mesh b) first under = grind (arith, nat_tests, first, under)
-before_wire wire (port.Mesh a) (port.Spoke b) first under = grind (arith, nat_tests, first, under)
-before_wire wire (port.Spoke a) (port.Circuit b) first under = absurd (cc (first))
-before_wire wire (port.Spoke a) (port.Mesh b) first under = grind (arith, nat_tests, first, under)
-before_wire wire (port.Spoke a) (port.Spoke b) first under = grind (arith, nat_tests, first, under)
-
-not_before_wire : (wire : WireId) (x : Port) → is_wire_port wire x ≡ true → precedes_wire wire x ≡ false
-not_before_wire wire (port.Circuit circuit) leads = absurd (cc (leads))
-not_before_wire wire (port.Mesh at) leads = grind (arith, nat_tests, leads)
-not_before_wire wire (port.Spoke at) leads = grind (arith, nat_tests, leads)
-
--- what comes before the wire's port comes before the wire
-one_wire : (wire : WireId) (x y : Port) → Precedes x y → is_wire_port wire y ≡ true → precedes_wire wire x ≡ true
-one_wire wire x (port.Circuit circuit) first leads = absurd (cc (leads))
-one_wire wire x (port.Mesh at) first leads = subst (λ (n : ℕ). precedes_wire (record { 0 = n }) x ≡ true) (eqb-true at.0 wire.0 leads) first
-one_wire wire x (port.Spoke at) first leads = subst (λ (n : ℕ). precedes_wire (record { 0 = n }) x ≡ true) (eqb-true at.0 wire.0 leads) first
-
--- where the ports end that come before a wire, its own stands, if it has one
-pub wire_behind : (wire : WireId) (ports : List Port) (k : ℕ) → ArePortsInOrder ports → k ≤ length ports
-    → (IsPartitionedBy (precedes_wire wire) ports → IsPartitionPoint (λ x. precedes_wire wire x ≡ true) (λ x. precedes_wire wire x ≡ false) ports k)
-    → position (is_wire_port wire) ports ≡ place_if (is_wire_port wire) k (slice_get ports k)
-wire_behind wire ports k ordered bound ends =
-    (first_behind Precedes (precedes_wire wire) (is_wire_port wire) ports k ordered (before_wire wire) (not_before_wire wire)
-    (λ x y first leads behind. absurd (true≢false (sym (one_wire wire x y first leads) ∙ behind)))
+-- where the ports end that come before that of a name, that one stands, if there is one
+pub named_behind : (named : PortName) (ports : List Port) (k : ℕ) → ArePortsInOrder ports → k ≤ length ports
+    → (IsPartitionedBy (precedes named) ports → IsPartitionPoint (λ x. precedes named x ≡ true) (λ x. precedes named x ≡ false) ports k)
+    → position (is_named_port named) ports ≡ place_if (is_named_port named) k (slice_get ports k)
+named_behind named ports k ordered bound ends =
+    (first_behind Precedes (precedes named) (is_named_port named) ports k ordered (before_named named) (not_before_named named)
+    (λ x y first here behind. absurd (true≢false (sym (one_named named x y first here) ∙ behind)))
     bound ends).place

@@ -13,6 +13,8 @@ use Rattle.hvpls_spokes.specs.declared.port.Port.{Port}
 use Rattle.hvpls_spokes.specs.declared.port.Port.TheVariants as port
 use Rattle.hvpls_spokes.specs.declared.port_kind.PortKind.{PortKind}
 use Rattle.hvpls_spokes.specs.declared.port_kind.PortKind.TheVariants as kind
+use Rattle.hvpls_spokes.specs.declared.port_name.PortName.{PortName}
+use Rattle.hvpls_spokes.specs.declared.port_name.PortName.TheVariants as name
 
 abbrev pub port_kind_of : Port → PortKind
 port_kind_of (port.Circuit circuit) = kind.Circuit
@@ -73,26 +75,28 @@ wire_ports place (row ∷ rows) service edge =
 abbrev pub ports_of : Plan → ServiceId → EdgeId → List Port
 ports_of plan service edge = circuit_ports 0 plan.circuits service edge ++ wire_ports 0 plan.wires service edge
 
--- ---- the order of the ports
+-- ---- ports by their names
 
--- the port comes before that of the circuit
-abbrev pub precedes_circuit : CircuitId → Port → Bool
-precedes_circuit circuit (port.Circuit at) = nat_lt at.0 circuit.0
-precedes_circuit circuit (port.Mesh wire) = false
-precedes_circuit circuit (port.Spoke wire) = false
+-- what names the port
+abbrev pub name_of : Port → PortName
+name_of (port.Circuit circuit) = name.Circuit circuit
+name_of (port.Mesh wire) = name.Wire wire
+name_of (port.Spoke wire) = name.Wire wire
 
--- the port comes before that of the wire
-abbrev pub precedes_wire : WireId → Port → Bool
-precedes_wire wire (port.Circuit circuit) = true
-precedes_wire wire (port.Mesh at) = nat_lt at.0 wire.0
-precedes_wire wire (port.Spoke at) = nat_lt at.0 wire.0
+-- the port has this name
+abbrev pub is_named_port : PortName → Port → Bool
+is_named_port (name.Circuit circuit) at = is_circuit_port circuit at
+is_named_port (name.Wire wire) at = is_wire_port wire at
 
--- the first port comes before the second one
-abbrev pub precedes : Port → Port → Bool
-precedes first (port.Circuit circuit) = precedes_circuit circuit first
-precedes first (port.Mesh wire) = precedes_wire wire first
-precedes first (port.Spoke wire) = precedes_wire wire first
+-- the port comes before that of this name
+abbrev pub precedes : PortName → Port → Bool
+precedes (name.Circuit circuit) (port.Circuit at) = nat_lt at.0 circuit.0
+precedes (name.Circuit circuit) (port.Mesh at) = false
+precedes (name.Circuit circuit) (port.Spoke at) = false
+precedes (name.Wire wire) (port.Circuit at) = true
+precedes (name.Wire wire) (port.Mesh at) = nat_lt at.0 wire.0
+precedes (name.Wire wire) (port.Spoke at) = nat_lt at.0 wire.0
 
 -- circuits in the order of the plan, and then wires in the order of the plan
 abbrev pub ArePortsInOrder : List Port → Type 0
-ArePortsInOrder ports = AllPairs (λ first second. precedes first second ≡ true) ports
+ArePortsInOrder ports = AllPairs (λ first second. precedes (name_of second) first ≡ true) ports

@@ -24,32 +24,19 @@ pub fn flood_set(ports: &Ports, forwarding: &PortSet, arrival: u16) -> PortSet
 
 /// Whether a frame that came by the port `arrival` may go to this port, which may be any number: whether the flood set has it. No set
 /// is made to answer that (RFC 4762 sections 4.1 and 4.4).
+#[tactic(auto, using(crate::proofs::PortSetLemmas::beyond))]
 pub fn is_in_flood_set(ports: &Ports, forwarding: &PortSet, arrival: u16, port: u16) -> bool
     requires { (p : ℕ) → has forwarding.now p ≡ true → p < length ports.now }
     ensures flood { result ≡ is_in_flood ports.now (has forwarding.now) arrival port }
     ensures within { result ≡ true → port < 512 }
 {
-    if port == arrival || !forwards(forwarding, ports.len(), port) {
+    if port == arrival || port >= ports.len() || !forwarding.contains(port) {
         return false;
     }
     !(ports.is_mesh(port) && ports.is_mesh(arrival))
 }
 
-// Whether the set, whose ports are below `len`, has the port, which may be any number.
-#[tactic(auto, using(crate::proofs::PortSetLemmas::beyond))]
-fn forwards(set: &PortSet, len: u16, port: u16) -> bool
-    requires set { (p : ℕ) → has set.now p ≡ true → p < len }
-    requires len { len ≤ 512 }
-    ensures has { result ≡ has set.now port }
-    ensures within { result ≡ true → port < 512 }
-{
-    if port >= len {
-        return false;
-    }
-    set.contains(port)
-}
-
-// The set without the mesh wires.
+// The set without the mesh wires. A loop under an `if` does not prove.
 fn without_mesh(ports: &Ports, set: PortSet, len: u16) -> PortSet
     requires len { len ≡ length ports.now }
     requires within { len ≤ 512 }

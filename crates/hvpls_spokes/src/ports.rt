@@ -2,10 +2,10 @@
 ghost use Rattle.std.specs.Prelude.{◌≡◌, ◌≤◌, ◌<◌, ◌++◌, length, slice_get, option_map, position, IfOk, IfSome, OnOk};
 ghost use Rattle.net_base.specs.plan.Accepted.{IsChecked};
 ghost use Rattle.hvpls_spokes.specs.Search.{place_if};
-ghost use Rattle.hvpls_spokes.specs.Port.{ArePortsInOrder, port_kind_of, circuit_ports, is_circuit_port, is_mesh_port, is_wire_port, ports_of, precedes_circuit, precedes_wire, wire_port, wire_ports};
+ghost use Rattle.hvpls_spokes.specs.Port.{ArePortsInOrder, port_kind_of, circuit_ports, is_mesh_port, is_named_port, ports_of, precedes, wire_ports};
 
 use crate::terminal::ends_at;
-use crate::{Port, PortKind};
+use crate::{Port, PortKind, PortName};
 use net_base::{
     CircuitId, CircuitPlan, Class, EdgeId, NoMemory, Plan, ServiceId, WireId, WirePlan,
 };
@@ -88,22 +88,16 @@ impl Ports {
         }
     }
 
-    /// The number of the port that leads to the circuit; `None` exactly where none does.
-    pub fn find(&self, circuit: CircuitId) -> Option<u16>
-        ensures port { result ≡ position (is_circuit_port circuit) self.now }
+    /// The number of the port of this name; `None` exactly where there is none.
+    pub fn find(&self, name: PortName) -> Option<u16>
+        ensures port { result ≡ position (is_named_port name) self.now }
         ensures within { IfSome result (λ port. port < 512) }
     {
-        let place = place_of(self.ports.as_slice(), circuit)?;
-        Some(place as u16)
-    }
-
-    /// The number of the port that leads to the wire; `None` exactly where none does.
-    pub fn find_wire(&self, wire: WireId) -> Option<u16>
-        ensures port { result ≡ position (is_wire_port wire) self.now }
-        ensures within { IfSome result (λ port. port < 512) }
-    {
-        let place = place_of_wire(self.ports.as_slice(), wire)?;
-        Some(place as u16)
+        let place = count_before(self.ports.as_slice(), name);
+        match self.ports.get(place) {
+            Some(port) if has_name(*port, name) => Some(place as u16),
+            _ => None,
+        }
     }
 }
 
@@ -137,100 +131,52 @@ fn push_wires(
 {
     for (place, wire) in wires.iter().enumerate() {
         if ends_at(wire, service, edge) {
-            ports.push(port_of_wire(WireId(place as u16), wire))?;
+            let id = WireId(place as u16);
+            ports.push(match wire.class {
+                Class::Mesh => Port::Mesh(id),
+                Class::Spoke => Port::Spoke(id),
+            })?;
         }
     }
     Ok(())
 }
 
-// The wire as a port, by its class.
-fn port_of_wire(wire: WireId, row: &WirePlan) -> Port
-    ensures { result ≡ wire_port wire.0 row.now }
-{
-    match row.class {
-        Class::Mesh => Port::Mesh(wire),
-        Class::Spoke => Port::Spoke(wire),
-    }
-}
-
-// The place of the port that leads to the circuit.
-fn place_of(ports: &[Port], circuit: CircuitId) -> Option<usize>
+// How many ports come before that of this name.
+fn count_before(ports: &[Port], name: PortName) -> usize
     requires { ArePortsInOrder ports.now }
-    ensures place { result ≡ position (is_circuit_port circuit) ports.now }
-    ensures within { IfSome result (λ place. place < length ports.now) }
+    ensures { position (is_named_port name) ports.now ≡ place_if (is_named_port name) result (slice_get ports.now result) }
 {
-    let place = count_before(ports, circuit);
-    match ports.get(place) {
-        Some(port) if leads_to(*port, circuit) => Some(place),
-        _ => None,
+    ports.partition_point(|port| precedes(*port, name))
+}
+
+// Whether the port comes before that of this name.
+fn precedes(port: Port, name: PortName) -> bool
+    ensures { result ≡ precedes name port }
+{
+    match name {
+        PortName::Circuit(circuit) => match port {
+            Port::Circuit(at) => at.0 < circuit.0,
+            Port::Mesh(_) | Port::Spoke(_) => false,
+        },
+        PortName::Wire(wire) => match port {
+            Port::Circuit(_) => true,
+            Port::Mesh(at) | Port::Spoke(at) => at.0 < wire.0,
+        },
     }
 }
 
-// How many ports come before that of the circuit.
-fn count_before(ports: &[Port], circuit: CircuitId) -> usize
-    requires { ArePortsInOrder ports.now }
-    ensures { position (is_circuit_port circuit) ports.now ≡ place_if (is_circuit_port circuit) result (slice_get ports.now result) }
+// Whether the port has this name.
+fn has_name(port: Port, name: PortName) -> bool
+    ensures { result ≡ is_named_port name port }
 {
-    ports.partition_point(|port| precedes(*port, circuit))
-}
-
-// Whether the port comes before that of the circuit.
-fn precedes(port: Port, circuit: CircuitId) -> bool
-    ensures { result ≡ precedes_circuit circuit port }
-{
-    match port {
-        Port::Circuit(at) => at.0 < circuit.0,
-        Port::Mesh(_) | Port::Spoke(_) => false,
-    }
-}
-
-// Whether the port leads to the circuit.
-fn leads_to(port: Port, circuit: CircuitId) -> bool
-    ensures { result ≡ is_circuit_port circuit port }
-{
-    match port {
-        Port::Circuit(at) => at == circuit,
-        Port::Mesh(_) | Port::Spoke(_) => false,
-    }
-}
-
-// The place of the port that leads to the wire.
-fn place_of_wire(ports: &[Port], wire: WireId) -> Option<usize>
-    requires { ArePortsInOrder ports.now }
-    ensures place { result ≡ position (is_wire_port wire) ports.now }
-    ensures within { IfSome result (λ place. place < length ports.now) }
-{
-    let place = count_before_wire(ports, wire);
-    match ports.get(place) {
-        Some(port) if leads_to_wire(*port, wire) => Some(place),
-        _ => None,
-    }
-}
-
-// How many ports come before that of the wire.
-fn count_before_wire(ports: &[Port], wire: WireId) -> usize
-    requires { ArePortsInOrder ports.now }
-    ensures { position (is_wire_port wire) ports.now ≡ place_if (is_wire_port wire) result (slice_get ports.now result) }
-{
-    ports.partition_point(|port| precedes_wire(*port, wire))
-}
-
-// Whether the port comes before that of the wire.
-fn precedes_wire(port: Port, wire: WireId) -> bool
-    ensures { result ≡ precedes_wire wire port }
-{
-    match port {
-        Port::Circuit(_) => true,
-        Port::Mesh(at) | Port::Spoke(at) => at.0 < wire.0,
-    }
-}
-
-// Whether the port leads to the wire.
-fn leads_to_wire(port: Port, wire: WireId) -> bool
-    ensures { result ≡ is_wire_port wire port }
-{
-    match port {
-        Port::Circuit(_) => false,
-        Port::Mesh(at) | Port::Spoke(at) => at == wire,
+    match name {
+        PortName::Circuit(circuit) => match port {
+            Port::Circuit(at) => at == circuit,
+            Port::Mesh(_) | Port::Spoke(_) => false,
+        },
+        PortName::Wire(wire) => match port {
+            Port::Circuit(_) => false,
+            Port::Mesh(at) | Port::Spoke(at) => at == wire,
+        },
     }
 }

@@ -41,12 +41,14 @@ fn has_port(plan: &Plan, service: ServiceId, edge: EdgeId) -> bool
         || has_end(plan.wires.as_slice(), service, edge)
 }
 
+// A test by a closure proves by itself alone.
 fn has_circuit(circuits: &[CircuitPlan], service: ServiceId, edge: EdgeId) -> bool
     ensures { result ≡ list_any (is_circuit_at service edge.0) circuits.now }
 {
     circuits.iter().any(|circuit| circuit.service == service && circuit.edge == edge)
 }
 
+// So does this one.
 fn has_end(wires: &[WirePlan], service: ServiceId, edge: EdgeId) -> bool
     ensures { result ≡ list_any (wire_ends_at service edge.0) wires.now }
 {

@@ -35,13 +35,7 @@ pub fn is_mesh_between(wire: &WirePlan, service: ServiceId, a: EdgeId, b: EdgeId
     ensures { result ≡ (is_mesh_of service wire.now && ((is_first a.0 wire.now.path && is_last b.0 wire.now.path) || (is_first b.0 wire.now.path && is_last a.0 wire.now.path))) }
 {
     let path = wire.path.as_slice();
-    is_mesh_of(wire, service) && (goes(path, a, b) || goes(path, b, a))
-}
-
-fn is_mesh_of(wire: &WirePlan, service: ServiceId) -> bool
-    ensures { result ≡ is_mesh_of service wire.now }
-{
-    wire.service == service && !is_spoke(wire.class)
+    (wire.service == service && !is_spoke(wire.class)) && (goes(path, a, b) || goes(path, b, a))
 }
 
 // Whether the path starts at the one edge and ends at the other one.
