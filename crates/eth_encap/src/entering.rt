@@ -1,5 +1,5 @@
 //! What enters at a circuit.
-ghost use Rattle.std.specs.Prelude.{◌≡◌, ◌≤◌, ◌+◌, ◌++◌, length, take, drop, Ok, Err, None, Some, IfOk, IfErr, OnErr};
+ghost use Rattle.std.specs.Prelude.{◌≡◌, ◌≤◌, ◌+◌, ◌++◌, length, take, drop, Ok, Err, IfOk, IfErr, OnErr};
 ghost use Rattle.net_base.specs.trace.Frame.{inner as inner_of, untagged};
 ghost use Rattle.eth_encap.specs.Fault.{cause_of};
 
@@ -11,14 +11,17 @@ use net_base::pair;
 // The octets of a frame and header that every frame has.
 const HEADER: usize = 14;
 
-// The parts of the frame before and behind its tag, where its VLAN ID is this one.
-fn around_tag(tag: u16, frame: &[u8]) -> Result<(&[u8], &[u8]), FrameFault>
+// The parts of the frame that join to it without its tag, where its VLAN ID is the one that is told.
+fn untagged_parts(tag: Option<u16>, frame: &[u8]) -> Result<(&[u8], &[u8]), FrameFault>
     requires { 14 ≤ length frame.now }
-    ensures ok { IfOk result (λ parts. untagged (Some tag) frame.now ≡ Ok (parts.0.now ++ parts.1.now)) }
+    ensures ok { IfOk result (λ parts. untagged tag frame.now ≡ Ok (parts.0.now ++ parts.1.now)) }
     ensures least { IfOk result (λ parts. 14 ≤ length parts.0.now + length parts.1.now) }
     ensures fits { IfOk result (λ parts. length parts.0.now + length parts.1.now ≤ length frame.now) }
-    ensures fault { IfErr result (λ fault. untagged (Some tag) frame.now ≡ Err (cause_of fault)) }
+    ensures fault { IfErr result (λ fault. untagged tag frame.now ≡ Err (cause_of fault)) }
 {
+    let Some(tag) = tag else {
+        return Ok((frame, &[]));
+    };
     if pair(frame, 12) != TAG_PROTOCOL {
         return Err(FrameFault::NoTag);
     }
@@ -29,20 +32,6 @@ fn around_tag(tag: u16, frame: &[u8]) -> Result<(&[u8], &[u8]), FrameFault>
         return Err(FrameFault::WrongTag);
     }
     Ok((frame.split_at(12).0, frame.split_at(16).1))
-}
-
-// The parts of the frame that join to it without its tag.
-fn untagged_parts(tag: Option<u16>, frame: &[u8]) -> Result<(&[u8], &[u8]), FrameFault>
-    requires { 14 ≤ length frame.now }
-    ensures ok { IfOk result (λ parts. untagged tag frame.now ≡ Ok (parts.0.now ++ parts.1.now)) }
-    ensures least { IfOk result (λ parts. 14 ≤ length parts.0.now + length parts.1.now) }
-    ensures fits { IfOk result (λ parts. length parts.0.now + length parts.1.now ≤ length frame.now) }
-    ensures fault { IfErr result (λ fault. untagged tag frame.now ≡ Err (cause_of fault)) }
-{
-    match tag {
-        None => Ok((frame, &[])),
-        Some(tag) => around_tag(tag, frame),
-    }
 }
 
 /// The inner frame of what enters at a circuit: the frame without the circuit's tag, where it has one (RFC

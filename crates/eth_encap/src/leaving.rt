@@ -1,5 +1,5 @@
 //! What leaves at a circuit.
-ghost use Rattle.std.specs.Prelude.{◌≡◌, ◌≤◌, ◌+◌, ◌++◌, length, take, drop, Some};
+ghost use Rattle.std.specs.Prelude.{◌≡◌, ◌≤◌, ◌+◌, ◌++◌, length, drop};
 ghost use Rattle.net_base.specs.trace.Frame.{dress as dressed, tag_octets};
 
 use crate::octets::join;
@@ -21,31 +21,11 @@ fn tag_bytes(tag: u16) -> [u8; 4]
     octets
 }
 
-// The addresses of a frame, and what stands behind them; of a frame that ends before, what there is of them, and nothing.
-#[tactic(auto, using(std::proofs::lemmas::List::take_min, std::proofs::lemmas::List::drop_min))]
-fn split_addresses(frame: &[u8]) -> (&[u8], &[u8])
-    ensures addresses { result.0.now ≡ take 12 frame.now }
-    ensures rest { result.1.now ≡ drop 12 frame.now }
-    ensures sizes { length result.0.now + length result.1.now ≡ length frame.now }
-{
-    frame.split_at(min(ADDRESSES, frame.len()))
-}
-
-// Writes the inner frame with the tag behind its addresses.
-fn put_tagged(tag: u16, inner: &[u8], out: &mut [u8]) -> usize
-    requires room { length inner.now + 4 ≤ length out.old }
-    ensures len { result ≡ length inner.now + 4 }
-    ensures octets { out.new ≡ dressed (Some tag) inner.now ++ drop result out.old }
-{
-    let (addresses, rest) = split_addresses(inner);
-    let tagged = join(addresses, &tag_bytes(tag), out);
-    put(out, tagged, rest)
-}
-
 /// The inner frame as it leaves at a circuit, with the circuit's tag behind the addresses, where it has one;
 /// the tag's priority and drop eligibility are 0 (RFC 4762 section 7.1, IEEE 802.1Q clause 9.6). The tag comes
-/// behind the octets of a frame that has no more than its addresses, or fewer. Writes it to the front of `out`, which has four octets more than the inner frame or still more, and answers its
-/// length in octets. `tag` is a VLAN ID; above 4095 its upper bits are the priority.
+/// behind the octets of a frame that has no more than its addresses, or fewer. Writes it to the front of `out`, which has four octets
+/// more than the inner frame or still more, and answers its length in octets. `tag` is a VLAN ID; above 4095 its upper bits are the priority.
+#[tactic(auto, using(std::proofs::lemmas::List::take_min, std::proofs::lemmas::List::drop_min))]
 pub fn dress(tag: Option<u16>, inner: &[u8], out: &mut [u8]) -> usize
     requires room { length inner.now + 4 ≤ length out.old }
     ensures count { result ≡ length (dressed tag inner.now) }
@@ -53,6 +33,10 @@ pub fn dress(tag: Option<u16>, inner: &[u8], out: &mut [u8]) -> usize
 {
     match tag {
         None => put(out, 0, inner),
-        Some(tag) => put_tagged(tag, inner, out),
+        Some(tag) => {
+            let (addresses, rest) = inner.split_at(min(ADDRESSES, inner.len()));
+            let tagged = join(addresses, &tag_bytes(tag), out);
+            put(out, tagged, rest)
+        }
     }
 }

@@ -1,7 +1,7 @@
 //! A packet of a pseudowire is read.
 ghost use Rattle.std.specs.Prelude.{◌≡◌, ◌≤◌, ◌+◌, ◌++◌, length, take, drop, Ok, Err, IfOk, IfErr, OnErr};
 ghost use Rattle.eth_encap.specs.Fault.{cause_of};
-ghost use Rattle.eth_encap.specs.Packet.{behind_control, entry_in, entry_of, unpacked, without_tag};
+ghost use Rattle.eth_encap.specs.Packet.{behind_control, entry_of, unpacked, without_tag};
 
 use crate::octets::join;
 use crate::tag::TAG_PROTOCOL;
@@ -18,22 +18,15 @@ pub fn read_entry(packet: &[u8]) -> Result<StackEntry, FrameFault>
     if packet.len() < 4 {
         return Err(FrameFault::Short);
     }
-    let entry = entry_in(BigEndian::read_u32(packet));
-    if entry.ttl == 0 {
+    let number = BigEndian::read_u32(packet);
+    if number % 256 == 0 {
         return Err(FrameFault::Ttl);
     }
-    Ok(entry)
-}
-
-// The entry of this number.
-fn entry_in(number: u32) -> StackEntry
-    ensures { result ≡ entry_in number }
-{
-    StackEntry {
+    Ok(StackEntry {
         label: number / 4096,
         bottom: number / 256 % 2 == 1,
         ttl: (number % 256) as u8,
-    }
+    })
 }
 
 /// The inner frame of what stands behind the label stack of a packet (RFC 4448 section 4): without the control word where the
