@@ -28,20 +28,6 @@ fn header_front(ip: &[u8]) -> [u8; 10]
     front
 }
 
-// Writes the packet that answers the one in `ip`, and answers its length. `ip` has at least both headers.
-fn put_answer(cc: Cc, label: Label, points: u8, ip: &[u8], out: &mut [u8]) -> usize
-    requires points { points ≤ 3 }
-    requires headers { 28 ≤ length ip.now }
-    requires room { length ip.now + 12 ≤ length out.old }
-    ensures count { result ≡ length (channel_packet cc label points (answer_packet ip.now)) }
-    ensures octets { out.new ≡ channel_packet cc label points (answer_packet ip.now) ++ drop result out.old }
-{
-    let begin = put_channel(cc, label, points, out);
-    let addresses = joined(four_at(ip, 16), four_at(ip, 12));
-    let middle = put_summed(out, begin, &header_front(ip), &addresses);
-    put_summed(out, middle, &[ECHO_REPLY, ip[21]], ip.split_at(24).1)
-}
-
 /// Writes the packet that answers an echo request to the front of `out`, and answers its length in octets, at most
 /// eight more than the request's. It is the request with its addresses exchanged, TTL 255 and ICMP type 0, and both
 /// checksums made anew (RFC 792), in the control channel of the type `cc` (RFC 5085 section 5.1). `ip` is the IPv4
@@ -56,5 +42,8 @@ pub fn answer(cc: Cc, label: Label, points: u8, ip: &[u8], out: &mut [u8]) -> us
     ensures count { result ≡ length (channel_packet cc label points (answer_packet ip.now)) }
     ensures octets { out.new ≡ channel_packet cc label points (answer_packet ip.now) ++ drop result out.old }
 {
-    put_answer(cc, label, points, ip, out)
+    let begin = put_channel(cc, label, points, out);
+    let addresses = joined(four_at(ip, 16), four_at(ip, 12));
+    let middle = put_summed(out, begin, &header_front(ip), &addresses);
+    put_summed(out, middle, &[ECHO_REPLY, ip[21]], ip.split_at(24).1)
 }

@@ -4,7 +4,7 @@ use Rattle.vccv_channel.specs.Channel.{label_stack, channel_header}
 use Rattle.vccv_channel.specs.Checksum.{summed}
 use Rattle.vccv_channel.specs.Echo.{answer_header, echo_source, echo_destination}
 use Rattle.vccv_channel.proofs.PacketLemmas.{packet_written}
-use Rattle.vccv_channel.proofs.answering.put_answer.Goals as goal
+use Rattle.vccv_channel.proofs.answering.answer.Goals as goal
 
 pub returns-clause-octets : goal.returns-clause-octets
 returns-clause-octets c =
