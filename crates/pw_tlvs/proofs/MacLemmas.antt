@@ -2,7 +2,7 @@
 use Rattle.std.proofs.Common.{◌≡◌, ◌≤◌, ◌<◌, ◌%◌, ◌*◌, ◌+◌, ◌++◌, ◌∙◌, ℕ, List, [], ◌∷◌, length, take, drop, refl, sym, ap, arith, length-append}
 use Rattle.std.specs.List.{AllByRecursion}
 use Rattle.std.proofs.lemmas.Grind.{flat_map-append}
-use Rattle.std.proofs.lemmas.List.{append-nil}
+use Rattle.std.proofs.lemmas.List.{append-nil, take_all}
 use Rattle.std.proofs.lemmas.Slice.{drop-append-drop}
 use Rattle.std.proofs.Math.Seq.{take-add, take-append_seam}
 use Rattle.net_values.specs.declared.mac.Mac.{Mac}
@@ -33,6 +33,10 @@ macs_more octets at list new mac upto below sixes is six e = rw e (record {
   front = take-add at 6 octets ∙ ((λ i. upto.front i ++ sym is i) ∙ sym (octets_more list mac));
   whole = all_more list mac upto.whole six;
 })
+
+-- at the end they are all
+pub macs_all : (octets : List ℕ) (at : ℕ) (list : List Mac) → AreMacsUpTo octets at list → length octets ≤ at → AreMacs octets list
+macs_all octets at list upto end = record { joined = sym (take_all at octets end) ∙ upto.front; whole = upto.whole }
 
 same_macs : (a b : List Mac) → AllByRecursion (λ m. length m.0 ≡ 6) a → AllByRecursion (λ m. length m.0 ≡ 6) b → mac_octets a ≡ mac_octets b → a ≡ b
 same_macs [] [] six seven e = refl

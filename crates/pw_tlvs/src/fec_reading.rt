@@ -6,7 +6,7 @@ ghost use Rattle.pw_tlvs.specs.declared.fec_value.FecValue.TheVariants.{Foreign}
 ghost use Rattle.pw_tlvs.specs.declared.field_fault.FieldFault.{FieldFault};
 ghost use Rattle.pw_tlvs.specs.Faults.{IsFirstIn, IsInside};
 ghost use Rattle.pw_tlvs.specs.SubTlvs.{IsNamed};
-ghost use Rattle.pw_tlvs.specs.Fec.{IsFecValue, IsFecFault, IsPwFec, IsPwid, IsInformation, IsTooShort, information_length, no_params as nothing_told};
+ghost use Rattle.pw_tlvs.specs.Fec.{IsFecValue, IsFecFault, IsPwFec, IsPwid, IsInformation, IsTooShort, information_length};
 
 use crate::found_params::no_text;
 use crate::parameters::read_parameters;
@@ -17,18 +17,6 @@ use net_values::Field;
 /// The type of a PWid FEC element (RFC 8077 section 6.1).
 pub const PWID: u8 = 0x80;
 
-// No parameter is told.
-fn no_params() -> IfParams
-    ensures { result ≡ nothing_told }
-{
-    IfParams {
-        mtu: None,
-        description: no_text(),
-        vlan: None,
-        vccv: None,
-    }
-}
-
 // The PW ID and the parameters that the information of an element is, or its first fault.
 fn information_of(information: &[u8]) -> Result<(Option<u32>, IfParams), FieldFault>
     requires size { (length information.now ≡ 0) ⊎ (4 ≤ length information.now) }
@@ -38,7 +26,13 @@ fn information_of(information: &[u8]) -> Result<(Option<u32>, IfParams), FieldFa
     ensures some { IfErr result (λ _. 4 ≤ length information.now) }
 {
     if information.is_empty() {
-        return Ok((None, no_params()));
+        let none = IfParams {
+            mtu: None,
+            description: no_text(),
+            vlan: None,
+            vccv: None,
+        };
+        return Ok((None, none));
     }
     let (pw_id, octets) = information.split_at(4);
     match read_parameters(octets) {
@@ -99,7 +93,7 @@ pub fn foreign_of(value: &[u8]) -> Result<Option<u8>, FieldFault>
     Ok(None)
 }
 
-// The value that the octets are, or their first fault.
+// The value that the octets are, or their first fault: of such an answer `exact_ok` and `exact_err` show what `read_fec` promises.
 fn fec_of(value: &[u8]) -> Result<FecValue, FieldFault>
     ensures ok { IfOk result (IsFecValue value.now) }
     ensures fault { IfErr result (IsFirstIn (IsFecFault value.now)) }

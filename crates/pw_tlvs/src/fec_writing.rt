@@ -4,12 +4,12 @@ ghost use Rattle.std.specs.List.{flat_map};
 ghost use Rattle.byteorder.specs.Endian.{big_bytes};
 ghost use Rattle.pw_tlvs.specs.declared.registry.Registry.TheVariants.{InterfaceParameter};
 ghost use Rattle.pw_tlvs.specs.SubTlvs.{spell};
-ghost use Rattle.pw_tlvs.specs.Written.{writable_fec, written_fec, written_parameters, information, control_and_kind, told, description_value, pair_octets};
+ghost use Rattle.pw_tlvs.specs.Written.{writable_fec, written_fec, written_parameters, information, control_and_kind, told};
 
 use crate::fec_reading::PWID;
 use crate::told::{four, put_description, put_pair, put_vccv, two};
 use crate::{IfParams, PwFec};
-use net_values::{Text, put};
+use net_values::put;
 
 // The octets of the parameter of a number, where it is told.
 fn pair_size(number: Option<u16>) -> usize
@@ -22,36 +22,18 @@ fn pair_size(number: Option<u16>) -> usize
     }
 }
 
-// The octets of the parameter of a description, where it is not empty.
-fn description_size(text: &Text<80>) -> usize
-    ensures size { (kind : ℕ) → result ≡ length (flat_map (spell InterfaceParameter) (told kind (description_value text.now))) }
-    ensures within { result ≤ 82 }
-{
-    match text.len() {
-        0 => 0,
-        len => 2 + len,
-    }
-}
-
-// The octets of the parameter of what VCCV can do, where it is told.
-fn vccv_size(types: Option<(u8, u8)>) -> usize
-    ensures size { (kind : ℕ) → result ≡ length (flat_map (spell InterfaceParameter) (told kind (option_map pair_octets types))) }
-    ensures within { result ≤ 4 }
-{
-    match types {
-        Some(_) => 4,
-        None => 0,
-    }
-}
-
 // The octets of the parameters.
 #[tactic(auto, using(crate::proofs::ParameterLemmas::parameters_length))]
 fn parameters_size(params: &IfParams) -> usize
     ensures size { result ≡ length (written_parameters params.now) }
     ensures within { result ≤ 94 }
 {
-    let begin = pair_size(params.mtu) + description_size(&params.description);
-    begin + pair_size(params.vlan) + vccv_size(params.vccv)
+    let description = match params.description.len() {
+        0 => 0,
+        len => 2 + len,
+    };
+    let vccv = if params.vccv.is_some() { 4 } else { 0 };
+    pair_size(params.mtu) + description + pair_size(params.vlan) + vccv
 }
 
 // The octets that the information length counts.
@@ -99,22 +81,6 @@ fn header_of(fec: &PwFec, count: u8) -> [u8; 8]
     ]
 }
 
-// Writes the PW ID and the parameters at the place, where there is a PW ID, and answers the place behind them.
-#[tactic(auto, using(crate::proofs::WrittenLemmas::added_at))]
-fn put_information(out: &mut [u8], at: usize, fec: &PwFec) -> usize
-    requires room { at + length (information fec.now.pw_id fec.now.params) ≤ length out.old }
-    ensures end { result ≡ at + length (information fec.now.pw_id fec.now.params) }
-    ensures octets { out.new ≡ (take at out.old ++ information fec.now.pw_id fec.now.params) ++ drop result out.old }
-{
-    match fec.pw_id {
-        Some(pw_id) => {
-            let behind = put(out, at, &four(pw_id));
-            put_parameters(out, behind, &fec.params)
-        }
-        None => at,
-    }
-}
-
 /// Writes the PWid FEC element to the front of `out`, which has room for it, and answers the number of octets
 /// (RFC 8077 section 6.1). Where there is a PW ID, the parameters that are told follow it by rising type; an
 /// empty description is not told. The PW type is at most 0x7FFF, a VLAN ID at most 4095, and an element without
@@ -128,5 +94,11 @@ pub fn write_fec(fec: &PwFec, out: &mut [u8]) -> usize
 {
     let count = information_size(fec) as u8;
     let begin = put(out, 0, &header_of(fec, count));
-    put_information(out, begin, fec)
+    match fec.pw_id {
+        Some(pw_id) => {
+            let behind = put(out, begin, &four(pw_id));
+            put_parameters(out, behind, &fec.params)
+        }
+        None => begin,
+    }
 }

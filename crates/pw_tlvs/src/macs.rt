@@ -21,20 +21,6 @@ fn mac_at(value: &[u8], at: usize) -> Mac
     Mac(octets)
 }
 
-// The addresses that the octets are.
-fn macs_of(alloc: Global, value: &[u8]) -> Result<Items<Mac>, NoMemory>
-    requires { length value.now % 6 ≡ 0 }
-    ensures { IfOk result (AreMacs value.now) }
-{
-    let mut list = Items::new(alloc);
-    let mut at = 0;
-    'reading: while at < value.len() {
-        list.push(mac_at(value, at))?;
-        at += 6;
-    }
-    Ok(list)
-}
-
 /// The addresses that the octets are (RFC 4762 section 6.2). The value has at most 65,535 octets. `Field(Size)`
 /// comes exactly where their number is no multiple of six, and no other fault of a field comes.
 pub fn read_macs(alloc: Global, value: &[u8]) -> Result<Items<Mac>, MacsFault>
@@ -46,10 +32,16 @@ pub fn read_macs(alloc: Global, value: &[u8]) -> Result<Items<Mac>, MacsFault>
     if value.len() % 6 != 0 {
         return Err(MacsFault::Field(FieldFault::Size));
     }
-    Ok(macs_of(alloc, value)?)
+    let mut list = Items::new(alloc);
+    let mut at = 0;
+    'reading: while at < value.len() {
+        list.push(mac_at(value, at))?;
+        at += 6;
+    }
+    Ok(list)
 }
 
-// The number of octets of the address.
+// The number of octets of the address: the prover knows that of one that is given, and not of one that a list lends.
 fn mac_size(mac: Mac) -> usize
     ensures size { result ≡ length mac.0 }
     ensures six { result ≡ 6 }
@@ -69,7 +61,7 @@ pub fn macs_size(list: &Items<Mac>) -> usize
     size
 }
 
-// Writes the six octets of the address at the place, and answers the place behind them.
+// Writes the six octets of the address at the place, and answers the place behind them. It is given for the same reason.
 fn put_mac(out: &mut [u8], at: usize, mac: Mac) -> usize
     requires { at + 6 ≤ length out.old }
     ensures whole { length mac.0 ≡ 6 }

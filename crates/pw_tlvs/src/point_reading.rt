@@ -58,7 +58,7 @@ fn with(point: Point, kind: u8, value: &[u8]) -> Point
     }
 }
 
-// The point that the octets are, or their first fault.
+// The point that the octets are, or their first fault: of such an answer `exact_ok` and `exact_err` show what `read_point` promises.
 fn point_of(value: &[u8]) -> Result<Point, FieldFault>
     requires { length value.now ≤ 65535 }
     ensures ok { IfOk result (IsPoint value.now) }

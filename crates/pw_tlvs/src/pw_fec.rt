@@ -1,6 +1,6 @@
 //! The forwarding equivalence class of a pseudowire.
 ghost use Rattle.std.specs.Prelude.{◌≡◌};
-ghost use Rattle.pw_tlvs.specs.Written.{has_vlan, tells_nothing, writable_fec};
+ghost use Rattle.pw_tlvs.specs.Written.{tells_nothing, writable_fec};
 
 use crate::IfParams;
 
@@ -34,7 +34,11 @@ pub fn is_writable_fec(fec: &PwFec) -> bool
         Some(_) => true,
         None => tells_none(&fec.params),
     };
-    fec.kind < KIND_LIMIT && (is_vlan(fec.params.vlan) && params)
+    let vlan = match fec.params.vlan {
+        Some(vlan) => vlan < VLAN_LIMIT,
+        None => true,
+    };
+    fec.kind < KIND_LIMIT && (vlan && params)
 }
 
 // Whether no interface parameter is told.
@@ -43,14 +47,4 @@ fn tells_none(params: &IfParams) -> bool
 {
     let begin = params.mtu.is_none() && params.description.len() == 0;
     begin && (params.vlan.is_none() && params.vccv.is_none())
-}
-
-// Whether a VLAN ID, where it is told, has 12 bits.
-fn is_vlan(vlan: Option<u16>) -> bool
-    ensures { result ≡ has_vlan vlan }
-{
-    match vlan {
-        Some(vlan) => vlan < VLAN_LIMIT,
-        None => true,
-    }
 }

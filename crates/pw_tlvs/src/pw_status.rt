@@ -1,5 +1,5 @@
 //! The status of a pseudowire.
-ghost use Rattle.std.specs.Prelude.{◌≡◌, ◌≤◌, ◌++◌, ◌↔◌, length, drop, Ok, Err, IfOk, IfErr};
+ghost use Rattle.std.specs.Prelude.{◌≡◌, ◌≤◌, ◌++◌, ◌↔◌, length, drop, Ok, Err, IfErr};
 ghost use Rattle.pw_tlvs.specs.declared.pw_status.PwStatus.{PwStatus};
 ghost use Rattle.pw_tlvs.specs.declared.field_fault.FieldFault.{FieldFault};
 ghost use Rattle.pw_tlvs.specs.Faults.{IsFirstIn, IsInside};
@@ -21,14 +21,6 @@ pub fn read_status(value: &[u8]) -> Result<PwStatus, FieldFault>
     ensures value { (status : PwStatus) → (result ≡ Ok status) ↔ IsPwStatus value.now status }
     ensures fault { (fault : FieldFault) → (result ≡ Err fault) ↔ IsFirstIn (IsStatusFault value.now) fault }
     ensures place { IfErr result (IsInside value.now) }
-{
-    status_of(value)
-}
-
-// The status that the octets are, or their fault.
-fn status_of(value: &[u8]) -> Result<PwStatus, FieldFault>
-    ensures ok { IfOk result (IsPwStatus value.now) }
-    ensures fault { IfErr result (IsFirstIn (IsStatusFault value.now)) }
 {
     if value.len() != 4 {
         return Err(FieldFault::Size);

@@ -1,6 +1,6 @@
 //! Rows of the tables of sub-TLVs.
 ghost use Rattle.std.specs.Prelude.{◌≡◌};
-ghost use Rattle.pw_tlvs.specs.SubTlvs.{parameter_row, part_row, row_fits, sub_tlv_row as the_row};
+ghost use Rattle.pw_tlvs.specs.SubTlvs.{row_fits, sub_tlv_row as the_row};
 
 use crate::registry::Registry;
 use net_values::Field;
@@ -23,40 +23,17 @@ impl Row {
     }
 }
 
-// The row of a known type of interface parameters.
-fn row_of_parameter(kind: u8) -> Option<Row>
-    ensures { result ≡ parameter_row kind }
-{
-    let (field, least, most) = match kind {
-        0x01 => (Field::Mtu, 4, 4),
-        0x03 => (Field::Description, 2, 82),
-        0x06 => (Field::Vlan, 4, 4),
-        0x0c => (Field::Vccv, 4, 4),
-        _ => return None,
-    };
-    Some(Row { field, least, most })
-}
-
-// The row of a known type of parts of a switching point.
-fn row_of_part(kind: u8) -> Option<Row>
-    ensures { result ≡ part_row kind }
-{
-    match kind {
-        0x01 | 0x03 | 0x04 => Some(Row {
-            field: Field::Point,
-            least: 4,
-            most: 4,
-        }),
-        _ => None,
-    }
-}
-
 /// The row of a known type.
 pub fn row_of(registry: Registry, kind: u8) -> Option<Row>
     ensures { result ≡ the_row registry kind }
 {
-    match registry {
-        Registry::InterfaceParameter => row_of_parameter(kind),
-        Registry::SwitchingPointPart => row_of_part(kind),
-    }
+    let (field, least, most) = match (registry, kind) {
+        (Registry::InterfaceParameter, 0x01) => (Field::Mtu, 4, 4),
+        (Registry::InterfaceParameter, 0x03) => (Field::Description, 2, 82),
+        (Registry::InterfaceParameter, 0x06) => (Field::Vlan, 4, 4),
+        (Registry::InterfaceParameter, 0x0c) => (Field::Vccv, 4, 4),
+        (Registry::SwitchingPointPart, 0x01 | 0x03 | 0x04) => (Field::Point, 4, 4),
+        _ => return None,
+    };
+    Some(Row { field, least, most })
 }

@@ -1,7 +1,7 @@
 -- The addresses before the place are the list.
 use Rattle.std.proofs.Common.{length, ◌-◌}
 use Rattle.pw_tlvs.proofs.MacLemmas.{AreMacsUpTo}
-use Rattle.pw_tlvs.proofs.macs.macs_of.Given as goal
+use Rattle.pw_tlvs.proofs.macs.read_macs.Given as goal
 
 abbrev pub invariant-reading : goal.invariant-reading
 invariant-reading l = AreMacsUpTo l.value l.at l.list
