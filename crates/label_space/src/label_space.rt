@@ -4,7 +4,7 @@ ghost use Rattle.label_space.specs.Labels.{AreBelow, AreDistinctLabels, emptied,
 ghost use Rattle.label_space.specs.Slots.{AreSlotsOf};
 
 use crate::search::{find_owner, forget};
-use crate::slots::{add, owner_by, take_out};
+use crate::slots::Slots;
 use crate::{NoLabel, Owner};
 use indexmap::IndexMap;
 use net_base::{Label, NoMemory, SegKey};
@@ -20,9 +20,8 @@ pub struct LabelSpace {
     next: u32,
     room: u32,
     owners: Vec<Owner>,
-    slots: Slab<Owner>,
-    index: IndexMap<u32, usize>,
-    // Whether `slots` and `index` have what `owners` has; else both are empty.
+    slots: Slots,
+    // Whether `slots` has what `owners` has; else it is empty.
     asked: bool,
 }
 
@@ -35,7 +34,7 @@ impl Model for LabelSpace {
 
     ghost view = { λ s. record { next = s.next; room = s.room; owners = s.owners.items } };
 
-    ghost invariant = { λ s. IsHeldSpace s.next s.room (vec_capacity s.owners) s.owners.items × IsLabelIndex s.asked s.slots s.index s.owners.items };
+    ghost invariant = { λ s. IsHeldSpace s.next s.room (vec_capacity s.owners) s.owners.items × IsLabelIndex s.asked s.slots.slab s.slots.index s.owners.items };
 }
 
 impl LabelSpace {
@@ -50,8 +49,10 @@ impl LabelSpace {
             next: first,
             room,
             owners: Vec::with_capacity(alloc, room as usize)?,
-            slots: Slab::with_capacity(alloc, room as usize)?,
-            index: IndexMap::with_capacity(alloc, room as usize)?,
+            slots: Slots {
+                slab: Slab::with_capacity(alloc, room as usize)?,
+                index: IndexMap::with_capacity(alloc, room as usize)?,
+            },
             asked: true,
         })
     }
@@ -71,9 +72,7 @@ impl LabelSpace {
         let Some(label) = Label::new(self.next) else {
             return Err(NoLabel);
         };
-        self.asked = add(
-            &mut self.slots,
-            &mut self.index,
+        self.asked = self.slots.add(
             self.asked,
             self.owners.as_slice(),
             Owner { label, key, side },
@@ -84,14 +83,15 @@ impl LabelSpace {
         Ok(label)
     }
 
-    /// The segment and the side of the end that owns the label; `None` exactly where it is not owned.
+    /// The segment and the side of the end that owns the label; `None` exactly where it is not owned. It is for callers outside: the
+    /// program finds an owner among its own ends.
     pub fn owner(&self, label: Label) -> Option<(SegKey, u8)>
         ensures owner { result ≡ owner_of label self.now.owners }
         ensures given { AreBelow self.now.next self.now.owners }
         ensures distinct { AreDistinctLabels self.now.owners }
     {
         if self.asked {
-            return owner_by(&self.slots, &self.index, self.owners.as_slice(), label);
+            return self.slots.owner(self.owners.as_slice(), label);
         }
         find_owner(self.owners.as_slice(), label)
     }
@@ -102,13 +102,8 @@ impl LabelSpace {
         ensures free { owner_of label self.new.owners ≡ None }
         ensures others { (other : ℕ) → other ≢ label → owner_of other self.new.owners ≡ owner_of other self.old.owners }
     {
-        take_out(
-            &mut self.slots,
-            &mut self.index,
-            self.asked,
-            self.owners.as_slice(),
-            label,
-        );
+        self.slots
+            .take_out(self.asked, self.owners.as_slice(), label);
         forget(&mut self.owners, label);
     }
 
@@ -119,8 +114,8 @@ impl LabelSpace {
         ensures free { (label : ℕ) → owner_of label self.new.owners ≡ None }
     {
         self.owners.clear();
-        self.slots.clear();
-        self.index.clear();
+        self.slots.slab.clear();
+        self.slots.index.clear();
         self.asked = true;
     }
 
@@ -134,10 +129,10 @@ impl LabelSpace {
     }
 
     /// The owned labels with their owners, each in one slot; or an empty slab, where there was no room for a label. This takes no
-    /// memory.
+    /// memory. It is for callers outside, as `owner` is.
     pub fn slots(&self) -> &Slab<Owner>
         ensures { AreSlotsOf result.now self.now.owners ⊎ (result.now.slots ≡ []) }
     {
-        &self.slots
+        &self.slots.slab
     }
 }

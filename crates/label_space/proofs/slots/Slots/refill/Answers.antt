@@ -2,7 +2,7 @@
 use Rattle.std.proofs.Common.{◌∙◌, ap}
 use Rattle.label_space.specs.Labels.{owner_of}
 use Rattle.label_space.proofs.SlotLemmas.{absent_before}
-use Rattle.label_space.proofs.slots.refill.Goals as goal
+use Rattle.label_space.proofs.slots.Slots.refill.Goals as goal
 
 pub put-requires-clause-absent : goal.put-requires-clause-absent
 put-requires-clause-absent c =
