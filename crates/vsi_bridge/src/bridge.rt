@@ -1,5 +1,5 @@
 //! Virtual switch instances.
-ghost use Rattle.std.specs.Prelude.{◌≡◌, ◌==◌, ◌<◌, ◌≤◌, ◌&&◌, ℕ, [], filter, not, true, length, IfOk};
+ghost use Rattle.std.specs.Prelude.{◌≡◌, ◌==◌, ◌<◌, ◌&&◌, ℕ, [], filter, not, true, length, IfOk};
 ghost use Rattle.hvpls_spokes.specs.Flood.{is_in_flood};
 ghost use Rattle.hvpls_spokes.specs.PortSet.{has};
 ghost use Rattle.mac_table.specs.Addresses.{NoneAfter, entry_stays, is_young};
