@@ -1,7 +1,7 @@
 //! Contents that are compared.
 ghost use Rattle.std.specs.Prelude.{◌≡◌, ◌↔◌, true};
 ghost use Rattle.std.specs.Cmp.Lexicographic.{pointwise};
-ghost use Rattle.pw_stitch.specs.Change.{are_same_three, has_same_channels, has_same_texts, has_same_numbers, has_same_params, is_same_at, is_same_but_status, is_same_point, without_status};
+ghost use Rattle.pw_stitch.specs.Change.{are_same_three, has_same_params, is_same_at, is_same_but_status, is_same_point, without_status};
 
 use pw_signalling::Told;
 use pw_tlvs::Points;
@@ -13,13 +13,6 @@ pub fn is_same_but_status(told: &Told, other: &Told) -> bool
     ensures same { result ≡ is_same_but_status told.now other.now }
     ensures exact { result ≡ true ↔ without_status told.now ≡ without_status other.now }
 {
-    has_same_fields(told, other)
-}
-
-// Whether all fields of both but the status are the same.
-fn has_same_fields(told: &Told, other: &Told) -> bool
-    ensures { result ≡ is_same_but_status told.now other.now }
-{
     if told.c != other.c || told.kind != other.kind || told.group != other.group {
         return false;
     }
@@ -30,28 +23,10 @@ fn has_same_fields(told: &Told, other: &Told) -> bool
 fn has_same_params(told: &Told, other: &Told) -> bool
     ensures { result ≡ has_same_params told.now other.now }
 {
-    has_same_texts(told, other) && has_same_numbers(told, other)
-}
-
-// Whether the control channels and the description of both are the same.
-fn has_same_texts(told: &Told, other: &Told) -> bool
-    ensures { result ≡ has_same_texts told.now other.now }
-{
-    has_same_channels(told, other) && told.description.as_slice() == other.description.as_slice()
-}
-
-// Whether the control channels of both are the same.
-fn has_same_channels(told: &Told, other: &Told) -> bool
-    ensures { result ≡ has_same_channels told.now other.now }
-{
     told.vccv == other.vccv
-}
-
-// Whether the MTU and the VLAN ID of both are the same.
-fn has_same_numbers(told: &Told, other: &Told) -> bool
-    ensures { result ≡ has_same_numbers told.now other.now }
-{
-    told.mtu == other.mtu && told.vlan == other.vlan
+        && told.description.as_slice() == other.description.as_slice()
+        && told.mtu == other.mtu
+        && told.vlan == other.vlan
 }
 
 // Whether the switching points of both are the same. There are at most three.
@@ -63,7 +38,7 @@ fn are_same_points(points: &Points, others: &Points) -> bool
     at_most_three && are_same_three(points, others)
 }
 
-// Whether the first three switching points of both are the same.
+// Whether the first three switching points of both are the same. With the test of the numbers before it this does not prove.
 fn are_same_three(points: &Points, others: &Points) -> bool
     ensures { result ≡ are_same_three points.now others.now }
 {

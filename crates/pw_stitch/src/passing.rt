@@ -1,6 +1,6 @@
 //! What a switching point passes on.
 ghost use Rattle.std.specs.Prelude.{◌≡◌, ◌<◌, ◌↔◌, None, length, option_copied, IfSome};
-ghost use Rattle.pw_stitch.specs.Passing.{passed_status, past_point, wanted};
+ghost use Rattle.pw_stitch.specs.Passing.{passed_status, wanted};
 
 use pw_signalling::{Binding, Told};
 use pw_tlvs::{Point, PwStatus};
@@ -14,7 +14,14 @@ pub fn wanted(held: Option<&Binding>, point: Point) -> Option<Told>
     ensures none { result ≡ None ↔ option_copied held.entry ≡ None }
 {
     match held {
-        Some(binding) => Some(past_point(&binding.told, point)),
+        Some(binding) => {
+            let mut points = binding.told.points;
+            points.add(point);
+            Some(Told {
+                points,
+                ..binding.told
+            })
+        }
         None => None,
     }
 }
@@ -28,14 +35,4 @@ pub fn passed_status(held: Option<&Binding>) -> PwStatus
         Some(binding) => binding.told.status.unwrap_or(PwStatus(0)),
         None => PwStatus(0),
     }
-}
-
-// The content behind one switching point more.
-fn past_point(told: &Told, point: Point) -> Told
-    requires { length told.now.points < 3 }
-    ensures { result ≡ past_point point told.now }
-{
-    let mut points = told.points;
-    points.add(point);
-    Told { points, ..*told }
 }

@@ -5,7 +5,7 @@ ghost use Rattle.pw_stitch.specs.declared.swap_drop.SwapDrop.TheVariants.{NoBind
 ghost use Rattle.pw_stitch.specs.Passing.{own_point, passed_status, wanted};
 ghost use Rattle.pw_stitch.specs.Side.{opposite};
 ghost use Rattle.pw_stitch.specs.Stitch.{end_on, held_across, unstitched, with_end_on};
-ghost use Rattle.pw_stitch.specs.Swap.{IsOfOneSide, label_onward, next_across, side_taking, swapped, takes_label};
+ghost use Rattle.pw_stitch.specs.Swap.{IsOfOneSide, label_onward, side_taking, swapped, takes_label};
 
 use crate::passing::{passed_status, wanted};
 use crate::{Next, Side, SwapDrop};
@@ -15,8 +15,8 @@ use pw_tlvs::{Point, PwStatus};
 use std::marker::Model;
 use std::mem;
 
-/// A switching point of one pseudowire (RFC 6073 section 4): an end of each of the two segments that meet there. Contracts see
-/// the two ends.
+/// A switching point of one pseudowire (RFC 6073 section 4): an end of each of the two segments that meet there. It is for callers
+/// outside: the program keeps its ends one by one. Contracts see the two ends.
 #[derive(Debug, Drop)]
 pub struct Stitch {
     before: PwEnd,
@@ -109,7 +109,13 @@ impl Stitch {
         ensures falls { IfOk result (λ next. next.ttl + 1 ≡ ttl) }
         ensures lives { IfOk result (λ next. 1 ≤ next.ttl) }
     {
-        self.next_across(self.side_taking(label), ttl)
+        let side = self.side_taking(label);
+        let label = label_onward(self.held_across(side), ttl)?;
+        Ok(Next {
+            side: side.opposite(),
+            label,
+            ttl: ttl - 1,
+        })
     }
 
     // The side that advertises the label, where one does.
@@ -121,19 +127,6 @@ impl Stitch {
         } else {
             Side::After
         }
-    }
-
-    // How a packet goes on that comes by a side.
-    fn next_across(&self, side: Side, ttl: u8) -> Result<Next, SwapDrop>
-        requires { 1 ≤ ttl }
-        ensures { result ≡ next_across side ttl self.now }
-    {
-        let label = label_onward(self.held_across(side), ttl)?;
-        Ok(Next {
-            side: side.opposite(),
-            label,
-            ttl: ttl - 1,
-        })
     }
 
     // What is held of the peer on the other side.
