@@ -77,7 +77,7 @@ fn read_records(
     Ok(frames)
 }
 
-// The frames, or the first fault.
+// The frames, or the first fault: the clauses from which those of the public call are shown.
 fn frames_of(alloc: Global, bytes: &[u8]) -> Result<Items<Octets>, CaptureFault>
     ensures frames { IfOk result (IsCapture bytes.now) }
     ensures fault { IfErr result (TellsCaptureFault (IsFirstFault bytes.now)) }
