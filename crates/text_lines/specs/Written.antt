@@ -36,6 +36,10 @@ abbrev pub Puts : {T E : Type 0} → Result T E → Written → Written → List
 Puts (Ok value) old now octets = GoesOn old now octets
 Puts (Err fault) old now octets = IsCut old now octets
 
+-- octets were put on a page before a sink, of which it tells what it took and how many of its calls failed
+abbrev pub PutsOn : {K T E : Type 0} → (K → Option (List ℕ)) → (K → ℕ) → List ℕ → List ℕ → K → K → Result T E → List ℕ → Type 0
+PutsOn taken faults page page_now sink sink_now result octets = Puts result (written (taken sink) (faults sink) page) (written (taken sink_now) (faults sink_now) page_now) octets
+
 -- the whole text was taken: what was taken goes on by it, where it is told, and of an empty text nothing is taken
 abbrev pub Writes : Option (List ℕ) → Option (List ℕ) → List ℕ → Type 0
 Writes old now [] = now ≡ old

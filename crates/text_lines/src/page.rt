@@ -3,7 +3,7 @@ ghost use Rattle.std.specs.Prelude.{◌≡◌, ◌<◌, ◌≤◌, ◌+◌, ◌*
 ghost use Rattle.std.specs.Fmt.{decimal};
 ghost use Rattle.text_pieces.specs.Pieces.{hex, spaced};
 ghost use Rattle.text_lines.specs.Lines.{line_end, line_of, word_octets};
-ghost use Rattle.text_lines.specs.Written.{written, GoesOn, IsCut, Moves, Puts, Writes};
+ghost use Rattle.text_lines.specs.Written.{written, GoesOn, IsCut, Moves, PutsOn, Writes};
 
 use crate::whole::write_text;
 use crate::word::Word;
@@ -108,7 +108,7 @@ impl Page {
     #[inline(always)]
     #[tactic(auto, using(crate::proofs::WrittenLemmas::goes_waiting))]
     pub fn put<K: Sink>(&mut self, sink: &mut K, octets: &[u8]) -> Result<(), Failed>
-        ensures { Puts result (written (K.taken sink.old) (K.faults sink.old) self.old) (written (K.taken sink.new) (K.faults sink.new) self.new) octets.now }
+        ensures { PutsOn K.taken K.faults self.old self.new sink.old sink.new result octets.now }
     {
         if octets.len() <= ROOM - self.len {
             self.wait(octets);
@@ -144,7 +144,7 @@ impl Page {
     #[inline(always)]
     #[tactic(auto, using(crate::proofs::RoomLemmas::one_behind, crate::proofs::WrittenLemmas::goes_waiting))]
     fn put_octet<K: Sink>(&mut self, sink: &mut K, octet: u8) -> Result<(), Failed>
-        ensures { Puts result (written (K.taken sink.old) (K.faults sink.old) self.old) (written (K.taken sink.new) (K.faults sink.new) self.new) (octet ∷ []) }
+        ensures { PutsOn K.taken K.faults self.old self.new sink.old sink.new result (octet ∷ []) }
     {
         if self.len < ROOM {
             self.room[self.len] = octet;
@@ -158,7 +158,7 @@ impl Page {
     #[cold]
     #[inline(never)]
     fn put_over<K: Sink>(&mut self, sink: &mut K, octets: &[u8]) -> Result<(), Failed>
-        ensures { Puts result (written (K.taken sink.old) (K.faults sink.old) self.old) (written (K.taken sink.new) (K.faults sink.new) self.new) octets.now }
+        ensures { PutsOn K.taken K.faults self.old self.new sink.old sink.new result octets.now }
     {
         let mut at = 0;
         'putting: while at < octets.len() {
@@ -171,7 +171,7 @@ impl Page {
     // Puts the digits of a piece.
     fn put_piece<K: Sink>(&mut self, sink: &mut K, piece: &[u8]) -> Result<(), Failed>
         requires { length piece.now ≤ 64 }
-        ensures { Puts result (written (K.taken sink.old) (K.faults sink.old) self.old) (written (K.taken sink.new) (K.faults sink.new) self.new) (hex piece.now) }
+        ensures { PutsOn K.taken K.faults self.old self.new sink.old sink.new result (hex piece.now) }
     {
         let mut room = [0u8; 2 * PIECE];
         let (digits, _) = room.split_at_mut(2 * piece.len());
@@ -182,7 +182,7 @@ impl Page {
     // Puts two digits for each octet.
     #[tactic(auto, using(crate::proofs::WrittenLemmas::goes_waiting))]
     fn put_hex<K: Sink>(&mut self, sink: &mut K, octets: &[u8]) -> Result<(), Failed>
-        ensures { Puts result (written (K.taken sink.old) (K.faults sink.old) self.old) (written (K.taken sink.new) (K.faults sink.new) self.new) (hex octets.now) }
+        ensures { PutsOn K.taken K.faults self.old self.new sink.old sink.new result (hex octets.now) }
     {
         if octets.len() <= (ROOM - self.len) / 2 {
             self.wait_hex(octets);
@@ -195,7 +195,7 @@ impl Page {
     #[cold]
     #[inline(never)]
     fn put_pieces<K: Sink>(&mut self, sink: &mut K, octets: &[u8]) -> Result<(), Failed>
-        ensures { Puts result (written (K.taken sink.old) (K.faults sink.old) self.old) (written (K.taken sink.new) (K.faults sink.new) self.new) (hex octets.now) }
+        ensures { PutsOn K.taken K.faults self.old self.new sink.old sink.new result (hex octets.now) }
     {
         let mut at = 0;
         'putting: while at < octets.len() {
@@ -210,7 +210,7 @@ impl Page {
     // Puts a number in decimal. Most numbers of a report have one digit.
     #[tactic(auto, using(std::proofs::lemmas::Fmt::decimal_digit))]
     fn put_number<K: Sink>(&mut self, sink: &mut K, number: u64) -> Result<(), Failed>
-        ensures { Puts result (written (K.taken sink.old) (K.faults sink.old) self.old) (written (K.taken sink.new) (K.faults sink.new) self.new) (decimal number) }
+        ensures { PutsOn K.taken K.faults self.old self.new sink.old sink.new result (decimal number) }
     {
         if number < 10 {
             return self.put_octet(sink, b'0' + number as u8);
@@ -227,7 +227,7 @@ impl Page {
         label: &[u8],
         number: u64,
     ) -> Result<(), Failed>
-        ensures { Puts result (written (K.taken sink.old) (K.faults sink.old) self.old) (written (K.taken sink.new) (K.faults sink.new) self.new) (label.now ++ decimal number) }
+        ensures { PutsOn K.taken K.faults self.old self.new sink.old sink.new result (label.now ++ decimal number) }
     {
         match self.put(sink, label) {
             Ok(()) => self.put_number(sink, number),
@@ -238,7 +238,7 @@ impl Page {
     // Puts a number with a mark behind it.
     #[tactic(auto, using(crate::proofs::WrittenLemmas::puts_two, crate::proofs::WrittenLemmas::cut_first))]
     fn put_marked<K: Sink>(&mut self, sink: &mut K, number: u64, mark: &[u8]) -> Result<(), Failed>
-        ensures { Puts result (written (K.taken sink.old) (K.faults sink.old) self.old) (written (K.taken sink.new) (K.faults sink.new) self.new) (decimal number ++ mark.now) }
+        ensures { PutsOn K.taken K.faults self.old self.new sink.old sink.new result (decimal number ++ mark.now) }
     {
         match self.put_number(sink, number) {
             Ok(()) => self.put(sink, mark),
@@ -248,7 +248,7 @@ impl Page {
 
     // Puts a word.
     fn put_word<K: Sink>(&mut self, sink: &mut K, word: Word<'_>) -> Result<(), Failed>
-        ensures { Puts result (written (K.taken sink.old) (K.faults sink.old) self.old) (written (K.taken sink.new) (K.faults sink.new) self.new) (word_octets word.entry) }
+        ensures { PutsOn K.taken K.faults self.old self.new sink.old sink.new result (word_octets word.entry) }
     {
         match word {
             Word::Text(text) => self.put(sink, text),
@@ -262,7 +262,7 @@ impl Page {
     // Puts a blank and a word.
     #[tactic(auto, using(crate::proofs::WrittenLemmas::puts_two, crate::proofs::WrittenLemmas::cut_first))]
     fn put_behind<K: Sink>(&mut self, sink: &mut K, word: Word<'_>) -> Result<(), Failed>
-        ensures { Puts result (written (K.taken sink.old) (K.faults sink.old) self.old) (written (K.taken sink.new) (K.faults sink.new) self.new) (codes " " ++ word_octets word.entry) }
+        ensures { PutsOn K.taken K.faults self.old self.new sink.old sink.new result (codes " " ++ word_octets word.entry) }
     {
         match self.put_octet(sink, b' ') {
             Ok(()) => self.put_word(sink, word),
@@ -272,7 +272,7 @@ impl Page {
 
     // Puts words with a blank before each.
     fn put_words<K: Sink>(&mut self, sink: &mut K, words: &[Word<'_>]) -> Result<(), Failed>
-        ensures { Puts result (written (K.taken sink.old) (K.faults sink.old) self.old) (written (K.taken sink.new) (K.faults sink.new) self.new) (spaced (map word_octets words.now)) }
+        ensures { PutsOn K.taken K.faults self.old self.new sink.old sink.new result (spaced (map word_octets words.now)) }
     {
         for word in words {
             self.put_behind(sink, *word)?;
@@ -283,7 +283,7 @@ impl Page {
     // Puts what stands behind the first word of a line.
     #[tactic(auto, using(crate::proofs::LineLemmas::line_end_spaced, crate::proofs::WrittenLemmas::puts_two, crate::proofs::WrittenLemmas::cut_first))]
     fn put_rest<K: Sink>(&mut self, sink: &mut K, words: &[Word<'_>]) -> Result<(), Failed>
-        ensures { Puts result (written (K.taken sink.old) (K.faults sink.old) self.old) (written (K.taken sink.new) (K.faults sink.new) self.new) (line_end (map word_octets words.now)) }
+        ensures { PutsOn K.taken K.faults self.old self.new sink.old sink.new result (line_end (map word_octets words.now)) }
     {
         match self.put_words(sink, words) {
             Ok(()) => self.put_octet(sink, b'\n'),
@@ -299,7 +299,7 @@ impl Page {
         first: &[u8],
         words: &[Word<'_>],
     ) -> Result<(), Failed>
-        ensures { Puts result (written (K.taken sink.old) (K.faults sink.old) self.old) (written (K.taken sink.new) (K.faults sink.new) self.new) (line_of (first.now ∷ map word_octets words.now)) }
+        ensures { PutsOn K.taken K.faults self.old self.new sink.old sink.new result (line_of (first.now ∷ map word_octets words.now)) }
     {
         match self.put(sink, first) {
             Ok(()) => self.put_rest(sink, words),
