@@ -19,6 +19,18 @@ pub record Around : Type 0 where
   pub sink_before : ℕ
   pub sink_after : ℕ
 
+-- what lies around a call, by what a shelf and a sink tell of themselves before and after it
+abbrev pub around : {F K : Type 0} → (F → Files) → (F → List ℕ → ℕ) → (K → Option (List ℕ)) → (K → ℕ) → F → K → F → K → Around
+around files shelf_faults taken sink_faults shelf sink shelf_now sink_now = record {
+  files = files shelf;
+  shelf_before = shelf_faults shelf;
+  shelf_after = shelf_faults shelf_now;
+  taken_before = taken sink;
+  taken_after = taken sink_now;
+  sink_before = sink_faults sink;
+  sink_after = sink_faults sink_now;
+}
+
 -- a call of the shelf with this name failed
 abbrev pub HasReadFault : Around → List ℕ → Type 0
 HasReadFault around name = Rose (around.shelf_before name) (around.shelf_after name)

@@ -2,6 +2,7 @@
 ghost use Rattle.std.specs.Prelude.{◌≡◌, ◌<◌, ◌^◌, [], None, length};
 ghost use Rattle.text_lines.specs.Written.{written};
 ghost use Rattle.vplsnet.specs.Answers.{SaysOutcome};
+ghost use Rattle.vplsnet.specs.Around.{around};
 ghost use Rattle.vplsnet.specs.Asked.{Decode};
 ghost use Rattle.vplsnet.specs.Finish.{status_of};
 ghost use Rattle.vplsnet.specs.Writing.{EndsStream};
@@ -27,15 +28,7 @@ pub fn decode_file<F: Shelf, K: Sink>(
     sink: &mut K,
 ) -> Finish
     ensures status { result.status ≡ status_of result.outcome }
-    ensures answers { SaysOutcome (record {
-      files = F.files shelf.old;
-      shelf_before = F.faults shelf.old;
-      shelf_after = F.faults shelf.new;
-      taken_before = K.taken sink.old;
-      taken_after = K.taken sink.new;
-      sink_before = K.faults sink.old;
-      sink_after = K.faults sink.new;
-    }) (Decode file.now) result.network result.outcome }
+    ensures answers { SaysOutcome (around F.files F.faults K.taken K.faults shelf.old sink.old shelf.new sink.new) (Decode file.now) result.network result.outcome }
     ensures same_files { F.files shelf.new ≡ F.files shelf.old }
 {
     match octets_of(alloc, shelf, file, STREAM_LIMIT) {

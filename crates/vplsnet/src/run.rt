@@ -6,7 +6,7 @@ ghost use Rattle.command_text.specs.Planned.{IsPlanned};
 ghost use Rattle.rehearsal.specs.Scenario.{rehearsal as rehearsal_of};
 ghost use Rattle.text_lines.specs.Written.{written};
 ghost use Rattle.vplsnet.specs.Answers.{Completes, Finishes, IsRefused, SaysOutcome, run_text};
-ghost use Rattle.vplsnet.specs.Around.{Has};
+ghost use Rattle.vplsnet.specs.Around.{Has, around};
 ghost use Rattle.vplsnet.specs.Asked.{asked, asked_by};
 ghost use Rattle.vplsnet.specs.Finish.{status_of};
 ghost use Rattle.vplsnet.specs.Inputs.{ComesTo, Run, Works};
@@ -54,25 +54,9 @@ pub fn run<F: Shelf, K: Sink>(
     // Words that ask for nothing, and nothing else, are a usage.
     ensures usage { (result.outcome ≡ Outcome.Usage) ↔ (asked (map string_bytes words.now) ≡ None) }
     // What each outcome says, its cause among it: what was read, what was taken, and the network after the run.
-    ensures answers { Finishes (record {
-      files = F.files shelf.old;
-      shelf_before = F.faults shelf.old;
-      shelf_after = F.faults shelf.new;
-      taken_before = K.taken sink.old;
-      taken_after = K.taken sink.new;
-      sink_before = K.faults sink.old;
-      sink_after = K.faults sink.new;
-    }) (asked (map string_bytes words.now)) result.network result.outcome }
+    ensures answers { Finishes (around F.files F.faults K.taken K.faults shelf.old sink.old shelf.new sink.new) (asked (map string_bytes words.now)) result.network result.outcome }
     // A told file is answered by what it is, unless a fault was counted or memory was refused.
-    ensures complete { IfSome (asked (map string_bytes words.now)) (λ asked. Completes (record {
-      files = F.files shelf.old;
-      shelf_before = F.faults shelf.old;
-      shelf_after = F.faults shelf.new;
-      taken_before = K.taken sink.old;
-      taken_after = K.taken sink.new;
-      sink_before = K.faults sink.old;
-      sink_after = K.faults sink.new;
-    }) asked result.outcome) }
+    ensures complete { IfSome (asked (map string_bytes words.now)) (λ asked. Completes (around F.files F.faults K.taken K.faults shelf.old sink.old shelf.new sink.new) asked result.outcome) }
     // The shelf's files are as they were.
     ensures same_files { F.files shelf.new ≡ F.files shelf.old }
 {
@@ -90,15 +74,7 @@ fn finish_of<F: Shelf, K: Sink>(
     sink: &mut K,
 ) -> Finish
     ensures status { result.status ≡ status_of result.outcome }
-    ensures answers { SaysOutcome (record {
-      files = F.files shelf.old;
-      shelf_before = F.faults shelf.old;
-      shelf_after = F.faults shelf.new;
-      taken_before = K.taken sink.old;
-      taken_after = K.taken sink.new;
-      sink_before = K.faults sink.old;
-      sink_after = K.faults sink.new;
-    }) (asked_by request.entry) result.network result.outcome }
+    ensures answers { SaysOutcome (around F.files F.faults K.taken K.faults shelf.old sink.old shelf.new sink.new) (asked_by request.entry) result.network result.outcome }
     ensures same_files { F.files shelf.new ≡ F.files shelf.old }
 {
     match request {
@@ -120,15 +96,7 @@ fn finish_scenario<F: Shelf, K: Sink>(
 ) -> Finish
     requires runs { RunsScenario (asked_by request) }
     ensures status { result.status ≡ status_of result.outcome }
-    ensures answers { SaysOutcome (record {
-      files = F.files shelf.old;
-      shelf_before = F.faults shelf.old;
-      shelf_after = F.faults shelf.new;
-      taken_before = K.taken sink.old;
-      taken_after = K.taken sink.new;
-      sink_before = K.faults sink.old;
-      sink_after = K.faults sink.new;
-    }) (asked_by request.entry) result.network result.outcome }
+    ensures answers { SaysOutcome (around F.files F.faults K.taken K.faults shelf.old sink.old shelf.new sink.new) (asked_by request.entry) result.network result.outcome }
     ensures same_files { F.files shelf.new ≡ F.files shelf.old }
 {
     match work_of(alloc, request, shelf) {
