@@ -2,7 +2,7 @@
 ghost use Rattle.std.specs.Prelude.{◌≡◌, ◌<◌, length, option_map, position, IfSome};
 ghost use Rattle.std.specs.Str.{bytes_eq};
 ghost use Rattle.net_base.specs.plan.Accepted.{IsChecked};
-ghost use Rattle.text_lines.specs.Written.{Puts, written};
+ghost use Rattle.text_lines.specs.Written.{PutsOn};
 ghost use Rattle.vplsnet.specs.Asked.{asked_by};
 ghost use Rattle.vplsnet.specs.Capture.{captured, circuit_of as place_of, lacks_circuit, lacking as lacks, left_at};
 
@@ -60,7 +60,7 @@ pub fn put_captured<K: Sink>(
     circuit: &str,
 ) -> Result<(), Failed>
     requires checked { IsChecked run.now.network.plan }
-    ensures { Puts result (written (K.taken sink.old) (K.faults sink.old) page.old) (written (K.taken sink.new) (K.faults sink.new) page.new) (captured run.now.network circuit.now run.now.stop) }
+    ensures { PutsOn K.taken K.faults page.old page.new sink.old sink.new result (captured run.now.network circuit.now run.now.stop) }
 {
     match run.stop {
         None => put_left(page, sink, &run.network, circuit),
@@ -77,7 +77,7 @@ fn put_left<K: Sink>(
     circuit: &str,
 ) -> Result<(), Failed>
     requires checked { IsChecked network.now.plan }
-    ensures { Puts result (written (K.taken sink.old) (K.faults sink.old) page.old) (written (K.taken sink.new) (K.faults sink.new) page.new) (left_at network.now (place_of network.now.plan circuit.now)) }
+    ensures { PutsOn K.taken K.faults page.old page.new sink.old sink.new result (left_at network.now (place_of network.now.plan circuit.now)) }
 {
     match circuit_of(network.plan().circuits.as_slice(), circuit.as_bytes()) {
         Some(place) => put_capture(

@@ -3,7 +3,7 @@ ghost use Rattle.std.specs.Prelude.{◌++◌, ◌∷◌, [], codes};
 ghost use Rattle.std.specs.Fmt.{decimal};
 ghost use Rattle.report_text.specs.Report.{counts_line};
 ghost use Rattle.text_lines.specs.Lines.{line_of};
-ghost use Rattle.text_lines.specs.Written.{Puts, written};
+ghost use Rattle.text_lines.specs.Written.{PutsOn};
 ghost use Rattle.vplsnet.specs.Rehearse.{rehearse_text};
 
 use crate::scenario_run::ScenarioRun;
@@ -19,7 +19,7 @@ pub fn put_rehearsed<K: Sink>(
     run: &ScenarioRun,
     seed: u64,
 ) -> Result<(), Failed>
-    ensures { Puts result (written (K.taken sink.old) (K.faults sink.old) page.old) (written (K.taken sink.new) (K.faults sink.new) page.new) (rehearse_text seed run.now.network run.now.stop) }
+    ensures { PutsOn K.taken K.faults page.old page.new sink.old sink.new result (rehearse_text seed run.now.network run.now.stop) }
 {
     match run.stop {
         None => put_counts(page, sink, run.network.trace().as_slice(), seed),
@@ -34,7 +34,7 @@ fn put_counts<K: Sink>(
     trace: &[Entry],
     seed: u64,
 ) -> Result<(), Failed>
-    ensures { Puts result (written (K.taken sink.old) (K.faults sink.old) page.old) (written (K.taken sink.new) (K.faults sink.new) page.new) (line_of (codes "rehearse" ∷ decimal seed ∷ []) ++ counts_line trace.now) }
+    ensures { PutsOn K.taken K.faults page.old page.new sink.old sink.new result (line_of (codes "rehearse" ∷ decimal seed ∷ []) ++ counts_line trace.now) }
 {
     match put_seed(page, sink, seed) {
         Ok(()) => put_last_line(page, sink, trace, Ending::End),
@@ -44,7 +44,7 @@ fn put_counts<K: Sink>(
 
 // Puts the line of the seed.
 fn put_seed<K: Sink>(page: &mut Page, sink: &mut K, seed: u64) -> Result<(), Failed>
-    ensures { Puts result (written (K.taken sink.old) (K.faults sink.old) page.old) (written (K.taken sink.new) (K.faults sink.new) page.new) (line_of (codes "rehearse" ∷ decimal seed ∷ [])) }
+    ensures { PutsOn K.taken K.faults page.old page.new sink.old sink.new result (line_of (codes "rehearse" ∷ decimal seed ∷ [])) }
 {
     page.put_line(sink, b"rehearse", &[Word::Number(seed)])
 }

@@ -1,6 +1,6 @@
 //! The command `replay`: the report of a scenario's run.
 ghost use Rattle.std.specs.Prelude.{◌≡◌};
-ghost use Rattle.text_lines.specs.Written.{Puts, written};
+ghost use Rattle.text_lines.specs.Written.{PutsOn};
 ghost use Rattle.vplsnet.specs.Replay.{ending_by, replay_text};
 
 use crate::scenario_run::ScenarioRun;
@@ -11,7 +11,7 @@ use text_lines::Page;
 
 /// Puts the report of a run, also of one that a limit stopped.
 pub fn put_replayed<K: Sink>(page: &mut Page, sink: &mut K, run: &ScenarioRun) -> Result<(), Failed>
-    ensures { Puts result (written (K.taken sink.old) (K.faults sink.old) page.old) (written (K.taken sink.new) (K.faults sink.new) page.new) (replay_text run.now.network run.now.stop) }
+    ensures { PutsOn K.taken K.faults page.old page.new sink.old sink.new result (replay_text run.now.network run.now.stop) }
 {
     let network = &run.network;
     let trace = network.trace().as_slice();

@@ -2,7 +2,7 @@
 ghost use Rattle.std.specs.Prelude.{◌≡◌, ◌≤◌, [], OnErr, OnOk};
 ghost use Rattle.net_base.specs.outside.Outside.{Rose};
 ghost use Rattle.net_base.specs.plan.Accepted.{IsChecked};
-ghost use Rattle.text_lines.specs.Written.{AppendsFront, Puts, Writes, written};
+ghost use Rattle.text_lines.specs.Written.{AppendsFront, PutsOn, Writes};
 ghost use Rattle.vplsnet.specs.Answers.{run_text};
 ghost use Rattle.vplsnet.specs.Asked.{asked_by};
 
@@ -47,7 +47,7 @@ fn put_run<K: Sink>(
     run: &ScenarioRun,
 ) -> Result<(), Failed>
     requires checked { IsChecked run.now.network.plan }
-    ensures { Puts result (written (K.taken sink.old) (K.faults sink.old) page.old) (written (K.taken sink.new) (K.faults sink.new) page.new) (run_text (asked_by request.entry) run.now.network run.now.stop) }
+    ensures { PutsOn K.taken K.faults page.old page.new sink.old sink.new result (run_text (asked_by request.entry) run.now.network run.now.stop) }
 {
     match request {
         Request::Replay { .. } => put_replayed(page, sink, run),

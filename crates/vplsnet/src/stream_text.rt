@@ -1,6 +1,6 @@
 //! The steps by which the text of a stream is written.
 ghost use Rattle.std.specs.Prelude.{◌≡◌, ◌==◌, ◌≤◌, ◌-◌, [], drop, length, min, take, if◌then◌else◌, IfErr, IfOk, OnOk};
-ghost use Rattle.text_lines.specs.Written.{written, Puts};
+ghost use Rattle.text_lines.specs.Written.{PutsOn, written};
 ghost use Rattle.vplsnet.specs.StreamSteps.{AddsPdu, Flushes, IsFrontStop, IsGoing, PutsFront, PutsOne, outcome_at};
 
 use crate::outcome::Outcome;
@@ -46,7 +46,7 @@ pub fn write_front<K: Sink>(
     sink: &mut K,
 ) -> Result<(), Failed>
     requires front { PutsFront stream.old [] lines.now }
-    ensures puts { Puts result (written (K.taken sink.old) (K.faults sink.old) page.old) (written (K.taken sink.new) (K.faults sink.new) page.new) lines.now }
+    ensures puts { PutsOn K.taken K.faults page.old page.new sink.old sink.new result lines.now }
     ensures passed { OnOk result (AddsPdu stream.old stream.new lines.now) }
 {
     match page.put(sink, lines) {

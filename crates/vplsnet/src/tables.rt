@@ -1,5 +1,5 @@
 //! The command `tables`: the tables of the network after a scenario's run.
-ghost use Rattle.text_lines.specs.Written.{Puts, written};
+ghost use Rattle.text_lines.specs.Written.{PutsOn};
 ghost use Rattle.vplsnet.specs.Tables.{tables_text};
 
 use crate::scenario_run::ScenarioRun;
@@ -15,7 +15,7 @@ pub fn put_tabled<K: Sink>(
     sorting: &mut Sorting,
     run: &ScenarioRun,
 ) -> Result<(), Failed>
-    ensures { Puts result (written (K.taken sink.old) (K.faults sink.old) page.old) (written (K.taken sink.new) (K.faults sink.new) page.new) (tables_text run.now.network run.now.stop) }
+    ensures { PutsOn K.taken K.faults page.old page.new sink.old sink.new result (tables_text run.now.network run.now.stop) }
 {
     match run.stop {
         None => put_tables(page, sink, sorting, &run.network),
