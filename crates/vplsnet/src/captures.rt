@@ -2,8 +2,6 @@
 ghost use Rattle.std.specs.Prelude.{◌≡◌, ◌≢◌, ◌++◌, ◌∷◌, [], All, IfErr, IfOk, OnOk};
 ghost use Rattle.net_base.specs.outside.Outside.{NeverFall};
 ghost use Rattle.net_base.specs.plan.Planned.{IsFrame};
-ghost use Rattle.pcap_file.specs.FirstFault.{IsFirstFault};
-ghost use Rattle.pcap_file.specs.Records.{IsCapture};
 ghost use Rattle.vplsnet.specs.Captures.{FailsToPlay, GainsPlayed, HasFrames, HasPlayed, IsNoCapture, IsToldAs};
 ghost use Rattle.vplsnet.specs.Inputs.{played, played_by};
 
@@ -42,7 +40,7 @@ pub fn captures_of<F: Shelf>(
 }
 
 // Adds the frames of the capture that a command plays, where it plays one.
-#[tactic(auto, using(crate::proofs::CaptureLemmas::gains_none))]
+#[tactic(auto, using(crate::proofs::CaptureLemmas::gains_none, crate::proofs::CaptureLemmas::add_steps))]
 fn add_played<F: Shelf>(
     alloc: Global,
     shelf: &mut F,
@@ -54,25 +52,12 @@ fn add_played<F: Shelf>(
     ensures same_files { F.files shelf.new ≡ F.files shelf.old }
     ensures never_fall { NeverFall (F.faults shelf.old) (F.faults shelf.new) }
 {
-    match command {
-        Command::Play(_, file) => add_capture(alloc, shelf, file.as_str(), captures),
-        Command::One(_) | Command::Settle(_) | Command::Flow(_) | Command::Ticks(_) => Ok(()),
-    }
-}
-
-// Adds the frames of a capture.
-#[tactic(auto, using(crate::proofs::CaptureLemmas::add_steps))]
-fn add_capture<F: Shelf>(
-    alloc: Global,
-    shelf: &mut F,
-    file: &str,
-    captures: &mut List<List<Octets>>,
-) -> Result<(), Outcome>
-    ensures gains { OnOk result (GainsPlayed (F.files shelf.old) (file.now ∷ []) captures.old captures.new) }
-    ensures fails { IfErr result (FailsToPlay (F.files shelf.old) (F.faults shelf.old) (F.faults shelf.new) (file.now ∷ [])) }
-    ensures same_files { F.files shelf.new ≡ F.files shelf.old }
-    ensures never_fall { NeverFall (F.faults shelf.old) (F.faults shelf.new) }
-{
+    let file = match command {
+        Command::Play(_, file) => file.as_str(),
+        Command::One(_) | Command::Settle(_) | Command::Flow(_) | Command::Ticks(_) => {
+            return Ok(());
+        }
+    };
     match frames_of(alloc, shelf, file) {
         Ok(frames) => push(captures, frames),
         Err(outcome) => Err(outcome),
@@ -91,7 +76,7 @@ fn push(captures: &mut List<List<Octets>>, frames: List<Octets>) -> Result<(), O
 }
 
 // The frames of a capture, or the outcome of why they were not had.
-#[tactic(auto, using(crate::proofs::CaptureLemmas::frame_steps))]
+#[tactic(auto, using(crate::proofs::CaptureLemmas::frame_steps, crate::proofs::CaptureLemmas::told_first, crate::proofs::CaptureLemmas::short_frames))]
 fn frames_of<F: Shelf>(alloc: Global, shelf: &mut F, file: &str) -> Result<List<Octets>, Outcome>
     ensures has { IfOk result (HasFrames (F.files shelf.old) file.now) }
     ensures frames { IfOk result (All IsFrame) }
@@ -99,20 +84,10 @@ fn frames_of<F: Shelf>(alloc: Global, shelf: &mut F, file: &str) -> Result<List<
     ensures same_files { F.files shelf.new ≡ F.files shelf.old }
     ensures never_fall { NeverFall (F.faults shelf.old) (F.faults shelf.new) }
 {
-    match octets_of(alloc, shelf, file, CAPTURE_LIMIT) {
-        Ok(octets) => read_frames(alloc, file, octets),
-        Err(outcome) => Err(outcome),
-    }
-}
-
-// The frames that octets are a capture of, or the outcome of their first fault, which is told as it is; want of memory is no fault
-// of the capture.
-#[tactic(auto, using(crate::proofs::CaptureLemmas::told_first, crate::proofs::CaptureLemmas::short_frames))]
-fn read_frames(alloc: Global, file: &str, octets: Octets) -> Result<List<Octets>, Outcome>
-    ensures is { IfOk result (IsCapture octets) }
-    ensures frames { IfOk result (All IsFrame) }
-    ensures refused { IfErr result (IsToldAs (IsFirstFault octets) file.now) }
-{
+    let octets = match octets_of(alloc, shelf, file, CAPTURE_LIMIT) {
+        Ok(octets) => octets,
+        Err(outcome) => return Err(outcome),
+    };
     match read_capture(alloc, octets.as_slice()) {
         Ok(frames) => Ok(frames),
         Err(CaptureFault::NoMemory) => Err(Outcome::NoMemory),

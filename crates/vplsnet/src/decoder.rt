@@ -3,7 +3,7 @@ ghost use Rattle.std.specs.Prelude.{◌≡◌, ◌<◌, ◌^◌, [], None, lengt
 ghost use Rattle.ldp_stream.specs.Front.{IsPending};
 ghost use Rattle.ldp_stream.specs.State.{empty};
 ghost use Rattle.text_lines.specs.Written.{written};
-ghost use Rattle.vplsnet.specs.StreamSteps.{IsGoing, IsStopped, LeavesSome, PutsFront, StopsIn, TakesOne, TextGoesOn};
+ghost use Rattle.vplsnet.specs.StreamSteps.{IsGoing, IsStopped, LeavesSome, StopsIn, TakesOne, TextGoesOn};
 ghost use Rattle.vplsnet.specs.StreamText.{largest_pdu};
 ghost use Rattle.vplsnet.specs.Writing.{EndsStream};
 
@@ -39,28 +39,9 @@ impl Decoder {
         })
     }
 
-    // Puts the lines of the PDU in front, and gives it up.
-    #[tactic(auto, using(crate::proofs::StreamLemmas::takes_pdu))]
-    fn pass_front<K: Sink>(&mut self, fed: u64, sink: &mut K) -> Result<bool, StreamStop>
-        requires going { IsGoing self.old.stream fed }
-        requires front { PutsFront self.old.stream [] self.old.lines.items }
-        ensures taken { IfOk result (λ more. TakesOne more self.old.stream self.new.stream (written (K.taken sink.old) (K.faults sink.old) self.old.page) (written (K.taken sink.new) (K.faults sink.new) self.new.page)) }
-        ensures stopped { IfErr result (λ stop. IsStopped stop self.old.stream (written (K.taken sink.old) (K.faults sink.old) self.old.page) (written (K.taken sink.new) (K.faults sink.new) self.new.page)) }
-    {
-        match write_front(
-            &mut self.stream,
-            self.lines.as_slice(),
-            &mut self.page,
-            sink,
-        ) {
-            Ok(()) => Ok(true),
-            Err(_) => Err(StreamStop::Failed),
-        }
-    }
-
     // Writes the lines of the messages of the PDU in front, and gives it up; `false` where none stands there whole. `fed` is how many
     // octets were fed.
-    #[tactic(auto, using(crate::proofs::StreamLemmas::takes_none))]
+    #[tactic(auto, using(crate::proofs::StreamLemmas::takes_none, crate::proofs::StreamLemmas::takes_pdu))]
     fn take_pdu<K: Sink>(
         &mut self,
         alloc: Global,
@@ -73,9 +54,18 @@ impl Decoder {
     {
         self.lines.truncate(0);
         match put_front(alloc, &self.stream, fed, &mut self.lines) {
-            Ok(true) => self.pass_front(fed, sink),
-            Ok(false) => Ok(false),
-            Err(fault) => Err(StreamStop::Fault(fault)),
+            Ok(true) => {}
+            Ok(false) => return Ok(false),
+            Err(fault) => return Err(StreamStop::Fault(fault)),
+        }
+        match write_front(
+            &mut self.stream,
+            self.lines.as_slice(),
+            &mut self.page,
+            sink,
+        ) {
+            Ok(()) => Ok(true),
+            Err(_) => Err(StreamStop::Failed),
         }
     }
 

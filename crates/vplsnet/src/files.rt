@@ -1,5 +1,5 @@
 //! Whole files, read in pieces.
-ghost use Rattle.std.specs.Prelude.{◌≡◌, ◌<◌, ◌≤◌, ◌+◌, ◌^◌, [], length, IfErr, IfOk, IfSome, IsErrOf, OnErr, OnOk, Some};
+ghost use Rattle.std.specs.Prelude.{◌≡◌, ◌<◌, ◌≤◌, ◌+◌, ◌^◌, length, IfErr, IfOk, IfSome, IsErrOf, OnOk, Some};
 ghost use Rattle.net_base.specs.outside.Outside.{Rose, NeverFall};
 ghost use Rattle.vplsnet.specs.Files.{IsFrontOf, IsLonger};
 
@@ -61,39 +61,17 @@ pub fn read_front<F: Shelf>(
     ensures never_fall { NeverFall (F.faults shelf.old) (F.faults shelf.new) }
 {
     let mut octets = List::new(alloc);
-    match read_pieces(shelf, name, limit, &mut octets) {
-        Ok(()) => Ok(octets),
-        Err(stop) => Err(stop),
-    }
-}
-
-// Reads a file from its front on, piece by piece, into octets of which there are none yet.
-fn read_pieces<F: Shelf>(
-    shelf: &mut F,
-    name: &str,
-    limit: usize,
-    octets: &mut Octets,
-) -> Result<(), ReadStop>
-    requires few { limit < 2 ^ 62 }
-    requires none { octets.old ≡ [] }
-    ensures front { IfSome (F.files shelf.old) (λ held. OnOk result (IsFrontOf limit (held name.now) octets.new)) }
-    ensures within { OnOk result (length octets.new ≤ limit + 1) }
-    ensures fault { IsErrOf result ReadStop.Fault → Rose (F.faults shelf.old name.now) (F.faults shelf.new name.now) }
-    ensures never_long { IsErrOf result ReadStop.TooLong → ⊥ }
-    ensures same_files { F.files shelf.new ≡ F.files shelf.old }
-    ensures never_fall { NeverFall (F.faults shelf.old) (F.faults shelf.new) }
-{
     let mut piece = [0u8; PIECE];
     'reading: while octets.len() <= limit {
         // One octet beyond the limit tells a file that is too long from one that just fits.
         let room = (limit + 1 - octets.len()).min(PIECE);
         let count = shelf.read_at(name, octets.len() as u64, &mut piece[..room])?;
         if count == 0 {
-            return Ok(());
+            return Ok(octets);
         }
         octets.extend_from_slice(&piece[..count])?;
     }
-    Ok(())
+    Ok(octets)
 }
 
 /// Reads a file whole, where it has no more octets than the limit, and else answers `TooLong`.
@@ -120,7 +98,8 @@ pub fn read_file<F: Shelf>(
     }
 }
 
-// The octets, where they are no more than the limit.
+// The octets, where they are no more than the limit. Apart, since only so does a clause keep a file that is too long from being told as
+// want of memory.
 fn within(octets: Octets, limit: usize) -> Result<Octets, ReadStop>
     ensures fits { IfOk result (λ same. (same ≡ octets) × (length octets ≤ limit)) }
     ensures long { IfErr result (λ stop. (stop ≡ ReadStop.TooLong) × (limit < length octets)) }

@@ -1,6 +1,6 @@
 //! What the words of the command line ask for. They are read by hand: the rows are few and fixed.
 ghost use Rattle.std.specs.Prelude.{◌≡◌, map, option_map, string_bytes};
-ghost use Rattle.vplsnet.specs.Asked.{asked, asked_by, is_plain, one_word_command, rehearsed, two_word_command};
+ghost use Rattle.vplsnet.specs.Asked.{asked, asked_by, is_plain, one_word_command};
 
 use command_text::decimal::decimal;
 use command_text::is_same;
@@ -26,19 +26,18 @@ pub fn request_of<'a>(words: &'a [String]) -> Option<Request<'a>>
     ensures { option_map asked_by result ≡ asked (map string_bytes words.now) }
 {
     match words {
-        [command, word] => {
-            if is_plain_word(word.as_str()) {
-                one_word_request(command.as_str(), word.as_str())
-            } else {
-                None
-            }
-        }
-        [command, file, circuit] => {
-            if is_plain_word(file.as_str()) && is_plain_word(circuit.as_str()) {
-                two_word_request(command.as_str(), file.as_str(), circuit.as_str())
-            } else {
-                None
-            }
+        [command, word] if is_plain_word(word.as_str()) => one_word_request(
+            command.as_str(),
+            word.as_str(),
+        ),
+        [command, file, circuit]
+            if is_same(command.as_str(), "capture")
+                && is_plain_word(file.as_str())
+                && is_plain_word(circuit.as_str()) => {
+            Some(Request::Capture {
+                file: file.as_str(),
+                circuit: circuit.as_str(),
+            })
         }
         _ => None,
     }
@@ -55,28 +54,10 @@ fn one_word_request<'a>(command: &str, word: &'a str) -> Option<Request<'a>>
     } else if is_same(command, "decode") {
         Some(Request::Decode { file: word })
     } else if is_same(command, "rehearse") {
-        rehearse_request(word)
-    } else {
-        None
-    }
-}
-
-// A rehearsal of the seed that a word writes.
-fn rehearse_request<'a>(word: &str) -> Option<Request<'a>>
-    ensures { option_map asked_by result ≡ rehearsed word.now }
-{
-    match decimal(0, u64::MAX, word.as_bytes()) {
-        Some(seed) => Some(Request::Rehearse { seed }),
-        None => None,
-    }
-}
-
-// A command of two more words, by its name.
-fn two_word_request<'a>(command: &str, file: &'a str, circuit: &'a str) -> Option<Request<'a>>
-    ensures { option_map asked_by result ≡ two_word_command command.now file.now circuit.now }
-{
-    if is_same(command, "capture") {
-        Some(Request::Capture { file, circuit })
+        match decimal(0, u64::MAX, word.as_bytes()) {
+            Some(seed) => Some(Request::Rehearse { seed }),
+            None => None,
+        }
     } else {
         None
     }

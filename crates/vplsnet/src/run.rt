@@ -3,15 +3,14 @@ ghost use Rattle.std.specs.Prelude.{◌≡◌, ◌↔◌, [], All, None, Some, m
 ghost use Rattle.net_base.specs.plan.Accepted.{IsChecked};
 ghost use Rattle.net_base.specs.plan.Planned.{IsFrame};
 ghost use Rattle.command_text.specs.Planned.{IsPlanned};
-ghost use Rattle.rehearsal.specs.Scenario.{rehearsal as rehearsal_of};
 ghost use Rattle.text_lines.specs.Written.{written};
-ghost use Rattle.vplsnet.specs.Answers.{Completes, Finishes, IsRefused, SaysOutcome, run_text};
+ghost use Rattle.vplsnet.specs.Answers.{Completes, Finishes, IsRefused, SaysOutcome};
 ghost use Rattle.vplsnet.specs.Around.{Has, around};
 ghost use Rattle.vplsnet.specs.Asked.{asked, asked_by};
 ghost use Rattle.vplsnet.specs.Finish.{status_of};
 ghost use Rattle.vplsnet.specs.Inputs.{ComesTo, Run, Works};
 ghost use Rattle.vplsnet.specs.ScenarioRun.{outcome_by};
-ghost use Rattle.vplsnet.specs.Writing.{EndsRun, EndsText, RunsScenario};
+ghost use Rattle.vplsnet.specs.Writing.{EndsRun, RunsScenario};
 
 use crate::decode::decode_file;
 use crate::finish::Finish;
@@ -19,7 +18,7 @@ use crate::outcome::Outcome;
 use crate::request::{Request, request_of};
 use crate::run_text::write_run;
 use crate::scenario_file::scenario_of;
-use crate::scenario_run::{ScenarioRun, run_scenario};
+use crate::scenario_run::run_scenario;
 use crate::work::Work;
 use net_base::{List, NoMemory, Shelf, Sink};
 use psn_net::NetStop;
@@ -66,7 +65,8 @@ pub fn run<F: Shelf, K: Sink>(
     }
 }
 
-// Does what a request asks.
+// Does what a request asks: reads a stream, or runs a scenario and writes what is asked of the run.
+#[tactic(auto, using(crate::proofs::AnswerLemmas::refused_answers))]
 fn finish_of<F: Shelf, K: Sink>(
     alloc: Global,
     request: Request<'_>,
@@ -77,28 +77,9 @@ fn finish_of<F: Shelf, K: Sink>(
     ensures answers { SaysOutcome (around F.files F.faults K.taken K.faults shelf.old sink.old shelf.new sink.new) (asked_by request.entry) result.network result.outcome }
     ensures same_files { F.files shelf.new ≡ F.files shelf.old }
 {
-    match request {
-        Request::Decode { file } => decode_file(alloc, file, shelf, sink),
-        Request::Replay { .. }
-        | Request::Tables { .. }
-        | Request::Capture { .. }
-        | Request::Rehearse { .. } => finish_scenario(alloc, request, shelf, sink),
+    if let Request::Decode { file } = request {
+        return decode_file(alloc, file, shelf, sink);
     }
-}
-
-// Does what a request asks that runs a scenario.
-#[tactic(auto, using(crate::proofs::AnswerLemmas::refused_answers))]
-fn finish_scenario<F: Shelf, K: Sink>(
-    alloc: Global,
-    request: Request<'_>,
-    shelf: &mut F,
-    sink: &mut K,
-) -> Finish
-    requires runs { RunsScenario (asked_by request) }
-    ensures status { result.status ≡ status_of result.outcome }
-    ensures answers { SaysOutcome (around F.files F.faults K.taken K.faults shelf.old sink.old shelf.new sink.new) (asked_by request.entry) result.network result.outcome }
-    ensures same_files { F.files shelf.new ≡ F.files shelf.old }
-{
     match work_of(alloc, request, shelf) {
         Ok(work) => finish_work(alloc, request, work, sink),
         Err(outcome) => Finish::without_run(outcome),
@@ -120,30 +101,19 @@ fn work_of<F: Shelf>(alloc: Global, request: Request<'_>, shelf: &mut F) -> Resu
         Request::Replay { file } => scenario_of(alloc, shelf, request, file),
         Request::Tables { file } => scenario_of(alloc, shelf, request, file),
         Request::Capture { file, .. } => scenario_of(alloc, shelf, request, file),
-        Request::Rehearse { seed } => rehearsed(alloc, seed),
+        Request::Rehearse { seed } => match rehearsal(alloc, seed) {
+            Ok(scenario) => Ok(Work {
+                scenario,
+                captures: List::new(alloc),
+            }),
+            Err(NoMemory) => Err(Outcome::NoMemory),
+        },
         Request::Decode { .. } => unreachable!(),
     }
 }
 
-// The scenario that a seed makes. It plays no capture.
-fn rehearsed(alloc: Global, seed: u64) -> Result<Work, Outcome>
-    ensures scenario { IfOk result (λ work. work.scenario ≡ rehearsal_of seed) }
-    ensures captures { IfOk result (λ work. work.captures ≡ []) }
-    ensures checked { IfOk result (λ work. IsChecked work.scenario.plan) }
-    ensures planned { IfOk result (λ work. All (IsPlanned work.scenario.plan) work.scenario.commands) }
-    ensures want { IfErr result (λ outcome. outcome ≡ Outcome.NoMemory) }
-{
-    match rehearsal(alloc, seed) {
-        Ok(scenario) => Ok(Work {
-            scenario,
-            captures: List::new(alloc),
-        }),
-        Err(NoMemory) => Err(Outcome::NoMemory),
-    }
-}
-
 // Runs a scenario, and writes what the request asks of the run.
-#[tactic(auto, using(crate::proofs::RunLemmas::is_scenario_run, crate::proofs::RunLemmas::checked_as, crate::proofs::WritingLemmas::run_steps))]
+#[tactic(auto, using(crate::proofs::RunLemmas::is_scenario_run, crate::proofs::RunLemmas::checked_as, crate::proofs::WritingLemmas::run_steps, crate::proofs::WritingLemmas::text_steps))]
 fn finish_work<K: Sink>(alloc: Global, request: Request<'_>, work: Work, sink: &mut K) -> Finish
     requires checked { IsChecked work.scenario.plan }
     requires planned { All (IsPlanned work.scenario.plan) work.scenario.commands }
@@ -151,30 +121,16 @@ fn finish_work<K: Sink>(alloc: Global, request: Request<'_>, work: Work, sink: &
     ensures status { result.status ≡ status_of result.outcome }
     ensures ends { EndsRun work.scenario work.captures (asked_by request.entry) (written (K.taken sink.old) (K.faults sink.old) []) (written (K.taken sink.new) (K.faults sink.new) []) result.network result.outcome }
 {
-    match run_scenario(alloc, work) {
-        Ok(run) => finish_run(alloc, request, run, sink),
-        Err(NoMemory) => Finish::without_run(Outcome::NoMemory),
-    }
-}
-
-// Writes what the request asks of a run.
-#[tactic(auto, using(crate::proofs::WritingLemmas::text_steps))]
-fn finish_run<K: Sink>(
-    alloc: Global,
-    request: Request<'_>,
-    run: ScenarioRun,
-    sink: &mut K,
-) -> Finish
-    requires checked { IsChecked run.network.plan }
-    ensures status { result.status ≡ status_of result.outcome }
-    ensures ends { EndsText (run_text (asked_by request.entry) run.network run.stop) (Some run.network) (outcome_by run.stop) (written (K.taken sink.old) (K.faults sink.old) []) (written (K.taken sink.new) (K.faults sink.new) []) result.network result.outcome }
-{
     let mut page = match Page::new(alloc) {
         Ok(page) => page,
         Err(NoMemory) => return Finish::without_run(Outcome::NoMemory),
     };
     let mut sorting = match Sorting::new(alloc) {
         Ok(sorting) => sorting,
+        Err(NoMemory) => return Finish::without_run(Outcome::NoMemory),
+    };
+    let run = match run_scenario(alloc, work) {
+        Ok(run) => run,
         Err(NoMemory) => return Finish::without_run(Outcome::NoMemory),
     };
     match write_run(&mut page, sink, &mut sorting, request, &run) {

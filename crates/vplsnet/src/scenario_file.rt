@@ -3,12 +3,11 @@ ghost use Rattle.std.specs.Prelude.{◌≡◌, All, IfErr, IfOk, Ok};
 ghost use Rattle.net_base.specs.plan.Accepted.{IsChecked};
 ghost use Rattle.net_base.specs.plan.Planned.{IsFrame};
 ghost use Rattle.command_text.specs.Planned.{IsPlanned};
-ghost use Rattle.scenario_text.specs.Document.{document};
 ghost use Rattle.vplsnet.specs.Answers.{IsRefused};
 ghost use Rattle.vplsnet.specs.Around.{Has};
 ghost use Rattle.vplsnet.specs.Asked.{asked_by};
 ghost use Rattle.vplsnet.specs.Inputs.{ComesTo, Run, Works};
-ghost use Rattle.vplsnet.specs.ScenarioFile.{HasAll, IsNoCircuit, IsNoScenario, LacksSome, ReadsScenario, outcome_of_fault};
+ghost use Rattle.vplsnet.specs.ScenarioFile.{HasAll, LacksSome, ReadsScenario, outcome_of_fault};
 
 use crate::capture::missing_circuit;
 use crate::captures::captures_of;
@@ -16,7 +15,7 @@ use crate::named_file::octets_of;
 use crate::outcome::Outcome;
 use crate::request::Request;
 use crate::work::Work;
-use net_base::{Octets, Shelf, Word};
+use net_base::{Shelf, Word};
 use scenario_text::{Scenario, ScenarioFault, read_scenario};
 use std::alloc::Global;
 
@@ -26,7 +25,7 @@ const SCENARIO_LIMIT: usize = 8_388_608;
 /// The scenario of the file of a request, with the captures that it plays; or the outcome of what is refused first, in this order: the
 /// file is read, its octets are a scenario, the circuit that the request names is there, and the captures are read one after
 /// another.
-#[tactic(auto, using(crate::proofs::ScenarioFileLemmas::file_steps))]
+#[tactic(auto, using(crate::proofs::ScenarioFileLemmas::file_steps, crate::proofs::ScenarioFileLemmas::no_scenario_by))]
 pub fn scenario_of<F: Shelf>(
     alloc: Global,
     shelf: &mut F,
@@ -45,22 +44,8 @@ pub fn scenario_of<F: Shelf>(
         Ok(octets) => octets,
         Err(outcome) => return Err(outcome),
     };
-    match accepted(alloc, octets) {
-        Ok(scenario) => with_captures(alloc, shelf, request, scenario),
-        Err(outcome) => Err(outcome),
-    }
-}
-
-// The scenario that octets are, or the outcome of their first fault.
-#[tactic(auto, using(crate::proofs::ScenarioFileLemmas::no_scenario_by))]
-fn accepted(alloc: Global, octets: Octets) -> Result<Scenario, Outcome>
-    ensures reads { IfOk result (λ scenario. document octets ≡ Ok scenario) }
-    ensures checked { IfOk result (λ scenario. IsChecked scenario.plan) }
-    ensures planned { IfOk result (λ scenario. All (IsPlanned scenario.plan) scenario.commands) }
-    ensures refused { IfErr result (IsNoScenario octets) }
-{
     match read_scenario(alloc, octets.as_slice()) {
-        Ok(scenario) => Ok(scenario),
+        Ok(scenario) => with_captures(alloc, shelf, request, scenario),
         Err(fault) => Err(refused(fault)),
     }
 }
@@ -90,20 +75,13 @@ fn with_captures<F: Shelf>(
     ensures same_files { F.files shelf.new ≡ F.files shelf.old }
 {
     if let Some(circuit) = missing_circuit(request, &scenario.plan) {
-        return Err(no_circuit(alloc, circuit));
+        return match Word::new(alloc, circuit) {
+            Ok(circuit) => Err(Outcome::NoCircuit(circuit)),
+            Err(_) => Err(Outcome::NoMemory),
+        };
     }
     match captures_of(alloc, shelf, scenario.commands.as_slice()) {
         Ok(captures) => Ok(Work { scenario, captures }),
         Err(outcome) => Err(outcome),
-    }
-}
-
-// The outcome where a circuit is not there. Its name takes memory.
-fn no_circuit(alloc: Global, circuit: &str) -> Outcome
-    ensures { IsNoCircuit circuit.now result }
-{
-    match Word::new(alloc, circuit) {
-        Ok(circuit) => Outcome::NoCircuit(circuit),
-        Err(_) => Outcome::NoMemory,
     }
 }

@@ -1,12 +1,12 @@
 //! The run of a scenario: each command makes its events, and the network does them in turn.
-ghost use Rattle.std.specs.Prelude.{◌≡◌, ◌<◌, ◌∷◌, [], All, IfOk, length};
+ghost use Rattle.std.specs.Prelude.{◌≡◌, ◌<◌, [], All, IfOk, length};
 ghost use Rattle.net_base.specs.plan.Accepted.{IsChecked};
-ghost use Rattle.net_base.specs.plan.Planned.{IsEventOf, IsFrame};
+ghost use Rattle.net_base.specs.plan.Planned.{IsFrame};
 ghost use Rattle.network_model.specs.State.{empty_network};
 ghost use Rattle.psn_net.specs.Lists.{NetLists, seen};
 ghost use Rattle.psn_net.specs.Runs.{Ended, GivesNetwork, RunHalts, ended, ran};
 ghost use Rattle.command_text.specs.Planned.{IsPlanned};
-ghost use Rattle.vplsnet.specs.Made.{arrivals, captures_after, deliveries, entering, later_captures, made_by, next_frames, ticks};
+ghost use Rattle.vplsnet.specs.Made.{arrivals, captures_after, deliveries, entering, made_by, ticks};
 ghost use Rattle.vplsnet.specs.ScenarioRun.{HasRun, whole_run};
 
 use crate::left_captures::LeftCaptures;
@@ -76,6 +76,7 @@ fn limit_of(stop: NetStop) -> Result<Option<NetStop>, NoMemory>
 }
 
 // Does the events of a command. A capture that it plays is left no longer.
+#[tactic(auto, using(psn_net::proofs::RunLemmas::ran_one, psn_net::proofs::RunLemmas::ran_none, crate::proofs::MadeLemmas::next_short))]
 fn run_command(
     alloc: Global,
     network: &mut Network,
@@ -89,47 +90,20 @@ fn run_command(
     ensures ran { GivesNetwork result network.new (ran network.old.plan (seen network.old) network.old.trace (made_by network.old.plan (seen network.old) captures.old command)) }
 {
     match command {
-        Command::One(event) => run_event(alloc, network, event),
+        Command::One(Event::Frame { circuit, bytes }) => network.enter(alloc, circuit, bytes),
+        Command::One(event) => network.apply(alloc, &event),
         Command::Settle(count) => run_deliveries(alloc, network, count),
         Command::Flow(count) => run_arrivals(alloc, network, count),
         Command::Ticks(count) => run_ticks(alloc, network, count),
-        Command::Play(circuit, _) => run_next(alloc, network, captures, circuit),
+        Command::Play(circuit, _) => {
+            let frames = captures.take_next(alloc);
+            run_frames(alloc, network, circuit, frames)
+        }
     }
-}
-
-// Does an event. The octets of a frame are kept.
-#[tactic(auto, using(psn_net::proofs::RunLemmas::ran_one, psn_net::proofs::RunLemmas::ran_none))]
-fn run_event(alloc: Global, network: &mut Network, event: Event) -> Result<(), NetStop>
-    requires planned { IsEventOf network.old.plan event }
-    ensures plan { network.new.plan ≡ network.old.plan }
-    ensures ran { GivesNetwork result network.new (ran network.old.plan (seen network.old) network.old.trace (event ∷ [])) }
-{
-    match event {
-        Event::Frame { circuit, bytes } => network.enter(alloc, circuit, bytes),
-        other => network.apply(alloc, &other),
-    }
-}
-
-// Lets the frames of the next capture enter at a circuit.
-#[tactic(auto, using(crate::proofs::MadeLemmas::next_short))]
-fn run_next(
-    alloc: Global,
-    network: &mut Network,
-    captures: &mut LeftCaptures,
-    circuit: CircuitId,
-) -> Result<(), NetStop>
-    requires circuit { circuit.0 < length network.old.plan.circuits }
-    requires frames { All (All IsFrame) captures.old }
-    ensures plan { network.new.plan ≡ network.old.plan }
-    ensures left { captures.new ≡ later_captures captures.old }
-    ensures ran { GivesNetwork result network.new (ran network.old.plan (seen network.old) network.old.trace (entering circuit (next_frames captures.old))) }
-{
-    let frames = captures.take_next(alloc);
-    run_frames(alloc, network, circuit, frames)
 }
 
 // Lets frames enter at a circuit, one after another.
-#[tactic(auto, using(crate::proofs::MadeLemmas::entering_steps))]
+#[tactic(auto, using(crate::proofs::MadeLemmas::entering_steps, psn_net::proofs::RunLemmas::ran_one, psn_net::proofs::RunLemmas::ran_none))]
 fn run_frames(
     alloc: Global,
     network: &mut Network,
@@ -142,28 +116,12 @@ fn run_frames(
     ensures ran { GivesNetwork result network.new (ran network.old.plan (seen network.old) network.old.trace (entering circuit frames)) }
 {
     for frame in frames.into_items() {
-        match run_frame(alloc, network, circuit, frame) {
+        match network.enter(alloc, circuit, frame) {
             Ok(()) => {}
             Err(stop) => return Err(stop),
         }
     }
     Ok(())
-}
-
-// Lets a frame enter at a circuit.
-#[tactic(auto, using(psn_net::proofs::RunLemmas::ran_one, psn_net::proofs::RunLemmas::ran_none))]
-fn run_frame(
-    alloc: Global,
-    network: &mut Network,
-    circuit: CircuitId,
-    frame: Octets,
-) -> Result<(), NetStop>
-    requires circuit { circuit.0 < length network.old.plan.circuits }
-    requires frame { IsFrame frame }
-    ensures plan { network.new.plan ≡ network.old.plan }
-    ensures ran { GivesNetwork result network.new (ran network.old.plan (seen network.old) network.old.trace (Event.Frame circuit frame ∷ [])) }
-{
-    network.enter(alloc, circuit, frame)
 }
 
 // Does the next delivery so many times, or until there is none.

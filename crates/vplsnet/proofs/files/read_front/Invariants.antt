@@ -1,7 +1,7 @@
 use Rattle.std.proofs.Common.{◌≡◌, ◌≤◌, ◌+◌, ◌-◌, length}
 use Rattle.net_base.specs.outside.Outside.{NeverFall}
 use Rattle.vplsnet.proofs.FileLemmas.{IsRead}
-use Rattle.vplsnet.proofs.files.read_pieces.Given as goal
+use Rattle.vplsnet.proofs.files.read_front.Given as goal
 
 abbrev pub invariant-reading : goal.invariant-reading
 invariant-reading g l = record {

@@ -1,7 +1,7 @@
 use Rattle.std.proofs.Common.{arith}
 use Rattle.std.proofs.lemmas.Grind.{common_steps}
 use Rattle.vplsnet.proofs.FileLemmas.{read_next, read_beyond}
-use Rattle.vplsnet.proofs.files.read_pieces.Goals as goal
+use Rattle.vplsnet.proofs.files.read_front.Goals as goal
 
 pub reading-preserved : goal.reading-preserved
 reading-preserved g c = record {
