@@ -3,8 +3,6 @@ use Rattle.std.proofs.Common.{true, false, ◌≡◌, ◌⊎◌, ◌<◌, ◌≤
 use Rattle.std.proofs.lemmas.List.{append-nil}
 use Rattle.command_text.specs.declared.scenario_fault.ScenarioFault.{ScenarioFault}
 use Rattle.pcap_file.specs.declared.capture_fault.CaptureFault.{CaptureFault}
-use Rattle.pcap_file.specs.FirstFault.{IsFirstFault}
-use Rattle.pcap_file.specs.Records.{IsCapture}
 use Rattle.pcap_file.proofs.ReadingLemmas.{one_reading}
 use Rattle.psn_net.specs.declared.net_stop.NetStop.{NetStop}
 use Rattle.psn_net.specs.Lists.{NetLists}
@@ -13,10 +11,10 @@ use Rattle.ldp_stream.specs.Parsed.{Ending, Pending, Refused}
 use Rattle.ldp_stream.proofs.ParsedLemmas.{one_parsing}
 use Rattle.scenario_text.specs.declared.scenario.Scenario.{Scenario}
 use Rattle.scenario_text.specs.Document.{document}
-use Rattle.text_lines.specs.Written.{Written, written, Writes}
+use Rattle.text_lines.specs.Written.{Written, written}
 use Rattle.vplsnet.specs.declared.outcome.Outcome.{Outcome}
 use Rattle.vplsnet.specs.declared.outcome.Outcome.TheVariants.{Done, Usage, ReadFault, WriteFault, TooLong, ScenarioRefused, NoCircuit, CaptureRefused, Stopped, DecodeRefused, Unfinished, NoMemory}
-use Rattle.vplsnet.specs.Answers.{CallsFor, CallsTooLong, Completes, IsCutShort, IsEndOf, IsMade, IsRefused, IsSound, IsSoundOutcome, IsTooLong, IsWhole, Makes, MakesRun, SaysOutcome, TellsRun, run_text}
+use Rattle.vplsnet.specs.Answers.{CallsFor, Completes, IsCutShort, IsEndOf, IsMade, IsRefused, IsSound, IsSoundOutcome, IsTooLong, IsWhole, Makes, MakesRun, SaysOutcome, run_text}
 use Rattle.vplsnet.specs.Around.{Files, Around, HasWriteFault, IsUntouched, Has, TellsFile}
 use Rattle.vplsnet.specs.Asked.{Asked, Replay, Tables, Capture, Decode, Rehearse}
 use Rattle.vplsnet.specs.Capture.{lacks_circuit}
@@ -25,7 +23,7 @@ use Rattle.vplsnet.specs.Files.{IsLonger, IsNotHad}
 use Rattle.vplsnet.specs.Inputs.{AreReadNext, ComesTo, IsNext, IsNextOf, IsNextPlayed, IsNextRead, IsReadNext, Next, Reads, Refuses, Run, Stream, Wanted, Work, Works, played, stream_limit}
 use Rattle.vplsnet.specs.ScenarioRun.{IsScenarioRun, outcome_by, whole_run}
 use Rattle.vplsnet.specs.StreamText.{largest_pdu, outcome_of_ending}
-use Rattle.vplsnet.specs.Writing.{EndsRun, EndsStream, EndsText, GivesUp, RunsScenario, TellsRunOf, TellsStream, WritesFront, WritesNone, WritesWhole}
+use Rattle.vplsnet.specs.Writing.{EndsRun, EndsStream, EndsText, GivesUp, WritesNone}
 
 -- ---- what the stages say is an answer
 

@@ -1,9 +1,9 @@
 -- The captures that a scenario plays, file by file.
-use Rattle.std.proofs.Common.{◌≡◌, ◌≢◌, ◌≤◌, ◌<◌, ◌+◌, ◌++◌, ◌∷◌, ◌∙◌, [], ℕ, List, IfSome, refl, ap, sym, subst, arith, length, drop, map, append_assoc, slice_index_or}
+use Rattle.std.proofs.Common.{◌≡◌, ◌≢◌, ◌≤◌, ◌<◌, ◌+◌, ◌++◌, ◌∷◌, ◌∙◌, [], ℕ, List, refl, ap, sym, subst, arith, length, drop, map, append_assoc, slice_index_or}
 use Rattle.std.proofs.lemmas.List.{append-nil, at_drop_more, drop_all}
 use Rattle.std.proofs.lemmas.List.Elements.{All-append, All-cons, All-from_recursion, All-nil}
 use Rattle.std.specs.List.{All, AllByRecursion}
-use Rattle.net_base.specs.outside.Outside.{NeverFall, Rose}
+use Rattle.net_base.specs.outside.Outside.{NeverFall}
 use Rattle.net_base.specs.plan.Planned.{IsFrame}
 use Rattle.text_lines.proofs.WrittenLemmas.{rose_later}
 use Rattle.command_text.specs.declared.command.Command.{Command}
@@ -16,8 +16,8 @@ use Rattle.pcap_file.specs.Records.{IsCapture, IsPacketRecord, PacketRecord, rec
 use Rattle.vplsnet.specs.declared.outcome.Outcome.{Outcome}
 use Rattle.vplsnet.specs.declared.outcome.Outcome.TheVariants.{Done, Usage, ReadFault, WriteFault, TooLong, ScenarioRefused, NoCircuit, CaptureRefused, Stopped, DecodeRefused, Unfinished, NoMemory}
 use Rattle.vplsnet.specs.Around.{Files, Has}
-use Rattle.vplsnet.specs.Captures.{AreCaptures, FailsToPlay, GainsPlayed, HasCaptureFault, HasFrames, HasPlayed, IsCaptureFile, IsNoCapture, IsToldAs}
-use Rattle.vplsnet.specs.Files.{IsLonger, IsNotHad}
+use Rattle.vplsnet.specs.Captures.{AreCaptures, FailsToPlay, GainsPlayed, HasFrames, HasPlayed, IsNoCapture, IsToldAs}
+use Rattle.vplsnet.specs.Files.{IsNotHad}
 use Rattle.vplsnet.specs.Inputs.{capture_limit, played, played_by}
 
 -- ---- one file

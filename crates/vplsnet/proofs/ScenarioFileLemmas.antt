@@ -1,9 +1,9 @@
 -- What a scenario's file comes to.
-use Rattle.std.proofs.Common.{◌≡◌, ◌≢◌, ◌≤◌, ◌++◌, ◌∷◌, ◌∙◌, [], ℕ, List, Some, None, Ok, Err, Option, Result, IfSome, refl, ap, sym, subst, length, append_assoc, inl, inr}
+use Rattle.std.proofs.Common.{◌≡◌, ◌≤◌, ◌++◌, ◌∷◌, ◌∙◌, [], ℕ, List, Some, None, Ok, Err, Option, Result, IfSome, refl, ap, sym, subst, length, append_assoc, inl, inr}
 use Rattle.std.proofs.lemmas.List.{append-nil}
 use Rattle.std.proofs.lemmas.List.Elements.{All-nil}
 use Rattle.std.specs.List.{All}
-use Rattle.net_base.specs.outside.Outside.{NeverFall, Rose}
+use Rattle.net_base.specs.outside.Outside.{NeverFall}
 use Rattle.net_base.specs.plan.Planned.{IsFrame}
 use Rattle.text_lines.proofs.WrittenLemmas.{rose_later}
 use Rattle.command_text.specs.declared.scenario_fault.ScenarioFault.{ScenarioFault}
@@ -19,10 +19,10 @@ use Rattle.vplsnet.specs.Answers.{IsRefused}
 use Rattle.vplsnet.specs.Around.{Files, Has}
 use Rattle.vplsnet.specs.Asked.{Asked, Replay, Tables, Capture, Rehearse}
 use Rattle.vplsnet.specs.Capture.{lacks_circuit}
-use Rattle.vplsnet.specs.Captures.{AreCaptures, FailsToPlay, HasPlayed, IsCaptureFile, IsNoCapture}
+use Rattle.vplsnet.specs.Captures.{AreCaptures, FailsToPlay, HasPlayed, IsCaptureFile}
 use Rattle.vplsnet.specs.Files.{IsLonger, IsNotHad}
-use Rattle.vplsnet.specs.Inputs.{AreReadNext, ComesTo, IsNext, IsNextOf, IsNextPlayed, IsNextRead, IsReadNext, Next, Reads, Refuses, Run, Wanted, Works, capture_file, capture_limit, played, scenario_file, scenario_limit}
-use Rattle.vplsnet.specs.ScenarioFile.{HasAll, IsNoCircuit, IsNoScenario, LacksCapture, LacksSome, ReadsScenario, outcome_of_fault}
+use Rattle.vplsnet.specs.Inputs.{AreReadNext, ComesTo, IsNext, IsNextOf, IsNextPlayed, IsNextRead, Next, Reads, Refuses, Run, Wanted, Works, capture_file, capture_limit, played, scenario_limit}
+use Rattle.vplsnet.specs.ScenarioFile.{HasAll, IsNoCircuit, IsNoScenario, LacksSome, ReadsScenario, outcome_of_fault}
 
 -- ---- behind the captures that were read
 
