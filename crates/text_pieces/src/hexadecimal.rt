@@ -32,7 +32,8 @@ const PAIRS: &[u8; 512] = b"\
     f0f1f2f3f4f5f6f7f8f9fafbfcfdfeff\
     ";
 
-/// Adds two digits for each octet, the high one first, in lower case.
+/// Adds two digits for each octet, the high one first, in lower case. The digits of a piece are made aside, so that the text grows once
+/// for all of them.
 pub fn put_digits(text: &mut Vec<u8>, octets: &[u8]) -> Result<(), NoMemory>
     ensures { OnOk result (text.new.items ≡ text.old.items ++ hex octets.now) }
 {
@@ -40,21 +41,13 @@ pub fn put_digits(text: &mut Vec<u8>, octets: &[u8]) -> Result<(), NoMemory>
     'adding: while at < octets.len() {
         let (_, rest) = octets.split_at(at);
         let (piece, _) = rest.split_at(rest.len().min(PIECE));
-        put_piece(text, piece)?;
+        let mut room = [0u8; 2 * PIECE];
+        let (digits, _) = room.split_at_mut(2 * piece.len());
+        write_digits(piece, digits);
+        put_text(text, digits)?;
         at += piece.len();
     }
     Ok(())
-}
-
-// Adds the digits of a piece. They are made aside, so that the text grows once.
-fn put_piece(text: &mut Vec<u8>, piece: &[u8]) -> Result<(), NoMemory>
-    requires { length piece.now ≤ 64 }
-    ensures { OnOk result (text.new.items ≡ text.old.items ++ hex piece.now) }
-{
-    let mut room = [0u8; 2 * PIECE];
-    let (digits, _) = room.split_at_mut(2 * piece.len());
-    write_digits(piece, digits);
-    put_text(text, digits)
 }
 
 /// Writes two digits for each octet, the high one first, in lower case, into room of just their size. It takes no memory. Of the
