@@ -1,5 +1,5 @@
 -- A text on its way to a sink: what was taken, and what waits in a page.
-use Rattle.std.specs.Prelude.{◌≡◌, ◌<◌, ◌≤◌, ◌++◌, ℕ, List, [], ◌∷◌, length, take, Option, Some, None, Result, Ok, Err}
+use Rattle.std.specs.Prelude.{◌≡◌, ◌<◌, ◌≤◌, ◌++◌, ℕ, List, [], ◌∷◌, length, take, Option, Result, Ok, Err}
 use Rattle.net_base.specs.outside.Outside.{Appends, Rose}
 
 -- what the sink took where it tells it, how many of its calls failed, and what waits

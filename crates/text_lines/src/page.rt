@@ -1,9 +1,9 @@
 //! Pages.
-ghost use Rattle.std.specs.Prelude.{◌≡◌, ◌<◌, ◌≤◌, ◌+◌, ◌*◌, ◌++◌, ◌∷◌, [], codes, length, take, map, IfOk, OnOk, OnErr};
+ghost use Rattle.std.specs.Prelude.{◌≡◌, ◌<◌, ◌≤◌, ◌+◌, ◌*◌, ◌++◌, ◌∷◌, [], length, take, map, IfOk, OnOk, OnErr};
 ghost use Rattle.std.specs.Fmt.{decimal};
 ghost use Rattle.text_pieces.specs.Pieces.{hex, spaced};
-ghost use Rattle.text_lines.specs.Lines.{line_end, line_of, word_octets};
-ghost use Rattle.text_lines.specs.Written.{written, GoesOn, IsCut, Moves, PutsOn, Writes};
+ghost use Rattle.text_lines.specs.Lines.{line_of, word_octets};
+ghost use Rattle.text_lines.specs.Written.{written, IsCut, Moves, PutsOn, Writes};
 
 use crate::whole::write_text;
 use crate::word::Word;
@@ -90,20 +90,6 @@ impl Page {
         self.flush(sink)
     }
 
-    // Puts a front of octets, one at least.
-    #[tactic(auto, using(crate::proofs::WrittenLemmas::moves_goes, crate::proofs::WrittenLemmas::cut_first))]
-    fn put_some<K: Sink>(&mut self, sink: &mut K, octets: &[u8]) -> Result<usize, Failed>
-        requires some { 0 < length octets.now }
-        ensures count { IfOk result (λ count. (0 < count) × (count ≤ length octets.now)) }
-        ensures goes { IfOk result (λ count. GoesOn (written (K.taken sink.old) (K.faults sink.old) self.old) (written (K.taken sink.new) (K.faults sink.new) self.new) (take count octets.now)) }
-        ensures cut { OnErr result (IsCut (written (K.taken sink.old) (K.faults sink.old) self.old) (written (K.taken sink.new) (K.faults sink.new) self.new) octets.now) }
-    {
-        match self.make_room(sink) {
-            Ok(()) => Ok(self.fill(octets)),
-            Err(fault) => Err(fault),
-        }
-    }
-
     /// Puts octets: they wait, or are written with all that waits. After `Failed` a front of what waited and of them was taken.
     #[inline(always)]
     #[tactic(auto, using(crate::proofs::WrittenLemmas::goes_waiting))]
@@ -162,21 +148,11 @@ impl Page {
     {
         let mut at = 0;
         'putting: while at < octets.len() {
+            self.make_room(sink)?;
             let (_, rest) = octets.split_at(at);
-            at += self.put_some(sink, rest)?;
+            at += self.fill(rest);
         }
         Ok(())
-    }
-
-    // Puts the digits of a piece.
-    fn put_piece<K: Sink>(&mut self, sink: &mut K, piece: &[u8]) -> Result<(), Failed>
-        requires { length piece.now ≤ 64 }
-        ensures { PutsOn K.taken K.faults self.old self.new sink.old sink.new result (hex piece.now) }
-    {
-        let mut room = [0u8; 2 * PIECE];
-        let (digits, _) = room.split_at_mut(2 * piece.len());
-        write_digits(piece, digits);
-        self.put(sink, digits)
     }
 
     // Puts two digits for each octet.
@@ -201,7 +177,10 @@ impl Page {
         'putting: while at < octets.len() {
             let (_, rest) = octets.split_at(at);
             let (piece, _) = rest.split_at(rest.len().min(PIECE));
-            self.put_piece(sink, piece)?;
+            let mut room = [0u8; 2 * PIECE];
+            let (digits, _) = room.split_at_mut(2 * piece.len());
+            write_digits(piece, digits);
+            self.put(sink, digits)?;
             at += piece.len();
         }
         Ok(())
@@ -219,54 +198,23 @@ impl Page {
         self.put(sink, buffer.format(number).as_bytes())
     }
 
-    // Puts a number behind a label.
-    #[tactic(auto, using(crate::proofs::WrittenLemmas::puts_two, crate::proofs::WrittenLemmas::cut_first))]
-    fn put_labelled<K: Sink>(
-        &mut self,
-        sink: &mut K,
-        label: &[u8],
-        number: u64,
-    ) -> Result<(), Failed>
-        ensures { PutsOn K.taken K.faults self.old self.new sink.old sink.new result (label.now ++ decimal number) }
-    {
-        match self.put(sink, label) {
-            Ok(()) => self.put_number(sink, number),
-            Err(fault) => Err(fault),
-        }
-    }
-
-    // Puts a number with a mark behind it.
-    #[tactic(auto, using(crate::proofs::WrittenLemmas::puts_two, crate::proofs::WrittenLemmas::cut_first))]
-    fn put_marked<K: Sink>(&mut self, sink: &mut K, number: u64, mark: &[u8]) -> Result<(), Failed>
-        ensures { PutsOn K.taken K.faults self.old self.new sink.old sink.new result (decimal number ++ mark.now) }
-    {
-        match self.put_number(sink, number) {
-            Ok(()) => self.put(sink, mark),
-            Err(fault) => Err(fault),
-        }
-    }
-
     // Puts a word.
+    #[tactic(auto, using(crate::proofs::WrittenLemmas::puts_two, crate::proofs::WrittenLemmas::cut_first))]
     fn put_word<K: Sink>(&mut self, sink: &mut K, word: Word<'_>) -> Result<(), Failed>
         ensures { PutsOn K.taken K.faults self.old self.new sink.old sink.new result (word_octets word.entry) }
     {
         match word {
             Word::Text(text) => self.put(sink, text),
             Word::Number(number) => self.put_number(sink, number),
-            Word::Labelled(label, number) => self.put_labelled(sink, label, number),
-            Word::Marked(number, mark) => self.put_marked(sink, number, mark),
+            Word::Labelled(label, number) => match self.put(sink, label) {
+                Ok(()) => self.put_number(sink, number),
+                Err(fault) => Err(fault),
+            },
+            Word::Marked(number, mark) => match self.put_number(sink, number) {
+                Ok(()) => self.put(sink, mark),
+                Err(fault) => Err(fault),
+            },
             Word::Hex(octets) => self.put_hex(sink, octets),
-        }
-    }
-
-    // Puts a blank and a word.
-    #[tactic(auto, using(crate::proofs::WrittenLemmas::puts_two, crate::proofs::WrittenLemmas::cut_first))]
-    fn put_behind<K: Sink>(&mut self, sink: &mut K, word: Word<'_>) -> Result<(), Failed>
-        ensures { PutsOn K.taken K.faults self.old self.new sink.old sink.new result (codes " " ++ word_octets word.entry) }
-    {
-        match self.put_octet(sink, b' ') {
-            Ok(()) => self.put_word(sink, word),
-            Err(fault) => Err(fault),
         }
     }
 
@@ -275,24 +223,14 @@ impl Page {
         ensures { PutsOn K.taken K.faults self.old self.new sink.old sink.new result (spaced (map word_octets words.now)) }
     {
         for word in words {
-            self.put_behind(sink, *word)?;
+            self.put_octet(sink, b' ')?;
+            self.put_word(sink, *word)?;
         }
         Ok(())
     }
 
-    // Puts what stands behind the first word of a line.
-    #[tactic(auto, using(crate::proofs::LineLemmas::line_end_spaced, crate::proofs::WrittenLemmas::puts_two, crate::proofs::WrittenLemmas::cut_first))]
-    fn put_rest<K: Sink>(&mut self, sink: &mut K, words: &[Word<'_>]) -> Result<(), Failed>
-        ensures { PutsOn K.taken K.faults self.old self.new sink.old sink.new result (line_end (map word_octets words.now)) }
-    {
-        match self.put_words(sink, words) {
-            Ok(()) => self.put_octet(sink, b'\n'),
-            Err(fault) => Err(fault),
-        }
-    }
-
     /// Puts a line by its words: a first one, and those behind it. It takes no memory.
-    #[tactic(auto, using(crate::proofs::WrittenLemmas::puts_two, crate::proofs::WrittenLemmas::cut_first))]
+    #[tactic(auto, using(crate::proofs::LineLemmas::line_end_spaced, crate::proofs::WrittenLemmas::puts_two, crate::proofs::WrittenLemmas::cut_first))]
     pub fn put_line<K: Sink>(
         &mut self,
         sink: &mut K,
@@ -301,8 +239,11 @@ impl Page {
     ) -> Result<(), Failed>
         ensures { PutsOn K.taken K.faults self.old self.new sink.old sink.new result (line_of (first.now ∷ map word_octets words.now)) }
     {
-        match self.put(sink, first) {
-            Ok(()) => self.put_rest(sink, words),
+        if let Err(fault) = self.put(sink, first) {
+            return Err(fault);
+        }
+        match self.put_words(sink, words) {
+            Ok(()) => self.put_octet(sink, b'\n'),
             Err(fault) => Err(fault),
         }
     }

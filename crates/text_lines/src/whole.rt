@@ -1,6 +1,6 @@
 //! Whole texts.
-ghost use Rattle.std.specs.Prelude.{◌≡◌, ◌≤◌, OnErr, OnOk};
-ghost use Rattle.net_base.specs.outside.Outside.{Rose, Appends};
+ghost use Rattle.std.specs.Prelude.{◌≤◌, OnErr, OnOk};
+ghost use Rattle.net_base.specs.outside.Outside.{Rose};
 ghost use Rattle.text_lines.specs.Written.{AppendsFront, Writes};
 
 use net_base::{Failed, Sink};
@@ -16,16 +16,6 @@ pub fn write_text<K: Sink>(sink: &mut K, text: &[u8]) -> Result<(), Failed>
     if text.is_empty() {
         return Ok(());
     }
-    write_pieces(sink, text)
-}
-
-// Writes a text piece by piece.
-fn write_pieces<K: Sink>(sink: &mut K, text: &[u8]) -> Result<(), Failed>
-    ensures whole { OnOk result (Appends (K.taken sink.old) (K.taken sink.new) text.now) }
-    ensures front { OnErr result (AppendsFront (K.taken sink.old) (K.taken sink.new) text.now) }
-    ensures fault { OnErr result (Rose (K.faults sink.old) (K.faults sink.new)) }
-    ensures never_falls { K.faults sink.old ≤ K.faults sink.new }
-{
     let mut at = 0;
     'writing: while at < text.len() {
         let count = sink.write(&text[at..])?;

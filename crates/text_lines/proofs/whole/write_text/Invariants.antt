@@ -1,6 +1,6 @@
 use Rattle.std.proofs.Common.{◌≤◌, ◌-◌, length, take}
 use Rattle.net_base.specs.outside.Outside.{Appends}
-use Rattle.text_lines.proofs.whole.write_pieces.Given as goal
+use Rattle.text_lines.proofs.whole.write_text.Given as goal
 
 abbrev pub invariant-writing : goal.invariant-writing
 invariant-writing g l = record {

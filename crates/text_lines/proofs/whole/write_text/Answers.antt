@@ -1,7 +1,7 @@
 use Rattle.std.proofs.Common.{arith}
 use Rattle.std.proofs.lemmas.Grind.{common_steps}
 use Rattle.text_lines.proofs.WrittenLemmas.{appends_more, take_front}
-use Rattle.text_lines.proofs.whole.write_pieces.Goals as goal
+use Rattle.text_lines.proofs.whole.write_text.Goals as goal
 
 pub writing-preserved : goal.writing-preserved
 writing-preserved g c = record {
