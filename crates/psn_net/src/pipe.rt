@@ -64,27 +64,13 @@ impl Pipe {
     pub fn skip(&mut self, count: usize)
         ensures { self.new ≡ drop count self.old }
     {
-        self.advance(count);
-        if self.start > self.octets.len() / 2 {
-            self.compact();
-        }
-    }
-
-    // The first octets are delivered, and still lie there.
-    fn advance(&mut self, count: usize)
-        ensures { self.new ≡ drop count self.old }
-    {
         self.start += count.min(self.octets.len() - self.start);
-    }
-
-    // The octets that are delivered go, and the others move to their place.
-    fn compact(&mut self)
-        ensures { self.new ≡ self.old }
-    {
-        let left = self.octets.len() - self.start;
-        self.octets.rotate_left(self.start);
-        self.octets.truncate(left);
-        self.start = 0;
+        if self.start > self.octets.len() / 2 {
+            let left = self.octets.len() - self.start;
+            self.octets.rotate_left(self.start);
+            self.octets.truncate(left);
+            self.start = 0;
+        }
     }
 
     /// Empties the pipe.
