@@ -3,8 +3,7 @@ ghost use Rattle.std.specs.Prelude.{◌≡◌, ◌==◌, ◌&&◌, ◌<◌, leng
 ghost use Rattle.std.specs.List.{list_any};
 ghost use Rattle.net_base.specs.plan.Paths.{joins};
 ghost use Rattle.net_base.specs.plan.Roles.{all_below, is_wire_of};
-ghost use Rattle.network_model.specs.Calm.{is_drained, is_quiet, is_settled};
-ghost use Rattle.network_model.specs.State.{held};
+ghost use Rattle.network_model.specs.Calm.{is_drained, is_quiet};
 ghost use Rattle.psn_net.specs.Calm.{is_quiet_between};
 ghost use Rattle.psn_net.specs.Lists.{seen};
 
@@ -41,41 +40,28 @@ impl Parts {
         true
     }
 
-    // Nothing is on its way between the two edges, where the service joins them.
+    // Nothing is on its way between the two edges, where the service joins them: neither end of their connection stands, or both stand
+    // and nothing is on its way.
     fn is_quiet_between(&self, service: ServiceId, a: EdgeId, b: EdgeId) -> bool
         requires a { a.0 < length self.now.plan.edges }
         requires b { b.0 < length self.now.plan.edges }
         ensures { result ≡ is_quiet_between self.now.plan (seen self.now) service a.0 b.0 }
     {
-        !are_joined_by(self.plan.wires.as_slice(), service, a, b) || self.is_settled(a, b)
-    }
-
-    // Neither end of the connection stands, or both stand and nothing is on its way.
-    fn is_settled(&self, a: EdgeId, b: EdgeId) -> bool
-        requires a { a.0 < length self.now.plan.edges }
-        requires b { b.0 < length self.now.plan.edges }
-        ensures { result ≡ is_settled (seen self.now) a.0 b.0 }
-    {
+        if !are_joined_by(self.plan.wires.as_slice(), service, a, b) {
+            return true;
+        }
         let (one, other) = (self.stands(a, b), self.stands(b, a));
         (!one && !other) || ((one && other) && (self.has_drained(a, b) && self.has_drained(b, a)))
     }
 
     // Nothing is on its way from an edge to another one, and the other one holds no rest.
+    #[tactic(auto, using(crate::proofs::CalmLemmas::held_is), unfolding(crate::specs::Lists::seen))]
     fn has_drained(&self, from: EdgeId, to: EdgeId) -> bool
         requires from { from.0 < length self.now.plan.edges }
         requires to { to.0 < length self.now.plan.edges }
         ensures { result ≡ is_drained (seen self.now) from.0 to.0 }
     {
-        self.is_drained(from, to) && self.holds_nothing(to, from)
-    }
-
-    // The edge holds no octets of a peer that are no whole PDU yet.
-    #[tactic(auto, using(crate::proofs::CalmLemmas::held_is), unfolding(crate::specs::Lists::seen))]
-    fn holds_nothing(&self, edge: EdgeId, peer: EdgeId) -> bool
-        requires { edge.0 < length self.now.plan.edges }
-        ensures { result ≡ (length (held (seen self.now) edge.0 peer.0) == 0) }
-    {
-        self.edges[edge.0 as usize].held(peer) == 0
+        self.is_drained(from, to) && self.edges[to.0 as usize].held(from) == 0
     }
 }
 
