@@ -4,7 +4,6 @@
 mod call;
 mod call_log;
 mod departure;
-mod edge_pair;
 mod ledger;
 mod net_stop;
 mod network;

@@ -1,14 +1,13 @@
 //! Which services are calm.
-ghost use Rattle.std.specs.Prelude.{◌≡◌, ◌≤◌, Some, length, slice_get};
-ghost use Rattle.net_base.specs.plan.Accepted.{IsChecked};
-ghost use Rattle.net_base.specs.plan.Roles.{count_wires, is_spoke_edge};
-ghost use Rattle.network_model.specs.Calm.{has_live_spokes, is_calm, is_live_spoke};
+ghost use Rattle.std.specs.Prelude.{◌≡◌};
+ghost use Rattle.net_base.specs.plan.Roles.{is_spoke_edge};
+ghost use Rattle.network_model.specs.Calm.{has_live_spokes, is_calm};
 ghost use Rattle.psn_net.specs.Calm.{has_live_spoke};
 ghost use Rattle.psn_net.specs.Lists.{seen};
 
 use crate::parts::Parts;
 use hvpls_spokes::{Role, role, starts_spoke};
-use net_base::{EdgeId, ServiceId, WireId, WirePlan};
+use net_base::{EdgeId, ServiceId, WireId};
 
 impl Parts {
     /// The service is quiet and full, and each of its spoke edges has exactly one spoke that carries frames (RFC 4762 section 10.2).
@@ -33,10 +32,21 @@ impl Parts {
     }
 
     // The edge has exactly one spoke that carries frames, where it is a spoke edge of the service.
+    #[tactic(auto, using(crate::proofs::CalmLemmas::wire_steps))]
     fn has_live_spoke(&self, service: ServiceId, edge: EdgeId) -> bool
         ensures { result ≡ has_live_spoke self.now.plan (seen self.now) service edge.0 }
     {
-        !self.is_spoke_edge(service, edge) || self.count_live(self.wires(), service, edge) == 1
+        if !self.is_spoke_edge(service, edge) {
+            return true;
+        }
+        let wires = self.wires();
+        let mut live: usize = 0;
+        for (place, row) in wires.iter().enumerate() {
+            if starts_spoke(row, service, edge) && self.carries(WireId(place as u16), row) {
+                live += 1;
+            }
+        }
+        live == 1
     }
 
     // The edge starts a spoke of the service.
@@ -47,31 +57,5 @@ impl Parts {
             Some(Role::SpokeEdge) => true,
             Some(Role::Core) | None => false,
         }
-    }
-
-    // How many of the plan's wires are spokes of the edge that carry frames.
-    #[tactic(auto, using(crate::proofs::CalmLemmas::wire_steps))]
-    fn count_live(&self, wires: &[WirePlan], service: ServiceId, edge: EdgeId) -> usize
-        requires checked { IsChecked self.now.plan }
-        requires wires { wires.now ≡ self.now.plan.wires }
-        requires few { length wires.now ≤ 1024 }
-        ensures { result ≡ count_wires (is_live_spoke self.now.plan (seen self.now) service edge.0) 0 wires.now }
-    {
-        let mut count: usize = 0;
-        for (place, row) in wires.iter().enumerate() {
-            if self.is_live_spoke(service, edge, WireId(place as u16), row) {
-                count += 1;
-            }
-        }
-        count
-    }
-
-    // The wire with this row is a spoke of the edge that carries frames.
-    fn is_live_spoke(&self, service: ServiceId, edge: EdgeId, wire: WireId, row: &WirePlan) -> bool
-        requires checked { IsChecked self.now.plan }
-        requires row { slice_get self.now.plan.wires wire.0 ≡ Some row.now }
-        ensures { result ≡ is_live_spoke self.now.plan (seen self.now) service edge.0 wire.0 row.now }
-    {
-        starts_spoke(row, service, edge) && self.carries(wire, row)
     }
 }

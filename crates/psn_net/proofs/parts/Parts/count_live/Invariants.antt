@@ -1,8 +1,0 @@
-use Rattle.std.proofs.Common.{◌≡◌, ◌≤◌, ◌+◌, drop}
-use Rattle.net_base.specs.plan.Roles.{count_wires}
-use Rattle.network_model.specs.Calm.{is_live_spoke}
-use Rattle.psn_net.specs.Lists.{seen}
-use Rattle.psn_net.proofs.parts.Parts.count_live.Given as goal
-
-abbrev pub invariant-loop-place : goal.invariant-loop-place
-invariant-loop-place l = (l.count ≤ l.place) × (l.count + count_wires (is_live_spoke l.self.plan (seen l.self) l.service l.edge.0) l.place (drop l.place l.wires) ≡ count_wires (is_live_spoke l.self.plan (seen l.self) l.service l.edge.0) 0 l.wires)
