@@ -1,5 +1,5 @@
 //! An edge's work goes into the network.
-ghost use Rattle.std.specs.Prelude.{◌≡◌, ◌<◌, ◌≤◌, ◌+◌, ◌++◌, ◌∷◌, [], length, IfOk, OnOk};
+ghost use Rattle.std.specs.Prelude.{◌≡◌, ◌<◌, ◌≤◌, ◌+◌, ◌∷◌, [], length, IfOk, OnOk};
 ghost use Rattle.net_base.specs.declared.trace.entry.Entry.TheVariants as Entry;
 ghost use Rattle.network_model.specs.Absorb.{absorb_all, absorb_one, all_entries_of, entries_told, put_towards};
 ghost use Rattle.network_model.specs.State.{with_packet, with_pipe};
@@ -41,6 +41,7 @@ impl Parts {
     }
 
     // One thing that an edge gave out.
+    #[tactic(auto, unfolding(crate::specs::Lists::seen, network_model::specs::State::with_pipe))]
     fn absorb_one(
         &mut self,
         alloc: Global,
@@ -104,7 +105,7 @@ impl Parts {
                 sequence,
             }),
             Effect::Closed { peer } => {
-                self.empty_pipe(peer, me);
+                self.pipes.clear(peer, me);
                 Ok(())
             }
         }
@@ -124,7 +125,8 @@ impl Parts {
         }
     }
 
-    // Octets of LDP towards a peer.
+    // Octets of LDP towards a peer: they go into the pipe where its end stands.
+    #[tactic(auto, unfolding(crate::specs::Lists::seen, network_model::specs::State::with_pipe))]
     fn say(&mut self, me: EdgeId, peer: EdgeId, bytes: Octets) -> Result<(), NoMemory>
         requires me { me.0 < length self.old.plan.edges }
         requires peer { peer.0 < length self.old.plan.edges }
@@ -137,56 +139,14 @@ impl Parts {
           entries = Entry.Said me peer bytes ∷ [];
         })) }
     {
-        self.put_towards(me, peer, bytes.as_slice())?;
+        if self.stands(peer, me) {
+            self.pipes.put(me, peer, bytes.as_slice())?;
+        }
         self.tell(Entry::Said {
             from: me,
             to: peer,
             bytes,
         })
-    }
-
-    // Octets go into the pipe towards a peer whose end stands.
-    fn put_towards(&mut self, me: EdgeId, peer: EdgeId, bytes: &[u8]) -> Result<(), NoMemory>
-        requires me { me.0 < length self.old.plan.edges }
-        requires peer { peer.0 < length self.old.plan.edges }
-        ensures keeps { Keeps self.old self.new }
-        ensures trace { self.new.trace ≡ self.old.trace }
-        ensures room { HasRoom self.old → HasRoom self.new }
-        ensures last { self.new.packets.last ≡ self.old.packets.last }
-        ensures state { OnOk result (seen self.new ≡ put_towards me peer bytes.now (seen self.old)) }
-    {
-        if self.stands(peer, me) {
-            self.fill_pipe(me, peer, bytes)?;
-        }
-        Ok(())
-    }
-
-    // More octets on the way.
-    #[tactic(auto, unfolding(crate::specs::Lists::seen, network_model::specs::State::with_pipe))]
-    fn fill_pipe(&mut self, from: EdgeId, to: EdgeId, bytes: &[u8]) -> Result<(), NoMemory>
-        requires from { from.0 < length self.old.plan.edges }
-        requires to { to.0 < length self.old.plan.edges }
-        ensures keeps { Keeps self.old self.new }
-        ensures trace { self.new.trace ≡ self.old.trace }
-        ensures room { HasRoom self.old → HasRoom self.new }
-        ensures last { self.new.packets.last ≡ self.old.packets.last }
-        ensures state { OnOk result (seen self.new ≡ with_pipe from to ((seen self.old).pipes from.0 to.0 ++ bytes.now) (seen self.old)) }
-    {
-        self.pipes.put(from, to, bytes)
-    }
-
-    // Nothing is on the way any more.
-    #[tactic(auto, unfolding(crate::specs::Lists::seen, network_model::specs::State::with_pipe))]
-    fn empty_pipe(&mut self, from: EdgeId, to: EdgeId)
-        requires from { from.0 < length self.old.plan.edges }
-        requires to { to.0 < length self.old.plan.edges }
-        ensures keeps { Keeps self.old self.new }
-        ensures trace { self.new.trace ≡ self.old.trace }
-        ensures room { HasRoom self.old → HasRoom self.new }
-        ensures last { self.new.packets.last ≡ self.old.packets.last }
-        ensures state { seen self.new ≡ with_pipe from to [] (seen self.old) }
-    {
-        self.pipes.clear(from, to);
     }
 
     // A packet leaves for a neighbour, and is told.
