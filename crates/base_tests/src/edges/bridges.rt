@@ -55,7 +55,7 @@ const TURNS_OFF: [Step; 16] = [
     Step::Gives(2),
 ];
 
-const FORGETS: [Step; 9] = [
+const FORGETS: [Step; 11] = [
     Step::Frame(0, BROADCAST),
     Step::Gives(2),
     Step::Ticks(1),
@@ -65,10 +65,12 @@ const FORGETS: [Step; 9] = [
     Step::Gives(0),
     Step::Learned(0),
     Step::Passed(2),
+    Step::Restart,
+    Step::Passed(2),
 ];
 
 // Labels 1, 15 and 16, the bottom bit, and a TTL (RFC 3032 section 2.1).
-const DROPS: [Step; 16] = [
+const DROPS: [Step; 18] = [
     Step::Packet("000101"),
     Step::Dropped(DropCause::Short),
     Step::Packet("00010100"),
@@ -81,6 +83,8 @@ const DROPS: [Step; 16] = [
     Step::Dropped(DropCause::NoLabel),
     Step::Packet("00001001"),
     Step::Dropped(DropCause::Short),
+    Step::Packet("00001001 00010100"),
+    Step::Dropped(DropCause::Ttl),
     Step::Packet("00001001 00010001"),
     Step::Dropped(DropCause::NotBottom),
     Step::Packet("00001001 00010101"),

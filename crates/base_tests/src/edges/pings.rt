@@ -65,6 +65,16 @@ const ANSWER_BY_EXPIRY: &str =
 const SECOND_PING: &str =
     "000101ff 10000021 4500001c00000000ff01a7de 0a000002 0a000001 0800f79900640002";
 
+// The last number that B's pings have, the one behind it, and A's answer to that.
+const PING_65535: &str =
+    "000101ff 10000021 4500001c00000000ff01a7de 0a000002 0a000001 0800f79b0064ffff";
+
+const PING_0: &str =
+    "000101ff 10000021 4500001c00000000ff01a7de 0a000002 0a000001 0800f79b00640000";
+
+const PONG_0: &str =
+    "000101ff 10000021 4500001c00000000ff01a7de 0a000001 0a000002 0000ff9b00640000";
+
 // The first ping of B once it has restarted, to the label 17 of A's next session; and what A tells in it.
 const NEXT_WITH_WORD: &str =
     "000100360a0000010000 0400002c00000003 01000014 8080050c 00000000 00000064 010405dc 0c040701 \
@@ -80,6 +90,20 @@ const ODD_PING: &str =
 
 const ODD_ANSWER: &str =
     "000101ff 10000021 45b8001d12344000ff0154f1 0a000002 0a000001 00009e9b0064ffff61";
+
+// A ping of A to 10.0.0.9, and the answer, which is from there.
+const PINGED_ELSEWHERE: &str =
+    "000101ff 10000021 4500001c00000000ff01a7d7 0a000001 0a000009 0800f79a00640001";
+
+const ANSWER_FROM_ELSEWHERE: &str =
+    "000101ff 10000021 4500001c00000000ff01a7d7 0a000009 0a000001 0000ff9a00640001";
+
+// A tells that its circuit does not forward, and a broadcast of A.
+const STATUS_OF_A: &str =
+    "000100340a0000010000 0001002a00000004 0300000a00000028000000000000 896a000400000001 \
+     0100000c808005040000000000000064";
+
+const FRAME_OF_A: &str = "000101ff 00000000 ffffffffffff 020000000001 0800";
 
 const ANSWERS_BY_HEADER: [Step; 13] = [
     Step::Ping(0),
@@ -128,6 +152,41 @@ const ANSWERS_THE_WHOLE: [Step; 4] = [
     Step::Packet(ODD_PING),
     Step::Echoed(A, 0),
     Step::Sent(3, A, ODD_ANSWER),
+];
+
+// Whom the ping is for is not looked at: it came by the wire.
+const ANSWERS_FOR_ANOTHER: [Step; 4] = [
+    Step::Hears(A, WITH_WORD),
+    Step::Packet(PINGED_ELSEWHERE),
+    Step::Echoed(A, 0),
+    Step::Sent(3, A, ANSWER_FROM_ELSEWHERE),
+];
+
+// An end that carries no frames answers; what has no octets behind its label is no channel, and no frame either.
+const ANSWERS_WHILE_DOWN: [Step; 11] = [
+    Step::Packet("000101ff"),
+    Step::Dropped(DropCause::Down),
+    Step::Hears(A, WITH_WORD),
+    Step::Hears(A, STATUS_OF_A),
+    Step::Packet(FRAME_OF_A),
+    Step::Dropped(DropCause::Down),
+    Step::Packet("000101ff"),
+    Step::Dropped(DropCause::Short),
+    Step::Packet(PINGED_BY_HEADER),
+    Step::Echoed(A, 0),
+    Step::Sent(3, A, ANSWER_BY_HEADER),
+];
+
+// Behind the number 65535 comes 0.
+const COUNTS_TO_65535: [Step; 8] = [
+    Step::Hears(A, WITH_WORD),
+    Step::Pings(0, 65_535),
+    Step::Sent(3, A, PING_BY_HEADER),
+    Step::Sent(65_537, A, PING_65535),
+    Step::Ping(0),
+    Step::Sent(65_538, A, PING_0),
+    Step::Packet(PONG_0),
+    Step::Ponged(0, 0),
 ];
 
 const COUNTS_ITS_PINGS: [Step; 17] = [
@@ -264,8 +323,15 @@ fn pings_and_answers_in_each_channel(rt: HostRuntime) {
     plays_up(&rt, alloc, BY_ALERT, 0, &ANSWERS_BY_ALERT);
     plays_up(&rt, alloc, BY_EXPIRY, 0, &ANSWERS_BY_EXPIRY);
     plays_up(&rt, alloc, BY_HEADER, 0, &ANSWERS_THE_WHOLE);
+    plays_up(&rt, alloc, BY_HEADER, 0, &ANSWERS_FOR_ANOTHER);
+    plays_up(&rt, alloc, BY_HEADER, 0, &ANSWERS_WHILE_DOWN);
     plays_up(&rt, alloc, BY_HEADER, 0, &COUNTS_ITS_PINGS);
     plays_up(&rt, alloc, BY_HEADER, 4, &LOSES_A_PING);
+}
+
+#[test]
+fn counts_pings_from_65535_to_0(rt: HostRuntime) {
+    plays_up(&rt, rt.alloc(), BY_HEADER, 0, &COUNTS_TO_65535);
 }
 
 #[test]

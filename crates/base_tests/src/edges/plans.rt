@@ -25,6 +25,18 @@ circuit = [{ name = "ca", edge = "a", service = "s" }, { name = "cb", edge = "b"
 wire = [{ name = "w", service = "s", class = "mesh", path = ["a", "b"], pw_id = 100 }]
 "#;
 
+/// Two edges and three wires between them, each of a service of its own.
+pub const THREE_WIRES: &str = r#"
+version = 1
+edge = [{ name = "a", address = "10.0.0.1" }, { name = "b", address = "10.0.0.2" }]
+service = [{ name = "s" }, { name = "t" }, { name = "r" }]
+wire = [
+  { name = "w", service = "s", class = "mesh", path = ["a", "b"], pw_id = 100 },
+  { name = "w1", service = "t", class = "mesh", path = ["a", "b"], pw_id = 101 },
+  { name = "w2", service = "r", class = "mesh", path = ["a", "b"], pw_id = 102 },
+]
+"#;
+
 /// Two edges and a wire with a control word, whose ends offer the associated channel header (RFC 5085 section 5.1.1).
 pub const BY_HEADER: &str = r#"
 version = 1

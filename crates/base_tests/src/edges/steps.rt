@@ -31,6 +31,8 @@ pub enum Step {
     Wire(u16, bool),
     Priority(u16, u8),
     Ping(u16),
+    /// A wire is pinged so many times.
+    Pings(u16, u16),
     /// The last input did not apply; or it did, and so many effects came of it.
     Idle,
     Gives(usize),
@@ -107,6 +109,7 @@ fn input_of<'a>(step: Step, bytes: &'a [u8]) -> Option<Input<'a>>
             priority,
         }),
         Step::Ping(wire) => Some(Input::Ping { wire: WireId(wire) }),
+        Step::Pings(wire, _) => Some(Input::Ping { wire: WireId(wire) }),
         _ => None,
     }
 }
@@ -115,6 +118,7 @@ fn input_of<'a>(step: Step, bytes: &'a [u8]) -> Option<Input<'a>>
 fn times_of(step: Step) -> u16 {
     match step {
         Step::Ticks(ticks) => ticks,
+        Step::Pings(_, pings) => pings,
         _ => 1,
     }
 }

@@ -59,6 +59,23 @@ const STATUS_TO_C: &str =
     "000100340a0000020000 0001002a00000004 0300000a00000028000000000000 896a000400000001 \
      0100000c808005040000000000000064";
 
+// The edge tells C that A's circuit forwards, once A has told a mapping without a status.
+const NO_STATUS_TO_C: &str =
+    "000100340a0000020000 0001002a00000005 0300000a00000028000000000000 896a000400000000 \
+     0100000c808005040000000000000064";
+
+// A and C release what the edge has told them, and it tells them anew under labels 18 and 19.
+const RELEASE_OF_A: &str =
+    "000100260a0000010000 0403001c00000004 0100000c8080050400000000000000640200000400000011";
+
+const ANEW_TO_A: &str =
+    "000100480a0000020000 0400003e00000004 01000010808005080000000000000064010405dc \
+     0200000400000012 896a000400000000 896d0012 010400000064 03040a000002 04040a000003";
+
+const ANEW_TO_C: &str =
+    "000100480a0000020000 0400003e00000004 01000010808005080000000000000064010405dc \
+     0200000400000013 896a000400000000 896d0012 010400000064 03040a000002 04040a000001";
+
 /// The edge withdraws label 16 from C, which releases it, and advertises label 17 with the new MTU.
 pub const WITHDRAWAL_TO_C: &str =
     "000100260a0000020000 0402001c00000004 0100000c8080050400000000000000640200000400000010";
@@ -161,6 +178,32 @@ const PASSES_NO_STATUS_ON: [Step; 4] = [
     Step::Calls(5),
 ];
 
+// What C was told has a status, so it is told one still: of a mapping without a status that is 0.
+const TELLS_0_FOR_NO_STATUS: [Step; 6] = [
+    Step::Hears(A, MAPPING_OF_A),
+    Step::Hears(A, STATUS_OF_A),
+    Step::Put(5, C, STATUS_TO_C),
+    Step::Hears(A, MAPPING_OF_A_WITHOUT_STATUS),
+    Step::Put(6, C, NO_STATUS_TO_C),
+    Step::Calls(7),
+];
+
+// Neither end advertises again while it counts as declined, and both do once the wire was off.
+const ADVERTISES_ON_BOTH_SIDES_ONCE_RENEWED: [Step; 12] = [
+    Step::Hears(A, MAPPING_OF_A),
+    Step::Hears(C, MAPPING_OF_C),
+    Step::Hears(C, RELEASE_OF_C),
+    Step::Hears(A, RELEASE_OF_A),
+    Step::Ticks(1),
+    Step::Calls(6),
+    Step::Wire(0, false),
+    Step::Calls(6),
+    Step::Wire(0, true),
+    Step::Put(6, A, ANEW_TO_A),
+    Step::Put(7, C, ANEW_TO_C),
+    Step::Calls(8),
+];
+
 const PASSES_AN_MTU_ON: [Step; 7] = [
     Step::Hears(A, MAPPING_OF_A),
     Step::Hears(A, MAPPING_OF_A_WITH_MTU_1400),
@@ -212,6 +255,8 @@ fn passes_on_what_it_is_told(rt: HostRuntime) {
     plays_up(&rt, rt.alloc(), &PASSES_MAPPINGS_ON);
     plays_up(&rt, rt.alloc(), &PASSES_A_STATUS_ON);
     plays_up(&rt, rt.alloc(), &PASSES_NO_STATUS_ON);
+    plays_up(&rt, rt.alloc(), &TELLS_0_FOR_NO_STATUS);
+    plays_up(&rt, rt.alloc(), &ADVERTISES_ON_BOTH_SIDES_ONCE_RENEWED);
     plays_up(&rt, rt.alloc(), &PASSES_AN_MTU_ON);
 }
 

@@ -45,10 +45,12 @@ const PASSED_OVER: &str = "
     000100280a0000010000 0401001e00000008 01030001 05 01030001 06 01040000 01000008 8080050000000007 = LabelRequest { id: 8, fec: PwFec { c: true, kind: 5, group: 7, pw_id: None, params: IfParams { mtu: None, description: '', vlan: None, vccv: None } } }
     A withdrawal of two MAC addresses of group 7, with its TLVs in another order.
     0001002a0a0000010000 0301002000000006 8404000c 020000000001020000000002 01000008 8080050000000007 = AddressWithdraw { id: 6, addresses: None, fec: Some(PwFec { c: true, kind: 5, group: 7, pw_id: None, params: IfParams { mtu: None, description: '', vlan: None, vccv: None } }), macs: Some(List { items: [Mac([2, 0, 0, 0, 0, 1]), Mac([2, 0, 0, 0, 0, 2])] }) }
+    The F bit of a known TLV, and both bits of another one, are not looked at.
+    000100260a0000010000 0402001c00000004 4100000c 80800504 00000000 00000064 c2000004 00000010 = LabelWithdraw { id: 4, fec: PwFec { c: true, kind: 5, group: 0, pw_id: Some(100), params: IfParams { mtu: None, description: '', vlan: None, vccv: None } }, label: Some(Label { number: 16 }) }
 ";
 
 #[test]
 fn reads_messages(rt: HostRuntime) {
     reads_as(&rt, rt.alloc(), About::OneWay, UNPROCESSED, 13);
-    reads_as(&rt, rt.alloc(), About::Pdus, PASSED_OVER, 8);
+    reads_as(&rt, rt.alloc(), About::Pdus, PASSED_OVER, 9);
 }
