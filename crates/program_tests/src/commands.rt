@@ -49,6 +49,18 @@ path = [\"a\", \"b\"]
 pw_id = 100
 ";
 
+// Four edges in a chain, and a mesh wire between the outer ones.
+const CHAIN: &str = "
+edge = [
+  { name = \"a\", address = \"10.0.0.1\" },
+  { name = \"b\", address = \"10.0.0.2\" },
+  { name = \"c\", address = \"10.0.0.3\" },
+  { name = \"d\", address = \"10.0.0.4\" },
+]
+service = [{ name = \"s\" }]
+wire = [{ name = \"w\", service = \"s\", class = \"mesh\", pw_id = 100, path = [\"a\", \"b\", \"c\", \"d\"] }]
+";
+
 // A broadcast enters at the first circuit.
 const BROADCAST: &str = "\"frame c1 ffffffffffff0200000000010800\"";
 
@@ -80,6 +92,26 @@ session a NonExistent
 end w 0 a - - NoLocal
 ";
 
+// The third edge has lost its session with the last one: it withdraws from the second one, which has not heard of it, the label that it
+// told, and which is its own until it is released. The last edge knows of nothing.
+const WITHDRAWN: &str = "edge a next=17
+session b Operational
+end w 0 b 16 17 up
+edge b next=18
+session a Operational
+session c Operational
+end w 0 a 17 16 stitched
+end w 1 c 16 17 stitched
+edge c next=18
+session b Operational
+session d NonExistent
+end w 1 b 17! 16 open
+end w 2 d - - open
+edge d next=17
+session c Operational
+end w 2 c 16 16 up
+";
+
 const CAPTURE: Case = Case {
     words: "capture f c2",
     front: BROADCAST,
@@ -94,7 +126,7 @@ const TABLED: Case = Case {
     ..REPLAY
 };
 
-static WRITTEN: [Case; 6] = [
+static WRITTEN: [Case; 7] = [
     CAPTURE,
     // The times of a capture are the ticks before its frames.
     Case {
@@ -115,6 +147,12 @@ static WRITTEN: [Case; 6] = [
     },
     Case {
         taken: Taken::Whole(NO_TABLES),
+        ..TABLED
+    },
+    Case {
+        front: "\"connect a b\", \"connect b c\", \"connect c d\", \"settle 100\", \"lose c d\"",
+        tables: CHAIN,
+        taken: Taken::Whole(WITHDRAWN),
         ..TABLED
     },
     Case {
@@ -229,6 +267,28 @@ static CROWDED_CAPTURE: Case = Case {
     ..CROWDED
 };
 
+// As many copies of one packet, behind which neither a further copy is done, nor a ping, nor an arrival.
+const COPIED: Case = Case {
+    front: "\"connect a b\", \"settle 20\", \"frame ca ffffffffffff0200000000010800\"",
+    piece: ", \"again 1\"",
+    times: 65_535,
+    back: ", \"again 1\"",
+    wires: "vccv = 1\n",
+    ..CROWDED
+};
+
+static CROWDED_COPY: Case = COPIED;
+
+static CROWDED_PING: Case = Case {
+    back: ", \"ping a w\"",
+    ..COPIED
+};
+
+static CROWDED_ARRIVAL: Case = Case {
+    back: ", \"arrive 1\"",
+    ..COPIED
+};
+
 // The first call of the sink fails, and nothing is taken.
 static CUT: [Case; 3] = [
     Case {
@@ -274,6 +334,21 @@ fn writes_no_tables_of_a_run_that_stopped(rt: HostRuntime) {
 #[test]
 fn writes_no_capture_of_a_run_that_stopped(rt: HostRuntime) {
     plays(&rt, rt.alloc(), &CROWDED_CAPTURE);
+}
+
+#[test]
+fn copies_no_packet_of_a_crowded_network(rt: HostRuntime) {
+    plays(&rt, rt.alloc(), &CROWDED_COPY);
+}
+
+#[test]
+fn pings_nobody_in_a_crowded_network(rt: HostRuntime) {
+    plays(&rt, rt.alloc(), &CROWDED_PING);
+}
+
+#[test]
+fn lets_nothing_arrive_in_a_crowded_network(rt: HostRuntime) {
+    plays(&rt, rt.alloc(), &CROWDED_ARRIVAL);
 }
 
 #[test]
