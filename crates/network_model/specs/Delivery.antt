@@ -1,5 +1,5 @@
--- The next delivery: all octets on their way between the first two edges that have something to deliver, in the plan's order
--- of the sender and then of the receiver.
+-- The next delivery: up to 65,535 octets between the first two edges that have something to deliver, in the plan's order of the
+-- sender and then of the receiver.
 use Rattle.std.specs.Prelude.{◌+◌, ℕ, zero, suc, Bool, length, Option, Some, None, option_map, if◌then◌else◌}
 use Rattle.net_base.specs.declared.plan.Plan.{Plan}
 use Rattle.net_base.specs.declared.trace.event.Event.{Event}
@@ -21,7 +21,7 @@ abbrev pub first_pair : (ℕ → ℕ → Bool) → ℕ → ℕ → ℕ → Optio
 first_pair test size place zero = None
 first_pair test size place (suc count) = pair_or place (first_from (test place) 0 size) (first_pair test size (place + 1) count)
 
--- more octets than any pipe is asked for at once
+-- as many octets as a pipe is asked for at once
 abbrev pub most_octets : ℕ
 most_octets = 65535
 

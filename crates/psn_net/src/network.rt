@@ -24,8 +24,8 @@ use provider_edge::Edge;
 use std::alloc::Global;
 use std::marker::Model;
 
-/// More octets than are on their way between two edges at once, so that a delivery of as many takes all of them where
-/// there are fewer.
+/// As many octets as a delivery asks for at most: it takes all that are on their way between two edges, where there are no
+/// more.
 const MOST_OCTETS: u16 = 65535;
 
 /// The edges of a plan, what is on its way between them, and the trace of what has happened. Contracts see it as lists by
@@ -139,8 +139,8 @@ impl Network {
         }
     }
 
-    /// The next delivery: all octets on their way between the first two edges that have something to deliver, in the
-    /// plan's order of the sender and then of the receiver. `None` exactly where no two edges have. It is found without
+    /// The next delivery: up to 65,535 octets between the first two edges that have something to deliver, in the plan's
+    /// order of the sender and then of the receiver. `None` exactly where no two edges have. It is found without
     /// looking at all pairs of edges.
     pub fn next_delivery(&self) -> Option<Event>
         ensures next { result ≡ next_delivery self.now.plan (seen self.now) }

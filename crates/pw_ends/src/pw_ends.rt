@@ -363,7 +363,7 @@ impl PwEnds {
         self.change(slot, &EndChange::Stated(status));
     }
 
-    /// A Label Withdraw of a whole group came from a peer (RFC 8077 section 6.1): each binding of the group goes.
+    /// A Label Withdraw of a whole group came from a peer (RFC 8077 section 6.5): each binding of the group goes.
     #[tactic(auto, using(crate::proofs::SlotLemmas::seen_steps))]
     pub fn on_group_withdraw(&mut self, peer: EdgeId, group: u32)
         ensures places { self.new.places ≡ self.old.places }

@@ -15,8 +15,8 @@ pub enum Outcome {
     Done,
     /// The words are not those of a command.
     Usage,
-    /// A call of the shelf failed for the file that comes next: that of the words, or one that the scenario plays. Nothing was
-    /// taken.
+    /// The shelf's count of faults rose for the name of the file that comes next: that of the words, or one that the scenario
+    /// plays. Nothing was taken.
     ReadFault,
     /// The sink failed. What was taken is a front of the text.
     WriteFault,

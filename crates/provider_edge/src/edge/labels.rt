@@ -12,7 +12,7 @@ use crate::Edge;
 use label_space::LabelSpace;
 
 impl Edge {
-    /// The labels that the edge gives, and whose they are (RFC 5036 section 2.6.3): the next number, and for each label the segment
+    /// The labels that the edge gives, and whose they are (RFC 5036 section 3.5.7): the next number, and for each label the segment
     /// and the side of the end that owns it, from its advertisement until the end is idle.
     #[tactic(auto, unfolding(crate::specs::Lists::seen))]
     pub fn labels(&self) -> &LabelSpace
