@@ -34,6 +34,8 @@ mod sessions;
 #[cfg(test)]
 mod shelf;
 #[cfg(test)]
+mod signals;
+#[cfg(test)]
 mod sink;
 #[cfg(test)]
 mod switching_points;

@@ -1,5 +1,6 @@
-//! The system's files: which octets are read where.
+//! The system's files, and one that signals interrupt: which octets are read where.
 
+use crate::signals::Signals;
 use net_base::{Failed, Shelf};
 use std::process::Abort;
 use std::{env, fs, process};
@@ -104,5 +105,12 @@ fn reads_files(rt: &HostRuntime, test: &impl Abort, shelf: &mut impl Shelf) {
 fn reads_the_files_of_the_system(rt: HostRuntime) {
     let mut shelf = FileShelf::new(rt.alloc(), &rt);
     reads_files(&rt, &rt, &mut shelf);
+    drop(shelf);
+}
+
+#[test]
+fn reads_again_where_signals_interrupt(rt: HostRuntime) {
+    let mut shelf = FileShelf::new(rt.alloc(), Signals);
+    reads_all(&rt, &mut shelf, "f", READS.as_slice());
     drop(shelf);
 }
