@@ -36,57 +36,75 @@ kind_of number =
     else if number == type_of LabelAbort then Some LabelAbort
     else None
 
--- the types of the TLVs that are read
+-- Types of TLVs that are read.
+
+-- the type of a FEC TLV (RFC 5036 section 3.4.1)
 abbrev pub fec : ℕ
 fec = 0x0100
 
+-- the type of an Address List TLV (RFC 5036 section 3.4.3)
 abbrev pub address_list : ℕ
 address_list = 0x0101
 
+-- the type of a Generic Label TLV (RFC 5036 section 3.4.2.1)
 abbrev pub label : ℕ
 label = 0x0200
 
+-- the type of a Status TLV (RFC 5036 section 3.4.6)
 abbrev pub status : ℕ
 status = 0x0300
 
+-- the type of a Common Hello Parameters TLV (RFC 5036 section 3.5.2)
 abbrev pub hello_parameters : ℕ
 hello_parameters = 0x0400
 
+-- the type of an IPv4 Transport Address TLV (RFC 5036 section 3.5.2)
 abbrev pub transport_address : ℕ
 transport_address = 0x0401
 
+-- the type of a MAC List TLV (RFC 4762 section 6.2)
 abbrev pub mac_list : ℕ
 mac_list = 0x0404
 
+-- the type of a Common Session Parameters TLV (RFC 5036 section 3.5.3)
 abbrev pub session_parameters : ℕ
 session_parameters = 0x0500
 
+-- the type of a Label Request Message ID TLV (RFC 5036 section 3.5.9)
 abbrev pub request_id : ℕ
 request_id = 0x0600
 
+-- the type of a PW Status TLV (RFC 8077 section 6.3.2)
 abbrev pub pw_status : ℕ
 pw_status = 0x096A
 
+-- the type of a Switching Point PE TLV (RFC 6073 section 7.4)
 abbrev pub switching_point : ℕ
 switching_point = 0x096D
 
--- the types of TLVs of other features, which some messages may have and which are passed over (RFC 5036 sections 3.4.4, 3.4.5,
--- 3.5.1 and 3.5.2)
+-- Types of TLVs of other features, which some messages may have and which are passed over.
+
+-- the type of a Hop Count TLV (RFC 5036 section 3.4.4)
 abbrev pub hop_count : ℕ
 hop_count = 0x0103
 
+-- the type of a Path Vector TLV (RFC 5036 section 3.4.5)
 abbrev pub path_vector : ℕ
 path_vector = 0x0104
 
+-- the type of an Extended Status TLV (RFC 5036 section 3.5.1)
 abbrev pub extended_status : ℕ
 extended_status = 0x0301
 
+-- the type of a Returned PDU TLV (RFC 5036 section 3.5.1)
 abbrev pub returned_pdu : ℕ
 returned_pdu = 0x0302
 
+-- the type of a Returned Message TLV (RFC 5036 section 3.5.1)
 abbrev pub returned_message : ℕ
 returned_message = 0x0303
 
+-- the type of a Configuration Sequence Number TLV (RFC 5036 section 3.5.2)
 abbrev pub configuration_number : ℕ
 configuration_number = 0x0402
 
@@ -100,6 +118,7 @@ pub record Row : Type 0 where
   pub passed : List ℕ
   pub passes_rest : Bool
 
+-- the row of each message
 abbrev pub row_of : MessageKind → Row
 row_of Notification = record { needed = status ∷ []; instead = []; further = pw_status ∷ fec ∷ []; passed = extended_status ∷ returned_pdu ∷ returned_message ∷ []; passes_rest = false }
 row_of Hello = record { needed = hello_parameters ∷ []; instead = []; further = transport_address ∷ []; passed = configuration_number ∷ []; passes_rest = false }

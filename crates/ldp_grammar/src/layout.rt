@@ -29,23 +29,14 @@ pub fn field_of_type(tlv: u16) -> Option<Field>
     }
 }
 
-// Whether octets are an address family and its addresses.
-fn are_addresses(value: &[u8]) -> bool
-    ensures { result ≡ fits Field.AddressList value.now }
-{
-    if value.len() < 2 {
-        return false;
-    }
-    !(BigEndian::read_u16(value) == 1 && (value.len() - 2) % 4 != 0)
-}
-
 /// Whether the Length of a value fits the layout of its TLV (RFC 5036 sections 3.4 and 3.5, RFC 8077 section 6.3.2, RFC
 /// 4762 section 6.2). It does of every FEC and switching point: `pw_tlvs` says what they may hold.
 pub fn is_fitting(field: Field, value: &[u8]) -> bool
     ensures { result ≡ fits field value.now }
 {
     match field {
-        Field::AddressList => are_addresses(value),
+        Field::AddressList if value.len() < 2 => false,
+        Field::AddressList => !(BigEndian::read_u16(value) == 1 && (value.len() - 2) % 4 != 0),
         Field::Status => value.len() == 10,
         Field::Label | Field::Hello | Field::Transport => value.len() == 4,
         Field::RequestId | Field::PwStatus => value.len() == 4,

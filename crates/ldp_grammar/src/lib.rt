@@ -44,4 +44,4 @@ pub use tlv_type::{
     SESSION_PARAMETERS, STATUS, SWITCHING_POINT, TRANSPORT_ADDRESS,
 };
 pub use why::Why;
-pub use writable::{is_writable, message_size};
+pub use writable::{is_writable, message_size, points_size};

@@ -98,7 +98,10 @@ impl MessageKind {
             (MessageKind::Initialization, _) => TlvPart::PassedOver,
             (MessageKind::Address | MessageKind::AddressWithdraw, ADDRESS_LIST) => TlvPart::Needed,
             (MessageKind::AddressWithdraw, FEC | MAC_LIST) => TlvPart::Further,
-            (MessageKind::LabelMapping, _) => mapping_part(tlv),
+            (MessageKind::LabelMapping, FEC | LABEL) => TlvPart::Needed,
+            (MessageKind::LabelMapping, PW_STATUS | SWITCHING_POINT) => TlvPart::Further,
+            (MessageKind::LabelMapping, HOP_COUNT | PATH_VECTOR | REQUEST_ID) =>
+                TlvPart::PassedOver,
             (MessageKind::LabelRequest, FEC) => TlvPart::Needed,
             (MessageKind::LabelRequest, HOP_COUNT | PATH_VECTOR) => TlvPart::PassedOver,
             (MessageKind::LabelWithdraw | MessageKind::LabelRelease, FEC) => TlvPart::Needed,
@@ -146,17 +149,5 @@ impl MessageKind {
             MessageKind::AddressWithdraw => &[FEC, MAC_LIST],
             _ => &[],
         }
-    }
-}
-
-// What a TLV of a type is to a Label Mapping.
-fn mapping_part(tlv: u16) -> TlvPart
-    ensures { result ≡ part_of (row_of MessageKind.LabelMapping) tlv }
-{
-    match tlv {
-        FEC | LABEL => TlvPart::Needed,
-        PW_STATUS | SWITCHING_POINT => TlvPart::Further,
-        HOP_COUNT | PATH_VECTOR | REQUEST_ID => TlvPart::PassedOver,
-        _ => TlvPart::Unknown,
     }
 }

@@ -68,19 +68,7 @@ pub fn is_writable(message: &Message) -> bool
     }
 }
 
-// The octets of an Address List TLV, where there are addresses.
-fn list_size(addresses: &Option<AddressList>) -> usize
-    requires few { list_length addresses.now ≤ 65535 }
-    ensures size { result ≡ length (flat_map spell_tlv (withdrawn_tlvs addresses.now)) }
-    ensures most { result ≤ 65541 }
-{
-    match addresses {
-        Some(list) => TLV_HEADER + 2 + list.octets.len(),
-        None => 0,
-    }
-}
-
-// The octets of an IPv4 Transport Address TLV.
+// The octets of an IPv4 Transport Address TLV. The address is given, so that the prover knows how long it is.
 fn address_size(address: Addr) -> usize
     ensures size { result ≡ 4 + length address.0 }
     ensures most { result ≡ 8 }
@@ -88,7 +76,7 @@ fn address_size(address: Addr) -> usize
     TLV_HEADER + address.0.len()
 }
 
-// The octets of a Common Session Parameters TLV.
+// The octets of a Common Session Parameters TLV. They are given for the same reason.
 fn params_size(params: SessionParams) -> usize
     ensures size { result ≡ 4 + length (session_octets params) }
     ensures most { result ≡ 18 }
@@ -141,20 +129,8 @@ fn label_size(label: Option<Label>) -> usize
     }
 }
 
-// The octets of a MAC List TLV, where there are addresses.
-fn macs_told_size(macs: &Option<List<Mac>>) -> usize
-    requires few { macs_length macs.now ≤ 65535 }
-    ensures size { result ≡ length (flat_map spell_tlv (mac_tlvs macs.now)) }
-    ensures most { result ≤ 393214 }
-{
-    match macs {
-        Some(list) => TLV_HEADER + macs_size(list),
-        None => 0,
-    }
-}
-
-// The octets of Switching Point PE TLVs.
-fn points_size(points: &Points) -> usize
+/// The octets of the Switching Point PE TLVs of these points, at most 66 (RFC 6073 section 7.4).
+pub fn points_size(points: &Points) -> usize
     ensures size { result ≡ length (flat_map spell_tlv (point_tlvs points.now)) }
     ensures most { result ≤ 66 }
 {
@@ -179,7 +155,15 @@ fn withdrawal_size(
     ensures size { result ≡ length (flat_map spell_tlv (withdrawn_tlvs addresses.now ++ (fec_tlvs fec.now ++ mac_tlvs macs.now))) }
     ensures most { result ≤ 458865 }
 {
-    list_size(addresses) + (fec_told_size(fec) + macs_told_size(macs))
+    let list = match addresses {
+        Some(list) => TLV_HEADER + 2 + list.octets.len(),
+        None => 0,
+    };
+    let macs = match macs {
+        Some(list) => TLV_HEADER + macs_size(list),
+        None => 0,
+    };
+    list + (fec_told_size(fec) + macs)
 }
 
 // The octets of the TLVs of a message.
