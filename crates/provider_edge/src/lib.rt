@@ -7,7 +7,6 @@ mod edge_stop;
 mod egress;
 mod end_marks;
 mod ingress;
-mod parts;
 mod pings;
 mod quiet;
 mod spokes;

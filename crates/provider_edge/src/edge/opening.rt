@@ -6,11 +6,10 @@ ghost use Rattle.pw_ends.specs.Ends.{seen_ends};
 ghost use Rattle.edge_forwarding.specs.Forwarding.{IsNewForwarding};
 ghost use Rattle.edge_model.specs.EndPlaces.{end_places};
 ghost use Rattle.edge_model.specs.State.{first_label};
-ghost use Rattle.provider_edge.specs.Opening.{AreNewParts, IsNewEdge};
+ghost use Rattle.provider_edge.specs.Opening.{IsNewEdge};
 ghost use Rattle.provider_edge.specs.Spokes.{IsNewSpokes};
 
 use crate::Edge;
-use crate::parts::Parts;
 use crate::pings::first_pings;
 use crate::spokes::{Spokes, priorities};
 use edge_forwarding::Forwarding;
@@ -59,39 +58,23 @@ impl Edge {
         ensures { IfOk result (λ edge. IsNewEdge plan.value me edge) }
     {
         match forwarding_over(alloc, &plan, me) {
-            Ok(forwarding) => {
-                let parts = Parts {
+            Ok(forwarding) => match first_lists(alloc, &plan) {
+                Ok(lists) => Ok(Edge {
+                    plan,
+                    me,
+                    peerings: lists.peerings,
                     ends,
+                    wires_on: lists.wires_on,
+                    bits: lists.bits,
+                    priorities: lists.priorities,
+                    pings: lists.pings,
                     spokes,
                     forwarding,
-                };
-                Edge::over(alloc, plan, me, parts)
-            }
-            Err(fault) => Err(fault),
-        }
-    }
-
-    // The edge over these parts, which have taken no input.
-    fn over(alloc: Global, plan: Rc<Plan>, me: EdgeId, parts: Parts) -> Result<Edge, NoMemory>
-        requires checked { IsChecked plan.value }
-        requires new { AreNewParts plan.value me parts.ends parts.spokes parts.forwarding }
-        ensures { IfOk result (λ edge. IsNewEdge plan.value me edge) }
-    {
-        match first_lists(alloc, &plan) {
-            Ok(lists) => Ok(Edge {
-                plan,
-                me,
-                peerings: lists.peerings,
-                ends: parts.ends,
-                wires_on: lists.wires_on,
-                bits: lists.bits,
-                priorities: lists.priorities,
-                pings: lists.pings,
-                spokes: parts.spokes,
-                forwarding: parts.forwarding,
-                stopped: false,
-                marks: None,
-            }),
+                    stopped: false,
+                    marks: None,
+                }),
+                Err(fault) => Err(fault),
+            },
             Err(fault) => Err(fault),
         }
     }
